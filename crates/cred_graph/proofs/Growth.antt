@@ -1,0 +1,140 @@
+-- A graph stays a graph where a node, a listener or a solution is added.
+use Rattle.std.proofs.Common.{ℕ, ◌<◌, ◌≤◌, ◌≡◌, ◌∙◌, sym, ap, subst, inl, inr, List, [], ◌∷◌, ◌++◌, Some, Contains, length, slice_get, arith, length-append}
+use Rattle.std.proofs.lemmas.List.{take-append-le}
+use Rattle.std.proofs.lemmas.List.Elements.{All-weaker, All-push}
+use Rattle.std.proofs.lemmas.Option.{slice_get_within}
+use Rattle.std.proofs.Math.Seq.{take-append_seam}
+use Rattle.credential_text.specs.declared.exprs.Expr.{Expr}
+use Rattle.credential_text.specs.declared.intersections.Part.{Part}
+use Rattle.credential_text.specs.Expr.{part_expr}
+use Rattle.cred_graph.specs.declared.listeners.Listening.{Listening}
+use Rattle.cred_graph.specs.declared.solutions.Solution.{Solution}
+use Rattle.cred_graph.specs.declared.solutions.Reason.{Reason}
+use Rattle.cred_graph.specs.declared.solutions.Reason.TheVariants as reason
+use Rattle.cred_graph.specs.GraphState.{GraphState, IsNode, IsSolution, Known, before}
+use Rattle.cred_graph.specs.Reason.{Fits}
+use Rattle.cred_graph.specs.Graph.{IsGraph}
+use Rattle.cred_graph.proofs.Lists.{Contains-at_place, slice_get_stays, slice_get_push_cases}
+
+-- nodes and solutions stay
+pub record Grows (g h : GraphState) : Type 0 where
+  pub nodes : (n : ℕ) (e : Expr) → IsNode g n e → IsNode h n e
+  pub solutions : (s : Solution) → Contains g.solutions s → Contains h.solutions s
+
+pub grown_solution : (g h : GraphState) → Grows g h → (n : ℕ) (who : List ℕ) → IsSolution g n who → IsSolution h n who
+grown_solution g h grows n who (why, stands) = (why, grows.solutions (record { node = n; who = who; reason = why }) stands)
+
+pub grown_known : (g h : GraphState) → Grows g h → (who : List ℕ) (e : Expr) → Known g who e → Known h who e
+grown_known g h grows who e (n, node, solution) = (n, grows.nodes n e node, grown_solution g h grows n who solution)
+
+-- a reason goes on to fit
+pub grown_fits : (g h : GraphState) → Grows g h → (n : ℕ) (who : List ℕ) (why : Reason) → Fits g n who why → Fits h n who why
+grown_fits g h grows n who reason.Leaf fits = grows.nodes n _ fits
+grown_fits g h grows n who (reason.Body m) (r, e, node, body, solution) =
+    (r, e, grows.nodes n _ node, grows.nodes m e body, grown_solution g h grows m who solution)
+grown_fits g h grows n who (reason.Via b) (r, t, node, base, given) =
+    (r, t, grows.nodes n _ node, grown_known g h grows b _ base, grown_known g h grows who _ given)
+grown_fits g h grows n who reason.Parts (parts, node, all) =
+    (parts, grows.nodes n _ node, All-weaker (λ (p : Part). Known g who (part_expr p)) (λ (p : Part). Known h who (part_expr p)) (λ p known. grown_known g h grows who (part_expr p) known) parts all)
+
+abbrev pub with_node : GraphState → Expr → GraphState
+with_node g e = record g { nodes = g.nodes ++ e ∷ [] }
+
+abbrev pub with_listener : GraphState → Listening → GraphState
+with_listener g l = record g { listeners = g.listeners ++ l ∷ [] }
+
+abbrev pub with_solution : GraphState → Solution → GraphState
+with_solution g s = record g { solutions = g.solutions ++ s ∷ [] }
+
+-- an element that is new stands at one place
+pub one_place : {X : Type 0} (xs : List X) (y : X) → (Contains xs y → ⊥) → ((i j : ℕ) (x : X) → slice_get xs i ≡ Some x → slice_get xs j ≡ Some x → i ≡ j) →
+    (i j : ℕ) (x : X) → slice_get (xs ++ y ∷ []) i ≡ Some x → slice_get (xs ++ y ∷ []) j ≡ Some x → i ≡ j
+one_place xs y absent once i j x p q =
+    elim (slice_get_push_cases xs y i x p) [
+      | inl a ↦ elim (slice_get_push_cases xs y j x q) [
+        | inl b ↦ once i j x a b
+        | inr b ↦ absurd (absent (Contains-at_place xs i y (a ∙ ap Some (sym b.1))))
+      ]
+      | inr a ↦ elim (slice_get_push_cases xs y j x q) [
+        | inl b ↦ absurd (absent (Contains-at_place xs j y (b ∙ ap Some (sym a.1))))
+        | inr b ↦ a.0 ∙ sym b.0
+      ]
+    ]
+
+pub node_grows : (g : GraphState) (e : Expr) (i : ℕ) → Grows (before i g) (before i (with_node g e))
+node_grows g e i = record { nodes = λ n f node. slice_get_stays g.nodes (e ∷ []) n f node; solutions = λ s stands. stands }
+
+pub graph_with_node : (g : GraphState) (e : Expr) → IsGraph g → (Contains g.nodes e → ⊥) → IsGraph (with_node g e)
+graph_with_node g e graph absent = record {
+  one_node = one_place g.nodes e absent graph.one_node;
+  listeners_in_range =
+      let longer : length g.nodes ≤ length (g.nodes ++ e ∷ []) = omega (arith, length-append g.nodes (e ∷ [])) in
+      All-weaker
+      (λ (l : Listening). (l.asked < length g.nodes) × (l.asker < length g.nodes))
+      (λ (l : Listening). (l.asked < length (g.nodes ++ e ∷ [])) × (l.asker < length (g.nodes ++ e ∷ [])))
+      (λ l h. (omega arith, omega arith))
+      g.listeners
+      graph.listeners_in_range;
+  one_listening = graph.one_listening;
+  one_solution = graph.one_solution;
+  justified = λ i s at. grown_fits (before i g) (before i (with_node g e)) (node_grows g e i) s.node s.who s.reason (graph.justified i s at);
+}
+
+pub graph_with_listener : (g : GraphState) (l : Listening) → IsGraph g → (Contains g.listeners l → ⊥) → l.asked < length g.nodes → l.asker < length g.nodes → IsGraph (with_listener g l)
+graph_with_listener g l graph absent asked asker = record {
+  one_node = graph.one_node;
+  listeners_in_range = All-push (λ (l : Listening). (l.asked < length g.nodes) × (l.asker < length g.nodes)) g.listeners l graph.listeners_in_range (asked, asker);
+  one_listening = one_place g.listeners l absent graph.one_listening;
+  one_solution = graph.one_solution;
+  justified = λ i s at. grown_fits (before i g) (before i (with_listener g l)) (record { nodes = λ n f node. node; solutions = λ s stands. stands }) s.node s.who s.reason (graph.justified i s at);
+}
+
+-- the entity is no solution of the node: so it stands at no place
+pub other_solution : (g : GraphState) (s t : Solution) (i : ℕ) → (IsSolution g s.node s.who → ⊥) → slice_get g.solutions i ≡ Some t → s.node ≡ t.node → s.who ≡ t.who → ⊥
+other_solution g s t i absent at node who =
+    absent (t.reason, rw (node, who) (Contains-at_place g.solutions i t at))
+
+pub one_solution_more : (g : GraphState) (s : Solution) → IsGraph g → (IsSolution g s.node s.who → ⊥) →
+    (i j : ℕ) (t u : Solution) → slice_get (g.solutions ++ s ∷ []) i ≡ Some t → slice_get (g.solutions ++ s ∷ []) j ≡ Some u → t.node ≡ u.node → t.who ≡ u.who → i ≡ j
+one_solution_more g s graph absent i j t u p q node who =
+    elim (slice_get_push_cases g.solutions s i t p) [
+      | inl a ↦ elim (slice_get_push_cases g.solutions s j u q) [
+        | inl b ↦ graph.one_solution i j t u a b node who
+        | inr b ↦ absurd (other_solution g s t i absent a (ap (λ (x : Solution). x.node) b.1 ∙ sym node) (ap (λ (x : Solution). x.who) b.1 ∙ sym who))
+      ]
+      | inr a ↦ elim (slice_get_push_cases g.solutions s j u q) [
+        | inl b ↦ absurd (other_solution g s u j absent b (ap (λ (x : Solution). x.node) a.1 ∙ node) (ap (λ (x : Solution). x.who) a.1 ∙ who))
+        | inr b ↦ a.0 ∙ sym b.0
+      ]
+    ]
+
+-- the solutions found before a place stay the same
+pub solution_grows : (g : GraphState) (s : Solution) (i : ℕ) → i ≤ length g.solutions → Grows (before i g) (before i (with_solution g s))
+solution_grows g s i within = record {
+  nodes = λ n f node. node;
+  solutions = λ t stands. rw (take-append-le i g.solutions (s ∷ []) within) stands;
+}
+
+pub justified_more : (g : GraphState) (s : Solution) → IsGraph g → Fits g s.node s.who s.reason →
+    (i : ℕ) (t : Solution) → slice_get (g.solutions ++ s ∷ []) i ≡ Some t → Fits (before i (with_solution g s)) t.node t.who t.reason
+justified_more g s graph fits i t at =
+    elim (slice_get_push_cases g.solutions s i t at) [
+      | inl a ↦
+          let within : i < length g.solutions = slice_get_within g.solutions i t a in
+          grown_fits (before i g) (before i (with_solution g s)) (solution_grows g s i (omega arith)) t.node t.who t.reason (graph.justified i t a)
+      | inr a ↦
+          let grows : Grows g (before i (with_solution g s)) = record {
+            nodes = λ n f node. node;
+            solutions = λ u stands. rw (a.0, take-append_seam g.solutions (s ∷ [])) stands;
+          } in
+          subst (λ (u : Solution). Fits (before i (with_solution g s)) u.node u.who u.reason) a.1 (grown_fits g (before i (with_solution g s)) grows s.node s.who s.reason fits)
+    ]
+
+pub graph_with_solution : (g : GraphState) (s : Solution) → IsGraph g → (IsSolution g s.node s.who → ⊥) → Fits g s.node s.who s.reason → IsGraph (with_solution g s)
+graph_with_solution g s graph absent fits = record {
+  one_node = graph.one_node;
+  listeners_in_range = graph.listeners_in_range;
+  one_listening = graph.one_listening;
+  one_solution = one_solution_more g s graph absent;
+  justified = justified_more g s graph fits;
+}

@@ -1,0 +1,4 @@
+pub mod ExprLemmas
+pub mod Lists
+pub mod Found
+pub mod Growth

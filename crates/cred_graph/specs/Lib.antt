@@ -1,0 +1,3 @@
+pub mod GraphState
+pub mod Reason
+pub mod Graph

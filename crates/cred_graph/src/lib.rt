@@ -1,0 +1,14 @@
+//! The graph of one search: a node for each expression, who listens to which node, and who is a solution of which node
+//! and why.
+#![tactic(auto)]
+
+mod graphs;
+mod listeners;
+mod nodes;
+mod solutions;
+#[cfg(test)]
+mod tests;
+
+pub use graphs::Graph;
+pub use listeners::{Listening, Port};
+pub use solutions::{Reason, Solution};

@@ -1,0 +1,251 @@
+ghost use Rattle.std.specs.Prelude.{◌≡◌, ◌∷◌, [], IfOk, IfSome};
+ghost use Rattle.cred_graph.specs.Reason.{Fits};
+
+use crate::{Graph, Port, Reason};
+use credential_text::{Expr, Part, Parts};
+use names::{Entity, Role, RoleName};
+use std::alloc::{AllocError, Global};
+use std::test::Fail;
+
+/// Asks again where memory is refused, so that a test sees that the refusal changed nothing.
+fn node_of(graph: &mut Graph, expr: &Expr) -> Result<(u64, bool), AllocError> {
+    match graph.node_of(expr) {
+        Ok(given) => Ok(given),
+        Err(_) => graph.node_of(expr),
+    }
+}
+
+fn listen(
+    graph: &mut Graph,
+    asked: &Expr,
+    asker: &Expr,
+    port: Port,
+) -> Result<Option<bool>, AllocError> {
+    let Some(n) = graph.node(asked) else {
+        return Ok(None);
+    };
+    let Some(m) = graph.node(asker) else {
+        return Ok(None);
+    };
+    match graph.add_listener(n, m, port) {
+        Ok(is_new) => Ok(Some(is_new)),
+        Err(_) => Ok(Some(graph.add_listener(n, m, port)?)),
+    }
+}
+
+fn solve(graph: &mut Graph, n: u64, who: Entity, reason: &Reason) -> Result<bool, AllocError>
+    requires { Fits graph.old n who reason.now }
+{
+    match graph.add_solution(n, who, *reason) {
+        Ok(is_new) => Ok(is_new),
+        Err(_) => graph.add_solution(n, who, *reason),
+    }
+}
+
+fn solve_entity(graph: &mut Graph, who: Entity) -> Result<Option<bool>, AllocError> {
+    let Some(n) = graph.node(&Expr::Ent(who)) else {
+        return Ok(None);
+    };
+    Ok(Some(solve(graph, n, who, &Reason::Leaf)?))
+}
+
+fn solve_role(
+    graph: &mut Graph,
+    role: Role,
+    body: &Expr,
+    who: Entity,
+) -> Result<Option<bool>, AllocError> {
+    let Some(n) = graph.node(&Expr::Rol(role)) else {
+        return Ok(None);
+    };
+    let Some(m) = graph.node(body) else {
+        return Ok(None);
+    };
+    let Some(_reason) = graph.reason(m, &who) else {
+        return Ok(None);
+    };
+    Ok(Some(solve(graph, n, who, &Reason::Body(m))?))
+}
+
+fn solve_link(
+    graph: &mut Graph,
+    base: Role,
+    name: RoleName,
+    by: Entity,
+    who: Entity,
+) -> Result<Option<bool>, AllocError> {
+    let Some(n) = graph.node(&Expr::Link(base, name)) else {
+        return Ok(None);
+    };
+    let Some(m) = graph.node(&Expr::Rol(base)) else {
+        return Ok(None);
+    };
+    let Some(k) = graph.node(&Expr::Rol(Role { owner: by, name })) else {
+        return Ok(None);
+    };
+    let Some(_member) = graph.reason(m, &by) else {
+        return Ok(None);
+    };
+    let Some(_given) = graph.reason(k, &who) else {
+        return Ok(None);
+    };
+    Ok(Some(solve(graph, n, who, &Reason::Via(by))?))
+}
+
+fn pair_of(alloc: Global, first: Part, second: Part) -> Result<Option<Parts>, AllocError>
+    ensures { IfOk result (λ made. IfSome made (λ parts. parts ≡ first ∷ second ∷ [])) }
+{
+    let both = [first, second];
+    match Parts::make(alloc, &both) {
+        Ok(made) => Ok(made),
+        Err(_) => Parts::make(alloc, &both),
+    }
+}
+
+fn solve_meet(
+    alloc: Global,
+    graph: &mut Graph,
+    first: Part,
+    second: Part,
+    who: Entity,
+) -> Result<Option<bool>, AllocError> {
+    let Some(parts) = pair_of(alloc, first, second)? else {
+        return Ok(None);
+    };
+    let Some(n) = graph.node(&Expr::Meet(parts)) else {
+        return Ok(None);
+    };
+    let Some(m) = graph.node(&first.expr()) else {
+        return Ok(None);
+    };
+    let Some(k) = graph.node(&second.expr()) else {
+        return Ok(None);
+    };
+    let Some(_one) = graph.reason(m, &who) else {
+        return Ok(None);
+    };
+    let Some(_other) = graph.reason(k, &who) else {
+        return Ok(None);
+    };
+    Ok(Some(solve(graph, n, who, &Reason::Parts)?))
+}
+
+fn listener_of(graph: &Graph, asked: &Expr, i: u64) -> Option<(u64, Port)> {
+    let n = graph.node(asked)?;
+    if i < graph.listeners(n) {
+        Some(graph.listener(n, i))
+    } else {
+        None
+    }
+}
+
+fn solution_of(graph: &Graph, expr: &Expr, i: u64) -> Option<Entity> {
+    let n = graph.node(expr)?;
+    if i < graph.solutions(n) {
+        Some(graph.solution(n, i))
+    } else {
+        None
+    }
+}
+
+fn reads_back(graph: &Graph, expr: &Expr) -> bool {
+    match graph.node(expr) {
+        Some(n) => graph.node(graph.expr(n)) == Some(n),
+        None => false,
+    }
+}
+
+#[test]
+fn one_node_for_each_expression(rt: HostRuntime) -> Result<(), Fail> {
+    let role = Expr::Rol(Role::read(b"A.r")?);
+    let entity = Expr::Ent(Entity::read(b"D")?);
+    let mut graph = Graph::new(rt.alloc());
+    assert!(rt; node_of(&mut graph, &role)? == (0, true));
+    assert!(rt; node_of(&mut graph, &entity)? == (1, true));
+    assert!(rt; node_of(&mut graph, &role)? == (0, false));
+    assert!(rt; reads_back(&graph, &role));
+    assert!(rt; reads_back(&graph, &entity));
+    assert!(rt; graph.node(&Expr::Ent(Entity::read(b"E")?)).is_none());
+    Ok(())
+}
+
+#[test]
+fn two_ports_are_two_listeners(rt: HostRuntime) -> Result<(), Fail> {
+    let role = Expr::Rol(Role::read(b"A.r")?);
+    let entity = Expr::Ent(Entity::read(b"D")?);
+    let mut graph = Graph::new(rt.alloc());
+    assert!(rt; listen(&mut graph, &entity, &role, Port::Body)? == None);
+    let _role = node_of(&mut graph, &role)?;
+    let _entity = node_of(&mut graph, &entity)?;
+    assert!(rt; listen(&mut graph, &entity, &role, Port::Body)? == Some(true));
+    assert!(rt; listen(&mut graph, &entity, &role, Port::Body)? == Some(false));
+    assert!(rt; listen(&mut graph, &entity, &role, Port::Part(0))? == Some(true));
+    assert!(rt; listener_of(&graph, &entity, 0) == Some((0, Port::Body)));
+    assert!(rt; listener_of(&graph, &entity, 1) == Some((0, Port::Part(0))));
+    assert!(rt; listener_of(&graph, &entity, 2) == None);
+    assert!(rt; listener_of(&graph, &role, 0) == None);
+    Ok(())
+}
+
+#[test]
+fn a_solution_stands_once_with_its_reason(rt: HostRuntime) -> Result<(), Fail> {
+    let role = Role::read(b"A.r")?;
+    let who = Entity::read(b"D")?;
+    let entity = Expr::Ent(who);
+    let mut graph = Graph::new(rt.alloc());
+    let (role_node, _) = node_of(&mut graph, &Expr::Rol(role))?;
+    let (entity_node, _) = node_of(&mut graph, &entity)?;
+    assert!(rt; solve_role(&mut graph, role, &entity, who)? == None);
+    assert!(rt; solve_entity(&mut graph, who)? == Some(true));
+    assert!(rt; solve_entity(&mut graph, who)? == Some(false));
+    assert!(rt; solve_role(&mut graph, role, &entity, who)? == Some(true));
+    assert!(rt; solution_of(&graph, &entity, 0) == Some(who));
+    assert!(rt; solution_of(&graph, &entity, 1) == None);
+    assert!(rt; graph.reason(entity_node, &who) == Some((0, Reason::Leaf)));
+    assert!(rt; graph.reason(role_node, &who) == Some((1, Reason::Body(1))));
+    Ok(())
+}
+
+#[test]
+fn a_linked_role_is_solved_by_way_of_its_base(rt: HostRuntime) -> Result<(), Fail> {
+    let base = Role::read(b"A.s")?;
+    let name = RoleName::read(b"t")?;
+    let b = Entity::read(b"B")?;
+    let d = Entity::read(b"D")?;
+    let given = Role { owner: b, name };
+    let linked = Expr::Link(base, name);
+    let mut graph = Graph::new(rt.alloc());
+    let (node, _) = node_of(&mut graph, &linked)?;
+    let _base = node_of(&mut graph, &Expr::Rol(base))?;
+    let _given = node_of(&mut graph, &Expr::Rol(given))?;
+    let _b = node_of(&mut graph, &Expr::Ent(b))?;
+    let _d = node_of(&mut graph, &Expr::Ent(d))?;
+    let _b = solve_entity(&mut graph, b)?;
+    let _d = solve_entity(&mut graph, d)?;
+    assert!(rt; solve_role(&mut graph, base, &Expr::Ent(b), b)? == Some(true));
+    assert!(rt; solve_link(&mut graph, base, name, b, d)? == None);
+    assert!(rt; solve_role(&mut graph, given, &Expr::Ent(d), d)? == Some(true));
+    assert!(rt; solve_link(&mut graph, base, name, b, d)? == Some(true));
+    assert!(rt; graph.reason(node, &d) == Some((4, Reason::Via(b))));
+    assert!(rt; graph.reason(node, &b) == None);
+    Ok(())
+}
+
+#[test]
+fn an_intersection_is_solved_by_all_its_parts(rt: HostRuntime) -> Result<(), Fail> {
+    let role = Role::read(b"A.r")?;
+    let who = Entity::read(b"D")?;
+    let one = Part::Ent(who);
+    let other = Part::Rol(role);
+    let parts = pair_of(rt.alloc(), one, other)?.ok_or("two parts")?;
+    let mut graph = Graph::new(rt.alloc());
+    let (node, _) = node_of(&mut graph, &Expr::Meet(parts))?;
+    let _one = node_of(&mut graph, &one.expr())?;
+    let _other = node_of(&mut graph, &other.expr())?;
+    assert!(rt; solve_entity(&mut graph, who)? == Some(true));
+    assert!(rt; solve_meet(rt.alloc(), &mut graph, one, other, who)? == None);
+    assert!(rt; solve_role(&mut graph, role, &Expr::Ent(who), who)? == Some(true));
+    assert!(rt; solve_meet(rt.alloc(), &mut graph, one, other, who)? == Some(true));
+    assert!(rt; graph.reason(node, &who) == Some((2, Reason::Parts)));
+    Ok(())
+}

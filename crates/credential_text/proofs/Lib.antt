@@ -1,0 +1,15 @@
+pub mod Bytes
+pub mod Spaces
+pub mod Arrow
+pub mod Readings
+pub mod Joining
+pub mod ExprLemmas
+pub mod Showing
+pub mod Canonical
+pub mod Refused
+pub mod OrderLemmas
+pub mod Memory
+pub mod Equality
+pub mod Left
+pub mod Keeping
+pub mod PartLists

@@ -1,0 +1,5 @@
+use Rattle.credential_text.proofs.Equality.{exprs_decided}
+use Rattle.credential_text.proofs.laws.equality_is_exact.Goals as goal
+
+pub returns-clause-exprs : goal.returns-clause-exprs
+returns-clause-exprs c = exprs_decided

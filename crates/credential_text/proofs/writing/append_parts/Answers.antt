@@ -1,0 +1,30 @@
+use Rattle.std.proofs.Common.{List, ◌++◌, ◌∙◌, ap, sym, take, codes, arith}
+use Rattle.std.specs.List.{list_all}
+use Rattle.credential_text.specs.declared.intersections.Part.{Part}
+use Rattle.credential_text.specs.Part.{has_names, part_text}
+use Rattle.credential_text.specs.Expr.{parts_text}
+use Rattle.credential_text.proofs.Keeping.{keeps_more}
+use Rattle.credential_text.proofs.Left.{list_all_push}
+use Rattle.credential_text.proofs.PartLists.{parts_text-push, take_behind, some_front, written_more}
+use Rattle.credential_text.proofs.writing.append_parts.Goals as goal
+
+pub returns-in_err-append_part-2-clause-kept : goal.returns-in_err-append_part-2-clause-kept
+returns-in_err-append_part-2-clause-kept c =
+    keeps_more c.args.out.now.items c.loop-part.out.items c.append_part-in-loop-part.new.out.items _ c.loop-part.invariant.written
+    (keeps_more c.loop-part.out.items c.extend_from_slice.new.self.items c.append_part-in-loop-part.new.out.items _ c.in_ok-extend_from_slice.ensures.items c.append_part-in-loop-part.ensures.kept)
+
+pub loop-part-preserved : goal.loop-part-preserved
+loop-part-preserved c =
+    let parts : List Part = c.args.parts.now in
+    let others : List Part = c.in-Some.others.now in
+    let so_far : List Part = take 1 parts ++ take c.loop-part.part-index others in
+    let more = take_behind (take 1 parts) others c.loop-part.part-index c.part-item.result c.loop-part-test.true c.part-item.is in
+    record {
+      whole = c.loop-part.invariant.whole;
+      written =
+          written_more c.args.out.now.items (parts_text so_far) (codes " & ") (part_text c.part-item.result) c.loop-part.out.items c.extend_from_slice.new.self.items c.append_part-in-loop-part.new.out.items
+          c.loop-part.invariant.written c.in_ok-extend_from_slice.ensures.items c.in_ok-append_part-2.ensures.written
+          ∙ ap (λ t. c.args.out.now.items ++ t)
+          (sym (parts_text-push so_far c.part-item.result (some_front parts others (take c.loop-part.part-index others) c.loop-part.invariant.whole (omega arith))) ∙ ap parts_text (sym more));
+      names = ap (list_all has_names) more ∙ list_all_push has_names so_far c.part-item.result c.loop-part.invariant.names c.in_ok-append_part-2.ensures.names;
+    }

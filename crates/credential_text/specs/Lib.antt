@@ -1,0 +1,10 @@
+pub mod Part
+pub mod PartOrder
+pub mod Expr
+pub mod Credential
+pub mod Same
+pub mod Spelling
+pub mod Fault
+pub mod Refusal
+pub mod Reading
+pub mod Laws

@@ -1,0 +1,103 @@
+-- Which texts are refused as a credential, and as what: the first refusal that applies, by whole lists.
+use Rattle.std.specs.Prelude.{ℕ, Bool, true, false, List, [], ◌∷◌, ◌==◌, ◌&&◌, ◌||◌, nat_lt, length, map, Option, Some, None, if◌then◌else◌}
+use Rattle.std.specs.List.{list_all, list_any}
+use Rattle.names.specs.declared.faults.NameFault.{NameFault}
+use Rattle.names.specs.declared.faults.NameFault.TheVariants as name
+use Rattle.names.specs.Fault.{name_fault, role_fault, or_then}
+use Rattle.names.specs.Pieces.{dot, pieces}
+use Rattle.credential_text.specs.declared.faults.CredFault.{CredFault}
+use Rattle.credential_text.specs.declared.faults.CredFault.TheVariants as faults
+use Rattle.credential_text.specs.Part.{is_same}
+use Rattle.credential_text.specs.Spelling.{ampersand}
+
+abbrev pub is_space : ℕ → Bool
+is_space b = b == 32
+
+abbrev pub trim_start : List ℕ → List ℕ
+trim_start [] = []
+trim_start (b ∷ bs) = if is_space b then trim_start bs else b ∷ bs
+
+abbrev pub trim_end : List ℕ → List ℕ
+trim_end [] = []
+trim_end (b ∷ bs) = if list_all is_space (b ∷ bs) then [] else b ∷ trim_end bs
+
+-- the text without its outer spaces
+abbrev pub trim : List ℕ → List ℕ
+trim text = trim_end (trim_start text)
+
+-- the byte before what stands before the arrow
+abbrev pub put_before : ℕ → Option (List ℕ × List ℕ) → Option (List ℕ × List ℕ)
+put_before b None = None
+put_before b (Some (before, after)) = Some (b ∷ before, after)
+
+-- what stands before the first "<-" and what stands after it
+abbrev pub split_arrow : List ℕ → Option (List ℕ × List ℕ)
+split_arrow [] = None
+split_arrow (b ∷ []) = None
+split_arrow (b ∷ c ∷ bs) = if (b == 60) && (c == 45) then Some ([], bs) else put_before b (split_arrow (c ∷ bs))
+
+abbrev pub as_cred_fault : Option NameFault → Option CredFault
+as_cred_fault None = None
+as_cred_fault (Some fault) = Some (faults.Name fault)
+
+-- not one dot, then the faults of the two names
+abbrev pub head_fault_of : Option NameFault → Option CredFault
+head_fault_of None = None
+head_fault_of (Some name.NotRole) = Some faults.Head
+head_fault_of (Some fault) = Some (faults.Name fault)
+
+abbrev pub head_fault : List ℕ → Option CredFault
+head_fault head = head_fault_of (role_fault head)
+
+-- more than two dots, then the faults of the names, then a base that is another owner's role
+abbrev pub part_fault_of : List ℕ → List (List ℕ) → Option CredFault
+part_fault_of owner [] = None
+part_fault_of owner (a ∷ []) = as_cred_fault (name_fault a)
+part_fault_of owner (a ∷ b ∷ []) = as_cred_fault (or_then (name_fault a) (name_fault b))
+part_fault_of owner (a ∷ b ∷ c ∷ []) =
+    or_then (as_cred_fault (or_then (name_fault a) (or_then (name_fault b) (name_fault c))))
+    (if is_same a owner then None else Some faults.LinkBase)
+part_fault_of owner (a ∷ b ∷ c ∷ d ∷ more) = Some faults.Dots
+
+abbrev pub part_fault : List ℕ → List ℕ → Option CredFault
+part_fault owner part = part_fault_of owner (pieces dot part)
+
+-- the first fault of the parts from left to right
+abbrev pub first_part_fault : List ℕ → List (List ℕ) → Option CredFault
+first_part_fault owner [] = None
+first_part_fault owner (part ∷ parts) = or_then (part_fault owner part) (first_part_fault owner parts)
+
+abbrev pub is_empty : List ℕ → Bool
+is_empty [] = true
+is_empty (b ∷ bs) = false
+
+-- the parts' texts
+abbrev pub part_texts : List ℕ → List (List ℕ)
+part_texts body = map trim (pieces ampersand body)
+
+-- more than 8 parts or an empty one, then the faults of each part
+abbrev pub parts_fault : List ℕ → List (List ℕ) → Option CredFault
+parts_fault owner parts =
+    if nat_lt 8 (length parts) || list_any is_empty parts then Some faults.Parts
+    else first_part_fault owner parts
+
+abbrev pub body_fault : List ℕ → List ℕ → Option CredFault
+body_fault owner body =
+    if list_all is_space body then Some faults.BodyEmpty
+    else parts_fault owner (part_texts body)
+
+abbrev pub first_piece : List (List ℕ) → List ℕ
+first_piece [] = []
+first_piece (piece ∷ more) = piece
+
+-- what stands before a head's dot
+abbrev pub owner_text : List ℕ → List ℕ
+owner_text head = first_piece (pieces dot head)
+
+abbrev pub fault_round : Option (List ℕ × List ℕ) → Option CredFault
+fault_round None = Some faults.NoArrow
+fault_round (Some (before, after)) = or_then (head_fault (trim before)) (body_fault (owner_text (trim before)) after)
+
+-- too long, no arrow, then the faults of the head, then those of the body
+abbrev pub refusal : List ℕ → Option CredFault
+refusal text = if nat_lt 4096 (length text) then Some faults.Long else fault_round (split_arrow text)

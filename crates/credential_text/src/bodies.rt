@@ -1,0 +1,137 @@
+ghost use Rattle.std.specs.Prelude.{◌≡◌, ◌≢◌, ◌<◌, ◌≤◌, ◌==◌, ◌||◌, not, nat_lt, length, take, count_by, Some, None, IfOk, IfErr, IsErrOf};
+ghost use Rattle.std.specs.List.{list_all, list_any};
+ghost use Rattle.credential_text.specs.declared.faults.CredFault.TheVariants as faults;
+ghost use Rattle.credential_text.specs.Expr.{expr_parts, HasPartsInRange};
+ghost use Rattle.credential_text.specs.Spelling.{ampersand};
+ghost use Rattle.credential_text.specs.Refusal.{is_space, is_empty, part_texts, part_fault, first_part_fault, body_fault};
+ghost use Rattle.credential_text.specs.Reading.{ReadsAs, ReadsParts, ReadsBody};
+
+use crate::exprs::Expr;
+use crate::faults::CredFault;
+use crate::intersections::{MOST_PARTS, Part, Parts};
+use crate::trimming::trimmed;
+use names::{Entity, Role, RoleName, cut};
+use std::alloc::{AllocError, Global};
+
+/// The part that the text spells in a credential whose head has this owner.
+fn read_part(owner: &Entity, text: &[u8]) -> Result<Part, CredFault>
+    ensures part { IfOk result (λ p. ReadsAs owner.now text.now p) }
+    ensures refused { IfErr result (λ f. part_fault owner.now text.now ≡ Some f) }
+{
+    let (first, Some(others)) = cut(text, b'.') else {
+        return Ok(Part::Ent(Entity::read(text)?));
+    };
+    let (second, Some(last)) = cut(others, b'.') else {
+        let holder = Entity::read(first)?;
+        let name = RoleName::read(others)?;
+        return Ok(Part::Rol(Role {
+            owner: holder,
+            name,
+        }));
+    };
+    let (third, more) = cut(last, b'.');
+    if let Some(_more) = more {
+        return Err(CredFault::Dots);
+    }
+    let holder = Entity::read(first)?;
+    let name = RoleName::read(second)?;
+    let through = RoleName::read(third)?;
+    if holder != *owner {
+        return Err(CredFault::LinkBase);
+    }
+    Ok(Part::Link(
+        Role {
+            owner: holder,
+            name,
+        },
+        through,
+    ))
+}
+
+fn is_blank(text: &[u8]) -> bool
+    ensures { result ≡ list_all is_space text.now }
+{
+    text.iter().all(|byte| *byte == b' ')
+}
+
+fn ampersands(text: &[u8]) -> usize
+    ensures { result ≡ count_by (λ b. b == ampersand) text.now }
+{
+    text.iter().filter(|byte| **byte == b'&').count()
+}
+
+fn has_empty_part(body: &[u8]) -> bool
+    ensures { result ≡ list_any is_empty (part_texts body.now) }
+{
+    let mut left = Some(body);
+    while let Some(text) = left {
+        let (part, rest) = cut(text, b'&');
+        if trimmed(part).is_empty() {
+            return true;
+        }
+        left = rest;
+    }
+    false
+}
+
+/// Whether the body has at most 8 parts, and none of them is empty.
+fn are_parts(body: &[u8]) -> bool
+    ensures { result ≡ not (nat_lt 8 (length (part_texts body.now)) || list_any is_empty (part_texts body.now)) }
+{
+    ampersands(body) < MOST_PARTS && !has_empty_part(body)
+}
+
+/// Reads the parts of the body into the front of the array, and answers how many there are.
+fn read_parts(
+    owner: &Entity,
+    body: &[u8],
+    parts: &mut [Part; MOST_PARTS],
+) -> Result<usize, CredFault>
+    requires { length (part_texts body.now) ≤ 8 }
+    ensures within { IfOk result (λ count. count ≤ 8) }
+    ensures parts { IfOk result (λ count. ReadsParts owner.now (part_texts body.now) (take count parts.new)) }
+    ensures refused { IfErr result (λ f. first_part_fault owner.now (part_texts body.now) ≡ Some f) }
+{
+    let mut count = 0;
+    let mut left = Some(body);
+    while let Some(text) = left {
+        let (part, rest) = cut(text, b'&');
+        parts[count] = read_part(owner, trimmed(part))?;
+        count += 1;
+        left = rest;
+    }
+    Ok(count)
+}
+
+/// The expression of these parts: one part itself, several as an intersection.
+fn expr_of(alloc: Global, parts: &[Part]) -> Result<Expr, AllocError>
+    requires some { 0 < length parts.now }
+    requires few { length parts.now ≤ 8 }
+    ensures parts { IfOk result (λ e. expr_parts e ≡ parts.now) }
+    ensures range { IfOk result (λ e. HasPartsInRange e) }
+{
+    if let [part] = parts {
+        return Ok(part.expr());
+    }
+    let parts = Parts::make(alloc, parts)?.unwrap();
+    Ok(Expr::Meet(parts))
+}
+
+/// The expression that the text after the arrow spells in a credential whose head has this owner. The parts are all
+/// read before any memory is taken.
+pub fn read_body(alloc: Global, owner: &Entity, body: &[u8]) -> Result<Expr, CredFault>
+    ensures body { IfOk result (λ e. ReadsBody owner.now body.now e) }
+    ensures refused { IfErr result (λ f. f ≢ faults.Memory → body_fault owner.now body.now ≡ Some f) }
+    ensures memory_last { IsErrOf result faults.Memory → body_fault owner.now body.now ≡ None }
+{
+    if is_blank(body) {
+        return Err(CredFault::BodyEmpty);
+    }
+    if !are_parts(body) {
+        return Err(CredFault::Parts);
+    }
+    let mut parts = [Part::Ent(*owner); MOST_PARTS];
+    let count = read_parts(owner, body, &mut parts)?;
+    let expr = expr_of(alloc, &parts[..count])?;
+    Ok(expr)
+}

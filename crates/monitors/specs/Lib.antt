@@ -1,0 +1,2 @@
+pub mod LinkMonitor
+pub mod MeetMonitor

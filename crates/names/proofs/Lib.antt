@@ -1,0 +1,4 @@
+pub mod Avoiding
+pub mod PieceLemmas
+pub mod OrderLemmas
+pub mod RoleLemmas

@@ -1,0 +1,7 @@
+pub mod Name
+pub mod Pieces
+pub mod Fault
+pub mod Cells
+pub mod Role
+pub mod Order
+pub mod Laws

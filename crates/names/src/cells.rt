@@ -1,0 +1,110 @@
+ghost use Rattle.std.specs.Prelude.{◌≡◌, ℕ, ◌-◌, ◌++◌, ◌==◌, ◌≤◌, List, [], length, take, replicate, IsTrue, IsOk, IfOk, IfErr, Some, ◌↔◌};
+ghost use Rattle.std.specs.Cmp.Lexicographic.{pointwise, slice_cmp};
+ghost use Rattle.std.specs.Prelude.{nat_eq};
+ghost use Rattle.std.specs.Ordering.{nat_cmp, as_partial_cmp};
+ghost use Rattle.std.specs.Hash as fed;
+ghost use Rattle.std.specs.Cmp.Rules.{comparing, hashing};
+ghost use Rattle.std.specs.Cmp.{partial_order_from_own_ties};
+ghost use Rattle.std.proofs.Common.{rules};
+ghost use Rattle.names.specs.Name.{IsName};
+ghost use Rattle.names.specs.Cells.{HoldsName};
+ghost use Rattle.names.specs.Fault.{name_fault};
+ghost use Rattle.names.specs.Cells.{cells_again, length_held};
+
+use crate::faults::NameFault;
+use crate::reading::{fault_of, padded};
+use std::cmp::Ordering;
+use std::hash::{Hash, Hasher};
+use std::marker::Model;
+
+/// A name of 1 to 64 bytes, held in place. The cells behind its last byte are zero.
+#[derive(Clone, Copy)]
+pub struct Name {
+    cells: [u8; 64],
+    len: usize,
+}
+
+impl Model for Name {
+    ghost Value = { List ℕ };
+
+    ghost view = { λ n. take n.len n.cells };
+
+    ghost invariant = { λ n. HoldsName n.cells n.len };
+
+    ghost inverse = { λ text. record { cells = text ++ replicate (64 - length text) 0; len = length text } };
+
+    ghost inverse_ok = { λ n h i. record { cells = cells_again n.cells n.len h i; len = length_held n.cells n.len h i } };
+}
+
+impl Name {
+    /// The name that the text is, or the first fault of the text.
+    pub fn read(text: &[u8]) -> Result<Name, NameFault>
+        ensures accepted { IsOk result ↔ IsName text.now }
+        ensures name { IfOk result (λ n. n ≡ text.now) }
+        ensures refused { IfErr result (λ f. name_fault text.now ≡ Some f) }
+    {
+        match fault_of(text) {
+            Some(fault) => Err(fault),
+            None => Ok(Name {
+                cells: padded(text),
+                len: text.len(),
+            }),
+        }
+    }
+
+    /// The bytes of the name.
+    pub fn bytes(&self) -> &[u8]
+        ensures value { result.now ≡ self.now }
+        ensures name { IsName self.now }
+    {
+        &self.cells[..self.len]
+    }
+}
+
+impl PartialEq for Name {
+    ghost eq = { pointwise nat_eq };
+
+    ghost laws = { Prim.search (comparing, rules) };
+
+    fn eq(&self, other: &Name) -> bool {
+        self.bytes() == other.bytes()
+    }
+}
+
+impl Eq for Name {
+    ghost laws = { Prim.search (comparing, rules) };
+}
+
+impl Ord for Name {
+    ghost cmp = { slice_cmp nat_cmp };
+
+    ghost total = { Prim.search (comparing, rules) };
+
+    ghost matches_partial_cmp = { Prim.search (comparing, rules) };
+
+    ghost matches_eq = { Prim.search (comparing, rules) };
+
+    fn cmp(&self, other: &Name) -> Ordering {
+        self.bytes().cmp(&other.bytes())
+    }
+}
+
+impl PartialOrd for Name {
+    ghost partial_cmp = { as_partial_cmp (slice_cmp nat_cmp) };
+
+    ghost laws = { partial_order_from_own_ties (Prim.search (comparing, rules)) (Prim.search (comparing, rules)) };
+
+    fn partial_cmp(&self, other: &Name) -> Option<Ordering> {
+        Some(self.cmp(other))
+    }
+}
+
+impl Hash for Name {
+    ghost hash_input = { fed.slice fed.u8 };
+
+    ghost respects_eq = { Prim.search (hashing, rules) };
+
+    fn hash<H: Hasher>(&self, state: &mut H) {
+        self.bytes().hash(state);
+    }
+}

@@ -1,0 +1,88 @@
+use crate::{Limits, QuotaFault, Used};
+use std::test::Fail;
+
+fn limits() -> Option<Limits> {
+    Limits::make(2, 1, 3, 5, 4, 9)
+}
+
+fn used(creds: u64, grants: u64, searches: u64, changes: u64, opens: u64) -> Used {
+    Used {
+        creds,
+        grants,
+        searches,
+        changes,
+        opens,
+    }
+}
+
+#[test]
+fn the_ends_of_the_ranges(rt: HostRuntime) {
+    assert!(rt; Limits::make(1, 1, 1, 1, 1, 1).is_some());
+    assert!(rt;
+        Limits::make(100_000, 1_000, 64, 1_000_000, 1_000_000_000, 4_294_967_296).is_some()
+    );
+    assert!(rt; Limits::make(0, 1, 1, 1, 1, 1).is_none());
+    assert!(rt; Limits::make(100_001, 1, 1, 1, 1, 1).is_none());
+    assert!(rt; Limits::make(1, 0, 1, 1, 1, 1).is_none());
+    assert!(rt; Limits::make(1, 1_001, 1, 1, 1, 1).is_none());
+    assert!(rt; Limits::make(1, 1, 0, 1, 1, 1).is_none());
+    assert!(rt; Limits::make(1, 1, 65, 1, 1, 1).is_none());
+    assert!(rt; Limits::make(1, 1, 1, 0, 1, 1).is_none());
+    assert!(rt; Limits::make(1, 1, 1, 1_000_001, 1, 1).is_none());
+    assert!(rt; Limits::make(1, 1, 1, 1, 0, 1).is_none());
+    assert!(rt; Limits::make(1, 1, 1, 1, 1_000_000_001, 1).is_none());
+    assert!(rt; Limits::make(1, 1, 1, 1, 1, 0).is_none());
+    assert!(rt; Limits::make(1, 1, 1, 1, 1, 4_294_967_297).is_none());
+}
+
+#[test]
+fn the_six_numbers(rt: HostRuntime) -> Result<(), Fail> {
+    let limits = limits().ok_or("in their ranges")?;
+    assert_eq!(rt; limits.creds(), 2);
+    assert_eq!(rt; limits.grants(), 1);
+    assert_eq!(rt; limits.searches(), 3);
+    assert_eq!(rt; limits.changes(), 5);
+    assert_eq!(rt; limits.opens(), 4);
+    assert_eq!(rt; limits.work(), 9);
+    let usual = Limits::usual();
+    assert_eq!(rt; usual.creds(), 1_000);
+    assert_eq!(rt; usual.grants(), 100);
+    assert_eq!(rt; usual.searches(), 16);
+    assert_eq!(rt; usual.changes(), 10_000);
+    assert_eq!(rt; usual.opens(), 10_000);
+    assert_eq!(rt; usual.work(), 1_000_000);
+    Ok(())
+}
+
+#[test]
+fn one_below_each_limit(rt: HostRuntime) -> Result<(), Fail> {
+    let limits = limits().ok_or("in their ranges")?;
+    let used = used(1, 0, 2, 4, 3);
+    assert_eq!(rt; limits.may_hold(&used), Ok(()));
+    assert_eq!(rt; limits.may_grant(&used), Ok(()));
+    assert_eq!(rt; limits.may_search(&used), Ok(()));
+    assert_eq!(rt; limits.may_change(&used), Ok(()));
+    assert_eq!(rt; limits.may_open(&used), Ok(()));
+    Ok(())
+}
+
+#[test]
+fn at_each_limit(rt: HostRuntime) -> Result<(), Fail> {
+    let limits = limits().ok_or("in their ranges")?;
+    let used = used(2, 1, 3, 5, 4);
+    assert_eq!(rt; limits.may_hold(&used), Err(QuotaFault::Creds));
+    assert_eq!(rt; limits.may_grant(&used), Err(QuotaFault::Grants));
+    assert_eq!(rt; limits.may_search(&used), Err(QuotaFault::Searches));
+    assert_eq!(rt; limits.may_change(&used), Err(QuotaFault::Changes));
+    assert_eq!(rt; limits.may_open(&used), Err(QuotaFault::Opens));
+    Ok(())
+}
+
+#[test]
+fn numbers_and_texts(rt: HostRuntime) -> Result<(), Fail> {
+    assert_eq!(rt; QuotaFault::Creds.number(), 41);
+    assert_eq!(rt; QuotaFault::Opens.number(), 45);
+    let text = format!(in rt.alloc(); "{}", QuotaFault::Changes)?;
+    assert_eq!(rt; text.as_str(), "changes limit");
+    Ok(())
+}

@@ -1,0 +1,10 @@
+pub mod Elements
+pub mod SameTexts
+pub mod Linking
+pub mod Unknown
+pub mod Sound
+pub mod Complete
+pub mod Searched
+pub mod Listed
+pub mod LawLemmas
+pub mod Exact

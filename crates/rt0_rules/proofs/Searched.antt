@@ -1,0 +1,20 @@
+-- What a search over the credentials finds, and what it means that it finds nothing.
+use Rattle.std.proofs.Common.{ℕ, List, ◌<◌, ◌≤◌, ◌≡◌, sym, refl, true, Some, length, take, get_or}
+use Rattle.std.specs.List.{Contains, find}
+use Rattle.std.proofs.lemmas.List.{take_all}
+use Rattle.credential_text.specs.declared.credentials.Credential.{Credential}
+use Rattle.rt0_rules.specs.declared.facts.Fact.{Fact}
+use Rattle.rt0_rules.specs.Facts.{is_owed, IsOwed, IsClosed}
+use Rattle.rt0_rules.proofs.Elements.{find-Some}
+
+-- the search at one credential found the entity
+pub owed_at : (C : List Credential) (entities : List (List ℕ)) (facts : List Fact) (i : ℕ) (c : Credential) (who : List ℕ) →
+    i < length C → c ≡ get_or C i c → find (is_owed facts c) entities ≡ Some who → IsOwed C entities facts (record { role = c.head; who = who })
+owed_at C entities facts i c who within is found =
+    let at : Contains entities who × (is_owed facts c who ≡ true) = find-Some (is_owed facts c) entities who found in
+    record { credential = c; among = (i, within, sym is); head = refl; listed = at.0; owed = at.1 }
+
+-- the search went past all credentials
+pub closed_past : (C : List Credential) (entities : List (List ℕ)) (facts : List Fact) (i : ℕ) → length C ≤ i →
+    IsClosed (take i C) entities facts → IsClosed C entities facts
+closed_past C entities facts i past closed = let all : take i C ≡ C = take_all i C past in rw all at closed

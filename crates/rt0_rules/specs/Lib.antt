@@ -1,0 +1,4 @@
+pub mod Derivation
+pub mod Membership
+pub mod Facts
+pub mod Laws

@@ -1,0 +1,13 @@
+-- What is said of a script that never began.
+use Rattle.std.proofs.Common.{ℕ, List, Option, Some, None, Err, IfSome}
+use Rattle.std.specs.Io.KnownBytes.{Appends}
+use Rattle.service.specs.Entry.{commands_of}
+use Rattle.service.specs.Outcome.{ScriptWrote}
+use Rattle.service.specs.declared.scripts.ScriptFault.{ScriptFault}
+use Rattle.service.specs.declared.scripts.ScriptFault.TheVariants.{Memory}
+use Rattle.service.proofs.ScriptLemmas.{Appends-nothing}
+
+-- want of memory, where nothing was written
+pub unwritten : (input out : Option (List ℕ)) → IfSome input (λ bytes. (fault : ScriptFault) × ScriptWrote (commands_of bytes) (Err fault) (Appends out out))
+unwritten None out = tt
+unwritten (Some bytes) out = (Memory, Appends-nothing out)

@@ -1,0 +1,35 @@
+use Rattle.std.proofs.Common.{rules, ap, ap₂, refl, codes, true, map, List, ℕ, [], ◌∷◌, ◌≡◌, ◌∙◌}
+use Rattle.std.proofs.lemmas.Result.{IfErr-weaker}
+use Rattle.clap.specs.Words.{App, Text, app_of, new_app, takes, with_subcommand}
+use Rattle.clap.specs.Simple.{app_of_fields}
+use Rattle.clap.proofs.OnLiterals.{clap_on_literals}
+use Rattle.rtsearch.specs.CommandLine.{AsksForScript}
+use Rattle.rtsearch.proofs.command_line.read_words.Goals as goal
+
+abbrev script : App
+script = new_app (codes "script")
+
+abbrev requiring : App → App
+requiring a = record { top = record a.top { subcommand_required = true }; subs = a.subs }
+
+abbrev bare : App
+bare = requiring (new_app (codes "rtsearch"))
+
+abbrev program : App
+program = with_subcommand bare script.top
+
+is_taken : (name : Text) → takes program (name ∷ codes "script" ∷ []) ≡ true
+unfolding clap_on_literals
+is_taken name = refl
+
+pub returns : goal.returns
+returns c =
+    let script_is : app_of c.about-script.result ≡ script = ap app_of_fields c.about-script.ensures ∙ c.new.ensures.app in
+    let bare_is : app_of c.subcommand_required.result ≡ bare = ap app_of_fields c.subcommand_required.ensures
+    ∙ ap requiring (ap app_of_fields c.about.ensures ∙ c.new-2.ensures.app) in
+    let program_is : app_of c.in_ok-program.program ≡ program = c.in_ok-program.ensures.shape (search rules)
+    ∙ ap₂ with_subcommand bare_is (ap (λ (a : App). a.top) script_is) in
+    let parse = c.try_get_matches_from in
+    record {
+      script = IfErr-weaker parse.result _ _ (λ e h (asks : AsksForScript (map (λ w. w.now) c.args.words.now)). h (ap₂ takes program_is asks.1 ∙ is_taken asks.0)) parse.ensures.passes;
+    }

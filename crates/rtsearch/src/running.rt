@@ -1,0 +1,41 @@
+ghost use Rattle.std.specs.Prelude.{◌≡◌, ◌≤◌, ℕ, List, Ok, Err, IfSome, map};
+ghost use Rattle.std.specs.Io.KnownBytes.{Appends};
+ghost use Rattle.service.specs.Entry.{commands_of};
+ghost use Rattle.service.specs.Outcome.{ScriptWrote};
+ghost use Rattle.service.specs.declared.scripts.ScriptFault.{ScriptFault};
+ghost use Rattle.rtsearch.specs.CommandLine.{AsksForScript};
+
+use crate::command_line::read_words;
+use clap::error::ErrorKind;
+use service::run_script;
+use std::alloc::Global;
+use std::io::{Read, Write};
+
+/// Does what the words of the command line ask for, the program's name first, and answers the status of the program:
+/// 0 where all input was read and answered, 1 on a fault of the roster, of reading, of writing or of memory, 2 where
+/// the command line is refused, whose text goes to the writer.
+pub fn run_words<R: Read + Drop, W: Write>(
+    alloc: Global,
+    words: &[&str],
+    reader: R,
+    writer: &mut W,
+) -> u8
+    ensures ran { result ≡ 0 → IfSome (R.remaining reader) (λ input. ScriptWrote (commands_of input) (Ok tt) (Appends (W.contents writer.old) (W.contents writer.new))) }
+    ensures failed { result ≡ 1 → IfSome (R.remaining reader) (λ input. (fault : ScriptFault) × ScriptWrote (commands_of input) (Err fault) (Appends (W.contents writer.old) (W.contents writer.new))) }
+    ensures script { AsksForScript (map (λ w. w.now) words.now) → result ≤ 1 }
+    ensures status { result ≤ 2 }
+{
+    match read_words(alloc, words) {
+        Ok(_matches) => match run_script(alloc, reader, writer) {
+            Ok(()) => 0,
+            Err(_fault) => 1,
+        },
+        Err(error) => {
+            if error.kind() == ErrorKind::OutOfMemory {
+                return 1;
+            }
+            let _ = write!(writer, "{error}");
+            2
+        }
+    }
+}

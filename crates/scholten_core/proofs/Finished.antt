@@ -1,0 +1,197 @@
+-- A finished letter, by the fields
+use Rattle.std.proofs.Common.{◌≡◌, ◌≢◌, ℕ, zero, suc, ◌+◌, ◌<◌, ◌==◌, true, cond, not, List, [], ◌∷◌, ◌++◌, Option, Some, None, filter, length, remove, is_some, option_map, option_to_list, unwrap_or, refl, sym, ap, ◌∙◌, subst, arith, zero-add, eq-eqb, ne_eqb}
+use Rattle.std.specs.Ordering.{nat_cmp}
+use Rattle.std.specs.FinMap as fin
+use Rattle.std.specs.FinMap.{FinMap}
+use Rattle.std.specs.BTreeMap.{BTreeMap, get}
+use Rattle.std.specs.Map.{lookup}
+use Rattle.std.proofs.lemmas.List.{append-nil}
+use Rattle.std.proofs.lemmas.List.Edits.{remove-append_left}
+use Rattle.std.proofs.lemmas.List.Sums.{length-filter, sum_by-append}
+use Rattle.std.proofs.lemmas.Option.{slice_get_within}
+use Rattle.scholten_core.specs.declared.Parent.{Parent}
+use Rattle.scholten_core.specs.declared.Parent.TheVariants.{Neutral, Environment, Node}
+use Rattle.scholten_core.specs.declared.Letter.{Letter}
+use Rattle.scholten_core.specs.declared.engagement.Engagement.{Engagement}
+use Rattle.scholten_core.specs.Computation.{Computation, deficit, is_engaged, outstanding, waiting}
+use Rattle.scholten_core.specs.Step.{answers, finished, finished_as, finishes, letters_after, numbered, receives, sends, settles, settles_under}
+use Rattle.scholten_core.specs.Kept.{IsKept, deficit_kept, engagements, kept, parent_kept}
+use Rattle.scholten_core.proofs.Engaged.{get-insert_same, get-insert_other, one_or_other, remove-insert}
+use Rattle.scholten_core.proofs.Fields.{StandsAt, engagements_are, get-engagements, held_in}
+use Rattle.scholten_core.proofs.Lists.{filter-remove, sum_by-filter_number}
+use Rattle.scholten_core.proofs.Paid.{count_of}
+use Rattle.scholten_core.proofs.Same.{is_same-self}
+use Rattle.scholten_core.proofs.Sent.{length-numbered, waiting-numbered}
+use Rattle.scholten_core.proofs.Steps.{IsReceived, acknowledged, deficit-sends, engages, received, rest}
+use Rattle.scholten_core.proofs.Whole.{is_finished}
+
+module _ {P : Type 0} (e : Computation P) (n : ℕ) where
+  stays_under : 0 < deficit e (Node n) → (o : Option Parent) → settles_under e n o ≡ e
+  stays_under owed None = refl
+  stays_under owed (Some by) =
+      ap (λ b. cond b (record e { signals = e.signals ++ by ∷ []; engaged = fin.remove e.engaged n }) e) (ne_eqb (deficit e (Node n)) 0 (omega arith))
+
+  -- one that is owed something stays
+  settles_stays : 0 < deficit e (Node n) → settles e (Node n) ≡ e
+  settles_stays owed = stays_under owed (fin.get e.engaged n)
+
+  -- an engaged node that is owed nothing goes
+  settles_goes : (by : Parent) → fin.get e.engaged n ≡ Some by → deficit e (Node n) ≡ 0 → settles e (Node n) ≡ record e { signals = e.signals ++ by ∷ []; engaged = fin.remove e.engaged n }
+  settles_goes by engaged nothing =
+      ap (settles_under e n) engaged
+      ∙ ap (λ k. cond (k == 0) (record e { signals = e.signals ++ by ∷ []; engaged = fin.remove e.engaged n }) e) nothing
+
+-- what becomes of the engaged nodes when one receives a letter from another and sends so many; by is
+-- whom a signal goes to
+pub record Receives (nodes nodes_after : BTreeMap ℕ Engagement) (from : Parent) (to count : ℕ) (by : Option Parent) : Type 0 where
+  pub same : (n : ℕ) → n ≢ to → get nat_cmp nodes_after n ≡ get nat_cmp nodes n
+  pub engaged : (e : Engagement) → get nat_cmp nodes to ≡ Some e → (by ≡ Some from) × (get nat_cmp nodes_after to ≡ Some (record e { deficit = e.deficit + count }))
+  pub anew : get nat_cmp nodes to ≡ None → 0 < count → (by ≡ None) × (get nat_cmp nodes_after to ≡ Some (record { parent = from; deficit = count }))
+  pub idle : get nat_cmp nodes to ≡ None → count ≡ 0 → (by ≡ Some from) × (get nat_cmp nodes_after to ≡ None)
+
+-- what the fields hold once a letter is finished
+pub record IsFinishedIn {P : Type 0} (d : Computation P) (number : ℕ) (outs : List (ℕ × P)) (e : Computation P) (waiters owed : ℕ) (nodes : BTreeMap ℕ Engagement) : Type 0 where
+  pub is : e ≡ finished d number outs
+  pub kept : IsKept e waiters owed nodes
+  pub letters : e.letters ≡ letters_after d number outs
+  pub more : outstanding e ≡ outstanding d + length outs
+
+-- what the fields hold after a letter is finished
+module _ {P : Type 0} (sent : ℕ) (letters : List (ℕ × Letter P)) (signals : List Parent) (waiters owed : ℕ) (nodes : BTreeMap ℕ Engagement) (keeps : IsKept (held_in sent letters signals nodes) waiters owed nodes) (number : ℕ) (l : Letter P) (found : lookup (λ n. n == number) letters ≡ Some l) (outs : List (ℕ × P)) (nodes_after : BTreeMap ℕ Engagement) (by : Option Parent) (receives_it : Receives nodes nodes_after l.from l.to (length outs) by) where
+  abbrev before : Computation P
+  before = held_in sent letters signals nodes
+
+  -- the computation after it, but for the signals and the engaged nodes
+  abbrev with_parts : List Parent → FinMap nat_cmp Parent → Computation P
+  with_parts s m =
+      record { sent = sent + length outs; letters = rest before number l ++ numbered (Node l.to) (sent + 1) outs; signals = s; engaged = m }
+
+  abbrev after : Computation P
+  after = with_parts (signals ++ option_to_list by) (engagements nodes_after.entries)
+
+  got : IsReceived before number l (receives before number l)
+  got = received before number l keeps.settled found
+
+  owed_to : deficit (sends (receives before number l) (Node l.to) outs) (Node l.to) ≡ deficit before (Node l.to) + length outs
+  owed_to =
+      omega (arith, deficit-sends (receives before number l) (Node l.to) outs (Node l.to), ap (λ b. cond b (length outs) 0) (is_same-self (Node l.to)), got.owed.deficits (Node l.to))
+
+  engaged_before : (o : Option Engagement) → get nat_cmp nodes l.to ≡ o → is_engaged before l.to ≡ is_some o
+  engaged_before o is =
+      ap is_some (get-engagements nodes l.to) ∙ ap (λ x. is_some (option_map (λ (e : Engagement). e.parent) x)) is ∙ elim o as (λ x. is_some (option_map (λ (e : Engagement). e.parent) x) ≡ is_some x) [ None ↦ refl | Some e ↦ refl ]
+
+  -- a map is that of the fields where it answers as before at every other node, and at this one as
+  -- the fields do
+  parts_are : (s : List Parent) (m : FinMap nat_cmp Parent) → s ≡ signals ++ option_to_list by → ((n : ℕ) → n ≢ l.to → fin.get m n ≡ parent_kept nodes n) → fin.get m l.to ≡ parent_kept nodes_after l.to → with_parts s m ≡ after
+  parts_are s m signals_are others here =
+      λ i. with_parts (signals_are i) (engagements_are m nodes_after (λ n. one_or_other n l.to
+      (λ one. ap (fin.get m) one ∙ here ∙ ap (parent_kept nodes_after) (sym one))
+      (λ other. others n other ∙ ap (option_map (λ (e : Engagement). e.parent)) (sym (receives_it.same n other)))) i)
+
+  -- the letter came to an engaged node
+  finished_engaged : (e : Engagement) → get nat_cmp nodes l.to ≡ Some e → finishes before number l outs ≡ after
+  finished_engaged e there =
+      let is = engaged_before (Some e) there in
+      let acknowledges = ap (λ b. cond b (acknowledged before number l) (engages before number l)) is in
+      let owing = keeps.settled.busy l.to (λ x. cc) is in
+      let got_it = receives_it.engaged e there in
+      settles_stays (sends (receives before number l) (Node l.to) outs) l.to (omega (arith, owed_to, owing))
+      ∙ ap (λ x. sends x (Node l.to) outs) acknowledges
+      ∙ parts_are (signals ++ l.from ∷ []) (engagements nodes.entries) (ap (λ o. signals ++ option_to_list o) (sym got_it.0)) (λ n _. get-engagements nodes n) (get-engagements nodes l.to ∙ ap (option_map (λ (x : Engagement). x.parent)) there ∙ ap (option_map (λ (x : Engagement). x.parent)) (sym got_it.1))
+
+  module _ (gone : get nat_cmp nodes l.to ≡ None) where
+    engages_it : receives before number l ≡ engages before number l
+    engages_it =
+        ap (λ b. cond b (acknowledged before number l) (engages before number l)) (engaged_before None gone)
+
+    parent_gone : fin.get (engagements nodes.entries) l.to ≡ None
+    parent_gone = get-engagements nodes l.to ∙ ap (option_map (λ (x : Engagement). x.parent)) gone
+
+    -- it came to a neutral node, which sends letters
+    finished_anew : 0 < length outs → finishes before number l outs ≡ after
+    finished_anew some =
+        let got_it = receives_it.anew gone some in
+        settles_stays (sends (receives before number l) (Node l.to) outs) l.to (omega (arith, owed_to))
+        ∙ ap (λ x. sends x (Node l.to) outs) engages_it
+        ∙ parts_are signals (fin.insert (engagements nodes.entries) l.to l.from) (sym (append-nil signals) ∙ ap (λ o. signals ++ option_to_list o) (sym got_it.0)) (λ n other. get-insert_other _ l.to l.from n other ∙ get-engagements nodes n) (get-insert_same _ l.to l.from ∙ ap (option_map (λ (x : Engagement). x.parent)) (sym got_it.1))
+
+    -- it came to a neutral node, which sends none
+    finished_idle : length outs ≡ 0 → finishes before number l outs ≡ after
+    finished_idle none =
+        let got_it = receives_it.idle gone none in
+        let neutral = keeps.settled.idle (Node l.to) (engaged_before None gone) in
+        let sent_by = sends (engages before number l) (Node l.to) outs in
+        let nothing : deficit sent_by (Node l.to) ≡ 0 = ap (λ x. deficit (sends x (Node l.to) outs) (Node l.to)) (sym engages_it) ∙ omega (arith, owed_to, neutral, none) in
+        ap (λ x. settles (sends x (Node l.to) outs) (Node l.to)) engages_it
+        ∙ settles_goes sent_by l.to l.from (get-insert_same _ l.to l.from) nothing
+        ∙ ap (with_parts (signals ++ l.from ∷ [])) (remove-insert (engagements nodes.entries) l.to l.from parent_gone)
+        ∙ parts_are (signals ++ l.from ∷ []) (engagements nodes.entries) (ap (λ o. signals ++ option_to_list o) (sym got_it.0)) (λ n _. get-engagements nodes n) (parent_gone ∙ ap (option_map (λ (x : Engagement). x.parent)) (sym got_it.1))
+
+  finished_is : finishes before number l outs ≡ after
+  finished_is =
+      elim (get nat_cmp nodes l.to) as (λ o. get nat_cmp nodes l.to ≡ o → finishes before number l outs ≡ after) [
+        | None ↦ λ gone. elim (length outs) as (λ n. length outs ≡ n → finishes before number l outs ≡ after) [
+          | zero ↦ λ none. finished_idle gone none
+          | suc n ↦ λ some. finished_anew gone (omega arith)
+        ] refl
+        | Some e ↦ λ there. finished_engaged e there
+      ] refl
+
+  -- the receiver is owed so many more
+  count_here : deficit_kept nodes_after l.to ≡ deficit_kept nodes l.to + length outs
+  count_here =
+      elim (get nat_cmp nodes l.to) as (λ o. get nat_cmp nodes l.to ≡ o → count_of (get nat_cmp nodes_after l.to) ≡ count_of o + length outs) [
+        | None ↦ λ gone. elim (length outs) as (λ n. length outs ≡ n → count_of (get nat_cmp nodes_after l.to) ≡ length outs) [
+          | zero ↦ λ none. ap count_of (receives_it.idle gone none).1 ∙ sym none
+          | suc n ↦ λ some. ap count_of (receives_it.anew gone (omega arith)).1
+        ] refl ∙ sym (zero-add (length outs))
+        | Some e ↦ λ there. ap count_of (receives_it.engaged e there).1
+      ] refl
+
+  count_after : (n : ℕ) → deficit_kept nodes_after n ≡ deficit_kept nodes n + cond (n == l.to) (length outs) 0
+  count_after n =
+      one_or_other n l.to
+      (λ one. let test : (n == l.to) ≡ true = ap (λ x. x == l.to) one ∙ eq-eqb l.to l.to refl in
+      ap (deficit_kept nodes_after) one ∙ count_here ∙ (λ i. deficit_kept nodes (sym one i) + cond (sym test i) (length outs) 0))
+      (λ other. ap count_of (receives_it.same n other) ∙ omega (arith, ap (λ b. cond {A = ℕ} b (length outs) 0) (ne_eqb n l.to other)))
+
+  waiting_after : l.held ≡ true → length (filter (λ (x : ℕ × Letter P). not x.1.held) (rest before number l ++ numbered (Node l.to) (sent + 1) outs)) ≡ length (waiting before) + length outs
+  waiting_after held =
+      let waits = λ (x : ℕ × Letter P). not x.1.held in
+      let count = λ (x : ℕ × Letter P). cond {A = ℕ} (waits x) 1 0 in
+      let answers = numbered (Node l.to) (sent + 1) outs in
+      let left = sum_by-filter_number 0 letters sent number l keeps.settled.numbers found count in
+      let held_counts : count (number, l) ≡ 0 = ap (λ b. cond {A = ℕ} (not b) 1 0) held in
+      let all_wait = ap length (waiting-numbered (Node l.to) (sent + 1) outs) in
+      omega (arith, length-filter waits (rest before number l ++ answers), sum_by-append count (rest before number l) answers, left, held_counts, length-filter waits letters, length-filter waits answers, all_wait, length-numbered (Node l.to) (sent + 1) outs)
+
+  finished_kept : l.held ≡ true → IsKept (finishes before number l outs) (waiters + length outs) owed nodes_after
+  finished_kept held =
+      let done = is_finished before number l outs keeps.settled found in
+      record {
+        settled = done.settled;
+        waits = omega (arith, keeps.waits, ap (λ ls. length (filter (λ (x : ℕ × Letter P). not x.1.held) ls)) done.letters, waiting_after held);
+        counts = counts_after;
+      }
+    where
+      counts_after : (p : Parent) → kept owed nodes_after p ≡ deficit (finishes before number l outs) p
+      counts_after Neutral = sym ((is_finished before number l outs keeps.settled found).settled.idle Neutral refl)
+      counts_after Environment =
+          omega (arith, keeps.counts Environment, (is_finished before number l outs keeps.settled found).deficits Environment)
+      counts_after (Node n) =
+          omega (arith, count_after n, keeps.counts (Node n), (is_finished before number l outs keeps.settled found).deficits (Node n))
+
+  -- the fields hold the computation with the letter finished
+  pub finished_fields : (at : ℕ) → StandsAt letters number at l true → (letters_now : List (ℕ × Letter P)) → letters_now ≡ remove (letters ++ numbered (Node l.to) (sent + 1) outs) at → (signals_now : List Parent) → signals_now ≡ signals ++ option_to_list by → IsFinishedIn before number outs (held_in (sent + length outs) letters_now signals_now nodes_after) (waiters + length outs) owed nodes_after
+  finished_fields at stands letters_now letters_are signals_now signals_are =
+      let answers_now = numbered (Node l.to) (sent + 1) outs in
+      let left = sym (filter-remove 0 letters sent at number l keeps.settled.numbers stands.there) in
+      let here = letters_are ∙ remove-append_left letters answers_now at (slice_get_within letters at (number, l) stands.there) ∙ ap (λ ls. ls ++ answers_now) left in
+      let is : held_in (sent + length outs) letters_now signals_now nodes_after ≡ finishes before number l outs = (λ i. held_in (sent + length outs) (here i) (signals_are i) nodes_after) ∙ sym finished_is in
+      let done = is_finished before number l outs keeps.settled found in
+      record {
+        is = is ∙ ap (λ o. finished_as before number o outs) (sym found);
+        kept = subst (λ d. IsKept d (waiters + length outs) owed nodes_after) (sym is) (finished_kept stands.is_held);
+        letters = here ∙ ap (λ o. rest before number l ++ answers (sent + 1) o outs) (sym found);
+        more = ap outstanding is ∙ done.amount;
+      }

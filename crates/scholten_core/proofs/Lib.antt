@@ -1,0 +1,12 @@
+pub mod Complete
+pub mod Delivered
+pub mod Engaged
+pub mod Fields
+pub mod Finished
+pub mod Lists
+pub mod Paid
+pub mod Same
+pub mod Sent
+pub mod Steps
+pub mod Trees
+pub mod Whole

@@ -1,0 +1,68 @@
+-- A diffusing computation, and what of it is outstanding (Dijkstra and Scholten, 1980)
+use Rattle.std.specs.Prelude.{ℕ, zero, suc, ◌+◌, ◌==◌, Bool, true, false, not, List, Option, length, filter, count_by, unwrap_or, IsSomeAnd, IsTrue}
+use Rattle.std.specs.Map.{lookup}
+use Rattle.std.specs.Ordering.{nat_cmp}
+use Rattle.std.specs.FinMap as fin
+use Rattle.std.specs.FinMap.{FinMap}
+use Rattle.scholten_core.specs.declared.Parent.{Parent}
+use Rattle.scholten_core.specs.declared.Parent.TheVariants.{Neutral, Environment, Node}
+use Rattle.scholten_core.specs.declared.Letter.{Letter}
+
+-- The letters that wait or are held, each with its number, in order of number; the signals under
+-- way, oldest first, each by the one that it goes to; the engaged nodes, each with the one that
+-- engaged it; and how many letters were ever sent.
+pub record Computation (P : Type 0) : Type 0 where
+  pub sent : ℕ
+  pub letters : List (ℕ × Letter P)
+  pub signals : List Parent
+  pub engaged : FinMap nat_cmp Parent
+
+-- whether two are one and the same
+abbrev pub is_same : Parent → Parent → Bool
+is_same Neutral Neutral = true
+is_same Neutral Environment = false
+is_same Neutral (Node n) = false
+is_same Environment Neutral = false
+is_same Environment Environment = true
+is_same Environment (Node n) = false
+is_same (Node m) Neutral = false
+is_same (Node m) Environment = false
+is_same (Node m) (Node n) = m == n
+
+module _ {P : Type 0} where
+  -- the letters that wait, in order of number
+  abbrev pub waiting : Computation P → List (ℕ × Letter P)
+  waiting d = filter (λ l. not l.1.held) d.letters
+
+  -- the letter of a number, where it waits or is held
+  abbrev pub letter_of : Computation P → ℕ → Option (Letter P)
+  letter_of d number = lookup (λ n. n == number) d.letters
+
+  -- the letter of a number is there and is held
+  abbrev pub IsHeld : Computation P → ℕ → Type 0
+  IsHeld d number = IsSomeAnd (letter_of d number) (λ l. IsTrue l.held)
+
+  -- who engaged a node; a node that nobody engaged is neutral
+  abbrev pub parent_of : Computation P → ℕ → Parent
+  parent_of d n = unwrap_or (fin.get d.engaged n) Neutral
+
+  -- whether a node is engaged
+  abbrev pub is_engaged : Computation P → ℕ → Bool
+  is_engaged d n = fin.contains_key d.engaged n
+
+  -- what one is owed: the letters that it sent and that wait or are held, the signals coming to it,
+  -- and the nodes engaged by it
+  abbrev pub deficit : Computation P → Parent → ℕ
+  deficit d p =
+      count_by (λ l. is_same p l.1.from) d.letters + count_by (is_same p) d.signals + count_by (is_same p) (fin.values d.engaged)
+
+  -- how much is outstanding: letters waiting or held, signals under way, engaged nodes
+  abbrev pub outstanding : Computation P → ℕ
+  outstanding d = length d.letters + length d.signals + fin.len d.engaged
+
+-- where one comes to by following parents for so many steps; nobody is above the environment
+abbrev pub followed : FinMap nat_cmp Parent → ℕ → Parent → Parent
+followed m zero p = p
+followed m (suc k) Neutral = Neutral
+followed m (suc k) Environment = Environment
+followed m (suc k) (Node n) = followed m k (unwrap_or (fin.get m n) Neutral)

@@ -1,0 +1,90 @@
+-- The steps of a diffusing computation
+use Rattle.std.specs.Prelude.{ℕ, ◌+◌, ◌==◌, Bool, false, not, List, [], ◌∷◌, ◌++◌, Option, None, Some, length, filter, map, remove, slice_get, if◌then◌else◌}
+use Rattle.std.specs.FinMap as fin
+use Rattle.scholten_core.specs.declared.Parent.{Parent}
+use Rattle.scholten_core.specs.declared.Parent.TheVariants.{Neutral, Environment, Node}
+use Rattle.scholten_core.specs.declared.Letter.{Letter}
+use Rattle.scholten_core.specs.Computation.{Computation, deficit, is_engaged, letter_of}
+
+module _ {P : Type 0} where
+  -- letters from one sender, numbered from number on, each waiting
+  abbrev pub numbered : Parent → ℕ → List (ℕ × P) → List (ℕ × Letter P)
+  numbered from number [] = []
+  numbered from number (o ∷ outs) =
+      (number, record { from = from; to = o.0; held = false; load = o.1 }) ∷ numbered from (number + 1) outs
+
+  -- from sends letters
+  abbrev pub sends : Computation P → Parent → List (ℕ × P) → Computation P
+  sends d from outs =
+      record d { sent = d.sent + length outs; letters = d.letters ++ numbered from (d.sent + 1) outs }
+
+  -- the environment sends the first letter
+  abbrev pub started : ℕ → P → Computation P
+  started root load =
+      sends (record { sent = 0; letters = []; signals = []; engaged = fin.empty }) Environment ((root, load) ∷ [])
+
+  -- the letter of a number is now held, or waits again
+  abbrev pub marked : Computation P → ℕ → Bool → Computation P
+  marked d number held =
+      record d { letters = map (λ l. if l.0 == number then (l.0, record l.1 { held = held }) else l) d.letters }
+
+  -- a signal to one goes under way
+  abbrev pub signals : Computation P → Parent → Computation P
+  signals d to = record d { signals = d.signals ++ to ∷ [] }
+
+  -- an engaged node that is owed nothing becomes neutral, and a signal to the one that engaged it
+  -- goes under way
+  abbrev pub settles_under : Computation P → ℕ → Option Parent → Computation P
+  settles_under d n None = d
+  settles_under d n (Some by) =
+      if deficit d (Node n) == 0
+      then record d { signals = d.signals ++ by ∷ []; engaged = fin.remove d.engaged n }
+      else d
+
+  -- the same of anyone: nobody and the environment have nobody to signal
+  abbrev pub settles : Computation P → Parent → Computation P
+  settles d Neutral = d
+  settles d Environment = d
+  settles d (Node n) = settles_under d n (fin.get d.engaged n)
+
+  -- a letter is received: it engages a neutral node, and otherwise a signal to its sender goes
+  -- under way
+  abbrev pub receives : Computation P → ℕ → Letter P → Computation P
+  receives d number l =
+      let rest = filter (λ x. not (x.0 == number)) d.letters in
+      if is_engaged d l.to
+      then record d { letters = rest; signals = d.signals ++ l.from ∷ [] }
+      else record d { letters = rest; engaged = fin.insert d.engaged l.to l.from }
+
+  -- a letter is finished: it is received, its receiver sends letters, and becomes neutral if it is
+  -- then owed nothing
+  abbrev pub finishes : Computation P → ℕ → Letter P → List (ℕ × P) → Computation P
+  finishes d number l outs = settles (sends (receives d number l) (Node l.to) outs) (Node l.to)
+
+  -- the same where the letter is there, and nothing where it isn't
+  abbrev pub finished_as : Computation P → ℕ → Option (Letter P) → List (ℕ × P) → Computation P
+  finished_as d number None outs = d
+  finished_as d number (Some l) outs = finishes d number l outs
+
+  -- the letter of a number is finished
+  abbrev pub finished : Computation P → ℕ → List (ℕ × P) → Computation P
+  finished d number outs = finished_as d number (letter_of d number) outs
+
+  -- the letters that the receiver of a letter sends, numbered from number on
+  abbrev pub answers : ℕ → Option (Letter P) → List (ℕ × P) → List (ℕ × Letter P)
+  answers number None outs = []
+  answers number (Some l) outs = numbered (Node l.to) number outs
+
+  -- the letters after one is finished: it is gone, and those that its receiver sends stand at the end
+  abbrev pub letters_after : Computation P → ℕ → List (ℕ × P) → List (ℕ × Letter P)
+  letters_after d number outs =
+      filter (λ l. not (l.0 == number)) d.letters ++ answers (d.sent + 1) (letter_of d number) outs
+
+  -- a signal to one is delivered from a place: its receiver becomes neutral if it is then owed nothing
+  abbrev pub signalled_as : Computation P → ℕ → Option Parent → Computation P
+  signalled_as d place None = d
+  signalled_as d place (Some to) = settles (record d { signals = remove d.signals place }) to
+
+  -- the signal at a place is delivered
+  abbrev pub signalled : Computation P → ℕ → Computation P
+  signalled d place = signalled_as d place (slice_get d.signals place)

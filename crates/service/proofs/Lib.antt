@@ -1,0 +1,13 @@
+pub mod LineLemmas
+pub mod LinesLemmas
+pub mod NumberLemmas
+pub mod PositionLemmas
+pub mod TakenLemmas
+pub mod WordsLemmas
+pub mod Worked
+pub mod WorkedScripts
+pub mod WrittenLemmas
+pub mod TenantLemmas
+pub mod RosterLemmas
+pub mod EntryLemmas
+pub mod ScriptLemmas

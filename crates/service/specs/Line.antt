@@ -1,0 +1,23 @@
+-- The lines of an input.
+use Rattle.std.specs.Prelude.{ℕ, Bool, ◌&&◌, List, length, map, nat_le, if◌then◌else◌}
+use Rattle.std.specs.List.{list_all}
+use Rattle.std.specs.Str.Lines.{lines}
+
+-- one line: its text, or why it has none
+pub data Line : Type 0 where
+  text : List ℕ → Line
+  too_long : Line
+  not_ascii : Line
+
+-- a space or a visible character
+abbrev pub is_printable : ℕ → Bool
+is_printable b = nat_le 32 b && nat_le b 126
+
+-- what the bytes of a line, without its end, are: too long comes first
+abbrev pub line_of : List ℕ → Line
+line_of bytes = if nat_le (length bytes) 4096 then (if list_all is_printable bytes then text bytes else not_ascii) else too_long
+
+-- the lines of an input: each ends at a newline, which may have one carriage return before it, and what follows
+-- the last newline is a line too, where there is any
+abbrev pub lines_of : List ℕ → List Line
+lines_of input = map line_of (lines input)

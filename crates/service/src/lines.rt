@@ -1,0 +1,204 @@
+//! The lines of a reader.
+ghost use Rattle.std.specs.Prelude.{◌≡◌, ◌<◌, ◌≤◌, ◌∷◌, ◌++◌, [], take, length, vec_len, vec_capacity, IfOk};
+ghost use Rattle.std.specs.Borrow.{sem};
+ghost use Rattle.std.specs.Io.BufRead.{Rests};
+ghost use Rattle.std.specs.List.{list_all};
+ghost use Rattle.std.specs.Str.Lines.{strip_carriage_return};
+ghost use Rattle.service.specs.declared.lines.TheConstants.{KEPT};
+ghost use Rattle.service.specs.Line.{line_of, is_printable};
+ghost use Rattle.service.specs.Lines.{Shows, Gives, IsText};
+ghost use Rattle.service.specs.Source.{source_of};
+ghost use Rattle.service.specs.Taken.{Takes};
+ghost use Rattle.service.specs.Unread.{unread_bytes};
+ghost use Rattle.service.specs.contracts.lines.LineReader.{the_row as reader-row};
+
+use limit::Limited;
+use std::alloc::{AllocError, Global};
+use std::io::{BufReader, Bytes, Read};
+use std::marker::Model;
+
+pub(crate) mod limit;
+
+/// The most bytes that a line may have, without its end.
+pub const LINE_ROOM: usize = 4096;
+
+/// How many bytes of a line are kept: a carriage return, and one more by which a longer line is known.
+const KEPT: usize = 4098;
+
+/// Reads an input line by line. A line ends at a newline, and one carriage return directly before that
+/// is no part of it; what follows the last newline is a line too, where there is any.
+#[derive(Drop)]
+pub struct LineReader<R: Read> {
+    bytes: Bytes<BufReader<Limited<R>>>,
+    line: Vec<u8>,
+    stage: Stage,
+}
+
+/// What `LineReader::next` found.
+#[derive(Clone, Copy, Debug, PartialEq, Eq)]
+pub enum NextLine<'a> {
+    /// A line of spaces and visible characters, without its end.
+    Text(&'a [u8]),
+    /// A line of more than `LINE_ROOM` bytes, whatever they are.
+    Long,
+    /// A line with a byte outside 32 to 126.
+    NotAscii,
+    /// There is no further line.
+    End,
+    /// The reader failed, or was read `MOST_READS` times.
+    Fault,
+}
+
+/// Where a reader stands. An ended or failed one is read no further.
+#[derive(Clone, Copy)]
+enum Stage {
+    Open,
+    Ended,
+    Failed,
+}
+
+/// How the reading of one line ended.
+enum LineEnd {
+    Newline,
+    EndOfInput,
+    Fault,
+}
+
+impl<R: Read> Model for LineReader<R> {
+    ghost use Rattle.std.specs.Prelude.{◌≤◌, vec_capacity};
+    ghost use Rattle.service.specs.Source.{Source};
+
+    ghost Value = { Source };
+
+    ghost use Rattle.service.specs.Unread.{unread};
+
+    ghost view = { λ r. unread R.remaining r.bytes r.stage };
+
+    ghost invariant = { λ r. 4098 ≤ vec_capacity r.line };
+}
+
+impl<R: Read + Drop> LineReader<R> {
+    /// Takes all the memory that reading will need. Without it the reader is dropped.
+    pub fn make(alloc: Global, reader: R) -> Result<LineReader<R>, AllocError>
+        ensures { IfOk result (λ lines. lines ≡ source_of (R.remaining reader)) }
+    {
+        let line = Vec::with_capacity(alloc, KEPT)?;
+        match BufReader::new(alloc, Limited::new(reader)) {
+            Ok(ahead) => Ok(LineReader {
+                bytes: ahead.bytes(),
+                line,
+                stage: Stage::Open,
+            }),
+            Err(_) => Err(AllocError),
+        }
+    }
+
+    /// The next line, lent from the room that `make` took; this takes no memory. The end and a fault stay:
+    /// after either the reader is read no further, and each call answers the same.
+    pub fn next(&mut self) -> NextLine<'_>
+        ensures* after_borrow { sem 𝓛 (Rests (reader-row R.row R.Read) self.entry (λ new. Gives self.old result new)) }
+        ensures text { IsText result }
+    {
+        match self.stage {
+            Stage::Open => {}
+            Stage::Ended => return NextLine::End,
+            Stage::Failed => return NextLine::Fault,
+        }
+        match take_line(&mut self.bytes, &mut self.line) {
+            LineEnd::Newline => {
+                drop_carriage_return(&mut self.line);
+                classify(&self.line)
+            }
+            LineEnd::EndOfInput => {
+                self.stage = Stage::Ended;
+                classify_last(&self.line)
+            }
+            LineEnd::Fault => {
+                self.stage = Stage::Failed;
+                NextLine::Fault
+            }
+        }
+    }
+}
+
+/// What follows the last newline: a line if there is anything.
+fn classify_last(line: &[u8]) -> NextLine<'_>
+    ensures end { line.now ≡ [] → result ≡ NextLine.End }
+    ensures shows { 0 < length line.now → Shows result (line_of line.now) }
+    ensures text { IsText result }
+{
+    if line.is_empty() {
+        NextLine::End
+    } else {
+        classify(line)
+    }
+}
+
+/// What a line with these bytes, without its end, is.
+fn classify(line: &[u8]) -> NextLine<'_>
+    ensures shows { Shows result (line_of line.now) }
+    ensures text { IsText result }
+{
+    if line.len() > LINE_ROOM {
+        return NextLine::Long;
+    }
+    if is_text(line) {
+        NextLine::Text(line)
+    } else {
+        NextLine::NotAscii
+    }
+}
+
+/// Whether there are spaces and visible characters alone.
+fn is_text(line: &[u8]) -> bool
+    ensures { result ≡ list_all is_printable line.now }
+{
+    line.iter().all(|byte| (b' '..=b'~').contains(byte))
+}
+
+/// Takes the bytes of a line and its newline, and keeps the first of them.
+fn take_line<R: Read + Drop>(
+    bytes: &mut Bytes<BufReader<Limited<R>>>,
+    line: &mut Vec<u8>,
+) -> LineEnd
+    requires { KEPT ≤ vec_capacity line.old }
+    ensures taken { Takes (unread_bytes R.remaining bytes.old) result line.new.items (unread_bytes R.remaining bytes.new) }
+    ensures room { KEPT ≤ vec_capacity line.new }
+{
+    line.clear();
+    while let Some(byte) = bytes.next() {
+        let Ok(byte) = byte else {
+            return LineEnd::Fault;
+        };
+        if byte == b'\n' {
+            return LineEnd::Newline;
+        }
+        keep(line, byte);
+    }
+    LineEnd::EndOfInput
+}
+
+/// Keeps a byte of a line where there is room for it.
+fn keep(line: &mut Vec<u8>, byte: u8)
+    requires room { KEPT ≤ vec_capacity line.old }
+    requires fits { vec_len line.old ≤ KEPT }
+    ensures kept { line.new.items ≡ take KEPT (line.old.items ++ byte ∷ []) }
+    ensures room { KEPT ≤ vec_capacity line.new }
+{
+    if line.len() < KEPT {
+        line.push(byte).unwrap();
+    }
+}
+
+/// Takes one carriage return off the end.
+fn drop_carriage_return(line: &mut Vec<u8>)
+    ensures stripped { line.new.items ≡ strip_carriage_return line.old.items }
+    ensures room { vec_capacity line.new ≡ vec_capacity line.old }
+{
+    if let Some(b'\r') = line.last() {
+        line.pop();
+    }
+}
+
+#[cfg(test)]
+mod tests;

@@ -1,0 +1,53 @@
+//! A bound on how often a reader is asked.
+ghost use Rattle.std.specs.Prelude.{◌≡◌, ◌+◌, ◌<◌, IsErr};
+ghost use Rattle.std.specs.Io.KnownBytes.{ReadConsumes};
+ghost use Rattle.std.specs.Io.{ReadsAtMost};
+ghost use Rattle.service.specs.declared.lines.limit.TheConstants.{MOST_READS};
+
+use std::io;
+use std::io::Read;
+
+/// How often a `LineReader` may call its reader's `read` before it gives up with a fault.
+pub const MOST_READS: u64 = 1 << 40;
+
+/// A reader that fails once it was read so often. Each call of `read` counts, also one that failed.
+#[derive(Drop)]
+pub(crate) struct Limited<R> {
+    inner: R,
+    left: u64,
+}
+
+impl<R> Limited<R> {
+    pub(crate) fn new(inner: R) -> Limited<R>
+        ensures inner { result.inner ≡ inner }
+        ensures left { result.left ≡ MOST_READS }
+    {
+        Limited::with_reads(inner, MOST_READS)
+    }
+
+    pub(crate) fn with_reads(inner: R, left: u64) -> Limited<R>
+        ensures inner { result.inner ≡ inner }
+        ensures left { result.left ≡ left }
+    {
+        Limited { inner, left }
+    }
+}
+
+impl<R: Read> Read for Limited<R> {
+    ghost remaining = { λ s. R.remaining s.inner };
+
+    fn read(&mut self, buf: &mut [u8]) -> io::Result<usize>
+        ensures bound { ReadsAtMost result buf.new }
+        ensures bytes { ReadConsumes (R.remaining self.old.inner) (R.remaining self.new.inner) result buf.new }
+
+        // A call costs one; with none left there is no call.
+        ensures counted { 0 < self.old.left → self.new.left + 1 ≡ self.old.left }
+        ensures used_up { self.old.left ≡ 0 → IsErr result × (self.new ≡ self.old) }
+    {
+        if self.left == 0 {
+            return Err(io::Error::other("the reader was read too often"));
+        }
+        self.left -= 1;
+        self.inner.read(buf)
+    }
+}

@@ -1,0 +1,30 @@
+//! What goes out to a writer.
+ghost use Rattle.std.specs.Prelude.{OnOk, OnErr};
+ghost use Rattle.std.specs.Io.KnownBytes.{Appends};
+ghost use Rattle.service.specs.Written.{WritesFront};
+
+use std::io::Write;
+
+/// A writer failed, or took no byte.
+#[derive(Clone, Copy, Debug, PartialEq, Eq)]
+pub(crate) struct WriteFault;
+
+/// Writes the whole reply, in as many calls as the writer needs. Each error of `write` is a fault, and so is
+/// a call that takes no byte: nothing is tried again.
+pub(crate) fn write_reply<W: Write>(writer: &mut W, reply: &[u8]) -> Result<(), WriteFault>
+    ensures ok { OnOk result (Appends (W.contents writer.old) (W.contents writer.new) reply.now) }
+    ensures err { OnErr result (WritesFront (W.contents writer.old) (W.contents writer.new) reply.now) }
+{
+    let mut sent = 0;
+    while sent < reply.len() {
+        match writer.write(&reply[sent..]) {
+            Ok(0) => return Err(WriteFault),
+            Ok(count) => sent += count,
+            Err(_) => return Err(WriteFault),
+        }
+    }
+    Ok(())
+}
+
+#[cfg(test)]
+mod tests;

@@ -1,0 +1,196 @@
+-- What stands in vaults, in lists of readers and in views.
+use Rattle.std.proofs.Common.{ℕ, Bool, true, false, not, List, [], ◌∷◌, ◌++◌, ◌≡◌, ◌∙◌, ◌||◌, ◌&&◌, ◌↔◌, sym, ap, refl, subst, filter, map, Option, Some, None, All, IsTrue}
+use Rattle.std.specs.List.{list_any, filter_map, Contains}
+use Rattle.std.specs.List.Sorted.{IsStrictlySortedBy}
+use Rattle.std.specs.Ordering.{eq_by_cmp}
+use Rattle.std.proofs.lemmas.Bool.{and_parts, and_from, and_right}
+use Rattle.std.proofs.lemmas.List.Elements.{filter_agree, All-contains, All-map}
+use Rattle.std.proofs.lemmas.List.Folds.{list_any-append}
+use Rattle.names.specs.Name.{name_order}
+use Rattle.credential_text.specs.declared.credentials.Credential.{Credential}
+use Rattle.credential_text.specs.Credential.{credential_order}
+use Rattle.vaults.specs.declared.changes.Change.{Change}
+use Rattle.vaults.specs.declared.changes.Change.TheVariants.{Upload, Withdraw, Grant, Revoke}
+use Rattle.vaults.specs.declared.changes.Entry.{Entry}
+use Rattle.vaults.specs.InOrder.{in_order}
+use Rattle.vaults.specs.Journal.{is_same, is_same_credential, moves, admits, change_credential, moved_credential, change_reader, named_reader, uploads, grants, entry_is, entries_of, last_entry, holds, granted, reads, vault, readers, names_read, Vault, vault_record, view, credentials, refusal}
+use Rattle.vaults.specs.Laws.{VaultsAreExact, ReadersAreExact, NamesReadAreExact, ViewsAreOfNamesRead, ViewsAreExact, HoldingIsOwn, GrantingIsOwn, VaultsAreOwn, ReadersAreOwn, RefusalsAreOwn}
+use Rattle.vaults.proofs.Elements.{has, has-in_order, has-filter, sorted-in_order, has_iff, tied_both_ways}
+use Rattle.vaults.proofs.Orders.{credentials_exact, names_exact, is_same_tied, same_from_is_same, is_same_itself}
+use Rattle.vaults.proofs.LastEntries.{asked, last_named, list_any_agree, last_has_tenant, last_entry_own, entries_own}
+
+and_absorbs : (b m : Bool) → (b ≡ true → m ≡ true) → (b && m) ≡ b
+and_absorbs true m follows = follows refl
+and_absorbs false m follows = refl
+
+moves_named : (c : Credential) (change : Change) → moves c change ≡ true → asked (eq_by_cmp credential_order c) (change_credential change) ≡ true
+moves_named c (Upload d) e = tied_both_ways credentials_exact c d ∙ e
+moves_named c (Withdraw d) e = tied_both_ways credentials_exact c d ∙ e
+moves_named c (Grant reader) e = cc
+moves_named c (Revoke reader) e = cc
+
+admits_named : (reader : List ℕ) (change : Change) → admits reader change ≡ true → asked (eq_by_cmp name_order reader) (change_reader change) ≡ true
+admits_named reader (Upload d) e = cc
+admits_named reader (Withdraw d) e = cc
+admits_named reader (Grant other) e = tied_both_ways names_exact reader other ∙ is_same_tied other reader ∙ e
+admits_named reader (Revoke other) e = tied_both_ways names_exact reader other ∙ is_same_tied other reader ∙ e
+
+-- the vault has what its owner issues and holds
+pub has-vault : (journal : List Entry) (owner : List ℕ) (c : Credential) → has credential_order (vault journal owner) c ≡ (is_same c.head.owner owner && holds journal owner c)
+unfolding vault
+has-vault journal owner c =
+    has-in_order credentials_exact (filter (λ d. is_same d.head.owner owner && holds journal owner d) (filter_map moved_credential (entries_of owner journal))) c
+    ∙ has-filter credentials_exact (λ d. is_same d.head.owner owner && holds journal owner d) (filter_map moved_credential (entries_of owner journal)) c
+    ∙ and_absorbs (is_same c.head.owner owner && holds journal owner c) (has credential_order (filter_map moved_credential (entries_of owner journal)) c)
+    (λ held. last_named moved_credential (eq_by_cmp credential_order c) uploads (moves c) (λ e. moves_named c e.change) journal owner (and_parts _ _ held).1)
+
+pub sorted-vault : (journal : List Entry) (owner : List ℕ) → IsStrictlySortedBy credential_order (vault journal owner)
+unfolding vault
+sorted-vault journal owner = sorted-in_order credentials_exact (filter (λ d. is_same d.head.owner owner && holds journal owner d) (filter_map moved_credential (entries_of owner journal)))
+
+-- the readers are those that the owner has granted
+pub has-readers : (journal : List Entry) (owner reader : List ℕ) → has name_order (readers journal owner) reader ≡ granted journal owner reader
+unfolding readers
+has-readers journal owner reader =
+    has-in_order names_exact (filter (granted journal owner) (filter_map named_reader (entries_of owner journal))) reader
+    ∙ has-filter names_exact (granted journal owner) (filter_map named_reader (entries_of owner journal)) reader
+    ∙ and_absorbs (granted journal owner reader) (has name_order (filter_map named_reader (entries_of owner journal)) reader)
+    (λ given. last_named named_reader (eq_by_cmp name_order reader) grants (admits reader) (λ e. admits_named reader e.change) journal owner given)
+
+pub sorted-readers : (journal : List Entry) (owner : List ℕ) → IsStrictlySortedBy name_order (readers journal owner)
+unfolding readers
+sorted-readers journal owner = sorted-in_order names_exact (filter (granted journal owner) (filter_map named_reader (entries_of owner journal)))
+
+list_any-map : {X Y : Type 0} (p : Y → Bool) (f : X → Y) (xs : List X) → list_any p (map f xs) ≡ list_any (λ x. p (f x)) xs
+list_any-map p f [] = refl
+list_any-map p f (x ∷ xs) = ap (λ (b : Bool). p (f x) || b) (list_any-map p f xs)
+
+same_either_way : (a b : List ℕ) → is_same a b ≡ is_same b a
+same_either_way a b = sym (is_same_tied a b) ∙ tied_both_ways names_exact a b ∙ is_same_tied b a
+
+read_candidates : (s g m : Bool) → (g ≡ true → m ≡ true) → ((s || g) && (s || m)) ≡ (s || g)
+read_candidates true g m follows = refl
+read_candidates false true m follows = follows refl
+read_candidates false false m follows = refl
+
+-- the names read are those that the reader reads
+pub has-names_read : (journal : List Entry) (reader owner : List ℕ) → has name_order (names_read journal reader) owner ≡ reads journal reader owner
+unfolding names_read
+has-names_read journal reader owner =
+    has-in_order names_exact (filter (reads journal reader) (reader ∷ map (λ e. e.tenant) journal)) owner
+    ∙ has-filter names_exact (reads journal reader) (reader ∷ map (λ e. e.tenant) journal) owner
+    ∙ ap (λ (b : Bool). reads journal reader owner && (b || has name_order (map (λ e. e.tenant) journal) owner)) (is_same_tied owner reader)
+    ∙ read_candidates (is_same owner reader) (granted journal owner reader) (has name_order (map (λ e. e.tenant) journal) owner)
+    (λ given.
+    list_any-map (eq_by_cmp name_order owner) (λ (e : Entry). e.tenant) journal
+    ∙ list_any_agree (λ (e : Entry). eq_by_cmp name_order owner e.tenant) (λ e. is_same e.tenant owner) (λ e. is_same_tied owner e.tenant ∙ same_either_way owner e.tenant) journal
+    ∙ last_has_tenant grants (admits reader) journal owner given)
+
+pub sorted-names_read : (journal : List Entry) (reader : List ℕ) → IsStrictlySortedBy name_order (names_read journal reader)
+unfolding names_read
+sorted-names_read journal reader = sorted-in_order names_exact (filter (reads journal reader) (reader ∷ map (λ e. e.tenant) journal))
+
+pub vaults_exact : VaultsAreExact
+vaults_exact journal owner = record {
+  in_order = sorted-vault journal owner;
+  exact = λ c. (
+    λ (among : Contains (vault journal owner) c).
+        let both : (is_same c.head.owner owner ≡ true) × (holds journal owner c ≡ true) = and_parts _ _ (sym (has-vault journal owner c) ∙ (has_iff credentials_exact (vault journal owner) c).1 among) in
+        (same_from_is_same c.head.owner owner both.0, both.1),
+    λ (held : (c.head.owner ≡ owner) × IsTrue (holds journal owner c)).
+        (has_iff credentials_exact (vault journal owner) c).0 (has-vault journal owner c ∙ and_from _ _ (is_same_itself c.head.owner owner held.0) held.1),
+  );
+}
+
+pub readers_exact : ReadersAreExact
+readers_exact journal owner = record {
+  in_order = sorted-readers journal owner;
+  exact = λ reader. (
+    λ (among : Contains (readers journal owner) reader). sym (has-readers journal owner reader) ∙ (has_iff names_exact (readers journal owner) reader).1 among,
+    λ (given : IsTrue (granted journal owner reader)). (has_iff names_exact (readers journal owner) reader).0 (has-readers journal owner reader ∙ given),
+  );
+}
+
+pub names_read_exact : NamesReadAreExact
+names_read_exact journal reader = record {
+  in_order = sorted-names_read journal reader;
+  exact = λ owner. (
+    λ (among : Contains (names_read journal reader) owner). sym (has-names_read journal reader owner) ∙ (has_iff names_exact (names_read journal reader) owner).1 among,
+    λ (read : IsTrue (reads journal reader owner)). (has_iff names_exact (names_read journal reader) owner).0 (has-names_read journal reader owner ∙ read),
+  );
+}
+
+owners_again : (journal : List Entry) (names : List (List ℕ)) → map (λ (v : Vault). v.owner) (map (vault_record journal) names) ≡ names
+owners_again journal [] = refl
+owners_again journal (name ∷ names) = ap (λ (l : List (List ℕ)). name ∷ l) (owners_again journal names)
+
+pub views_of_names_read : ViewsAreOfNamesRead
+unfolding view
+views_of_names_read journal reader = (
+  owners_again journal (names_read journal reader),
+  λ v among. All-contains (λ (w : Vault). w.rows ≡ vault journal w.owner) (view journal reader) v
+      (All-map (λ (w : Vault). w.rows ≡ vault journal w.owner) (vault_record journal) (names_read journal reader) (λ k d within. refl)) among,
+)
+
+rows_any : (journal : List Entry) (t : Credential → Bool) (names : List (List ℕ)) →
+    list_any t (credentials (map (vault_record journal) names)) ≡ list_any (λ name. list_any t (vault journal name)) names
+rows_any journal t [] = refl
+rows_any journal t (name ∷ names) =
+    list_any-append t (vault journal name) (credentials (map (vault_record journal) names)) ∙ ap (λ (b : Bool). list_any t (vault journal name) || b) (rows_any journal t names)
+
+list_any-and : {X : Type 0} (p : X → Bool) (b : Bool) (xs : List X) → list_any (λ x. p x && b) xs ≡ (list_any p xs && b)
+list_any-and p b [] = refl
+list_any-and {X} p b (x ∷ xs) = by (p x) b (list_any-and p b xs)
+  where
+    by : (here b : Bool) → list_any (λ y. p y && b) xs ≡ (list_any p xs && b) → ((here && b) || list_any (λ y. p y && b) xs) ≡ ((here || list_any p xs) && b)
+    by true true rest = refl
+    by true false rest = rest ∙ and_right (list_any p xs) false refl
+    by false b rest = rest
+
+pub has-credentials : (journal : List Entry) (reader : List ℕ) (c : Credential) →
+    has credential_order (credentials (view journal reader)) c ≡ (reads journal reader c.head.owner && holds journal c.head.owner c)
+unfolding view
+has-credentials journal reader c =
+    rows_any journal (eq_by_cmp credential_order c) (names_read journal reader)
+    ∙ list_any_agree (λ name. has credential_order (vault journal name) c) (λ name. eq_by_cmp name_order c.head.owner name && holds journal c.head.owner c) agree (names_read journal reader)
+    ∙ list_any-and (eq_by_cmp name_order c.head.owner) (holds journal c.head.owner c) (names_read journal reader)
+    ∙ ap (λ (b : Bool). b && holds journal c.head.owner c) (has-names_read journal reader c.head.owner)
+  where
+    by : (name : List ℕ) (b : Bool) → is_same c.head.owner name ≡ b → (b && holds journal name c) ≡ (b && holds journal c.head.owner c)
+    by name true e = ap (λ (n : List ℕ). holds journal n c) (sym (same_from_is_same c.head.owner name e))
+    by name false e = refl
+
+    agree : (name : List ℕ) → has credential_order (vault journal name) c ≡ (eq_by_cmp name_order c.head.owner name && holds journal c.head.owner c)
+    agree name = has-vault journal name c ∙ by name (is_same c.head.owner name) refl ∙ ap (λ (b : Bool). b && holds journal c.head.owner c) (sym (is_same_tied c.head.owner name))
+
+pub views_exact : ViewsAreExact
+views_exact journal reader c = (
+  λ (among : Contains (credentials (view journal reader)) c). and_parts _ _ (sym (has-credentials journal reader c) ∙ (has_iff credentials_exact (credentials (view journal reader)) c).1 among),
+  λ (both : IsTrue (reads journal reader c.head.owner) × IsTrue (holds journal c.head.owner c)).
+      (has_iff credentials_exact (credentials (view journal reader)) c).0 (has-credentials journal reader c ∙ and_from _ _ both.0 both.1),
+)
+
+pub holding_own : HoldingIsOwn
+holding_own journal tenant c = ap (entry_is uploads) (last_entry_own journal tenant (moves c))
+
+pub granting_own : GrantingIsOwn
+granting_own journal tenant reader = ap (entry_is grants) (last_entry_own journal tenant (admits reader))
+
+pub vaults_own : VaultsAreOwn
+unfolding vault
+vaults_own journal tenant =
+    ap (λ (es : List Entry). in_order credential_order (filter (λ c. is_same c.head.owner tenant && holds (entries_of tenant journal) tenant c) (filter_map moved_credential es))) (entries_own journal tenant)
+    ∙ ap (in_order credential_order) (filter_agree (λ c. is_same c.head.owner tenant && holds (entries_of tenant journal) tenant c) (λ c. is_same c.head.owner tenant && holds journal tenant c)
+    (λ c. ap (λ (b : Bool). is_same c.head.owner tenant && b) (holding_own journal tenant c)) (filter_map moved_credential (entries_of tenant journal)))
+
+pub readers_own : ReadersAreOwn
+unfolding readers
+readers_own journal tenant =
+    ap (λ (es : List Entry). in_order name_order (filter (granted (entries_of tenant journal) tenant) (filter_map named_reader es))) (entries_own journal tenant)
+    ∙ ap (in_order name_order) (filter_agree (granted (entries_of tenant journal) tenant) (granted journal tenant) (granting_own journal tenant) (filter_map named_reader (entries_of tenant journal)))
+
+pub refusals_own : RefusalsAreOwn
+refusals_own journal tenant (Upload c) = rw (holding_own journal tenant c)
+refusals_own journal tenant (Withdraw c) = rw (holding_own journal tenant c)
+refusals_own journal tenant (Grant reader) = rw (granting_own journal tenant reader)
+refusals_own journal tenant (Revoke reader) = rw (granting_own journal tenant reader)

@@ -1,0 +1,25 @@
+-- The pages after a write.
+use Rattle.std.proofs.Common.{ℕ, Bool, true, false, cond, List, ◌≡◌, ◌∙◌, sym, ap, refl, Option, Some, None, unwrap_or}
+use Rattle.std.specs.Ordering.{eq_by_cmp}
+use Rattle.std.specs.BTreeMap.{BTreeMap, get}
+use Rattle.names.specs.Name.{name_order}
+use Rattle.vaults.specs.declared.changes.Change.{Change}
+use Rattle.vaults.specs.Page.{Kept, nothing_kept, kept_after, KeepsChange, IsUnchanged}
+use Rattle.vaults.proofs.Elements.{same_from_tied}
+use Rattle.vaults.proofs.Orders.{names_exact}
+
+-- a page that is written as it was
+pub written_back : (who : List ℕ) (old new : BTreeMap (List ℕ) Kept) (page : Kept) → Some page ≡ get name_order old who →
+    ((tenant : List ℕ) → get name_order new tenant ≡ cond (eq_by_cmp name_order who tenant) (Some page) (get name_order old tenant)) → IsUnchanged old new
+written_back who old new page was writes tenant = writes tenant ∙ by (eq_by_cmp name_order who tenant) refl
+  where
+    by : (b : Bool) → eq_by_cmp name_order who tenant ≡ b → cond b (Some page) (get name_order old tenant) ≡ get name_order old tenant
+    by true tied = was ∙ ap (get name_order old) (same_from_tied names_exact who tenant tied)
+    by false apart = refl
+
+-- a new page with the tenant's first change
+pub inserted_new : (who : List ℕ) (change : Change) (old new : BTreeMap (List ℕ) Kept) (page : Kept) → None ≡ get name_order old who → page ≡ kept_after change nothing_kept →
+    ((tenant : List ℕ) → get name_order new tenant ≡ cond (eq_by_cmp name_order who tenant) (Some page) (get name_order old tenant)) → KeepsChange who change old new
+inserted_new who change old new page none made inserts tenant =
+    inserts tenant
+    ∙ ap (λ (k : Kept). cond (eq_by_cmp name_order who tenant) (Some k) (get name_order old tenant)) (made ∙ ap (λ (o : Option Kept). kept_after change (unwrap_or o nothing_kept)) none)

@@ -1,0 +1,205 @@
+-- What is kept of each tenant after one entry more.
+use Rattle.std.proofs.Common.{ℕ, Bool, true, false, cond, not, List, [], ◌∷◌, ◌++◌, ◌+◌, ◌≤◌, ◌<◌, ◌^◌, arith, ◌≡◌, ◌∙◌, ◌||◌, ◌&&◌, sym, ap, refl, subst, length, Option, Some, None, unwrap_or, add-zero, length-append}
+use Rattle.std.specs.Ordering.{eq_by_cmp}
+use Rattle.std.specs.BTreeMap.{BTreeMap, get}
+use Rattle.std.specs.BTreeSet.{insert_key}
+use Rattle.std.specs.List.Sorted.{IsStrictlySortedBy}
+use Rattle.std.proofs.lemmas.List.{append-nil}
+use Rattle.std.proofs.lemmas.List.Filters.{length-filter_both}
+use Rattle.names.specs.Name.{name_order}
+use Rattle.credential_text.specs.declared.credentials.Credential.{Credential}
+use Rattle.credential_text.specs.Credential.{credential_order}
+use Rattle.vaults.specs.declared.changes.Change.{Change}
+use Rattle.vaults.specs.declared.changes.Change.TheVariants.{Upload, Withdraw, Grant, Revoke}
+use Rattle.vaults.specs.declared.changes.Entry.{Entry}
+use Rattle.vaults.specs.declared.faults.VaultFault.TheVariants.{NotIssuer, AlreadyHeld}
+use Rattle.vaults.specs.InOrder.{without}
+use Rattle.vaults.specs.Journal.{is_same, is_same_credential, moves, admits, uploads, grants, entry_is, entries_of, last_entry, holds, granted, vault, readers, refusal}
+use Rattle.vaults.specs.Page.{Kept, nothing_kept, kept_of, held_after, readers_after, kept_after, ArePages, KeepsChange}
+use Rattle.vaults.proofs.Elements.{has, same_in_order, has-insert_key, sorted-insert_key, has-without, sorted-without, same_from_tied, tied_both_ways}
+use Rattle.vaults.proofs.Orders.{credentials_exact, names_exact, is_same_tied, same_from_is_same, is_same_itself}
+use Rattle.vaults.proofs.LastEntries.{last_entry_push, entries_push}
+use Rattle.vaults.proofs.Exactness.{has-vault, sorted-vault, has-readers, sorted-readers, vaults_own, readers_own}
+
+abbrev entry : List ℕ → Change → Entry
+entry who change = record { tenant = who; change = change }
+
+-- the answer of the last entry after one entry more of the tenant
+asked_last : (kind test : Change → Bool) (journal : List Entry) (who : List ℕ) (change : Change) →
+    entry_is kind (last_entry (journal ++ entry who change ∷ []) who test) ≡ cond (test change) (kind change) (entry_is kind (last_entry journal who test))
+asked_last kind test journal who change =
+    ap (entry_is kind) (last_entry_push journal (entry who change) who test)
+    ∙ ap (λ (b : Bool). entry_is kind (cond (b && test change) (Some (entry who change)) (last_entry journal who test))) (is_same_itself who who refl)
+    ∙ by (test change)
+  where
+    by : (b : Bool) → entry_is kind (cond b (Some (entry who change)) (last_entry journal who test)) ≡ cond b (kind change) (entry_is kind (last_entry journal who test))
+    by true = refl
+    by false = refl
+
+-- a change leaves the vault in order
+sorted-held_after : (journal : List Entry) (who : List ℕ) (change : Change) → IsStrictlySortedBy credential_order (held_after change (vault journal who))
+sorted-held_after journal who (Upload c) = sorted-insert_key credentials_exact (vault journal who) c (sorted-vault journal who)
+sorted-held_after journal who (Withdraw c) = sorted-without credentials_exact (vault journal who) c (sorted-vault journal who)
+sorted-held_after journal who (Grant reader) = sorted-vault journal who
+sorted-held_after journal who (Revoke reader) = sorted-vault journal who
+
+issued_then : (s h e : Bool) → (e ≡ true → s ≡ true) → (s && cond e true h) ≡ (e || (s && h))
+issued_then s h true issued = ap (λ (b : Bool). b && true) (issued refl)
+issued_then s h false issued = refl
+
+gone_then : (s h e : Bool) → (s && cond e false h) ≡ (not e && (s && h))
+gone_then true h true = refl
+gone_then false h true = refl
+gone_then s h false = refl
+
+-- what the refusal of an upload leaves
+issued : (journal : List Entry) (who : List ℕ) (c : Credential) → refusal journal who (Upload c) ≡ None → is_same c.head.owner who ≡ true
+issued journal who c accepted = by (is_same c.head.owner who) refl accepted
+  where
+    by : (b : Bool) → is_same c.head.owner who ≡ b → cond (not b) (Some NotIssuer) (cond (holds journal who c) (Some AlreadyHeld) None) ≡ None → is_same c.head.owner who ≡ true
+    by true e _ = e
+    by false e refused = cc
+
+has-held_after : (journal : List Entry) (who : List ℕ) (change : Change) → refusal journal who change ≡ None → (x : Credential) →
+    (is_same x.head.owner who && cond (moves x change) (uploads change) (holds journal who x)) ≡ has credential_order (held_after change (vault journal who)) x
+has-held_after journal who (Upload c) accepted x =
+    ap (λ (e : Bool). is_same x.head.owner who && cond e true (holds journal who x)) (tied_both_ways credentials_exact c x)
+    ∙ issued_then (is_same x.head.owner who) (holds journal who x) (eq_by_cmp credential_order x c)
+    (λ tied. ap (λ (d : Credential). is_same d.head.owner who) (same_from_tied credentials_exact x c tied) ∙ issued journal who c accepted)
+    ∙ ap (λ (b : Bool). eq_by_cmp credential_order x c || b) (sym (has-vault journal who x))
+    ∙ sym (has-insert_key credentials_exact (vault journal who) c x)
+has-held_after journal who (Withdraw c) accepted x =
+    gone_then (is_same x.head.owner who) (holds journal who x) (eq_by_cmp credential_order c x)
+    ∙ ap (λ (b : Bool). not (eq_by_cmp credential_order c x) && b) (sym (has-vault journal who x))
+    ∙ sym (has-without credentials_exact (vault journal who) c x)
+has-held_after journal who (Grant reader) accepted x = sym (has-vault journal who x)
+has-held_after journal who (Revoke reader) accepted x = sym (has-vault journal who x)
+
+-- an accepted change of the owner and its vault
+vault_push : (journal : List Entry) (who : List ℕ) (change : Change) → refusal journal who change ≡ None →
+    vault (journal ++ entry who change ∷ []) who ≡ held_after change (vault journal who)
+vault_push journal who change accepted =
+    same_in_order credentials_exact (vault (journal ++ entry who change ∷ []) who) (held_after change (vault journal who))
+    (sorted-vault (journal ++ entry who change ∷ []) who) (sorted-held_after journal who change)
+    (λ x.
+    has-vault (journal ++ entry who change ∷ []) who x
+    ∙ ap (λ (b : Bool). is_same x.head.owner who && b) (asked_last uploads (moves x) journal who change)
+    ∙ has-held_after journal who change accepted x)
+
+sorted-readers_after : (journal : List Entry) (who : List ℕ) (change : Change) → IsStrictlySortedBy name_order (readers_after change (readers journal who))
+sorted-readers_after journal who (Upload c) = sorted-readers journal who
+sorted-readers_after journal who (Withdraw c) = sorted-readers journal who
+sorted-readers_after journal who (Grant reader) = sorted-insert_key names_exact (readers journal who) reader (sorted-readers journal who)
+sorted-readers_after journal who (Revoke reader) = sorted-without names_exact (readers journal who) reader (sorted-readers journal who)
+
+given_then : (h e : Bool) → cond e true h ≡ (e || h)
+given_then h true = refl
+given_then h false = refl
+
+revoked_then : (h e : Bool) → cond e false h ≡ (not e && h)
+revoked_then h true = refl
+revoked_then h false = refl
+
+has-readers_after : (journal : List Entry) (who : List ℕ) (change : Change) (x : List ℕ) →
+    cond (admits x change) (grants change) (granted journal who x) ≡ has name_order (readers_after change (readers journal who)) x
+has-readers_after journal who (Upload c) x = sym (has-readers journal who x)
+has-readers_after journal who (Withdraw c) x = sym (has-readers journal who x)
+has-readers_after journal who (Grant reader) x =
+    given_then (granted journal who x) (is_same reader x)
+    ∙ ap (λ (e : Bool). e || granted journal who x) (sym (is_same_tied reader x) ∙ tied_both_ways names_exact reader x)
+    ∙ ap (λ (b : Bool). eq_by_cmp name_order x reader || b) (sym (has-readers journal who x))
+    ∙ sym (has-insert_key names_exact (readers journal who) reader x)
+has-readers_after journal who (Revoke reader) x =
+    revoked_then (granted journal who x) (is_same reader x)
+    ∙ ap (λ (e : Bool). not e && granted journal who x) (sym (is_same_tied reader x))
+    ∙ ap (λ (b : Bool). not (eq_by_cmp name_order reader x) && b) (sym (has-readers journal who x))
+    ∙ sym (has-without names_exact (readers journal who) reader x)
+
+-- a change of the owner and its readers
+readers_push : (journal : List Entry) (who : List ℕ) (change : Change) → readers (journal ++ entry who change ∷ []) who ≡ readers_after change (readers journal who)
+readers_push journal who change =
+    same_in_order names_exact (readers (journal ++ entry who change ∷ []) who) (readers_after change (readers journal who))
+    (sorted-readers (journal ++ entry who change ∷ []) who) (sorted-readers_after journal who change)
+    (λ x. has-readers (journal ++ entry who change ∷ []) who x ∙ asked_last grants (admits x) journal who change ∙ has-readers_after journal who change x)
+
+pub own_entries_push : (journal : List Entry) (who : List ℕ) (change : Change) → entries_of who (journal ++ entry who change ∷ []) ≡ entries_of who journal ++ entry who change ∷ []
+own_entries_push journal who change =
+    entries_push journal (entry who change) who ∙ ap (λ (b : Bool). entries_of who journal ++ cond b (entry who change ∷ []) []) (is_same_itself who who refl)
+
+changes_push : (journal : List Entry) (who : List ℕ) (change : Change) → length (entries_of who (journal ++ entry who change ∷ [])) ≡ length (entries_of who journal) + 1
+changes_push journal who change = ap length (own_entries_push journal who change) ∙ length-append (entries_of who journal) (entry who change ∷ [])
+
+-- what is kept of the tenant that made the change
+pub kept_push : (journal : List Entry) (who : List ℕ) (change : Change) → refusal journal who change ≡ None →
+    kept_of (journal ++ entry who change ∷ []) who ≡ kept_after change (kept_of journal who)
+kept_push journal who change accepted = λ i. record {
+  held = vault_push journal who change accepted i;
+  readers = readers_push journal who change i;
+  changes = changes_push journal who change i;
+}
+
+-- what is kept of every other tenant
+pub kept_push_other : (journal : List Entry) (who other : List ℕ) (change : Change) → is_same who other ≡ false →
+    kept_of (journal ++ entry who change ∷ []) other ≡ kept_of journal other
+kept_push_other journal who other change apart =
+    let same : entries_of other (journal ++ entry who change ∷ []) ≡ entries_of other journal =
+    entries_push journal (entry who change) other ∙ ap (λ (b : Bool). entries_of other journal ++ cond b (entry who change ∷ []) []) apart ∙ append-nil (entries_of other journal) in
+    λ i. record {
+      held = (sym (vaults_own (journal ++ entry who change ∷ []) other) ∙ ap (λ (es : List Entry). vault es other) same ∙ vaults_own journal other) i;
+      readers = (sym (readers_own (journal ++ entry who change ∷ []) other) ∙ ap (λ (es : List Entry). readers es other) same ∙ readers_own journal other) i;
+      changes = ap length same i;
+    }
+
+-- an empty journal gives nothing
+pub kept_of_nothing : (tenant : List ℕ) → nothing_kept ≡ kept_of [] tenant
+unfolding vault readers
+kept_of_nothing tenant = refl
+
+-- a page that is found is what the journal gives
+pub page_found : (journal : List Entry) (pages : BTreeMap (List ℕ) Kept) (tenant : List ℕ) (kept : Kept) → ArePages journal pages → Some kept ≡ get name_order pages tenant → kept ≡ kept_of journal tenant
+page_found journal pages tenant kept right found = ap (λ (o : Option Kept). unwrap_or o nothing_kept) found ∙ right tenant
+
+-- where none is found, the journal gives nothing
+pub page_missing : (journal : List Entry) (pages : BTreeMap (List ℕ) Kept) (tenant : List ℕ) → ArePages journal pages → None ≡ get name_order pages tenant → nothing_kept ≡ kept_of journal tenant
+page_missing journal pages tenant right none = ap (λ (o : Option Kept). unwrap_or o nothing_kept) none ∙ right tenant
+
+-- pages that keep an accepted change are those of the journal with its entry
+pub pages_push : (journal : List Entry) (who : List ℕ) (change : Change) (old new : BTreeMap (List ℕ) Kept) → refusal journal who change ≡ None →
+    ArePages journal old → KeepsChange who change old new → ArePages (journal ++ entry who change ∷ []) new
+pages_push journal who change old new accepted right keeps tenant =
+    ap (λ (o : Option Kept). unwrap_or o nothing_kept) (keeps tenant) ∙ by (is_same who tenant) refl
+  where
+    by : (b : Bool) → is_same who tenant ≡ b →
+        unwrap_or (cond (eq_by_cmp name_order who tenant) (Some (kept_after change (unwrap_or (get name_order old who) nothing_kept))) (get name_order old tenant)) nothing_kept
+        ≡ kept_of (journal ++ entry who change ∷ []) tenant
+    by true same =
+        ap (λ (b : Bool). unwrap_or (cond b (Some (kept_after change (unwrap_or (get name_order old who) nothing_kept))) (get name_order old tenant)) nothing_kept) (is_same_tied who tenant ∙ same)
+        ∙ ap (kept_after change) (right who) ∙ sym (kept_push journal who change accepted)
+        ∙ ap (kept_of (journal ++ entry who change ∷ [])) (same_from_is_same who tenant same)
+    by false apart =
+        ap (λ (b : Bool). unwrap_or (cond b (Some (kept_after change (unwrap_or (get name_order old who) nothing_kept))) (get name_order old tenant)) nothing_kept) (is_same_tied who tenant ∙ apart)
+        ∙ right tenant ∙ sym (kept_push_other journal who tenant change apart)
+
+-- a tenant has no more entries than the journal
+length-entries_of : (tenant : List ℕ) (journal : List Entry) → length (entries_of tenant journal) ≤ length journal
+length-entries_of tenant journal = omega (arith, length-filter_both (λ (e : Entry). is_same e.tenant tenant) (λ e. not (is_same e.tenant tenant)) (λ e. refl) journal)
+
+-- so the number of its changes fits, and one more
+pub changes_fit : (journal : List Entry) (pages : BTreeMap (List ℕ) Kept) (who : List ℕ) (n : ℕ) → ArePages journal pages → length journal ≤ n → n < 2 ^ 63 →
+    (unwrap_or (get name_order pages who) nothing_kept).changes + 1 < 2 ^ 64
+changes_fit journal pages who n right within small =
+    let same : (unwrap_or (get name_order pages who) nothing_kept).changes ≡ length (entries_of who journal) = ap (λ (k : Kept). k.changes) (right who) in
+    omega (arith, length-entries_of who journal)
+
+-- an accepted change, entered in the journal and kept on the pages: now is the journal, and after is it with its entry
+pub pages_after : (journal now before after : List Entry) (who : List ℕ) (change : Change) (old new : BTreeMap (List ℕ) Kept) → journal ≡ now → None ≡ refusal now who change →
+    ArePages journal old → KeepsChange who change old new → before ≡ journal → after ≡ before ++ entry who change ∷ [] → ArePages after new
+pages_after journal now before after who change old new is accepted right keeps same entered =
+    subst (λ (j : List Entry). ArePages j new) (sym (entered ∙ ap (λ (j : List Entry). j ++ entry who change ∷ []) same))
+    (pages_push journal who change old new (sym (subst (λ (j : List Entry). None ≡ refusal j who change) (sym is) accepted)) right keeps)
+
+pub count_after : (journal before after : List Entry) (who : List ℕ) (change : Change) (pages : BTreeMap (List ℕ) Kept) (n : ℕ) → ArePages journal pages →
+    n ≡ (unwrap_or (get name_order pages who) nothing_kept).changes + 1 → before ≡ journal → after ≡ before ++ entry who change ∷ [] → n ≡ length (entries_of who after)
+count_after journal before after who change pages n right counted same entered =
+    counted ∙ ap (λ (k : Kept). k.changes + 1) (right who) ∙ sym (changes_push journal who change)
+    ∙ ap (λ (j : List Entry). length (entries_of who j)) (sym (entered ∙ ap (λ (j : List Entry). j ++ entry who change ∷ []) same))

@@ -1,0 +1,10 @@
+use Rattle.std.proofs.Common.{◌∙◌, ap}
+use Rattle.vaults.proofs.Orders.{credentials_exact}
+use Rattle.vaults.specs.Page.{Kept}
+use Rattle.vaults.proofs.Places.{has_searched}
+use Rattle.vaults.proofs.pages.Page.has.Goals as goal
+
+pub returns : goal.returns
+returns c =
+    c.is_ok.ensures.value
+    ∙ has_searched credentials_exact c.args.self.now.held c.deref.result.now c.args.credential.now c.place_of.result (c.deref.ensures.value ∙ ap (λ (k : Kept). k.held) c.self.view_is) c.place_of.ensures

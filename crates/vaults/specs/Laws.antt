@@ -1,0 +1,57 @@
+-- What holds of vaults, readers and views by their definitions alone.
+use Rattle.std.specs.Prelude.{ℕ, List, ◌≡◌, ◌↔◌, ◌&&◌, IsTrue, map}
+use Rattle.std.specs.List.{Contains}
+use Rattle.std.specs.List.Sorted.{IsStrictlySortedBy}
+use Rattle.names.specs.Name.{name_order}
+use Rattle.credential_text.specs.declared.credentials.Credential.{Credential}
+use Rattle.credential_text.specs.Credential.{credential_order}
+use Rattle.vaults.specs.declared.changes.Change.{Change}
+use Rattle.vaults.specs.declared.changes.Entry.{Entry}
+use Rattle.vaults.specs.Journal.{is_same, entries_of, holds, granted, reads, vault, readers, names_read, Vault, view, credentials, refusal}
+
+-- the list is in the order, each element once, and has exactly what the fact holds of
+pub record ListsInOrder {K : Type 0} (InOrder : List K → Type 0) (P : K → Type 0) (xs : List K) : Type 0 where
+  pub in_order : InOrder xs
+  pub exact : (x : K) → Contains xs x ↔ P x
+
+-- a vault has exactly the credentials that its owner issues and holds
+abbrev pub VaultsAreExact : Type 0
+VaultsAreExact = (journal : List Entry) (owner : List ℕ) →
+    ListsInOrder (IsStrictlySortedBy credential_order) (λ c. (c.head.owner ≡ owner) × IsTrue (holds journal owner c)) (vault journal owner)
+
+-- the readers are exactly those that the owner has granted
+abbrev pub ReadersAreExact : Type 0
+ReadersAreExact = (journal : List Entry) (owner : List ℕ) →
+    ListsInOrder (IsStrictlySortedBy name_order) (λ reader. IsTrue (granted journal owner reader)) (readers journal owner)
+
+-- the names read are exactly those that the reader reads
+abbrev pub NamesReadAreExact : Type 0
+NamesReadAreExact = (journal : List Entry) (reader : List ℕ) →
+    ListsInOrder (IsStrictlySortedBy name_order) (λ owner. IsTrue (reads journal reader owner)) (names_read journal reader)
+
+-- a view has the names read, in their order, and each has its vault
+abbrev pub ViewsAreOfNamesRead : Type 0
+ViewsAreOfNamesRead = (journal : List Entry) (reader : List ℕ) →
+    (map (λ v. v.owner) (view journal reader) ≡ names_read journal reader)
+    × ((v : Vault) → Contains (view journal reader) v → v.rows ≡ vault journal v.owner)
+
+-- the credentials of a view are exactly those that their issuer holds and the reader reads
+abbrev pub ViewsAreExact : Type 0
+ViewsAreExact = (journal : List Entry) (reader : List ℕ) (c : Credential) →
+    Contains (credentials (view journal reader)) c ↔ (IsTrue (reads journal reader c.head.owner) × IsTrue (holds journal c.head.owner c))
+
+-- each of these functions says the same of a tenant's own entries as of the journal
+abbrev pub HoldingIsOwn : Type 0
+HoldingIsOwn = (journal : List Entry) (tenant : List ℕ) (c : Credential) → holds (entries_of tenant journal) tenant c ≡ holds journal tenant c
+
+abbrev pub GrantingIsOwn : Type 0
+GrantingIsOwn = (journal : List Entry) (tenant reader : List ℕ) → granted (entries_of tenant journal) tenant reader ≡ granted journal tenant reader
+
+abbrev pub VaultsAreOwn : Type 0
+VaultsAreOwn = (journal : List Entry) (tenant : List ℕ) → vault (entries_of tenant journal) tenant ≡ vault journal tenant
+
+abbrev pub ReadersAreOwn : Type 0
+ReadersAreOwn = (journal : List Entry) (tenant : List ℕ) → readers (entries_of tenant journal) tenant ≡ readers journal tenant
+
+abbrev pub RefusalsAreOwn : Type 0
+RefusalsAreOwn = (journal : List Entry) (tenant : List ℕ) (change : Change) → refusal (entries_of tenant journal) tenant change ≡ refusal journal tenant change

@@ -1,0 +1,5 @@
+pub mod InOrder
+pub mod Fault
+pub mod Journal
+pub mod Laws
+pub mod Page

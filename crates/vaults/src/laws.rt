@@ -1,0 +1,26 @@
+ghost use Rattle.vaults.specs.Laws.{VaultsAreExact, ReadersAreExact, NamesReadAreExact, ViewsAreOfNamesRead, ViewsAreExact, HoldingIsOwn, GrantingIsOwn, VaultsAreOwn, ReadersAreOwn, RefusalsAreOwn};
+
+/// A vault has exactly the credentials that its owner issues and holds, in order, each once; the readers of a vault
+/// are exactly those that its owner granted last, in order, each once.
+pub fn vaults_are_exact()
+    ensures vaults { VaultsAreExact }
+    ensures readers { ReadersAreExact }
+{}
+
+/// A view has exactly the names that its reader reads, in order, each once, each with its vault; its credentials are
+/// exactly those that a readable owner issues and holds.
+pub fn views_are_exact()
+    ensures names { NamesReadAreExact }
+    ensures vaults { ViewsAreOfNamesRead }
+    ensures credentials { ViewsAreExact }
+{}
+
+/// What a tenant holds and grants, its vault, its readers and the refusals of its changes depend on its own entries
+/// alone.
+pub fn own_entries_decide()
+    ensures holding { HoldingIsOwn }
+    ensures granting { GrantingIsOwn }
+    ensures vaults { VaultsAreOwn }
+    ensures readers { ReadersAreOwn }
+    ensures refusals { RefusalsAreOwn }
+{}

@@ -1,0 +1,164 @@
+use crate::{Book, Change, VaultFault, own_entries_decide, vaults_are_exact, views_are_exact};
+use credential_text::{Credential, Expr};
+use names::{Entity, Role};
+use std::alloc::Global;
+use std::test::Fail;
+
+fn entity(name: &str) -> Result<Entity, Fail> {
+    Ok(Entity::read(name.as_bytes())?)
+}
+
+/// A credential whose body is a role where its text has a dot, and else an entity.
+fn credential(head: &str, body: &str) -> Result<Credential, Fail> {
+    let body = match Role::read(body.as_bytes()) {
+        Ok(role) => Expr::Rol(role),
+        Err(_fault) => Expr::Ent(entity(body)?),
+    };
+    Ok(Credential::make(Role::read(head.as_bytes())?, body).ok_or("no credential")?)
+}
+
+/// The change that a word names: `put` and `drop` of a credential, `grant` and `revoke` of a reader.
+fn change_of(word: &str, name: &str, body: &str) -> Result<Change, Fail> {
+    Ok(match word {
+        "put" => Change::Upload(credential(name, body)?),
+        "drop" => Change::Withdraw(credential(name, body)?),
+        "grant" => Change::Grant(entity(name)?),
+        _ => Change::Revoke(entity(name)?),
+    })
+}
+
+/// What the book answers: the count of an accepted change, or the number of its refusal.
+fn answer(book: &mut Book, who: &str, change: Change) -> Result<u64, Fail> {
+    Ok(match book.change(entity(who)?, change) {
+        Ok(count) => count,
+        Err(fault) => fault.number(),
+    })
+}
+
+/// Whether the book answers each change with this number: tenant, word, name, body and answer.
+fn answers(book: &mut Book, rows: &[(&str, &str, &str, &str, u64)]) -> Result<bool, Fail> {
+    for (who, word, name, body, expected) in rows {
+        if answer(book, who, change_of(word, name, body)?)? != *expected {
+            return Ok(false);
+        }
+    }
+    Ok(true)
+}
+
+/// Whether these are the credentials of the tenant's vault, in this order.
+fn has_vault(book: &Book, who: &str, expected: &[(&str, &str)]) -> Result<bool, Fail> {
+    let rows = book.vault_of(entity(who)?);
+    if rows.len() != expected.len() {
+        return Ok(false);
+    }
+    for (row, (head, body)) in rows.iter().zip(expected) {
+        if !row.compare(&credential(head, body)?).is_eq() {
+            return Ok(false);
+        }
+    }
+    Ok(true)
+}
+
+/// Whether these are the names that the tenant reads, in this order.
+fn reads_names(alloc: Global, book: &Book, who: &str, expected: &[&str]) -> Result<bool, Fail> {
+    let mut names = Vec::new(alloc);
+    for name in expected {
+        names.push(entity(name)?)?;
+    }
+    Ok(book.owners_read_by(entity(who)?)? == names)
+}
+
+#[test]
+fn each_refusal_once(rt: HostRuntime) -> Result<(), Fail> {
+    let mut book = Book::new(rt.alloc())?;
+    let rows = [
+        ("A", "put", "B.r", "D", 31),
+        ("A", "put", "A.r", "D", 1),
+        ("A", "put", "A.r", "D", 32),
+        ("A", "drop", "B.r", "D", 31),
+        ("A", "drop", "A.r", "E", 33),
+        ("A", "grant", "A", "", 36),
+        ("A", "grant", "B", "", 2),
+        ("A", "grant", "B", "", 34),
+        ("A", "revoke", "C", "", 35),
+        ("A", "revoke", "A", "", 35),
+        ("A", "drop", "A.r", "D", 3),
+        ("A", "drop", "A.r", "D", 33),
+        ("A", "revoke", "B", "", 4),
+        ("A", "revoke", "B", "", 35),
+    ];
+    assert!(rt; answers(&mut book, &rows)?);
+    assert!(rt; has_vault(&book, "A", &[])?);
+    assert_eq!(rt; book.journal_len(), 4);
+    assert_eq!(rt; book.entries().len(), 4);
+    Ok(())
+}
+
+#[test]
+fn a_vault_is_in_order(rt: HostRuntime) -> Result<(), Fail> {
+    let mut book = Book::new(rt.alloc())?;
+    let rows = [
+        ("A", "put", "A.s", "D", 1),
+        ("A", "put", "A.r-", "D", 2),
+        ("B", "put", "B.s", "D", 1),
+        ("A", "put", "A.r", "B.s", 3),
+        ("A", "put", "A.r", "E", 4),
+        ("A", "put", "A.q", "E", 5),
+        ("A", "drop", "A.r-", "D", 6),
+    ];
+    assert!(rt; answers(&mut book, &rows)?);
+    let whole = [("A.q", "E"), ("A.r", "E"), ("A.r", "B.s"), ("A.s", "D")];
+    assert!(rt; has_vault(&book, "A", &whole)?);
+    assert!(rt; has_vault(&book, "B", &[("B.s", "D")])?);
+    assert!(rt; has_vault(&book, "C", &[])?);
+    Ok(())
+}
+
+#[test]
+fn a_grant_lets_its_reader_read(rt: HostRuntime) -> Result<(), Fail> {
+    let mut book = Book::new(rt.alloc())?;
+    let rows = [
+        ("C", "grant", "B", "", 1),
+        ("A", "grant", "B", "", 1),
+        ("A", "grant", "Z", "", 2),
+    ];
+    assert!(rt; answers(&mut book, &rows)?);
+    let (a, b) = (entity("A")?, entity("B")?);
+    assert!(rt; book.readable(b, a));
+    assert!(rt; !book.readable(a, b));
+    assert!(rt; book.readable(a, a));
+    assert!(rt; reads_names(rt.alloc(), &book, "B", &["A", "B", "C"])?);
+    assert!(rt; reads_names(rt.alloc(), &book, "Z", &["A", "Z"])?);
+    assert_eq!(rt; book.readers_of(a), 2);
+    assert_eq!(rt; book.changes_of(a), 2);
+    Ok(())
+}
+
+#[test]
+fn a_revoked_reader_reads_no_more(rt: HostRuntime) -> Result<(), Fail> {
+    let mut book = Book::new(rt.alloc())?;
+    let rows = [
+        ("A", "grant", "B", "", 1),
+        ("C", "grant", "B", "", 1),
+        ("A", "revoke", "B", "", 2),
+    ];
+    assert!(rt; answers(&mut book, &rows)?);
+    assert!(rt; !book.readable(entity("B")?, entity("A")?));
+    assert!(rt; reads_names(rt.alloc(), &book, "B", &["B", "C"])?);
+    assert_eq!(rt; book.readers_of(entity("A")?), 0);
+    assert_eq!(rt; book.changes_of(entity("B")?), 0);
+    Ok(())
+}
+
+#[test]
+fn numbers_texts_and_laws(rt: HostRuntime) -> Result<(), Fail> {
+    vaults_are_exact();
+    views_are_exact();
+    own_entries_decide();
+    assert_eq!(rt; VaultFault::NotIssuer.number(), 31);
+    assert_eq!(rt; VaultFault::GrantSelf.number(), 36);
+    assert_eq!(rt; VaultFault::Memory.number(), 90);
+    let text = format!(in rt.alloc(); "{}", VaultFault::AlreadyGranted)?;
+    assert_eq!(rt; text.as_str(), "already granted");
+    Ok(())
+}
