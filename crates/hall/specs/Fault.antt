@@ -1,0 +1,42 @@
+-- The number of each fault, and the faults of the lower layers.
+use Rattle.std.specs.Prelude.{ℕ}
+use Rattle.hall.specs.declared.faults.Fault.{Fault}
+use Rattle.hall.specs.declared.faults.Fault.TheVariants.{NotIssuer, AlreadyHeld, NotHeld, AlreadyGranted, NotGranted, GrantSelf, Creds, Grants, Searches, Changes, Opens, NoSuchSearch, NoTenant, Memory}
+use Rattle.vaults.specs.declared.faults.VaultFault.{VaultFault}
+use Rattle.vaults.specs.declared.faults.VaultFault.TheVariants as vault
+use Rattle.quotas.specs.declared.faults.QuotaFault.{QuotaFault}
+use Rattle.quotas.specs.declared.faults.QuotaFault.TheVariants as quota
+
+abbrev pub fault_number : Fault → ℕ
+fault_number NotIssuer = 31
+fault_number AlreadyHeld = 32
+fault_number NotHeld = 33
+fault_number AlreadyGranted = 34
+fault_number NotGranted = 35
+fault_number GrantSelf = 36
+fault_number Creds = 41
+fault_number Grants = 42
+fault_number Searches = 43
+fault_number Changes = 44
+fault_number Opens = 45
+fault_number NoSuchSearch = 51
+fault_number NoTenant = 62
+fault_number Memory = 90
+
+-- a refusal of the journal
+abbrev pub vault_fault : VaultFault → Fault
+vault_fault vault.NotIssuer = NotIssuer
+vault_fault vault.AlreadyHeld = AlreadyHeld
+vault_fault vault.NotHeld = NotHeld
+vault_fault vault.AlreadyGranted = AlreadyGranted
+vault_fault vault.NotGranted = NotGranted
+vault_fault vault.GrantSelf = GrantSelf
+vault_fault vault.Memory = Memory
+
+-- a limit that is reached
+abbrev pub quota_fault : QuotaFault → Fault
+quota_fault quota.Creds = Creds
+quota_fault quota.Grants = Grants
+quota_fault quota.Searches = Searches
+quota_fault quota.Changes = Changes
+quota_fault quota.Opens = Opens

@@ -1,0 +1,19 @@
+//! What one tenant may be told: requests and replies, a tenant's account, the runs that are allowed, and the laws that
+//! hold of them. Definitions of a whole hall of tenants stand beside them.
+#![tactic(auto)]
+
+mod faults;
+mod laws;
+mod lists;
+mod queries;
+mod replies;
+mod requests;
+#[cfg(test)]
+mod tests;
+
+pub use faults::Fault;
+pub use laws::{runs_are_allowed, two_halls, two_worlds};
+pub use lists::{Names, Rows};
+pub use queries::Query;
+pub use replies::{Answer, Reply};
+pub use requests::Request;
