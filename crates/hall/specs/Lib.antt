@@ -6,3 +6,4 @@ pub mod State
 pub mod Run
 pub mod Laws
 pub mod Calls
+pub mod Deeds

@@ -12,7 +12,7 @@ mod requests;
 mod tests;
 
 pub use faults::Fault;
-pub use laws::{runs_are_allowed, two_halls, two_worlds};
+pub use laws::{deeds_are_allowed, runs_are_allowed, two_halls, two_worlds};
 pub use lists::{Names, Rows};
 pub use queries::Query;
 pub use replies::{Answer, Reply};

@@ -1,0 +1,31 @@
+-- Tenants found by their name and searches found by their number, after all of a list were changed.
+use Rattle.std.proofs.Common.{◌≡◌, ℕ, Bool, true, false, cond, List, [], ◌∷◌, refl, ap, ◌∙◌, sym, map, filter, find, Option, Some, None, ◌==◌, not, ◌⊎◌, inl, inr}
+use Rattle.std.specs.Prelude.{option_map}
+use Rattle.std.proofs.lemmas.Bool.{false≢true}
+use Rattle.vaults.specs.Journal.{is_same}
+use Rattle.hall.proofs.Elements.{find-map}
+use Rattle.hall.specs.State.{Tenant, tenant_named, at_name}
+
+-- what a filter keeps of what is found
+pub find-filter : {X : Type 0} (p keep : X → Bool) (xs : List X) → ((y : X) → p y ≡ true → keep y ≡ true) → find p (filter keep xs) ≡ find p xs
+find-filter p keep [] kept = refl
+find-filter {X} p keep (y ∷ ys) kept = by (keep y) (p y) refl refl (find-filter p keep ys kept)
+  where
+    by : (k b : Bool) → keep y ≡ k → p y ≡ b → find p (filter keep ys) ≡ find p ys → find p (cond k (y ∷ filter keep ys) (filter keep ys)) ≡ cond b (Some y) (find p ys)
+    by true true k e rest = ap (λ (b : Bool). cond b (Some y) (find p (filter keep ys))) e
+    by true false k e rest = ap (λ (b : Bool). cond b (Some y) (find p (filter keep ys))) e ∙ rest
+    by false false k e rest = rest
+    by false true k e rest = absurd (false≢true (sym k ∙ kept y e))
+
+at_name-name : (who : List ℕ) (change : Tenant → Tenant) → ((t : Tenant) → (change t).name ≡ t.name) → (t : Tenant) → (at_name who change t).name ≡ t.name
+at_name-name who change keeps t = by (is_same t.name who) refl
+  where
+    by : (b : Bool) → is_same t.name who ≡ b → (cond b (change t) t).name ≡ t.name
+    by true e = keeps t
+    by false e = refl
+
+-- the tenant of a name, after the tenants of a name were changed
+pub named-changed : (name who : List ℕ) (change : Tenant → Tenant) → ((t : Tenant) → (change t).name ≡ t.name) → (ts : List Tenant) →
+    tenant_named name (map (at_name who change) ts) ≡ option_map (at_name who change) (tenant_named name ts)
+named-changed name who change keeps ts =
+    find-map (λ t. is_same t.name name) (λ t. is_same t.name name) (at_name who change) (λ t. ap (λ (n : List ℕ). is_same n name) (at_name-name who change keeps t)) ts
