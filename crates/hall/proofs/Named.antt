@@ -3,7 +3,10 @@ use Rattle.std.proofs.Common.{◌≡◌, ℕ, Bool, true, false, cond, List, [],
 use Rattle.std.specs.Prelude.{option_map}
 use Rattle.std.proofs.lemmas.Bool.{false≢true}
 use Rattle.vaults.specs.Journal.{is_same}
+use Rattle.vaults.proofs.Orders.{same_from_is_same}
+use Rattle.rt0_rules.proofs.Elements.{find-Some}
 use Rattle.hall.proofs.Elements.{find-map}
+use Rattle.hall.proofs.Sound.{name_stays}
 use Rattle.hall.specs.State.{Tenant, tenant_named, at_name}
 
 -- what a filter keeps of what is found
@@ -17,15 +20,12 @@ find-filter {X} p keep (y ∷ ys) kept = by (keep y) (p y) refl refl (find-filte
     by false false k e rest = rest
     by false true k e rest = absurd (false≢true (sym k ∙ kept y e))
 
-at_name-name : (who : List ℕ) (change : Tenant → Tenant) → ((t : Tenant) → (change t).name ≡ t.name) → (t : Tenant) → (at_name who change t).name ≡ t.name
-at_name-name who change keeps t = by (is_same t.name who) refl
-  where
-    by : (b : Bool) → is_same t.name who ≡ b → (cond b (change t) t).name ≡ t.name
-    by true e = keeps t
-    by false e = refl
-
 -- the tenant of a name, after the tenants of a name were changed
 pub named-changed : (name who : List ℕ) (change : Tenant → Tenant) → ((t : Tenant) → (change t).name ≡ t.name) → (ts : List Tenant) →
     tenant_named name (map (at_name who change) ts) ≡ option_map (at_name who change) (tenant_named name ts)
 named-changed name who change keeps ts =
-    find-map (λ t. is_same t.name name) (λ t. is_same t.name name) (at_name who change) (λ t. ap (λ (n : List ℕ). is_same n name) (at_name-name who change keeps t)) ts
+    find-map (λ t. is_same t.name name) (λ t. is_same t.name name) (at_name who change) (λ t. ap (λ (n : List ℕ). is_same n name) (name_stays who change keeps t)) ts
+
+-- the name by which a tenant is found is its own
+pub own_name : (name : List ℕ) (ts : List Tenant) (t : Tenant) → tenant_named name ts ≡ Some t → t.name ≡ name
+own_name name ts t at = same_from_is_same t.name name (find-Some (λ t. is_same t.name name) ts t at).1

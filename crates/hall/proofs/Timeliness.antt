@@ -24,7 +24,7 @@ use Rattle.hall.specs.Run.{IsServed, IsDriven, SettlesAt, MayReplyTo, entered, o
 use Rattle.hall.specs.Calls.{new_tenant, new_hall}
 use Rattle.hall.specs.Deeds.{Deed, asks, waits, Told, CarriesOut, IsDone, AreDone, Waited, NeverWaited, IsTimely, IsTimelyPoll, AreTimely}
 use Rattle.hall.proofs.Elements.{find-map}
-use Rattle.hall.proofs.Named.{named-changed}
+use Rattle.hall.proofs.Named.{named-changed, own_name}
 use Rattle.hall.proofs.Timely.{told_asked, told_waited, IsPast, IsFresh, IsGiven, Knows, Keeps, keeps-same, knows-asked, keeps-opening, keeps-ending, numbered-settling, never-before, waited-cases}
 
 -- what is known of every tenant's searches
@@ -61,10 +61,6 @@ opened_next h new name query n served = by (tenant_named name h.tenants) refl se
     by None none may = cc
     by (Some t) at (inl told) = (t, at, next t _ told)
     by (Some t) at (inr lacks) = let e = lacks.0 in cc
-
--- the name by which a tenant is found is its own
-own_name : (name : List ℕ) (ts : List Tenant) (t : Tenant) → tenant_named name ts ≡ Some t → t.name ≡ name
-own_name name ts t at = same_from_is_same t.name name (find-Some (λ t. is_same t.name name) ts t at).1
 
 keeps-opened : (h : HallState) (who : List ℕ) (query : Query) (n : ℕ) → ((t : Tenant) × (tenant_named who h.tenants ≡ Some t) × (n ≡ t.opens + 1)) →
     (name : List ℕ) (k : ℕ) (o : Option Tenant) → tenant_named name h.tenants ≡ o → Keeps k o (option_map (at_name who (opening h.journal query n)) o)

@@ -1,12 +1,12 @@
 -- The calls of a hall: what a tenant is told by each one's result, and the hall of a roster.
-use Rattle.std.specs.Prelude.{ℕ, List, [], map, Result, Ok, Err}
+use Rattle.std.specs.Prelude.{◌≡◌, ℕ, List, [], map, Result, Ok, Err}
 use Rattle.credential_text.specs.declared.credentials.Credential.{Credential}
 use Rattle.quotas.specs.Quota.{Quota}
 use Rattle.hall.specs.declared.faults.Fault.{Fault}
 use Rattle.hall.specs.declared.replies.Answer.{Answer}
 use Rattle.hall.specs.declared.replies.Reply.{Reply}
 use Rattle.hall.specs.declared.replies.Reply.TheVariants as reply
-use Rattle.hall.specs.State.{Tenant, HallState}
+use Rattle.hall.specs.State.{Tenant, HallState, AreDistinct}
 
 -- a tenant that has done nothing
 abbrev pub new_tenant : List ℕ × Quota → Tenant
@@ -15,6 +15,10 @@ new_tenant row = record { name = row.0; limits = row.1; opens = 0; searches = []
 -- the hall of these tenants, where nothing was done yet
 abbrev pub new_hall : List (List ℕ × Quota) → HallState
 new_hall roster = record { journal = []; tenants = map new_tenant roster }
+
+-- a hall where nothing was done yet, with each name once
+abbrev pub IsNewHall : HallState → Type 0
+IsNewHall h = (roster : List (List ℕ × Quota)) × AreDistinct (new_hall roster).tenants × (h ≡ new_hall roster)
 
 abbrev pub counted : Result ℕ Fault → Reply
 counted (Ok n) = reply.Counted n

@@ -1,5 +1,5 @@
 -- A whole hall: one journal, and what each tenant has opened.
-use Rattle.std.specs.Prelude.{◌≡◌, ℕ, ◌≤◌, ◌<◌, ◌==◌, List, [], ◌∷◌, length, map, find, take, Option, None, Some, if◌then◌else◌, option_map}
+use Rattle.std.specs.Prelude.{◌≡◌, ℕ, Bool, is_some, ◌≤◌, ◌<◌, ◌==◌, List, [], ◌∷◌, length, map, find, take, Option, None, Some, if◌then◌else◌, option_map}
 use Rattle.std.specs.List.{AllByRecursion, AllZip}
 use Rattle.quotas.specs.Quota.{Quota}
 use Rattle.vaults.specs.declared.changes.Entry.{Entry}
@@ -27,6 +27,10 @@ pub record HallState : Type 0 where
 
 abbrev pub tenant_named : List ℕ → List Tenant → Option Tenant
 tenant_named name tenants = find (λ t. is_same t.name name) tenants
+
+-- the name stands in the roster
+abbrev pub is_tenant : HallState → List ℕ → Bool
+is_tenant h name = is_some (tenant_named name h.tenants)
 
 -- the view of a search is that of the journal cut at its opening
 abbrev pub open_search : List Entry → List ℕ → Running → OpenSearch
