@@ -1,0 +1,3 @@
+pub mod Elements
+pub mod Settling
+pub mod Sound

@@ -1,0 +1,14 @@
+use Rattle.hall.proofs.Sound.{served_sound, driven_sound, driving_serves}
+use Rattle.hall.proofs.laws.runs_are_allowed.Goals as goal
+
+pub returns-clause-served : goal.returns-clause-served
+returns-clause-served c = served_sound
+
+pub returns-clause-driven : goal.returns-clause-driven
+returns-clause-driven c = driven_sound
+
+pub returns-clause-settling : goal.returns-clause-settling
+returns-clause-settling c = driving_serves
+
+pub returns-clause-allowed : goal.returns-clause-allowed
+returns-clause-allowed c = ?
