@@ -1,5 +1,5 @@
 -- Searches and accounts that are alike in two worlds.
-use Rattle.std.proofs.Common.{ℕ, Bool, not, List, [], ◌∷◌, ◌++◌, ◌≡◌, ◌∙◌, ◌==◌, ◌⊎◌, inl, inr, sym, ap, refl, subst, subst₂}
+use Rattle.std.proofs.Common.{ℕ, not, List, ◌≡◌, ◌∙◌, ◌==◌, ◌⊎◌, inl, inr, sym, ap, refl, subst, subst₂}
 use Rattle.std.specs.List.{AllZip}
 use Rattle.std.proofs.lemmas.List.Elements.{AllZip-push}
 use Rattle.vaults.specs.declared.changes.Change.{Change}
@@ -78,7 +78,9 @@ pub record AreAlike (a b : Account) : Type 0 where
 
 pub alike_itself : (a : Account) → AreAlike a a
 alike_itself a = record {
-  limits = refl; entries = refl; opens = refl;
+  limits = refl;
+  entries = refl;
+  opens = refl;
   searches = zip_same Alike (λ s. record { number = refl; query = refl; view = refl; settled = inl refl }) a.searches;
 }
 
@@ -105,7 +107,9 @@ altered_alike tenant a ts change _ zip = with_searches a ts zip
 pub sought_alike : (view : List Vault) (a : Account) (ts : List OpenSearch) (query : Query) (told : Reply) → AllZip Alike a.searches ts →
     AreAlike (sought view a query told) (sought view (record a { searches = ts }) query told)
 sought_alike view a ts query (Opened n) zip = record {
-  limits = refl; entries = refl; opens = refl;
+  limits = refl;
+  entries = refl;
+  opens = refl;
   searches = AllZip-push Alike a.searches ts fresh fresh zip (record { number = refl; query = refl; view = refl; settled = inl refl });
 }
   where
@@ -115,7 +119,9 @@ sought_alike view a ts query _ zip = with_searches a ts zip
 
 pub ended_alike : (a : Account) (ts : List OpenSearch) (k : ℕ) (told : Reply) → AllZip Alike a.searches ts → AreAlike (ended a k told) (ended (record a { searches = ts }) k told)
 ended_alike a ts k Closed zip = record {
-  limits = refl; entries = refl; opens = refl;
+  limits = refl;
+  entries = refl;
+  opens = refl;
   searches = filter_zip Alike (λ s. not (s.number == k)) (λ s. not (s.number == k)) (λ s t alike. ap (λ (n : ℕ). not (n == k)) alike.number) a.searches ts zip;
 }
 ended_alike a ts k _ zip = with_searches a ts zip

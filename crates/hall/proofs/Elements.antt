@@ -133,3 +133,10 @@ zip_joined R S Q joins [] (y ∷ ys) zs left right = absurd left
 zip_joined R S Q joins (x ∷ xs) [] zs left right = absurd left
 zip_joined R S Q joins (x ∷ xs) (y ∷ ys) [] left right = absurd right
 zip_joined R S Q joins (x ∷ xs) (y ∷ ys) (z ∷ zs) left right = (joins x y z left.0 right.0, zip_joined R S Q joins xs ys zs left.1 right.1)
+
+pub both_mapped : {X Y V W : Type 0} (R : X → Y → Type 0) (S : V → W → Type 0) (f : X → V) (g : Y → W) → ((x : X) (y : Y) → R x y → S (f x) (g y)) →
+    (o : Option X) (p : Option Y) → Both R o p → Both S (option_map f o) (option_map g p)
+both_mapped R S f g over None None both = tt
+both_mapped R S f g over None (Some y) both = absurd both
+both_mapped R S f g over (Some x) None both = absurd both
+both_mapped R S f g over (Some x) (Some y) both = over x y both

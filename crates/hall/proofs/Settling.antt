@@ -1,13 +1,13 @@
 -- Searches that settle, once and again.
-use Rattle.std.proofs.Common.{ℕ, Bool, true, false, cond, List, [], ◌∷◌, ◌≡◌, ◌∙◌, ◌==◌, ◌⊎◌, inl, inr, ◌<◌, ◌≤◌, sym, ap, refl, subst, find, map, take, Option, Some, None, arith, ne_eqb, eqb-true}
-use Rattle.std.specs.List.{AllByRecursion, AllZip}
+use Rattle.std.proofs.Common.{ℕ, Bool, true, false, cond, List, [], ◌∷◌, ◌≡◌, ◌∙◌, ◌==◌, inl, inr, ◌<◌, sym, ap, refl, subst, take, Option, Some, None, arith, ne_eqb, eqb-true}
+use Rattle.std.specs.List.{AllByRecursion}
 use Rattle.vaults.specs.declared.changes.Entry.{Entry}
 use Rattle.vaults.specs.Journal.{is_same, Vault, view}
 use Rattle.vaults.proofs.Orders.{same_from_is_same}
 use Rattle.hall.specs.declared.queries.Query.{Query}
-use Rattle.hall.specs.Truth.{Settled, Nothing, IsTruth, MaySettle}
-use Rattle.hall.specs.State.{Running, Tenant, HallState, tenant_named, with_tenant, running_numbered, running_of, search_at, settling, AreDistinct, AreNumbered, IsSound, IsSoundTenant, RunningGoesOn, TenantGoesOn, Settles}
-use Rattle.hall.specs.Run.{SettlesAt, IsDriven}
+use Rattle.hall.specs.Truth.{Settled, IsTruth, MaySettle}
+use Rattle.hall.specs.State.{Running, Tenant, HallState, tenant_named, running_numbered, running_of, search_at, settling, AreDistinct, AreNumbered, IsSound, IsSoundTenant, RunningGoesOn, TenantGoesOn, Settles}
+use Rattle.hall.specs.Run.{SettlesAt}
 use Rattle.hall.proofs.Elements.{IsOnce, zip_same, zip_changed}
 
 -- what may happen between two requests may happen twice over

@@ -1,6 +1,6 @@
 -- The law of two worlds.
-use Rattle.std.proofs.Common.{ℕ, ◌+◌, subst₂, List, [], ◌∷◌, ◌≡◌, ◌≢◌, ◌∙◌, ◌==◌, inl, inr, sym, ap, refl, subst, length, Option, Some, None}
-use Rattle.std.specs.List.{AllByRecursion, AllZip}
+use Rattle.std.proofs.Common.{ℕ, ◌+◌, subst₂, List, [], ◌∷◌, ◌≡◌, ◌≢◌, ◌∙◌, ◌==◌, inl, inr, sym, ap, refl, subst, Option, Some, None}
+use Rattle.std.specs.List.{AllZip}
 use Rattle.std.proofs.lemmas.List.Elements.{length_all_zip}
 use Rattle.vaults.specs.Journal.{Vault}
 use Rattle.hall.specs.declared.faults.Fault.TheVariants.{Memory}

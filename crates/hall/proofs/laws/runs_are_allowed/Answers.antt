@@ -1,4 +1,5 @@
 use Rattle.hall.proofs.Sound.{served_sound, driven_sound, driving_serves}
+use Rattle.hall.proofs.Runs.{runs_allowed}
 use Rattle.hall.proofs.laws.runs_are_allowed.Goals as goal
 
 pub returns-clause-served : goal.returns-clause-served
@@ -11,4 +12,4 @@ pub returns-clause-settling : goal.returns-clause-settling
 returns-clause-settling c = driving_serves
 
 pub returns-clause-allowed : goal.returns-clause-allowed
-returns-clause-allowed c = ?
+returns-clause-allowed c = runs_allowed
