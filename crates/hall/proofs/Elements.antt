@@ -1,7 +1,7 @@
 -- Lists of which at most one element is changed, and lists that are related place by place.
 use Rattle.std.proofs.Common.{Bool, true, false, cond, List, [], ◌∷◌, ◌++◌, ◌≡◌, ◌∙◌, sym, ap, refl, subst, filter, find, map, Option, Some, None, option_map}
 use Rattle.std.specs.List.{AllByRecursion, AllZip}
-use Rattle.std.proofs.lemmas.List.Elements.{All-from_recursion, recursion_from_All, All-filter, All-push}
+use Rattle.std.proofs.lemmas.List.Elements.{All-from_recursion, recursion_from_All, All-filter, All-push, All-weaker}
 
 -- at most one element passes the test
 abbrev pub IsOnce : {X : Type 0} → (X → Bool) → List X → Type 0
@@ -36,8 +36,7 @@ zip_same R related [] = tt
 zip_same R related (x ∷ xs) = (related x, zip_same R related xs)
 
 pub all_weaker : {X : Type 0} (P Q : X → Type 0) → ((x : X) → P x → Q x) → (xs : List X) → AllByRecursion P xs → AllByRecursion Q xs
-all_weaker P Q follows [] all = tt
-all_weaker P Q follows (x ∷ xs) all = (follows x all.0, all_weaker P Q follows xs all.1)
+all_weaker P Q follows xs all = recursion_from_All Q xs (All-weaker P Q follows xs (All-from_recursion P xs all))
 
 pub all_filtered : {X : Type 0} (P : X → Type 0) (p : X → Bool) (xs : List X) → AllByRecursion P xs → AllByRecursion P (filter p xs)
 all_filtered P p xs all = recursion_from_All P (filter p xs) (All-filter p P xs (All-from_recursion P xs all))
