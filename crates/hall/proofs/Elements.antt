@@ -1,7 +1,7 @@
 -- Lists of which at most one element is changed, and lists that are related place by place.
 use Rattle.std.proofs.Common.{Bool, true, false, cond, List, [], ◌∷◌, ◌++◌, ◌≡◌, ◌∙◌, sym, ap, refl, subst, filter, find, map, Option, Some, None, option_map}
 use Rattle.std.specs.List.{AllByRecursion, AllZip}
-use Rattle.std.proofs.lemmas.List.Elements.{All-from_recursion, recursion_from_All, All-filter, All-push}
+use Rattle.std.proofs.lemmas.List.Elements.{All-from_recursion, recursion_from_All, All-filter, All-push, All-weaker}
 
 -- at most one element passes the test
 abbrev pub IsOnce : {X : Type 0} → (X → Bool) → List X → Type 0
@@ -36,8 +36,7 @@ zip_same R related [] = tt
 zip_same R related (x ∷ xs) = (related x, zip_same R related xs)
 
 pub all_weaker : {X : Type 0} (P Q : X → Type 0) → ((x : X) → P x → Q x) → (xs : List X) → AllByRecursion P xs → AllByRecursion Q xs
-all_weaker P Q follows [] all = tt
-all_weaker P Q follows (x ∷ xs) all = (follows x all.0, all_weaker P Q follows xs all.1)
+all_weaker P Q follows xs all = recursion_from_All Q xs (All-weaker P Q follows xs (All-from_recursion P xs all))
 
 pub all_filtered : {X : Type 0} (P : X → Type 0) (p : X → Bool) (xs : List X) → AllByRecursion P xs → AllByRecursion P (filter p xs)
 all_filtered P p xs all = recursion_from_All P (filter p xs) (All-filter p P xs (All-from_recursion P xs all))
@@ -110,3 +109,33 @@ filter-map {X} {Y} q p g agree (x ∷ xs) = ap (λ (b : Bool). cond b (g x ∷ f
     by : (b : Bool) → filter q (map g xs) ≡ map g (filter p xs) → cond b (g x ∷ filter q (map g xs)) (filter q (map g xs)) ≡ map g (cond b (x ∷ filter p xs) (filter p xs))
     by true rest = ap (λ (l : List Y). g x ∷ l) rest
     by false rest = rest
+
+pub zip_mapped : {X Y V W : Type 0} (R : X → Y → Type 0) (S : V → W → Type 0) (f : X → V) (g : Y → W) → ((x : X) (y : Y) → R x y → S (f x) (g y)) →
+    (xs : List X) (ys : List Y) → AllZip R xs ys → AllZip S (map f xs) (map g ys)
+zip_mapped R S f g over [] [] zip = tt
+zip_mapped R S f g over [] (y ∷ ys) zip = absurd zip
+zip_mapped R S f g over (x ∷ xs) [] zip = absurd zip
+zip_mapped R S f g over (x ∷ xs) (y ∷ ys) zip = (over x y zip.0, zip_mapped R S f g over xs ys zip.1)
+
+pub zip_turned : {X Y : Type 0} (R : X → Y → Type 0) (xs : List X) (ys : List Y) → AllZip R xs ys → AllZip (λ y x. R x y) ys xs
+zip_turned R [] [] zip = tt
+zip_turned R [] (y ∷ ys) zip = absurd zip
+zip_turned R (x ∷ xs) [] zip = absurd zip
+zip_turned R (x ∷ xs) (y ∷ ys) zip = (zip.0, zip_turned R xs ys zip.1)
+
+-- two lists that are related to one between them
+pub zip_joined : {X Y Z : Type 0} (R : X → Y → Type 0) (S : Y → Z → Type 0) (Q : X → Z → Type 0) → ((x : X) (y : Y) (z : Z) → R x y → S y z → Q x z) →
+    (xs : List X) (ys : List Y) (zs : List Z) → AllZip R xs ys → AllZip S ys zs → AllZip Q xs zs
+zip_joined R S Q joins [] [] [] left right = tt
+zip_joined R S Q joins [] [] (z ∷ zs) left right = absurd right
+zip_joined R S Q joins [] (y ∷ ys) zs left right = absurd left
+zip_joined R S Q joins (x ∷ xs) [] zs left right = absurd left
+zip_joined R S Q joins (x ∷ xs) (y ∷ ys) [] left right = absurd right
+zip_joined R S Q joins (x ∷ xs) (y ∷ ys) (z ∷ zs) left right = (joins x y z left.0 right.0, zip_joined R S Q joins xs ys zs left.1 right.1)
+
+pub both_mapped : {X Y V W : Type 0} (R : X → Y → Type 0) (S : V → W → Type 0) (f : X → V) (g : Y → W) → ((x : X) (y : Y) → R x y → S (f x) (g y)) →
+    (o : Option X) (p : Option Y) → Both R o p → Both S (option_map f o) (option_map g p)
+both_mapped R S f g over None None both = tt
+both_mapped R S f g over None (Some y) both = absurd both
+both_mapped R S f g over (Some x) None both = absurd both
+both_mapped R S f g over (Some x) (Some y) both = over x y both

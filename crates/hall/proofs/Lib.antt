@@ -1,6 +1,10 @@
 pub mod Elements
 pub mod Settling
 pub mod Sound
+pub mod Alike
+pub mod Worlds
+pub mod Serving
+pub mod Runs
 pub mod Named
 pub mod Timely
 pub mod Timeliness

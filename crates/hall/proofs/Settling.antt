@@ -1,13 +1,16 @@
 -- Searches that settle, once and again.
-use Rattle.std.proofs.Common.{ℕ, Bool, true, false, cond, List, [], ◌∷◌, ◌≡◌, ◌∙◌, ◌==◌, ◌⊎◌, inl, inr, ◌<◌, ◌≤◌, sym, ap, refl, subst, find, map, take, Option, Some, None, arith, ne_eqb, eqb-true}
-use Rattle.std.specs.List.{AllByRecursion, AllZip}
+use Rattle.std.proofs.Common.{ℕ, Bool, true, cond, List, [], ◌∷◌, ◌≡◌, ◌∙◌, ◌==◌, inl, inr, ◌<◌, sym, ap, refl, subst, take, Option, Some, None, arith, ne_eqb, eqb-true}
+use Rattle.std.specs.List.{AllByRecursion}
+use Rattle.std.specs.List.{Contains}
+use Rattle.std.proofs.lemmas.List.Elements.{All-from_recursion, All-contains}
+use Rattle.rt0_rules.proofs.Elements.{find-Some}
 use Rattle.vaults.specs.declared.changes.Entry.{Entry}
 use Rattle.vaults.specs.Journal.{is_same, Vault, view}
 use Rattle.vaults.proofs.Orders.{same_from_is_same}
 use Rattle.hall.specs.declared.queries.Query.{Query}
-use Rattle.hall.specs.Truth.{Settled, Nothing, IsTruth, MaySettle}
-use Rattle.hall.specs.State.{Running, Tenant, HallState, tenant_named, with_tenant, running_numbered, running_of, search_at, settling, AreDistinct, AreNumbered, IsSound, IsSoundTenant, RunningGoesOn, TenantGoesOn, Settles}
-use Rattle.hall.specs.Run.{SettlesAt, IsDriven}
+use Rattle.hall.specs.Truth.{Settled, IsTruth, MaySettle}
+use Rattle.hall.specs.State.{Running, Tenant, HallState, tenant_named, running_numbered, running_of, search_at, settling, AreDistinct, AreNumbered, IsSound, IsSoundTenant, RunningGoesOn, TenantGoesOn, Settles}
+use Rattle.hall.specs.Run.{SettlesAt}
 use Rattle.hall.proofs.Elements.{IsOnce, zip_same, zip_changed}
 
 -- what may happen between two requests may happen twice over
@@ -49,12 +52,9 @@ once_numbered k opens (r ∷ rs) numbers = (λ same. none_later k r.number rs (e
 
 -- where a tenant of the hall is found by its name, what holds of every tenant holds of it
 pub found_tenant : (P : Tenant → Type 0) (name : List ℕ) (ts : List Tenant) → AllByRecursion P ts → (t : Tenant) → tenant_named name ts ≡ Some t → P t × (t.name ≡ name)
-found_tenant P name [] all t found = cc
-found_tenant P name (u ∷ ts) all t found = by (is_same u.name name) refl found (found_tenant P name ts all.1 t)
-  where
-    by : (b : Bool) → is_same u.name name ≡ b → cond b (Some u) (tenant_named name ts) ≡ Some t → (tenant_named name ts ≡ Some t → P t × (t.name ≡ name)) → P t × (t.name ≡ name)
-    by true same found rest = subst (λ (v : Tenant). P v × (v.name ≡ name)) (cc) (all.0, same_from_is_same u.name name same)
-    by false same found rest = rest found
+found_tenant P name ts all t found =
+    let here : Contains ts t × (is_same t.name name ≡ true) = find-Some (λ u. is_same u.name name) ts t found in
+    (All-contains P ts t (All-from_recursion P ts all) here.0, same_from_is_same t.name name here.1)
 
 -- a search of a tenant that settles
 tenant_settles : (journal : List Entry) (k : ℕ) (s : Settled) (t : Tenant) (r : Running) → IsSoundTenant journal t → running_numbered k t.searches ≡ Some r →

@@ -1,20 +1,19 @@
 -- Requests, waits and searches that settle keep what holds of every hall.
-use Rattle.std.proofs.Common.{ℕ, Bool, true, false, cond, not, List, [], ◌∷◌, ◌++◌, length, ◌≡◌, ◌∙◌, ◌+◌, ◌≤◌, ◌<◌, ◌==◌, inl, inr, sym, ap, refl, subst, find, filter, map, take, Option, Some, None, option_map, arith, length-append}
-use Rattle.std.specs.List.{AllByRecursion, AllZip}
+use Rattle.std.proofs.Common.{ℕ, Bool, true, false, cond, not, List, [], ◌∷◌, ◌++◌, length, ◌≡◌, ◌∙◌, ◌+◌, ◌≤◌, ◌<◌, ◌==◌, inl, inr, sym, ap, refl, subst, filter, map, take, Option, Some, None, option_map, arith, length-append}
+use Rattle.std.specs.List.{AllZip}
 use Rattle.std.proofs.lemmas.List.{take-append-le}
 use Rattle.vaults.specs.declared.changes.Change.{Change}
 use Rattle.vaults.specs.declared.changes.Entry.{Entry}
 use Rattle.vaults.specs.Journal.{is_same, view}
 use Rattle.hall.specs.declared.faults.Fault.{Fault}
 use Rattle.hall.specs.declared.queries.Query.{Query}
-use Rattle.hall.specs.declared.requests.Request.{Request}
 use Rattle.hall.specs.declared.requests.Request.TheVariants as request
 use Rattle.hall.specs.declared.replies.Reply.{Reply}
-use Rattle.hall.specs.declared.replies.Reply.TheVariants.{Counted, Opened, Answered, Closed, Refused}
+use Rattle.hall.specs.declared.replies.Reply.TheVariants.{Counted, Opened, Closed}
 use Rattle.hall.specs.Truth.{Nothing, MaySettle}
 use Rattle.hall.specs.Account.{Account, unless_refused, seek_refusal}
-use Rattle.hall.specs.State.{Running, Tenant, HallState, tenant_named, account, account_of, at_name, with_tenant, AreDistinct, AreNumbered, IsSound, IsSoundSearch, IsSoundTenant, RunningGoesOn, TenantGoesOn, Settles}
-use Rattle.hall.specs.Run.{entered, opening, opened, ending, closed, MayReplyTo, IsServed, IsDriven}
+use Rattle.hall.specs.State.{Running, Tenant, HallState, tenant_named, account, account_of, at_name, AreDistinct, AreNumbered, IsSound, IsSoundSearch, IsSoundTenant, RunningGoesOn, TenantGoesOn, Settles}
+use Rattle.hall.specs.Run.{entered, opening, opened, ending, closed, MayReplyTo}
 use Rattle.hall.specs.Laws.{ServingKeepsSoundness, DrivingKeepsSoundness, DrivingIsServing}
 use Rattle.hall.proofs.Elements.{all_changed, all_weaker, all_filtered, all_pushed, all_over, find-map, find_both, Both}
 use Rattle.hall.proofs.Settling.{settles_twice, once_named, driving_settles}

@@ -40,6 +40,7 @@ polled_at h new name k reply served answers = by (tenant_named name h.tenants) s
         (r : Running) × (running_numbered k t.searches ≡ Some r) × (reply ≡ Answered (answer_of r.settled))
     found t None none told = absurd (answers NoSuchSearch told)
     found t (Some r) at told = (r, at, told)
+
     by : (o : Option Tenant) → MayReplyTo h name (option_map (account h.journal) o) (request.Poll k) reply →
         (r : Running) × (running_of k o ≡ Some r) × (reply ≡ Answered (answer_of r.settled))
     by None may = absurd (answers NoTenant may)
@@ -56,6 +57,7 @@ opened_next h new name query n served = by (tenant_named name h.tenants) refl se
     next : (t : Tenant) (f : Option Fault) → Opened n ≡ unless_refused f (Opened (t.opens + 1)) → n ≡ t.opens + 1
     next t None e = cc
     next t (Some f) e = cc
+
     by : (o : Option Tenant) → tenant_named name h.tenants ≡ o → MayReplyTo h name (option_map (account h.journal) o) (request.Seek query) (Opened n) →
         (t : Tenant) × (tenant_named name h.tenants ≡ Some t) × (n ≡ t.opens + 1)
     by None none may = cc
@@ -72,6 +74,7 @@ keeps-opened h who query n next name k (Some t) at = by (is_same t.name who) ref
         let is : who ≡ name = sym (same_from_is_same t.name who e) ∙ own_name name h.tenants t at in
         let found : tenant_named name h.tenants ≡ Some next.0 = subst (λ (w : List ℕ). tenant_named w h.tenants ≡ Some next.0) is next.1 in
         cc
+
     by : (b : Bool) → is_same t.name who ≡ b → Keeps k (Some t) (Some (cond b (opening h.journal query n t) t))
     by true e = keeps-opening k n query h.journal t (next.2 ∙ ap (λ (t : Tenant). t.opens + 1) (same e))
     by false e = keeps-same k (Some t) (Some t) refl
@@ -91,21 +94,26 @@ keeps-asked h new who q reply served name k = by q reply served
   where
     untouched : new.tenants ≡ h.tenants → Keeps k (tenant_named name h.tenants) (tenant_named name new.tenants)
     untouched same = keeps-same k _ _ (ap (tenant_named name) same)
+
     altered : (change : Change) (reply : Reply) → new ≡ entered h who change reply → new.tenants ≡ h.tenants
     altered change (Counted n) after = ap (λ (h : HallState). h.tenants) after
     altered change _ after = ap (λ (h : HallState). h.tenants) after
+
     changed : (change : Tenant → Tenant) → ((t : Tenant) → (change t).name ≡ t.name) → new ≡ with_tenant h who change →
         Keeps k (tenant_named name h.tenants) (option_map (at_name who change) (tenant_named name h.tenants)) →
         Keeps k (tenant_named name h.tenants) (tenant_named name new.tenants)
     changed change keeps after kept =
         subst (Keeps k (tenant_named name h.tenants)) (sym (ap (λ (h : HallState). tenant_named name h.tenants) after ∙ named-changed name who change keeps h.tenants)) kept
+
     sought : (query : Query) (reply : Reply) → IsServed h who (request.Seek query) reply new → Keeps k (tenant_named name h.tenants) (tenant_named name new.tenants)
     sought query (Opened n) served =
         changed (opening h.journal query n) (λ t. refl) served.after (keeps-opened h who query n (opened_next h new who query n served) name k (tenant_named name h.tenants) refl)
     sought query _ served = untouched (ap (λ (h : HallState). h.tenants) served.after)
+
     ended : (gone : ℕ) (reply : Reply) → new ≡ closed h who gone reply → Keeps k (tenant_named name h.tenants) (tenant_named name new.tenants)
     ended gone Closed after = changed (ending gone) (λ t. refl) after (keeps-ended who gone k (tenant_named name h.tenants))
     ended gone _ after = untouched (ap (λ (h : HallState). h.tenants) after)
+
     by : (q : Request) (reply : Reply) → IsServed h who q reply new → Keeps k (tenant_named name h.tenants) (tenant_named name new.tenants)
     by (request.Alter change) reply served = untouched (altered change reply served.after)
     by (request.Seek query) reply served = sought query reply served
@@ -154,11 +162,13 @@ wait_keeps-found seen who at r s ts found settles name k t named is = record {
   where
     here : who ≡ name
     here = sym (same_from_is_same t.name who is) ∙ own_name name ts t named
+
     its : (at ≡ k) → running_numbered k t.searches ≡ Some r
     its same =
         let at_name : running_of at (tenant_named name ts) ≡ Some r = subst (λ (w : List ℕ). running_of at (tenant_named w ts) ≡ Some r) here found in
         let in_t : running_of at (Some t) ≡ Some r = subst (λ (o : Option Tenant). running_of at o ≡ Some r) named at_name in
         subst (λ (n : ℕ). running_numbered n t.searches ≡ Some r) same in_t
+
     by : (new old : Running) (b : Bool) → running_numbered k t.searches ≡ Some old → (old.number == at) ≡ b → Some (cond b (record old { settled = s }) old) ≡ Some new →
         (running_numbered k t.searches ≡ Some new) ⊎ ((who ≡ name) × (at ≡ k) × (running_numbered k t.searches ≡ Some r) × (new.settled ≡ s))
     by new old false stood e is = inl (stood ∙ is)
@@ -167,10 +177,12 @@ wait_keeps-found seen who at r s ts found settles name k t named is = record {
         let same : at ≡ k = sym ((Decides-eqb old.number at).0 e) ∙ numbered in
         let became : record old { settled = s } ≡ new = cc in
         inr (here, same, its same, ap (λ (r : Running). r.settled) (sym became))
+
     cases_of : (new : Running) (o : Option Running) → running_numbered k t.searches ≡ o → option_map (settled_at at s) o ≡ Some new →
         (running_numbered k t.searches ≡ Some new) ⊎ ((who ≡ name) × (at ≡ k) × (running_numbered k t.searches ≡ Some r) × (new.settled ≡ s))
     cases_of new None none e = cc
     cases_of new (Some old) stood e = by new old (old.number == at) stood refl e
+
     cases : (new : Running) → running_numbered k (map (settled_at at s) t.searches) ≡ Some new →
         (running_numbered k t.searches ≡ Some new) ⊎ ((who ≡ name) × (at ≡ k) × (running_numbered k t.searches ≡ Some r) × (new.settled ≡ s))
     cases new new_at = cases_of new (running_numbered k t.searches) refl (sym (numbered-settling k at s t.searches) ∙ new_at)
@@ -185,6 +197,7 @@ wait_keeps h new who at (Some r) found settles name k =
     by_name : (t : Tenant) (b : Bool) → tenant_named name h.tenants ≡ Some t → is_same t.name who ≡ b → WaitKeeps who at name k (Some t) (Some (cond b (settling at settles.0 t) t))
     by_name t true named e = wait_keeps-found (view (take r.opened_at h.journal) who) who at r settles.0 h.tenants found settles.1 name k t named e
     by_name t false named e = wait_keeps-same who at name k (Some t) (Some t) refl
+
     by : (o : Option Tenant) → tenant_named name h.tenants ≡ o → WaitKeeps who at name k o (option_map (at_name who (settling at settles.0)) o)
     by None none = wait_keeps-same who at name k None None refl
     by (Some t) named = by_name t (is_same t.name who) named refl
@@ -207,10 +220,13 @@ knows-waited before h new who at reply driven known name k = record {
   where
     keeps : WaitKeeps who at name k (tenant_named name h.tenants) (tenant_named name new.tenants)
     keeps = wait_keeps h new who at (search_at h who at) refl driven.settles name k
+
     given : IsGiven k (tenant_named name new.tenants)
     given = keeps.given (known name k).given
+
     same_told : who ≡ name → at ≡ k → told_waited who at reply ≡ told_waited name k reply
     same_told a b = ap (λ (n : List ℕ). told_waited n at reply) a ∙ ap (λ (n : ℕ). told_waited name n reply) b
+
     at_last : (other : Reply) → told_waited who at reply ≡ told_waited name k other → ((f : Fault) → other ≢ Refused f) → IsPast k (tenant_named name new.tenants)
     at_last other is answers =
         let same_name : who ≡ name = ap (λ (t : Told). t.tenant) is in
@@ -219,7 +235,7 @@ knows-waited before h new who at reply driven known name k = record {
         let same_number : at ≡ k = cc in
         let found = polled_at new new who at reply driven.polled (λ f e. answers f (sym same_reply ∙ e)) in
         let here : running_of k (tenant_named name new.tenants) ≡ Some found.0 =
-              subst (λ (n : ℕ). running_of n (tenant_named name new.tenants) ≡ Some found.0) same_number (subst (λ (w : List ℕ). running_of at (tenant_named w new.tenants) ≡ Some found.0) same_name found.1) in
+        subst (λ (n : ℕ). running_of n (tenant_named name new.tenants) ≡ Some found.0) same_number (subst (λ (w : List ℕ). running_of at (tenant_named w new.tenants) ≡ Some found.0) same_name found.1) in
         record {
           given = given found.0 here;
           settled = λ r r_at.
@@ -236,8 +252,7 @@ knows-done before h new who (waits at) reply driven known name k = knows-waited 
 timely-poll : (before : List Told) (h new : HallState) (who : List ℕ) (k : ℕ) (reply : Reply) → IsServed h who (request.Poll k) reply new → KnowsAll before h → IsTimelyPoll before who k reply
 timely-poll before h new who k (Answered answer) served known =
     let found = polled_at h new who k (Answered answer) served (λ f e. cc) in
-    let is : answer ≡ answer_of found.0.settled = let told = found.2 in cc in
-    (
+    let is : answer ≡ answer_of found.0.settled = let told = found.2 in cc in (
       λ never. is ∙ ap answer_of ((known who k).fresh never found.0 found.1),
       λ waited works. ((known who k).past waited).settled found.0 found.1 (working found.0.settled (sym is ∙ works)),
     )

@@ -85,6 +85,7 @@ asked-before name k before tenant q told waited = by (waited-cases name k before
   where
     apart : asks q ≡ waits k → ⊥
     apart e = cc
+
     by : Waited name k before ⊎ ((reply : Reply) × (told_asked tenant q told ≡ told_waited name k reply) × ((f : Fault) → reply ≢ Refused f)) →
         Waited name k before
     by (inl early) = early
@@ -109,14 +110,18 @@ keeps-opening k n query journal t next = record {
   where
     added : Running
     added = record { number = n; opened_at = length journal; query = query; settled = Nothing }
+
     too_new : k ≤ t.opens → n ≡ k → ⊥
     too_new given same = omega arith
+
     by_fresh : IsFresh k (Some t) → (r : Running) (found : Option Running) → running_numbered k t.searches ≡ found → option_or found (cond (n == k) (Some added) None) ≡ Some r → r.settled ≡ Nothing
     by_fresh was r None none at = ap (λ (r : Running). r.settled) (sym (cond_some (n == k) added r at).1)
     by_fresh was r (Some old) at same = was r (at ∙ same)
+
     by_past : IsPast k (Some t) → (r : Running) (found : Option Running) → running_numbered k t.searches ≡ found → option_or found (cond (n == k) (Some added) None) ≡ Some r → r.settled ≢ Nothing
     by_past was r None none at = absurd (too_new was.given ((Decides-eqb n k).0 (cond_some (n == k) added r at).0))
     by_past was r (Some old) at same = was.settled r (at ∙ same)
+
     by_given : IsGiven k (Some t) → (r : Running) (found : Option Running) → running_numbered k t.searches ≡ found → option_or found (cond (n == k) (Some added) None) ≡ Some r → k ≤ n
     by_given was r None none at = let same : n ≡ k = (Decides-eqb n k).0 (cond_some (n == k) added r at).0 in omega arith
     by_given was r (Some old) at same = let given : k ≤ t.opens = was r (at ∙ same) in omega arith
@@ -144,8 +149,10 @@ keeps-ending k gone t = by (gone == k) refl
   where
     left : gone ≡ k → (r : Running) → running_numbered k (filter (λ r. not (r.number == gone)) t.searches) ≡ Some r → ⊥
     left same r at = none_left k t.searches r (subst (λ (n : ℕ). running_numbered k (filter (λ r. not (r.number == n)) t.searches) ≡ Some r) same at)
+
     others : (gone == k) ≡ false → running_numbered k t.searches ≡ running_numbered k (filter (λ r. not (r.number == gone)) t.searches)
     others e = sym (others_left k gone t.searches (λ (same : gone ≡ k). false≢true (sym e ∙ (Decides-eqb gone k).1 same)))
+
     by : (b : Bool) → (gone == k) ≡ b → Keeps k (Some t) (Some (ending gone t))
     by true e =
         let same : gone ≡ k = (Decides-eqb gone k).0 e in

@@ -2,6 +2,7 @@
 use Rattle.std.specs.Prelude.{◌≡◌, ◌≢◌, ℕ, List, Some}
 use Rattle.std.specs.List.{AllZip, AllByRecursion}
 use Rattle.hall.specs.declared.faults.Fault.TheVariants.{Memory}
+use Rattle.hall.specs.declared.replies.Answer.{Answer}
 use Rattle.hall.specs.declared.replies.Answer.TheVariants.{Working}
 use Rattle.hall.specs.declared.replies.Reply.{Reply}
 use Rattle.hall.specs.declared.replies.Reply.TheVariants.{Answered, Refused}
@@ -9,11 +10,11 @@ use Rattle.hall.specs.Account.{Account, Moment, AllowedRun}
 use Rattle.hall.specs.State.{HallState, IsSound, account_of}
 use Rattle.hall.specs.Run.{Call, Run, trace, replies_to}
 
--- two replies to one request are equal, or one of them says that the search still works
+-- two replies to one request are equal, or both tell of a search and one of them says that it still works
 pub data Agree : Reply → Reply → Type 0 where
   same : {r : Reply} → Agree r r
-  first_works : {r : Reply} → Agree (Answered Working) r
-  second_works : {r : Reply} → Agree r (Answered Working)
+  first_works : {a : Answer} → Agree (Answered Working) (Answered a)
+  second_works : {a : Answer} → Agree (Answered a) (Answered Working)
 
 -- no request found that memory lacked
 abbrev pub HasMemory : List Reply → Type 0

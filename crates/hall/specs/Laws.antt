@@ -18,6 +18,10 @@ ServingKeepsSoundness = (old new : HallState) (name : List ℕ) (q : Request) (t
 abbrev pub DrivingKeepsSoundness : Type 0
 DrivingKeepsSoundness = (old new : HallState) (name : List ℕ) (k : ℕ) (told : Reply) → IsSound old → IsDriven old name k told new → IsSound new
 
+-- and so does a time in which searches settle
+abbrev pub SettlingKeepsSoundness : Type 0
+SettlingKeepsSoundness = (old new : HallState) → IsSound old → Settles old new → IsSound new
+
 -- a wait is a poll, before which searches may settle
 abbrev pub DrivingIsServing : Type 0
 DrivingIsServing = (old new : HallState) (name : List ℕ) (k : ℕ) (told : Reply) → IsSound old → IsDriven old name k told new → Settles old new × IsServed new name (Poll k) told new

@@ -1,6 +1,5 @@
 -- What a search may come to.
-use Rattle.std.specs.Prelude.{◌≡◌, ◌⊎◌, ℕ, List}
-use Rattle.names.specs.declared.roles.Role.{Role}
+use Rattle.std.specs.Prelude.{◌≡◌, ◌⊎◌, List}
 use Rattle.rt0_rules.specs.Membership.{IsMember}
 use Rattle.vaults.specs.Journal.{Vault, credentials}
 use Rattle.hall.specs.declared.queries.Query.{Query}

@@ -1,6 +1,6 @@
 ghost use Rattle.hall.specs.Agree.{TwoWorlds, TwoHalls};
 ghost use Rattle.hall.specs.Deeds.{DeedsAreAllowed, DeedsAreTimely};
-ghost use Rattle.hall.specs.Laws.{RunsAreAllowed, ServingKeepsSoundness, DrivingKeepsSoundness, DrivingIsServing};
+ghost use Rattle.hall.specs.Laws.{RunsAreAllowed, ServingKeepsSoundness, DrivingKeepsSoundness, SettlingKeepsSoundness, DrivingIsServing};
 
 /// Whatever else happens in two worlds: two allowed runs from one account over one trace give a tenant equal answers,
 /// place by place, where no reply lacked memory; that a search still works is no answer.
@@ -13,7 +13,8 @@ pub fn runs_are_allowed()
     ensures allowed { RunsAreAllowed }
     ensures served { ServingKeepsSoundness }
     ensures driven { DrivingKeepsSoundness }
-    ensures settling { DrivingIsServing }
+    ensures settled { SettlingKeepsSoundness }
+    ensures waited { DrivingIsServing }
 {}
 
 /// The law of two worlds for two halls and two lists of requests, whatever other tenants hold and do in them.

@@ -8,7 +8,7 @@ use std::marker::Model;
 /// Credentials, as a reply tells them.
 #[derive(Drop)]
 pub struct Rows {
-    items: Vec<Credential>,
+    credentials: Vec<Credential>,
 }
 
 impl Model for Rows {
@@ -17,36 +17,36 @@ impl Model for Rows {
 
     ghost Value = { List Credential };
 
-    ghost view = { λ r. r.items.items };
+    ghost view = { λ r. r.credentials.items };
 }
 
 impl Rows {
     /// The rows of a vector.
-    pub fn new(items: Vec<Credential>) -> Rows
-        ensures { result ≡ items.items }
+    pub fn new(credentials: Vec<Credential>) -> Rows
+        ensures { result ≡ credentials.items }
     {
-        Rows { items }
+        Rows { credentials }
     }
 
     /// The rows, in order.
     pub fn as_slice(&self) -> &[Credential]
         ensures { result.now ≡ self.now }
     {
-        &self.items
+        &self.credentials
     }
 
     /// The vector again.
     pub fn into_vec(self) -> Vec<Credential>
         ensures { result.items ≡ self }
     {
-        self.items
+        self.credentials
     }
 }
 
 /// Names of entities, as a reply tells them.
 #[derive(Drop)]
 pub struct Names {
-    items: Vec<Entity>,
+    names: Vec<Entity>,
 }
 
 impl Model for Names {
@@ -54,28 +54,28 @@ impl Model for Names {
 
     ghost Value = { List (List ℕ) };
 
-    ghost view = { λ n. n.items.items };
+    ghost view = { λ n. n.names.items };
 }
 
 impl Names {
     /// The names of a vector.
-    pub fn new(items: Vec<Entity>) -> Names
-        ensures { result ≡ items.items }
+    pub fn new(names: Vec<Entity>) -> Names
+        ensures { result ≡ names.items }
     {
-        Names { items }
+        Names { names }
     }
 
     /// The names, in order.
     pub fn as_slice(&self) -> &[Entity]
         ensures { result.now ≡ self.now }
     {
-        &self.items
+        &self.names
     }
 
     /// The vector again.
     pub fn into_vec(self) -> Vec<Entity>
         ensures { result.items ≡ self }
     {
-        self.items
+        self.names
     }
 }

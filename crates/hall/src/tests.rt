@@ -1,10 +1,114 @@
-use crate::{Fault, runs_are_allowed, two_halls, two_worlds};
+use crate::{Fault, Names, Rows, deeds_are_allowed, runs_are_allowed, two_halls, two_worlds};
+use credential_text::{Credential, Expr};
+use names::{Entity, Role};
+use quotas::QuotaFault;
+use std::alloc::Global;
+use std::test::Fail;
+use vaults::VaultFault;
+
+fn entity(name: &str) -> Result<Entity, Fail> {
+    Ok(Entity::read(name.as_bytes())?)
+}
+
+fn credential(head: &str, body: &str) -> Result<Credential, Fail> {
+    let body = Expr::Ent(entity(body)?);
+    Ok(Credential::make(Role::read(head.as_bytes())?, body).ok_or("no credential")?)
+}
+
+/// The names of two entities; want of memory is a fault of the hall.
+fn pair(alloc: Global, first: Entity, second: Entity) -> Result<Names, Fault> {
+    let mut entities = Vec::with_capacity(alloc, 1)?;
+    entities.push(first)?;
+    entities.push(second)?;
+    Ok(Names::new(entities))
+}
+
+/// Whether the fault has this text.
+fn reads_as(alloc: Global, fault: Fault, expected: &str) -> Result<bool, Fail> {
+    let text = format!(in alloc; "{fault}")?;
+    Ok(text.as_str() == expected)
+}
 
 #[test]
-fn numbers_and_laws(rt: HostRuntime) {
-    assert_eq!(rt; Fault::NotIssuer.number(), 31);
-    assert_eq!(rt; Fault::Memory.number(), 90);
+fn numbers_and_texts(rt: HostRuntime) -> Result<(), Fail> {
+    let table = [
+        (Fault::NotIssuer, 31, "not issuer"),
+        (Fault::AlreadyHeld, 32, "already held"),
+        (Fault::NotHeld, 33, "not held"),
+        (Fault::AlreadyGranted, 34, "already granted"),
+        (Fault::NotGranted, 35, "not granted"),
+        (Fault::GrantSelf, 36, "grant self"),
+        (Fault::Creds, 41, "creds limit"),
+        (Fault::Grants, 42, "grants limit"),
+        (Fault::Searches, 43, "searches limit"),
+        (Fault::Changes, 44, "changes limit"),
+        (Fault::Opens, 45, "opens limit"),
+        (Fault::NoSuchSearch, 51, "no such search"),
+        (Fault::NoTenant, 62, "bad hello"),
+        (Fault::Memory, 90, "memory"),
+    ];
+    for (fault, number, text) in table {
+        assert_eq!(rt; fault.number(), number);
+        assert!(rt; reads_as(rt.alloc(), fault, text)?, "at {number}");
+    }
+    Ok(())
+}
+
+#[test]
+fn faults_of_the_lower_layers(rt: HostRuntime) {
+    let vault = [
+        (VaultFault::NotIssuer, 31),
+        (VaultFault::AlreadyHeld, 32),
+        (VaultFault::NotHeld, 33),
+        (VaultFault::AlreadyGranted, 34),
+        (VaultFault::NotGranted, 35),
+        (VaultFault::GrantSelf, 36),
+        (VaultFault::Memory, 90),
+    ];
+    for (fault, number) in vault {
+        assert_eq!(rt; Fault::from(fault).number(), number);
+    }
+    let quota = [
+        (QuotaFault::Creds, 41),
+        (QuotaFault::Grants, 42),
+        (QuotaFault::Searches, 43),
+        (QuotaFault::Changes, 44),
+        (QuotaFault::Opens, 45),
+    ];
+    for (fault, number) in quota {
+        assert_eq!(rt; Fault::from(fault).number(), number);
+    }
+}
+
+#[test]
+fn rows_as_they_were_given(rt: HostRuntime) -> Result<(), Fail> {
+    let mut credentials = Vec::new(rt.alloc());
+    credentials.push(credential("A.s", "D")?)?;
+    credentials.push(credential("A.r", "E")?)?;
+    let rows = Rows::new(credentials);
+    assert_eq!(rt; rows.as_slice().len(), 2);
+    assert!(rt; rows.as_slice()[0].compare(&credential("A.s", "D")?).is_eq());
+    let credentials = rows.into_vec();
+    assert_eq!(rt; credentials.len(), 2);
+    assert!(rt; credentials[1].compare(&credential("A.r", "E")?).is_eq());
+    Ok(())
+}
+
+#[test]
+fn names_as_they_were_given(rt: HostRuntime) -> Result<(), Fail> {
+    let names = pair(rt.alloc(), entity("B")?, entity("A")?)?;
+    assert_eq!(rt; names.as_slice().len(), 2);
+    assert!(rt; names.as_slice()[0] == entity("B")?);
+    let entities = names.into_vec();
+    assert_eq!(rt; entities.len(), 2);
+    assert!(rt; entities[1] == entity("A")?);
+    Ok(())
+}
+
+#[test]
+fn each_law_once(_rt: HostRuntime) {
     two_worlds();
     runs_are_allowed();
     two_halls();
+    deeds_are_allowed();
 }
