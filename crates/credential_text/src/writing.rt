@@ -1,4 +1,4 @@
-ghost use Rattle.std.specs.Prelude.{◌≡◌, ◌++◌, OnOk, OnErr, IsTrue, length, take};
+ghost use Rattle.std.specs.Prelude.{◌≡◌, ◌≤◌, ◌++◌, OnOk, OnErr, IsTrue, length, take, vec_capacity};
 ghost use Rattle.std.specs.List.{list_all};
 ghost use Rattle.names.specs.Name.{IsName};
 ghost use Rattle.names.specs.Role.{role_text};
@@ -17,6 +17,7 @@ fn append_role(role: &Role, out: &mut Vec<u8>) -> Result<(), AllocError>
     ensures owner { OnOk result (IsName role.now.owner) }
     ensures name { OnOk result (IsName role.now.name) }
     ensures kept { take (length out.old.items) out.new.items ≡ out.old.items }
+    ensures capacity { vec_capacity out.old ≤ vec_capacity out.new }
 {
     out.extend_from_slice(role.owner.bytes())?;
     out.push(b'.')?;
@@ -27,6 +28,7 @@ fn append_part(part: &Part, out: &mut Vec<u8>) -> Result<(), AllocError>
     ensures written { OnOk result (out.new.items ≡ out.old.items ++ part_text part.now) }
     ensures names { OnOk result (IsTrue (has_names part.now)) }
     ensures kept { take (length out.old.items) out.new.items ≡ out.old.items }
+    ensures capacity { vec_capacity out.old ≤ vec_capacity out.new }
 {
     match part {
         Part::Ent(entity) => out.extend_from_slice(entity.bytes()),
@@ -43,6 +45,7 @@ fn append_parts(parts: &[Part], out: &mut Vec<u8>) -> Result<(), AllocError>
     ensures written { OnOk result (out.new.items ≡ out.old.items ++ parts_text parts.now) }
     ensures names { OnOk result (IsTrue (list_all has_names parts.now)) }
     ensures kept { take (length out.old.items) out.new.items ≡ out.old.items }
+    ensures capacity { vec_capacity out.old ≤ vec_capacity out.new }
 {
     let Some((first, others)) = parts.split_first() else {
         return Ok(());
@@ -60,6 +63,7 @@ fn append_expr(expr: &Expr, out: &mut Vec<u8>) -> Result<(), AllocError>
     ensures names { OnOk result (IsTrue (list_all has_names (expr_parts expr.now))) }
     ensures range { HasPartsInRange expr.now }
     ensures kept { take (length out.old.items) out.new.items ≡ out.old.items }
+    ensures capacity { vec_capacity out.old ≤ vec_capacity out.new }
 {
     match expr {
         Expr::Ent(entity) => append_part(&Part::Ent(*entity), out),
@@ -73,6 +77,7 @@ fn append_credential(credential: &Credential, out: &mut Vec<u8>) -> Result<(), A
     ensures written { OnOk result (out.new.items ≡ out.old.items ++ canonical credential.now) }
     ensures spells { OnOk result (Spells (canonical credential.now) credential.now) }
     ensures kept { take (length out.old.items) out.new.items ≡ out.old.items }
+    ensures capacity { vec_capacity out.old ≤ vec_capacity out.new }
 {
     append_role(&credential.head, out)?;
     out.extend_from_slice(b" <- ")?;
@@ -88,6 +93,7 @@ fn cut_back(
     ensures same { result ≡ written }
     ensures stays { OnOk written (out.new.items ≡ out.old.items) }
     ensures cut { OnErr written (out.new.items ≡ take held out.old.items) }
+    ensures capacity { vec_capacity out.old ≤ vec_capacity out.new }
 {
     if written.is_err() {
         out.truncate(held);
@@ -100,6 +106,7 @@ pub fn write_expr(expr: &Expr, out: &mut Vec<u8>) -> Result<(), AllocError>
     ensures written { OnOk result (out.new.items ≡ out.old.items ++ expr_text expr.now) }
     ensures names { OnOk result (IsTrue (list_all has_names (expr_parts expr.now)) × HasPartsInRange expr.now) }
     ensures kept { OnErr result (out.new.items ≡ out.old.items) }
+    ensures capacity { vec_capacity out.old ≤ vec_capacity out.new }
 {
     let held = out.len();
     let written = append_expr(expr, out);
@@ -112,6 +119,7 @@ pub fn write_credential(credential: &Credential, out: &mut Vec<u8>) -> Result<()
     ensures written { OnOk result (out.new.items ≡ out.old.items ++ canonical credential.now) }
     ensures spells { OnOk result (Spells (canonical credential.now) credential.now) }
     ensures kept { OnErr result (out.new.items ≡ out.old.items) }
+    ensures capacity { vec_capacity out.old ≤ vec_capacity out.new }
 {
     let held = out.len();
     let written = append_credential(credential, out);

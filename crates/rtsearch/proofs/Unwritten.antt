@@ -1,10 +1,10 @@
 -- What is said of a script that never began.
 use Rattle.std.proofs.Common.{ℕ, List, Option, Some, None, Err, IfSome}
 use Rattle.std.specs.Io.KnownBytes.{Appends}
-use Rattle.service.specs.Entry.{commands_of}
+use Rattle.service.specs.Commands.{commands_of}
 use Rattle.service.specs.Outcome.{ScriptWrote}
-use Rattle.service.specs.declared.scripts.ScriptFault.{ScriptFault}
-use Rattle.service.specs.declared.scripts.ScriptFault.TheVariants.{Memory}
+use Rattle.service.specs.declared.script_faults.ScriptFault.{ScriptFault}
+use Rattle.service.specs.declared.script_faults.ScriptFault.TheVariants.{Memory}
 use Rattle.service.proofs.ScriptLemmas.{Appends-nothing}
 
 -- want of memory, where nothing was written

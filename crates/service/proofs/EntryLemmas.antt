@@ -1,16 +1,53 @@
 -- Lemmas on what a line may become.
-use Rattle.std.proofs.Common.{◌≡◌, ℕ, true, false, List, refl}
-use Rattle.std.specs.Str.{bytes_eq}
-use Rattle.std.specs.List.{list_any, before_first}
+use Rattle.std.proofs.Common.{◌≡◌, ℕ, Bool, true, false, List, refl, sym, ap, subst, Option, Some, None, ◌∙◌}
+use Rattle.std.specs.Prelude.{MatchBool, option_map, is_some}
+use Rattle.std.specs.List.{list_any, before_first, after_first}
+use Rattle.hall.specs.State.{HallState, Tenant, is_tenant, tenant_named}
+use Rattle.hall.proofs.Named.{own_name}
 use Rattle.service.specs.declared.refusals.Refusal.TheVariants as refusal
-use Rattle.service.specs.Line.{text}
+use Rattle.service.specs.Line.{Line, text, too_long, not_ascii}
 use Rattle.service.specs.Words.{is_colon, after_spaces}
-use Rattle.service.specs.Entry.{nobody, IsEntry}
+use Rattle.service.specs.Command.{form_of}
+use Rattle.service.specs.Entry.{Entry, nobody, IsSaid, IsNamed, IsEntry}
 
 -- a line without a colon
-pub IsEntry-no_colon : (name line : List ℕ) → list_any is_colon (after_spaces line) ≡ false → IsEntry name (text line) (nobody refusal.Command)
-IsEntry-no_colon name line none = rw none refl
+pub IsEntry-no_colon : (h : HallState) (line : List ℕ) → list_any is_colon (after_spaces line) ≡ false → IsEntry h (text line) (nobody refusal.Command)
+IsEntry-no_colon h line none = rw none refl
 
--- a line of another than the tenant
-pub IsEntry-stranger : (name line : List ℕ) → list_any is_colon (after_spaces line) ≡ true → bytes_eq (before_first is_colon (after_spaces line)) name ≡ false → IsEntry name (text line) (nobody refusal.BadHello)
-IsEntry-stranger name line colon stranger = rw (colon, stranger) refl
+-- a line of another than the tenants
+pub IsEntry-stranger : (h : HallState) (line before : List ℕ) → list_any is_colon (after_spaces line) ≡ true → before ≡ before_first is_colon (after_spaces line) →
+    None ≡ option_map (λ t. t.name) (tenant_named before h.tenants) → IsEntry h (text line) (nobody refusal.BadHello)
+IsEntry-stranger h line before colon at none = rw (colon, sym at, unknown (tenant_named before h.tenants) refl none) refl
+  where
+    unknown : (o : Option Tenant) → tenant_named before h.tenants ≡ o → None ≡ option_map (λ t. t.name) o → is_tenant h before ≡ false
+    unknown None e none = ap is_some e
+    unknown (Some t) e none = cc
+
+-- a line of a tenant
+pub IsEntry-tenant : (h : HallState) (line before said who : List ℕ) (entry : Entry) → list_any is_colon (after_spaces line) ≡ true → before ≡ before_first is_colon (after_spaces line) →
+    said ≡ after_first is_colon (after_spaces line) → Some who ≡ option_map (λ t. t.name) (tenant_named before h.tenants) → IsSaid who (form_of said) entry → IsEntry h (text line) entry
+IsEntry-tenant h line before said who entry colon at rest found said_so =
+    rw (colon, sym at, sym rest) (by (tenant_named before h.tenants) refl found)
+  where
+    by : (o : Option Tenant) → tenant_named before h.tenants ≡ o → Some who ≡ option_map (λ t. t.name) o → IsNamed h before said entry
+    by None e found = cc
+    by (Some t) e found =
+        let named : is_tenant h before ≡ true = ap is_some e in
+        let same : who ≡ before = let own = own_name before h.tenants t e in cc in
+        rw named (subst (λ (name : List ℕ). IsSaid name (form_of said) entry) same said_so)
+
+-- the same tenants, the same entries
+pub IsEntry-same : (h g : HallState) (line : Line) (entry : Entry) → ((name : List ℕ) → is_tenant g name ≡ is_tenant h name) → IsEntry g line entry → IsEntry h line entry
+IsEntry-same h g too_long entry same is = is
+IsEntry-same h g not_ascii entry same is = is
+IsEntry-same h g (text t) entry same is = by (list_any is_colon (after_spaces t)) is
+  where
+    who : List ℕ
+    who = before_first is_colon (after_spaces t)
+
+    said : List ℕ
+    said = after_first is_colon (after_spaces t)
+
+    by : (b : Bool) → MatchBool b (IsNamed g who said entry) (entry ≡ nobody refusal.Command) → MatchBool b (IsNamed h who said entry) (entry ≡ nobody refusal.Command)
+    by true named = subst (λ (b : Bool). MatchBool b (IsSaid who (form_of said) entry) (entry ≡ nobody refusal.BadHello)) (same who) named
+    by false none = none

@@ -6,8 +6,10 @@ use Rattle.names.specs.Fault.{name_fault, role_fault, or_then}
 use Rattle.names.specs.Role.{SpellsRole}
 use Rattle.credential_text.specs.Spelling.{Spells}
 use Rattle.credential_text.specs.Refusal as credential
+use Rattle.vaults.specs.declared.changes.Change.TheVariants.{Upload, Withdraw, Grant, Revoke}
+use Rattle.hall.specs.declared.queries.Query.TheVariants.{Ask}
 use Rattle.service.specs.declared.commands.Command.{Command}
-use Rattle.service.specs.declared.commands.Command.TheVariants.{Put, Ask, Wait}
+use Rattle.service.specs.declared.commands.Command.TheVariants.{Alter, Seek, Poll, Wait, End, Vault, Sees}
 use Rattle.service.specs.declared.refusals.Refusal.{Refusal}
 use Rattle.service.specs.declared.refusals.Refusal.TheVariants as refusal
 use Rattle.service.specs.Words.{words, after_word, IsNumber}
@@ -15,39 +17,89 @@ use Rattle.service.specs.Words.{words, after_word, IsNumber}
 -- the form of a command, by its words
 pub data Form : Type 0 where
   put : List ℕ → Form
+  drop : List ℕ → Form
+  grant : List ℕ → Form
+  revoke : List ℕ → Form
   ask : List ℕ → List ℕ → Form
+  poll : List ℕ → Form
   wait : List ℕ → Form
+  end : List ℕ → Form
+  vault : Form
+  sees : Form
   unknown : Form
 
 -- a wrong number of words is no form
-abbrev pub ask_form : List (List ℕ) → Form
-ask_form (role ∷ who ∷ []) = ask role who
-ask_form _ = unknown
+abbrev pub with_none : Form → List (List ℕ) → Form
+with_none form [] = form
+with_none form _ = unknown
 
-abbrev pub wait_form : List (List ℕ) → Form
-wait_form (number ∷ []) = wait number
-wait_form _ = unknown
+abbrev pub with_one : (List ℕ → Form) → List (List ℕ) → Form
+with_one form (word ∷ []) = form word
+with_one form _ = unknown
 
--- the first word says which command it is; `put` takes the rest of the line
+abbrev pub with_two : (List ℕ → List ℕ → Form) → List (List ℕ) → Form
+with_two form (first ∷ second ∷ []) = form first second
+with_two form _ = unknown
+
+-- the first word says which command it is; `put` and `drop` take the rest of the line
 abbrev pub form_by_words : List (List ℕ) → List ℕ → Form
 form_by_words [] rest = unknown
 form_by_words (word ∷ args) rest =
     if bytes_eq word (codes "put") then put rest
-    else (if bytes_eq word (codes "ask") then ask_form args
-    else (if bytes_eq word (codes "wait") then wait_form args
-    else unknown))
+    else (if bytes_eq word (codes "drop") then drop rest
+    else (if bytes_eq word (codes "grant") then with_one grant args
+    else (if bytes_eq word (codes "revoke") then with_one revoke args
+    else (if bytes_eq word (codes "ask") then with_two ask args
+    else (if bytes_eq word (codes "poll") then with_one poll args
+    else (if bytes_eq word (codes "wait") then with_one wait args
+    else (if bytes_eq word (codes "end") then with_one end args
+    else (if bytes_eq word (codes "vault") then with_none vault args
+    else (if bytes_eq word (codes "sees") then with_none sees args
+    else unknown)))))))))
 
 abbrev pub form_of : List ℕ → Form
 form_of text = form_by_words (words text) (after_word text)
 
+-- why a text spells no credential; want of memory comes last
+abbrev pub RefusesCredential : List ℕ → Refusal → Type 0
+RefusesCredential text (refusal.Credential fault) = credential.refusal text ≡ Some fault
+RefusesCredential text refusal.Memory = credential.refusal text ≡ None
+RefusesCredential text _ = ⊥
+
+-- why a text is no name
+abbrev pub RefusesName : List ℕ → Refusal → Type 0
+RefusesName text (refusal.Name fault) = name_fault text ≡ Some fault
+RefusesName text _ = ⊥
+
+-- why two texts are no role and name: the first of their faults
+abbrev pub RefusesQuestion : List ℕ → List ℕ → Refusal → Type 0
+RefusesQuestion role who (refusal.Name fault) = or_then (role_fault role) (name_fault who) ≡ Some fault
+RefusesQuestion role who _ = ⊥
+
+-- a text that is no number makes no command
+abbrev pub RefusesNumber : List ℕ → Refusal → Type 0
+RefusesNumber text refusal.Command = (n : ℕ) → IsNumber text n → ⊥
+RefusesNumber text _ = ⊥
+
 -- the command that this form writes, or the first refusal from left to right; want of memory comes last
 abbrev pub Reads : Form → Result Command Refusal → Type 0
-Reads (put text) (Ok (Put c)) = Spells text c
-Reads (put text) (Err (refusal.Credential fault)) = credential.refusal text ≡ Some fault
-Reads (put text) (Err refusal.Memory) = credential.refusal text ≡ None
-Reads (ask role who) (Ok (Ask r d)) = SpellsRole role r × IsName who × (d ≡ who)
-Reads (ask role who) (Err (refusal.Name fault)) = or_then (role_fault role) (name_fault who) ≡ Some fault
+Reads (put text) (Ok (Alter (Upload c))) = Spells text c
+Reads (put text) (Err why) = RefusesCredential text why
+Reads (drop text) (Ok (Alter (Withdraw c))) = Spells text c
+Reads (drop text) (Err why) = RefusesCredential text why
+Reads (grant name) (Ok (Alter (Grant reader))) = IsName name × (reader ≡ name)
+Reads (grant name) (Err why) = RefusesName name why
+Reads (revoke name) (Ok (Alter (Revoke reader))) = IsName name × (reader ≡ name)
+Reads (revoke name) (Err why) = RefusesName name why
+Reads (ask role who) (Ok (Seek (Ask r d))) = SpellsRole role r × IsName who × (d ≡ who)
+Reads (ask role who) (Err why) = RefusesQuestion role who why
+Reads (poll number) (Ok (Poll n)) = IsNumber number n
+Reads (poll number) (Err why) = RefusesNumber number why
 Reads (wait number) (Ok (Wait n)) = IsNumber number n
-Reads (wait number) (Err refusal.Command) = (n : ℕ) → IsNumber number n → ⊥
+Reads (wait number) (Err why) = RefusesNumber number why
+Reads (end number) (Ok (End n)) = IsNumber number n
+Reads (end number) (Err why) = RefusesNumber number why
+Reads vault (Ok Vault) = Unit {0}
+Reads sees (Ok Sees) = Unit {0}
 Reads unknown (Err refusal.Command) = Unit {0}
 Reads _ _ = ⊥

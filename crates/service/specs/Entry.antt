@@ -1,26 +1,18 @@
 -- What a line of a script is answered, by its text alone.
-use Rattle.std.specs.Prelude.{◌≡◌, ℕ, Bool, false, not, List, filter, Ok, Err, MatchBool, codes}
-use Rattle.std.specs.List.{list_all, list_any, before_first, after_first}
-use Rattle.std.specs.Str.{bytes_eq}
+use Rattle.std.specs.Prelude.{◌≡◌, ℕ, List, [], ◌∷◌, Ok, Err, MatchBool, codes}
+use Rattle.std.specs.List.{list_any, before_first, after_first, flat_map}
+use Rattle.hall.specs.declared.requests.Request.TheVariants as request
+use Rattle.hall.specs.declared.replies.Reply.{Reply}
+use Rattle.hall.specs.State.{HallState, is_tenant}
+use Rattle.hall.specs.Deeds.{Deed, asks, waits, Told}
 use Rattle.service.specs.declared.commands.Command.{Command}
-use Rattle.service.specs.declared.replies.Reply.{Reply}
-use Rattle.service.specs.declared.replies.Reply.TheVariants.{Refused}
+use Rattle.service.specs.declared.commands.Command.TheVariants.{Alter, Seek, Poll, Wait, End, Vault, Sees}
 use Rattle.service.specs.declared.refusals.Refusal.{Refusal}
 use Rattle.service.specs.declared.refusals.Refusal.TheVariants as refusal
-use Rattle.service.specs.Line.{Line, text, too_long, not_ascii, lines_of}
-use Rattle.service.specs.Words.{is_space, is_colon, after_spaces}
+use Rattle.service.specs.Line.{Line, text, too_long, not_ascii}
+use Rattle.service.specs.Words.{is_colon, after_spaces}
 use Rattle.service.specs.Command.{Form, form_of, Reads}
-use Rattle.service.specs.Reply.{reply_line}
-
--- a line of nothing but spaces
-abbrev pub is_blank : Line → Bool
-is_blank (text t) = list_all is_space t
-is_blank too_long = false
-is_blank not_ascii = false
-
--- the lines that are answered
-abbrev pub commands_of : List ℕ → List Line
-commands_of input = filter (λ line. not (is_blank line)) (lines_of input)
+use Rattle.service.specs.Reply.{refusal_line, reply_lines}
 
 -- what became of a line: it was refused by its text alone, to nobody or to the tenant, or carried out
 pub data Entry : Type 0 where
@@ -28,11 +20,11 @@ pub data Entry : Type 0 where
   refused : List ℕ → Refusal → Entry
   served : List ℕ → Command → Reply → Entry
 
--- the reply line
+-- the lines that answer it
 abbrev pub entry_text : Entry → List ℕ
-entry_text (nobody why) = reply_line (codes "?") (Refused why)
-entry_text (refused who why) = reply_line who (Refused why)
-entry_text (served who command reply) = reply_line who reply
+entry_text (nobody why) = refusal_line (codes "?") why
+entry_text (refused who why) = refusal_line who why
+entry_text (served who command reply) = reply_lines who reply
 
 -- what the tenant's command may become
 abbrev pub IsSaid : List ℕ → Form → Entry → Type 0
@@ -40,14 +32,38 @@ IsSaid name form (nobody why) = ⊥
 IsSaid name form (refused who why) = (who ≡ name) × Reads form (Err why)
 IsSaid name form (served who command reply) = (who ≡ name) × Reads form (Ok command)
 
+-- what a command may become, by the name before it
+abbrev pub IsNamed : HallState → List ℕ → List ℕ → Entry → Type 0
+IsNamed hall who said entry = MatchBool (is_tenant hall who) (IsSaid who (form_of said) entry) (entry ≡ nobody refusal.BadHello)
+
 -- what a line `NAME: COMMAND`, without the spaces in front, may become
-abbrev pub IsSpoken : List ℕ → List ℕ → Entry → Type 0
-IsSpoken name line entry = MatchBool (list_any is_colon line)
-    (MatchBool (bytes_eq (before_first is_colon line) name) (IsSaid name (form_of (after_first is_colon line)) entry) (entry ≡ nobody refusal.BadHello))
+abbrev pub IsSpoken : HallState → List ℕ → Entry → Type 0
+IsSpoken hall line entry = MatchBool (list_any is_colon line)
+    (IsNamed hall (before_first is_colon line) (after_first is_colon line) entry)
     (entry ≡ nobody refusal.Command)
 
--- what a line may become where there is one tenant, of this name
-abbrev pub IsEntry : List ℕ → Line → Entry → Type 0
-IsEntry name too_long entry = entry ≡ nobody refusal.LineLong
-IsEntry name not_ascii entry = entry ≡ nobody refusal.NotAscii
-IsEntry name (text t) entry = IsSpoken name (after_spaces t) entry
+-- what a line may become where these are the tenants
+abbrev pub IsEntry : HallState → Line → Entry → Type 0
+IsEntry hall too_long entry = entry ≡ nobody refusal.LineLong
+IsEntry hall not_ascii entry = entry ≡ nobody refusal.NotAscii
+IsEntry hall (text t) entry = IsSpoken hall (after_spaces t) entry
+
+-- what a command asks of the hall
+abbrev pub deed_of : Command → Deed
+deed_of (Alter change) = asks (request.Alter change)
+deed_of (Seek query) = asks (request.Seek query)
+deed_of (Poll number) = asks (request.Poll number)
+deed_of (Wait number) = waits number
+deed_of (End number) = asks (request.Close number)
+deed_of Vault = asks request.Vault
+deed_of Sees = asks request.Sees
+
+-- what was carried out
+abbrev pub deed_in : Entry → List Told
+deed_in (nobody why) = []
+deed_in (refused who why) = []
+deed_in (served who command reply) = record { tenant = who; deed = deed_of command; reply = reply } ∷ []
+
+-- the deeds of these entries, in order: what was refused by its text alone is none
+abbrev pub deeds_in : List Entry → List Told
+deeds_in entries = flat_map deed_in entries

@@ -1,22 +1,24 @@
 -- What of a script's replies went out.
-use Rattle.std.specs.Prelude.{◌≡◌, ◌⊎◌, ℕ, ◌<◌, List, [], ◌∷◌, ◌++◌, length, Result, Ok, Err, codes}
-use Rattle.service.specs.declared.scripts.ScriptFault.{ScriptFault}
-use Rattle.service.specs.declared.scripts.ScriptFault.TheVariants.{Roster, Read, Write, Memory}
+use Rattle.std.specs.Prelude.{◌≡◌, ◌⊎◌, ℕ, ◌<◌, List, [], ◌∷◌, ◌++◌, length, map, Result, Ok, Err, codes}
+use Rattle.hall.specs.State.{HallState}
+use Rattle.hall.specs.Calls.{new_hall}
+use Rattle.service.specs.declared.script_faults.ScriptFault.{ScriptFault}
+use Rattle.service.specs.declared.script_faults.ScriptFault.TheVariants.{Roster, Read, Write, Memory}
 use Rattle.service.specs.Line.{Line}
-use Rattle.service.specs.Account.{Account, fresh}
-use Rattle.service.specs.Entry.{Entry, entry_text, IsEntry}
-use Rattle.service.specs.Transcript.{IsTranscript, Advances}
-use Rattle.service.specs.Roster.{HasRoster, HasNoRoster}
+use Rattle.service.specs.Entry.{Entry, entry_text}
+use Rattle.service.specs.Transcript.{IsTranscript}
+use Rattle.service.specs.Roster.{Row, tenant_of, HasRoster, HasNoRoster}
 
 -- the replies to all these commands went out
-pub record WroteAll (old : Account) (commands : List Line) (went_out : List ℕ → Type 0) : Type 0 where
-  pub new : Account
+pub record WroteAll (old : HallState) (commands : List Line) (went_out : List ℕ → Type 0) : Type 0 where
+  pub entries : List Entry
   pub output : List ℕ
-  pub transcript : IsTranscript old commands output new
+  pub new : HallState
+  pub transcript : IsTranscript old commands entries output new
   pub out : went_out output
 
 -- the replies to the first of them did
-pub record WroteSome (old : Account) (commands : List Line) (went_out : List ℕ → Type 0) : Type 0 where
+pub record WroteSome (old : HallState) (commands : List Line) (went_out : List ℕ → Type 0) : Type 0 where
   pub done : List Line
   pub rest : List Line
   pub split : commands ≡ done ++ rest
@@ -31,22 +33,20 @@ pub record WroteFront (output reply : List ℕ) (went_out : List ℕ → Type 0)
   pub out : went_out (output ++ front)
 
 -- the replies to the first of them did, and a front of the next one, whose command was carried out
-pub record WrotePart (old : Account) (commands : List Line) (went_out : List ℕ → Type 0) : Type 0 where
+pub record WrotePart (old : HallState) (commands : List Line) (went_out : List ℕ → Type 0) : Type 0 where
   pub done : List Line
   pub line : Line
   pub rest : List Line
   pub split : commands ≡ done ++ line ∷ rest
-  pub mid : Account
-  pub output : List ℕ
-  pub transcript : IsTranscript old done output mid
-  pub new : Account
+  pub entries : List Entry
   pub entry : Entry
-  pub allowed : IsEntry old.name line entry
-  pub carried : Advances mid entry new
+  pub output : List ℕ
+  pub new : HallState
+  pub transcript : IsTranscript old (done ++ line ∷ []) (entries ++ entry ∷ []) (output ++ entry_text entry) new
   pub front : WroteFront output (entry_text entry) went_out
 
 -- what went out to these commands, by how the script ended
-abbrev pub Wrote : Account → List Line → Result (Unit {0}) ScriptFault → (List ℕ → Type 0) → Type 0
+abbrev pub Wrote : HallState → List Line → Result (Unit {0}) ScriptFault → (List ℕ → Type 0) → Type 0
 Wrote old commands (Ok _) went_out = WroteAll old commands went_out
 Wrote old commands (Err Read) went_out = WroteSome old commands went_out
 Wrote old commands (Err Write) went_out = WrotePart old commands went_out
@@ -57,12 +57,12 @@ Wrote old commands (Err Memory) went_out = ⊥
 abbrev pub roster_refusal : List ℕ
 roster_refusal = codes "?: error 63 roster" ++ 10 ∷ []
 
--- the lines begin with a roster of one tenant, and its commands were answered
+-- the lines begin with a roster, and the commands of its tenants were answered
 pub record Answers (lines : List Line) (result : Result (Unit {0}) ScriptFault) (went_out : List ℕ → Type 0) : Type 0 where
-  pub name : List ℕ
+  pub rows : List Row
   pub commands : List Line
-  pub roster : HasRoster lines name commands
-  pub wrote : Wrote (fresh name) commands result went_out
+  pub roster : HasRoster lines rows commands
+  pub wrote : Wrote (new_hall (map tenant_of rows)) commands result went_out
 
 -- What went out of a script, by its lines that are not blank. Want of memory comes before anything is written.
 abbrev pub ScriptWrote : List Line → Result (Unit {0}) ScriptFault → (List ℕ → Type 0) → Type 0

@@ -3,14 +3,11 @@ use Rattle.std.specs.Prelude.{ℕ}
 use Rattle.names.specs.Fault.{name_fault_number}
 use Rattle.credential_text.specs.Fault.{cred_fault_number}
 use Rattle.service.specs.declared.refusals.Refusal.{Refusal}
-use Rattle.service.specs.declared.refusals.Refusal.TheVariants.{Name, Credential, NotIssuer, AlreadyHeld, NoSuchSearch, BadHello, Command, LineLong, NotAscii, Memory}
+use Rattle.service.specs.declared.refusals.Refusal.TheVariants.{Name, Credential, BadHello, Command, LineLong, NotAscii, Memory}
 
 abbrev pub refusal_number : Refusal → ℕ
 refusal_number (Name fault) = name_fault_number fault
 refusal_number (Credential fault) = cred_fault_number fault
-refusal_number NotIssuer = 31
-refusal_number AlreadyHeld = 32
-refusal_number NoSuchSearch = 51
 refusal_number BadHello = 62
 refusal_number Command = 64
 refusal_number LineLong = 65

@@ -1,23 +1,65 @@
--- The texts of the replies.
-use Rattle.std.specs.Prelude.{ℕ, List, [], ◌∷◌, ◌++◌, codes}
+-- The lines of the replies.
+use Rattle.std.specs.Prelude.{◌≡◌, ◌⊎◌, ℕ, List, [], ◌∷◌, ◌++◌, length, map, codes}
+use Rattle.std.specs.List.{flat_map}
 use Rattle.std.specs.Fmt.{decimal}
+use Rattle.credential_text.specs.Spelling.{canonical}
+use Rattle.hall.specs.declared.faults.Fault.TheVariants.{Memory}
+use Rattle.hall.specs.declared.replies.Answer.{Answer}
+use Rattle.hall.specs.declared.replies.Answer.TheVariants.{Working, Yes, No}
+use Rattle.hall.specs.declared.replies.Reply.{Reply}
+use Rattle.hall.specs.declared.replies.Reply.TheVariants.{Counted, Opened, Answered, Closed, Vault, Sees, Refused}
+use Rattle.hall.specs.Fault.{fault_number}
 use Rattle.service.specs.declared.refusals.Refusal.{Refusal}
-use Rattle.service.specs.declared.replies.Reply.{Reply}
-use Rattle.service.specs.declared.replies.Reply.TheVariants.{Counted, Opened, Yes, No, Refused}
 use Rattle.service.specs.FaultTexts.{text_of}
 use Rattle.service.specs.Refusal.{refusal_number}
 
--- a refusal shows its number and its text
-abbrev pub refusal_text : Refusal → List ℕ
-refusal_text refusal = codes "error " ++ decimal (refusal_number refusal) ++ codes " " ++ text_of (refusal_number refusal)
+-- a line to somebody: the name, a colon, a space, the text, and a newline
+abbrev pub line_to : List ℕ → List ℕ → List ℕ
+line_to who text = who ++ codes ": " ++ text ++ 10 ∷ []
 
-abbrev pub reply_text : Reply → List ℕ
-reply_text (Counted n) = codes "ok " ++ decimal n
-reply_text (Opened n) = codes "search " ++ decimal n
-reply_text Yes = codes "yes"
-reply_text No = codes "no"
-reply_text (Refused refusal) = refusal_text refusal
+-- a refusal shows its number and the text of that
+abbrev pub error_text : ℕ → List ℕ
+error_text number = codes "error " ++ decimal number ++ codes " " ++ text_of number
 
--- the line that answers a name: the name, a colon, a space, the reply, and a newline
-abbrev pub reply_line : List ℕ → Reply → List ℕ
-reply_line who reply = who ++ codes ": " ++ reply_text reply ++ 10 ∷ []
+-- the line that refuses a text
+abbrev pub refusal_line : List ℕ → Refusal → List ℕ
+refusal_line who why = line_to who (error_text (refusal_number why))
+
+abbrev pub answer_text : Answer → List ℕ
+answer_text Working = codes "working"
+answer_text Yes = codes "yes"
+answer_text No = codes "no"
+
+-- each name with a space before it
+abbrev pub listed : List (List ℕ) → List ℕ
+listed names = flat_map (λ name. 32 ∷ name) names
+
+-- the texts of a reply, each of which is a line: a vault has one line for each credential, after their number
+abbrev pub reply_texts : Reply → List (List ℕ)
+reply_texts (Counted n) = (codes "ok " ++ decimal n) ∷ []
+reply_texts (Opened n) = (codes "search " ++ decimal n) ∷ []
+reply_texts (Answered answer) = answer_text answer ∷ []
+reply_texts Closed = codes "ended" ∷ []
+reply_texts (Vault rows) = (codes "vault " ++ decimal (length rows)) ∷ map canonical rows
+reply_texts (Sees names) = (codes "sees" ++ listed names) ∷ []
+reply_texts (Refused fault) = error_text (fault_number fault) ∷ []
+
+-- the lines of a reply, one after another
+abbrev pub reply_lines : List ℕ → Reply → List ℕ
+reply_lines who reply = flat_map (line_to who) (reply_texts reply)
+
+-- a reply that may need more room than there is
+abbrev pub IsLong : Reply → Type 0
+IsLong (Vault rows) = Unit {0}
+IsLong (Sees names) = Unit {0}
+IsLong _ = ⊥
+
+-- the reply that was printed: this one, or that memory lacked for a long one
+abbrev pub IsPrinted : Reply → Reply → Type 0
+IsPrinted reply told = (told ≡ reply) ⊎ (IsLong reply × (told ≡ Refused Memory))
+
+-- the bytes are the lines of the reply that was printed
+pub record IsFilled (who : List ℕ) (reply : Reply) (bytes : List ℕ) : Type 0 where
+  pub told : Reply
+  pub printed : IsPrinted reply told
+  pub lines : bytes ≡ reply_lines who told

@@ -1,61 +1,79 @@
--- The roster that a script begins with.
-use Rattle.std.specs.Prelude.{◌≡◌, ◌≢◌, ⊤, ℕ, ◌≤◌, List, [], ◌∷◌, length, true, false, codes}
-use Rattle.std.specs.List.{list_all}
+-- The roster that an input begins with.
+use Rattle.std.specs.Prelude.{◌≡◌, ◌⊎◌, ℕ, ◌<◌, ◌≤◌, List, [], ◌∷◌, length, map, codes, Any}
+use Rattle.std.specs.List.{AllZip, IsDistinct}
 use Rattle.names.specs.Name.{IsName}
-use Rattle.service.specs.declared.rosters.RosterLine.{RosterLine}
-use Rattle.service.specs.declared.rosters.RosterLine.TheVariants.{Blank, Tenant, Begin, Other, Fault}
-use Rattle.service.specs.Line.{Line, text}
-use Rattle.service.specs.Words.{words, is_space}
+use Rattle.credential_text.specs.Part.{is_same}
+use Rattle.quotas.specs.Quota.{Quota, IsQuota, usual_quota}
+use Rattle.service.specs.Line.{Line, text, too_long, not_ascii}
+use Rattle.service.specs.Words.{words, IsNumber}
 
--- `NAME WORD`, where the word has at most 64 bytes
-pub record IsTenant (args : List (List ℕ)) (name : List ℕ) : Type 0 where
+-- one tenant of a roster: its name, its word and its limits
+pub record Row : Type 0 where
+  pub name : List ℕ
   pub word : List ℕ
-  pub are : args ≡ name ∷ word ∷ []
-  pub is_name : IsName name
-  pub short : length word ≤ 64
+  pub limits : Quota
+
+-- the limits as numbers, in the order of a roster's line
+abbrev pub numbers_of : Quota → List ℕ
+numbers_of q = q.creds ∷ q.grants ∷ q.searches ∷ q.changes ∷ q.opens ∷ q.work ∷ []
+
+-- six words are these limits, each in its range
+pub record AreLimits (ws : List (List ℕ)) (q : Quota) : Type 0 where
+  pub numbers : AllZip IsNumber ws (numbers_of q)
+  pub range : IsQuota q
+
+-- no words are the usual limits
+abbrev pub IsLimits : List (List ℕ) → Quota → Type 0
+IsLimits ws q = ((ws ≡ []) × (q ≡ usual_quota)) ⊎ AreLimits ws q
+
+-- `NAME WORD`, where the word has at most 64 bytes, and then the limits
+pub record IsRow (args : List (List ℕ)) (row : Row) : Type 0 where
+  pub numbers : List (List ℕ)
+  pub are : args ≡ row.name ∷ row.word ∷ numbers
+  pub is_name : IsName row.name
+  pub short : length row.word ≤ 64
+  pub limits : IsLimits numbers row.limits
 
 -- `tenant`, then those
-pub record IsTenantLine (line name : List ℕ) : Type 0 where
+pub record IsRowLine (line : List ℕ) (row : Row) : Type 0 where
   pub args : List (List ℕ)
   pub by_words : words line ≡ codes "tenant" ∷ args
-  pub tenant : IsTenant args name
+  pub is_row : IsRow args row
 
 -- `begin`
 abbrev pub IsBeginLine : List ℕ → Type 0
 IsBeginLine line = words line ≡ codes "begin" ∷ []
 
--- the lines begin with a roster of this one tenant, and these commands follow it
-pub record HasRoster (lines : List Line) (name : List ℕ) (commands : List Line) : Type 0 where
-  pub first : List ℕ
-  pub second : List ℕ
-  pub begins : lines ≡ text first ∷ text second ∷ commands
-  pub tenant : IsTenantLine first name
-  pub begin : IsBeginLine second
+-- the lines are those of the rows, one each, then `begin`, and these follow
+abbrev pub HasRows : List Line → List Row → List Line → Type 0
+HasRows [] rows rest = ⊥
+HasRows (too_long ∷ lines) rows rest = ⊥
+HasRows (not_ascii ∷ lines) rows rest = ⊥
+HasRows (text line ∷ lines) [] rest = IsBeginLine line × (lines ≡ rest)
+HasRows (text line ∷ lines) (row ∷ rows) rest = IsRowLine line row × HasRows lines rows rest
+
+-- the names of the tenants
+abbrev pub names_of : List Row → List (List ℕ)
+names_of rows = map (λ row. row.name) rows
+
+-- a roster has 1 to 1,000 tenants, each name once
+pub record IsRoster (rows : List Row) : Type 0 where
+  pub distinct : IsDistinct is_same (names_of rows)
+  pub some : 0 < length rows
+  pub most : length rows ≤ 1000
+
+-- the lines begin with a roster of these rows, and these follow it
+pub record HasRoster (lines : List Line) (rows : List Row) (rest : List Line) : Type 0 where
+  pub one_each : HasRows lines rows rest
+  pub roster : IsRoster rows
 
 abbrev pub HasNoRoster : List Line → Type 0
-HasNoRoster lines = (name : List ℕ) (commands : List Line) → HasRoster lines name commands → ⊥
+HasNoRoster lines = (rows : List Row) (rest : List Line) → HasRoster lines rows rest → ⊥
 
--- what a text of a roster was taken for
-abbrev pub IsTakenFor : List ℕ → RosterLine → Type 0
-IsTakenFor line Blank = list_all is_space line ≡ true
-IsTakenFor line (Tenant name) = (list_all is_space line ≡ false) × IsTenantLine line name
-IsTakenFor line Begin = (list_all is_space line ≡ false) × IsBeginLine line
-IsTakenFor line Other = (list_all is_space line ≡ false) × ((name : List ℕ) → IsTenantLine line name → ⊥) × (IsBeginLine line → ⊥)
-IsTakenFor line Fault = ⊥
+-- a tenant's name and its limits
+abbrev pub tenant_of : Row → List ℕ × Quota
+tenant_of row = (row.name, row.limits)
 
--- what a line was taken for by the words after `begin`
-abbrev pub IsBeginRest : List (List ℕ) → RosterLine → Type 0
-IsBeginRest args Begin = args ≡ []
-IsBeginRest args Other = args ≢ []
-IsBeginRest args _ = ⊥
-
--- what a line was taken for by the words after `tenant`
-abbrev pub IsTenantRest : List (List ℕ) → RosterLine → Type 0
-IsTenantRest args (Tenant name) = IsTenant args name
-IsTenantRest args Other = (name : List ℕ) → IsTenant args name → ⊥
-IsTenantRest args _ = ⊥
-
--- the lines begin with another line than those of a roster, or there is none
-abbrev pub StartsOtherwise : List Line → Type 0
-StartsOtherwise (text line ∷ lines) = ((name : List ℕ) → IsTenantLine line name → ⊥) × (IsBeginLine line → ⊥)
-StartsOtherwise _ = ⊤
+-- some tenant has this name and this word
+abbrev pub IsTenant : List Row → List ℕ → List ℕ → Type 0
+IsTenant rows name word = Any (λ row. (row.name ≡ name) × (row.word ≡ word)) rows

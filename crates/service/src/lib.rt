@@ -1,6 +1,7 @@
-//! The service over bytes: lines that come in, commands, and replies that go out.
+//! The service over bytes: lines that come in, commands of many tenants, and replies that go out.
 #![tactic(auto)]
 
+mod answers;
 mod arguments;
 mod commands;
 mod digits;
@@ -9,16 +10,21 @@ mod fakes;
 mod fault_texts;
 mod lines;
 mod refusals;
-mod replies;
+mod registry;
 mod reply_lines;
+mod roster_lines;
 mod rosters;
+mod script_faults;
 mod scripts;
 mod searches;
-mod tenants;
+mod seats;
+mod views;
 mod words;
 mod writing;
 
 pub use fault_texts::fault_text;
 pub use lines::limit::MOST_READS;
 pub use lines::{LINE_ROOM, LineReader, NextLine};
-pub use scripts::{ScriptFault, run_script};
+pub use rosters::Roster;
+pub use script_faults::ScriptFault;
+pub use scripts::run_script;

@@ -1,123 +1,122 @@
-//! The roster that a script begins with.
-ghost use Rattle.std.specs.Prelude.{◌≢◌};
-ghost use Rattle.service.specs.declared.rosters.RosterLine.TheVariants as roster_line;
-ghost use Rattle.service.specs.Words.{words};
-ghost use Rattle.service.specs.Roster.{IsTakenFor, IsBeginRest, IsTenantRest};
-ghost use Rattle.service.specs.Known.{IfKnown, FindsLine, ReadsRoster};
+//! Rosters: the tenants that an input begins with.
+ghost use Rattle.std.specs.Prelude.{◌≡◌, ◌≢◌, ◌↔◌, map, true, IsTrue, IfOk, IfErr};
+ghost use Rattle.std.specs.List.{list_any};
+ghost use Rattle.credential_text.specs.Part.{is_same};
+ghost use Rattle.hall.specs.Calls.{new_hall};
+ghost use Rattle.hall.specs.State.{AreDistinct};
+ghost use Rattle.service.specs.declared.script_faults.ScriptFault.TheVariants as fault;
+ghost use Rattle.service.specs.Roster.{IsTenant, IsRoster, tenant_of};
+ghost use Rattle.service.specs.RosterReading.{FindsLine, AddsRow, ReadsRoster};
+ghost use Rattle.service.specs.Taking.{IfKnown};
 
-use crate::arguments::{Arguments, split_words};
 use crate::lines::{LineReader, NextLine};
-use crate::words::{is_blank, next_word};
+use crate::roster_lines::{RosterLine, Row, roster_line};
+use crate::script_faults::ScriptFault;
 use names::Entity;
+use quotas::Limits;
+use std::alloc::{AllocError, Global};
 use std::io::Read;
+use std::marker::Model;
 
-/// The most bytes of a tenant's word.
-const MOST_WORD: usize = 64;
+/// The most tenants of a roster.
+const MOST_TENANTS: usize = 1_000;
 
-/// What a line of a roster is.
-#[derive(Clone, Copy)]
-enum RosterLine {
-    Blank,
-    Tenant(Entity),
-    Begin,
-    /// No line of a roster, or the end.
-    Other,
-    /// The reader failed.
-    Fault,
+/// Who may speak: 1 to 1,000 tenants, each with a name of its own, a word and its limits.
+#[derive(Drop)]
+pub struct Roster {
+    rows: Vec<Row>,
 }
 
-/// Why no roster was read.
-pub(crate) enum RosterFault {
-    /// The lines begin with no roster.
-    Wrong,
-    /// The reader failed.
-    Read,
+impl Model for Roster {
+    ghost use Rattle.std.specs.Prelude.{List};
+    ghost use Rattle.service.specs.Roster as roster;
+
+    ghost Value = { List roster.Row };
+
+    ghost view = { λ r. r.rows.items };
+
+    ghost invariant = { λ r. roster.IsRoster r.rows.items };
 }
 
-/// The tenant of a roster of one tenant. A wrong line is answered at once: what follows it isn't read.
-pub(crate) fn read_roster<R: Read + Drop>(lines: &mut LineReader<R>) -> Result<Entity, RosterFault>
-    ensures { IfKnown lines.old (λ commands. ReadsRoster commands result lines.new) }
-{
-    let name = match next_roster_line(lines) {
-        RosterLine::Tenant(name) => name,
-        RosterLine::Fault => return Err(RosterFault::Read),
-        _ => return Err(RosterFault::Wrong),
-    };
-    match next_roster_line(lines) {
-        RosterLine::Begin => Ok(name),
-        RosterLine::Fault => Err(RosterFault::Read),
-        _ => Err(RosterFault::Wrong),
-    }
-}
-
-/// The first line that isn't blank.
-fn next_roster_line<R: Read + Drop>(lines: &mut LineReader<R>) -> RosterLine
-    ensures line { IfKnown lines.old (λ commands. FindsLine commands result lines.new) }
-    ensures found { result ≢ roster_line.Blank }
-{
-    for _ in 0..u64::MAX {
-        match read_line(lines) {
-            RosterLine::Blank => {}
-            line => return line,
+impl Roster {
+    /// The roster that the lines begin with, one tenant a line, up to the line `begin`. A faulty line is answered at
+    /// once: what follows it isn't read.
+    pub fn read<R: Read + Drop>(
+        alloc: Global,
+        lines: &mut LineReader<R>,
+    ) -> Result<Roster, ScriptFault>
+        ensures roster { IfKnown lines.old (λ commands. ReadsRoster commands result lines.new) }
+        ensures reads_alone { IfErr result (λ why. why ≢ fault.Write) }
+    {
+        let mut rows = Vec::new(alloc);
+        for _ in 0..u64::MAX {
+            match read_line(alloc, lines)? {
+                RosterLine::Blank => {}
+                RosterLine::Tenant(row) => add_row(&mut rows, row)?,
+                RosterLine::Begin if rows.is_empty() => return Err(ScriptFault::Roster),
+                RosterLine::Begin => return Ok(Roster { rows }),
+            }
         }
+        Err(ScriptFault::Read)
     }
-    RosterLine::Fault
+
+    /// Whether a tenant has this name and this word.
+    pub fn check(&self, name: &[u8], word: &[u8]) -> bool
+        ensures { IsTrue result ↔ IsTenant self.now name.now word.now }
+    {
+        self.rows.iter().any(|row| row.name.bytes() == name && row.word.as_slice() == word)
+    }
+
+    /// The tenants' names and limits, in order.
+    pub fn tenants(&self, alloc: Global) -> Result<Vec<(Entity, Limits)>, AllocError>
+        ensures items { IfOk result (λ tenants. tenants.items ≡ map tenant_of self.now) }
+        ensures distinct { AreDistinct (new_hall (map tenant_of self.now)).tenants }
+    {
+        let mut tenants = Vec::new(alloc);
+        for row in &self.rows {
+            tenants.push((row.name, row.limits))?;
+        }
+        Ok(tenants)
+    }
 }
 
 /// One line.
-fn read_line<R: Read + Drop>(lines: &mut LineReader<R>) -> RosterLine
-    ensures { IfKnown lines.old (λ commands. FindsLine commands result lines.new) }
+fn read_line<R: Read + Drop>(
+    alloc: Global,
+    lines: &mut LineReader<R>,
+) -> Result<RosterLine, ScriptFault>
+    ensures line { IfKnown lines.old (λ commands. FindsLine commands result lines.new) }
+    ensures reads_alone { IfErr result (λ why. why ≢ fault.Write) }
 {
     match lines.next() {
-        NextLine::Text(text) => roster_line(text),
-        NextLine::Long => RosterLine::Other,
-        NextLine::NotAscii => RosterLine::Other,
-        NextLine::End => RosterLine::Other,
-        NextLine::Fault => RosterLine::Fault,
+        NextLine::Text(text) => roster_line(alloc, text),
+        NextLine::Long => Err(ScriptFault::Roster),
+        NextLine::NotAscii => Err(ScriptFault::Roster),
+        NextLine::End => Err(ScriptFault::Roster),
+        NextLine::Fault => Err(ScriptFault::Read),
     }
 }
 
-/// What a text of a roster is.
-fn roster_line(text: &[u8]) -> RosterLine
-    ensures { IsTakenFor text.now result }
+/// Adds a tenant to those that stand before.
+fn add_row(rows: &mut Vec<Row>, row: Row) -> Result<(), ScriptFault>
+    ensures { AddsRow rows.old.items row result rows.new.items }
 {
-    if is_blank(text) {
-        return RosterLine::Blank;
+    if rows.len() >= MOST_TENANTS {
+        return Err(ScriptFault::Roster);
     }
-    let Some((first, rest)) = next_word(text) else {
-        return RosterLine::Other;
-    };
-    if first == b"begin".as_slice() {
-        return begin_line(rest);
+    if is_named(rows, &row.name) {
+        return Err(ScriptFault::Roster);
     }
-    if first == b"tenant".as_slice() {
-        return tenant_line(rest);
-    }
-    RosterLine::Other
+    rows.push(row)?;
+    Ok(())
 }
 
-/// What a line with this rest after `begin` is.
-fn begin_line(rest: &[u8]) -> RosterLine
-    ensures { IsBeginRest (words rest.now) result }
+/// Whether a tenant has this name.
+fn is_named(rows: &[Row], name: &Entity) -> bool
+    ensures { result ≡ list_any (λ row. is_same name.now row.name) rows.now }
 {
-    match split_words(rest) {
-        Arguments::Nothing => RosterLine::Begin,
-        _ => RosterLine::Other,
-    }
+    rows.iter().any(|row| *name == row.name)
 }
 
-/// What a line with this rest after `tenant` is.
-fn tenant_line(rest: &[u8]) -> RosterLine
-    ensures { IsTenantRest (words rest.now) result }
-{
-    let Arguments::Two(name, word) = split_words(rest) else {
-        return RosterLine::Other;
-    };
-    if word.len() > MOST_WORD {
-        return RosterLine::Other;
-    }
-    match Entity::read(name) {
-        Ok(name) => RosterLine::Tenant(name),
-        Err(_) => RosterLine::Other,
-    }
-}
+#[cfg(test)]
+mod tests;

@@ -1,71 +1,83 @@
-//! What one tenant asked.
-ghost use Rattle.std.specs.Prelude.{◌≡◌, IfOk};
-ghost use Rattle.service.specs.Opening.{IsTruth};
+//! The searches that a tenant has opened.
+ghost use Rattle.std.specs.Prelude.{◌≡◌, IfOk, OnErr};
+ghost use Rattle.hall.specs.Truth.{Nothing, answer_of};
+ghost use Rattle.service.specs.Settling.{IsTruthOver, Settles};
+ghost use Rattle.service.specs.Seats.{settled_by};
 
 use credential_text::Credential;
-use names::{Entity, Role};
+use hall::{Answer, Query};
 use rt0_rules::members_plain;
 use std::alloc::{AllocError, Global};
 use std::marker::Model;
 
-/// A question, over the credentials that were held when it was asked. Its answer is found at the first wait, and
+/// A search, over the credentials that its tenant saw when it was opened. Its answer is found at the first wait, and
 /// kept.
 #[derive(Drop)]
 pub(crate) struct Search {
+    number: u64,
+    opened_at: u64,
+    query: Query,
     over: Vec<Credential>,
-    role: Role,
-    who: Entity,
     answer: Option<bool>,
 }
 
 impl Model for Search {
-    ghost use Rattle.service.specs.Opening.{Opening, KeepsTruth};
+    ghost use Rattle.service.specs.Seats.{Copied, settled_by};
 
-    ghost Value = { Opening };
+    ghost Value = { Copied };
 
-    ghost view = { λ s. record { over = s.over.items; role = s.role; who = s.who } };
-
-    ghost invariant = { λ s. KeepsTruth (record { over = s.over.items; role = s.role; who = s.who }) s.answer };
+    ghost view = { λ s. record { running = record { number = s.number; opened_at = s.opened_at; query = s.query; settled = settled_by s.answer }; over = s.over.items } };
 }
 
 impl Search {
-    /// The question, which nobody has waited for.
-    pub(crate) fn new(over: Vec<Credential>, role: Role, who: Entity) -> Search
-        ensures over { result.over ≡ over.items }
-        ensures role { result.role ≡ role }
-        ensures who { result.who ≡ who }
+    /// The search, for which nobody has waited.
+    pub(crate) fn new(number: u64, opened_at: u64, query: Query, over: Vec<Credential>) -> Search
+        ensures { result ≡ record { running = record { number = number; opened_at = opened_at; query = query; settled = Nothing }; over = over.items } }
     {
         Search {
+            number,
+            opened_at,
+            query,
             over,
-            role,
-            who,
             answer: None,
         }
     }
 
-    /// Whether what was asked holds.
-    pub(crate) fn answer(&mut self, alloc: Global) -> Result<bool, AllocError>
-        ensures truth { IfOk result (IsTruth self.old) }
-        ensures same { self.new ≡ self.old }
+    /// The number under which its tenant knows it.
+    pub(crate) fn number(&self) -> u64
+        ensures { result ≡ self.now.running.number }
     {
-        if let Some(answer) = self.answer {
-            return Ok(answer);
+        self.number
+    }
+
+    /// What it has come to.
+    pub(crate) fn answer(&self) -> Answer
+        ensures { result ≡ answer_of self.now.running.settled }
+    {
+        match self.answer {
+            None => Answer::Working,
+            Some(true) => Answer::Yes,
+            Some(false) => Answer::No,
         }
-        let answer = is_member(alloc, &self.over, &self.role, &self.who)?;
-        self.answer = Some(answer);
-        Ok(answer)
+    }
+
+    /// What it comes to, found now where that was not done before.
+    pub(crate) fn settle(&mut self, alloc: Global) -> Result<Answer, AllocError>
+        ensures settled { IfOk result (λ told. Settles self.old told self.new) }
+        ensures unchanged { OnErr result (self.new ≡ self.old) }
+    {
+        if self.answer.is_none() {
+            self.answer = Some(holds(alloc, &self.over, &self.query)?);
+        }
+        Ok(self.answer())
     }
 }
 
-/// Whether the entity is a member of the role.
-fn is_member(
-    alloc: Global,
-    over: &[Credential],
-    role: &Role,
-    who: &Entity,
-) -> Result<bool, AllocError>
-    ensures { IfOk result (IsTruth (record { over = over.now; role = role.now; who = who.now })) }
+/// Whether what is asked holds over these credentials.
+fn holds(alloc: Global, over: &[Credential], query: &Query) -> Result<bool, AllocError>
+    ensures { IfOk result (λ answer. IsTruthOver over.now query.now (settled_by (Some answer))) }
 {
-    let members = members_plain(alloc, over, role)?;
-    Ok(members.contains(who))
+    match query {
+        Query::Ask(role, who) => Ok(members_plain(alloc, over, role)?.contains(who)),
+    }
 }

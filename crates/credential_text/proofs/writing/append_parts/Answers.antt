@@ -27,4 +27,5 @@ loop-part-preserved c =
           ∙ ap (λ t. c.args.out.now.items ++ t)
           (sym (parts_text-push so_far c.part-item.result (some_front parts others (take c.loop-part.part-index others) c.loop-part.invariant.whole (omega arith))) ∙ ap parts_text (sym more));
       names = ap (list_all has_names) more ∙ list_all_push has_names so_far c.part-item.result c.loop-part.invariant.names c.in_ok-append_part-2.ensures.names;
+      capacity = omega (arith, c.loop-part.invariant.capacity, c.extend_from_slice.ensures.capacity, c.append_part-in-loop-part.ensures.capacity);
     }

@@ -1,36 +1,36 @@
 -- Each turn answers one line more.
-use Rattle.std.proofs.Common.{◌∙◌, refl}
 use Rattle.std.proofs.lemmas.Result.{err_from_is_err_and}
-use Rattle.service.proofs.ScriptLemmas.{SoFar-start, SoFar-blank, SoFar-replied, Wrote-some, Wrote-part}
+use Rattle.service.proofs.ScriptLemmas.{SoFar-start, SoFar-blank, SoFar-replied, Wrote-some, Wrote-part, Wrote-all}
 use Rattle.service.proofs.scripts.run_commands.Goals as goal
 use Rattle.service.proofs.scripts.run_commands.Goals.{in-Blank, in-Replied+in_ok-write_reply-in-Replied}
 
 pub loop-init : goal.loop-init
-loop-init g c = record {
-  so_far = SoFar-start c.args.lines.now c.args.tenant.now (g.W.Write.contents c.args.writer.now);
-  name = refl;
-  room = c.requires;
-}
+loop-init g c = record { so_far = SoFar-start c.args.lines.now c.args.registry.now (g.W.Write.contents c.args.writer.now); room = c.requires.room }
 
 pub returns-in_err-write_reply-in-Replied : goal.returns-in_err-write_reply-in-Replied
 returns-in_err-write_reply-in-Replied g c =
     let p = err_from_is_err_and c.from_residual.result c.from_residual.ensures.1 in
     let written = rw c.deref.ensures.value at c.in_err-write_reply-in-Replied.ensures.err in
     rw (p.1, p.2)
-    (Wrote-part c.args.lines.now c.loop.lines c.take_turn.new.lines c.args.tenant.now c.loop.tenant c.take_turn.new.tenant c.take_turn.new.reply.items _ _ _
-    c.loop.invariant.name c.loop.invariant.so_far c.in-Replied.ensures.takes written)
+    (Wrote-part c.args.lines.now c.loop.lines c.take_turn.new.lines c.args.registry.now c.loop.registry c.take_turn.new.registry c.take_turn.new.reply.items _ _ _
+    c.requires.fresh c.loop.invariant.so_far c.in-Replied.ensures.takes written)
 
 pub returns-in-Fault : goal.returns-in-Fault
-returns-in-Fault g c = Wrote-some c.args.lines.now c.loop.lines c.args.tenant.now c.loop.tenant _ c.loop.invariant.so_far
+returns-in-Fault g c = Wrote-some c.args.lines.now c.loop.lines c.args.registry.now c.loop.registry _ c.requires.fresh c.loop.invariant.so_far
+
+pub returns-in-End : goal.returns-in-End
+returns-in-End g c =
+    Wrote-all c.args.lines.now c.loop.lines c.take_turn.new.lines c.args.registry.now c.loop.registry c.take_turn.new.registry c.take_turn.new.reply.items _
+    c.requires.fresh c.loop.invariant.so_far c.in-End.ensures.takes
 
 pub loop-preserved : goal.loop-preserved
 loop-preserved g c =
     let old = c.args.lines.now in
     let mid = c.loop.lines in
     let new = c.take_turn.new.lines in
-    let start = c.args.tenant.now in
-    let before = c.loop.tenant in
-    let after = c.take_turn.new.tenant in
+    let start = c.args.registry.now in
+    let before = c.loop.registry in
+    let after = c.take_turn.new.registry in
     let reply = c.take_turn.new.reply.items in
     record {
       so_far = elim c.match-take_turn.branch [
@@ -38,11 +38,10 @@ loop-preserved g c =
         | in-Replied+in_ok-write_reply-in-Replied w ↦
             let written = rw w.deref.ensures.value at w.in_ok-write_reply-in-Replied.ensures.ok in
             rw w.writer-is
-            (SoFar-replied old mid new start before after reply _ _ _ c.loop.invariant.name c.loop.invariant.so_far w.in-Replied.ensures.takes written)
+            (SoFar-replied old mid new start before after reply _ _ _ c.requires.fresh c.loop.invariant.so_far w.in-Replied.ensures.takes written)
       ];
-      name = c.take_turn.ensures.name ∙ c.loop.invariant.name;
       room = c.take_turn.ensures.room;
     }
 
 pub returns : goal.returns
-returns g c = Wrote-some c.args.lines.now c.loop.lines c.args.tenant.now c.loop.tenant _ c.loop.invariant.so_far
+returns g c = Wrote-some c.args.lines.now c.loop.lines c.args.registry.now c.loop.registry _ c.requires.fresh c.loop.invariant.so_far

@@ -1,0 +1,80 @@
+-- Lemmas on what a script is answered, entry after entry.
+use Rattle.std.proofs.Common.{◌≡◌, ℕ, List, [], ◌∷◌, ◌++◌, refl, sym, ap, ◌∙◌, subst, Option, Some, None}
+use Rattle.std.specs.Prelude.{option_map, is_some}
+use Rattle.std.specs.List.{flat_map, AllByRecursion}
+use Rattle.std.proofs.lemmas.Slice.Zip.{all_zipped_more}
+use Rattle.std.proofs.lemmas.Grind.{flat_map-append}
+use Rattle.std.proofs.lemmas.List.{append-nil}
+use Rattle.quotas.specs.Quota.{Quota}
+use Rattle.hall.specs.declared.replies.Reply.{Reply}
+use Rattle.hall.specs.Account.{Account, Moment}
+use Rattle.hall.specs.State.{HallState, Tenant, IsSound, IsSoundTenant, AreDistinct, account, account_of, is_tenant, tenant_named}
+use Rattle.hall.specs.Run.{IsAllowedRun, trace, replies_to}
+use Rattle.hall.specs.Calls.{new_tenant, new_hall, IsNewHall}
+use Rattle.hall.specs.Deeds.{Told, AreDone, AreAllowed, DeedsAreAllowed, calls_of, replies_of}
+use Rattle.hall.proofs.Deeds.{run_of}
+use Rattle.hall.proofs.Runs.{runs_allowed}
+use Rattle.hall.proofs.Timeliness.{deeds_are_timely}
+use Rattle.service.specs.Line.{Line}
+use Rattle.service.specs.Entry.{Entry, entry_text, IsEntry, deed_in, deeds_in}
+use Rattle.service.specs.Transcript.{AreAnswered, IsTranscript}
+use Rattle.service.specs.Turn.{Answered}
+use Rattle.service.proofs.EntryLemmas.{IsEntry-same}
+
+-- some deeds, and then some more
+done_more : (old mid new : HallState) (deeds more : List Told) → AreDone old deeds mid → AreDone mid more new → AreDone old (deeds ++ more) new
+done_more old mid new [] more same done = subst (λ (h : HallState). AreDone h more new) same done
+done_more old mid new (told ∷ deeds) more first done = (first.0, first.1, done_more first.0 mid new deeds more first.2 done)
+
+-- nothing is amiss in a new hall
+pub new_sound : (h : HallState) → IsNewHall h → IsSound h
+new_sound h new = subst IsSound (sym new.2) record { names = new.1; tenants = each new.0 }
+  where
+    each : (roster : List (List ℕ × Quota)) → AllByRecursion (IsSoundTenant []) (new_hall roster).tenants
+    each [] = tt
+    each (row ∷ rows) = (record { numbers = tt; searches = tt }, each rows)
+
+deeds_allowed : DeedsAreAllowed
+deeds_allowed old new deeds sound done = runs_allowed old new (calls_of deeds) (replies_of deeds) sound (run_of old new deeds sound done)
+
+-- deeds neither make nor take a tenant
+same_tenants : (old new : HallState) (deeds : List Told) → AreAllowed old deeds new → (name : List ℕ) → is_tenant new name ≡ is_tenant old name
+same_tenants old new deeds allowed name = by (tenant_named name old.tenants) (tenant_named name new.tenants) _ _ (allowed name)
+  where
+    by : (o n : Option Tenant) (moments : List Moment) (replies : List Reply) → IsAllowedRun name (option_map (account old.journal) o) moments replies (option_map (account new.journal) n) →
+        is_some n ≡ is_some o
+    by None None moments replies run = refl
+    by None (Some t) moments replies run = let e = run.1 in cc
+    by (Some t) None moments replies run = let e = run.1 in cc
+    by (Some t) (Some u) moments replies run = refl
+
+-- the deeds of one entry more
+deeds_in-more : (entries : List Entry) (entry : Entry) → deeds_in (entries ++ entry ∷ []) ≡ deeds_in entries ++ deed_in entry
+deeds_in-more entries entry = flat_map-append deed_in entries (entry ∷ []) ∙ ap (λ (l : List Told). deeds_in entries ++ l) (append-nil (deed_in entry))
+
+-- one line more
+pub AreAnswered-more : (old mid new : HallState) (done : List Line) (entries : List Entry) (line : Line) (output reply : List ℕ) → IsNewHall old → AreAnswered old done entries output mid →
+    (answered : Answered mid line reply new) → AreAnswered old (done ++ line ∷ []) (entries ++ answered.entry ∷ []) (output ++ reply) new
+AreAnswered-more old mid new done entries line output reply fresh before answered = record {
+  one_each = all_zipped_more (IsEntry old) done entries line answered.entry before.one_each (IsEntry-same old mid line answered.entry (same_tenants old mid (deeds_in entries) allowed) answered.allowed);
+  carried = subst (λ (deeds : List Told). AreDone old deeds new) (sym (deeds_in-more entries answered.entry)) (done_more old mid new (deeds_in entries) (deed_in answered.entry) before.carried answered.carried);
+  printed =
+      ap (λ (t : List ℕ). t ++ reply) before.printed
+      ∙ ap (λ (t : List ℕ). flat_map entry_text entries ++ t) (sym answered.text ∙ sym (append-nil (entry_text answered.entry)))
+      ∙ sym (flat_map-append entry_text entries (answered.entry ∷ []));
+}
+  where
+    allowed : AreAllowed old (deeds_in entries) mid
+    allowed = deeds_allowed old mid (deeds_in entries) (new_sound old fresh) before.carried
+
+-- no line yet
+pub AreAnswered-none : (old : HallState) → AreAnswered old [] [] [] old
+AreAnswered-none old = record { one_each = tt; carried = refl; printed = refl }
+
+-- what was answered from the start on is allowed and timely
+pub transcript_of : (old new : HallState) (lines : List Line) (entries : List Entry) (output : List ℕ) → IsNewHall old → AreAnswered old lines entries output new → IsTranscript old lines entries output new
+transcript_of old new lines entries output fresh answered = record {
+  answered = answered;
+  allowed = deeds_allowed old new (deeds_in entries) (new_sound old fresh) answered.carried;
+  timely = deeds_are_timely fresh.0 new (deeds_in entries) fresh.1 (subst (λ (h : HallState). AreDone h (deeds_in entries) new) fresh.2 answered.carried);
+}
