@@ -4,8 +4,9 @@ use Rattle.hall.specs.declared.requests.Request.TheVariants.{Poll}
 use Rattle.hall.specs.declared.replies.Reply.{Reply}
 use Rattle.hall.specs.State.{HallState, IsSound, Settles, search_at}
 use Rattle.hall.specs.Run.{IsServed, Run}
-use Rattle.hall.specs.Deeds.{Deed, asks, waits, Told, CarriesOut, AreDone, request_of, calls_of, replies_of}
+use Rattle.hall.specs.Deeds.{Deed, asks, waits, Told, CarriesOut, AreDone, DeedsAreAllowed, request_of, calls_of, replies_of}
 use Rattle.hall.proofs.Settling.{hall_stays, driving_settles}
+use Rattle.hall.proofs.Runs.{runs_allowed}
 use Rattle.hall.proofs.Sound.{served_sound, driven_sound}
 
 -- a deed is a request, before which searches may have settled
@@ -25,8 +26,11 @@ step_of old new who (waits k) reply sound driven = record {
   sound = driven_sound old new who k reply sound driven;
 }
 
-pub run_of : (old new : HallState) (deeds : List Told) → IsSound old → AreDone old deeds new → Run old (calls_of deeds) (replies_of deeds) new
+run_of : (old new : HallState) (deeds : List Told) → IsSound old → AreDone old deeds new → Run old (calls_of deeds) (replies_of deeds) new
 run_of old new [] sound done = subst (λ (h : HallState). Settles old h) (sym done) (hall_stays old)
 run_of old new (told ∷ more) sound done =
     let step = step_of old done.0 told.tenant told.deed told.reply sound done.1.carried in
     (step.before, done.0, step.settles, step.served, run_of done.0 new more step.sound done.2)
+
+pub deeds_allowed : DeedsAreAllowed
+deeds_allowed old new deeds sound done = runs_allowed old new (calls_of deeds) (replies_of deeds) sound (run_of old new deeds sound done)

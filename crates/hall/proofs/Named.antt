@@ -20,11 +20,11 @@ find-filter {X} p keep (y ∷ ys) kept = by (keep y) (p y) refl refl (find-filte
     by false false k e rest = rest
     by false true k e rest = absurd (false≢true (sym k ∙ kept y e))
 
--- the tenant of a name, after the tenants of a name were changed
-pub named-changed : (name who : List ℕ) (change : Tenant → Tenant) → ((t : Tenant) → (change t).name ≡ t.name) → (ts : List Tenant) →
-    tenant_named name (map (at_name who change) ts) ≡ option_map (at_name who change) (tenant_named name ts)
-named-changed name who change keeps ts =
-    find-map (λ t. is_same t.name name) (λ t. is_same t.name name) (at_name who change) (λ t. ap (λ (n : List ℕ). is_same n name) (name_stays who change keeps t)) ts
+-- under any name there is the tenant that was there, changed if it is the one
+pub named_changed : (name other : List ℕ) (change : Tenant → Tenant) → ((t : Tenant) → (change t).name ≡ t.name) → (ts : List Tenant) →
+    tenant_named other (map (at_name name change) ts) ≡ option_map (at_name name change) (tenant_named other ts)
+named_changed name other change keeps ts =
+    find-map (λ t. is_same t.name other) (λ t. is_same t.name other) (at_name name change) (λ t. ap (λ (n : List ℕ). is_same n other) (name_stays name change keeps t)) ts
 
 -- the name by which a tenant is found is its own
 pub own_name : (name : List ℕ) (ts : List Tenant) (t : Tenant) → tenant_named name ts ≡ Some t → t.name ≡ name

@@ -17,15 +17,9 @@ use Rattle.hall.specs.Truth.{Nothing}
 use Rattle.hall.specs.Account.{OpenSearch, Account, MayReply, account_after}
 use Rattle.hall.specs.State.{Running, Tenant, HallState, tenant_named, open_search, account, account_of, at_name, with_tenant, IsSound, IsSoundSearch, IsSoundTenant}
 use Rattle.hall.specs.Run.{opening, ending, hall_after, MayReplyTo, IsServed}
-use Rattle.hall.proofs.Elements.{find-map, filter-map}
+use Rattle.hall.proofs.Elements.{filter-map}
+use Rattle.hall.proofs.Named.{named_changed}
 use Rattle.hall.proofs.Settling.{found_tenant}
-use Rattle.hall.proofs.Sound.{name_stays}
-
--- under any name there is the tenant that was there, changed if it is the one
-named_changed : (name other : List ℕ) (change : Tenant → Tenant) → ((t : Tenant) → (change t).name ≡ t.name) → (ts : List Tenant) →
-    tenant_named other (map (at_name name change) ts) ≡ option_map (at_name name change) (tenant_named other ts)
-named_changed name other change keeps ts =
-    find-map (λ t. is_same t.name other) (λ t. is_same t.name other) (at_name name change) (λ t. ap (λ (n : List ℕ). is_same n other) (name_stays name change keeps t)) ts
 
 changed_here : (name : List ℕ) (change : Tenant → Tenant) (t : Tenant) → t.name ≡ name → at_name name change t ≡ change t
 changed_here name change t is = ap (λ (b : Bool). cond b (change t) t) (is_same_itself t.name name is)

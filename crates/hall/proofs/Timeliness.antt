@@ -24,7 +24,7 @@ use Rattle.hall.specs.Run.{IsServed, IsDriven, SettlesAt, MayReplyTo, entered, o
 use Rattle.hall.specs.Calls.{new_tenant, new_hall}
 use Rattle.hall.specs.Deeds.{Deed, asks, waits, Told, CarriesOut, IsDone, AreDone, Waited, NeverWaited, IsTimely, IsTimelyPoll, AreTimely}
 use Rattle.hall.proofs.Elements.{find-map}
-use Rattle.hall.proofs.Named.{named-changed, own_name}
+use Rattle.hall.proofs.Named.{named_changed, own_name}
 use Rattle.hall.proofs.Timely.{told_asked, told_waited, IsPast, IsFresh, IsGiven, Knows, Keeps, keeps-same, knows-asked, keeps-opening, keeps-ending, numbered-settling, never-before, waited-cases}
 
 -- what is known of every tenant's searches
@@ -103,7 +103,7 @@ keeps-asked h new who q reply served name k = by q reply served
         Keeps k (tenant_named name h.tenants) (option_map (at_name who change) (tenant_named name h.tenants)) →
         Keeps k (tenant_named name h.tenants) (tenant_named name new.tenants)
     changed change keeps after kept =
-        subst (Keeps k (tenant_named name h.tenants)) (sym (ap (λ (h : HallState). tenant_named name h.tenants) after ∙ named-changed name who change keeps h.tenants)) kept
+        subst (Keeps k (tenant_named name h.tenants)) (sym (ap (λ (h : HallState). tenant_named name h.tenants) after ∙ named_changed who name change keeps h.tenants)) kept
 
     sought : (query : Query) (reply : Reply) → IsServed h who (request.Seek query) reply new → Keeps k (tenant_named name h.tenants) (tenant_named name new.tenants)
     sought query (Opened n) served =
@@ -191,7 +191,7 @@ wait_keeps : (h new : HallState) (who : List ℕ) (at : ℕ) → (o : Option Run
     WaitKeeps who at name k (tenant_named name h.tenants) (tenant_named name new.tenants)
 wait_keeps h new who at None none same name k = wait_keeps-same who at name k _ _ (ap (λ (h : HallState). tenant_named name h.tenants) same)
 wait_keeps h new who at (Some r) found settles name k =
-    subst (WaitKeeps who at name k (tenant_named name h.tenants)) (sym (ap (λ (h : HallState). tenant_named name h.tenants) settles.2 ∙ named-changed name who (settling at settles.0) (λ t. refl) h.tenants))
+    subst (WaitKeeps who at name k (tenant_named name h.tenants)) (sym (ap (λ (h : HallState). tenant_named name h.tenants) settles.2 ∙ named_changed who name (settling at settles.0) (λ t. refl) h.tenants))
     (by (tenant_named name h.tenants) refl)
   where
     by_name : (t : Tenant) (b : Bool) → tenant_named name h.tenants ≡ Some t → is_same t.name who ≡ b → WaitKeeps who at name k (Some t) (Some (cond b (settling at settles.0 t) t))

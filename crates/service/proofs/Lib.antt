@@ -29,3 +29,4 @@ pub mod PrintedLemmas
 pub mod SaidLemmas
 pub mod TranscriptLemmas
 pub mod ScriptLemmas
+pub mod WorkedEntries

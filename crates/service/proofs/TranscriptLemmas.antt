@@ -11,9 +11,8 @@ use Rattle.hall.specs.Account.{Account, Moment}
 use Rattle.hall.specs.State.{HallState, Tenant, IsSound, IsSoundTenant, AreDistinct, account, account_of, is_tenant, tenant_named}
 use Rattle.hall.specs.Run.{IsAllowedRun, trace, replies_to}
 use Rattle.hall.specs.Calls.{new_tenant, new_hall, IsNewHall}
-use Rattle.hall.specs.Deeds.{Told, AreDone, AreAllowed, DeedsAreAllowed, calls_of, replies_of}
-use Rattle.hall.proofs.Deeds.{run_of}
-use Rattle.hall.proofs.Runs.{runs_allowed}
+use Rattle.hall.specs.Deeds.{Told, AreDone, AreAllowed}
+use Rattle.hall.proofs.Deeds.{deeds_allowed}
 use Rattle.hall.proofs.Timeliness.{deeds_are_timely}
 use Rattle.service.specs.Line.{Line}
 use Rattle.service.specs.Entry.{Entry, entry_text, IsEntry, deed_in, deeds_in}
@@ -33,9 +32,6 @@ new_sound h new = subst IsSound (sym new.2) record { names = new.1; tenants = ea
     each : (roster : List (List ℕ × Quota)) → AllByRecursion (IsSoundTenant []) (new_hall roster).tenants
     each [] = tt
     each (row ∷ rows) = (record { numbers = tt; searches = tt }, each rows)
-
-deeds_allowed : DeedsAreAllowed
-deeds_allowed old new deeds sound done = runs_allowed old new (calls_of deeds) (replies_of deeds) sound (run_of old new deeds sound done)
 
 -- deeds neither make nor take a tenant
 same_tenants : (old new : HallState) (deeds : List Told) → AreAllowed old deeds new → (name : List ℕ) → is_tenant new name ≡ is_tenant old name

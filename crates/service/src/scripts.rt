@@ -118,3 +118,5 @@ fn take_turn<R: Read + Drop>(
 
 #[cfg(test)]
 mod tests;
+#[cfg(test)]
+mod worked;
