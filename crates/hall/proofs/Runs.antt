@@ -1,5 +1,6 @@
 -- A run of a hall is an allowed run to each tenant.
 use Rattle.std.proofs.Common.{ℕ, Bool, true, false, cond, List, [], ◌∷◌, ◌++◌, ◌≡◌, ◌∙◌, sym, ap, refl, subst, subst₂, take, Option, Some, None}
+use Rattle.std.specs.List.{AllZip}
 use Rattle.vaults.specs.declared.changes.Entry.{Entry}
 use Rattle.vaults.specs.Journal.{is_same, view, Vault}
 use Rattle.vaults.proofs.Orders.{same_from_is_same}
@@ -11,9 +12,9 @@ use Rattle.hall.specs.declared.replies.Reply.TheVariants.{Counted, Opened, Close
 use Rattle.hall.specs.Truth.{MaySettle}
 use Rattle.hall.specs.Account.{OpenSearch, Account, GoesOn, Waits, Moment, AllowedRun, account_after}
 use Rattle.hall.specs.State.{Running, Tenant, HallState, tenant_named, open_search, account, account_of, IsSound, RunningGoesOn, TenantGoesOn, Settles}
-use Rattle.hall.specs.Run.{Call, IsServed, hall_after, journal_after, trace, replies_to, IsAllowedRun}
+use Rattle.hall.specs.Run.{Call, IsServed, hall_after, journal_after, trace, replies_to, IsAllowedRun, IsAllowedToEach}
 use Rattle.hall.specs.Laws.{RunsAreAllowed}
-use Rattle.hall.specs.Agree.{TwoHalls}
+use Rattle.hall.specs.Agree.{Agree, HasMemory, TwoHalls}
 use Rattle.hall.proofs.Elements.{Both, both_mapped, zip_mapped, zip_joined}
 use Rattle.hall.proofs.Settling.{settles_twice}
 use Rattle.hall.proofs.Sound.{served_sound, settles_sound, same_tenant, same_hall, named_goes_on}
@@ -132,13 +133,20 @@ runs_allowed old new (call ∷ calls) (told ∷ replies) sound run tenant =
     (subst (λ (j : List Entry). IsAllowedRun tenant (account_of run.1 tenant) (trace tenant j calls replies) (replies_to tenant calls replies) (account_of new tenant)) grown rest)
     (is_same call.tenant tenant) refl
 
-pub halls_agree : TwoHalls
-halls_agree tenant start one other one_end other_end calls more first second sound other_sound is other_is same run other_run memory other_memory =
+-- what is allowed to a tenant in two halls, from one account and over one trace, agrees
+pub allowed_agree : (tenant : List ℕ) (start : Account) (one other one_end other_end : HallState) (calls more : List Call) (first second : List Reply) →
+    account_of one tenant ≡ Some start → account_of other tenant ≡ Some start → IsAllowedToEach one calls first one_end → IsAllowedToEach other more second other_end →
+    trace tenant one.journal calls first ≡ trace tenant other.journal more second → HasMemory (replies_to tenant calls first) → HasMemory (replies_to tenant more second) →
+    AllZip Agree (replies_to tenant calls first) (replies_to tenant more second)
+allowed_agree tenant start one other one_end other_end calls more first second is other_is allowed other_allowed same memory other_memory =
     let left : IsAllowedRun tenant (Some start) (trace tenant one.journal calls first) (replies_to tenant calls first) (account_of one_end tenant) =
-    subst (λ (o : Option Account). IsAllowedRun tenant o (trace tenant one.journal calls first) (replies_to tenant calls first) (account_of one_end tenant)) is
-    (runs_allowed one one_end calls first sound run tenant) in
+    subst (λ (o : Option Account). IsAllowedRun tenant o (trace tenant one.journal calls first) (replies_to tenant calls first) (account_of one_end tenant)) is (allowed tenant) in
     let right : IsAllowedRun tenant (Some start) (trace tenant other.journal more second) (replies_to tenant more second) (account_of other_end tenant) =
-    subst (λ (o : Option Account). IsAllowedRun tenant o (trace tenant other.journal more second) (replies_to tenant more second) (account_of other_end tenant)) other_is
-    (runs_allowed other other_end more second other_sound other_run tenant) in
+    subst (λ (o : Option Account). IsAllowedRun tenant o (trace tenant other.journal more second) (replies_to tenant more second) (account_of other_end tenant)) other_is (other_allowed tenant) in
     worlds_agree tenant start (trace tenant one.journal calls first) (replies_to tenant calls first) (replies_to tenant more second) left.0 right.0 left.2
     (subst (λ (ms : List Moment). AllowedRun tenant start ms (replies_to tenant more second) right.0) (sym same) right.2) memory other_memory
+
+pub halls_agree : TwoHalls
+halls_agree tenant start one other one_end other_end calls more first second sound other_sound is other_is same run other_run memory other_memory =
+    allowed_agree tenant start one other one_end other_end calls more first second is other_is
+    (runs_allowed one one_end calls first sound run) (runs_allowed other other_end more second other_sound other_run) same memory other_memory

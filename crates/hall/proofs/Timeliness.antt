@@ -49,6 +49,21 @@ polled_at h new name k reply served answers = by (tenant_named name h.tenants) s
         (told ∙ ap polled (find-map (λ s. s.number == k) (λ r. r.number == k) (open_search h.journal t.name) (λ r. refl) t.searches))
     by (Some t) (inr lacks) = absurd (answers Memory lacks.0)
 
+-- a poll that is refused for want of a search finds none
+polled_none : (h new : HallState) (name : List ℕ) (k : ℕ) → IsServed h name (request.Poll k) (Refused NoSuchSearch) new → running_of k (tenant_named name h.tenants) ≡ None
+polled_none h new name k served = by (tenant_named name h.tenants) served.may_reply
+  where
+    found : (t : Tenant) (o : Option Running) → running_numbered k t.searches ≡ o → Refused NoSuchSearch ≡ polled (option_map (open_search h.journal t.name) o) → running_numbered k t.searches ≡ None
+    found t None none told = none
+    found t (Some r) at told = cc
+
+    by : (o : Option Tenant) → MayReplyTo h name (option_map (account h.journal) o) (request.Poll k) (Refused NoSuchSearch) → running_of k o ≡ None
+    by None may = refl
+    by (Some t) (inl told) =
+        found t (running_numbered k t.searches) refl
+        (told ∙ ap polled (find-map (λ s. s.number == k) (λ r. r.number == k) (open_search h.journal t.name) (λ r. refl) t.searches))
+    by (Some t) (inr lacks) = let e = lacks.0 in cc
+
 -- an opened search has the next number
 opened_next : (h new : HallState) (name : List ℕ) (query : Query) (n : ℕ) → IsServed h name (request.Seek query) (Opened n) new →
     (t : Tenant) × (tenant_named name h.tenants ≡ Some t) × (n ≡ t.opens + 1)
@@ -129,7 +144,7 @@ settled_stays seen query old s was (inr settles) = absurd (was settles.0)
 
 -- a wait for one search: the others stay as they were, and so does what it had come to
 record WaitKeeps (who : List ℕ) (at : ℕ) (name : List ℕ) (k : ℕ) (o new : Option Tenant) : Type 0 where
-  others : ((who ≡ name) × (at ≡ k) → ⊥) → IsFresh k o → IsFresh k new
+  others : ((r : Running) → running_of k new ≡ Some r → (who ≡ name) × (at ≡ k) → ⊥) → IsFresh k o → IsFresh k new
   past : IsPast k o → IsPast k new
   given : IsGiven k o → IsGiven k new
 
@@ -143,7 +158,7 @@ wait_keeps-found : (seen : List Vault) (who : List ℕ) (at : ℕ) (r : Running)
 wait_keeps-found seen who at r s ts found settles name k t named is = record {
   others = λ other was new new_at. elim (cases new new_at) [
     | inl kept ↦ was new kept
-    | inr this ↦ absurd (other (this.0, this.1))
+    | inr this ↦ absurd (other new new_at (this.0, this.1))
   ];
   past = λ was. record {
     given = was.given;
@@ -210,7 +225,7 @@ tells s answers none = answers (ap (λ (s : Settled). Answered (answer_of s)) no
 knows-waited : (before : List Told) (h new : HallState) (who : List ℕ) (at : ℕ) (reply : Reply) → IsDriven h who at reply new → KnowsAll before h →
     KnowsAll (before ++ told_waited who at reply ∷ []) new
 knows-waited before h new who at reply driven known name k = record {
-  fresh = λ never. keeps.others (λ this. never reply (subst (λ (told : Told). Contains (before ++ told_waited who at reply ∷ []) told) (same_told this.0 this.1) (Contains-push before (told_waited who at reply)))) ((known name k).fresh (never-before name k before _ never));
+  fresh = λ never. keeps.others (λ r r_at this. none_there never r r_at this.0 this.1) ((known name k).fresh (never-before name k before _ never));
   past = λ waited. elim (waited-cases name k before (told_waited who at reply) waited) [
     | inl early ↦ keeps.past ((known name k).past early)
     | inr last ↦ at_last last.0 last.1 last.2
@@ -226,6 +241,15 @@ knows-waited before h new who at reply driven known name k = record {
 
     same_told : who ≡ name → at ≡ k → told_waited who at reply ≡ told_waited name k reply
     same_told a b = ap (λ (n : List ℕ). told_waited n at reply) a ∙ ap (λ (n : ℕ). told_waited name n reply) b
+
+    none_there : NeverWaited name k (before ++ told_waited who at reply ∷ []) → (r : Running) → running_of k (tenant_named name new.tenants) ≡ Some r → who ≡ name → at ≡ k → ⊥
+    none_there never r r_at a b =
+        let there = subst (λ (told : Told). Contains (before ++ told_waited who at reply ∷ []) told) (same_told a b) (Contains-push before (told_waited who at reply)) in
+        let served = subst (λ (reply : Reply). IsServed new who (request.Poll at) reply new) (never reply there) driven.polled in
+        let none = polled_none new new who at served in
+        let here : running_of k (tenant_named name new.tenants) ≡ None =
+        subst (λ (n : ℕ). running_of n (tenant_named name new.tenants) ≡ None) b (subst (λ (w : List ℕ). running_of at (tenant_named w new.tenants) ≡ None) a none) in
+        cc
 
     at_last : (other : Reply) → told_waited who at reply ≡ told_waited name k other → ((f : Fault) → other ≢ Refused f) → IsPast k (tenant_named name new.tenants)
     at_last other is answers =

@@ -2,6 +2,7 @@
 use Rattle.std.specs.Prelude.{◌≡◌, ◌≢◌, ℕ, List, [], ◌∷◌, ◌++◌, map, Contains}
 use Rattle.quotas.specs.Quota.{Quota}
 use Rattle.hall.specs.declared.faults.Fault.{Fault}
+use Rattle.hall.specs.declared.faults.Fault.TheVariants.{NoSuchSearch}
 use Rattle.hall.specs.declared.requests.Request.{Request}
 use Rattle.hall.specs.declared.requests.Request.TheVariants.{Poll}
 use Rattle.hall.specs.declared.replies.Answer.TheVariants.{Working}
@@ -62,9 +63,10 @@ abbrev pub Waited : List ℕ → ℕ → List Told → Type 0
 Waited tenant k before =
     (reply : Reply) × Contains before (record { tenant = tenant; deed = waits k; reply = reply }) × ((f : Fault) → reply ≢ Refused f)
 
--- among these deeds the tenant never waited for this search
+-- among these deeds the tenant never waited for this search: it had none of that number when it tried to
 abbrev pub NeverWaited : List ℕ → ℕ → List Told → Type 0
-NeverWaited tenant k before = (reply : Reply) → Contains before (record { tenant = tenant; deed = waits k; reply = reply }) → ⊥
+NeverWaited tenant k before =
+    (reply : Reply) → Contains before (record { tenant = tenant; deed = waits k; reply = reply }) → reply ≡ Refused NoSuchSearch
 
 -- a poll that is answered says that the search works before the first wait for it, and never after a wait that was
 -- not refused; where each wait was refused for want of memory it may say either

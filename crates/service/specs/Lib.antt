@@ -20,3 +20,4 @@ pub mod Roster
 pub mod RosterReading
 pub mod Outcome
 pub mod Turn
+pub mod TwoScripts

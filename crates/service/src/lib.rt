@@ -8,6 +8,7 @@ mod digits;
 #[cfg(test)]
 mod fakes;
 mod fault_texts;
+mod laws;
 mod lines;
 mod refusals;
 mod registry;
@@ -23,6 +24,7 @@ mod words;
 mod writing;
 
 pub use fault_texts::fault_text;
+pub use laws::two_scripts;
 pub use lines::limit::MOST_READS;
 pub use lines::{LINE_ROOM, LineReader, NextLine};
 pub use rosters::Roster;
