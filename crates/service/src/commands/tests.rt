@@ -50,25 +50,37 @@ fn reads_each_command(rt: HostRuntime) -> Result<(), Fail> {
     Ok(())
 }
 
+// The number, or the bytes of the last name, that a command has.
+fn argument(command: &Command) -> (u64, &[u8]) {
+    match command {
+        Command::Poll(number) => (*number, b""),
+        Command::Wait(number) => (*number, b""),
+        Command::End(number) => (*number, b""),
+        Command::Alter(Change::Grant(reader)) => (0, reader.bytes()),
+        Command::Alter(Change::Revoke(reader)) => (0, reader.bytes()),
+        Command::Seek(Query::Ask(_, who)) => (0, who.bytes()),
+        _ => (0, b""),
+    }
+}
+
 #[test]
 fn reads_the_arguments(rt: HostRuntime) {
-    match read_command(rt.alloc(), b"poll 17") {
-        Ok(Command::Poll(number)) => assert_eq!(rt; number, 17),
-        _ => assert!(rt; false),
-    }
-    match read_command(rt.alloc(), b"grant Bob") {
-        Ok(Command::Alter(Change::Grant(reader))) => assert_eq!(rt;
-            reader.bytes(),
-            b"Bob".as_slice()
-        ),
-        _ => assert!(rt; false),
-    }
-    match read_command(rt.alloc(), b"ask A.r D") {
-        Ok(Command::Seek(Query::Ask(role, who))) => {
-            assert_eq!(rt; role.owner.bytes(), b"A".as_slice());
-            assert_eq!(rt; who.bytes(), b"D".as_slice());
+    let rows: [(&[u8], u64, &[u8]); 6] = [
+        (b"poll 17", 17, b""),
+        (b"wait 9999999999", 9_999_999_999, b""),
+        (b"end 1", 1, b""),
+        (b"grant Bob", 0, b"Bob"),
+        (b"revoke Bob", 0, b"Bob"),
+        (b"ask A.r D", 0, b"D"),
+    ];
+    for (text, number, name) in rows {
+        match read_command(rt.alloc(), text) {
+            Ok(command) => {
+                assert_eq!(rt; argument(&command).0, number);
+                assert_eq!(rt; argument(&command).1, name);
+            }
+            Err(refusal) => assert_eq!(rt; refusal, Refusal::Memory),
         }
-        _ => assert!(rt; false),
     }
 }
 
