@@ -1,12 +1,12 @@
 -- Lists in order: which elements they have, and that these decide them.
-use Rattle.std.proofs.Common.{Bool, true, false, cond, not, List, [], ◌∷◌, ◌++◌, ◌≡◌, ◌∙◌, ◌||◌, ◌&&◌, ◌↔◌, sym, ap, refl, All, filter}
+use Rattle.std.proofs.Common.{Bool, true, false, not, List, [], ◌∷◌, ◌≡◌, ◌∙◌, ◌||◌, ◌&&◌, ◌↔◌, sym, ap, refl, All, filter}
 use Rattle.std.specs.List.{list_any, Contains}
 use Rattle.std.specs.List.Sorted.{IsStrictlySortedBy}
 use Rattle.std.specs.BTreeSet.{BTreeSet, insert_key}
 use Rattle.std.specs.declared.cmp.Ordering.{Ordering}
 use Rattle.std.specs.declared.cmp.Ordering.TheVariants.{Less, Equal, Greater}
 use Rattle.std.specs.Ordering.{eq_by_cmp, is_eq, match_ordering, ordering_reverse}
-use Rattle.std.specs.Cmp.{IsTotalOrder, IsEquivalence, Equal-is}
+use Rattle.std.specs.Cmp.{IsTotalOrder, Equal-is}
 use Rattle.std.specs.FinMap.{IsAntisymmetric}
 use Rattle.std.proofs.lemmas.Cmp.{tied_itself, eq_by_cmp_equiv}
 use Rattle.std.proofs.lemmas.List.Elements.{All-from_recursion, recursion_from_All, All-weaker, All-cons}
