@@ -1,10 +1,9 @@
 -- The order of parts is total, and two lists of parts are tied only where they are equal.
-use Rattle.std.specs.Prelude.{ℕ, List, ◌≡◌, true, IsTrue}
+use Rattle.std.specs.Prelude.{ℕ, List, ◌≡◌, IsTrue}
 use Rattle.std.proofs.Common.{ap, sym, ◌∙◌}
-use Rattle.std.specs.declared.cmp.Ordering.{Ordering}
-use Rattle.std.specs.declared.cmp.Ordering.TheVariants.{Less, Equal, Greater}
-use Rattle.std.specs.Ordering.{nat_cmp, is_eq}
-use Rattle.std.specs.Cmp.{IsTotalOrder, IsEquivalence}
+use Rattle.std.specs.declared.cmp.Ordering.TheVariants.{Equal}
+use Rattle.std.specs.Ordering.{nat_cmp}
+use Rattle.std.specs.Cmp.{IsTotalOrder, IsEquivalence, Equal-is}
 use Rattle.std.specs.Cmp.Lexicographic.{slice_cmp}
 use Rattle.std.specs.FinMap.{IsAntisymmetric, slice_cmp-IsAntisymmetric}
 use Rattle.std.proofs.lemmas.Cmp.{nat_cmp_total, nat_list_cmp_total, lists_total, then_total, on_total, eq_by_cmp_equiv}
@@ -53,14 +52,9 @@ parts_order_tied = slice_cmp-IsAntisymmetric part_order_tied
 pub same_parts_equiv : IsEquivalence same_parts
 same_parts_equiv = eq_by_cmp_equiv parts_order_total
 
-is_tied : (o : Ordering) → is_eq o ≡ true → o ≡ Equal
-is_tied Less e = cc
-is_tied Equal e = λ i. Equal
-is_tied Greater e = cc
-
 -- lists of parts that are found the same are equal
 pub same_parts_tell : (ps qs : List Part) → IsTrue (same_parts ps qs) → ps ≡ qs
-same_parts_tell ps qs same = parts_order_tied ps qs (is_tied (parts_order ps qs) same)
+same_parts_tell ps qs same = parts_order_tied ps qs ((Equal-is (parts_order ps qs)).0 same)
 
 -- equal lists of parts are found the same
 pub same_parts_found : (ps qs : List Part) → ps ≡ qs → IsTrue (same_parts ps qs)

@@ -1,5 +1,5 @@
 -- A finished letter, by the fields
-use Rattle.std.proofs.Common.{◌≡◌, ◌≢◌, ℕ, zero, suc, ◌+◌, ◌<◌, ◌==◌, true, cond, not, List, [], ◌∷◌, ◌++◌, Option, Some, None, filter, length, remove, is_some, option_map, option_to_list, unwrap_or, refl, sym, ap, ◌∙◌, subst, arith, zero-add, eq-eqb, ne_eqb}
+use Rattle.std.proofs.Common.{◌≡◌, ◌≢◌, ℕ, zero, suc, ◌+◌, ◌<◌, ◌==◌, true, cond, not, List, [], ◌∷◌, ◌++◌, Option, Some, None, filter, length, remove, is_some, option_map, option_to_list, refl, sym, ap, ◌∙◌, subst, arith, zero-add, eq-eqb, ne_eqb}
 use Rattle.std.specs.Ordering.{nat_cmp}
 use Rattle.std.specs.FinMap as fin
 use Rattle.std.specs.FinMap.{FinMap}

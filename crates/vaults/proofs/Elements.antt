@@ -1,12 +1,12 @@
 -- Lists in order: which elements they have, and that these decide them.
-use Rattle.std.proofs.Common.{Bool, true, false, cond, not, List, [], ◌∷◌, ◌++◌, ◌≡◌, ◌∙◌, ◌||◌, ◌&&◌, ◌↔◌, sym, ap, refl, All, filter}
+use Rattle.std.proofs.Common.{Bool, true, false, not, List, [], ◌∷◌, ◌≡◌, ◌∙◌, ◌||◌, ◌&&◌, ◌↔◌, sym, ap, refl, All, filter}
 use Rattle.std.specs.List.{list_any, Contains}
 use Rattle.std.specs.List.Sorted.{IsStrictlySortedBy}
 use Rattle.std.specs.BTreeSet.{BTreeSet, insert_key}
 use Rattle.std.specs.declared.cmp.Ordering.{Ordering}
 use Rattle.std.specs.declared.cmp.Ordering.TheVariants.{Less, Equal, Greater}
 use Rattle.std.specs.Ordering.{eq_by_cmp, is_eq, match_ordering, ordering_reverse}
-use Rattle.std.specs.Cmp.{IsTotalOrder, IsEquivalence}
+use Rattle.std.specs.Cmp.{IsTotalOrder, Equal-is}
 use Rattle.std.specs.FinMap.{IsAntisymmetric}
 use Rattle.std.proofs.lemmas.Cmp.{tied_itself, eq_by_cmp_equiv}
 use Rattle.std.proofs.lemmas.List.Elements.{All-from_recursion, recursion_from_All, All-weaker, All-cons}
@@ -34,15 +34,10 @@ or_swap true false c = refl
 or_swap false true c = refl
 or_swap false false c = refl
 
-equal_is : (r : Ordering) → is_eq r ≡ true → r ≡ Equal
-equal_is Less e = cc
-equal_is Equal e = refl
-equal_is Greater e = cc
-
 module _ {K : Type 0} {R : K → K → Ordering} (o : IsExactOrder R) where
   -- tied elements are equal
   pub same_from_tied : (x y : K) → eq_by_cmp R x y ≡ true → x ≡ y
-  same_from_tied x y e = o.exact x y (equal_is (R x y) e)
+  same_from_tied x y e = o.exact x y ((Equal-is (R x y)).0 e)
 
   pub tied_with_itself : (x : K) → eq_by_cmp R x x ≡ true
   tied_with_itself x = ap is_eq (tied_itself o.total x)

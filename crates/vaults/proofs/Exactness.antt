@@ -1,5 +1,5 @@
 -- What stands in vaults, in lists of readers and in views.
-use Rattle.std.proofs.Common.{ℕ, Bool, true, false, not, List, [], ◌∷◌, ◌++◌, ◌≡◌, ◌∙◌, ◌||◌, ◌&&◌, ◌↔◌, sym, ap, refl, subst, filter, map, Option, Some, None, All, IsTrue}
+use Rattle.std.proofs.Common.{ℕ, Bool, true, false, List, [], ◌∷◌, ◌≡◌, ◌∙◌, ◌||◌, ◌&&◌, sym, ap, refl, filter, map, IsTrue}
 use Rattle.std.specs.List.{list_any, filter_map, Contains}
 use Rattle.std.specs.List.Sorted.{IsStrictlySortedBy}
 use Rattle.std.specs.Ordering.{eq_by_cmp}
@@ -13,7 +13,7 @@ use Rattle.vaults.specs.declared.changes.Change.{Change}
 use Rattle.vaults.specs.declared.changes.Change.TheVariants.{Upload, Withdraw, Grant, Revoke}
 use Rattle.vaults.specs.declared.changes.Entry.{Entry}
 use Rattle.vaults.specs.InOrder.{in_order}
-use Rattle.vaults.specs.Journal.{is_same, is_same_credential, moves, admits, change_credential, moved_credential, change_reader, named_reader, uploads, grants, entry_is, entries_of, last_entry, holds, granted, reads, vault, readers, names_read, Vault, vault_record, view, credentials, refusal}
+use Rattle.vaults.specs.Journal.{is_same, moves, admits, change_credential, moved_credential, change_reader, named_reader, uploads, grants, entry_is, entries_of, holds, granted, reads, vault, readers, names_read, Vault, vault_record, view, credentials}
 use Rattle.vaults.specs.Laws.{VaultsAreExact, ReadersAreExact, NamesReadAreExact, ViewsAreOfNamesRead, ViewsAreExact, HoldingIsOwn, GrantingIsOwn, VaultsAreOwn, ReadersAreOwn, RefusalsAreOwn}
 use Rattle.vaults.proofs.Elements.{has, has-in_order, has-filter, sorted-in_order, has_iff, tied_both_ways}
 use Rattle.vaults.proofs.Orders.{credentials_exact, names_exact, is_same_tied, same_from_is_same, is_same_itself}

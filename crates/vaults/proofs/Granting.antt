@@ -1,5 +1,5 @@
 -- The names that a tenant reads, from the pages.
-use Rattle.std.proofs.Common.{ℕ, Bool, true, false, cond, List, [], ◌∷◌, ◌≡◌, ◌∙◌, ◌||◌, sym, ap, refl, map, filter, Option, Some, None, is_some, unwrap_or}
+use Rattle.std.proofs.Common.{ℕ, Bool, true, false, cond, List, [], ◌∷◌, ◌≡◌, ◌∙◌, ◌||◌, sym, ap, refl, filter, Option, Some, None, is_some, unwrap_or}
 use Rattle.std.specs.List.{list_any, AllByRecursion}
 use Rattle.std.specs.List.Sorted.{IsStrictlySortedBy}
 use Rattle.std.specs.Map.{keys_of, lookup}
@@ -13,7 +13,7 @@ use Rattle.std.proofs.lemmas.Map.Entries.{lookup-filter-values, option_filter}
 use Rattle.std.proofs.lemmas.Map.Keys.{IsDistinct-from_sorted}
 use Rattle.names.specs.Name.{name_order}
 use Rattle.vaults.specs.declared.changes.Entry.{Entry}
-use Rattle.vaults.specs.Journal.{is_same, granted, readers, names_read}
+use Rattle.vaults.specs.Journal.{is_same, granted, names_read}
 use Rattle.vaults.specs.Page.{Kept, nothing_kept, kept_of, ArePages, granting_names}
 use Rattle.vaults.proofs.Elements.{has, has-insert_key, sorted-insert_key, same_in_order}
 use Rattle.vaults.proofs.Orders.{names_exact, is_same_tied}

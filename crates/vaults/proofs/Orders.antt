@@ -1,10 +1,8 @@
 -- The orders of names and of credentials tell their elements apart.
-use Rattle.std.proofs.Common.{ℕ, Bool, true, List, ◌≡◌, ◌∙◌, sym, ap}
+use Rattle.std.proofs.Common.{ℕ, true, List, ◌≡◌, ap}
 use Rattle.std.specs.declared.cmp.Ordering.{Ordering}
-use Rattle.std.specs.declared.cmp.Ordering.TheVariants.{Less, Equal}
 use Rattle.std.specs.Ordering.{eq_by_cmp}
 use Rattle.std.specs.Cmp.Lexicographic.{bytes_decides}
-use Rattle.std.specs.Cmp.{IsTotalOrder}
 use Rattle.std.proofs.lemmas.Cmp.{nat_list_cmp_total}
 use Rattle.std.proofs.lemmas.Map.Text.{is_eq-slice_cmp}
 use Rattle.names.specs.Name.{name_order}

@@ -1,5 +1,5 @@
 -- The pages after a write.
-use Rattle.std.proofs.Common.{ℕ, Bool, true, false, cond, List, ◌≡◌, ◌∙◌, sym, ap, refl, Option, Some, None, unwrap_or}
+use Rattle.std.proofs.Common.{ℕ, Bool, true, false, cond, List, ◌≡◌, ◌∙◌, ap, refl, Option, Some, None, unwrap_or}
 use Rattle.std.specs.Ordering.{eq_by_cmp}
 use Rattle.std.specs.BTreeMap.{BTreeMap, get}
 use Rattle.names.specs.Name.{name_order}

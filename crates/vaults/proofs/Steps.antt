@@ -1,8 +1,7 @@
 -- What is kept of each tenant after one entry more.
-use Rattle.std.proofs.Common.{ℕ, Bool, true, false, cond, not, List, [], ◌∷◌, ◌++◌, ◌+◌, ◌≤◌, ◌<◌, ◌^◌, arith, ◌≡◌, ◌∙◌, ◌||◌, ◌&&◌, sym, ap, refl, subst, length, Option, Some, None, unwrap_or, add-zero, length-append}
+use Rattle.std.proofs.Common.{ℕ, Bool, true, false, cond, not, List, [], ◌∷◌, ◌++◌, ◌+◌, ◌≤◌, ◌<◌, ◌^◌, arith, ◌≡◌, ◌∙◌, ◌||◌, ◌&&◌, sym, ap, refl, subst, length, Option, Some, None, unwrap_or, length-append}
 use Rattle.std.specs.Ordering.{eq_by_cmp}
 use Rattle.std.specs.BTreeMap.{BTreeMap, get}
-use Rattle.std.specs.BTreeSet.{insert_key}
 use Rattle.std.specs.List.Sorted.{IsStrictlySortedBy}
 use Rattle.std.proofs.lemmas.List.{append-nil}
 use Rattle.std.proofs.lemmas.List.Filters.{length-filter_both}
@@ -13,8 +12,7 @@ use Rattle.vaults.specs.declared.changes.Change.{Change}
 use Rattle.vaults.specs.declared.changes.Change.TheVariants.{Upload, Withdraw, Grant, Revoke}
 use Rattle.vaults.specs.declared.changes.Entry.{Entry}
 use Rattle.vaults.specs.declared.faults.VaultFault.TheVariants.{NotIssuer, AlreadyHeld}
-use Rattle.vaults.specs.InOrder.{without}
-use Rattle.vaults.specs.Journal.{is_same, is_same_credential, moves, admits, uploads, grants, entry_is, entries_of, last_entry, holds, granted, vault, readers, refusal}
+use Rattle.vaults.specs.Journal.{is_same, moves, admits, uploads, grants, entry_is, entries_of, last_entry, holds, granted, vault, readers, refusal}
 use Rattle.vaults.specs.Page.{Kept, nothing_kept, kept_of, held_after, readers_after, kept_after, ArePages, KeepsChange}
 use Rattle.vaults.proofs.Elements.{has, same_in_order, has-insert_key, sorted-insert_key, has-without, sorted-without, same_from_tied, tied_both_ways}
 use Rattle.vaults.proofs.Orders.{credentials_exact, names_exact, is_same_tied, same_from_is_same, is_same_itself}

@@ -1,5 +1,5 @@
 -- What holds of vaults, readers and views by their definitions alone.
-use Rattle.std.specs.Prelude.{ℕ, List, ◌≡◌, ◌↔◌, ◌&&◌, IsTrue, map}
+use Rattle.std.specs.Prelude.{ℕ, List, ◌≡◌, ◌↔◌, IsTrue, map}
 use Rattle.std.specs.List.{Contains}
 use Rattle.std.specs.List.Sorted.{IsStrictlySortedBy}
 use Rattle.names.specs.Name.{name_order}
@@ -7,7 +7,7 @@ use Rattle.credential_text.specs.declared.credentials.Credential.{Credential}
 use Rattle.credential_text.specs.Credential.{credential_order}
 use Rattle.vaults.specs.declared.changes.Change.{Change}
 use Rattle.vaults.specs.declared.changes.Entry.{Entry}
-use Rattle.vaults.specs.Journal.{is_same, entries_of, holds, granted, reads, vault, readers, names_read, Vault, view, credentials, refusal}
+use Rattle.vaults.specs.Journal.{entries_of, holds, granted, reads, vault, readers, names_read, Vault, view, credentials, refusal}
 
 -- the list is in the order, each element once, and has exactly what the fact holds of
 pub record ListsInOrder {K : Type 0} (InOrder : List K → Type 0) (P : K → Type 0) (xs : List K) : Type 0 where

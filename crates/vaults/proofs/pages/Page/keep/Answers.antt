@@ -1,4 +1,3 @@
-use Rattle.std.specs.List.Sorted.{IsStrictlySortedBy}
 use Rattle.vaults.proofs.Orders.{credentials_exact, names_exact}
 use Rattle.vaults.proofs.Elements.{sorted-insert_key, sorted-without}
 use Rattle.vaults.proofs.pages.Page.keep.Goals as goal

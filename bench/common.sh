@@ -1,0 +1,29 @@
+# What the benches share. Sourced by each of them, and needs the toolchain's `rt`. A program is made in a temporary
+# folder over copies of the crates, proved before it runs, and taken away again; its source is no .rt file here, since
+# the gate wants each of those in a crate.
+set -eu
+
+root=$(cd "$(dirname "$0")/.." && pwd)
+work=$(mktemp -d)
+trap 'rm -rf "$work"' EXIT
+
+# lay_out PROGRAM LIBRARY..: enters a new folder of the program bench/PROGRAM, which stands on these libraries: crates
+# of the repository, lower ones first, or the kit's own.
+lay_out() {
+    program=$1
+    shift
+    mkdir -p "$work/crates/$program/src"
+    cp "$root/bench/$program/main.rt.txt" "$work/crates/$program/src/main.rt"
+    for library in "$@"; do
+        grep "^$library:" "$root/crates.txt" >> "$work/crates.txt" || continue
+        cp -R "$root/crates/$library" "$work/crates/$library"
+    done
+    echo "$program: $*" >> "$work/crates.txt"
+    cd "$work/crates/$program"
+}
+
+# build: proves and builds the program that was laid out, which stays as out/PROGRAM and does nothing without
+# arguments. What that says is printed where it fails alone.
+build() {
+    rt run > "$work/log" 2>&1 || { cat "$work/log"; exit 1; }
+}
