@@ -1,8 +1,7 @@
 -- What tenants did one after another is a run, in which a wait is a poll before which its search settled.
-use Rattle.std.proofs.Common.{◌≡◌, ℕ, List, [], ◌∷◌, sym, subst}
-use Rattle.hall.specs.declared.requests.Request.TheVariants.{Poll}
+use Rattle.std.proofs.Common.{ℕ, List, [], ◌∷◌, sym, subst}
 use Rattle.hall.specs.declared.replies.Reply.{Reply}
-use Rattle.hall.specs.State.{HallState, IsSound, Settles, search_at}
+use Rattle.hall.specs.State.{HallState, IsSound, Settles}
 use Rattle.hall.specs.Run.{IsServed, Run}
 use Rattle.hall.specs.Deeds.{Deed, asks, waits, Told, CarriesOut, AreDone, DeedsAreAllowed, request_of, calls_of, replies_of}
 use Rattle.hall.proofs.Settling.{hall_stays, driving_settles}

@@ -1,5 +1,5 @@
 -- Each deed keeps what is known of the waits so far, so all are timely.
-use Rattle.std.proofs.Common.{◌≡◌, ◌≢◌, ℕ, ◌+◌, ◌≤◌, Bool, true, false, cond, List, [], ◌∷◌, ◌++◌, refl, ap, ◌∙◌, sym, subst, map, find, take, Option, Some, None, ◌==◌, ◌⊎◌, inl, inr}
+use Rattle.std.proofs.Common.{◌≡◌, ◌≢◌, ℕ, ◌+◌, Bool, true, false, cond, List, [], ◌∷◌, ◌++◌, refl, ap, ◌∙◌, sym, subst, map, take, Option, Some, None, ◌==◌, ◌⊎◌, inl, inr}
 use Rattle.std.specs.Prelude.{option_map, Contains}
 use Rattle.std.proofs.lemmas.List.Elements.{Contains-push}
 use Rattle.std.proofs.lemmas.Bool.Decides.{Decides-eqb}
@@ -13,19 +13,18 @@ use Rattle.hall.specs.declared.faults.Fault.TheVariants.{NoTenant, NoSuchSearch,
 use Rattle.hall.specs.declared.queries.Query.{Query}
 use Rattle.hall.specs.declared.requests.Request.{Request}
 use Rattle.hall.specs.declared.requests.Request.TheVariants as request
-use Rattle.hall.specs.declared.replies.Answer.{Answer}
 use Rattle.hall.specs.declared.replies.Answer.TheVariants.{Working}
 use Rattle.hall.specs.declared.replies.Reply.{Reply}
 use Rattle.hall.specs.declared.replies.Reply.TheVariants.{Counted, Opened, Answered, Closed, Refused}
 use Rattle.hall.specs.Truth.{Settled, Nothing, Yes, No, answer_of, MaySettle}
-use Rattle.hall.specs.Account.{unless_refused, seek_refusal, polled}
+use Rattle.hall.specs.Account.{unless_refused, polled}
 use Rattle.hall.specs.State.{Running, Tenant, HallState, tenant_named, running_numbered, running_of, search_at, account, at_name, with_tenant, open_search, settled_at, settling, AreDistinct}
-use Rattle.hall.specs.Run.{IsServed, IsDriven, SettlesAt, MayReplyTo, entered, opening, opened, ending, closed}
+use Rattle.hall.specs.Run.{IsServed, IsDriven, SettlesAt, MayReplyTo, entered, opening, ending, closed}
 use Rattle.hall.specs.Calls.{new_tenant, new_hall}
-use Rattle.hall.specs.Deeds.{Deed, asks, waits, Told, CarriesOut, IsDone, AreDone, Waited, NeverWaited, IsTimely, IsTimelyPoll, AreTimely}
+use Rattle.hall.specs.Deeds.{Deed, asks, waits, Told, CarriesOut, AreDone, NeverWaited, IsTimely, IsTimelyPoll, AreTimely}
 use Rattle.hall.proofs.Elements.{find-map}
 use Rattle.hall.proofs.Named.{named_changed, own_name}
-use Rattle.hall.proofs.Timely.{told_asked, told_waited, IsPast, IsFresh, IsGiven, Knows, Keeps, keeps-same, knows-asked, keeps-opening, keeps-ending, numbered-settling, never-before, waited-cases}
+use Rattle.hall.proofs.Timely.{told_waited, IsPast, IsFresh, IsGiven, Knows, Keeps, keeps-same, knows-asked, keeps-opening, keeps-ending, numbered-settling, never-before, waited-cases}
 
 -- what is known of every tenant's searches
 abbrev KnowsAll : List Told → HallState → Type 0

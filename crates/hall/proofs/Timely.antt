@@ -1,7 +1,7 @@
 -- What a hall knows of the waits so far, and that each deed keeps it.
-use Rattle.std.proofs.Common.{◌≡◌, ◌≢◌, ℕ, ◌+◌, ◌≤◌, zero, suc, Bool, true, false, cond, List, [], ◌∷◌, ◌++◌, refl, ap, ◌∙◌, sym, subst, map, filter, find, Option, Some, None, ◌==◌, not, ◌⊎◌, inl, inr, length, arith}
+use Rattle.std.proofs.Common.{◌≡◌, ◌≢◌, ℕ, ◌+◌, ◌≤◌, Bool, true, false, cond, List, [], ◌∷◌, ◌++◌, refl, ap, ◌∙◌, sym, subst, map, filter, Option, Some, None, ◌==◌, not, ◌⊎◌, inl, inr, length, arith}
 use Rattle.std.specs.Prelude.{option_map, Contains}
-use Rattle.std.proofs.lemmas.List.Elements.{Contains-append_left, Contains-push, Contains-push_cases, All-contains, filter_passes}
+use Rattle.std.proofs.lemmas.List.Elements.{Contains-append_left, Contains-push_cases, All-contains, filter_passes}
 use Rattle.std.proofs.lemmas.Bool.{false≢true}
 use Rattle.std.specs.Option.{option_or}
 use Rattle.std.proofs.lemmas.List.Folds.{find-append}
@@ -14,12 +14,12 @@ use Rattle.hall.specs.declared.requests.Request.{Request}
 use Rattle.hall.specs.declared.replies.Reply.{Reply}
 use Rattle.hall.specs.declared.replies.Reply.TheVariants.{Refused}
 use Rattle.hall.specs.Truth.{Settled, Nothing}
-use Rattle.hall.specs.State.{Running, Tenant, HallState, tenant_named, running_numbered, running_of, settled_at}
+use Rattle.hall.specs.State.{Running, Tenant, running_numbered, running_of, settled_at}
 use Rattle.hall.specs.Run.{opening, ending}
 use Rattle.hall.proofs.Elements.{find-map}
 use Rattle.hall.proofs.Named.{find-filter}
 use Rattle.rt0_rules.proofs.Elements.{find-Some}
-use Rattle.hall.specs.Deeds.{Deed, asks, waits, Told, Waited, NeverWaited}
+use Rattle.hall.specs.Deeds.{asks, waits, Told, Waited, NeverWaited}
 
 -- a tenant's request, and its wait for a search, with their replies
 abbrev pub told_asked : List ℕ → Request → Reply → Told

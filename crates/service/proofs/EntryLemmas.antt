@@ -1,5 +1,5 @@
 -- Lemmas on what a line may become.
-use Rattle.std.proofs.Common.{◌≡◌, ℕ, Bool, true, false, List, refl, sym, ap, subst, Option, Some, None, ◌∙◌}
+use Rattle.std.proofs.Common.{◌≡◌, ℕ, Bool, true, false, List, refl, sym, ap, subst, Option, Some, None}
 use Rattle.std.specs.Prelude.{MatchBool, option_map, is_some}
 use Rattle.std.specs.List.{list_any, before_first, after_first}
 use Rattle.hall.specs.State.{HallState, Tenant, is_tenant, tenant_named}

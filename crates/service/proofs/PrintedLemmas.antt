@@ -1,5 +1,5 @@
 -- A reply that memory lacked for is one that the hall may have given.
-use Rattle.std.proofs.Common.{◌≡◌, ℕ, ◌+◌, length, Bool, true, false, List, refl, sym, ◌∙◌, subst, ap, Option, Some, None, inl, inr, ◌⊎◌}
+use Rattle.std.proofs.Common.{◌≡◌, ℕ, ◌+◌, length, Bool, true, false, List, refl, sym, ◌∙◌, subst, ap, Option, Some, None, inl, inr}
 use Rattle.std.proofs.lemmas.Bool.{false≢true}
 use Rattle.vaults.specs.Journal.{Vault, view}
 use Rattle.hall.specs.declared.faults.Fault.{Fault}

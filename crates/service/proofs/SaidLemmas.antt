@@ -1,6 +1,5 @@
 -- Lemmas on what a tenant said.
-use Rattle.std.proofs.Common.{◌≡◌, ℕ, List, [], ◌∷◌, refl, sym, ◌∙◌, Ok, Err}
-use Rattle.std.proofs.lemmas.List.{append-nil}
+use Rattle.std.proofs.Common.{◌≡◌, ℕ, List, refl, sym, Ok, Err}
 use Rattle.hall.specs.declared.replies.Reply.{Reply}
 use Rattle.hall.specs.State.{HallState}
 use Rattle.hall.specs.Run.{RefusedLast}

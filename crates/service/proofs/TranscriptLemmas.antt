@@ -7,10 +7,10 @@ use Rattle.std.proofs.lemmas.Grind.{flat_map-append}
 use Rattle.std.proofs.lemmas.List.{append-nil}
 use Rattle.quotas.specs.Quota.{Quota}
 use Rattle.hall.specs.declared.replies.Reply.{Reply}
-use Rattle.hall.specs.Account.{Account, Moment}
-use Rattle.hall.specs.State.{HallState, Tenant, IsSound, IsSoundTenant, AreDistinct, account, account_of, is_tenant, tenant_named}
-use Rattle.hall.specs.Run.{IsAllowedRun, trace, replies_to}
-use Rattle.hall.specs.Calls.{new_tenant, new_hall, IsNewHall}
+use Rattle.hall.specs.Account.{Moment}
+use Rattle.hall.specs.State.{HallState, Tenant, IsSound, IsSoundTenant, account, is_tenant, tenant_named}
+use Rattle.hall.specs.Run.{IsAllowedRun}
+use Rattle.hall.specs.Calls.{new_hall, IsNewHall}
 use Rattle.hall.specs.Deeds.{Told, AreDone, AreAllowed}
 use Rattle.hall.proofs.Deeds.{deeds_allowed}
 use Rattle.hall.proofs.Timeliness.{deeds_are_timely}

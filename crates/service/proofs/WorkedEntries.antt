@@ -1,5 +1,5 @@
 -- Worked lines, whose entries the definitions have to compute.
-use Rattle.std.proofs.Common.{List, ℕ, [], ◌∷◌, refl}
+use Rattle.std.proofs.Common.{[], ◌∷◌, refl}
 use Rattle.std.specs.Prelude.{codes}
 use Rattle.quotas.specs.Quota.{usual_quota}
 use Rattle.hall.specs.State.{HallState}

@@ -18,6 +18,7 @@ pub mod Entry
 pub mod Transcript
 pub mod Roster
 pub mod RosterReading
+pub mod OneReading
 pub mod Outcome
 pub mod Turn
 pub mod TwoScripts

@@ -1,5 +1,5 @@
 -- What a registry keeps of each tenant, and the hall that it is.
-use Rattle.std.specs.Prelude.{◌≡◌, ℕ, Bool, true, false, List, [], ◌∷◌, ◌++◌, length, map, filter, take, not, ◌==◌, is_some, Option, None, Some}
+use Rattle.std.specs.Prelude.{◌≡◌, ℕ, Bool, true, false, List, [], ◌∷◌, ◌++◌, length, map, filter, take, not, ◌==◌, Option, None, Some}
 use Rattle.std.specs.List.{AllByRecursion}
 use Rattle.credential_text.specs.declared.credentials.Credential.{Credential}
 use Rattle.quotas.specs.Quota.{Quota}
@@ -7,7 +7,7 @@ use Rattle.vaults.specs.declared.changes.Entry.{Entry}
 use Rattle.vaults.specs.Journal.{view, credentials}
 use Rattle.hall.specs.declared.queries.Query.{Query}
 use Rattle.hall.specs.Truth.{Settled, Nothing, Yes, No}
-use Rattle.hall.specs.State.{Running, Tenant, HallState, IsSound, tenant_named}
+use Rattle.hall.specs.State.{Running, Tenant, HallState, IsSound}
 
 -- a search that has not ended, with the credentials that it looks at
 pub record Copied : Type 0 where

@@ -1,4 +1,4 @@
-use Rattle.std.proofs.Common.{◌≡◌, ◌∙◌, List, ap, sym, find, option_map, Option, None, Some}
+use Rattle.std.proofs.Common.{◌∙◌, List, ap, sym, find, option_map, Some}
 use Rattle.std.specs.Prelude.{option_copied}
 use Rattle.hall.specs.State.{HallState, tenant_named}
 use Rattle.service.specs.Seats.{SeatState}
