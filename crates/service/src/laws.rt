@@ -13,3 +13,6 @@ pub fn rosters_have_one_reading()
 pub fn two_scripts()
     ensures { TwoScripts }
 {}
+
+#[cfg(test)]
+mod tests;
