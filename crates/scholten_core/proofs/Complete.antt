@@ -4,15 +4,16 @@ use Rattle.std.proofs.Common.{◌≡◌, ℕ, zero, suc, cond, List, [], ◌∷�
 use Rattle.std.specs.Ordering.{nat_cmp}
 use Rattle.std.specs.FinMap as fin
 use Rattle.std.proofs.lemmas.List.Sums.{sum_by-cons}
-use Rattle.scholten_core.specs.declared.Parent.{Parent}
-use Rattle.scholten_core.specs.declared.Parent.TheVariants.{Neutral, Environment, Node}
-use Rattle.scholten_core.specs.declared.Letter.{Letter}
-use Rattle.scholten_core.specs.Computation.{Computation, deficit, is_same, outstanding}
+use Rattle.scholten_core.specs.declared.parents.Parent.{Parent}
+use Rattle.scholten_core.specs.declared.parents.Parent.TheVariants.{Neutral, Environment, Node}
+use Rattle.scholten_core.specs.declared.letters.Letter.{Letter}
+use Rattle.scholten_core.specs.Computation.{Computation, StandByNumber, deficit, same_parent, outstanding}
 use Rattle.scholten_core.specs.Step.{started}
 use Rattle.scholten_core.specs.Sound.{IsSound}
 use Rattle.scholten_core.specs.Settled.{IsSettledBut}
 use Rattle.scholten_core.specs.Tree.{bare}
 use Rattle.scholten_core.proofs.Engaged.{count-empty}
+use Rattle.scholten_core.proofs.Lists.{Contains_from_lookup, lookup_from_Contains}
 use Rattle.scholten_core.proofs.Same.{hit-self}
 use Rattle.scholten_core.proofs.Steps.{deficit-le-outstanding, settled_sends}
 use Rattle.scholten_core.proofs.Trees.{no_root, rooted, some_leaf}
@@ -24,7 +25,7 @@ nothing = record { sent = 0; letters = []; signals = []; engaged = fin.empty }
 settled_nothing : {P : Type 0} → IsSettledBut (nothing {P = P}) Neutral
 settled_nothing = record {
   busy = λ n apart there. absurd (cc (ap is_some (fin.get-empty {X = Parent} nat_cmp n)));
-  idle = λ p idle. omega (arith, count-empty (is_same p));
+  idle = λ p idle. omega (arith, count-empty (same_parent p));
   tree = bare;
   numbers = omega arith;
   one_each = omega (arith, fin.len-empty nat_cmp Parent);
@@ -44,16 +45,21 @@ module _ {P : Type 0} where
     one_each = settled.one_each;
   }
 
+  -- a letter stands under its number alone
+  pub stand_by_number : (d : Computation P) → IsSettledBut d Neutral → StandByNumber d
+  stand_by_number d settled number l =
+      (λ there. lookup_from_Contains 0 d.letters d.sent number l settled.numbers there, λ found. Contains_from_lookup number d.letters l found)
+
   -- a letter's sender is owed something
-  no_letter : (d : Computation P) (letters : List (ℕ × Letter P)) → ((p : Parent) → count_by (λ (l : ℕ × Letter P). is_same p l.1.from) letters ≡ 0) → length letters ≡ 0
+  no_letter : (d : Computation P) (letters : List (ℕ × Letter P)) → ((p : Parent) → count_by (λ (l : ℕ × Letter P). same_parent p l.1.from) letters ≡ 0) → length letters ≡ 0
   no_letter d [] none = refl
   no_letter d (l ∷ ls) none =
-      absurd (omega (arith, none l.1.from, hit-self l.1.from, sum_by-cons (λ (x : ℕ × Letter P). cond {A = ℕ} (is_same l.1.from x.1.from) 1 0) l ls))
+      absurd (omega (arith, none l.1.from, hit-self l.1.from, sum_by-cons (λ (x : ℕ × Letter P). cond {A = ℕ} (same_parent l.1.from x.1.from) 1 0) l ls))
 
-no_signal : (signals : List Parent) → ((p : Parent) → count_by (is_same p) signals ≡ 0) → length signals ≡ 0
+no_signal : (signals : List Parent) → ((p : Parent) → count_by (same_parent p) signals ≡ 0) → length signals ≡ 0
 no_signal [] none = refl
 no_signal (s ∷ ss) none =
-    absurd (omega (arith, none s, hit-self s, sum_by-cons (λ (x : Parent). cond {A = ℕ} (is_same s x) 1 0) s ss))
+    absurd (omega (arith, none s, hit-self s, sum_by-cons (λ (x : Parent). cond {A = ℕ} (same_parent s x) 1 0) s ss))
 
 module _ {P : Type 0} (d : Computation P) (settled : IsSettledBut d Neutral) where
   -- where the environment is owed nothing, nobody is
@@ -79,6 +85,6 @@ module _ {P : Type 0} (d : Computation P) (settled : IsSettledBut d Neutral) whe
       let leafless : fin.len d.engaged ≡ 0 = elim (fin.len d.engaged) as (λ n. fin.len d.engaged ≡ n → n ≡ 0) [
         | zero ↦ λ _. refl
         | suc n ↦ λ e. let leaf = some_leaf settled.tree (omega (arith, e)) in
-            absurd (omega (arith, settled.busy leaf.0 (λ x. cc) leaf.1, leaf.2, ap (count_by (λ (l : ℕ × Letter P). is_same (Node leaf.0) l.1.from)) no_letters, ap (count_by (is_same (Node leaf.0))) no_signals))
+            absurd (omega (arith, settled.busy leaf.0 (λ x. cc) leaf.1, leaf.2, ap (count_by (λ (l : ℕ × Letter P). same_parent (Node leaf.0) l.1.from)) no_letters, ap (count_by (same_parent (Node leaf.0))) no_signals))
       ] refl in
       omega (arith, leafless, ap length no_letters, ap length no_signals)

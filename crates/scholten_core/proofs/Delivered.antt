@@ -4,15 +4,17 @@ use Rattle.std.specs.List.{slice_get}
 use Rattle.std.specs.FinMap as fin
 use Rattle.std.specs.BTreeMap.{BTreeMap}
 use Rattle.std.proofs.lemmas.List.{append-nil}
-use Rattle.scholten_core.specs.declared.Parent.{Parent}
-use Rattle.scholten_core.specs.declared.Parent.TheVariants.{Neutral, Environment, Node}
-use Rattle.scholten_core.specs.declared.Letter.{Letter}
+use Rattle.scholten_core.specs.declared.parents.Parent.{Parent}
+use Rattle.scholten_core.specs.declared.parents.Parent.TheVariants.{Neutral, Environment, Node}
+use Rattle.scholten_core.specs.declared.letters.Letter.{Letter}
 use Rattle.scholten_core.specs.declared.engagement.Engagement.{Engagement}
-use Rattle.scholten_core.specs.Computation.{Computation, deficit, is_same, outstanding}
+use Rattle.scholten_core.specs.Computation.{Computation, deficit, same_parent, outstanding}
 use Rattle.scholten_core.specs.Step.{settles, settles_under, signalled, signalled_as}
-use Rattle.scholten_core.specs.Kept.{IsKept, engagements, engager, hit, kept, parent_kept}
+use Rattle.scholten_core.specs.Kept.{Delivers, IsKept, engagements, engager, held_in, kept, parent_kept}
+use Rattle.scholten_core.specs.Call.{DeliversSignal}
 use Rattle.scholten_core.proofs.Engaged.{get-remove_same, get-remove_other, one_or_other}
-use Rattle.scholten_core.proofs.Fields.{engagements_are, get-engagements, held_in}
+use Rattle.scholten_core.proofs.Fields.{engagements_are, get-engagements}
+use Rattle.scholten_core.proofs.Complete.{sound}
 use Rattle.scholten_core.proofs.Steps.{deficit-delivered, delivered}
 use Rattle.scholten_core.proofs.Whole.{is_delivered}
 
@@ -27,12 +29,11 @@ none_either false = refl
 
 -- what the fields hold once a signal is delivered
 pub record IsSignalled {P : Type 0} (d : Computation P) (place : ℕ) (e : Computation P) (waiters owed : ℕ) (nodes : BTreeMap ℕ Engagement) : Type 0 where
-  pub is : e ≡ signalled d place
+  pub step : DeliversSignal d place e
   pub kept : IsKept e waiters owed nodes
-  pub less : outstanding e + 1 ≡ outstanding d
 
 -- the fields after a signal to one is delivered, where the counts and the nodes are as they are told
-module _ {P : Type 0} (sent : ℕ) (letters : List (ℕ × Letter P)) (signals : List Parent) (waiters owed : ℕ) (nodes : BTreeMap ℕ Engagement) (keeps : IsKept (held_in sent letters signals nodes) waiters owed nodes) (place : ℕ) (to : Parent) (at : slice_get signals place ≡ Some to) (owed_after : ℕ) (nodes_after : BTreeMap ℕ Engagement) (by : Option Parent) (counts : (p : Parent) → kept owed_after nodes_after p + hit p to ≡ kept owed nodes p) (by_is : by ≡ (if kept owed_after nodes_after to == 0 then engager nodes to else None)) (nodes_are : (n : ℕ) → parent_kept nodes_after n ≡ (if is_same to (Node n) && is_some by then None else parent_kept nodes n)) where
+module _ {P : Type 0} (sent : ℕ) (letters : List (ℕ × Letter P)) (signals : List Parent) (waiters owed : ℕ) (nodes : BTreeMap ℕ Engagement) (keeps : IsKept (held_in sent letters signals nodes) waiters owed nodes) (place : ℕ) (to : Parent) (at : slice_get signals place ≡ Some to) (owed_after : ℕ) (nodes_after : BTreeMap ℕ Engagement) (by : Option Parent) (delivers : Delivers owed owed_after nodes nodes_after to by) where
   abbrev before : Computation P
   before = held_in sent letters signals nodes
 
@@ -41,7 +42,7 @@ module _ {P : Type 0} (sent : ℕ) (letters : List (ℕ × Letter P)) (signals :
 
   -- the counts are those of the computation without the signal
   counts_taken : (p : Parent) → kept owed_after nodes_after p ≡ deficit taken p
-  counts_taken p = omega (arith, counts p, keeps.counts p, deficit-delivered before place to at p)
+  counts_taken p = omega (arith, delivers.counts p, keeps.counts p, deficit-delivered before place to at p)
 
   -- where nobody is let go, only the signal is gone
   stays : by ≡ None → taken ≡ held_in sent letters (remove signals place ++ option_to_list by) nodes_after
@@ -50,13 +51,13 @@ module _ {P : Type 0} (sent : ℕ) (letters : List (ℕ × Letter P)) (signals :
         sent = sent;
         letters = letters;
         signals = (sym (append-nil (remove signals place)) ∙ ap (λ o. remove signals place ++ option_to_list o) (sym none)) i;
-        engaged = engagements_are (engagements nodes.entries) nodes_after (λ n. get-engagements nodes n ∙ sym (nodes_are n ∙ stays_none _ by _ none)) i;
+        engaged = engagements_are (engagements nodes.entries) nodes_after (λ n. get-engagements nodes n ∙ sym (delivers.parents n ∙ stays_none _ by _ none)) i;
       }
 
   removed : (n : ℕ) (parent : Parent) → to ≡ Node n → by ≡ Some parent → (q : ℕ) → fin.get (fin.remove (engagements nodes.entries) n) q ≡ parent_kept nodes_after q
   removed n parent is some q =
-      let test : (is_same to (Node q) && is_some by) ≡ ((n == q) && true) = λ i. is_same (is i) (Node q) && is_some (some i) in
-      let after = nodes_are q ∙ ap (λ b. if b then None else parent_kept nodes q) test in
+      let test : (same_parent to (Node q) && is_some by) ≡ ((n == q) && true) = λ i. same_parent (is i) (Node q) && is_some (some i) in
+      let after = delivers.parents q ∙ ap (λ b. if b then None else parent_kept nodes q) test in
       one_or_other q n
       (λ one. ap (fin.get _) one ∙ get-remove_same (engagements nodes.entries) n ∙ sym (after ∙ ap (λ b. if b && true then None else parent_kept nodes q) (ap (λ x. n == x) one ∙ eq-eqb n n refl)))
       (λ other. get-remove_other (engagements nodes.entries) n q other ∙ get-engagements nodes q ∙ sym (after ∙ ap (λ b. if b && true then None else parent_kept nodes q) (ne_eqb n q (λ e. other (sym e)))))
@@ -74,7 +75,7 @@ module _ {P : Type 0} (sent : ℕ) (letters : List (ℕ × Letter P)) (signals :
   -- the answer, with what the one is owed
   answer : (x : Parent) → to ≡ x → (b : Bool) → (deficit taken x == 0) ≡ b → by ≡ (if b then engager nodes x else None)
   answer x is b owed_is =
-      by_is ∙ (λ i. if (ap (λ n. n == 0) (ap (kept owed_after nodes_after) is ∙ counts_taken x) ∙ owed_is) i then engager nodes (is i) else None)
+      delivers.signal ∙ (λ i. if (ap (λ n. n == 0) (ap (kept owed_after nodes_after) is ∙ counts_taken x) ∙ owed_is) i then engager nodes (is i) else None)
 
   settles_node : (n : ℕ) → to ≡ Node n → (o : Option Parent) → fin.get (engagements nodes.entries) n ≡ o → settles_under taken n o ≡ held_in sent letters (remove signals place ++ option_to_list by) nodes_after
   settles_node n is None gone =
@@ -99,15 +100,22 @@ module _ {P : Type 0} (sent : ℕ) (letters : List (ℕ × Letter P)) (signals :
       record {
         settled = after.settled;
         waits = keeps.waits ∙ ap (λ ls. length (filter (λ (l : ℕ × Letter P). not l.1.held) ls)) (sym after.letters);
-        counts = λ p. omega (arith, counts p, keeps.counts p, after.deficits p);
+        counts = λ p. omega (arith, delivers.counts p, keeps.counts p, after.deficits p);
       }
 
   -- the fields hold the computation with the signal delivered
   pub signalled_fields : (signals_after : List Parent) → signals_after ≡ remove signals place ++ option_to_list by → IsSignalled before place (held_in sent letters signals_after nodes_after) waiters owed_after nodes_after
   signalled_fields signals_after signals_are =
       let is : held_in sent letters signals_after nodes_after ≡ settles taken to = ap (λ s. held_in sent letters s nodes_after) signals_are ∙ sym signalled_is in
+      let kept = subst (λ d. IsKept d waiters owed_after nodes_after) (sym is) signalled_kept in
+      let after = is_delivered before place to at keeps.settled in
       record {
-        is = is ∙ sym (ap (signalled_as before place) at);
-        kept = subst (λ d. IsKept d waiters owed_after nodes_after) (sym is) signalled_kept;
-        less = ap (λ d. outstanding d + 1) is ∙ (is_delivered before place to at keeps.settled).amount;
+        step = record {
+          signalled = is ∙ sym (ap (signalled_as before place) at);
+          letters = refl;
+          sent = refl;
+          less = ap (λ d. outstanding d + 1) is ∙ after.amount;
+          sound = sound _ kept.settled;
+        };
+        kept = kept;
       }

@@ -8,7 +8,7 @@ use Rattle.std.specs.FinMap.Entries.{by_order}
 use Rattle.std.proofs.lemmas.List.{length-map}
 use Rattle.std.proofs.lemmas.List.Sums.{sum_by-cons, count_by-le-length}
 use Rattle.std.proofs.lemmas.Map.Views.{exact_unsigned_eq}
-use Rattle.scholten_core.specs.declared.Parent.{Parent}
+use Rattle.scholten_core.specs.declared.parents.Parent.{Parent}
 
 -- two numbers are one, or differ
 pub one_or_other : (m n : ℕ) {C : Type 0} → (m ≡ n → C) → (m ≢ n → C) → C

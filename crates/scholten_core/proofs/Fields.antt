@@ -10,23 +10,19 @@ use Rattle.std.specs.Map.{lookup}
 use Rattle.std.specs.BTreeMap.{BTreeMap, is_at}
 use Rattle.std.proofs.lemmas.Option.{same_Some, slice_get-get_or, slice_get_within, get_or_from_slice_get}
 use Rattle.std.proofs.lemmas.List.Sums.{count_by-le-length, length-filter, sum_by-set}
-use Rattle.scholten_core.specs.declared.Parent.{Parent}
-use Rattle.scholten_core.specs.declared.Parent.TheVariants.{Neutral, Environment, Node}
-use Rattle.scholten_core.specs.declared.Letter.{Letter}
+use Rattle.scholten_core.specs.declared.parents.Parent.{Parent}
+use Rattle.scholten_core.specs.declared.parents.Parent.TheVariants.{Neutral, Environment, Node}
+use Rattle.scholten_core.specs.declared.letters.Letter.{Letter}
 use Rattle.scholten_core.specs.declared.engagement.Engagement.{Engagement}
-use Rattle.scholten_core.specs.Computation.{Computation, IsHeld, deficit, is_same, waiting}
+use Rattle.scholten_core.specs.Computation.{Computation, IsHeld, deficit, same_parent, waiting}
 use Rattle.scholten_core.specs.Step.{marked, started}
 use Rattle.scholten_core.specs.Sound.{IsNumbered}
-use Rattle.scholten_core.specs.Kept.{IsKept, engagements, kept, parent_kept}
-use Rattle.scholten_core.proofs.Complete.{settled_started}
+use Rattle.scholten_core.specs.Kept.{IsKept, engagements, held_in, kept, parent_kept}
+use Rattle.scholten_core.specs.Call.{TakesLetter}
+use Rattle.scholten_core.proofs.Complete.{settled_started, sound}
 use Rattle.scholten_core.proofs.Engaged.{alike, count-empty}
 use Rattle.scholten_core.proofs.Lists.{changed-set, filter_passes, lookup-changed, lookup_at, place_from_lookup}
 use Rattle.scholten_core.proofs.Steps.{deficit-marked, settled_marked}
-
--- the computation that the fields hold
-abbrev pub held_in : {P : Type 0} → ℕ → List (ℕ × Letter P) → List Parent → BTreeMap ℕ Engagement → Computation P
-held_in sent letters signals nodes =
-    record { sent = sent; letters = letters; signals = signals; engaged = engagements nodes.entries }
 
 find-engagements : (n : ℕ) (es : List (ℕ × Engagement)) → fin.find nat_cmp n (map (λ e. (e.0, e.1.parent)) es) ≡ option_map (λ e. e.parent) (lookup (is_at (nat_cmp n)) es)
 find-engagements n [] = refl
@@ -53,9 +49,9 @@ waiters-le-sent {P} d waiters owed nodes keeps =
 module _ {P : Type 0} (root : ℕ) (load : P) (nodes : BTreeMap ℕ Engagement) (bare : nodes.entries ≡ []) where
   first_counts : (p : Parent) → kept 1 nodes p ≡ deficit (started root load) p
   first_counts Neutral = sym ((settled_started root load).idle Neutral refl)
-  first_counts Environment = omega (arith, count-empty (is_same Environment))
+  first_counts Environment = omega (arith, count-empty (same_parent Environment))
   first_counts (Node n) =
-      omega (arith, count-empty (is_same (Node n)), ap (λ es. unwrap_or (option_map (λ e. e.deficit) (lookup (is_at (nat_cmp n)) es)) 0) bare)
+      omega (arith, count-empty (same_parent (Node n)), ap (λ es. unwrap_or (option_map (λ e. e.deficit) (lookup (is_at (nat_cmp n)) es)) 0) bare)
 
   pub started_kept : IsKept (started root load) 1 1 nodes
   started_kept = record { settled = settled_started root load; waits = refl; counts = first_counts }
@@ -146,6 +142,24 @@ module _ {P : Type 0} (d : Computation P) (waiters owed : ℕ) (nodes : BTreeMap
 pub held_marked : {P : Type 0} (d : Computation P) (at number : ℕ) (l : Letter P) (was : Bool) → StandsAt d.letters number at l was → IsHeld (marked d number true) number
 held_marked {P} d at number l was stands =
     subst (λ (o : Option (Letter P)). IsSomeAnd o (λ l. IsTrue l.held)) (sym (lookup-changed number (λ l. record l { held = true }) d.letters ∙ ap (option_map (λ (l : Letter P). record l { held = true })) stands.found)) refl
+
+-- the waiting letter at a place is taken
+module _ {P : Type 0} (sent : ℕ) (letters : List (ℕ × Letter P)) (signals : List Parent) (waiters owed : ℕ) (nodes : BTreeMap ℕ Engagement) (keeps : IsKept (held_in sent letters signals nodes) waiters owed nodes) (place at : ℕ) (y : ℕ × Letter P) (inside : place < length (waiting (held_in sent letters signals nodes))) (same : slice_get letters at ≡ slice_get (waiting (held_in sent letters signals nodes)) place) (is : y ≡ get_or letters at y) where
+  pub takes_letter : TakesLetter (held_in sent letters signals nodes) place y.0 (held_in sent (set letters at (y.0, record y.1 { held = true })) signals nodes)
+  takes_letter =
+      let stands = waits_at 0 letters sent place at y keeps.settled.numbers inside same is in
+      let d = held_in sent letters signals nodes in
+      let written = marked_is d waiters owed nodes keeps at y.0 y.1 false stands true y is in
+      let found = lookup-changed y.0 (λ l. record l { held = true }) letters ∙ ap (option_map (λ (l : Letter P). record l { held = true })) stands.found in
+      let sound_now = sound _ (settled_marked d y.0 true Neutral keeps.settled) in
+      subst (λ e. TakesLetter d place y.0 e) written (record {
+        letter = y.1;
+        waited = waiting_one 0 letters sent place at y keeps.settled.numbers inside same is;
+        marked = refl;
+        taken = found;
+        held = held_marked d at y.0 y.1 false stands;
+        sound = sound_now;
+      })
 
 -- what is kept is kept by a map of the same entries
 pub kept_entries : {P : Type 0} (d : Computation P) (waiters owed : ℕ) (nodes same : BTreeMap ℕ Engagement) → same.entries ≡ nodes.entries → IsKept d waiters owed nodes → IsKept d waiters owed same

@@ -9,18 +9,19 @@ use Rattle.std.proofs.lemmas.List.{append-nil}
 use Rattle.std.proofs.lemmas.List.Edits.{remove-append_left}
 use Rattle.std.proofs.lemmas.List.Sums.{length-filter, sum_by-append}
 use Rattle.std.proofs.lemmas.Option.{slice_get_within}
-use Rattle.scholten_core.specs.declared.Parent.{Parent}
-use Rattle.scholten_core.specs.declared.Parent.TheVariants.{Neutral, Environment, Node}
-use Rattle.scholten_core.specs.declared.Letter.{Letter}
+use Rattle.scholten_core.specs.declared.parents.Parent.{Parent}
+use Rattle.scholten_core.specs.declared.parents.Parent.TheVariants.{Neutral, Environment, Node}
+use Rattle.scholten_core.specs.declared.letters.Letter.{Letter}
 use Rattle.scholten_core.specs.declared.engagement.Engagement.{Engagement}
 use Rattle.scholten_core.specs.Computation.{Computation, deficit, is_engaged, outstanding, waiting}
 use Rattle.scholten_core.specs.Step.{answers, finished, finished_as, finishes, letters_after, numbered, receives, sends, settles, settles_under}
-use Rattle.scholten_core.specs.Kept.{IsKept, deficit_kept, engagements, kept, parent_kept}
+use Rattle.scholten_core.specs.Kept.{IsKept, Receives, deficit_kept, engagements, held_in, kept, parent_kept}
+use Rattle.scholten_core.specs.Call.{FinishesLetter}
 use Rattle.scholten_core.proofs.Engaged.{get-insert_same, get-insert_other, one_or_other, remove-insert}
-use Rattle.scholten_core.proofs.Fields.{StandsAt, engagements_are, get-engagements, held_in}
+use Rattle.scholten_core.proofs.Fields.{StandsAt, engagements_are, get-engagements}
 use Rattle.scholten_core.proofs.Lists.{filter-remove, sum_by-filter_number}
 use Rattle.scholten_core.proofs.Paid.{count_of}
-use Rattle.scholten_core.proofs.Same.{is_same-self}
+use Rattle.scholten_core.proofs.Same.{same_parent-self}
 use Rattle.scholten_core.proofs.Sent.{length-numbered, waiting-numbered}
 use Rattle.scholten_core.proofs.Steps.{IsReceived, acknowledged, deficit-sends, engages, received, rest}
 use Rattle.scholten_core.proofs.Whole.{is_finished}
@@ -41,20 +42,10 @@ module _ {P : Type 0} (e : Computation P) (n : ℕ) where
       ap (settles_under e n) engaged
       ∙ ap (λ k. cond (k == 0) (record e { signals = e.signals ++ by ∷ []; engaged = fin.remove e.engaged n }) e) nothing
 
--- what becomes of the engaged nodes when one receives a letter from another and sends so many; by is
--- whom a signal goes to
-pub record Receives (nodes nodes_after : BTreeMap ℕ Engagement) (from : Parent) (to count : ℕ) (by : Option Parent) : Type 0 where
-  pub same : (n : ℕ) → n ≢ to → get nat_cmp nodes_after n ≡ get nat_cmp nodes n
-  pub engaged : (e : Engagement) → get nat_cmp nodes to ≡ Some e → (by ≡ Some from) × (get nat_cmp nodes_after to ≡ Some (record e { deficit = e.deficit + count }))
-  pub anew : get nat_cmp nodes to ≡ None → 0 < count → (by ≡ None) × (get nat_cmp nodes_after to ≡ Some (record { parent = from; deficit = count }))
-  pub idle : get nat_cmp nodes to ≡ None → count ≡ 0 → (by ≡ Some from) × (get nat_cmp nodes_after to ≡ None)
-
 -- what the fields hold once a letter is finished
 pub record IsFinishedIn {P : Type 0} (d : Computation P) (number : ℕ) (outs : List (ℕ × P)) (e : Computation P) (waiters owed : ℕ) (nodes : BTreeMap ℕ Engagement) : Type 0 where
-  pub is : e ≡ finished d number outs
+  pub step : FinishesLetter d number outs e
   pub kept : IsKept e waiters owed nodes
-  pub letters : e.letters ≡ letters_after d number outs
-  pub more : outstanding e ≡ outstanding d + length outs
 
 -- what the fields hold after a letter is finished
 module _ {P : Type 0} (sent : ℕ) (letters : List (ℕ × Letter P)) (signals : List Parent) (waiters owed : ℕ) (nodes : BTreeMap ℕ Engagement) (keeps : IsKept (held_in sent letters signals nodes) waiters owed nodes) (number : ℕ) (l : Letter P) (found : lookup (λ n. n == number) letters ≡ Some l) (outs : List (ℕ × P)) (nodes_after : BTreeMap ℕ Engagement) (by : Option Parent) (receives_it : Receives nodes nodes_after l.from l.to (length outs) by) where
@@ -74,7 +65,7 @@ module _ {P : Type 0} (sent : ℕ) (letters : List (ℕ × Letter P)) (signals :
 
   owed_to : deficit (sends (receives before number l) (Node l.to) outs) (Node l.to) ≡ deficit before (Node l.to) + length outs
   owed_to =
-      omega (arith, deficit-sends (receives before number l) (Node l.to) outs (Node l.to), ap (λ b. cond b (length outs) 0) (is_same-self (Node l.to)), got.owed.deficits (Node l.to))
+      omega (arith, deficit-sends (receives before number l) (Node l.to) outs (Node l.to), ap (λ b. cond b (length outs) 0) (same_parent-self (Node l.to)), got.owed.deficits (Node l.to))
 
   engaged_before : (o : Option Engagement) → get nat_cmp nodes l.to ≡ o → is_engaged before l.to ≡ is_some o
   engaged_before o is =
@@ -190,8 +181,11 @@ module _ {P : Type 0} (sent : ℕ) (letters : List (ℕ × Letter P)) (signals :
       let is : held_in (sent + length outs) letters_now signals_now nodes_after ≡ finishes before number l outs = (λ i. held_in (sent + length outs) (here i) (signals_are i) nodes_after) ∙ sym finished_is in
       let done = is_finished before number l outs keeps.settled found in
       record {
-        is = is ∙ ap (λ o. finished_as before number o outs) (sym found);
+        step = record {
+          finished = is ∙ ap (λ o. finished_as before number o outs) (sym found);
+          letters = here ∙ ap (λ o. rest before number l ++ answers (sent + 1) o outs) (sym found);
+          sent = refl;
+          more = ap outstanding is ∙ done.amount;
+        };
         kept = subst (λ d. IsKept d (waiters + length outs) owed nodes_after) (sym is) (finished_kept stands.is_held);
-        letters = here ∙ ap (λ o. rest before number l ++ answers (sent + 1) o outs) (sym found);
-        more = ap outstanding is ∙ done.amount;
       }

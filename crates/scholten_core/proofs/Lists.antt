@@ -1,8 +1,8 @@
 -- Lists of letters, whose numbers rise
-use Rattle.std.proofs.Common.{◌≡◌, ℕ, zero, suc, ◌+◌, ◌<◌, ◌≤◌, ◌==◌, Bool, true, false, cond, not, List, [], ◌∷◌, ◌++◌, Some, None, map, option_map, filter, length, set, remove, sum_by, get_or, drop, drop-cons, refl, sym, ap, ◌∙◌, arith, lt-ltb, eq-eqb, ne_eqb}
+use Rattle.std.proofs.Common.{◌≡◌, ℕ, zero, suc, ◌+◌, ◌<◌, ◌≤◌, ◌==◌, Bool, true, false, cond, not, List, [], ◌∷◌, ◌++◌, Contains, Some, None, map, option_map, filter, length, set, remove, sum_by, get_or, drop, drop-cons, refl, sym, ap, ◌∙◌, arith, lt-ltb, eq-eqb, ne_eqb}
 use Rattle.std.specs.List.{find, slice_get, position, position_or_len}
 use Rattle.std.specs.Map.{lookup}
-use Rattle.std.proofs.lemmas.Option.{same_Some, none-some, slice_get_read, slice_get_within, get_or_from_slice_get}
+use Rattle.std.proofs.lemmas.Option.{same_Some, none-some, slice_get_read, slice_get_within, slice_get-get_or, get_or_from_slice_get}
 use Rattle.std.proofs.lemmas.List.Folds.{find_at}
 use Rattle.std.proofs.lemmas.List.Quantifiers.{position-Some}
 use Rattle.std.proofs.lemmas.List.Edits.{length-remove}
@@ -114,6 +114,17 @@ module _ {X : Type 0} where
       let at = sym (find_at p ls) ∙ find_from_lookup k ls x found in
       let within : position_or_len p ls < length ls = slice_get_within ls (position_or_len p ls) (k, x) at in
       (position_or_len p ls, at, ap (λ b. cond b (Some (position_or_len p ls)) None) (lt-ltb (position_or_len p ls) (length ls) within))
+
+  -- what a look-up finds is an entry
+  pub Contains_from_lookup : (k : ℕ) (ls : List (ℕ × X)) (x : X) → lookup (λ n. n == k) ls ≡ Some x → Contains ls (k, x)
+  Contains_from_lookup k ls x found =
+      let place = place_from_lookup k ls x found in
+      (place.0, slice_get_within ls place.0 (k, x) place.1, get_or_from_slice_get ls place.0 (k, x) (k, x) place.1)
+
+  -- an entry is the one of its number
+  pub lookup_from_Contains : (low : ℕ) (ls : List (ℕ × X)) (high k : ℕ) (x : X) → IsNumbered low ls high → Contains ls (k, x) → lookup (λ n. n == k) ls ≡ Some x
+  lookup_from_Contains low ls high k x rising (i, within, is) =
+      lookup_at low ls high i k x rising (slice_get-get_or ls i (k, x) within ∙ ap Some is)
 
   -- the first place that has a number has its entry
   pub lookup_at_position : (low : ℕ) (ls : List (ℕ × X)) (high k i : ℕ) (y : ℕ × X) → IsNumbered low ls high → position (λ l. l.0 == k) ls ≡ Some i → y ≡ get_or ls i y → lookup (λ n. n == k) ls ≡ Some y.1

@@ -2,11 +2,11 @@
 use Rattle.std.proofs.Common.{◌≡◌, ℕ, zero, suc, ◌+◌, ◌-◌, ◌<◌, ◌==◌, ◌&&◌, if◌then◌else◌, Option, Some, None, is_some, option_map, unwrap_or, refl, sym, ap, ◌∙◌, arith, eq-eqb, ne_eqb}
 use Rattle.std.specs.Ordering.{nat_cmp}
 use Rattle.std.specs.BTreeMap.{BTreeMap, get}
-use Rattle.scholten_core.specs.declared.Parent.{Parent}
-use Rattle.scholten_core.specs.declared.Parent.TheVariants.{Neutral, Environment, Node}
+use Rattle.scholten_core.specs.declared.parents.Parent.{Parent}
+use Rattle.scholten_core.specs.declared.parents.Parent.TheVariants.{Neutral, Environment, Node}
 use Rattle.scholten_core.specs.declared.engagement.Engagement.{Engagement}
-use Rattle.scholten_core.specs.Computation.{is_same}
-use Rattle.scholten_core.specs.Kept.{deficit_kept, hit, kept, parent_kept}
+use Rattle.scholten_core.specs.Computation.{same_parent}
+use Rattle.scholten_core.specs.Kept.{Delivers, Pays, deficit_kept, hit, kept, parent_kept}
 use Rattle.scholten_core.proofs.Engaged.{one_or_other}
 use Rattle.scholten_core.proofs.Delivered.{stays_none}
 
@@ -16,12 +16,6 @@ count_of o = unwrap_or (option_map (λ e. e.deficit) o) 0
 
 abbrev parent_in : Option Engagement → Option Parent
 parent_in o = option_map (λ e. e.parent) o
-
--- what becomes of the engaged nodes when one is owed one less
-pub record Pays (nodes nodes_after : BTreeMap ℕ Engagement) (node : ℕ) (by : Option Parent) : Type 0 where
-  pub same : (n : ℕ) → (n ≡ node → ⊥) → get nat_cmp nodes_after n ≡ get nat_cmp nodes n
-  pub paid : (e : Engagement) → get nat_cmp nodes node ≡ Some e → 1 < e.deficit → (by ≡ None) × (get nat_cmp nodes_after node ≡ Some (record e { deficit = e.deficit - 1 }))
-  pub gone : (e : Engagement) → get nat_cmp nodes node ≡ Some e → e.deficit ≡ 1 → (by ≡ Some e.parent) × (get nat_cmp nodes_after node ≡ None)
 
 module _ (nodes nodes_after : BTreeMap ℕ Engagement) (node : ℕ) (by : Option Parent) (owed : 0 < deficit_kept nodes node) (pays : Pays nodes nodes_after node by) where
   cases : {C : Type 0} → ((e : Engagement) → get nat_cmp nodes node ≡ Some e → 1 < e.deficit → C) → ((e : Engagement) → get nat_cmp nodes node ≡ Some e → e.deficit ≡ 1 → C) → C
@@ -45,18 +39,18 @@ module _ (nodes nodes_after : BTreeMap ℕ Engagement) (node : ℕ) (by : Option
       (λ one. (λ i. deficit_kept nodes_after (one i) + (if (one i) == node then 1 else 0)) ∙ ap (λ b. deficit_kept nodes_after node + (if b then 1 else 0)) (eq-eqb node node refl) ∙ count_paid ∙ ap (deficit_kept nodes) (sym one))
       (λ other. (λ i. count_of (pays.same n other i) + (if ne_eqb n node other i then 1 else 0)) ∙ omega arith)
 
-  pub counts_paid : (owed_environment : ℕ) (p : Parent) → kept owed_environment nodes_after p + hit p (Node node) ≡ kept owed_environment nodes p
+  counts_paid : (owed_environment : ℕ) (p : Parent) → kept owed_environment nodes_after p + hit p (Node node) ≡ kept owed_environment nodes p
   counts_paid owed_environment Neutral = refl
   counts_paid owed_environment Environment = omega arith
   counts_paid owed_environment (Node n) = count_of_node n
 
-  pub by_paid : by ≡ (if deficit_kept nodes_after node == 0 then parent_kept nodes node else None)
+  by_paid : by ≡ (if deficit_kept nodes_after node == 0 then parent_kept nodes node else None)
   by_paid =
       cases (λ e there more. let left = ap count_of (pays.paid e there more).1 in
       (pays.paid e there more).0 ∙ sym (ap (λ b. if b then parent_kept nodes node else None) (ne_eqb (deficit_kept nodes_after node) 0 (omega (arith, left, more)))))
       (λ e there one. (pays.gone e there one).0 ∙ sym (ap parent_in there) ∙ sym (ap (λ n. if n == 0 then parent_kept nodes node else None) (ap count_of (pays.gone e there one).1)))
 
-  pub parents_paid : (n : ℕ) → parent_kept nodes_after n ≡ (if is_same (Node node) (Node n) && is_some by then None else parent_kept nodes n)
+  parents_paid : (n : ℕ) → parent_kept nodes_after n ≡ (if same_parent (Node node) (Node n) && is_some by then None else parent_kept nodes n)
   parents_paid n =
       one_or_other n node
       (λ one. ap (parent_kept nodes_after) one ∙ here ∙ (λ i. if (node == sym one i) && is_some by then None else parent_kept nodes (sym one i)))
@@ -66,3 +60,8 @@ module _ (nodes nodes_after : BTreeMap ℕ Engagement) (node : ℕ) (by : Option
       here =
           cases (λ e there more. ap parent_in (pays.paid e there more).1 ∙ sym (ap parent_in there) ∙ sym (stays_none (node == node) by _ (pays.paid e there more).0))
           (λ e there one. ap parent_in (pays.gone e there one).1 ∙ (λ i. if sym (eq-eqb node node refl) i && is_some (sym (pays.gone e there one).0 i) then None else parent_kept nodes node))
+
+  -- so a node's signal is delivered
+  pub delivers_paid : (owed_environment : ℕ) → Delivers owed_environment owed_environment nodes nodes_after (Node node) by
+  delivers_paid owed_environment =
+      record { counts = counts_paid owed_environment; signal = by_paid; parents = parents_paid }

@@ -8,17 +8,17 @@ use Rattle.std.proofs.lemmas.List.{length-map}
 use Rattle.std.proofs.lemmas.List.Edits.{length-remove}
 use Rattle.std.proofs.lemmas.List.Sums.{sum_by-append, sum_by_push, count_by-le-length}
 use Rattle.std.proofs.lemmas.Map.Views.{exact_unsigned_eq}
-use Rattle.scholten_core.specs.declared.Parent.{Parent}
-use Rattle.scholten_core.specs.declared.Parent.TheVariants.{Neutral, Environment, Node}
-use Rattle.scholten_core.specs.declared.Letter.{Letter}
-use Rattle.scholten_core.specs.Computation.{Computation, deficit, is_engaged, is_same, letter_of, outstanding}
+use Rattle.scholten_core.specs.declared.parents.Parent.{Parent}
+use Rattle.scholten_core.specs.declared.parents.Parent.TheVariants.{Neutral, Environment, Node}
+use Rattle.scholten_core.specs.declared.letters.Letter.{Letter}
+use Rattle.scholten_core.specs.Computation.{Computation, deficit, is_engaged, same_parent, letter_of, outstanding}
 use Rattle.scholten_core.specs.Step.{marked, numbered, receives, sends, settles, settles_under}
 use Rattle.scholten_core.specs.Settled.{IsSettledBut}
 use Rattle.scholten_core.specs.Kept.{hit}
 use Rattle.scholten_core.specs.Tree.{grown, is_active}
 use Rattle.scholten_core.proofs.Engaged.{count-insert, count-remove, count-le-len, get-insert_same, get-insert_other, get-remove_same, get-remove_other, len-insert_new, len-remove_old, one_or_other}
 use Rattle.scholten_core.proofs.Lists.{changed, length-filter_number, numbered-append, numbered-changed, numbered-filter, sum_by-filter_number, sum_by-map_same, sum_by-remove_at}
-use Rattle.scholten_core.proofs.Same.{hit-self, hit-other, is_same-other, is_same-self, same_true}
+use Rattle.scholten_core.proofs.Same.{hit-self, hit-other, same_parent-other, same_parent-self, same_true}
 use Rattle.scholten_core.proofs.Sent.{count-numbered, length-numbered, numbered_rise}
 use Rattle.scholten_core.proofs.Trees.{active-insert, active-remove, none_there, tree_remove}
 
@@ -26,7 +26,7 @@ module _ {P : Type 0} where
   -- nobody is owed more than is outstanding
   pub deficit-le-outstanding : (d : Computation P) (p : Parent) → deficit d p ≤ outstanding d
   deficit-le-outstanding d p =
-      omega (arith, count_by-le-length (λ (l : ℕ × Letter P). is_same p l.1.from) d.letters, count_by-le-length (is_same p) d.signals, count-le-len (is_same p) d.engaged)
+      omega (arith, count_by-le-length (λ (l : ℕ × Letter P). same_parent p l.1.from) d.letters, count_by-le-length (same_parent p) d.signals, count-le-len (same_parent p) d.engaged)
 
   -- whoever is owed something may send
   pub active_owed : (d : Computation P) (x : Parent) → IsSettledBut d x → (p : Parent) → 0 < deficit d p → is_active d.engaged p ≡ true
@@ -40,7 +40,7 @@ module _ {P : Type 0} where
 module _ {P : Type 0} (d : Computation P) (number : ℕ) (held : Bool) where
   pub deficit-marked : (p : Parent) → deficit (marked d number held) p ≡ deficit d p
   deficit-marked p =
-      let letters = sum_by-map_same (λ (l : ℕ × Letter P). cond {A = ℕ} (is_same p l.1.from) 1 0) (changed number (λ l. record l { held = held })) (λ l. elim (l.0 == number) as (λ b. cond {A = ℕ} (is_same p (cond {A = ℕ × Letter P} b (l.0, record l.1 { held = held }) l).1.from) 1 0 ≡ cond (is_same p l.1.from) 1 0) [ true ↦ refl | false ↦ refl ]) d.letters in
+      let letters = sum_by-map_same (λ (l : ℕ × Letter P). cond {A = ℕ} (same_parent p l.1.from) 1 0) (changed number (λ l. record l { held = held })) (λ l. elim (l.0 == number) as (λ b. cond {A = ℕ} (same_parent p (cond {A = ℕ × Letter P} b (l.0, record l.1 { held = held }) l).1.from) 1 0 ≡ cond (same_parent p l.1.from) 1 0) [ true ↦ refl | false ↦ refl ]) d.letters in
       omega (arith, letters)
 
   pub settled_marked : (x : Parent) → IsSettledBut d x → IsSettledBut (marked d number held) x
@@ -59,7 +59,7 @@ module _ {P : Type 0} (d : Computation P) (place : ℕ) (to : Parent) (at : slic
 
   pub deficit-delivered : (p : Parent) → deficit delivered p + hit p to ≡ deficit d p
   deficit-delivered p =
-      omega (arith, sum_by-remove_at (λ q. cond {A = ℕ} (is_same p q) 1 0) d.signals place to at)
+      omega (arith, sum_by-remove_at (λ q. cond {A = ℕ} (same_parent p q) 1 0) d.signals place to at)
 
   pub outstanding-delivered : outstanding delivered + 1 ≡ outstanding d
   outstanding-delivered = omega (arith, length-remove d.signals place (slice_get_within d.signals place to at))
@@ -99,9 +99,9 @@ module _ {P : Type 0} (d : Computation P) (k : ℕ) (l : Letter P) where
     pub active : is_active e.engaged (Node l.to) ≡ true
 
   module _ (settled : IsSettledBut d Neutral) (found : letter_of d k ≡ Some l) where
-    letters_owed : (p : Parent) → count_by (λ (x : ℕ × Letter P). is_same p x.1.from) rest + hit p l.from ≡ count_by (λ x. is_same p x.1.from) d.letters
+    letters_owed : (p : Parent) → count_by (λ (x : ℕ × Letter P). same_parent p x.1.from) rest + hit p l.from ≡ count_by (λ x. same_parent p x.1.from) d.letters
     letters_owed p =
-        sum_by-filter_number 0 d.letters d.sent k l settled.numbers found (λ x. cond {A = ℕ} (is_same p x.1.from) 1 0)
+        sum_by-filter_number 0 d.letters d.sent k l settled.numbers found (λ x. cond {A = ℕ} (same_parent p x.1.from) 1 0)
 
     letters_left : length rest + 1 ≡ length d.letters
     letters_left = length-filter_number 0 d.letters d.sent k l settled.numbers found
@@ -111,7 +111,7 @@ module _ {P : Type 0} (d : Computation P) (k : ℕ) (l : Letter P) where
 
     owed-acknowledged : KeepsOwed d acknowledged
     owed-acknowledged = record {
-      deficits = λ p. omega (arith, letters_owed p, sum_by_push (λ q. cond {A = ℕ} (is_same p q) 1 0) d.signals l.from);
+      deficits = λ p. omega (arith, letters_owed p, sum_by_push (λ q. cond {A = ℕ} (same_parent p q) 1 0) d.signals l.from);
       amount = omega (arith, letters_left, length-append d.signals (l.from ∷ []));
       sent = refl;
     }
@@ -137,7 +137,7 @@ module _ {P : Type 0} (d : Computation P) (k : ℕ) (l : Letter P) where
 
       owed-engages : KeepsOwed d engages
       owed-engages = record {
-        deficits = λ p. omega (arith, letters_owed p, count-insert (is_same p) l.to l.from d.engaged none);
+        deficits = λ p. omega (arith, letters_owed p, count-insert (same_parent p) l.to l.from d.engaged none);
         amount = omega (arith, letters_left, len-insert_new d.engaged l.to l.from none);
         sent = refl;
       }
@@ -169,9 +169,9 @@ module _ {P : Type 0} (d : Computation P) (k : ℕ) (l : Letter P) where
 
 -- letters are sent
 module _ {P : Type 0} (d : Computation P) (from : Parent) (outs : List (ℕ × P)) where
-  pub deficit-sends : (p : Parent) → deficit (sends d from outs) p ≡ deficit d p + cond (is_same p from) (length outs) 0
+  pub deficit-sends : (p : Parent) → deficit (sends d from outs) p ≡ deficit d p + cond (same_parent p from) (length outs) 0
   deficit-sends p =
-      omega (arith, sum_by-append (λ (l : ℕ × Letter P). cond {A = ℕ} (is_same p l.1.from) 1 0) d.letters (numbered from (d.sent + 1) outs), count-numbered from p (d.sent + 1) outs)
+      omega (arith, sum_by-append (λ (l : ℕ × Letter P). cond {A = ℕ} (same_parent p l.1.from) 1 0) d.letters (numbered from (d.sent + 1) outs), count-numbered from p (d.sent + 1) outs)
 
   pub outstanding-sends : outstanding (sends d from outs) ≡ outstanding d + length outs
   outstanding-sends =
@@ -181,7 +181,7 @@ module _ {P : Type 0} (d : Computation P) (from : Parent) (outs : List (ℕ × P
   settled_sends active x settled = record {
     busy = λ n apart engaged. omega (arith, deficit-sends (Node n), settled.busy n apart engaged);
     idle = λ p idle.
-        let other = is_same-other p from (λ e. cc) in
+        let other = same_parent-other p from (λ e. cc) in
         deficit-sends p ∙ ap (λ b. deficit d p + cond b (length outs) 0) other ∙ omega (arith, settled.idle p idle);
     tree = settled.tree;
     numbers = numbered-append 0 d.letters d.sent _ _ settled.numbers (numbered_rise from d.sent outs);
@@ -209,7 +209,7 @@ module _ {P : Type 0} (d : Computation P) (n : ℕ) (by : Parent) (settled : IsS
 
   owed-let_go : KeepsOwed d let_go
   owed-let_go = record {
-    deficits = λ p. omega (arith, sum_by_push (λ q. cond {A = ℕ} (is_same p q) 1 0) d.signals by, count-remove (is_same p) n by d.engaged engaged);
+    deficits = λ p. omega (arith, sum_by_push (λ q. cond {A = ℕ} (same_parent p q) 1 0) d.signals by, count-remove (same_parent p) n by d.engaged engaged);
     amount = omega (arith, length-append d.signals (by ∷ []), len-remove_old d.engaged n by engaged);
     sent = refl;
   }
@@ -226,9 +226,9 @@ module _ {P : Type 0} (d : Computation P) (n : ℕ) (by : Parent) (settled : IsS
       idle = λ p idle.
           owed-let_go.deficits p
           ∙ elim (is_active d.engaged p) as (λ b. is_active d.engaged p ≡ b → deficit d p ≡ 0) [
-            | true ↦ λ was. elim (is_same p (Node n)) as (λ b. is_same p (Node n) ≡ b → deficit d p ≡ 0) [
+            | true ↦ λ was. elim (same_parent p (Node n)) as (λ b. same_parent p (Node n) ≡ b → deficit d p ≡ 0) [
               | true ↦ λ same. ap (deficit d) (same_true p (Node n) same) ∙ nothing
-              | false ↦ λ apart. absurd (cc (active-remove d.engaged n p (λ e. cc (ap (λ q. is_same q (Node n)) e, is_same-self (Node n))) was))
+              | false ↦ λ apart. absurd (cc (active-remove d.engaged n p (λ e. cc (ap (λ q. same_parent q (Node n)) e, same_parent-self (Node n))) was))
             ] refl
             | false ↦ λ was. settled.idle p was
           ] refl;

@@ -4,9 +4,9 @@ use Rattle.std.proofs.lemmas.Bool.{false_from_ne_true}
 use Rattle.std.specs.Ordering.{nat_cmp}
 use Rattle.std.specs.FinMap as fin
 use Rattle.std.specs.FinMap.{FinMap}
-use Rattle.scholten_core.specs.declared.Parent.{Parent}
-use Rattle.scholten_core.specs.declared.Parent.TheVariants.{Neutral, Environment, Node}
-use Rattle.scholten_core.specs.Computation.{followed, is_same}
+use Rattle.scholten_core.specs.declared.parents.Parent.{Parent}
+use Rattle.scholten_core.specs.declared.parents.Parent.TheVariants.{Neutral, Environment, Node}
+use Rattle.scholten_core.specs.Computation.{followed, same_parent}
 use Rattle.scholten_core.specs.Kept.{hit}
 use Rattle.scholten_core.specs.Tree.{IsTree, bare, grown, is_active}
 use Rattle.scholten_core.proofs.Engaged.{one_or_other, get-insert_same, get-insert_other, get-remove_other, remove-insert, remove-insert_other, len-insert_new, count-insert, count-empty}
@@ -37,16 +37,16 @@ active-remove m j Environment apart active = refl
 active-remove m j (Node q) apart active = ap is_some (get-remove_other m j q (λ e. apart (ap Node e))) ∙ active
 
 abbrev engaged_by : FinMap nat_cmp Parent → Parent → ℕ
-engaged_by m p = count_by (is_same p) (fin.values m)
+engaged_by m p = count_by (same_parent p) (fin.values m)
 
 engaged_by-empty : (p : Parent) → engaged_by fin.empty p ≡ 0
-engaged_by-empty p = count-empty (is_same p)
+engaged_by-empty p = count-empty (same_parent p)
 
 engaged_by-insert : (m : FinMap nat_cmp Parent) (n : ℕ) (by : Parent) (larger : FinMap nat_cmp Parent) → fin.get m n ≡ None → larger ≡ fin.insert m n by → (p : Parent) → engaged_by larger p ≡ engaged_by m p + hit p by
-engaged_by-insert m n by larger none is p = ap (λ x. engaged_by x p) is ∙ count-insert (is_same p) n by m none
+engaged_by-insert m n by larger none is p = ap (λ x. engaged_by x p) is ∙ count-insert (same_parent p) n by m none
 
 -- whoever is neither the environment nor engaged engaged nobody
-pub idle_engaged_none : {m : FinMap nat_cmp Parent} → IsTree m → (p : Parent) → is_active m p ≡ false → count_by (is_same p) (fin.values m) ≡ 0
+pub idle_engaged_none : {m : FinMap nat_cmp Parent} → IsTree m → (p : Parent) → is_active m p ≡ false → count_by (same_parent p) (fin.values m) ≡ 0
 idle_engaged_none bare p idle = engaged_by-empty p
 idle_engaged_none (grown {m} tree n by none active larger is) p idle =
     let before = false_from_ne_true (is_active m p) (λ was. cc (active-insert m n by p was, ap (λ x. is_active x p) is)) in
@@ -102,7 +102,7 @@ rooted (grown {m} tree n by none active larger is) q there =
     subst (λ x. fin.contains_key x q ≡ true → followed x (fin.len x) (Node q) ≡ Environment) (sym is) (rooted-insert m n by none active (rooted tree) q) there
 
 -- a node that engaged nobody may go
-pub tree_remove : {m : FinMap nat_cmp Parent} → IsTree m → (j : ℕ) → fin.contains_key m j ≡ true → count_by (is_same (Node j)) (fin.values m) ≡ 0 → IsTree (fin.remove m j)
+pub tree_remove : {m : FinMap nat_cmp Parent} → IsTree m → (j : ℕ) → fin.contains_key m j ≡ true → count_by (same_parent (Node j)) (fin.values m) ≡ 0 → IsTree (fin.remove m j)
 tree_remove bare j there leaf = absurd (cc (ap is_some (fin.get-empty {X = Parent} nat_cmp j)))
 tree_remove (grown {m} tree n by none active larger is) j there leaf =
     let engaged = engaged_by-insert m n by larger none is (Node j) in
@@ -114,7 +114,7 @@ tree_remove (grown {m} tree n by none active larger is) j there leaf =
     grown smaller n by (get-remove_other m j n (λ e. other (sym e)) ∙ none) (active-remove m j by apart active) (fin.remove larger j) (ap (λ x. fin.remove x j) is ∙ remove-insert_other m n by j other))
 
 -- no node is engaged where the environment engaged none
-pub no_root : {m : FinMap nat_cmp Parent} → IsTree m → count_by (is_same Environment) (fin.values m) ≡ 0 → fin.len m ≡ 0
+pub no_root : {m : FinMap nat_cmp Parent} → IsTree m → count_by (same_parent Environment) (fin.values m) ≡ 0 → fin.len m ≡ 0
 no_root bare none_by = fin.len-empty nat_cmp Parent
 no_root (grown {m} tree n by none active larger is) none_by =
     let engaged = engaged_by-insert m n by larger none is Environment in
@@ -128,7 +128,7 @@ no_root (grown {m} tree n by none active larger is) none_by =
         cc (ap (λ x. fin.contains_key x q) (fin.empty_of_len m bare_before), ap is_some (fin.get-empty {X = Parent} nat_cmp q))
 
 -- where some node is engaged, one engaged nobody
-pub some_leaf : {m : FinMap nat_cmp Parent} → IsTree m → 0 < fin.len m → (n : ℕ) × (fin.contains_key m n ≡ true) × (count_by (is_same (Node n)) (fin.values m) ≡ 0)
+pub some_leaf : {m : FinMap nat_cmp Parent} → IsTree m → 0 < fin.len m → (n : ℕ) × (fin.contains_key m n ≡ true) × (count_by (same_parent (Node n)) (fin.values m) ≡ 0)
 some_leaf bare some = absurd (omega (arith, fin.len-empty nat_cmp Parent))
 some_leaf (grown {m} tree n by none active larger is) some =
     let idle : is_active m (Node n) ≡ false = ap is_some none in

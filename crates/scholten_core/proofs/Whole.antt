@@ -1,10 +1,10 @@
 -- What the whole steps do: a letter is finished, a signal is delivered
 use Rattle.std.proofs.Common.{◌≡◌, ℕ, ◌+◌, ◌==◌, cond, not, List, ◌++◌, Some, filter, length, ap, ◌∙◌, arith}
 use Rattle.std.specs.List.{slice_get}
-use Rattle.scholten_core.specs.declared.Parent.{Parent}
-use Rattle.scholten_core.specs.declared.Parent.TheVariants.{Neutral, Node}
-use Rattle.scholten_core.specs.declared.Letter.{Letter}
-use Rattle.scholten_core.specs.Computation.{Computation, deficit, is_same, letter_of, outstanding}
+use Rattle.scholten_core.specs.declared.parents.Parent.{Parent}
+use Rattle.scholten_core.specs.declared.parents.Parent.TheVariants.{Neutral, Node}
+use Rattle.scholten_core.specs.declared.letters.Letter.{Letter}
+use Rattle.scholten_core.specs.Computation.{Computation, deficit, same_parent, letter_of, outstanding}
 use Rattle.scholten_core.specs.Step.{finishes, numbered, receives, sends, settles}
 use Rattle.scholten_core.specs.Settled.{IsSettledBut}
 use Rattle.scholten_core.specs.Kept.{hit}
@@ -16,7 +16,7 @@ pub record IsFinished {P : Type 0} (d : Computation P) (k : ℕ) (l : Letter P) 
   pub letters : e.letters ≡ filter (λ x. not (x.0 == k)) d.letters ++ numbered (Node l.to) (d.sent + 1) outs
   pub sent : e.sent ≡ d.sent + length outs
   pub amount : outstanding e ≡ outstanding d + length outs
-  pub deficits : (p : Parent) → deficit e p ≡ deficit d p + cond (is_same p (Node l.to)) (length outs) 0
+  pub deficits : (p : Parent) → deficit e p ≡ deficit d p + cond (same_parent p (Node l.to)) (length outs) 0
 
 pub is_finished : {P : Type 0} (d : Computation P) (k : ℕ) (l : Letter P) (outs : List (ℕ × P)) → IsSettledBut d Neutral → letter_of d k ≡ Some l → IsFinished d k l outs (finishes d k l outs)
 is_finished d k l outs settled found =

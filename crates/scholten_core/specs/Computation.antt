@@ -1,12 +1,13 @@
 -- A diffusing computation, and what of it is outstanding (Dijkstra and Scholten, 1980)
-use Rattle.std.specs.Prelude.{ℕ, zero, suc, ◌+◌, ◌==◌, Bool, true, false, not, List, Option, length, filter, count_by, unwrap_or, IsSomeAnd, IsTrue}
+use Rattle.std.specs.Prelude.{◌≡◌, ◌↔◌, ℕ, zero, suc, ◌+◌, ◌==◌, Bool, true, false, not, List, Option, Some, length}
+use Rattle.std.specs.Prelude.{filter, count_by, unwrap_or, Contains, IsSomeAnd, IsTrue}
 use Rattle.std.specs.Map.{lookup}
 use Rattle.std.specs.Ordering.{nat_cmp}
 use Rattle.std.specs.FinMap as fin
 use Rattle.std.specs.FinMap.{FinMap}
-use Rattle.scholten_core.specs.declared.Parent.{Parent}
-use Rattle.scholten_core.specs.declared.Parent.TheVariants.{Neutral, Environment, Node}
-use Rattle.scholten_core.specs.declared.Letter.{Letter}
+use Rattle.scholten_core.specs.declared.parents.Parent.{Parent}
+use Rattle.scholten_core.specs.declared.parents.Parent.TheVariants.{Neutral, Environment, Node}
+use Rattle.scholten_core.specs.declared.letters.Letter.{Letter}
 
 -- The letters that wait or are held, each with its number, in order of number; the signals under
 -- way, oldest first, each by the one that it goes to; the engaged nodes, each with the one that
@@ -18,16 +19,16 @@ pub record Computation (P : Type 0) : Type 0 where
   pub engaged : FinMap nat_cmp Parent
 
 -- whether two are one and the same
-abbrev pub is_same : Parent → Parent → Bool
-is_same Neutral Neutral = true
-is_same Neutral Environment = false
-is_same Neutral (Node n) = false
-is_same Environment Neutral = false
-is_same Environment Environment = true
-is_same Environment (Node n) = false
-is_same (Node m) Neutral = false
-is_same (Node m) Environment = false
-is_same (Node m) (Node n) = m == n
+abbrev pub same_parent : Parent → Parent → Bool
+same_parent Neutral Neutral = true
+same_parent Neutral Environment = false
+same_parent Neutral (Node n) = false
+same_parent Environment Neutral = false
+same_parent Environment Environment = true
+same_parent Environment (Node n) = false
+same_parent (Node m) Neutral = false
+same_parent (Node m) Environment = false
+same_parent (Node m) (Node n) = m == n
 
 module _ {P : Type 0} where
   -- the letters that wait, in order of number
@@ -42,6 +43,10 @@ module _ {P : Type 0} where
   abbrev pub IsHeld : Computation P → ℕ → Type 0
   IsHeld d number = IsSomeAnd (letter_of d number) (λ l. IsTrue l.held)
 
+  -- a letter stands in the list under a number exactly where it is the letter of that number
+  abbrev pub StandByNumber : Computation P → Type 0
+  StandByNumber d = (number : ℕ) (l : Letter P) → Contains d.letters (number, l) ↔ (letter_of d number ≡ Some l)
+
   -- who engaged a node; a node that nobody engaged is neutral
   abbrev pub parent_of : Computation P → ℕ → Parent
   parent_of d n = unwrap_or (fin.get d.engaged n) Neutral
@@ -54,7 +59,9 @@ module _ {P : Type 0} where
   -- and the nodes engaged by it
   abbrev pub deficit : Computation P → Parent → ℕ
   deficit d p =
-      count_by (λ l. is_same p l.1.from) d.letters + count_by (is_same p) d.signals + count_by (is_same p) (fin.values d.engaged)
+      count_by (λ l. same_parent p l.1.from) d.letters
+      + count_by (same_parent p) d.signals
+      + count_by (same_parent p) (fin.values d.engaged)
 
   -- how much is outstanding: letters waiting or held, signals under way, engaged nodes
   abbrev pub outstanding : Computation P → ℕ

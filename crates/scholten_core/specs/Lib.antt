@@ -1,3 +1,4 @@
+pub mod Call
 pub mod Code
 pub mod Computation
 pub mod Kept

@@ -1,7 +1,7 @@
 -- What holds at each point of a step
 use Rattle.std.specs.Prelude.{◌≡◌, ℕ, ◌<◌, ◌≤◌, true, false}
-use Rattle.scholten_core.specs.declared.Parent.{Parent}
-use Rattle.scholten_core.specs.declared.Parent.TheVariants.{Node}
+use Rattle.scholten_core.specs.declared.parents.Parent.{Parent}
+use Rattle.scholten_core.specs.declared.parents.Parent.TheVariants.{Node}
 use Rattle.scholten_core.specs.Computation.{Computation, deficit, is_engaged, outstanding}
 use Rattle.scholten_core.specs.Sound.{IsNumbered}
 use Rattle.scholten_core.specs.Tree.{IsTree, is_active}

@@ -1,7 +1,7 @@
 -- What holds of every diffusing computation
 use Rattle.std.specs.Prelude.{◌≡◌, ℕ, ◌<◌, ◌≤◌, true, false, List, [], ◌∷◌}
 use Rattle.std.specs.FinMap as fin
-use Rattle.scholten_core.specs.declared.Parent.TheVariants.{Neutral, Environment, Node}
+use Rattle.scholten_core.specs.declared.parents.Parent.TheVariants.{Neutral, Environment, Node}
 use Rattle.scholten_core.specs.Computation.{Computation, deficit, followed, is_engaged, outstanding}
 
 -- the numbers rise, all above low and none above high

@@ -1,9 +1,10 @@
 -- The steps of a diffusing computation
-use Rattle.std.specs.Prelude.{ℕ, ◌+◌, ◌==◌, Bool, false, not, List, [], ◌∷◌, ◌++◌, Option, None, Some, length, filter, map, remove, slice_get, if◌then◌else◌}
+use Rattle.std.specs.Prelude.{ℕ, ◌+◌, ◌==◌, Bool, false, not, List, [], ◌∷◌, ◌++◌, Option, None, Some, length, filter}
+use Rattle.std.specs.Prelude.{map, remove, slice_get, if◌then◌else◌}
 use Rattle.std.specs.FinMap as fin
-use Rattle.scholten_core.specs.declared.Parent.{Parent}
-use Rattle.scholten_core.specs.declared.Parent.TheVariants.{Neutral, Environment, Node}
-use Rattle.scholten_core.specs.declared.Letter.{Letter}
+use Rattle.scholten_core.specs.declared.parents.Parent.{Parent}
+use Rattle.scholten_core.specs.declared.parents.Parent.TheVariants.{Neutral, Environment, Node}
+use Rattle.scholten_core.specs.declared.letters.Letter.{Letter}
 use Rattle.scholten_core.specs.Computation.{Computation, deficit, is_engaged, letter_of}
 
 module _ {P : Type 0} where
@@ -27,10 +28,6 @@ module _ {P : Type 0} where
   abbrev pub marked : Computation P → ℕ → Bool → Computation P
   marked d number held =
       record d { letters = map (λ l. if l.0 == number then (l.0, record l.1 { held = held }) else l) d.letters }
-
-  -- a signal to one goes under way
-  abbrev pub signals : Computation P → Parent → Computation P
-  signals d to = record d { signals = d.signals ++ to ∷ [] }
 
   -- an engaged node that is owed nothing becomes neutral, and a signal to the one that engaged it
   -- goes under way

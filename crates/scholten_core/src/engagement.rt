@@ -1,9 +1,9 @@
 //! The table of engaged nodes: who engaged each, and how much each is owed.
-ghost use Rattle.std.specs.Prelude.{◌≡◌, ℕ, ◌+◌, ◌-◌, ◌^◌, ◌<◌, ◌==◌, ◌&&◌, is_some, IfOk, OnErr, if◌then◌else◌};
+ghost use Rattle.std.specs.Prelude.{◌≡◌, ◌+◌, ◌^◌, ◌<◌, None, IfOk, OnErr};
 ghost use Rattle.std.specs.Ordering.{nat_cmp};
 ghost use Rattle.std.specs.BTreeMap.{get};
 
-use crate::Parent;
+use crate::parents::Parent;
 use std::alloc::AllocError;
 use std::collections::BTreeMap;
 
@@ -14,8 +14,7 @@ pub(crate) struct Engagement {
     pub(crate) deficit: u64,
 }
 
-ghost use Rattle.scholten_core.specs.Computation.{is_same};
-ghost use Rattle.scholten_core.specs.Kept.{deficit_kept, parent_kept, kept, engager, hit};
+ghost use Rattle.scholten_core.specs.Kept.{deficit_kept, kept, Receives, Pays, Delivers};
 
 // The receiver is owed so many more, and is engaged by the sender if it is neutral and owed anything.
 // Answers whom a signal goes to: the sender, unless it engaged the receiver.
@@ -26,11 +25,9 @@ pub(crate) fn receive(
     count: u64,
 ) -> Result<Option<Parent>, AllocError>
     requires { deficit_kept nodes.old to + count < 2 ^ 64 }
-    ensures same { (n : ℕ) → (n ≡ to → ⊥) → get nat_cmp nodes.new n ≡ get nat_cmp nodes.old n }
-    ensures engaged { (e : Engagement) → get nat_cmp nodes.old to ≡ Some e → (result ≡ Ok (Some from)) × (get nat_cmp nodes.new to ≡ Some (record e { deficit = e.deficit + count })) }
-    ensures anew { get nat_cmp nodes.old to ≡ None → 0 < count → IfOk result (λ by. (by ≡ None) × (get nat_cmp nodes.new to ≡ Some (record { parent = from; deficit = count }))) }
-    ensures idle { get nat_cmp nodes.old to ≡ None → count ≡ 0 → (result ≡ Ok (Some from)) × (get nat_cmp nodes.new to ≡ None) }
-    ensures err { OnErr result (nodes.new.entries ≡ nodes.old.entries) }
+    ensures received { IfOk result (λ by. Receives nodes.old nodes.new from to count by) }
+    ensures growth { OnErr result ((get nat_cmp nodes.old to ≡ None) × (0 < count)) }
+    ensures unchanged { OnErr result (nodes.new.entries ≡ nodes.old.entries) }
 {
     if let Some(engaged) = nodes.get_mut(&to) {
         engaged.deficit += count;
@@ -50,9 +47,7 @@ pub(crate) fn receive(
 // A node is owed one less. Where it is then owed nothing it is let go, and the answer is who engaged it.
 fn pay(nodes: &mut BTreeMap<u64, Engagement>, node: u64) -> Option<Parent>
     requires { 0 < deficit_kept nodes.old node }
-    ensures same { (n : ℕ) → (n ≡ node → ⊥) → get nat_cmp nodes.new n ≡ get nat_cmp nodes.old n }
-    ensures paid { (e : Engagement) → get nat_cmp nodes.old node ≡ Some e → 1 < e.deficit → (result ≡ None) × (get nat_cmp nodes.new node ≡ Some (record e { deficit = e.deficit - 1 })) }
-    ensures gone { (e : Engagement) → get nat_cmp nodes.old node ≡ Some e → e.deficit ≡ 1 → (result ≡ Some e.parent) × (get nat_cmp nodes.new node ≡ None) }
+    ensures { Pays nodes.old nodes.new node result }
 {
     let engaged = nodes.get_mut(&node)?;
     if engaged.deficit > 1 {
@@ -71,9 +66,7 @@ pub(crate) fn deliver(
     to: Parent,
 ) -> Option<Parent>
     requires { 0 < kept environment.old nodes.old to }
-    ensures counts { (p : Parent) → kept environment.new nodes.new p + hit p to ≡ kept environment.old nodes.old p }
-    ensures by { result ≡ (if kept environment.new nodes.new to == 0 then engager nodes.old to else None) }
-    ensures nodes { (n : ℕ) → parent_kept nodes.new n ≡ (if is_same to (Parent.Node n) && is_some result then None else parent_kept nodes.old n) }
+    ensures { Delivers environment.old environment.new nodes.old nodes.new to result }
 {
     match to {
         Parent::Neutral => None,

@@ -1,10 +1,22 @@
-//! The list of letters, in order of number.
-ghost use Rattle.std.specs.Prelude.{◌≡◌, ◌+◌, ◌^◌, ◌<◌, ◌==◌, ◌++◌, not, length, filter, slice_get, vec_len, OnOk, OnErr};
+ghost use Rattle.std.specs.Prelude.{◌≡◌, ◌+◌, ◌^◌, ◌<◌, ◌==◌, ◌++◌, not, length, filter, slice_get, vec_len};
+ghost use Rattle.std.specs.Prelude.{OnOk, OnErr};
 ghost use Rattle.std.specs.List.{position};
 ghost use Rattle.scholten_core.specs.Step.{numbered};
 
-use crate::{Letter, Parent};
+use crate::parents::Parent;
 use std::alloc::AllocError;
+
+/// A letter that waits or is held. It stands in the computation until it is finished.
+#[derive(Debug, Drop)]
+pub struct Letter<P> {
+    /// Who sent it, the environment or a node.
+    pub from: Parent,
+    /// The node that it goes to.
+    pub to: u64,
+    /// Whether it was taken and neither finished nor put back.
+    pub held: bool,
+    pub load: P,
+}
 
 // Where the letter of that number stands, if it is there.
 pub(crate) fn place_of<P>(letters: &[(u64, Letter<P>)], number: u64) -> Option<usize>
@@ -39,8 +51,8 @@ pub(crate) fn send<P: Drop>(
     outs: Vec<(u64, P)>,
 ) -> Result<(), AllocError>
     requires { sent + vec_len outs < 2 ^ 64 }
-    ensures ok { OnOk result (letters.new.items ≡ letters.old.items ++ numbered from (sent + 1) outs.items) }
-    ensures err { OnErr result (letters.new.items ≡ letters.old.items) }
+    ensures sent { OnOk result (letters.new.items ≡ letters.old.items ++ numbered from (sent + 1) outs.items) }
+    ensures unchanged { OnErr result (letters.new.items ≡ letters.old.items) }
 {
     letters.reserve(outs.len())?;
     let mut number = sent;

@@ -2,7 +2,7 @@
 ghost use Rattle.std.specs.Prelude.{◌≡◌, ◌<◌, ◌++◌, option_to_list};
 ghost use Rattle.std.specs.VecDeque.{deque_len, deque_capacity};
 
-use crate::Parent;
+use crate::parents::Parent;
 use std::collections::VecDeque;
 
 // Puts a signal, if there is one to put, at the end of the list, where there is room for it.

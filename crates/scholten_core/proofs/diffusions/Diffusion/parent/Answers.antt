@@ -1,8 +1,8 @@
 use Rattle.std.proofs.Common.{option_map, unwrap_or, sym, ap, ◌∙◌}
-use Rattle.scholten_core.specs.declared.Parent.TheVariants.{Neutral}
+use Rattle.scholten_core.specs.declared.parents.Parent.TheVariants.{Neutral}
 use Rattle.scholten_core.specs.declared.engagement.Engagement.{Engagement}
 use Rattle.scholten_core.proofs.Fields.{get-engagements}
-use Rattle.scholten_core.proofs.Diffusion.parent.Goals as goal
+use Rattle.scholten_core.proofs.diffusions.Diffusion.parent.Goals as goal
 
 pub returns-in-Some : goal.returns-in-Some
 returns-in-Some g c =

@@ -1,15 +1,15 @@
 use Rattle.std.proofs.Common.{◌≡◌, ℕ, ◌+◌, ◌++◌, length, remove, take, option_to_list, ap, subst, ◌∙◌, arith, length-append}
 use Rattle.std.proofs.Math.Seq.{take-append_seam}
-use Rattle.scholten_core.specs.declared.Parent.TheVariants.{Node}
-use Rattle.scholten_core.specs.Kept.{engagements}
+use Rattle.scholten_core.specs.declared.parents.Parent.TheVariants.{Node}
+use Rattle.scholten_core.specs.Kept.{Receives, engagements, held_in}
 use Rattle.scholten_core.specs.Step.{numbered}
 use Rattle.scholten_core.proofs.Complete.{sound}
-use Rattle.scholten_core.proofs.Fields.{held_at, held_in, held_within, kept_entries, place_of_held, waiters-le-sent}
-use Rattle.scholten_core.proofs.Finished.{Receives, IsFinishedIn, finished_fields}
+use Rattle.scholten_core.proofs.Fields.{held_at, held_within, kept_entries, place_of_held, waiters-le-sent}
+use Rattle.scholten_core.proofs.Finished.{IsFinishedIn, finished_fields}
 use Rattle.scholten_core.proofs.Steps.{deficit-le-outstanding}
-use Rattle.scholten_core.proofs.Diffusion.finish.Given.{Over}
-use Rattle.scholten_core.proofs.Diffusion.finish.Goals as goal
-use Rattle.scholten_core.proofs.Diffusion.finish.Goals.{After-remove}
+use Rattle.scholten_core.proofs.diffusions.Diffusion.finish.Given.{Over}
+use Rattle.scholten_core.proofs.diffusions.Diffusion.finish.Goals as goal
+use Rattle.scholten_core.proofs.diffusions.Diffusion.finish.Goals.{After-remove}
 
 pub unwrap-at-requires : goal.unwrap-at-requires
 unwrap-at-requires g c =
@@ -21,7 +21,7 @@ returns-in_err-reserve-clause-sound g c = rw c.reserve.ensures.items (sound _ c.
 
 pub returns-in_err-send-clause-sound : goal.returns-in_err-send-clause-sound
 returns-in_err-send-clause-sound g c =
-    rw (c.reserve.ensures.items, c.in_err-send.ensures.err) (sound _ c.self.invariant.settled)
+    rw (c.reserve.ensures.items, c.in_err-send.ensures.unchanged) (sound _ c.self.invariant.settled)
 
 pub receive-requires : goal.receive-requires
 receive-requires g c =
@@ -35,8 +35,8 @@ invariant_of-self-in-Err g c =
     let letters = c.self.inside.letters in
     let answers = numbered (Node c.index.result.now.1.to) (c.self.inside.sent + 1) c.args.outs.items in
     let before = c.len-before.ensures ∙ letters.ok.0 in
-    let back : c.truncate.new.self.items ≡ letters.items = c.truncate.ensures.items ∙ (λ i. take (before i) (c.in_ok-send.ensures.ok i)) ∙ take-append_seam letters.items answers in
-    rw (back, c.reserve.ensures.items, ap engagements c.in-Err.ensures.err) (kept_entries _ _ _ c.self.inside.nodes c.receive.new.nodes c.in-Err.ensures.err c.self.invariant)
+    let back : c.truncate.new.self.items ≡ letters.items = c.truncate.ensures.items ∙ (λ i. take (before i) (c.in_ok-send.ensures.sent i)) ∙ take-append_seam letters.items answers in
+    rw (back, c.reserve.ensures.items, ap engagements c.in-Err.ensures.unchanged) (kept_entries _ _ _ c.self.inside.nodes c.receive.new.nodes c.in-Err.ensures.unchanged c.self.invariant)
 
 pub returns-in-Err-clause-sound : goal.returns-in-Err-clause-sound
 returns-in-Err-clause-sound g c = sound _ (invariant_of-self-in-Err g c).settled
@@ -46,7 +46,7 @@ remove-requires g c =
     let held = rw (← c.self.view_is) at c.requires.held in
     let first = rw (c.place_of.ensures, c.deref.ensures.value) at c.unwrap-at.ensures in
     let answers = numbered (Node c.index.result.now.1.to) (c.self.inside.sent + 1) c.args.outs.items in
-    omega (arith, held_within c.self.inside.letters.items c.args.number c.unwrap-at.result held first, c.send.new.letters.ok.0, ap length c.in_ok-send.ensures.ok, length-append c.self.inside.letters.items answers)
+    omega (arith, held_within c.self.inside.letters.items c.args.number c.unwrap-at.result held first, c.send.new.letters.ok.0, ap length c.in_ok-send.ensures.sent, length-append c.self.inside.letters.items answers)
 
 pub overflow_add-self-2 : goal.overflow_add-self-2
 overflow_add-self-2 g c =
@@ -60,12 +60,7 @@ count_is g c = c.len-count.ensures ∙ c.args.outs.ok.0
 -- what became of the engaged nodes
 received_it : (g : Over) (c : After-remove g) → Receives c.self.inside.nodes c.receive.new.nodes c.index.result.now.1.from c.index.result.now.1.to (length c.args.outs.items) c.in-Ok.by
 received_it g c =
-    subst (λ (n : ℕ). Receives c.self.inside.nodes c.receive.new.nodes c.index.result.now.1.from c.index.result.now.1.to n c.in-Ok.by) (count_is g c) (record {
-      same = c.in-Ok.ensures.same;
-      engaged = λ e there. let got = c.in-Ok.ensures.engaged e there in (cc (got.0), got.1);
-      anew = c.in-Ok.ensures.anew;
-      idle = λ gone none. let got = c.in-Ok.ensures.idle gone none in (cc (got.0), got.1);
-    })
+    subst (λ (n : ℕ). Receives c.self.inside.nodes c.receive.new.nodes c.index.result.now.1.from c.index.result.now.1.to n c.in-Ok.by) (count_is g c) c.in-Ok.ensures.received
 
 -- the fields hold the computation with the letter finished
 done : (g : Over) (c : After-remove g) → IsFinishedIn (held_in c.self.inside.sent c.self.inside.letters.items c.self.inside.signals.items c.self.inside.nodes) c.args.number c.args.outs.items (held_in (c.self.inside.sent + length c.args.outs.items) c.remove.new.self.items c.put.new.signals.items c.receive.new.nodes) (c.self.inside.waits + length c.args.outs.items) c.self.inside.environment c.receive.new.nodes
@@ -73,7 +68,7 @@ done g c =
     let held = rw (← c.self.view_is) at c.requires.held in
     let first = rw (c.place_of.ensures, c.deref.ensures.value) at c.unwrap-at.ensures in
     let stands = held_at c.self.inside.letters.items c.args.number c.unwrap-at.result held first c.index.result.now c.index.ensures in
-    finished_fields c.self.inside.sent c.self.inside.letters.items c.self.inside.signals.items c.self.inside.waits c.self.inside.environment c.self.inside.nodes c.self.invariant c.args.number c.index.result.now.1 stands.found c.args.outs.items c.receive.new.nodes c.in-Ok.by (received_it g c) c.unwrap-at.result stands c.remove.new.self.items (c.remove.ensures.items ∙ ap (λ ls. remove ls c.unwrap-at.result) c.in_ok-send.ensures.ok) c.put.new.signals.items (c.put.ensures ∙ ap (λ s. s ++ option_to_list c.in-Ok.by) c.reserve.ensures.items)
+    finished_fields c.self.inside.sent c.self.inside.letters.items c.self.inside.signals.items c.self.inside.waits c.self.inside.environment c.self.inside.nodes c.self.invariant c.args.number c.index.result.now.1 stands.found c.args.outs.items c.receive.new.nodes c.in-Ok.by (received_it g c) c.unwrap-at.result stands c.remove.new.self.items (c.remove.ensures.items ∙ ap (λ ls. remove ls c.unwrap-at.result) c.in_ok-send.ensures.sent) c.put.new.signals.items (c.put.ensures ∙ ap (λ s. s ++ option_to_list c.in-Ok.by) c.reserve.ensures.items)
 
 pub invariant_of-self-2 : goal.invariant_of-self-2
 invariant_of-self-2 g c =
@@ -83,17 +78,7 @@ invariant_of-self-2 g c =
 pub returns-clause-finished : goal.returns-clause-finished
 returns-clause-finished g c =
     let after = (goal.at.returns-clause-finished g c).After-remove in
-    rw (count_is g after, ← c.self.view_is) (done g after).is
-
-pub returns-clause-letters : goal.returns-clause-letters
-returns-clause-letters g c =
-    let after = (goal.at.returns-clause-letters g c).After-remove in
-    rw (← c.self.view_is) (done g after).letters
-
-pub returns-clause-more : goal.returns-clause-more
-returns-clause-more g c =
-    let after = (goal.at.returns-clause-more g c).After-remove in
-    rw (c.args.outs.ok.0, ← c.self.view_is) (done g after).more
+    rw (count_is g after, ← c.self.view_is) (done g after).step
 
 pub returns-clause-sound : goal.returns-clause-sound
 returns-clause-sound g c = sound _ (invariant_of-self-2 g c).settled

@@ -1,7 +1,7 @@
 use Rattle.std.proofs.Common.{◌≡◌, ◌∙◌, rules}
-use Rattle.scholten_core.specs.declared.Parent.TheVariants.{Node}
+use Rattle.scholten_core.specs.declared.parents.Parent.TheVariants.{Node}
 use Rattle.scholten_core.specs.Kept.{deficit_kept}
-use Rattle.scholten_core.proofs.Diffusion.deficit.Goals as goal
+use Rattle.scholten_core.proofs.diffusions.Diffusion.deficit.Goals as goal
 
 pub returns : goal.returns
 returns g c =

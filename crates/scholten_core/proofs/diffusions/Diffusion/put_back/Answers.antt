@@ -1,7 +1,7 @@
 use Rattle.std.proofs.Common.{◌+◌, false, sym, arith}
 use Rattle.scholten_core.proofs.Complete.{sound}
 use Rattle.scholten_core.proofs.Fields.{held_at, held_within, marked_is, marked_kept, place_of_held, waiters-le-sent}
-use Rattle.scholten_core.proofs.Diffusion.put_back.Goals as goal
+use Rattle.scholten_core.proofs.diffusions.Diffusion.put_back.Goals as goal
 
 pub unwrap-at-requires : goal.unwrap-at-requires
 unwrap-at-requires g c =

@@ -2,7 +2,7 @@ use Rattle.std.proofs.Common.{ap}
 use Rattle.scholten_core.specs.Kept.{engagements}
 use Rattle.scholten_core.proofs.Complete.{sound}
 use Rattle.scholten_core.proofs.Fields.{started_kept}
-use Rattle.scholten_core.proofs.Diffusion.start.Goals as goal
+use Rattle.scholten_core.proofs.diffusions.Diffusion.start.Goals as goal
 
 pub invariant_of-result : goal.invariant_of-result
 invariant_of-result g c =

@@ -1,0 +1,193 @@
+use crate::engagement::{Engagement, deliver, receive};
+use crate::letters::{Letter, place_of, send, waiting_place};
+use crate::parents::Parent;
+use crate::signals::put;
+use std::alloc::{AllocError, Global};
+use std::collections::{BTreeMap, VecDeque};
+use std::marker::Model;
+
+/// A diffusing computation: letters, signals and the tree of engaged nodes. Letters are numbered from 1 as they are
+/// sent. Only `start` and `finish` take memory. Contracts see it as a `Computation`.
+#[derive(Debug, Drop)]
+pub struct Diffusion<P> {
+    sent: u64,
+    waits: u64,
+    letters: Vec<(u64, Letter<P>)>,
+    signals: VecDeque<Parent>,
+    nodes: BTreeMap<u64, Engagement>,
+    environment: u64,
+}
+
+impl<P> Model for Diffusion<P> {
+    ghost use Rattle.scholten_core.specs.Computation.{Computation};
+    ghost use Rattle.scholten_core.specs.Code.{computation_code};
+
+    ghost Value = { Computation P };
+
+    ghost coded = { computation_code P.code };
+
+    ghost use Rattle.scholten_core.specs.Kept.{IsKept, held_in};
+
+    ghost view = { λ a. held_in a.sent a.letters.items a.signals.items a.nodes };
+
+    ghost invariant = { λ a. IsKept (held_in a.sent a.letters.items a.signals.items a.nodes) a.waits a.environment a.nodes };
+}
+
+impl<P: Drop> Diffusion<P> {
+    ghost use Rattle.std.specs.Prelude.{◌≡◌, ◌+◌, ◌^◌, ◌<◌, ◌↔◌, false, [], length, vec_len, option_copied};
+    ghost use Rattle.std.specs.Prelude.{IfOk, OnOk, OnErr, IsTrue};
+    ghost use Rattle.scholten_core.specs.Computation.{IsHeld, StandByNumber, letter_of, waiting as waiting_of};
+    ghost use Rattle.scholten_core.specs.Computation.{deficit as deficit_of, parent_of, outstanding};
+    ghost use Rattle.scholten_core.specs.Step.{started, marked};
+    ghost use Rattle.scholten_core.specs.Call.{TakesLetter, FinishesLetter, DeliversSignal};
+    ghost use Rattle.scholten_core.specs.Sound.{IsSound};
+
+    /// The environment sends the first letter, to the root.
+    pub fn start(alloc: Global, root: u64, load: P) -> Result<Self, AllocError>
+        ensures started { IfOk result (λ d. d ≡ started root load) }
+        ensures sound { IfOk result IsSound }
+    {
+        let mut letters = Vec::with_capacity(alloc, 1)?;
+        let letter = Letter {
+            from: Parent::Environment,
+            to: root,
+            held: false,
+            load,
+        };
+        letters.push_reserved((1, letter));
+        Ok(Diffusion {
+            sent: 1,
+            waits: 1,
+            letters,
+            signals: VecDeque::new(alloc),
+            nodes: BTreeMap::new(alloc),
+            environment: 1,
+        })
+    }
+
+    /// How many letters were ever sent.
+    pub fn sent(&self) -> u64
+        ensures { result ≡ self.now.sent }
+    {
+        self.sent
+    }
+
+    /// The letter of that number, where it waits or is held.
+    pub fn letter(&self, number: u64) -> Option<&Letter<P>>
+        ensures letter { option_copied result ≡ letter_of self.now number }
+        ensures by_number { StandByNumber self.now }
+    {
+        let at = place_of(&self.letters, number)?;
+        Some(&self.letters[at].1)
+    }
+
+    /// How many letters wait.
+    pub fn waiting(&self) -> u64
+        ensures { result ≡ length (waiting_of self.now) }
+    {
+        self.waits
+    }
+
+    /// Takes the waiting letter at that place, in order of number, and answers its number.
+    pub fn take(&mut self, place: u64) -> u64
+        requires { place < length (waiting_of self.old) }
+        ensures { TakesLetter self.old place result self.new }
+    {
+        let at = waiting_place(&self.letters, place);
+        self.waits -= 1;
+        let (number, letter) = &mut self.letters[at];
+        letter.held = true;
+        *number
+    }
+
+    /// The held letter of that number waits again.
+    pub fn put_back(&mut self, number: u64)
+        requires { IsHeld self.old number }
+        ensures waits { self.new ≡ marked self.old number false }
+        ensures sound { IsSound self.new }
+    {
+        let at = place_of(&self.letters, number).unwrap();
+        self.letters[at].1.held = false;
+        self.waits += 1;
+    }
+
+    /// How many signals are under way.
+    pub fn signals(&self) -> u64
+        ensures { result ≡ length self.now.signals }
+    {
+        self.signals.len() as u64
+    }
+
+    /// Finishes the held letter of that number: its receiver gets it and sends these letters, and is neutral again if
+    /// it is then owed nothing. Where memory is refused, the letters handed in are dropped and nothing else changes.
+    pub fn finish(&mut self, number: u64, outs: Vec<(u64, P)>) -> Result<(), AllocError>
+        requires held { IsHeld self.old number }
+        requires room { self.old.sent + vec_len outs < 2 ^ 64 }
+        ensures finished { OnOk result (FinishesLetter self.old number outs.items self.new) }
+        ensures unchanged { OnErr result (self.new ≡ self.old) }
+        ensures sound { IsSound self.new }
+    {
+        let at = place_of(&self.letters, number).unwrap();
+        let letter = &self.letters[at].1;
+        let (from, to) = (letter.from, letter.to);
+        let before = self.letters.len();
+        let count = outs.len() as u64;
+        self.signals.reserve(1)?;
+        send(&mut self.letters, Parent::Node(to), self.sent, outs)?;
+        match receive(&mut self.nodes, from, to, count) {
+            Ok(by) => put(&mut self.signals, by),
+            Err(refusal) => {
+                self.letters.truncate(before);
+                return Err(refusal);
+            }
+        }
+        self.letters.remove(at);
+        self.sent += count;
+        self.waits += count;
+        Ok(())
+    }
+
+    /// Delivers the signal at that place: its receiver is neutral again if it is then owed nothing.
+    pub fn signal(&mut self, place: u64)
+        requires { place < length self.old.signals }
+        ensures { DeliversSignal self.old place self.new }
+    {
+        let to = self.signals.remove(place as usize).unwrap();
+        let by = deliver(&mut self.environment, &mut self.nodes, to);
+        put(&mut self.signals, by);
+    }
+
+    /// Whether nothing is outstanding.
+    pub fn is_complete(&self) -> bool
+        ensures environment { IsTrue result ↔ (deficit_of self.now Parent.Environment ≡ 0) }
+        ensures complete { IsTrue result ↔ (outstanding self.now ≡ 0) }
+        ensures never_stuck { self.now.letters ≡ [] → self.now.signals ≡ [] → IsTrue result }
+        ensures sound { IsSound self.now }
+    {
+        self.environment == 0
+    }
+
+    /// What the environment is owed.
+    pub fn env_deficit(&self) -> u64
+        ensures { result ≡ deficit_of self.now Parent.Environment }
+    {
+        self.environment
+    }
+
+    /// What a node is owed.
+    pub fn deficit(&self, node: u64) -> u64
+        ensures { result ≡ deficit_of self.now (Parent.Node node) }
+    {
+        self.nodes.get(&node).map_or(0, |engaged| engaged.deficit)
+    }
+
+    /// Who engaged a node.
+    pub fn parent(&self, node: u64) -> Parent
+        ensures { result ≡ parent_of self.now node }
+    {
+        match self.nodes.get(&node) {
+            Some(engaged) => engaged.parent,
+            None => Parent::Neutral,
+        }
+    }
+}
