@@ -1,11 +1,10 @@
 -- What the monitor of an intersection is seen as, and what it hears.
-use Rattle.std.specs.Prelude.{ℕ, Bool, List, ◌≡◌, ◌<◌, ◌↔◌, IsTrue, map, refl}
+use Rattle.std.specs.Prelude.{ℕ, Bool, List, ◌≡◌, ◌<◌, ◌↔◌, IsTrue, refl}
 use Rattle.std.specs.declared.cmp.Ordering.{Ordering}
 use Rattle.std.specs.Ordering.{nat_cmp, ordering_then}
 use Rattle.std.specs.Coded.{Coded, code_by, coded×, coded_ℕ, coded_list}
 use Rattle.std.specs.FinSet as set
 use Rattle.names.specs.Name.{name_order}
-use Rattle.monitors.specs.declared.meet_monitors.PartTold.{PartTold}
 
 -- by part, then by entity
 abbrev pub told_order : ℕ × List ℕ → ℕ × List ℕ → Ordering
@@ -24,10 +23,6 @@ abbrev pub meet_code : Coded MeetTold
 meet_code =
     let told_code : Coded (set.FinSet told_order) = set.code (coded× coded_ℕ (coded_list coded_ℕ)) in
     code_by (ℕ × set.FinSet told_order) (coded× coded_ℕ told_code) stored (λ p. record { parts = p.0; told = p.1 }) (λ _. refl)
-
--- what was told, as pairs of the part and the entity
-abbrev pub pairs_of : List PartTold → List (ℕ × List ℕ)
-pairs_of told = map (λ tell. (tell.part, tell.who)) told
 
 -- the part has told the entity
 abbrev pub HasTold : MeetTold → ℕ → List ℕ → Type 0
