@@ -1,1 +1,4 @@
-pub mod MeetLemmas
+pub mod ToldOrder
+pub mod TableLemmas
+pub mod CountLemmas
+pub mod KeyLemmas

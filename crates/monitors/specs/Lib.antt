@@ -1,2 +1,4 @@
 pub mod LinkMonitor
 pub mod MeetMonitor
+pub mod Counting
+pub mod Tellers

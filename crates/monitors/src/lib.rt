@@ -4,7 +4,7 @@
 
 mod link_monitors;
 mod meet_monitors;
-mod seeking;
+mod tellers;
 #[cfg(test)]
 mod tests;
 

@@ -1,6 +1,6 @@
 ghost use Rattle.std.specs.Prelude.{◌≡◌, [], IfOk, OnOk, OnErr, Contains};
 
-use crate::seeking::is_among;
+use indexmap::IndexSet;
 use names::Entity;
 use std::alloc::{AllocError, Global};
 use std::marker::Model;
@@ -9,8 +9,8 @@ use std::marker::Model;
 /// these. Contracts see it as the two lists, each in order of telling.
 #[derive(Drop)]
 pub struct LinkMonitor {
-    bases: Vec<Entity>,
-    members: Vec<Entity>,
+    bases: IndexSet<Entity>,
+    members: IndexSet<Entity>,
 }
 
 impl Model for LinkMonitor {
@@ -18,7 +18,7 @@ impl Model for LinkMonitor {
 
     ghost Value = { LinkTold };
 
-    ghost view = { λ m. record { bases = m.bases.items; members = m.members.items } };
+    ghost view = { λ m. record { bases = m.bases.keys; members = m.members.keys } };
 }
 
 impl LinkMonitor {
@@ -29,8 +29,8 @@ impl LinkMonitor {
         ensures { result ≡ record { bases = []; members = [] } }
     {
         LinkMonitor {
-            bases: Vec::new(alloc),
-            members: Vec::new(alloc),
+            bases: IndexSet::new(alloc),
+            members: IndexSet::new(alloc),
         }
     }
 
@@ -38,13 +38,10 @@ impl LinkMonitor {
     pub fn base_told(&mut self, base: Entity) -> Result<bool, AllocError>
         ensures ok { IfOk result (λ new. HearsBase self.old self.new base new) }
         ensures told { OnOk result (Contains self.new.bases base) }
-        ensures err { OnErr result (self.new ≡ self.old) }
+        ensures growth { OnErr result (Contains self.old.bases base → ⊥) }
+        ensures unchanged { OnErr result (self.new ≡ self.old) }
     {
-        if is_among(&self.bases, &base) {
-            return Ok(false);
-        }
-        self.bases.push(base)?;
-        Ok(true)
+        Ok(self.bases.insert(base)?)
     }
 
     /// Hears that the entity is in the role which a member of the base gives it, and answers whether that is new: by
@@ -53,13 +50,10 @@ impl LinkMonitor {
         requires { Contains self.old.bases base }
         ensures ok { IfOk result (λ new. HearsVia self.old self.new who new) }
         ensures told { OnOk result (Contains self.new.members who) }
-        ensures err { OnErr result (self.new ≡ self.old) }
+        ensures growth { OnErr result (Contains self.old.members who → ⊥) }
+        ensures unchanged { OnErr result (self.new ≡ self.old) }
     {
         let _base = base;
-        if is_among(&self.members, &who) {
-            return Ok(false);
-        }
-        self.members.push(who)?;
-        Ok(true)
+        Ok(self.members.insert(who)?)
     }
 }

@@ -1,12 +1,18 @@
-use Rattle.std.proofs.Common.{refl}
-use Rattle.std.proofs.lemmas.List.Elements.{Contains-push}
+use Rattle.std.proofs.Common.{rules, subst, sym, Contains, nat_eq}
+use Rattle.std.specs.Cmp.Lexicographic.{pointwise}
+use Rattle.indexmap.proofs.CallerLemmas.{Contains-insert_key}
+use Rattle.monitors.proofs.KeyLemmas.{same_name, is_new, hears_via}
 use Rattle.monitors.proofs.link_monitors.LinkMonitor.via_told.Goals as goal
 
-pub returns-then-is_among-clause-told : goal.returns-then-is_among-clause-told
-returns-then-is_among-clause-told c = rw (← c.self.view_is, ← c.deref.ensures.value) (c.is_among.ensures.0 c.if-is_among.true)
+pub returns-in_err-insert-clause-growth : goal.returns-in_err-insert-clause-growth
+returns-in_err-insert-clause-growth c =
+    let new = is_new c.self.inside.members.keys c.args.who c.in_err-insert.ensures.absent in
+    rw (← c.self.view_is) (search (rules, new))
 
-pub returns-then-is_among-clause-ok : goal.returns-then-is_among-clause-ok
-returns-then-is_among-clause-ok c = (rw (← c.self.view_is, ← c.deref.ensures.value) (c.is_among.ensures.0 c.if-is_among.true), refl)
+pub returns-clause-ok : goal.returns-clause-ok
+returns-clause-ok c =
+    rw (← c.self.view_is) (hears_via _ c.args.who _ _ c.in_ok-insert.ensures.added c.in_ok-insert.ensures.keys)
 
 pub returns-clause-told : goal.returns-clause-told
-returns-clause-told c = rw c.in_ok-push.ensures.items (Contains-push c.self.inside.members.items c.args.who)
+returns-clause-told c =
+    subst (λ keys. Contains keys c.args.who) (sym c.in_ok-insert.ensures.keys) (Contains-insert_key (pointwise nat_eq) same_name c.self.inside.members.keys c.args.who)
