@@ -12,3 +12,5 @@ pub mod Counting
 pub mod WorkLaws
 pub mod FixedPoint
 pub mod Distinct
+pub mod Letters
+pub mod LetterSteps
