@@ -1,5 +1,5 @@
 use Rattle.std.proofs.Common.{refl}
-use Rattle.credential_text.specs.Same.{same_credential}
+use Rattle.credential_text.proofs.Same.{same_credential}
 use Rattle.credential_text.proofs.credentials.Credential.try_clone.Goals as goal
 
 pub returns-clause-same : goal.returns-clause-same
