@@ -4,7 +4,7 @@ use Rattle.vaults.proofs.pages.hold.Goals as goal
 
 pub returns-in_ok-insert-clause-held : goal.returns-in_ok-insert-clause-held
 returns-in_ok-insert-clause-held c =
-    inserted_there credentials_exact c.args.held.now.items c.deref.result.now _ c.args.credential.now _ c.in-Err.place c.deref.ensures.value c.in-Err.ensures c.in_ok-copy.ensures c.in_ok-insert.ensures.items
+    inserted_there credentials_exact c.args.held.now.items c.deref.result.now _ c.args.credential.now _ c.in-Err.place c.deref.ensures.value c.in-Err.ensures c.in_ok-copy.ensures.same c.in_ok-insert.ensures.items
 
 pub returns-in_default-clause-held : goal.returns-in_default-clause-held
 returns-in_default-clause-held c =
