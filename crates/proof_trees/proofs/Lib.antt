@@ -1,0 +1,5 @@
+pub mod Taken
+pub mod Zipped
+pub mod Soundness
+pub mod RuleLemmas
+pub mod TextLemmas

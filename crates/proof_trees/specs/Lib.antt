@@ -1,0 +1,3 @@
+pub mod Proof
+pub mod Laws
+pub mod Text

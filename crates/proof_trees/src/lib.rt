@@ -1,0 +1,20 @@
+//! Proofs of membership: lists of steps, each by one of RT0's rules (Li, Winsborough and Mitchell 2003) from earlier
+//! steps; the checker that accepts them, and their text.
+#![tactic(auto)]
+
+mod checking;
+mod laws;
+mod premises;
+mod proofs;
+mod standing;
+mod steps;
+#[cfg(test)]
+mod tests;
+mod writing;
+
+pub use checking::check_proof;
+pub use laws::{cited_credentials_are_canonical, proofs_are_sound};
+pub use premises::Premises;
+pub use proofs::Proof;
+pub use steps::{Rule, Step};
+pub use writing::write_proof;
