@@ -2,7 +2,7 @@
 use Rattle.std.proofs.Common.{ℕ, Bool, true, List, [], ◌∷◌, ◌++◌, ◌+◌, ◌<◌, ◌≤◌, ◌≡◌, ◌∙◌, inl, inr, sym, subst, ap, length, take, get_or, append_assoc}
 use Rattle.std.specs.Bool.{Decides}
 use Rattle.std.specs.List.{Contains, Any, list_any}
-use Rattle.std.proofs.lemmas.List.{append-nil, take_more, take_all}
+use Rattle.std.proofs.lemmas.List.{take_more, take_all}
 use Rattle.std.proofs.lemmas.List.Folds.{Any-from_list_any, list_any_at}
 use Rattle.std.proofs.lemmas.List.Elements.{Contains-append_left, Contains-push, Contains-push_cases}
 use Rattle.rt0_rules.specs.Work.{AreDistinct, ListsAll}
@@ -21,14 +21,6 @@ is_among eq decided xs x found =
 pub found_among : {X : Type 0} (eq : X → X → Bool) → ((x y : X) → Decides (eq x y) (x ≡ y)) → (xs : List X) (x : X) →
     Contains xs x → list_any (λ y. eq y x) xs ≡ true
 found_among eq decided xs x among = list_any_at (λ y. eq y x) xs among.0 x among.1 ((decided (get_or xs among.0 x) x).1 among.2)
-
-pub adds_none : {X : Type 0} (old : List X) → Adds [] old old
-adds_none old = record {
-  more = [];
-  grown = sym (append-nil old);
-  distinct = λ distinct. distinct;
-  exact = λ x. ((λ has. inl has), λ has. elim has [ inl in_old ↦ in_old | inr in_none ↦ absurd (Contains-none x in_none) ]);
-}
 
 AreDistinct-push : {X : Type 0} (xs : List X) (x : X) → AreDistinct xs → (Contains xs x → ⊥) → AreDistinct (xs ++ x ∷ [])
 AreDistinct-push xs x distinct absent =

@@ -8,7 +8,6 @@ use Rattle.credential_text.specs.declared.credentials.Credential.{Credential}
 use Rattle.credential_text.specs.declared.intersections.Part.{Part}
 use Rattle.credential_text.specs.declared.exprs.Expr.{Expr}
 use Rattle.credential_text.specs.declared.exprs.Expr.TheVariants.{Ent, Rol, Link, Meet}
-use Rattle.credential_text.specs.Expr.{part_expr}
 use Rattle.rt0_rules.specs.declared.facts.Fact.{Fact}
 use Rattle.rt0_rules.specs.declared.asks.Ask.{Ask as Asked}
 use Rattle.rt0_rules.specs.declared.asks.Why.{Why as Cause}
@@ -17,7 +16,7 @@ use Rattle.rt0_rules.specs.Derivation.{Derives}
 use Rattle.rt0_rules.specs.Facts.{is_same_role, knows, all_entities, IsSound, IsClosed}
 use Rattle.rt0_rules.specs.Asks.{Why, Asks, asks_body, asks_base, asks_via, asks_part, Demanded, asked_role, asked_by}
 use Rattle.rt0_rules.specs.Work.{Ask, IsAsk, AreDistinct, ListsAll, WorkExceeds}
-use Rattle.rt0_rules.specs.Asked.{why_of, ask_of, body_asks, via_asks, part_asks, asks_from, Adds}
+use Rattle.rt0_rules.specs.Asked.{why_of, ask_of, body_asks, via_asks, part_ask, part_asks, asks_from, Adds}
 use Rattle.rt0_rules.proofs.SameTexts.{same_role, role_itself}
 use Rattle.rt0_rules.proofs.Elements.{Contains-none, Contains-first, Contains-later, Contains-cons_cases, Contains-flat_map}
 use Rattle.rt0_rules.proofs.Distinct.{IsMapped, mapped, IsJoined, joined, AreDistinct-map}
@@ -25,28 +24,22 @@ use Rattle.rt0_rules.proofs.Unknown.{Contains-map}
 use Rattle.rt0_rules.proofs.Complete.{IsFound, complete}
 
 -- one part more of an intersection
-part_asks-push : (all : List Part) (k : ℕ) (ps : List Part) (p : Part) →
-    part_asks all k (ps ++ p ∷ []) ≡ part_asks all k ps ++ record { asker = Meet all; why = cause.Part (k + length ps); asked = part_expr p } ∷ []
-part_asks-push all k [] p =
-    let here : k ≡ k + length {A = Part} [] = omega arith in
-    ap (λ place. record { asker = Meet all; why = cause.Part place; asked = part_expr p } ∷ []) here
+part_asks-push : (all : List Part) (k : ℕ) (ps : List Part) (p : Part) → part_asks all k (ps ++ p ∷ []) ≡ part_asks all k ps ++ part_ask all (k + length ps) p ∷ []
+part_asks-push all k [] p = let here : k ≡ k + length {A = Part} [] = omega arith in ap (λ place. part_ask all place p ∷ []) here
 part_asks-push all k (q ∷ ps) p =
     let place : (k + 1) + length ps ≡ k + length (q ∷ ps) = omega arith in
-    ap (λ l. record { asker = Meet all; why = cause.Part k; asked = part_expr q } ∷ l)
-    (part_asks-push all (k + 1) ps p ∙ ap (λ i. part_asks all (k + 1) ps ++ record { asker = Meet all; why = cause.Part i; asked = part_expr p } ∷ []) place)
+    ap (λ l. part_ask all k q ∷ l) (part_asks-push all (k + 1) ps p ∙ ap (λ i. part_asks all (k + 1) ps ++ part_ask all i p ∷ []) place)
 
-pub part_step : (all ps : List Part) (place : ℕ) (p : Part) (start before after : List Asked) (clone : List Part) (e : Expr) →
-    place < length ps → p ≡ get_or ps place p → clone ≡ all → e ≡ part_expr p → before ≡ start ++ part_asks all 0 (take place ps) →
-    after ≡ before ++ record { asker = Meet clone; why = cause.Part place; asked = e } ∷ [] → after ≡ start ++ part_asks all 0 (take (place + 1) ps)
-part_step all ps place p start before after clone e within is same_parts same_part so_far pushed =
+pub part_step : (all ps : List Part) (place : ℕ) (p : Part) (start before after : List Asked) (ask : Asked) →
+    place < length ps → p ≡ get_or ps place p → ask ≡ part_ask all place p → before ≡ start ++ part_asks all 0 (take place ps) →
+    after ≡ before ++ ask ∷ [] → after ≡ start ++ part_asks all 0 (take (place + 1) ps)
+part_step all ps place p start before after ask within is made so_far pushed =
     let at : 0 + length (take place ps) ≡ place = omega (arith, length-take-le place ps) in
-    let last : Asked = record { asker = Meet all; why = cause.Part place; asked = part_expr p } in
-    let whole : part_asks all 0 (take (place + 1) ps) ≡ part_asks all 0 (take place ps) ++ last ∷ [] =
+    let whole : part_asks all 0 (take (place + 1) ps) ≡ part_asks all 0 (take place ps) ++ ask ∷ [] =
     ap (part_asks all 0) (take_more ps place p within ∙ ap (λ q. take place ps ++ q ∷ []) (sym is))
-    ∙ part_asks-push all 0 (take place ps) p
-    ∙ ap (λ i. part_asks all 0 (take place ps) ++ record { asker = Meet all; why = cause.Part i; asked = part_expr p } ∷ []) at in
-    let made : record { asker = Meet clone; why = cause.Part place; asked = e } ≡ last = λ i. record { asker = Meet (same_parts i); why = cause.Part place; asked = same_part i } in
-    pushed ∙ ap (λ l. before ++ l ∷ []) made ∙ ap (λ l. l ++ last ∷ []) so_far ∙ append_assoc start (part_asks all 0 (take place ps)) (last ∷ []) ∙ ap (λ l. start ++ l) (sym whole)
+    ∙ part_asks-push all 0 (take place ps) p ∙ ap (λ i. part_asks all 0 (take place ps) ++ part_ask all i p ∷ []) at
+    ∙ ap (λ l. part_asks all 0 (take place ps) ++ l ∷ []) (sym made) in
+    pushed ∙ ap (λ l. l ++ ask ∷ []) so_far ∙ append_assoc start (part_asks all 0 (take place ps)) (ask ∷ []) ∙ ap (λ l. start ++ l) (sym whole)
 
 -- an ask of the expression, by the rules
 pub record IsFrom (C : List Credential) (e : Expr) (x : Asked) : Type 0 where
@@ -66,7 +59,7 @@ part_from : (C : List Credential) (all : List Part) (k : ℕ) (ps : List Part) (
     ((i : ℕ) (p : Part) → slice_get ps i ≡ Some p → slice_get all (k + i) ≡ Some p) → Contains (part_asks all k ps) x → IsFrom C (Meet all) x
 part_from C all k [] x places has = absurd (Contains-none x has)
 part_from C all k (p ∷ ps) x places has =
-    elim (Contains-cons_cases (record { asker = Meet all; why = cause.Part k; asked = part_expr p }) (part_asks all (k + 1) ps) x has) [
+    elim (Contains-cons_cases (part_ask all k p) (part_asks all (k + 1) ps) x has) [
       | inl same ↦
           let here : k + 0 ≡ k = omega arith in
           subst (IsFrom C (Meet all)) same (record { asker = refl; asks = asks_part k p (subst (λ i. slice_get all i ≡ Some p) here (places 0 p refl)) })
@@ -102,19 +95,18 @@ pub record IsMade (C : List Credential) (facts : List Fact) (everyone : List (Li
   pub is : ask_of ask ≡ record { asker = e; why = why; asked = f }
 
 part_made : (all : List Part) (k i : ℕ) (ps : List Part) (p : Part) → slice_get ps i ≡ Some p →
-    Contains (part_asks all k ps) (record { asker = Meet all; why = cause.Part (k + i); asked = part_expr p })
+    Contains (part_asks all k ps) (part_ask all (k + i) p)
 part_made all k i [] p at = cc
 part_made all k zero (q ∷ ps) p at =
     let same : q ≡ p = cc in
     let here : k ≡ k + 0 = omega arith in
-    let made : record { asker = Meet all; why = cause.Part k; asked = part_expr q } ≡ record { asker = Meet all; why = cause.Part (k + 0); asked = part_expr p } =
-    λ j. record { asker = Meet all; why = cause.Part (here j); asked = part_expr (same j) } in
-    subst (Contains (part_asks all k (q ∷ ps))) made (Contains-first (record { asker = Meet all; why = cause.Part k; asked = part_expr q }) (part_asks all (k + 1) ps))
+    let made : part_ask all k q ≡ part_ask all (k + 0) p = λ j. part_ask all (here j) (same j) in
+    subst (Contains (part_asks all k (q ∷ ps))) made (Contains-first (part_ask all k q) (part_asks all (k + 1) ps))
 part_made all k (suc i) (q ∷ ps) p at =
     let there : (k + 1) + i ≡ k + suc i = omega arith in
-    subst (λ j. Contains (part_asks all k (q ∷ ps)) (record { asker = Meet all; why = cause.Part j; asked = part_expr p })) there
-    (Contains-later (record { asker = Meet all; why = cause.Part k; asked = part_expr q }) (part_asks all (k + 1) ps)
-    (record { asker = Meet all; why = cause.Part ((k + 1) + i); asked = part_expr p }) (part_made all (k + 1) i ps p at))
+    subst (λ j. Contains (part_asks all k (q ∷ ps)) (part_ask all j p)) there
+    (Contains-later (part_ask all k q) (part_asks all (k + 1) ps)
+    (part_ask all ((k + 1) + i) p) (part_made all (k + 1) i ps p at))
 
 pub asks_made : (C : List Credential) (facts : List Fact) (everyone : List (List ℕ)) → IsClosed C (all_entities C) facts → ListsAll (Contains (all_entities C)) everyone →
     (e : Expr) (why : Why) (f : Expr) → Asks C (Derives C) e why f → IsMade C facts everyone e why f
@@ -137,8 +129,8 @@ asks_made C facts everyone closed all e why f (asks_via {r = r} n b member) =
 asks_made C facts everyone closed all e why f (asks_part {parts = parts} i p at) =
     let here : 0 + i ≡ i = omega arith in
     record {
-      ask = record { asker = Meet parts; why = cause.Part i; asked = part_expr p };
-      among = subst (λ j. Contains (part_asks parts 0 parts) (record { asker = Meet parts; why = cause.Part j; asked = part_expr p })) here (part_made parts 0 i parts p at);
+      ask = part_ask parts i p;
+      among = subst (λ j. Contains (part_asks parts 0 parts) (part_ask parts j p)) here (part_made parts 0 i parts p at);
       is = refl;
     }
 

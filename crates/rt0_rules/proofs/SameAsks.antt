@@ -1,9 +1,8 @@
 -- What `==` finds of the program's asks.
-use Rattle.std.proofs.Common.{◌≡◌, ◌&&◌, ◌++◌, ◌∷◌, [], ◌∙◌, List, Bool, true, false, inl, inr, ap, sym, refl, rules}
+use Rattle.std.proofs.Common.{◌≡◌, ◌↔◌, ◌&&◌, ◌∙◌, List, Bool, true, ap, sym, rules}
 use Rattle.std.specs.Bool.{Decides}
-use Rattle.std.specs.List.{list_any}
+use Rattle.std.specs.List.{Contains, list_any}
 use Rattle.std.proofs.lemmas.Bool.{and_parts, and_from}
-use Rattle.rt0_rules.specs.Asked.{IsWithNew}
 use Rattle.rt0_rules.proofs.Adding.{is_among, found_among}
 use Rattle.credential_text.proofs.Equality.{exprs_decided}
 use Rattle.rt0_rules.specs.declared.asks.Ask.{Ask}
@@ -37,19 +36,9 @@ asks_decided x y = (
       (and_from _ _ ((whys_decided x.why y.why).1 (ap (λ (a : Ask). a.why) same)) ((exprs_decided x.asked y.asked).1 (ap (λ (a : Ask). a.asked) same))),
 )
 
--- the ask is appended, unless a search found it
-pub found_new : (x : Ask) (seen xs : List Ask) (found : Bool) → seen ≡ xs → found ≡ list_any (λ y. ask.ghosts.eq y x) seen → found ≡ true →
-    IsWithNew x xs xs
-found_new x seen xs found same is there =
-    inl (is_among ask.ghosts.eq asks_decided xs x (ap (list_any (λ y. ask.ghosts.eq y x)) (sym same) ∙ sym is ∙ there), refl)
-
-pub pushed_new : (x : Ask) (seen xs ys : List Ask) (found : Bool) → seen ≡ xs → found ≡ list_any (λ y. ask.ghosts.eq y x) seen → found ≡ false →
-    ys ≡ xs ++ x ∷ [] → IsWithNew x xs ys
-pushed_new x seen xs ys found same is absent pushed = inr (
-  λ among.
-      let there : list_any (λ y. ask.ghosts.eq y x) xs ≡ true = found_among ask.ghosts.eq asks_decided xs x among in
-      let missed : list_any (λ y. ask.ghosts.eq y x) xs ≡ false = ap (list_any (λ y. ask.ghosts.eq y x)) (sym same) ∙ sym is ∙ absent in
-      let never : true ≡ false = sym there ∙ missed in
-      cc,
-  pushed,
+-- a search finds the ask where it stands
+pub found_where_among : (xs : List Ask) (x : Ask) (found : Bool) → found ≡ list_any (λ y. ask.ghosts.eq y x) xs → (found ≡ true) ↔ Contains xs x
+found_where_among xs x found is = (
+  λ there. is_among ask.ghosts.eq asks_decided xs x (sym is ∙ there),
+  λ among. is ∙ found_among ask.ghosts.eq asks_decided xs x among,
 )

@@ -38,10 +38,14 @@ abbrev pub via_asks : List Fact → Role → List ℕ → List ℕ → List Aske
 via_asks facts base n b =
     cond (knows facts base b) (record { asker = Link base n; why = cause.Via b; asked = Rol (record { owner = b; name = n }) } ∷ []) []
 
+-- what the intersection of all the parts asks the part at the place
+abbrev pub part_ask : List Part → ℕ → Part → Asked
+part_ask all place p = record { asker = Meet all; why = cause.Part place; asked = part_expr p }
+
 -- what the intersection of all the parts asks from the place on, where these parts stand
 abbrev pub part_asks : List Part → ℕ → List Part → List Asked
 part_asks all place [] = []
-part_asks all place (p ∷ ps) = record { asker = Meet all; why = cause.Part place; asked = part_expr p } ∷ part_asks all (place + 1) ps
+part_asks all place (p ∷ ps) = part_ask all place p ∷ part_asks all (place + 1) ps
 
 -- what the expression asks, by the facts
 abbrev pub asks_from : List Credential → List Fact → List (List ℕ) → Expr → List Asked

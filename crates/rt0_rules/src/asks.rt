@@ -1,6 +1,6 @@
 ghost use Rattle.std.specs.Prelude.{◌≡◌, ◌++◌, OnOk, IfOk};
 ghost use Rattle.std.specs.List.{flat_map};
-ghost use Rattle.rt0_rules.specs.Asked.{body_asks, via_asks, base_ask, part_asks, asks_from};
+ghost use Rattle.rt0_rules.specs.Asked.{body_asks, via_asks, base_ask, part_ask, part_asks, asks_from};
 
 use crate::facts::{Fact, knows};
 use credential_text::{Credential, Expr, Part, Parts};
@@ -108,16 +108,23 @@ fn push_vias(
     Ok(())
 }
 
+/// What an intersection asks the part at this place.
+fn part_ask(parts: &Parts, place: usize, part: &Part) -> Result<Ask, AllocError>
+    ensures { IfOk result (λ ask. ask ≡ part_ask parts.now place part.now) }
+{
+    Ok(Ask {
+        asker: Expr::Meet(parts.try_clone()?),
+        why: Why::Part(place),
+        asked: part.expr(),
+    })
+}
+
 /// Appends what an intersection asks: each of its parts.
 fn push_parts(parts: &Parts, asks: &mut Vec<Ask>) -> Result<(), AllocError>
     ensures { OnOk result (asks.new.items ≡ asks.old.items ++ part_asks parts.now 0 parts.now) }
 {
     for (place, part) in parts.as_slice().iter().enumerate() {
-        asks.push(Ask {
-            asker: Expr::Meet(parts.try_clone()?),
-            why: Why::Part(place),
-            asked: part.expr(),
-        })?;
+        asks.push(part_ask(parts, place, part)?)?;
     }
     Ok(())
 }

@@ -1,4 +1,4 @@
-ghost use Rattle.std.specs.Prelude.{◌≡◌, ◌<◌, length, Contains, IfOk, OnOk};
+ghost use Rattle.std.specs.Prelude.{◌≡◌, ◌↔◌, ◌<◌, length, Contains, IsTrue, IfOk, OnOk};
 ghost use Rattle.rt0_rules.specs.Facts.{all_entities, IsSound, IsClosed};
 ghost use Rattle.rt0_rules.specs.Work.{ListsAll, IsWorkWithin};
 ghost use Rattle.rt0_rules.specs.Asked.{IsWithNew, Adds, IsAskedWithin, members_among, count_of, IsCountedWithin};
@@ -31,11 +31,18 @@ fn push_new_entity(entity: Entity, everyone: &mut Vec<Entity>) -> Result<(), All
     Ok(())
 }
 
+/// Whether the ask stands there.
+fn is_among(asks: &[Ask], ask: &Ask) -> bool
+    ensures { IsTrue result ↔ Contains asks.now ask.now }
+{
+    asks.contains(ask)
+}
+
 /// Appends the ask, unless it stands there.
 fn push_new(ask: Ask, asks: &mut Vec<Ask>) -> Result<(), AllocError>
     ensures { OnOk result (IsWithNew ask asks.old.items asks.new.items) }
 {
-    if !asks.contains(&ask) {
+    if !is_among(asks, &ask) {
         asks.push(ask)?;
     }
     Ok(())
