@@ -26,7 +26,7 @@ pub record IsFound (entities : List (List ℕ)) (facts : List Fact) (d : List �
   pub listed : Contains entities d
   pub holds : holds facts d e ≡ true
 
-bodies_listed : (C : List Credential) (c : Credential) → Contains C c → AreListed (all_entities C) c.body
+pub bodies_listed : (C : List Credential) (c : Credential) → Contains C c → AreListed (all_entities C) c.body
 bodies_listed C c among = record { each = λ d has. Contains-flat_map (λ x. entities_in x.body) C c d among has }
 
 nothing_more : (h k : Bool) → (h && not k) ≡ false → h ≡ true → k ≡ true
@@ -52,7 +52,7 @@ record IsFoundInEach (entities : List (List ℕ)) (facts : List Fact) (d : List 
   some : has_part ps ≡ true
   all : list_all (holds_part facts d) ps ≡ true
 
-role_listed : (entities : List (List ℕ)) (r : Role) → AreListed entities (Rol r)
+pub role_listed : (entities : List (List ℕ)) (r : Role) → AreListed entities (Rol r)
 role_listed entities r = record { each = λ w has. absurd (Contains-none w has) }
 
 first_listed : (entities : List (List ℕ)) (p : Part) (ps : List Part) → AreListedParts entities (p ∷ ps) → AreListed entities (part_expr p)

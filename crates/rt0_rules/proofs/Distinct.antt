@@ -4,6 +4,7 @@ use Rattle.std.specs.List.{Contains, flat_map, filter}
 use Rattle.std.proofs.lemmas.Bool.{cases_Bool}
 use Rattle.std.proofs.lemmas.List.Elements.{Contains-append_left, Contains-append_cases}
 use Rattle.rt0_rules.specs.Work.{AreDistinct}
+use Rattle.rt0_rules.proofs.Unknown.{Contains-map}
 use Rattle.rt0_rules.proofs.Elements.{Contains-none, Contains-first, Contains-later, Contains-cons_cases}
 
 -- an element of the mapped list comes from one of the list
@@ -88,6 +89,10 @@ AreDistinct-map f (x ∷ xs) apart distinct = (
       distinct.0 (subst (Contains xs) same from.among),
   AreDistinct-map f xs (λ y z has_y has_z same. apart y z (Contains-later x xs y has_y) (Contains-later x xs z has_z) same) distinct.1,
 )
+
+pub AreDistinct-from_map : {X Y : Type 0} (f : X → Y) (xs : List X) → AreDistinct (map f xs) → AreDistinct xs
+AreDistinct-from_map f [] distinct = tt
+AreDistinct-from_map f (x ∷ xs) distinct = ((λ has. distinct.0 (Contains-map f xs x has)), AreDistinct-from_map f xs distinct.1)
 
 pub AreDistinct-append : {X : Type 0} (xs ys : List X) → AreDistinct xs → AreDistinct ys →
     ((x : X) → Contains xs x → Contains ys x → ⊥) → AreDistinct (xs ++ ys)

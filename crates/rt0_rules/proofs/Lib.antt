@@ -14,3 +14,8 @@ pub mod FixedPoint
 pub mod Distinct
 pub mod Letters
 pub mod LetterSteps
+pub mod Adding
+pub mod SameAsks
+pub mod Told
+pub mod Asking
+pub mod Counted

@@ -5,4 +5,5 @@ pub mod FixedPoint
 pub mod Work
 pub mod Letters
 pub mod Facts
+pub mod Asked
 pub mod Laws

@@ -53,7 +53,7 @@ fn holds_each(facts: &[Fact], who: &Entity, parts: &[Part]) -> bool
 }
 
 /// Whether one rule gives from the facts that the entity is in the expression.
-fn holds(facts: &[Fact], who: &Entity, expr: &Expr) -> bool
+pub fn holds(facts: &[Fact], who: &Entity, expr: &Expr) -> bool
     ensures { result ≡ holds facts.now who.now expr.now }
 {
     match expr {

@@ -38,7 +38,7 @@ fn push_entities(expr: &Expr, entities: &mut Vec<Entity>) -> Result<(), AllocErr
 }
 
 /// The entities that stand in the bodies of the credentials; nobody else is a member of a role.
-fn all_entities(alloc: Global, credentials: &[Credential]) -> Result<Vec<Entity>, AllocError>
+pub fn all_entities(alloc: Global, credentials: &[Credential]) -> Result<Vec<Entity>, AllocError>
     ensures { IfOk result (λ entities. entities.items ≡ all_entities credentials.now) }
 {
     let mut entities = Vec::new(alloc);
@@ -49,7 +49,7 @@ fn all_entities(alloc: Global, credentials: &[Credential]) -> Result<Vec<Entity>
 }
 
 /// All memberships over these credentials, each once, in the order in which the rounds find them.
-fn all_known(alloc: Global, credentials: &[Credential]) -> Result<Vec<Fact>, AllocError>
+pub fn all_known(alloc: Global, credentials: &[Credential]) -> Result<Vec<Fact>, AllocError>
     ensures sound { IfOk result (λ facts. IsSound credentials.now facts.items) }
     ensures closed { IfOk result (λ facts. IsClosed credentials.now (all_entities credentials.now) facts.items) }
 {

@@ -1,4 +1,4 @@
-use crate::{members_plain, membership_is_exact, work_is_exact};
+use crate::{members_plain, membership_is_exact, work_is_exact, work_plain};
 use credential_text::{Credential, Expr, Part, Parts};
 use names::texts::cut;
 use names::{Entity, Role, RoleName};
@@ -40,23 +40,39 @@ fn expr(alloc: Global, texts: &[&str]) -> Result<Expr, Fail> {
     })
 }
 
-/// Whether these are the members of the role over these credentials, in this order.
-fn has_members(
-    rt: &HostRuntime,
-    credentials: &[(&str, &[&str])],
-    asked: &str,
-    expected: &[&str],
-) -> Result<bool, Fail> {
+fn credentials(rt: &HostRuntime, texts: &[(&str, &[&str])]) -> Result<Vec<Credential>, Fail> {
     let mut all = Vec::new(rt.alloc());
-    for (head, body) in credentials {
+    for (head, body) in texts {
         let body = expr(rt.alloc(), body)?;
         all.push(Credential::make(role(head)?, body).ok_or("no credential")?)?;
     }
+    Ok(all)
+}
+
+/// Whether these are the members of the role over these credentials, in this order.
+fn has_members(
+    rt: &HostRuntime,
+    texts: &[(&str, &[&str])],
+    asked: &str,
+    expected: &[&str],
+) -> Result<bool, Fail> {
+    let all = credentials(rt, texts)?;
     let mut names = Vec::new(rt.alloc());
     for name in expected {
         names.push(entity(name)?)?;
     }
     Ok(members_plain(rt.alloc(), &all, &role(asked)?)? == names)
+}
+
+/// Whether a search for the members of `A.r` over these credentials has this work: within this limit and above it, and
+/// not within the one below.
+fn has_work(rt: &HostRuntime, texts: &[(&str, &[&str])], work: u64) -> Result<bool, Fail> {
+    let all = credentials(rt, texts)?;
+    let asked = role("A.r")?;
+    let below = work_plain(rt.alloc(), &all, &asked, work.saturating_sub(1))?;
+    let within = work_plain(rt.alloc(), &all, &asked, work)?;
+    let above = work_plain(rt.alloc(), &all, &asked, u64::MAX)?;
+    Ok(below == None && within == Some(work) && above == Some(work))
 }
 
 #[test]
@@ -152,5 +168,28 @@ fn an_intersection_wants_every_part(rt: HostRuntime) -> Result<(), Fail> {
         ("B.t", &["E"]),
     ];
     assert!(rt; has_members(&rt, &with_a_linked_role, "A.r", &["D"])?);
+    Ok(())
+}
+
+#[test]
+fn work_is_one_and_each_ask_and_each_member_told(rt: HostRuntime) -> Result<(), Fail> {
+    let one: [(&str, &[&str]); 2] = [("A.r", &["D"]), ("A.r", &["D"])];
+    assert!(rt; has_work(&rt, &[], 1)?);
+    assert!(rt; has_work(&rt, &one[..1], 3)?);
+    assert!(rt; has_work(&rt, &one, 3)?);
+    let circle: [(&str, &[&str]); 2] = [("A.r", &["B.s"]), ("B.s", &["A.r"])];
+    assert!(rt; has_work(&rt, &circle, 3)?);
+    let in_itself: [(&str, &[&str]); 2] = [("A.r", &["A.r"]), ("A.r", &["D"])];
+    assert!(rt; has_work(&rt, &in_itself, 5)?);
+    let repeated_part: [(&str, &[&str]); 2] = [("A.r", &["B.s", "B.s"]), ("B.s", &["D"])];
+    assert!(rt; has_work(&rt, &repeated_part, 9)?);
+    let linked: [(&str, &[&str]); 3] = [("A.s", &["B"]), ("A.r", &["A.s.t"]), ("B.t", &["D"])];
+    assert!(rt; has_work(&rt, &linked, 11)?);
+    let over_its_own_head: [(&str, &[&str]); 3] = [
+        ("A.r", &["A"]),
+        ("A.r", &["D"]),
+        ("A.r", &["A.r.r"]),
+    ];
+    assert!(rt; has_work(&rt, &over_its_own_head, 15)?);
     Ok(())
 }
