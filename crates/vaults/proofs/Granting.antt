@@ -14,7 +14,8 @@ use Rattle.std.proofs.lemmas.Map.Keys.{IsDistinct-from_sorted}
 use Rattle.names.specs.Name.{name_order}
 use Rattle.vaults.specs.declared.changes.Entry.{Entry}
 use Rattle.vaults.specs.Journal.{is_same, granted, names_read}
-use Rattle.vaults.specs.Page.{Kept, nothing_kept, kept_of, ArePages, granting_names}
+use Rattle.vaults.specs.Page.{PageState, empty_page, page_of}
+use Rattle.vaults.specs.Book.{ArePages, granting_names}
 use Rattle.vaults.proofs.Elements.{has, has-insert_key, sorted-insert_key, same_in_order}
 use Rattle.vaults.proofs.Orders.{names_exact, is_same_tied}
 use Rattle.vaults.proofs.Exactness.{has-readers, has-names_read, sorted-names_read}
@@ -54,25 +55,25 @@ filtered_there {X} p x = by (p x)
     by false = refl
 
 -- the page of an owner, if it has one, has the readers that the owner has granted
-page_admits : (journal : List Entry) (owner reader : List ℕ) (page : Option Kept) → unwrap_or page nothing_kept ≡ kept_of journal owner →
-    is_some (option_filter (λ (k : Kept). has name_order k.readers reader) page) ≡ granted journal owner reader
-page_admits journal owner reader None right = ap (λ (k : Kept). has name_order k.readers reader) right ∙ has-readers journal owner reader
-page_admits journal owner reader (Some page) right =
-    filtered_there (λ (k : Kept). has name_order k.readers reader) page
-    ∙ ap (λ (k : Kept). has name_order k.readers reader) right ∙ has-readers journal owner reader
+page_grants : (journal : List Entry) (owner reader : List ℕ) (page : Option PageState) → unwrap_or page empty_page ≡ page_of journal owner →
+    is_some (option_filter (λ (k : PageState). has name_order k.readers reader) page) ≡ granted journal owner reader
+page_grants journal owner reader None right = ap (λ (k : PageState). has name_order k.readers reader) right ∙ has-readers journal owner reader
+page_grants journal owner reader (Some page) right =
+    filtered_there (λ (k : PageState). has name_order k.readers reader) page
+    ∙ ap (λ (k : PageState). has name_order k.readers reader) right ∙ has-readers journal owner reader
 
-pub sorted-granting_names : (reader : List ℕ) (pages : BTreeMap (List ℕ) Kept) → IsOrdered name_order pages → IsStrictlySortedBy name_order (granting_names reader pages.entries)
-sorted-granting_names reader pages ordered = sorted_kept name_order (λ (page : List ℕ × Kept). has name_order page.1.readers reader) pages.entries ordered
+pub sorted-granting_names : (reader : List ℕ) (pages : BTreeMap (List ℕ) PageState) → IsOrdered name_order pages → IsStrictlySortedBy name_order (granting_names reader pages.entries)
+sorted-granting_names reader pages ordered = sorted_kept name_order (λ (page : List ℕ × PageState). has name_order page.1.readers reader) pages.entries ordered
 
-has-granting_names : (journal : List Entry) (reader owner : List ℕ) (pages : BTreeMap (List ℕ) Kept) → IsOrdered name_order pages → ArePages journal pages →
+has-granting_names : (journal : List Entry) (reader owner : List ℕ) (pages : BTreeMap (List ℕ) PageState) → IsOrdered name_order pages → ArePages journal pages →
     has name_order (granting_names reader pages.entries) owner ≡ granted journal owner reader
 has-granting_names journal reader owner pages ordered right =
-    any_looked_up (eq_by_cmp name_order owner) (filter (λ (page : List ℕ × Kept). has name_order page.1.readers reader) pages.entries)
-    ∙ ap is_some (lookup-filter-values (eq_by_cmp_equiv names_exact.total) (λ (k : Kept). has name_order k.readers reader) owner pages.entries (IsDistinct-from_sorted name_order (keys_of pages.entries) ordered))
-    ∙ page_admits journal owner reader (get name_order pages owner) (right owner)
+    any_looked_up (eq_by_cmp name_order owner) (filter (λ (page : List ℕ × PageState). has name_order page.1.readers reader) pages.entries)
+    ∙ ap is_some (lookup-filter-values (eq_by_cmp_equiv names_exact.total) (λ (k : PageState). has name_order k.readers reader) owner pages.entries (IsDistinct-from_sorted name_order (keys_of pages.entries) ordered))
+    ∙ page_grants journal owner reader (get name_order pages owner) (right owner)
 
 -- with the reader itself they are the names that it reads
-pub names_from_pages : (journal : List Entry) (reader : List ℕ) (pages : BTreeMap (List ℕ) Kept) → IsOrdered name_order pages → ArePages journal pages →
+pub names_from_pages : (journal : List Entry) (reader : List ℕ) (pages : BTreeMap (List ℕ) PageState) → IsOrdered name_order pages → ArePages journal pages →
     insert_key name_order (granting_names reader pages.entries) reader ≡ names_read journal reader
 names_from_pages journal reader pages ordered right =
     same_in_order names_exact (insert_key name_order (granting_names reader pages.entries) reader) (names_read journal reader)

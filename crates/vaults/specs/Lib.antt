@@ -3,3 +3,4 @@ pub mod Fault
 pub mod Journal
 pub mod Laws
 pub mod Page
+pub mod Book

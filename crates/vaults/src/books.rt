@@ -1,9 +1,10 @@
-ghost use Rattle.std.specs.Prelude.{◌≡◌, ◌++◌, ◌&&◌, ◌+◌, ◌<◌, ◌^◌, [], ◌∷◌, None, length, unwrap_or, IfOk, IfErr, OnOk, OnErr, vec_len};
+ghost use Rattle.std.specs.Prelude.{◌≡◌, ◌++◌, ◌+◌, ◌<◌, ◌^◌, [], ◌∷◌, None, length, unwrap_or, IfOk, IfErr, OnOk, OnErr, vec_len};
 ghost use Rattle.std.specs.Vec.{vec_capacity};
 ghost use Rattle.std.specs.BTreeMap.{get, IsOrdered};
 ghost use Rattle.names.specs.Name.{name_order};
-ghost use Rattle.vaults.specs.Journal.{is_same, entries_of, holds, granted, reads, vault, readers, names_read, refusal};
-ghost use Rattle.vaults.specs.Page.{nothing_kept, KeepsChange, IsUnchanged, granting_names};
+ghost use Rattle.vaults.specs.Journal.{entries_of, holds, granted, reads, vault, readers, names_read, refusal, AreAccepted};
+ghost use Rattle.vaults.specs.Page.{empty_page};
+ghost use Rattle.vaults.specs.Book.{KeepsChange, IsUnchanged, granting_names};
 
 use crate::changes::{Change, Entry};
 use crate::faults::VaultFault;
@@ -14,8 +15,8 @@ use std::alloc::{AllocError, Global};
 use std::collections::BTreeMap;
 use std::marker::Model;
 
-/// The journal of accepted changes. Beside the journal it keeps a page for each tenant with what the journal gives it,
-/// so that no call walks over the journal.
+/// The journal of accepted changes, and seen as it. Beside the journal it keeps a page for each tenant with what the
+/// journal gives it, so that no call walks over the journal.
 #[derive(Drop)]
 pub struct Book {
     alloc: Global,
@@ -26,26 +27,25 @@ pub struct Book {
 impl Model for Book {
     ghost use Rattle.std.specs.Prelude.{List};
     ghost use Rattle.vaults.specs.declared.changes.Entry.{Entry};
-    ghost use Rattle.vaults.specs.Page.{ArePages};
+    ghost use Rattle.vaults.specs.Book.{IsBook};
 
     ghost Value = { List Entry };
 
     ghost view = { λ b. b.journal.items };
 
-    ghost invariant = { λ b. ArePages b.journal.items b.pages };
+    ghost invariant = { λ b. IsBook b.journal.items b.pages };
 }
 
 impl Book {
     /// A book with no entry.
-    pub fn new(alloc: Global) -> Result<Book, VaultFault>
-        ensures empty { IfOk result (λ book. book ≡ []) }
-        ensures only_memory { IfErr result (λ f. f ≡ VaultFault.Memory) }
+    pub fn new(alloc: Global) -> Book
+        ensures { result ≡ [] }
     {
-        Ok(Book {
+        Book {
             alloc,
             journal: Vec::new(alloc),
             pages: BTreeMap::new(alloc),
-        })
+        }
     }
 
     /// Enters the change of the tenant, and answers how many of its changes were accepted so far. The order of
@@ -70,50 +70,27 @@ impl Book {
     fn refusal_of(&self, who: &Entity, change: &Change) -> Option<VaultFault>
         ensures { result ≡ refusal self.now who.now change.now }
     {
-        match change {
-            Change::Upload(credential) => {
-                if credential.head.owner != *who {
-                    Some(VaultFault::NotIssuer)
-                } else if self.holds(who, credential) {
-                    Some(VaultFault::AlreadyHeld)
-                } else {
-                    None
-                }
+        let fault = match change {
+            Change::Upload(credential) if credential.head.owner != *who => VaultFault::NotIssuer,
+            Change::Upload(credential) if self.holds(who, credential) => VaultFault::AlreadyHeld,
+            Change::Withdraw(credential) if credential.head.owner != *who => VaultFault::NotIssuer,
+            Change::Withdraw(credential) if !self.holds(who, credential) => VaultFault::NotHeld,
+            Change::Grant(reader) if *reader == *who => VaultFault::GrantSelf,
+            Change::Grant(reader) if self.grants(who, reader) => VaultFault::AlreadyGranted,
+            Change::Revoke(reader) if *reader == *who || !self.grants(who, reader) => {
+                VaultFault::NotGranted
             }
-            Change::Withdraw(credential) => {
-                if credential.head.owner != *who {
-                    Some(VaultFault::NotIssuer)
-                } else if self.holds(who, credential) {
-                    None
-                } else {
-                    Some(VaultFault::NotHeld)
-                }
-            }
-            Change::Grant(reader) => {
-                if *reader == *who {
-                    Some(VaultFault::GrantSelf)
-                } else if self.grants(who, reader) {
-                    Some(VaultFault::AlreadyGranted)
-                } else {
-                    None
-                }
-            }
-            Change::Revoke(reader) => {
-                if *reader != *who && self.grants(who, reader) {
-                    None
-                } else {
-                    Some(VaultFault::NotGranted)
-                }
-            }
-        }
+            _ => return None,
+        };
+        Some(fault)
     }
 
-    /// Whether the owner issues and holds the credential.
+    /// Whether the owner holds the credential.
     fn holds(&self, owner: &Entity, credential: &Credential) -> bool
-        ensures { result ≡ (is_same credential.now.head.owner owner.now && holds self.now owner.now credential.now) }
+        ensures { result ≡ holds self.now owner.now credential.now }
     {
         match self.pages.get(owner) {
-            Some(page) => page.has(credential),
+            Some(page) => page.has_row(credential),
             None => false,
         }
     }
@@ -123,7 +100,7 @@ impl Book {
         ensures { result ≡ granted self.now owner.now reader.now }
     {
         match self.pages.get(owner) {
-            Some(page) => page.admits(reader),
+            Some(page) => page.has_reader(reader),
             None => false,
         }
     }
@@ -140,7 +117,7 @@ impl Book {
         ensures { result.now ≡ vault self.now who }
     {
         match self.pages.get(&who) {
-            Some(page) => page.held(),
+            Some(page) => page.rows(),
             None => &[],
         }
     }
@@ -184,7 +161,8 @@ impl Book {
 
     /// The accepted changes, the oldest first.
     pub fn entries(&self) -> &[Entry]
-        ensures { result.now ≡ self.now }
+        ensures entries { result.now ≡ self.now }
+        ensures accepted { AreAccepted self.now }
     {
         &self.journal
     }
@@ -197,9 +175,9 @@ fn keep(
     who: Entity,
     change: &Change,
 ) -> Result<u64, AllocError>
-    requires { (unwrap_or (get name_order pages.old who) nothing_kept).changes + 1 < 2 ^ 64 }
+    requires { (unwrap_or (get name_order pages.old who) empty_page).changes + 1 < 2 ^ 64 }
     ensures kept { OnOk result (KeepsChange who change.now pages.old pages.new) }
-    ensures count { IfOk result (λ n. n ≡ (unwrap_or (get name_order pages.old who) nothing_kept).changes + 1) }
+    ensures count { IfOk result (λ n. n ≡ (unwrap_or (get name_order pages.old who) empty_page).changes + 1) }
     ensures unchanged { OnErr result (IsUnchanged pages.old pages.new) }
 {
     match pages.get_mut(&who) {
@@ -228,7 +206,7 @@ fn granting(
 {
     pages
         .iter()
-        .filter(|(_, page)| page.admits(reader))
+        .filter(|(_, page)| page.has_reader(reader))
         .map(|(name, _)| *name)
         .collect(alloc)
 }

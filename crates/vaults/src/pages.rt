@@ -6,7 +6,7 @@ ghost use Rattle.std.specs.Ordering.{eq_by_cmp};
 ghost use Rattle.names.specs.Name.{name_order};
 ghost use Rattle.credential_text.specs.Credential.{credential_order};
 ghost use Rattle.vaults.specs.InOrder.{without, IsPlace};
-ghost use Rattle.vaults.specs.Page.{nothing_kept, kept_after};
+ghost use Rattle.vaults.specs.Page.{empty_page, page_after};
 
 use crate::changes::Change;
 use credential_text::Credential;
@@ -14,11 +14,11 @@ use names::Entity;
 use std::alloc::{AllocError, Global};
 use std::marker::Model;
 
-/// What is kept of one tenant beside the journal: the credentials that it issues and holds, in order, its readers, in
-/// order, and how many of its changes were accepted.
+/// What is kept of one tenant beside the journal: the rows of its vault, which are the credentials that it issues and
+/// holds, in order, its readers, in order, and how many of its changes were accepted.
 #[derive(Drop)]
 pub struct Page {
-    held: Vec<Credential>,
+    rows: Vec<Credential>,
     readers: Vec<Entity>,
     changes: u64,
 }
@@ -27,32 +27,32 @@ impl Model for Page {
     ghost use Rattle.std.specs.List.Sorted.{IsStrictlySortedBy};
     ghost use Rattle.names.specs.Name.{name_order};
     ghost use Rattle.credential_text.specs.Credential.{credential_order};
-    ghost use Rattle.vaults.specs.Page.{Kept};
+    ghost use Rattle.vaults.specs.Page.{PageState};
 
-    ghost Value = { Kept };
+    ghost Value = { PageState };
 
-    ghost view = { λ p. record { held = p.held.items; readers = p.readers.items; changes = p.changes } };
+    ghost view = { λ p. record { rows = p.rows.items; readers = p.readers.items; changes = p.changes } };
 
-    ghost invariant = { λ p. IsStrictlySortedBy credential_order p.held.items × IsStrictlySortedBy name_order p.readers.items };
+    ghost invariant = { λ p. IsStrictlySortedBy credential_order p.rows.items × IsStrictlySortedBy name_order p.readers.items };
 }
 
 impl Page {
     /// The page of a tenant without a change.
     pub fn new(alloc: Global) -> Page
-        ensures { result ≡ nothing_kept }
+        ensures { result ≡ empty_page }
     {
         Page {
-            held: Vec::new(alloc),
+            rows: Vec::new(alloc),
             readers: Vec::new(alloc),
             changes: 0,
         }
     }
 
-    /// The credentials of the tenant, in order.
-    pub fn held(&self) -> &[Credential]
-        ensures { result.now ≡ self.now.held }
+    /// The rows of the tenant's vault, in order.
+    pub fn rows(&self) -> &[Credential]
+        ensures { result.now ≡ self.now.rows }
     {
-        &self.held
+        &self.rows
     }
 
     /// The readers of the tenant, in order.
@@ -69,15 +69,15 @@ impl Page {
         self.changes
     }
 
-    /// Whether the credential is among those of the tenant.
-    pub fn has(&self, credential: &Credential) -> bool
-        ensures { result ≡ list_any (eq_by_cmp credential_order credential.now) self.now.held }
+    /// Whether the credential is a row of the tenant's vault.
+    pub fn has_row(&self, credential: &Credential) -> bool
+        ensures { result ≡ list_any (eq_by_cmp credential_order credential.now) self.now.rows }
     {
-        place_of(&self.held, credential).is_ok()
+        place_of(&self.rows, credential).is_ok()
     }
 
     /// Whether the reader is among those of the tenant.
-    pub fn admits(&self, reader: &Entity) -> bool
+    pub fn has_reader(&self, reader: &Entity) -> bool
         ensures { result ≡ list_any (eq_by_cmp name_order reader.now) self.now.readers }
     {
         place_among(&self.readers, reader).is_ok()
@@ -86,12 +86,12 @@ impl Page {
     /// Keeps one change more.
     pub fn keep(&mut self, change: &Change) -> Result<(), AllocError>
         requires { self.old.changes + 1 < 2 ^ 64 }
-        ensures kept { OnOk result (self.new ≡ kept_after change.now self.old) }
+        ensures kept { OnOk result (self.new ≡ page_after change.now self.old) }
         ensures unchanged { OnErr result (self.new ≡ self.old) }
     {
         match change {
-            Change::Upload(credential) => hold(&mut self.held, credential)?,
-            Change::Withdraw(credential) => let_go(&mut self.held, credential),
+            Change::Upload(credential) => put_row(&mut self.rows, credential)?,
+            Change::Withdraw(credential) => drop_row(&mut self.rows, credential),
             Change::Grant(reader) => admit(&mut self.readers, reader)?,
             Change::Revoke(reader) => dismiss(&mut self.readers, reader),
         }
@@ -100,11 +100,11 @@ impl Page {
     }
 }
 
-fn place_of(held: &[Credential], credential: &Credential) -> Result<usize, usize>
-    requires { IsStrictlySortedBy credential_order held.now }
-    ensures { IsPlace credential_order held.now credential.now result }
+fn place_of(rows: &[Credential], credential: &Credential) -> Result<usize, usize>
+    requires { IsStrictlySortedBy credential_order rows.now }
+    ensures { IsPlace credential_order rows.now credential.now result }
 {
-    held.binary_search_by(|other| other.compare(credential))
+    rows.binary_search_by(|other| other.compare(credential))
 }
 
 fn place_among(readers: &[Entity], reader: &Entity) -> Result<usize, usize>
@@ -114,24 +114,24 @@ fn place_among(readers: &[Entity], reader: &Entity) -> Result<usize, usize>
     readers.binary_search(reader)
 }
 
-fn hold(held: &mut Vec<Credential>, credential: &Credential) -> Result<(), AllocError>
-    requires { IsStrictlySortedBy credential_order held.old.items }
-    ensures held { OnOk result (held.new.items ≡ insert_key credential_order held.old.items credential.now) }
-    ensures unchanged { OnErr result (held.new.items ≡ held.old.items) }
+fn put_row(rows: &mut Vec<Credential>, credential: &Credential) -> Result<(), AllocError>
+    requires { IsStrictlySortedBy credential_order rows.old.items }
+    ensures put { OnOk result (rows.new.items ≡ insert_key credential_order rows.old.items credential.now) }
+    ensures unchanged { OnErr result (rows.new.items ≡ rows.old.items) }
 {
-    if let Err(place) = place_of(held, credential) {
+    if let Err(place) = place_of(rows, credential) {
         let copy = credential.try_clone()?;
-        held.insert(place, copy)?;
+        rows.insert(place, copy)?;
     }
     Ok(())
 }
 
-fn let_go(held: &mut Vec<Credential>, credential: &Credential)
-    requires { IsStrictlySortedBy credential_order held.old.items }
-    ensures { held.new.items ≡ without credential_order credential.now held.old.items }
+fn drop_row(rows: &mut Vec<Credential>, credential: &Credential)
+    requires { IsStrictlySortedBy credential_order rows.old.items }
+    ensures { rows.new.items ≡ without credential_order credential.now rows.old.items }
 {
-    if let Ok(place) = place_of(held, credential) {
-        held.remove(place);
+    if let Ok(place) = place_of(rows, credential) {
+        rows.remove(place);
     }
 }
 

@@ -1,4 +1,7 @@
-use crate::{Book, Change, VaultFault, own_entries_decide, vaults_are_exact, views_are_exact};
+use crate::{
+    Book, Change, VaultFault, accepted_changes_are_own, own_entries_decide, vaults_are_exact,
+    views_are_exact,
+};
 use credential_text::{Credential, Expr};
 use names::{Entity, Role};
 use std::alloc::Global;
@@ -70,7 +73,7 @@ fn reads_names(alloc: Global, book: &Book, who: &str, expected: &[&str]) -> Resu
 
 #[test]
 fn each_refusal_once(rt: HostRuntime) -> Result<(), Fail> {
-    let mut book = Book::new(rt.alloc())?;
+    let mut book = Book::new(rt.alloc());
     let rows = [
         ("A", "put", "B.r", "D", 31),
         ("A", "put", "A.r", "D", 1),
@@ -96,7 +99,7 @@ fn each_refusal_once(rt: HostRuntime) -> Result<(), Fail> {
 
 #[test]
 fn a_vault_is_in_order(rt: HostRuntime) -> Result<(), Fail> {
-    let mut book = Book::new(rt.alloc())?;
+    let mut book = Book::new(rt.alloc());
     let rows = [
         ("A", "put", "A.s", "D", 1),
         ("A", "put", "A.r-", "D", 2),
@@ -116,7 +119,7 @@ fn a_vault_is_in_order(rt: HostRuntime) -> Result<(), Fail> {
 
 #[test]
 fn a_grant_lets_its_reader_read(rt: HostRuntime) -> Result<(), Fail> {
-    let mut book = Book::new(rt.alloc())?;
+    let mut book = Book::new(rt.alloc());
     let rows = [
         ("C", "grant", "B", "", 1),
         ("A", "grant", "B", "", 1),
@@ -136,7 +139,7 @@ fn a_grant_lets_its_reader_read(rt: HostRuntime) -> Result<(), Fail> {
 
 #[test]
 fn a_revoked_reader_reads_no_more(rt: HostRuntime) -> Result<(), Fail> {
-    let mut book = Book::new(rt.alloc())?;
+    let mut book = Book::new(rt.alloc());
     let rows = [
         ("A", "grant", "B", "", 1),
         ("C", "grant", "B", "", 1),
@@ -150,15 +153,32 @@ fn a_revoked_reader_reads_no_more(rt: HostRuntime) -> Result<(), Fail> {
     Ok(())
 }
 
+/// Whether the fault has this number and this text.
+fn is_told(alloc: Global, fault: VaultFault, number: u64, text: &str) -> Result<bool, Fail> {
+    Ok(fault.number() == number && format!(in alloc; "{fault}")?.as_str() == text)
+}
+
 #[test]
-fn numbers_texts_and_laws(rt: HostRuntime) -> Result<(), Fail> {
+fn numbers_and_texts(rt: HostRuntime) -> Result<(), Fail> {
+    let table = [
+        (VaultFault::NotIssuer, 31, "not issuer"),
+        (VaultFault::AlreadyHeld, 32, "already held"),
+        (VaultFault::NotHeld, 33, "not held"),
+        (VaultFault::AlreadyGranted, 34, "already granted"),
+        (VaultFault::NotGranted, 35, "not granted"),
+        (VaultFault::GrantSelf, 36, "grant self"),
+        (VaultFault::Memory, 90, "memory"),
+    ];
+    for (fault, number, text) in &table {
+        assert!(rt; is_told(rt.alloc(), *fault, *number, text)?);
+    }
+    Ok(())
+}
+
+#[test]
+fn laws() {
     vaults_are_exact();
     views_are_exact();
+    accepted_changes_are_own();
     own_entries_decide();
-    assert_eq!(rt; VaultFault::NotIssuer.number(), 31);
-    assert_eq!(rt; VaultFault::GrantSelf.number(), 36);
-    assert_eq!(rt; VaultFault::Memory.number(), 90);
-    let text = format!(in rt.alloc(); "{}", VaultFault::AlreadyGranted)?;
-    assert_eq!(rt; text.as_str(), "already granted");
-    Ok(())
 }

@@ -2,7 +2,7 @@ use Rattle.std.proofs.Common.{ℕ, List, Result, Ok, Err, OnErr, Some, is_some, 
 use Rattle.std.specs.Ordering.{eq_by_cmp}
 use Rattle.std.specs.BTreeMap.{BTreeMap, get}
 use Rattle.names.specs.Name.{name_order}
-use Rattle.vaults.specs.Page.{Kept, kept_after}
+use Rattle.vaults.specs.Page.{PageState, page_after}
 use Rattle.vaults.proofs.PageWrites.{written_back, inserted_new}
 use Rattle.vaults.proofs.books.keep.Goals as goal
 
@@ -20,7 +20,7 @@ returns-in_err-keep-in-Some-clause-unchanged c =
 pub returns-in_ok-insert-in-None-clause-kept : goal.returns-in_ok-insert-in-None-clause-kept
 returns-in_ok-insert-in-None-clause-kept c =
     inserted_new c.args.who c.args.change.now c.args.pages.now c.insert.new.self c.keep-in-None.new.self c.in-None.ensures.value
-    (c.in_ok-keep-in-None.ensures.kept ∙ ap (kept_after c.args.change.now) c.new-page.ensures)
+    (c.in_ok-keep-in-None.ensures.kept ∙ ap (page_after c.args.change.now) c.new-page.ensures)
     (λ tenant.
     c.in_ok-insert-in-None.ensures.updates.0 tenant
-    ∙ ap (λ (m : BTreeMap (List ℕ) Kept). cond (eq_by_cmp name_order c.args.who tenant) (Some c.keep-in-None.new.self) (get name_order m tenant)) c.get_mut.follows.holds-at-none)
+    ∙ ap (λ (m : BTreeMap (List ℕ) PageState). cond (eq_by_cmp name_order c.args.who tenant) (Some c.keep-in-None.new.self) (get name_order m tenant)) c.get_mut.follows.holds-at-none)

@@ -7,5 +7,5 @@ use Rattle.vaults.proofs.pages.place_of.Goals as goal
 
 pub returns : goal.returns
 returns c =
-    place_found credentials_exact c.args.held.now c.args.credential.now _ c.requires c.binary_search_by.ensures.bound
+    place_found credentials_exact c.args.rows.now c.args.credential.now _ c.requires c.binary_search_by.ensures.bound
     (c.binary_search_by.ensures.position (λ other. credential_order other c.args.credential.now) (always_returns_same _ _ _ (λ a r f' k. search rules)))

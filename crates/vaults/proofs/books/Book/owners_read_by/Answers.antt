@@ -14,5 +14,5 @@ pub returns-clause-names : goal.returns-clause-names
 returns-clause-names c =
     c.in_ok-admit.ensures.admitted
     ∙ ap (λ (names : List (List ℕ)). insert_key name_order names c.args.who) c.in_ok-owners.ensures.names
-    ∙ names_from_pages c.self.inside.journal.items c.args.who c.self.inside.pages c.in_ok-owners.ensures.ordered c.self.invariant
+    ∙ names_from_pages c.self.inside.journal.items c.args.who c.self.inside.pages c.in_ok-owners.ensures.ordered c.self.invariant.pages_are
     ∙ ap (λ (journal : List Entry). names_read journal c.args.who) c.self.view_is
