@@ -5,13 +5,13 @@ use Rattle.std.specs.BTreeMap.{BTreeMap, get}
 use Rattle.names.specs.Name.{name_order}
 use Rattle.vaults.specs.declared.changes.Change.{Change}
 use Rattle.vaults.specs.Page.{PageState, empty_page, page_after}
-use Rattle.vaults.specs.Book.{KeepsChange, IsUnchanged}
+use Rattle.vaults.specs.Book.{KeepsChange}
 use Rattle.vaults.proofs.Elements.{same_from_tied}
 use Rattle.vaults.proofs.Orders.{names_exact}
 
 -- a page that is written as it was
-pub written_back : (who : List ℕ) (old new : BTreeMap (List ℕ) PageState) (page : PageState) → Some page ≡ get name_order old who →
-    ((tenant : List ℕ) → get name_order new tenant ≡ cond (eq_by_cmp name_order who tenant) (Some page) (get name_order old tenant)) → IsUnchanged old new
+pub written_back : {X : Type 0} (who : List ℕ) (old new : BTreeMap (List ℕ) X) (page : X) → Some page ≡ get name_order old who →
+    ((tenant : List ℕ) → get name_order new tenant ≡ cond (eq_by_cmp name_order who tenant) (Some page) (get name_order old tenant)) → (tenant : List ℕ) → get name_order new tenant ≡ get name_order old tenant
 written_back who old new page was writes tenant = writes tenant ∙ by (eq_by_cmp name_order who tenant) refl
   where
     by : (b : Bool) → eq_by_cmp name_order who tenant ≡ b → cond b (Some page) (get name_order old tenant) ≡ get name_order old tenant

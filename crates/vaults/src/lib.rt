@@ -7,11 +7,14 @@ mod books;
 mod changes;
 mod faults;
 mod laws;
+mod name_sets;
 mod pages;
 #[cfg(test)]
 mod tests;
+mod versions;
 
 pub use books::Book;
 pub use changes::{Change, Entry};
 pub use faults::VaultFault;
 pub use laws::{accepted_changes_are_own, own_entries_decide, vaults_are_exact, views_are_exact};
+pub use versions::Version;

@@ -48,9 +48,8 @@ fn answers(book: &mut Book, rows: &[(&str, &str, &str, &str, u64)]) -> Result<bo
     Ok(true)
 }
 
-/// Whether these are the credentials of the tenant's vault, in this order.
-fn has_vault(book: &Book, who: &str, expected: &[(&str, &str)]) -> Result<bool, Fail> {
-    let rows = book.vault_of(entity(who)?);
+/// Whether these are the rows, in this order.
+fn are_rows(rows: &[Credential], expected: &[(&str, &str)]) -> Result<bool, Fail> {
     if rows.len() != expected.len() {
         return Ok(false);
     }
@@ -60,6 +59,27 @@ fn has_vault(book: &Book, who: &str, expected: &[(&str, &str)]) -> Result<bool, 
         }
     }
     Ok(true)
+}
+
+/// Whether these are the credentials of the tenant's vault, in this order.
+fn has_vault(book: &Book, who: &str, expected: &[(&str, &str)]) -> Result<bool, Fail> {
+    are_rows(book.vault_of(entity(who)?), expected)
+}
+
+/// Withdraws the tenant's credential and uploads it again, so many times. Answers the count of its last change.
+fn change_in_turn(
+    book: &mut Book,
+    who: &str,
+    head: &str,
+    body: &str,
+    times: u64,
+) -> Result<u64, Fail> {
+    let mut count = 0;
+    for _ in 0..times {
+        book.change(entity(who)?, Change::Withdraw(credential(head, body)?))?;
+        count = book.change(entity(who)?, Change::Upload(credential(head, body)?))?;
+    }
+    Ok(count)
 }
 
 /// Whether these are the names that the tenant reads, in this order.
@@ -150,6 +170,20 @@ fn a_revoked_reader_reads_no_more(rt: HostRuntime) -> Result<(), Fail> {
     assert!(rt; reads_names(rt.alloc(), &book, "B", &["B", "C"])?);
     assert_eq!(rt; book.readers_of(entity("A")?), 0);
     assert_eq!(rt; book.changes_of(entity("B")?), 0);
+    Ok(())
+}
+
+#[test]
+fn a_held_version_stays(rt: HostRuntime) -> Result<(), Fail> {
+    let mut book = Book::new(rt.alloc());
+    let b = entity("B")?;
+    assert!(rt; book.version_of(b)?.is_none());
+    assert!(rt; answers(&mut book, &[("B", "put", "B.s", "D", 1)])?);
+    let held = book.version_of(b)?.ok_or("a version")?;
+    assert_eq!(rt; change_in_turn(&mut book, "B", "B.s", "D", 500)?, 1_001);
+    assert!(rt; answers(&mut book, &[("B", "drop", "B.s", "D", 1_002)])?);
+    assert!(rt; are_rows(held.rows(), &[("B.s", "D")])?);
+    assert!(rt; has_vault(&book, "B", &[])?);
     Ok(())
 }
 
