@@ -9,15 +9,16 @@ use Rattle.std.proofs.lemmas.List.{append-nil, take_all}
 use Rattle.std.proofs.lemmas.List.Elements.{Contains-get_or}
 use Rattle.std.proofs.lemmas.Option.{slice_get_within, get_or_from_slice_get, slice_get_read}
 use Rattle.names.specs.declared.roles.Role.{Role}
-use Rattle.names.specs.Name.{name_order}
+use Rattle.names.specs.Name.{is_same, name_order}
 use Rattle.names.proofs.OrderLemmas.{names_in_order}
 use Rattle.credential_text.specs.declared.credentials.Credential.{Credential}
 use Rattle.credential_text.specs.Credential.{credential_order}
 use Rattle.vaults.specs.declared.changes.Entry.{Entry}
-use Rattle.vaults.specs.Journal.{is_same, vault, names_read, Vault, vault_record, view, credentials}
+use Rattle.vaults.specs.Journal.{vault, names_read, Vault, vault_record, view, credentials}
 use Rattle.vaults.proofs.Exactness.{sorted-names_read, views_of_names_read, vaults_exact}
 use Rattle.vaults.proofs.Elements.{turned}
-use Rattle.vaults.proofs.Orders.{names_exact, is_same_tied}
+use Rattle.names.proofs.SameNames.{is_same_tied}
+use Rattle.vaults.proofs.Orders.{names_exact}
 use Rattle.snapshots.specs.declared.spans.Span.{Span}
 use Rattle.snapshots.specs.declared.spans.Cut.TheVariants.{Through}
 use Rattle.snapshots.specs.Span.{how_many, is_below, is_owned, place_of, rows_of, is_before, is_through, role_rows, span_of}

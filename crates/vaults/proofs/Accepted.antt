@@ -4,14 +4,16 @@ use Rattle.std.specs.List.{list_any, slice_get}
 use Rattle.std.proofs.lemmas.Bool.{and_parts}
 use Rattle.credential_text.specs.declared.credentials.Credential.{Credential}
 use Rattle.credential_text.specs.Credential.{credential_order}
+use Rattle.names.specs.Name.{is_same}
 use Rattle.vaults.specs.declared.changes.Change.{Change}
 use Rattle.vaults.specs.declared.changes.Change.TheVariants.{Upload, Withdraw, Grant, Revoke}
 use Rattle.vaults.specs.declared.changes.Entry.{Entry}
 use Rattle.vaults.specs.declared.faults.VaultFault.TheVariants.{NotIssuer, AlreadyHeld, NotHeld, AlreadyGranted, NotGranted, GrantSelf}
-use Rattle.vaults.specs.Journal.{is_same, moves, concerns, uploads, grants, holds, granted, vault, refusal, AreAccepted}
+use Rattle.vaults.specs.Journal.{moves, concerns, uploads, grants, holds, granted, vault, refusal, AreAccepted}
 use Rattle.vaults.specs.Laws.{HeldAreIssued, GrantedAreOthers}
 use Rattle.vaults.proofs.Elements.{has, same_from_tied}
-use Rattle.vaults.proofs.Orders.{credentials_exact, same_from_is_same, is_same_itself}
+use Rattle.names.proofs.SameNames.{same_from_is_same, is_same_itself}
+use Rattle.vaults.proofs.Orders.{credentials_exact}
 use Rattle.vaults.proofs.LastEntries.{last_entry_any}
 use Rattle.vaults.proofs.Exactness.{has-vault}
 

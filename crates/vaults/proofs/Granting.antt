@@ -4,16 +4,17 @@ use Rattle.std.specs.List.Sorted.{IsStrictlySortedBy}
 use Rattle.std.specs.BTreeMap.{BTreeMap, get}
 use Rattle.std.specs.BTreeSet.{insert_key}
 use Rattle.std.specs.Ordering.{eq_by_cmp}
-use Rattle.names.specs.Name.{name_order}
+use Rattle.names.specs.Name.{is_same, name_order}
 use Rattle.vaults.specs.declared.changes.Change.{Change}
-use Rattle.vaults.specs.declared.changes.Change.TheVariants.{Upload, Withdraw, Grant, Revoke}
+use Rattle.vaults.specs.declared.changes.Change.TheVariants.{Grant, Revoke}
 use Rattle.vaults.specs.declared.changes.Entry.{Entry}
 use Rattle.vaults.specs.declared.faults.VaultFault.TheVariants.{GrantSelf, AlreadyGranted}
 use Rattle.vaults.specs.InOrder.{without}
-use Rattle.vaults.specs.Journal.{is_same, concerns, grants, granted, entry_is, last_entry, names_read, refusal}
+use Rattle.vaults.specs.Journal.{concerns, grants, granted, entry_is, last_entry, names_read, refusal}
 use Rattle.vaults.specs.Book.{is_granting, AreGranting, KeepsGrant, SameGranting}
 use Rattle.vaults.proofs.Elements.{has, has-insert_key, has-without, same_in_order, tied_both_ways}
-use Rattle.vaults.proofs.Orders.{names_exact, is_same_tied, same_from_is_same, is_same_itself}
+use Rattle.names.proofs.SameNames.{is_same_tied, same_from_is_same}
+use Rattle.vaults.proofs.Orders.{names_exact}
 use Rattle.vaults.proofs.LastEntries.{last_entry_push}
 use Rattle.vaults.proofs.Exactness.{has-names_read, sorted-names_read}
 
@@ -73,38 +74,9 @@ granting_dropped owner reader was names old new before after writes =
     ∙ ap (λ (e : Bool). cond e false (has name_order was other)) (is_same_tied owner other)
     ∙ ap (λ (l : List (List ℕ)). cond (is_same owner other) false (has name_order l other)) before)
 
--- a reader without owners has none to take out
-pub granting_dropped_none : (owner reader : List ℕ) (old : BTreeMap (List ℕ) (List (List ℕ))) → None ≡ get name_order old reader → KeepsGrant owner (Revoke reader) old old
-granting_dropped_none owner reader old none o r = by (is_same owner o) (is_same reader r) refl
-  where
-    by : (a b : Bool) → is_same reader r ≡ b → is_granting old o r ≡ cond (a && b) false (is_granting old o r)
-    by true true same = ap (is_granting old o) (sym (same_from_is_same reader r same)) ∙ ap (λ (l : Option (List (List ℕ))). has name_order (unwrap_or l []) o) (sym none)
-    by true false apart = refl
-    by false b e = refl
-
 -- lists that are looked up alike
 pub same_granting : (old new : BTreeMap (List ℕ) (List (List ℕ))) → ((reader : List ℕ) → get name_order new reader ≡ get name_order old reader) → SameGranting old new
 same_granting old new same owner reader = ap (λ (l : Option (List (List ℕ))). has name_order (unwrap_or l []) owner) (same reader)
-
--- uploads and withdrawals concern no reader
-pub granting_uploaded : (who : List ℕ) (change : Change) (old : BTreeMap (List ℕ) (List (List ℕ))) → ((reader : List ℕ) → concerns reader change ≡ false) → KeepsGrant who change old old
-granting_uploaded who change old none owner reader =
-    sym (ap (λ (b : Bool). cond (is_same who owner && b) (grants change) (is_granting old owner reader)) (none reader) ∙ and_false (is_same who owner) (grants change) (is_granting old owner reader))
-
--- a grant that is taken back leaves what was, where the reader wasn't granted before
-pub granting_taken_back : (who reader : List ℕ) (old middle new : BTreeMap (List ℕ) (List (List ℕ))) → is_granting old who reader ≡ false →
-    KeepsGrant who (Grant reader) old middle → KeepsGrant who (Revoke reader) middle new → SameGranting old new
-granting_taken_back who reader old middle new first added dropped owner other =
-    dropped owner other
-    ∙ ap (cond (is_same who owner && is_same reader other) false) (added owner other)
-    ∙ by (is_same who owner) (is_same reader other) refl refl
-  where
-    by : (a b : Bool) → is_same who owner ≡ a → is_same reader other ≡ b →
-        cond (a && b) false (cond (a && b) true (is_granting old owner other)) ≡ is_granting old owner other
-    by true true same also =
-        sym first ∙ ap (λ (n : List ℕ). is_granting old n reader) (same_from_is_same who owner same) ∙ ap (is_granting old owner) (same_from_is_same reader other also)
-    by true false same apart = refl
-    by false b apart e = refl
 
 -- an accepted grant is of a reader that wasn't granted before
 pub granted_first : (journal : List Entry) (who : List ℕ) (change : Change) (granting : BTreeMap (List ℕ) (List (List ℕ))) → refusal journal who change ≡ None →

@@ -5,9 +5,10 @@ use Rattle.std.proofs.lemmas.List.{reverse-append, append-nil}
 use Rattle.std.proofs.lemmas.List.Elements.{filter-append}
 use Rattle.std.proofs.lemmas.List.Sorted.{list_any-IsPermutation, IsPermutation-reverse}
 use Rattle.std.proofs.lemmas.Bool.{or_left, or_right}
+use Rattle.names.specs.Name.{is_same}
 use Rattle.vaults.specs.declared.changes.Change.{Change}
 use Rattle.vaults.specs.declared.changes.Entry.{Entry}
-use Rattle.vaults.specs.Journal.{is_same, entries_of, last_entry, entry_is}
+use Rattle.vaults.specs.Journal.{entries_of, last_entry, entry_is}
 
 -- a test that asks what a filter asked finds the same
 find-filter : {X : Type 0} (p t : X → Bool) (xs : List X) → find (λ x. p x && t x) (filter p xs) ≡ find (λ x. p x && t x) xs

@@ -3,10 +3,10 @@ use Rattle.std.specs.Prelude.{ℕ, Bool, List, [], ◌≡◌, ◌&&◌, Some, un
 use Rattle.std.specs.List.{list_any}
 use Rattle.std.specs.Ordering.{eq_by_cmp}
 use Rattle.std.specs.BTreeMap.{BTreeMap, get}
-use Rattle.names.specs.Name.{name_order}
+use Rattle.names.specs.Name.{is_same, name_order}
 use Rattle.vaults.specs.declared.changes.Change.{Change}
 use Rattle.vaults.specs.declared.changes.Entry.{Entry}
-use Rattle.vaults.specs.Journal.{is_same, concerns, grants, granted, AreAccepted}
+use Rattle.vaults.specs.Journal.{concerns, grants, granted, AreAccepted}
 use Rattle.vaults.specs.Page.{PageState, empty_page, page_of, page_after}
 
 -- each tenant's page is what the journal gives it; a tenant without a page has nothing
