@@ -1,3 +1,4 @@
+pub mod Same
 pub mod Bytes
 pub mod Arrow
 pub mod Readings

@@ -1,5 +1,6 @@
 -- What a part's text and its pieces tell of the part.
 use Rattle.std.proofs.Common.{ℕ, Bool, true, false, List, [], ◌∷◌, ◌++◌, ◌≡◌, refl, ap, sym, ◌∙◌, Option, Some, None, length, ◌<◌, arith, append_assoc, cond}
+use Rattle.std.specs.Prelude.{MatchOption, is_some}
 use Rattle.std.specs.List.{join_with_byte}
 use Rattle.std.proofs.lemmas.List.Splits.{join_with_byte-slice_split}
 use Rattle.std.proofs.lemmas.Bool.{and_from}
@@ -101,8 +102,9 @@ many_pieces owner a b c [] some = absurd (omega arith)
 many_pieces owner a b c (d ∷ others) some = refl
 
 -- a part with three dots or more
-pub four_pieces : (owner text a rest b last c more : List ℕ) → pieces dot text ≡ a ∷ pieces dot rest → pieces dot rest ≡ b ∷ pieces dot last → pieces dot last ≡ c ∷ pieces dot more →
-    part_fault owner text ≡ Some faults.Dots
-four_pieces owner text a rest b last c more first second third =
+pub four_pieces : {B : Type 0} (value : B → List ℕ) (owner text a rest b last c : List ℕ) (more : Option B) → pieces dot text ≡ a ∷ pieces dot rest → pieces dot rest ≡ b ∷ pieces dot last →
+    is_some more ≡ true → MatchOption more (pieces dot last ≡ c ∷ []) (λ m. pieces dot last ≡ c ∷ pieces dot (value m)) → part_fault owner text ≡ Some faults.Dots
+four_pieces value owner text a rest b last c None first second some third = cc
+four_pieces value owner text a rest b last c (Some more) first second some third =
     ap (part_fault_of owner) first ∙ ap (λ (ps : List (List ℕ)). part_fault_of owner (a ∷ ps)) second
-    ∙ ap (λ (ps : List (List ℕ)). part_fault_of owner (a ∷ b ∷ ps)) third ∙ many_pieces owner a b c (pieces dot more) (some_piece dot more)
+    ∙ ap (λ (ps : List (List ℕ)). part_fault_of owner (a ∷ b ∷ ps)) third ∙ many_pieces owner a b c (pieces dot (value more)) (some_piece dot (value more))

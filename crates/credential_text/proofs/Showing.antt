@@ -5,7 +5,7 @@ use Rattle.names.specs.Role.{role_text}
 use Rattle.names.proofs.Avoiding.{Avoids, Avoids-append}
 use Rattle.credential_text.specs.declared.credentials.Credential.{Credential}
 use Rattle.credential_text.specs.Expr.{expr_parts}
-use Rattle.credential_text.specs.Same.{same_credential}
+use Rattle.credential_text.proofs.Same.{same_credential}
 use Rattle.credential_text.specs.Spelling.{Spells}
 use Rattle.names.specs.Texts.{trim}
 use Rattle.credential_text.specs.Refusal.{split_arrow, part_texts}

@@ -14,6 +14,6 @@ pub mod texts;
 
 pub use entities::Entity;
 pub use faults::NameFault;
-pub use laws::names_and_orders;
+pub use laws::{names_and_orders, operators_are_exact};
 pub use role_names::RoleName;
 pub use roles::Role;

@@ -26,7 +26,7 @@ impl Role {
             return Err(NameFault::NotRole);
         };
         let (name, more) = cut(rest, b'.');
-        if let Some(_another) = more {
+        if more.is_some() {
             return Err(NameFault::NotRole);
         }
         let owner = Entity::read(owner)?;

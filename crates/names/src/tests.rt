@@ -95,6 +95,22 @@ fn orders(rt: HostRuntime) -> Result<(), Fail> {
 }
 
 #[test]
+fn faults_by_number_and_text(rt: HostRuntime) -> Result<(), Fail> {
+    let table = [
+        (NameFault::Empty, 11, "empty name"),
+        (NameFault::Start, 12, "name start"),
+        (NameFault::Byte, 13, "name byte"),
+        (NameFault::Long, 14, "name too long"),
+        (NameFault::NotRole, 15, "not a role"),
+    ];
+    for (fault, number, text) in table {
+        assert_eq!(rt; fault.number(), number);
+        assert_eq!(rt; format!(in rt.alloc(); "{fault}")?.as_str(), text);
+    }
+    Ok(())
+}
+
+#[test]
 fn texts_are_cut_at_the_first_place(rt: HostRuntime) -> Result<(), Fail> {
     let (before, after) = cut(b"A.r.s", b'.');
     assert_eq!(rt; before, b"A".as_slice());

@@ -15,8 +15,10 @@ pub fn cut(text: &[u8], byte: u8) -> (&[u8], Option<&[u8]>)
     ensures found { IsSome result.1 ↔ IsTrue (list_any (λ b. b == byte) text.now) }
     ensures before { result.0.now ≡ before_first (λ b. b == byte) text.now }
     ensures after { IfSome result.1 (λ rest. rest.now ≡ after_first (λ b. b == byte) text.now) }
-    ensures pieces { MatchOption result.1 (pieces byte text.now ≡ result.0.now ∷ []) (λ rest. pieces byte text.now ≡ result.0.now ∷ pieces byte rest.now) }
-    ensures whole { MatchOption result.1 (text.now ≡ result.0.now) (λ rest. text.now ≡ result.0.now ++ byte ∷ rest.now) }
+    ensures pieces { MatchOption result.1 (pieces byte text.now ≡ result.0.now ∷ [])
+        (λ rest. pieces byte text.now ≡ result.0.now ∷ pieces byte rest.now) }
+    ensures whole { MatchOption result.1 (text.now ≡ result.0.now)
+        (λ rest. text.now ≡ result.0.now ++ byte ∷ rest.now) }
 {
     match find(text, byte) {
         Some(place) => (&text[..place], Some(&text[place + 1..])),

@@ -11,12 +11,12 @@ use Rattle.vaults.proofs.versions.Version.put.Goals as goal
 pub invariant_of-self : goal.invariant_of-self
 invariant_of-self c =
     subst (IsStrictlySortedBy credential_order)
-    (sym (inserted_there credentials_exact c.self.inside.rows.items c.deref.result.now _ c.args.credential.now _ c.in-Err.place c.deref.ensures.value c.in-Err.ensures c.in_ok-row.ensures c.in_ok-insert.ensures.items))
+    (sym (inserted_there credentials_exact c.self.inside.rows.items c.deref.result.now _ c.args.credential.now _ c.in-Err.place c.deref.ensures.value c.in-Err.ensures c.in_ok-row.ensures.same c.in_ok-insert.ensures.items))
     (sorted-insert_key credentials_exact c.self.inside.rows.items c.args.credential.now c.self.invariant)
 
 pub returns-in_ok-insert-clause-put : goal.returns-in_ok-insert-clause-put
 returns-in_ok-insert-clause-put c =
-    inserted_there credentials_exact c.self.inside.rows.items c.deref.result.now _ c.args.credential.now _ c.in-Err.place c.deref.ensures.value c.in-Err.ensures c.in_ok-row.ensures c.in_ok-insert.ensures.items
+    inserted_there credentials_exact c.self.inside.rows.items c.deref.result.now _ c.args.credential.now _ c.in-Err.place c.deref.ensures.value c.in-Err.ensures c.in_ok-row.ensures.same c.in_ok-insert.ensures.items
     ∙ ap (λ (l : List (Credential)). insert_key credential_order l c.args.credential.now) c.self.view_is
 
 pub returns-in_default-clause-put : goal.returns-in_default-clause-put
