@@ -11,6 +11,7 @@ use Rattle.scholten_core.specs.declared.engagement.Engagement.{Engagement}
 use Rattle.scholten_core.specs.Computation.{Computation, deficit, same_parent, outstanding}
 use Rattle.scholten_core.specs.Step.{settles, settles_under, signalled, signalled_as}
 use Rattle.scholten_core.specs.Kept.{Delivers, IsKept, engagements, engager, held_in, kept, parent_kept}
+use Rattle.scholten_core.specs.LetterTable.{LetterTableState}
 use Rattle.scholten_core.specs.Call.{DeliversSignal}
 use Rattle.scholten_core.proofs.Engaged.{get-remove_same, get-remove_other, one_or_other}
 use Rattle.scholten_core.proofs.Fields.{engagements_are, get-engagements}
@@ -28,14 +29,14 @@ none_either true = refl
 none_either false = refl
 
 -- what the fields hold once a signal is delivered
-pub record IsSignalled {P : Type 0} (d : Computation P) (place : ℕ) (e : Computation P) (waiters owed : ℕ) (nodes : BTreeMap ℕ Engagement) : Type 0 where
+pub record IsSignalled {P : Type 0} (d : Computation P) (place : ℕ) (e : Computation P) (owed : ℕ) (nodes : BTreeMap ℕ Engagement) : Type 0 where
   pub step : DeliversSignal d place e
-  pub kept : IsKept e waiters owed nodes
+  pub kept : IsKept e owed nodes
 
 -- the fields after a signal to one is delivered, where the counts and the nodes are as they are told
-module _ {P : Type 0} (sent : ℕ) (letters : List (ℕ × Letter P)) (signals : List Parent) (waiters owed : ℕ) (nodes : BTreeMap ℕ Engagement) (keeps : IsKept (held_in sent letters signals nodes) waiters owed nodes) (place : ℕ) (to : Parent) (at : slice_get signals place ≡ Some to) (owed_after : ℕ) (nodes_after : BTreeMap ℕ Engagement) (by : Option Parent) (delivers : Delivers owed owed_after nodes nodes_after to by) where
+module _ {P : Type 0} (table : LetterTableState P) (signals : List Parent) (owed : ℕ) (nodes : BTreeMap ℕ Engagement) (keeps : IsKept (held_in table signals nodes) owed nodes) (place : ℕ) (to : Parent) (at : slice_get signals place ≡ Some to) (owed_after : ℕ) (nodes_after : BTreeMap ℕ Engagement) (by : Option Parent) (delivers : Delivers owed owed_after nodes nodes_after to by) where
   abbrev before : Computation P
-  before = held_in sent letters signals nodes
+  before = held_in table signals nodes
 
   abbrev taken : Computation P
   taken = delivered before place to at
@@ -45,11 +46,11 @@ module _ {P : Type 0} (sent : ℕ) (letters : List (ℕ × Letter P)) (signals :
   counts_taken p = omega (arith, delivers.counts p, keeps.counts p, deficit-delivered before place to at p)
 
   -- where nobody is let go, only the signal is gone
-  stays : by ≡ None → taken ≡ held_in sent letters (remove signals place ++ option_to_list by) nodes_after
+  stays : by ≡ None → taken ≡ held_in table (remove signals place ++ option_to_list by) nodes_after
   stays none =
       λ i. record {
-        sent = sent;
-        letters = letters;
+        sent = table.sent;
+        letters = table.letters;
         signals = (sym (append-nil (remove signals place)) ∙ ap (λ o. remove signals place ++ option_to_list o) (sym none)) i;
         engaged = engagements_are (engagements nodes.entries) nodes_after (λ n. get-engagements nodes n ∙ sym (delivers.parents n ∙ stays_none _ by _ none)) i;
       }
@@ -63,11 +64,11 @@ module _ {P : Type 0} (sent : ℕ) (letters : List (ℕ × Letter P)) (signals :
       (λ other. get-remove_other (engagements nodes.entries) n q other ∙ get-engagements nodes q ∙ sym (after ∙ ap (λ b. if b && true then None else parent_kept nodes q) (ne_eqb n q (λ e. other (sym e)))))
 
   -- where a node is let go, its engagement goes and a signal goes to the one that engaged it
-  goes : (n : ℕ) (parent : Parent) → to ≡ Node n → by ≡ Some parent → record taken { signals = remove signals place ++ parent ∷ []; engaged = fin.remove (engagements nodes.entries) n } ≡ held_in sent letters (remove signals place ++ option_to_list by) nodes_after
+  goes : (n : ℕ) (parent : Parent) → to ≡ Node n → by ≡ Some parent → record taken { signals = remove signals place ++ parent ∷ []; engaged = fin.remove (engagements nodes.entries) n } ≡ held_in table (remove signals place ++ option_to_list by) nodes_after
   goes n parent is some =
       λ i. record {
-        sent = sent;
-        letters = letters;
+        sent = table.sent;
+        letters = table.letters;
         signals = ap (λ o. remove signals place ++ option_to_list o) (sym some) i;
         engaged = engagements_are (fin.remove (engagements nodes.entries) n) nodes_after (removed n parent is some) i;
       }
@@ -77,37 +78,36 @@ module _ {P : Type 0} (sent : ℕ) (letters : List (ℕ × Letter P)) (signals :
   answer x is b owed_is =
       delivers.signal ∙ (λ i. if (ap (λ n. n == 0) (ap (kept owed_after nodes_after) is ∙ counts_taken x) ∙ owed_is) i then engager nodes (is i) else None)
 
-  settles_node : (n : ℕ) → to ≡ Node n → (o : Option Parent) → fin.get (engagements nodes.entries) n ≡ o → settles_under taken n o ≡ held_in sent letters (remove signals place ++ option_to_list by) nodes_after
+  settles_node : (n : ℕ) → to ≡ Node n → (o : Option Parent) → fin.get (engagements nodes.entries) n ≡ o → settles_under taken n o ≡ held_in table (remove signals place ++ option_to_list by) nodes_after
   settles_node n is None gone =
       stays (answer (Node n) is _ refl ∙ ap (λ o. if deficit taken (Node n) == 0 then o else None) (sym (get-engagements nodes n) ∙ gone) ∙ none_either _)
   settles_node n is (Some parent) engaged =
-      elim (deficit taken (Node n) == 0) as (λ b. (deficit taken (Node n) == 0) ≡ b → cond b (record taken { signals = remove signals place ++ parent ∷ []; engaged = fin.remove (engagements nodes.entries) n }) taken ≡ held_in sent letters (remove signals place ++ option_to_list by) nodes_after) [
+      elim (deficit taken (Node n) == 0) as (λ b. (deficit taken (Node n) == 0) ≡ b → cond b (record taken { signals = remove signals place ++ parent ∷ []; engaged = fin.remove (engagements nodes.entries) n }) taken ≡ held_in table (remove signals place ++ option_to_list by) nodes_after) [
         | true ↦ λ nothing. goes n parent is (answer (Node n) is true nothing ∙ sym (get-engagements nodes n) ∙ engaged)
         | false ↦ λ something. stays (answer (Node n) is false something)
       ] refl
 
-  settles_one : (x : Parent) → to ≡ x → settles taken x ≡ held_in sent letters (remove signals place ++ option_to_list by) nodes_after
+  settles_one : (x : Parent) → to ≡ x → settles taken x ≡ held_in table (remove signals place ++ option_to_list by) nodes_after
   settles_one Neutral is = stays (answer Neutral is _ refl ∙ none_either _)
   settles_one Environment is = stays (answer Environment is _ refl ∙ none_either _)
   settles_one (Node n) is = settles_node n is (fin.get (engagements nodes.entries) n) refl
 
-  signalled_is : settles taken to ≡ held_in sent letters (remove signals place ++ option_to_list by) nodes_after
+  signalled_is : settles taken to ≡ held_in table (remove signals place ++ option_to_list by) nodes_after
   signalled_is = settles_one to refl
 
-  signalled_kept : IsKept (settles taken to) waiters owed_after nodes_after
+  signalled_kept : IsKept (settles taken to) owed_after nodes_after
   signalled_kept =
       let after = is_delivered before place to at keeps.settled in
       record {
         settled = after.settled;
-        waits = keeps.waits ∙ ap (λ ls. length (filter (λ (l : ℕ × Letter P). not l.1.held) ls)) (sym after.letters);
         counts = λ p. omega (arith, delivers.counts p, keeps.counts p, after.deficits p);
       }
 
   -- the fields hold the computation with the signal delivered
-  pub signalled_fields : (signals_after : List Parent) → signals_after ≡ remove signals place ++ option_to_list by → IsSignalled before place (held_in sent letters signals_after nodes_after) waiters owed_after nodes_after
+  pub signalled_fields : (signals_after : List Parent) → signals_after ≡ remove signals place ++ option_to_list by → IsSignalled before place (held_in table signals_after nodes_after) owed_after nodes_after
   signalled_fields signals_after signals_are =
-      let is : held_in sent letters signals_after nodes_after ≡ settles taken to = ap (λ s. held_in sent letters s nodes_after) signals_are ∙ sym signalled_is in
-      let kept = subst (λ d. IsKept d waiters owed_after nodes_after) (sym is) signalled_kept in
+      let is : held_in table signals_after nodes_after ≡ settles taken to = ap (λ s. held_in table s nodes_after) signals_are ∙ sym signalled_is in
+      let kept = subst (λ d. IsKept d owed_after nodes_after) (sym is) signalled_kept in
       let after = is_delivered before place to at keeps.settled in
       record {
         step = record {

@@ -16,9 +16,10 @@ use Rattle.scholten_core.specs.declared.engagement.Engagement.{Engagement}
 use Rattle.scholten_core.specs.Computation.{Computation, deficit, is_engaged, outstanding, waiting}
 use Rattle.scholten_core.specs.Step.{answers, finished, finished_as, finishes, letters_after, numbered, receives, sends, settles, settles_under}
 use Rattle.scholten_core.specs.Kept.{IsKept, Receives, deficit_kept, engagements, held_in, kept, parent_kept}
+use Rattle.scholten_core.specs.LetterTable.{LetterTableState}
 use Rattle.scholten_core.specs.Call.{FinishesLetter}
 use Rattle.scholten_core.proofs.Engaged.{get-insert_same, get-insert_other, one_or_other, remove-insert}
-use Rattle.scholten_core.proofs.Fields.{StandsAt, engagements_are, get-engagements}
+use Rattle.scholten_core.proofs.Fields.{engagements_are, get-engagements}
 use Rattle.scholten_core.proofs.Lists.{filter-remove, sum_by-filter_number}
 use Rattle.scholten_core.proofs.Paid.{count_of}
 use Rattle.scholten_core.proofs.Same.{same_parent-self}
@@ -43,19 +44,19 @@ module _ {P : Type 0} (e : Computation P) (n : ℕ) where
       ∙ ap (λ k. cond (k == 0) (record e { signals = e.signals ++ by ∷ []; engaged = fin.remove e.engaged n }) e) nothing
 
 -- what the fields hold once a letter is finished
-pub record IsFinishedIn {P : Type 0} (d : Computation P) (number : ℕ) (outs : List (ℕ × P)) (e : Computation P) (waiters owed : ℕ) (nodes : BTreeMap ℕ Engagement) : Type 0 where
+pub record IsFinishedIn {P : Type 0} (d : Computation P) (number : ℕ) (outs : List (ℕ × P)) (e : Computation P) (owed : ℕ) (nodes : BTreeMap ℕ Engagement) : Type 0 where
   pub step : FinishesLetter d number outs e
-  pub kept : IsKept e waiters owed nodes
+  pub kept : IsKept e owed nodes
 
 -- what the fields hold after a letter is finished
-module _ {P : Type 0} (sent : ℕ) (letters : List (ℕ × Letter P)) (signals : List Parent) (waiters owed : ℕ) (nodes : BTreeMap ℕ Engagement) (keeps : IsKept (held_in sent letters signals nodes) waiters owed nodes) (number : ℕ) (l : Letter P) (found : lookup (λ n. n == number) letters ≡ Some l) (outs : List (ℕ × P)) (nodes_after : BTreeMap ℕ Engagement) (by : Option Parent) (receives_it : Receives nodes nodes_after l.from l.to (length outs) by) where
+module _ {P : Type 0} (table : LetterTableState P) (signals : List Parent) (owed : ℕ) (nodes : BTreeMap ℕ Engagement) (keeps : IsKept (held_in table signals nodes) owed nodes) (number : ℕ) (l : Letter P) (found : lookup (λ n. n == number) table.letters ≡ Some l) (outs : List (ℕ × P)) (nodes_after : BTreeMap ℕ Engagement) (by : Option Parent) (receives_it : Receives nodes nodes_after l.from l.to (length outs) by) where
   abbrev before : Computation P
-  before = held_in sent letters signals nodes
+  before = held_in table signals nodes
 
   -- the computation after it, but for the signals and the engaged nodes
   abbrev with_parts : List Parent → FinMap nat_cmp Parent → Computation P
   with_parts s m =
-      record { sent = sent + length outs; letters = rest before number l ++ numbered (Node l.to) (sent + 1) outs; signals = s; engaged = m }
+      record { sent = table.sent + length outs; letters = rest before number l ++ numbered (Node l.to) (table.sent + 1) outs; signals = s; engaged = m }
 
   abbrev after : Computation P
   after = with_parts (signals ++ option_to_list by) (engagements nodes_after.entries)
@@ -146,24 +147,10 @@ module _ {P : Type 0} (sent : ℕ) (letters : List (ℕ × Letter P)) (signals :
       ap (deficit_kept nodes_after) one ∙ count_here ∙ (λ i. deficit_kept nodes (sym one i) + cond (sym test i) (length outs) 0))
       (λ other. ap count_of (receives_it.same n other) ∙ omega (arith, ap (λ b. cond {A = ℕ} b (length outs) 0) (ne_eqb n l.to other)))
 
-  waiting_after : l.held ≡ true → length (filter (λ (x : ℕ × Letter P). not x.1.held) (rest before number l ++ numbered (Node l.to) (sent + 1) outs)) ≡ length (waiting before) + length outs
-  waiting_after held =
-      let waits = λ (x : ℕ × Letter P). not x.1.held in
-      let count = λ (x : ℕ × Letter P). cond {A = ℕ} (waits x) 1 0 in
-      let answers = numbered (Node l.to) (sent + 1) outs in
-      let left = sum_by-filter_number 0 letters sent number l keeps.settled.numbers found count in
-      let held_counts : count (number, l) ≡ 0 = ap (λ b. cond {A = ℕ} (not b) 1 0) held in
-      let all_wait = ap length (waiting-numbered (Node l.to) (sent + 1) outs) in
-      omega (arith, length-filter waits (rest before number l ++ answers), sum_by-append count (rest before number l) answers, left, held_counts, length-filter waits letters, length-filter waits answers, all_wait, length-numbered (Node l.to) (sent + 1) outs)
-
-  finished_kept : l.held ≡ true → IsKept (finishes before number l outs) (waiters + length outs) owed nodes_after
-  finished_kept held =
+  finished_kept : IsKept (finishes before number l outs) owed nodes_after
+  finished_kept =
       let done = is_finished before number l outs keeps.settled found in
-      record {
-        settled = done.settled;
-        waits = omega (arith, keeps.waits, ap (λ ls. length (filter (λ (x : ℕ × Letter P). not x.1.held) ls)) done.letters, waiting_after held);
-        counts = counts_after;
-      }
+      record { settled = done.settled; counts = counts_after }
     where
       counts_after : (p : Parent) → kept owed nodes_after p ≡ deficit (finishes before number l outs) p
       counts_after Neutral = sym ((is_finished before number l outs keeps.settled found).settled.idle Neutral refl)
@@ -173,19 +160,21 @@ module _ {P : Type 0} (sent : ℕ) (letters : List (ℕ × Letter P)) (signals :
           omega (arith, count_after n, keeps.counts (Node n), (is_finished before number l outs keeps.settled found).deficits (Node n))
 
   -- the fields hold the computation with the letter finished
-  pub finished_fields : (at : ℕ) → StandsAt letters number at l true → (letters_now : List (ℕ × Letter P)) → letters_now ≡ remove (letters ++ numbered (Node l.to) (sent + 1) outs) at → (signals_now : List Parent) → signals_now ≡ signals ++ option_to_list by → IsFinishedIn before number outs (held_in (sent + length outs) letters_now signals_now nodes_after) (waiters + length outs) owed nodes_after
-  finished_fields at stands letters_now letters_are signals_now signals_are =
-      let answers_now = numbered (Node l.to) (sent + 1) outs in
-      let left = sym (filter-remove 0 letters sent at number l keeps.settled.numbers stands.there) in
-      let here = letters_are ∙ remove-append_left letters answers_now at (slice_get_within letters at (number, l) stands.there) ∙ ap (λ ls. ls ++ answers_now) left in
-      let is : held_in (sent + length outs) letters_now signals_now nodes_after ≡ finishes before number l outs = (λ i. held_in (sent + length outs) (here i) (signals_are i) nodes_after) ∙ sym finished_is in
+  pub finished_fields : (table_now : LetterTableState P) → table_now.letters ≡ rest before number l ++ numbered (Node l.to) (table.sent + 1) outs → table_now.sent ≡ table.sent + length outs → (signals_now : List Parent) → signals_now ≡ signals ++ option_to_list by → IsFinishedIn before number outs (held_in table_now signals_now nodes_after) owed nodes_after
+  finished_fields table_now letters_are sent_is signals_now signals_are =
+      let is : held_in table_now signals_now nodes_after ≡ finishes before number l outs = (λ i. record {
+        sent = sent_is i;
+        letters = letters_are i;
+        signals = signals_are i;
+        engaged = engagements nodes_after.entries;
+      }) ∙ sym finished_is in
       let done = is_finished before number l outs keeps.settled found in
       record {
         step = record {
           finished = is ∙ ap (λ o. finished_as before number o outs) (sym found);
-          letters = here ∙ ap (λ o. rest before number l ++ answers (sent + 1) o outs) (sym found);
-          sent = refl;
+          letters = letters_are ∙ ap (λ o. rest before number l ++ answers (table.sent + 1) o outs) (sym found);
+          sent = sent_is;
           more = ap outstanding is ∙ done.amount;
         };
-        kept = subst (λ d. IsKept d (waiters + length outs) owed nodes_after) (sym is) (finished_kept stands.is_held);
+        kept = subst (λ d. IsKept d owed nodes_after) (sym is) finished_kept;
       }

@@ -1,4 +1,5 @@
 pub mod Complete
+pub mod Counts
 pub mod Delivered
 pub mod Engaged
 pub mod Fields
@@ -7,6 +8,8 @@ pub mod Lists
 pub mod Paid
 pub mod Same
 pub mod Sent
+pub mod Standing
 pub mod Steps
+pub mod Tables
 pub mod Trees
 pub mod Whole

@@ -44,19 +44,19 @@ module _ {X : Type 0} where
       ]
 
   -- past a number no entry has it
-  filter_past : (k low : ℕ) (ls : List (ℕ × X)) (high : ℕ) → IsNumbered low ls high → k ≤ low → filter (λ l. not (l.0 == k)) ls ≡ ls
+  pub filter_past : (k low : ℕ) (ls : List (ℕ × X)) (high : ℕ) → IsNumbered low ls high → k ≤ low → filter (λ l. not (l.0 == k)) ls ≡ ls
   filter_past k low [] high rising past = refl
   filter_past k low (l ∷ ls) high rising past =
       let other : (l.0 == k) ≡ false = ne_eqb l.0 k (omega (arith, rising.0)) in
       rw other (ap (λ x. l ∷ x) (filter_past k l.0 ls high rising.1 (omega (arith, rising.0))))
 
-  changed_past : (k : ℕ) (f : X → X) (low : ℕ) (ls : List (ℕ × X)) (high : ℕ) → IsNumbered low ls high → k ≤ low → map (changed k f) ls ≡ ls
+  pub changed_past : (k : ℕ) (f : X → X) (low : ℕ) (ls : List (ℕ × X)) (high : ℕ) → IsNumbered low ls high → k ≤ low → map (changed k f) ls ≡ ls
   changed_past k f low [] high rising past = refl
   changed_past k f low (l ∷ ls) high rising past =
       let other : (l.0 == k) ≡ false = ne_eqb l.0 k (omega (arith, rising.0)) in
       rw other (ap (λ x. l ∷ x) (changed_past k f l.0 ls high rising.1 (omega (arith, rising.0))))
 
-  number_at : (low : ℕ) (ls : List (ℕ × X)) (high i k : ℕ) (x : X) → IsNumbered low ls high → slice_get ls i ≡ Some (k, x) → low < k
+  pub number_at : (low : ℕ) (ls : List (ℕ × X)) (high i k : ℕ) (x : X) → IsNumbered low ls high → slice_get ls i ≡ Some (k, x) → low < k
   number_at low [] high i k x rising at = absurd (none-some _ at)
   number_at low (l ∷ ls) high zero k x rising at = omega (arith, rising.0, ap (λ e. e.0) (same_Some _ _ at))
   number_at low (l ∷ ls) high (suc i) k x rising at =
@@ -161,6 +161,24 @@ filter_passes p (y ∷ ys) i x at =
       ] here
       | false ↦ λ _ later. filter_passes p ys i x later
     ] refl at
+
+-- what stands among those that pass a test stands among all
+filter_place : {X : Type 0} (p : X → Bool) (xs : List X) (i : ℕ) (x : X) → slice_get (filter p xs) i ≡ Some x → (j : ℕ) × (slice_get xs j ≡ Some x)
+filter_place p [] i x at = absurd (none-some _ at)
+filter_place p (y ∷ ys) i x at =
+    elim (p y) as (λ b. slice_get (cond b (y ∷ filter p ys) (filter p ys)) i ≡ Some x → (j : ℕ) × (slice_get (y ∷ ys) j ≡ Some x)) [
+      | true ↦ λ here. elim i as (λ k. slice_get (y ∷ filter p ys) k ≡ Some x → (j : ℕ) × (slice_get (y ∷ ys) j ≡ Some x)) [
+        | zero ↦ λ first. (0, first)
+        | suc k ↦ λ later. let found = filter_place p ys k x later in (suc found.0, found.1)
+      ] here
+      | false ↦ λ later. let found = filter_place p ys i x later in (suc found.0, found.1)
+    ] at
+
+-- so its number finds it
+pub lookup_from_filter : {X : Type 0} (p : ℕ × X → Bool) (low : ℕ) (ls : List (ℕ × X)) (high i k : ℕ) (x : X) → IsNumbered low ls high → slice_get (filter p ls) i ≡ Some (k, x) → lookup (λ n. n == k) ls ≡ Some x
+lookup_from_filter p low ls high i k x rising at =
+    let place = filter_place p ls i (k, x) at in
+    lookup_at low ls high place.0 k x rising place.1
 
 -- what a removal takes from a sum
 pub sum_by-remove_at : {X : Type 0} (f : X → ℕ) (xs : List X) (i : ℕ) (x : X) → slice_get xs i ≡ Some x → sum_by f (remove xs i) + f x ≡ sum_by f xs

@@ -10,6 +10,7 @@ use Rattle.scholten_core.specs.declared.parents.Parent.TheVariants.{Neutral, Env
 use Rattle.scholten_core.specs.declared.letters.Letter.{Letter}
 use Rattle.scholten_core.specs.declared.engagement.Engagement.{Engagement}
 use Rattle.scholten_core.specs.Computation.{Computation, deficit, same_parent, waiting}
+use Rattle.scholten_core.specs.LetterTable.{LetterTableState}
 use Rattle.scholten_core.specs.Settled.{IsSettledBut}
 
 -- the engaged nodes, each with the one that engaged it
@@ -67,12 +68,11 @@ pub record Delivers (owed left : ℕ) (old new : BTreeMap ℕ Engagement) (to : 
   pub parents : (n : ℕ) → parent_kept new n ≡ (if same_parent to (Node n) && is_some by then None else parent_kept old n)
 
 -- the computation that the fields hold
-abbrev pub held_in : {P : Type 0} → ℕ → List (ℕ × Letter P) → List Parent → BTreeMap ℕ Engagement → Computation P
-held_in sent letters signals nodes =
-    record { sent = sent; letters = letters; signals = signals; engaged = engagements nodes.entries }
+abbrev pub held_in : {P : Type 0} → LetterTableState P → List Parent → BTreeMap ℕ Engagement → Computation P
+held_in table signals nodes =
+    record { sent = table.sent; letters = table.letters; signals = signals; engaged = engagements nodes.entries }
 
 -- the fields hold a settled computation, and the counts beside it are its own
-pub record IsKept {P : Type 0} (d : Computation P) (waiters owed : ℕ) (nodes : BTreeMap ℕ Engagement) : Type 0 where
+pub record IsKept {P : Type 0} (d : Computation P) (owed : ℕ) (nodes : BTreeMap ℕ Engagement) : Type 0 where
   pub settled : IsSettledBut d Neutral
-  pub waits : waiters ≡ length (waiting d)
   pub counts : (p : Parent) → kept owed nodes p ≡ deficit d p

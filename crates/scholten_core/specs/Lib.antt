@@ -2,6 +2,7 @@ pub mod Call
 pub mod Code
 pub mod Computation
 pub mod Kept
+pub mod LetterTable
 pub mod Settled
 pub mod Sound
 pub mod Step

@@ -25,9 +25,11 @@ module _ {P : Type 0} where
       sends (record { sent = 0; letters = []; signals = []; engaged = fin.empty }) Environment ((root, load) ∷ [])
 
   -- the letter of a number is now held, or waits again
+  abbrev pub mark : ℕ → Bool → ℕ × Letter P → ℕ × Letter P
+  mark number held l = if l.0 == number then (l.0, record l.1 { held = held }) else l
+
   abbrev pub marked : Computation P → ℕ → Bool → Computation P
-  marked d number held =
-      record d { letters = map (λ l. if l.0 == number then (l.0, record l.1 { held = held }) else l) d.letters }
+  marked d number held = record d { letters = map (mark number held) d.letters }
 
   -- an engaged node that is owed nothing becomes neutral, and a signal to the one that engaged it
   -- goes under way

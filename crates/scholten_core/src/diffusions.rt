@@ -1,5 +1,6 @@
 use crate::engagement::{Engagement, deliver, receive};
-use crate::letters::{Letter, place_of, send, waiting_place};
+use crate::letter_tables::LetterTable;
+use crate::letters::Letter;
 use crate::parents::Parent;
 use crate::signals::put;
 use std::alloc::{AllocError, Global};
@@ -10,9 +11,7 @@ use std::marker::Model;
 /// sent. Only `start` and `finish` take memory. Contracts see it as a `Computation`.
 #[derive(Debug, Drop)]
 pub struct Diffusion<P> {
-    sent: u64,
-    waits: u64,
-    letters: Vec<(u64, Letter<P>)>,
+    letters: LetterTable<P>,
     signals: VecDeque<Parent>,
     nodes: BTreeMap<u64, Engagement>,
     environment: u64,
@@ -28,9 +27,9 @@ impl<P> Model for Diffusion<P> {
 
     ghost use Rattle.scholten_core.specs.Kept.{IsKept, held_in};
 
-    ghost view = { λ a. held_in a.sent a.letters.items a.signals.items a.nodes };
+    ghost view = { λ a. held_in a.letters a.signals.items a.nodes };
 
-    ghost invariant = { λ a. IsKept (held_in a.sent a.letters.items a.signals.items a.nodes) a.waits a.environment a.nodes };
+    ghost invariant = { λ a. IsKept (held_in a.letters a.signals.items a.nodes) a.environment a.nodes };
 }
 
 impl<P: Drop> Diffusion<P> {
@@ -47,17 +46,14 @@ impl<P: Drop> Diffusion<P> {
         ensures started { IfOk result (λ d. d ≡ started root load) }
         ensures sound { IfOk result IsSound }
     {
-        let mut letters = Vec::with_capacity(alloc, 1)?;
-        let letter = Letter {
+        let mut letters = LetterTable::new(alloc)?;
+        letters.push(Letter {
             from: Parent::Environment,
             to: root,
             held: false,
             load,
-        };
-        letters.push_reserved((1, letter));
+        });
         Ok(Diffusion {
-            sent: 1,
-            waits: 1,
             letters,
             signals: VecDeque::new(alloc),
             nodes: BTreeMap::new(alloc),
@@ -69,7 +65,7 @@ impl<P: Drop> Diffusion<P> {
     pub fn sent(&self) -> u64
         ensures { result ≡ self.now.sent }
     {
-        self.sent
+        self.letters.sent()
     }
 
     /// The letter of that number, where it waits or is held.
@@ -77,15 +73,14 @@ impl<P: Drop> Diffusion<P> {
         ensures letter { option_copied result ≡ letter_of self.now number }
         ensures by_number { StandByNumber self.now }
     {
-        let at = place_of(&self.letters, number)?;
-        Some(&self.letters[at].1)
+        self.letters.get(number)
     }
 
     /// How many letters wait.
     pub fn waiting(&self) -> u64
         ensures { result ≡ length (waiting_of self.now) }
     {
-        self.waits
+        self.letters.waiting()
     }
 
     /// Takes the waiting letter at that place, in order of number, and answers its number.
@@ -93,11 +88,7 @@ impl<P: Drop> Diffusion<P> {
         requires { place < length (waiting_of self.old) }
         ensures { TakesLetter self.old place result self.new }
     {
-        let at = waiting_place(&self.letters, place);
-        self.waits -= 1;
-        let (number, letter) = &mut self.letters[at];
-        letter.held = true;
-        *number
+        self.letters.take(place)
     }
 
     /// The held letter of that number waits again.
@@ -106,9 +97,7 @@ impl<P: Drop> Diffusion<P> {
         ensures waits { self.new ≡ marked self.old number false }
         ensures sound { IsSound self.new }
     {
-        let at = place_of(&self.letters, number).unwrap();
-        self.letters[at].1.held = false;
-        self.waits += 1;
+        self.letters.put_back(number);
     }
 
     /// How many signals are under way.
@@ -127,23 +116,14 @@ impl<P: Drop> Diffusion<P> {
         ensures unchanged { OnErr result (self.new ≡ self.old) }
         ensures sound { IsSound self.new }
     {
-        let at = place_of(&self.letters, number).unwrap();
-        let letter = &self.letters[at].1;
+        let letter = self.letters.get(number).unwrap();
         let (from, to) = (letter.from, letter.to);
-        let before = self.letters.len();
-        let count = outs.len() as u64;
+        self.letters.reserve(outs.len())?;
         self.signals.reserve(1)?;
-        send(&mut self.letters, Parent::Node(to), self.sent, outs)?;
-        match receive(&mut self.nodes, from, to, count) {
-            Ok(by) => put(&mut self.signals, by),
-            Err(refusal) => {
-                self.letters.truncate(before);
-                return Err(refusal);
-            }
-        }
-        self.letters.remove(at);
-        self.sent += count;
-        self.waits += count;
+        let by = receive(&mut self.nodes, from, to, outs.len() as u64)?;
+        put(&mut self.signals, by);
+        self.letters.finish(number);
+        self.letters.send(Parent::Node(to), outs);
         Ok(())
     }
 

@@ -7,6 +7,7 @@
 
 mod diffusions;
 mod engagement;
+mod letter_tables;
 mod letters;
 mod parents;
 mod signals;

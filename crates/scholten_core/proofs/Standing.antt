@@ -1,0 +1,170 @@
+-- The letters that stand in the table, whose numbers rise
+use Rattle.std.proofs.Common.{◌≡◌, ℕ, zero, suc, ◌+◌, ◌<◌, ◌≤◌, ◌==◌, Bool, true, false, cond, not, List, [], ◌∷◌, ◌++◌, Option, Some, None, map, option_map, filter, length, is_some, IsSomeAnd, IsTrue, subst, refl, sym, ap, ◌∙◌, arith, eq-eqb, ne_eqb, nat_eq}
+use Rattle.std.specs.List.{slice_get, position}
+use Rattle.std.specs.Map.{lookup, keys_of}
+use Rattle.std.proofs.lemmas.Option.{same_Some, none-some, get_or_from_slice_get}
+use Rattle.std.proofs.lemmas.List.Quantifiers.{position-Some}
+use Rattle.std.proofs.lemmas.Map.Views.{exact_unsigned_eq}
+use Rattle.indexmap.specs.IndexMap.{set_value_at}
+use Rattle.scholten_core.specs.declared.letters.Letter.{Letter}
+use Rattle.scholten_core.specs.LetterTable.{IsHeldIn, standing}
+use Rattle.scholten_core.specs.Sound.{IsNumbered}
+use Rattle.scholten_core.proofs.Engaged.{one_or_other}
+use Rattle.scholten_core.proofs.Lists.{changed, changed_past, filter_past, lookup_at, number_at, numbered_above}
+
+-- the test of the map's keys
+pub flipped : (k n : ℕ) → nat_eq k n ≡ (n == k)
+flipped k n =
+    one_or_other n k
+    (λ one. (λ i. nat_eq k (one i)) ∙ eq-eqb k k refl ∙ sym (eq-eqb n k one))
+    (λ other. ne_eqb k n (λ e. other (sym e)) ∙ sym (ne_eqb n k other))
+
+module _ {X : Type 0} where
+  -- the length of what rises
+  pub length-numbered_le : (low : ℕ) (ls : List (ℕ × X)) (high : ℕ) → IsNumbered low ls high → low + length ls ≤ high
+  length-numbered_le low [] high rising = omega (arith, rising)
+  length-numbered_le low (l ∷ ls) high rising = omega (arith, rising.0, length-numbered_le l.0 ls high rising.1)
+
+  -- past a number nothing is found
+  lookup_past : (k low : ℕ) (ls : List (ℕ × X)) (high : ℕ) → IsNumbered low ls high → k ≤ low → lookup (λ n. n == k) ls ≡ None
+  lookup_past k low [] high rising past = refl
+  lookup_past k low (l ∷ ls) high rising past =
+      let other : (l.0 == k) ≡ false = ne_eqb l.0 k (omega (arith, rising.0)) in
+      rw other (lookup_past k l.0 ls high rising.1 (omega (arith, rising.0)))
+
+  -- nor above the last
+  lookup_above : (k low : ℕ) (ls : List (ℕ × X)) (high : ℕ) → IsNumbered low ls high → high < k → lookup (λ n. n == k) ls ≡ None
+  lookup_above k low [] high rising above = refl
+  lookup_above k low (l ∷ ls) high rising above =
+      let other : (l.0 == k) ≡ false = ne_eqb l.0 k (omega (arith, length-numbered_le l.0 ls high rising.1)) in
+      rw other (lookup_above k l.0 ls high rising.1 above)
+
+  -- a look-up by the test of the map's keys
+  pub lookup-keys : (k : ℕ) (ls : List (ℕ × X)) → lookup (nat_eq k) ls ≡ lookup (λ n. n == k) ls
+  lookup-keys k [] = refl
+  lookup-keys k (l ∷ ls) = λ i. cond (flipped k l.0 i) (Some l.1) (lookup-keys k ls i)
+
+  pub absent : (low : ℕ) (ls : List (ℕ × X)) (high k : ℕ) → IsNumbered low ls high → high < k → lookup (nat_eq k) ls ≡ None
+  absent low ls high k rising above = lookup-keys k ls ∙ lookup_above k low ls high rising above
+
+  pub numbered-set_value : (low : ℕ) (ls : List (ℕ × X)) (high i : ℕ) (w : X) → IsNumbered low ls high → IsNumbered low (set_value_at ls i w) high
+  numbered-set_value low [] high i w rising = rising
+  numbered-set_value low (l ∷ ls) high zero w rising = (rising.0, rising.1)
+  numbered-set_value low (l ∷ ls) high (suc i) w rising = (rising.0, numbered-set_value l.0 ls high i w rising.1)
+
+  -- what stands before the end rises too
+  pub numbered-front : (low : ℕ) (ls ms : List (ℕ × X)) (high : ℕ) → IsNumbered low (ls ++ ms) high → IsNumbered low ls high
+  numbered-front low [] ms high rising = omega (arith, length-numbered_le low ms high rising)
+  numbered-front low (l ∷ ls) ms high rising = (rising.0, numbered-front l.0 ls ms high rising.1)
+
+  key_get : (ls : List (ℕ × X)) (i m : ℕ) (x : X) → slice_get ls i ≡ Some (m, x) → slice_get (keys_of ls) i ≡ Some m
+  key_get [] i m x at = absurd (none-some _ at)
+  key_get (l ∷ ls) zero m x at = ap (λ o. option_map (λ (e : ℕ × X). e.0) o) at
+  key_get (l ∷ ls) (suc i) m x at = key_get ls i m x at
+
+  -- the key at the place where a number is found
+  pub key_at : (test : ℕ → Bool) (ls : List (ℕ × X)) (i m : ℕ) (x : X) → position test (keys_of ls) ≡ Some i → slice_get ls i ≡ Some (m, x) → test m ≡ true
+  key_at test ls i m x found at =
+      let passes = position-Some test (keys_of ls) i m found in
+      ap test (sym (get_or_from_slice_get (keys_of ls) i m m (key_get ls i m x at))) ∙ passes.1
+
+module _ {P : Type 0} where
+  pub standing-append : (xs ys : List (ℕ × Option (Letter P))) → standing (xs ++ ys) ≡ standing xs ++ standing ys
+  standing-append [] ys = refl
+  standing-append ((k, None) ∷ xs) ys = standing-append xs ys
+  standing-append ((k, Some l) ∷ xs) ys = ap (λ ls. (k, l) ∷ ls) (standing-append xs ys)
+
+  numbered-standing : (low : ℕ) (es : List (ℕ × Option (Letter P))) (high : ℕ) → IsNumbered low es high → IsNumbered low (standing es) high
+  numbered-standing low [] high rising = rising
+  numbered-standing low ((k, None) ∷ es) high rising =
+      numbered_above k (standing es) high (numbered-standing k es high rising.1) low (omega (arith, rising.0))
+  numbered-standing low ((k, Some l) ∷ es) high rising = (rising.0, numbered-standing k es high rising.1)
+
+  -- a hole is no letter
+  abbrev pub letter_in : Option (Option (Letter P)) → Option (Letter P)
+  letter_in None = None
+  letter_in (Some o) = o
+
+  pub lookup-standing : (k low : ℕ) (es : List (ℕ × Option (Letter P))) (high : ℕ) → IsNumbered low es high → lookup (λ n. n == k) (standing es) ≡ letter_in (lookup (λ n. n == k) es)
+  lookup-standing k low [] high rising = refl
+  lookup-standing k low ((m, None) ∷ es) high rising =
+      elim (m == k) as (λ b. (m == k) ≡ b → lookup (λ n. n == k) (standing es) ≡ letter_in (cond b (Some None) (lookup (λ n. n == k) es))) [
+        | true ↦ λ is. let same = exact_unsigned_eq m k is in
+            lookup_past k m (standing es) high (numbered-standing m es high rising.1) (omega (arith, same))
+        | false ↦ λ _. lookup-standing k m es high rising.1
+      ] refl
+  lookup-standing k low ((m, Some l) ∷ es) high rising =
+      elim (m == k) as (λ b. cond b (Some l) (lookup (λ n. n == k) (standing es)) ≡ letter_in (cond b (Some (Some l)) (lookup (λ n. n == k) es))) [
+        | true ↦ refl
+        | false ↦ lookup-standing k m es high rising.1
+      ]
+
+  -- to write a letter at its place is to change the letter of its number
+  pub standing-change : (f : Letter P → Letter P) (low : ℕ) (es : List (ℕ × Option (Letter P))) (high i k : ℕ) (l : Letter P) → IsNumbered low es high → slice_get es i ≡ Some (k, Some l) → standing (set_value_at es i (Some (f l))) ≡ map (changed k f) (standing es)
+  standing-change f low [] high i k l rising at = absurd (none-some _ at)
+  standing-change f low ((m, None) ∷ es) high zero k l rising at = absurd (none-some _ (ap (λ (e : ℕ × Option (Letter P)). e.1) (same_Some _ _ at)))
+  standing-change f low ((m, Some x) ∷ es) high zero k l rising at =
+      let same = same_Some _ _ at in
+      let m_is : m ≡ k = ap (λ e. e.0) same in
+      let x_is : x ≡ l = same_Some _ _ (ap (λ (e : ℕ × Option (Letter P)). e.1) same) in
+      let here : (m == k) ≡ true = ap (λ n. n == k) m_is ∙ eq-eqb k k refl in
+      let rest = changed_past k f m (standing es) high (numbered-standing m es high rising.1) (omega (arith, m_is)) in
+      sym (ap (λ b. cond b (m, f x) (m, x) ∷ map (changed k f) (standing es)) here ∙ (λ j. (m, f (x_is j)) ∷ rest j))
+  standing-change f low ((m, None) ∷ es) high (suc i) k l rising at = standing-change f m es high i k l rising.1 at
+  standing-change f low ((m, Some x) ∷ es) high (suc i) k l rising at =
+      let above = number_at m es high i k (Some l) rising.1 at in
+      let other : (m == k) ≡ false = ne_eqb m k (omega arith) in
+      sym (ap (λ b. cond b (m, f x) (m, x) ∷ map (changed k f) (standing es)) other ∙ ap (λ r. (m, x) ∷ r) (sym (standing-change f m es high i k l rising.1 at)))
+
+  -- to leave a hole is to leave the number out
+  pub standing-hole : (low : ℕ) (es : List (ℕ × Option (Letter P))) (high i k : ℕ) (l : Letter P) → IsNumbered low es high → slice_get es i ≡ Some (k, Some l) → standing (set_value_at es i None) ≡ filter (λ x. not (x.0 == k)) (standing es)
+  standing-hole low [] high i k l rising at = absurd (none-some _ at)
+  standing-hole low ((m, None) ∷ es) high zero k l rising at = absurd (none-some _ (ap (λ (e : ℕ × Option (Letter P)). e.1) (same_Some _ _ at)))
+  standing-hole low ((m, Some x) ∷ es) high zero k l rising at =
+      let m_is : m ≡ k = ap (λ e. e.0) (same_Some _ _ at) in
+      let here : (m == k) ≡ true = ap (λ n. n == k) m_is ∙ eq-eqb k k refl in
+      let rest = filter (λ (y : ℕ × Letter P). not (y.0 == k)) (standing es) in
+      sym (ap (λ b. cond (not b) ((m, x) ∷ rest) rest) here ∙ filter_past k m (standing es) high (numbered-standing m es high rising.1) (omega (arith, m_is)))
+  standing-hole low ((m, None) ∷ es) high (suc i) k l rising at = standing-hole m es high i k l rising.1 at
+  standing-hole low ((m, Some x) ∷ es) high (suc i) k l rising at =
+      let above = number_at m es high i k (Some l) rising.1 at in
+      let other : (m == k) ≡ false = ne_eqb m k (omega arith) in
+      let rest = filter (λ (y : ℕ × Letter P). not (y.0 == k)) (standing es) in
+      sym (ap (λ b. cond (not b) ((m, x) ∷ rest) rest) other ∙ ap (λ r. (m, x) ∷ r) (sym (standing-hole m es high i k l rising.1 at)))
+
+  -- what stands where a held letter's number is found
+  pub record HoldsAt (es : List (ℕ × Option (Letter P))) (k i : ℕ) : Type 0 where
+    pub letter : Letter P
+    pub there : slice_get es i ≡ Some (k, Some letter)
+    pub held : letter.held ≡ true
+
+  -- the held letter of a number stands where the number is found
+  module _ (sent : ℕ) (es : List (ℕ × Option (Letter P))) (rising : IsNumbered 0 es sent) (k i m : ℕ) (v : Option (Letter P)) (is_held : IsHeldIn (standing es) k) (found : position (nat_eq k) (keys_of es) ≡ Some i) (at : slice_get es i ≡ Some (m, v)) where
+    slot_is : slice_get es i ≡ Some (k, v)
+    slot_is =
+        let one : m ≡ k = exact_unsigned_eq m k (sym (flipped k m) ∙ key_at (nat_eq k) es i m v found at) in
+        at ∙ ap (λ n. Some (n, v)) one
+
+    slot_held : IsSomeAnd v (λ l. IsTrue l.held)
+    slot_held =
+        let looked = lookup-standing k 0 es sent rising ∙ ap letter_in (lookup_at 0 es sent i k v rising slot_is) in
+        subst (λ (o : Option (Letter P)). IsSomeAnd o (λ l. IsTrue l.held)) looked is_held
+
+    pub holds_at : HoldsAt es k i
+    holds_at =
+        elim v as (λ o. slice_get es i ≡ Some (k, o) → IsSomeAnd o (λ l. IsTrue l.held) → HoldsAt es k i) [
+          | None ↦ λ _ isnt. absurd isnt
+          | Some l ↦ λ there held. record { letter = l; there = there; held = held }
+        ] slot_is slot_held
+
+    pub slot_value : v ≡ Some holds_at.letter
+    slot_value = ap (λ (e : ℕ × Option (Letter P)). e.1) (same_Some _ _ (sym slot_is ∙ holds_at.there))
+
+  -- so the number is found
+  pub number_found : (sent : ℕ) (es : List (ℕ × Option (Letter P))) → IsNumbered 0 es sent → (k : ℕ) → IsHeldIn (standing es) k → is_some (lookup (nat_eq k) es) ≡ true
+  number_found sent es rising k held =
+      let looked = lookup-standing k 0 es sent rising ∙ ap letter_in (sym (lookup-keys k es)) in
+      elim (lookup (nat_eq k) es) as (λ o. IsSomeAnd (letter_in o) (λ l. IsTrue l.held) → is_some o ≡ true) [
+        | None ↦ λ isnt. absurd isnt
+        | Some o ↦ λ _. refl
+      ] (subst (λ (o : Option (Letter P)). IsSomeAnd o (λ l. IsTrue l.held)) looked held)

@@ -1,0 +1,52 @@
+use Rattle.std.proofs.Common.{◌≡◌, Some, false, map, ap, sym, ◌∙◌, arith}
+use Rattle.scholten_core.specs.LetterTable.{held_as, standing}
+use Rattle.scholten_core.specs.Step.{mark}
+use Rattle.indexmap.specs.IndexMap.{set_value_at}
+use Rattle.scholten_core.proofs.Standing.{HoldsAt, holds_at, length-numbered_le, number_found, slot_value, standing-change}
+use Rattle.scholten_core.proofs.Tables.{put_back, waits-le-sent}
+use Rattle.scholten_core.proofs.letter_tables.LetterTable.put_back.Given.{Over}
+use Rattle.scholten_core.proofs.letter_tables.LetterTable.put_back.Goals as goal
+use Rattle.scholten_core.proofs.letter_tables.LetterTable.put_back.Goals.{After-hold}
+
+pub unwrap-at-requires : goal.unwrap-at-requires
+unwrap-at-requires g c =
+    let held = rw (← c.self.view_is) at c.requires in
+    c.get_index_of.ensures.found ∙ number_found c.self.inside.sent c.self.inside.letters.entries c.self.invariant.numbers c.args.number held
+
+pub overflow_add-at : goal.overflow_add-at
+overflow_add-at g c =
+    let within = rw c.unwrap-at.ensures at c.get_index_of.ensures.within in
+    omega (arith, within, length-numbered_le 0 c.self.inside.letters.entries c.self.inside.sent c.self.invariant.numbers, c.self.ranges)
+
+-- the held letter of the number
+slot : (g : Over) (c : After-hold g) → HoldsAt c.self.inside.letters.entries c.args.number c.unwrap-at.result
+slot g c =
+    let held = rw (← c.self.view_is) at c.requires in
+    holds_at c.self.inside.sent c.self.inside.letters.entries c.self.invariant.numbers c.args.number c.unwrap-at.result c.pair_mut-slot.result.0.now c.pair_mut-slot.result.1.now held (sym c.get_index_of.ensures.index ∙ c.unwrap-at.ensures) c.pair_mut-slot.ensures.value
+
+-- what is written there
+written : (g : Over) (c : After-hold g) → c.hold.new.slot ≡ Some (record (slot g c).letter { held = false })
+unfolding slot
+written g c =
+    let held = rw (← c.self.view_is) at c.requires in
+    c.hold.ensures ∙ ap (held_as false) (slot_value c.self.inside.sent c.self.inside.letters.entries c.self.invariant.numbers c.args.number c.unwrap-at.result c.pair_mut-slot.result.0.now c.pair_mut-slot.result.1.now held (sym c.get_index_of.ensures.index ∙ c.unwrap-at.ensures) c.pair_mut-slot.ensures.value)
+
+pub overflow_add-self : goal.overflow_add-self
+overflow_add-self g c =
+    let after = (goal.at.overflow_add-self g c).After-hold in
+    let one = slot g after in
+    omega (arith, waits-le-sent _ _ _ _ _ _ (put_back _ _ _ _ _ _ c.self.invariant c.unwrap-at.result c.args.number one.letter one.there one.held), c.self.ranges)
+
+pub invariant_of-self : goal.invariant_of-self
+invariant_of-self g c =
+    let after = (goal.at.invariant_of-self g c).After-hold in
+    let one = slot g after in
+    rw (written g after, c.min-self-inside.ensures, c.max-self-inside.ensures) (put_back _ _ _ _ _ _ c.self.invariant c.unwrap-at.result c.args.number one.letter one.there one.held)
+
+pub returns-clause-letters : goal.returns-clause-letters
+returns-clause-letters g c =
+    let after = (goal.at.returns-clause-letters g c).After-hold in
+    let one = slot g after in
+    ap (λ w. standing (set_value_at c.self.inside.letters.entries c.unwrap-at.result w)) (written g after)
+    ∙ standing-change (λ x. record x { held = false }) 0 c.self.inside.letters.entries c.self.inside.sent c.unwrap-at.result c.args.number one.letter c.self.invariant.numbers one.there
+    ∙ ap (λ s. map (mark c.args.number false) s.letters) c.self.view_is

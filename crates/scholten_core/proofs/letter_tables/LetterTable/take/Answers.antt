@@ -1,0 +1,60 @@
+use Rattle.std.proofs.Common.{◌≡◌, ◌+◌, ◌<◌, ◌⊎◌, inl, inr, Some, true, ap, ◌∙◌, arith}
+use Rattle.indexmap.specs.IndexMap.{spare}
+use Rattle.scholten_core.specs.LetterTable.{held_as}
+use Rattle.scholten_core.proofs.Counts.{WaitingLetter, length-waiting, letter_waiting, waits_within}
+use Rattle.scholten_core.proofs.Tables.{taken, takes_out}
+use Rattle.scholten_core.proofs.letter_tables.LetterTable.take.Given.{Over}
+use Rattle.scholten_core.proofs.letter_tables.LetterTable.take.Goals as goal
+use Rattle.scholten_core.proofs.letter_tables.LetterTable.take.Goals.{Start, After-self, After-hold, then-place-eq0, else-place-eq0, then-follow-eq0, else-follow-eq0}
+
+inside : (g : Over) (c : After-self g) → c.args.place < c.self.inside.waits
+inside g c =
+    let place = rw (← c.self.view_is) at c.requires in
+    omega (arith, place, length-waiting c.self.inside.letters.entries, c.self.invariant.waiting)
+
+pub overflow_sub-follow : goal.overflow_sub-follow
+overflow_sub-follow g c = omega (arith, inside g (goal.at.overflow_sub-follow g c).After-self)
+
+pub overflow_sub-follow-2 : goal.overflow_sub-follow-2
+overflow_sub-follow-2 g c = omega (arith, inside g (goal.at.overflow_sub-follow-2 g c).After-self)
+
+pub seek-at-requires-clause-there : goal.seek-at-requires-clause-there
+seek-at-requires-clause-there g c =
+    omega (arith, inside g (goal.at.seek-at-requires-clause-there g c).After-self, c.self.invariant.waiting)
+
+pub overflow_sub-self : goal.overflow_sub-self
+overflow_sub-self g c = omega (arith, inside g (goal.at.overflow_sub-self g c).After-self)
+
+pub pair_mut-slot-requires : goal.pair_mut-slot-requires
+pair_mut-slot-requires g c =
+    waits_within c.self.inside.letters.entries c.args.place c.seek-at.result c.seek-at.ensures
+
+-- the waiting letter
+slot : (g : Over) (c : After-hold g) → WaitingLetter c.self.inside.letters.entries c.seek-at.result c.pair_mut-slot.result.0.now c.pair_mut-slot.result.1.now
+slot g c =
+    letter_waiting c.self.inside.letters.entries c.args.place c.seek-at.result c.pair_mut-slot.result.0.now c.pair_mut-slot.result.1.now c.seek-at.ensures c.pair_mut-slot.ensures.value
+
+-- what is written there
+written : (g : Over) (c : After-hold g) → c.hold.new.slot ≡ Some (record (slot g c).letter { held = true })
+written g c = c.hold.ensures ∙ ap (held_as true) (slot g c).value
+
+low : (g : Over) (c : After-hold g) → (c.if-place-eq0.self ≡ c.self.inside.first) ⊎ ((c.if-place-eq0.self ≡ c.seek-at.result) × (c.args.place ≡ 0))
+low g c =
+    elim c.if-place-eq0.branch [ then-place-eq0 w ↦ inr (w.self-is, w.if-place-eq0.true) | else-place-eq0 w ↦ inl w.self-is ]
+
+high : (g : Over) (c : After-hold g) → c.args.place < c.self.inside.waits → (c.if-follow-eq0.self ≡ c.self.inside.last) ⊎ ((c.if-follow-eq0.self ≡ c.seek-at.result) × (c.args.place + 1 ≡ c.self.inside.waits))
+high g c within =
+    elim c.if-follow-eq0.branch [ then-follow-eq0 w ↦ inr (w.self-is, omega (arith, w.if-follow-eq0.true, within)) | else-follow-eq0 w ↦ inl w.self-is ]
+
+pub invariant_of-self : goal.invariant_of-self
+invariant_of-self g c =
+    let after = (goal.at.invariant_of-self g c).After-hold in
+    let one = slot g after in
+    let within = inside g (goal.at.invariant_of-self g c).After-self in
+    rw (written g after) (taken _ _ _ _ _ _ c.self.invariant c.seek-at.result c.pair_mut-slot.result.0.now one.letter one.there c.args.place c.seek-at.ensures.place_is one.waits _ _ (low g after) (high g after within))
+
+pub returns : goal.returns
+returns g c =
+    let after = (goal.at.returns g c).After-hold in
+    let one = slot g after in
+    takes_out c.self.inside.sent c.args.place c.seek-at.result c.pair_mut-slot.result.0.now (spare c.self.inside.letters) c.self.inside.letters.entries c.args.self.now c.self.view_is one.letter c.self.invariant.numbers c.seek-at.ensures.place_is one.there one.waits c.hold.new.slot (written g after)

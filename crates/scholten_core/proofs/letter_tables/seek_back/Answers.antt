@@ -1,0 +1,30 @@
+use Rattle.std.proofs.Common.{◌≡◌, ◌+◌, ◌-◌, ap, subst, ◌∙◌, arith, sym, take}
+use Rattle.scholten_core.specs.LetterTable.{count, does_wait, one}
+use Rattle.scholten_core.proofs.Counts.{count-back, waits_here}
+use Rattle.scholten_core.proofs.letter_tables.seek_back.Goals as goal
+
+pub returns-then-left-eq0 : goal.returns-then-left-eq0
+returns-then-left-eq0 g c =
+    let waits = ap one (sym c.waits.ensures ∙ c.if-not-waits.false) in
+    let next = count-back c.args.letters.now.entries c.loop-at.at (c.loop-at.at - 1) c.index.result.now (omega arith) c.index.ensures in
+    waits_here c.args.letters.now.entries (c.loop-at.at - 1) _ c.index.result.now c.index.ensures (sym c.waits.ensures ∙ c.if-not-waits.false) (omega (arith, c.loop-at.invariant.follow, next, waits, c.if-left-eq0.true))
+
+pub loop-at-preserved-then-not-waits : goal.loop-at-preserved-then-not-waits
+loop-at-preserved-then-not-waits g c =
+    let passes = ap one (sym c.waits.ensures ∙ c.if-not-waits.true) in
+    let next = count-back c.args.letters.now.entries c.loop-at.at (c.loop-at.at - 1) c.index.result.now (omega arith) c.index.ensures in
+    record {
+      follow = omega (arith, c.loop-at.invariant.follow, next, passes);
+      there = omega (arith, c.loop-at.invariant.there, next, passes);
+      within = omega (arith, c.loop-at.invariant.within);
+    }
+
+pub loop-at-preserved : goal.loop-at-preserved
+loop-at-preserved g c =
+    let waits = ap one (sym c.waits.ensures ∙ c.if-not-waits.false) in
+    let next = count-back c.args.letters.now.entries c.loop-at.at (c.loop-at.at - 1) c.index.result.now (omega arith) c.index.ensures in
+    record {
+      follow = omega (arith, c.loop-at.invariant.follow, next, waits, c.if-left-eq0.false);
+      there = omega (arith, c.loop-at.invariant.there, next, waits, c.if-left-eq0.false);
+      within = omega (arith, c.loop-at.invariant.within);
+    }

@@ -1,0 +1,285 @@
+//! The table of the letters that wait or are held.
+ghost use Rattle.std.specs.Prelude.{◌≡◌, ◌+◌, ◌-◌, ◌<◌, ◌≤◌, slice_get, take};
+ghost use Rattle.indexmap.specs.IndexMap.{index_map_len};
+ghost use Rattle.scholten_core.specs.LetterTable.{count, does_wait, held_as, last_hole, WaitsAt};
+
+use crate::letters::Letter;
+use crate::parents::Parent;
+use indexmap::IndexMap;
+use std::alloc::{AllocError, Global};
+use std::marker::Model;
+
+/// The letters that wait or are held, by number, in order of number. A letter that is finished leaves a hole, so that
+/// the others keep their places. Holes at the end are popped, and all of them are dropped once they are more than half.
+#[derive(Debug, Drop)]
+pub(crate) struct LetterTable<P> {
+    // How many letters were ever sent, the number of the last one.
+    sent: u64,
+    waits: u64,
+    holes: usize,
+    // Before this place none waits.
+    first: usize,
+    // From this place on none waits.
+    last: usize,
+    letters: IndexMap<u64, Option<Letter<P>>>,
+}
+
+// A letter is held from now on, or waits again.
+fn hold<P>(slot: &mut Option<Letter<P>>, held: bool)
+    ensures { slot.new ≡ held_as held slot.old }
+{
+    if let Some(letter) = slot {
+        letter.held = held;
+    }
+}
+
+fn waits<P>(slot: &Option<Letter<P>>) -> bool
+    ensures { result ≡ does_wait slot.now }
+{
+    match slot {
+        Some(letter) => !letter.held,
+        None => false,
+    }
+}
+
+fn ends_in_hole<P>(letters: &IndexMap<u64, Option<Letter<P>>>) -> bool
+    ensures { result ≡ last_hole (slice_get letters.now.entries (index_map_len letters.now - 1)) }
+{
+    match letters.last() {
+        Some((_, slot)) => slot.is_none(),
+        None => false,
+    }
+}
+
+// Where the waiting letter at that place stands, sought from a place on before which none waits.
+fn seek_on<P>(letters: &IndexMap<u64, Option<Letter<P>>>, first: usize, place: u64) -> usize
+    requires none { count does_wait (take first letters.now.entries) ≡ 0 }
+    requires there { place < count does_wait letters.now.entries }
+    ensures { WaitsAt letters.now.entries place result }
+{
+    let mut left = place;
+    for at in first..letters.len() {
+        if !waits(&letters[at]) {
+            continue;
+        }
+        if left == 0 {
+            return at;
+        }
+        left -= 1;
+    }
+    unreachable!()
+}
+
+// Where the waiting letter that so many others follow stands, sought from a place back from which on none waits.
+fn seek_back<P>(letters: &IndexMap<u64, Option<Letter<P>>>, last: usize, follow: u64) -> usize
+    requires within { last ≤ index_map_len letters.now }
+    requires there { follow < count does_wait (take last letters.now.entries) }
+    ensures { WaitsAt letters.now.entries (count does_wait (take last letters.now.entries) - follow - 1) result }
+{
+    let mut left = follow;
+    for at in (0..last).rev() {
+        if !waits(&letters[at]) {
+            continue;
+        }
+        if left == 0 {
+            return at;
+        }
+        left -= 1;
+    }
+    unreachable!()
+}
+
+// Where the waiting letter at that place stands, which so many others follow, sought from the nearer end.
+fn seek<P>(
+    letters: &IndexMap<u64, Option<Letter<P>>>,
+    first: usize,
+    last: usize,
+    place: u64,
+    follow: u64,
+) -> usize
+    requires none { count does_wait (take first letters.now.entries) ≡ 0 }
+    requires all { count does_wait (take last letters.now.entries) ≡ count does_wait letters.now.entries }
+    requires within { last ≤ index_map_len letters.now }
+    requires there { place + 1 + follow ≡ count does_wait letters.now.entries }
+    ensures { WaitsAt letters.now.entries place result }
+{
+    if place < follow {
+        seek_on(letters, first, place)
+    } else {
+        seek_back(letters, last, follow)
+    }
+}
+
+impl<P> Model for LetterTable<P> {
+    ghost use Rattle.scholten_core.specs.LetterTable.{LetterTableState, letter_table_code};
+
+    ghost Value = { LetterTableState P };
+
+    ghost coded = { letter_table_code P.code };
+
+    ghost use Rattle.indexmap.specs.IndexMap.{spare};
+    ghost use Rattle.scholten_core.specs.LetterTable.{IsTable, standing};
+
+    ghost view = { λ a. record { sent = a.sent; letters = standing a.letters.entries; room = spare a.letters } };
+
+    ghost invariant = { λ a. IsTable a.sent a.waits a.holes a.first a.last a.letters.entries };
+}
+
+impl<P: Drop> LetterTable<P> {
+    ghost use Rattle.std.specs.Prelude.{◌≡◌, ◌+◌, ◌^◌, ◌<◌, ◌≤◌, ◌==◌, ◌++◌, [], ◌∷◌, true, false, not, length, filter, map};
+    ghost use Rattle.std.specs.Prelude.{vec_len, is_some, option_copied, IfOk, OnOk};
+    ghost use Rattle.std.specs.Map.{lookup};
+    ghost use Rattle.scholten_core.specs.Step.{numbered, mark};
+    ghost use Rattle.scholten_core.specs.LetterTable.{waiting_in, IsHeldIn, TakesOut};
+
+    /// No letter, with room for one.
+    pub(crate) fn new(alloc: Global) -> Result<Self, AllocError>
+        ensures sent { IfOk result (λ t. t.sent ≡ 0) }
+        ensures letters { IfOk result (λ t. t.letters ≡ []) }
+        ensures room { IfOk result (λ t. 1 ≤ t.room) }
+    {
+        Ok(LetterTable {
+            sent: 0,
+            waits: 0,
+            holes: 0,
+            first: 0,
+            last: 0,
+            letters: IndexMap::with_capacity(alloc, 1)?,
+        })
+    }
+
+    pub(crate) fn sent(&self) -> u64
+        ensures { result ≡ self.now.sent }
+    {
+        self.sent
+    }
+
+    pub(crate) fn waiting(&self) -> u64
+        ensures { result ≡ length (waiting_in self.now.letters) }
+    {
+        self.waits
+    }
+
+    pub(crate) fn get(&self, number: u64) -> Option<&Letter<P>>
+        ensures { option_copied result ≡ lookup (λ n. n == number) self.now.letters }
+    {
+        self.letters.get(&number)?.as_ref()
+    }
+
+    /// Takes the waiting letter at that place, in order of number, and answers its number.
+    pub(crate) fn take(&mut self, place: u64) -> u64
+        requires { place < length (waiting_in self.old.letters) }
+        ensures { TakesOut self.old place result self.new }
+    {
+        let follow = self.waits - 1 - place;
+        let at = seek(&self.letters, self.first, self.last, place, follow);
+        self.first = if place == 0 { at } else { self.first };
+        self.last = if follow == 0 { at } else { self.last };
+        self.waits -= 1;
+        let (number, slot) = self.letters.pair_mut(at);
+        hold(slot, true);
+        *number
+    }
+
+    /// The held letter of that number waits again.
+    pub(crate) fn put_back(&mut self, number: u64)
+        requires { IsHeldIn self.old.letters number }
+        ensures letters { self.new.letters ≡ map (mark number false) self.old.letters }
+        ensures sent { self.new.sent ≡ self.old.sent }
+    {
+        let at = self.letters.get_index_of(&number).unwrap();
+        let (_, slot) = self.letters.pair_mut(at);
+        hold(slot, false);
+        self.waits += 1;
+        self.first = self.first.min(at);
+        self.last = self.last.max(at + 1);
+    }
+
+    /// Makes room for so many letters more.
+    pub(crate) fn reserve(&mut self, count: usize) -> Result<(), AllocError>
+        ensures room { OnOk result (count ≤ self.new.room) }
+        ensures letters { self.new.letters ≡ self.old.letters }
+        ensures sent { self.new.sent ≡ self.old.sent }
+    {
+        self.letters.reserve(count)
+    }
+
+    /// Sends letters, where there is room for them.
+    pub(crate) fn send(&mut self, from: Parent, outs: Vec<(u64, P)>)
+        requires room { vec_len outs ≤ self.old.room }
+        requires numbers { self.old.sent + vec_len outs < 2 ^ 64 }
+        ensures letters { self.new.letters ≡ self.old.letters ++ numbered from (self.old.sent + 1) outs.items }
+        ensures sent { self.new.sent ≡ self.old.sent + vec_len outs }
+    {
+        for (to, load) in outs {
+            self.push(Letter {
+                from,
+                to,
+                held: false,
+                load,
+            });
+        }
+    }
+
+    /// Sends a letter, where there is room for it.
+    pub(crate) fn push(&mut self, letter: Letter<P>)
+        requires room { 0 < self.old.room }
+        requires numbers { self.old.sent + 1 < 2 ^ 64 }
+        requires waits { letter.held ≡ false }
+        ensures letters { self.new.letters ≡ self.old.letters ++ (self.old.sent + 1, letter) ∷ [] }
+        ensures sent { self.new.sent ≡ self.old.sent + 1 }
+        ensures room { self.old.room ≤ self.new.room + 1 }
+    {
+        self.sent += 1;
+        self.waits += 1;
+        let _ = self.letters.insert(self.sent, Some(letter)).unwrap();
+        self.last = self.letters.len();
+    }
+
+    /// The held letter of that number is finished.
+    pub(crate) fn finish(&mut self, number: u64)
+        requires { IsHeldIn self.old.letters number }
+        ensures letters { self.new.letters ≡ filter (λ l. not (l.0 == number)) self.old.letters }
+        ensures sent { self.new.sent ≡ self.old.sent }
+        ensures room { self.old.room ≤ self.new.room }
+    {
+        let at = self.letters.get_index_of(&number).unwrap();
+        let (_, slot) = self.letters.pair_mut(at);
+        *slot = None;
+        self.holes += 1;
+        self.pop_holes();
+        self.drop_holes();
+    }
+
+    // Pops the holes at the end, so that a letter that is sent next stands beside the last one.
+    fn pop_holes(&mut self)
+        ensures letters { self.new.letters ≡ self.old.letters }
+        ensures sent { self.new.sent ≡ self.old.sent }
+        ensures room { self.old.room ≤ self.new.room }
+    {
+        while ends_in_hole(&self.letters) {
+            let _ = self.letters.pop();
+            self.holes -= 1;
+        }
+        self.first = self.first.min(self.letters.len());
+        self.last = self.last.min(self.letters.len());
+    }
+
+    // Drops all holes, where they are more than half.
+    fn drop_holes(&mut self)
+        ensures letters { self.new.letters ≡ self.old.letters }
+        ensures sent { self.new.sent ≡ self.old.sent }
+        ensures room { self.old.room ≤ self.new.room }
+    {
+        if self.holes > self.letters.len() - self.holes {
+            self.letters.retain(
+                |_number: &u64, slot: &mut Option<Letter<P>>| -> bool
+                    ensures { (result ≡ is_some slot.old) × (slot.new ≡ slot.old) }
+                { slot.is_some() },
+            );
+            self.holes = 0;
+            self.first = 0;
+            self.last = self.letters.len();
+        }
+    }
+}
