@@ -9,8 +9,6 @@ pub mod TenantLemmas
 pub mod RosterSteps
 pub mod ReplyLemmas
 pub mod WordsLemmas
-pub mod Worked
-pub mod WorkedTexts
 pub mod WrittenLemmas
 pub mod Finding
 pub mod SeatLemmas
@@ -29,4 +27,3 @@ pub mod PrintedLemmas
 pub mod SaidLemmas
 pub mod TranscriptLemmas
 pub mod ScriptLemmas
-pub mod WorkedEntries

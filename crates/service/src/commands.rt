@@ -222,6 +222,3 @@ fn number_of(word: &[u8]) -> Result<u64, Refusal>
         None => Err(Refusal::Command),
     }
 }
-
-#[cfg(test)]
-mod tests;

@@ -1,10 +1,11 @@
 //! The lines of a reader.
-ghost use Rattle.std.specs.Prelude.{◌≡◌, ◌<◌, ◌≤◌, ◌∷◌, ◌++◌, [], take, length, vec_len, vec_capacity, IfOk};
+ghost use Rattle.std.specs.Prelude.{◌≡◌, ◌<◌, ◌≤◌, ◌∷◌, ◌++◌, ◌^◌, [], take, length, vec_len, vec_capacity, IfOk};
 ghost use Rattle.std.specs.Borrow.{sem};
 ghost use Rattle.std.specs.Io.BufRead.{Rests};
 ghost use Rattle.std.specs.List.{list_all};
 ghost use Rattle.std.specs.Str.Lines.{strip_carriage_return};
-ghost use Rattle.service.specs.declared.lines.TheConstants.{KEPT};
+ghost use Rattle.service.specs.declared.lines.TheConstants.{KEPT, LINE_ROOM};
+ghost use Rattle.service.specs.declared.lines.limit.TheConstants.{MOST_READS};
 ghost use Rattle.service.specs.Line.{line_of, is_printable};
 ghost use Rattle.service.specs.Lines.{Shows, Gives, IsText};
 ghost use Rattle.service.specs.Source.{source_of};
@@ -80,7 +81,9 @@ impl<R: Read> Model for LineReader<R> {
 impl<R: Read + Drop> LineReader<R> {
     /// Takes all the memory that reading will need. Without it the reader is dropped.
     pub fn make(alloc: Global, reader: R) -> Result<LineReader<R>, AllocError>
-        ensures { IfOk result (λ lines. lines ≡ source_of (R.remaining reader)) }
+        ensures source { IfOk result (λ lines. lines ≡ source_of (R.remaining reader)) }
+        ensures most_reads { MOST_READS ≡ 2 ^ 40 }
+        ensures most_bytes { LINE_ROOM ≡ 4096 }
     {
         let line = Vec::with_capacity(alloc, KEPT)?;
         match BufReader::new(alloc, Limited::new(reader)) {

@@ -195,6 +195,3 @@ fn write_name(out: &mut Vec<u8>, name: &Entity) -> Result<(), AllocError>
     out.extend_from_slice(b" ")?;
     out.extend_from_slice(name.bytes())
 }
-
-#[cfg(test)]
-mod tests;

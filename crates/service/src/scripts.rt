@@ -118,5 +118,3 @@ fn take_turn<R: Read + Drop>(
 
 #[cfg(test)]
 mod tests;
-#[cfg(test)]
-mod worked;

@@ -88,6 +88,3 @@ pub(crate) fn number(text: &[u8]) -> Option<u64>
         Err(_) => None,
     }
 }
-
-#[cfg(test)]
-mod tests;
