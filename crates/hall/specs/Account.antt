@@ -77,9 +77,9 @@ abbrev pub polled : Option OpenSearch → Reply
 polled None = reply.Refused fault.NoSuchSearch
 polled (Some s) = reply.Answered (answer_of s.settled)
 
-abbrev pub closed : Option OpenSearch → Reply
-closed None = reply.Refused fault.NoSuchSearch
-closed (Some s) = reply.Closed
+abbrev pub told_closed : Option OpenSearch → Reply
+told_closed None = reply.Refused fault.NoSuchSearch
+told_closed (Some s) = reply.Closed
 
 -- the credentials that a vault of a view lists
 abbrev pub rows_in : Option Vault → List Credential
@@ -95,7 +95,7 @@ abbrev pub reply_to : List ℕ → List Vault → Account → Request → Reply
 reply_to tenant view a (request.Alter change) = unless_refused (alter_refusal a.limits a.entries tenant change) (reply.Counted (length a.entries + 1))
 reply_to tenant view a (request.Seek query) = unless_refused (seek_refusal a.limits (length a.searches) a.opens) (reply.Opened (a.opens + 1))
 reply_to tenant view a (request.Poll k) = polled (numbered k a.searches)
-reply_to tenant view a (request.Close k) = closed (numbered k a.searches)
+reply_to tenant view a (request.Close k) = told_closed (numbered k a.searches)
 reply_to tenant view a request.Vault = reply.Vault (rows_of tenant view)
 reply_to tenant view a request.Sees = reply.Sees (map (λ v. v.owner) view)
 

@@ -89,7 +89,7 @@ pub record IsSoundTenant (journal : List Entry) (t : Tenant) : Type 0 where
   pub searches : AllByRecursion (IsSoundSearch journal t.name) t.searches
 
 -- what holds of every hall
-pub record IsSound (h : HallState) : Type 0 where
+pub record IsSoundHall (h : HallState) : Type 0 where
   pub names : AreDistinct h.tenants
   pub tenants : AllByRecursion (IsSoundTenant h.journal) h.tenants
 

@@ -1,7 +1,7 @@
 ghost use Rattle.std.specs.Prelude.{◌≡◌, ◌≤◌, ℕ, List, Ok, Err, IfSome, map};
 ghost use Rattle.std.specs.Io.KnownBytes.{Appends};
-ghost use Rattle.service.specs.Commands.{commands_of};
-ghost use Rattle.service.specs.Outcome.{ScriptWrote};
+ghost use Rattle.service.specs.Line.{commands_of};
+ghost use Rattle.service.specs.Written.{ScriptWrote};
 ghost use Rattle.service.specs.declared.script_faults.ScriptFault.{ScriptFault};
 ghost use Rattle.rtsearch.specs.CommandLine.{AsksForScript};
 

@@ -22,7 +22,7 @@ pub mod Ending
 pub mod Waiting
 pub mod Viewing
 pub mod Making
-pub mod EntryLemmas
+pub mod OutcomeLemmas
 pub mod PrintedLemmas
 pub mod SaidLemmas
 pub mod TranscriptLemmas

@@ -7,7 +7,7 @@ use Rattle.vaults.specs.declared.changes.Entry.{Entry}
 use Rattle.vaults.specs.Journal.{view, credentials}
 use Rattle.hall.specs.declared.queries.Query.{Query}
 use Rattle.hall.specs.Truth.{Settled, Nothing, Yes, No}
-use Rattle.hall.specs.State.{Running, Tenant, HallState, IsSound}
+use Rattle.hall.specs.State.{Running, Tenant, HallState, IsSoundHall}
 
 -- a search that has not ended, with the credentials that it looks at
 pub record Copied : Type 0 where
@@ -27,12 +27,12 @@ settled_by None = Nothing
 settled_by (Some true) = Yes
 settled_by (Some false) = No
 
-abbrev pub tenant_of : SeatState → Tenant
-tenant_of s = record { name = s.name; limits = s.limits; opens = s.opens; searches = map (λ k. k.running) s.searches }
+abbrev pub tenant_at : SeatState → Tenant
+tenant_at s = record { name = s.name; limits = s.limits; opens = s.opens; searches = map (λ k. k.running) s.searches }
 
 -- the hall of a journal and the tenants' seats
 abbrev pub hall_of : List Entry → List SeatState → HallState
-hall_of journal seats = record { journal = journal; tenants = map tenant_of seats }
+hall_of journal seats = record { journal = journal; tenants = map tenant_at seats }
 
 -- the search looks at the credentials of its tenant's view at the opening
 abbrev pub IsCopy : List Entry → List ℕ → Copied → Type 0
@@ -43,7 +43,7 @@ HasCopies journal s = AllByRecursion (IsCopy journal s.name) s.searches
 
 -- what holds of every registry
 pub record IsRegistry (journal : List Entry) (seats : List SeatState) : Type 0 where
-  pub sound : IsSound (hall_of journal seats)
+  pub sound : IsSoundHall (hall_of journal seats)
   pub copies : AllByRecursion (HasCopies journal) seats
 
 -- a tenant that has done nothing

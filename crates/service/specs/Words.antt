@@ -1,8 +1,10 @@
--- The words of a line.
-use Rattle.std.specs.Prelude.{◌≡◌, ◌≢◌, ℕ, ◌≤◌, Bool, ◌==◌, not, List, length, drop, filter, slice_index, nat_lt}
+-- The words of a text.
+use Rattle.std.specs.Prelude.{◌≡◌, ◌≢◌, ℕ, ◌≤◌, Bool, ◌==◌, not, List, length, drop, filter, slice_index, nat_lt, [], ◌∷◌}
 use Rattle.std.specs.List.{slice_split, position_or_len, before_first, after_first}
 use Rattle.std.specs.Str.Parse.{IsNumeral, digits_value}
 pub use Rattle.credential_text.specs.Refusal.{is_space}
+use Rattle.service.specs.declared.arguments.Arguments.{Arguments}
+use Rattle.service.specs.declared.arguments.Arguments.TheVariants.{Nothing, One, Two, More}
 
 -- the byte that parts a name from its command
 abbrev pub is_colon : ℕ → Bool
@@ -30,3 +32,10 @@ pub record IsNumber (text : List ℕ) (n : ℕ) : Type 0 where
   pub short : length text ≤ 10
   pub first : slice_index text 0 ≢ 48
   pub value : n ≡ digits_value 10 text
+
+-- the words are these, up to two of them
+abbrev pub AreArguments : List (List ℕ) → Arguments → Type 0
+AreArguments words Nothing = words ≡ []
+AreArguments words (One first) = words ≡ first.now ∷ []
+AreArguments words (Two first second) = words ≡ first.now ∷ second.now ∷ []
+AreArguments words More = (first second third : List ℕ) × (more : List (List ℕ)) × (words ≡ first ∷ second ∷ third ∷ more)

@@ -3,7 +3,8 @@ ghost use Rattle.std.specs.Prelude.{◌≡◌, ℕ, IfOk, IfErr};
 ghost use Rattle.names.specs.Name.{IsName};
 ghost use Rattle.credential_text.specs.Spelling.{Spells};
 ghost use Rattle.service.specs.Words.{words, IsNumber};
-ghost use Rattle.service.specs.Command.{Form, form_of, put, drop, grant, revoke, ask, poll, wait, end, vault, sees, with_none, with_one, with_two, RefusesCredential, RefusesName, RefusesNumber, Reads};
+ghost use Rattle.service.specs.Command.{Form, form_of, put, drop, grant, revoke, ask, poll, wait, end, vault, sees, with_none, with_one, with_two};
+ghost use Rattle.service.specs.Command.{RefusesCredential, RefusesName, RefusesNumber, Reads};
 
 use crate::arguments::{Arguments, split_words};
 use crate::refusals::Refusal;

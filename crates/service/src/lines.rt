@@ -7,10 +7,7 @@ ghost use Rattle.std.specs.Str.Lines.{strip_carriage_return};
 ghost use Rattle.service.specs.declared.lines.TheConstants.{KEPT, LINE_ROOM};
 ghost use Rattle.service.specs.declared.lines.limit.TheConstants.{MOST_READS};
 ghost use Rattle.service.specs.Line.{line_of, is_printable};
-ghost use Rattle.service.specs.Lines.{Shows, Gives, IsText};
-ghost use Rattle.service.specs.Source.{source_of};
-ghost use Rattle.service.specs.Taken.{Takes};
-ghost use Rattle.service.specs.Unread.{unread_bytes};
+ghost use Rattle.service.specs.LineReader.{Shows, Gives, IsText, source_of, TakesBytes, unread_bytes};
 ghost use Rattle.service.specs.contracts.lines.LineReader.{the_row as reader-row};
 
 use limit::Limited;
@@ -67,11 +64,11 @@ enum LineEnd {
 
 impl<R: Read> Model for LineReader<R> {
     ghost use Rattle.std.specs.Prelude.{◌≤◌, vec_capacity};
-    ghost use Rattle.service.specs.Source.{Source};
+    ghost use Rattle.service.specs.LineReader.{Source};
 
     ghost Value = { Source };
 
-    ghost use Rattle.service.specs.Unread.{unread};
+    ghost use Rattle.service.specs.LineReader.{unread};
 
     ghost view = { λ r. unread R.remaining r.bytes r.stage };
 
@@ -165,7 +162,7 @@ fn take_line<R: Read + Drop>(
     line: &mut Vec<u8>,
 ) -> LineEnd
     requires { KEPT ≤ vec_capacity line.old }
-    ensures taken { Takes (unread_bytes R.remaining bytes.old) result line.new.items (unread_bytes R.remaining bytes.new) }
+    ensures taken { TakesBytes (unread_bytes R.remaining bytes.old) result line.new.items (unread_bytes R.remaining bytes.new) }
     ensures room { KEPT ≤ vec_capacity line.new }
 {
     line.clear();

@@ -1,7 +1,7 @@
 //! The searches that a tenant has opened.
 ghost use Rattle.std.specs.Prelude.{◌≡◌, IfOk, OnErr};
 ghost use Rattle.hall.specs.Truth.{Nothing, answer_of};
-ghost use Rattle.service.specs.Settling.{IsTruthOver, Settles};
+ghost use Rattle.service.specs.Settling.{IsTruthOver, ComesTo};
 ghost use Rattle.service.specs.Seats.{settled_by};
 
 use credential_text::Credential;
@@ -63,7 +63,7 @@ impl Search {
 
     /// What it comes to, found now where that was not done before.
     pub(crate) fn settle(&mut self, alloc: Global) -> Result<Answer, AllocError>
-        ensures settled { IfOk result (λ told. Settles self.old told self.new) }
+        ensures settled { IfOk result (λ told. ComesTo self.old told self.new) }
         ensures unchanged { OnErr result (self.new ≡ self.old) }
     {
         if self.answer.is_none() {

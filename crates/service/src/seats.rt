@@ -1,5 +1,6 @@
 //! The tenants, each with its limits and its searches.
-ghost use Rattle.std.specs.Prelude.{◌≡◌, ◌+◌, ◌<◌, ◌==◌, None, Some, length, unwrap_or, IfOk, IfErr, OnOk, OnErr, option_copied, position, filter, not};
+ghost use Rattle.std.specs.Prelude.{◌≡◌, ◌+◌, ◌<◌, ◌==◌, None, Some, length, unwrap_or, IfOk, IfErr, OnOk, OnErr, option_copied, position, filter};
+ghost use Rattle.std.specs.Prelude.{not};
 ghost use Rattle.vaults.specs.Journal.{is_same, entries_of, vault, readers};
 ghost use Rattle.hall.specs.declared.faults.Fault.TheVariants as faults;
 ghost use Rattle.hall.specs.Account.{limit_refusal, seek_refusal};
