@@ -1,5 +1,4 @@
 pub mod Bytes
-pub mod Spaces
 pub mod Arrow
 pub mod Readings
 pub mod Joining

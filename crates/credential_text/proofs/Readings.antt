@@ -5,9 +5,9 @@ use Rattle.std.proofs.lemmas.List.Splits.{join_with_byte-slice_split}
 use Rattle.std.proofs.lemmas.Bool.{and_from}
 use Rattle.names.specs.declared.faults.NameFault.{NameFault}
 use Rattle.names.specs.declared.roles.Role.{Role}
-use Rattle.names.specs.Name.{IsName}
+use Rattle.names.specs.Name.{IsName, is_same}
 use Rattle.names.specs.Fault.{name_fault, or_then}
-use Rattle.names.specs.Pieces.{dot, pieces}
+use Rattle.names.specs.Texts.{dot, pieces}
 use Rattle.names.specs.Role.{role_text}
 use Rattle.names.proofs.Avoiding.{name_avoids}
 use Rattle.names.proofs.PieceLemmas.{pieces_at, pieces_none, some_piece}
@@ -15,7 +15,7 @@ use Rattle.names.proofs.RoleLemmas.{role_pieces, name_faultless, faultless_name,
 use Rattle.credential_text.specs.declared.faults.CredFault.TheVariants as faults
 use Rattle.credential_text.specs.declared.intersections.Part.{Part}
 use Rattle.credential_text.specs.declared.intersections.Part.TheVariants.{Ent, Rol, Link}
-use Rattle.credential_text.specs.Part.{has_names, part_names, part_text, is_same, is_based_on}
+use Rattle.credential_text.specs.Part.{has_names, part_names, part_text, is_based_on}
 use Rattle.credential_text.specs.PartOrder.{names_tell}
 use Rattle.credential_text.specs.Refusal.{as_cred_fault, part_fault, part_fault_of}
 use Rattle.credential_text.specs.Reading.{ReadsAs}

@@ -1,16 +1,16 @@
 ghost use Rattle.std.specs.Prelude.{◌≡◌, ◌≢◌, ◌<◌, ◌≤◌, ◌==◌, ◌||◌, not, nat_lt, length, take, count_by, Some, None, IfOk, IfErr, IsErrOf};
-ghost use Rattle.std.specs.List.{list_all, list_any};
+ghost use Rattle.std.specs.List.{list_any};
 ghost use Rattle.credential_text.specs.declared.faults.CredFault.TheVariants as faults;
 ghost use Rattle.credential_text.specs.Expr.{expr_parts, HasPartsInRange};
 ghost use Rattle.credential_text.specs.Spelling.{ampersand};
-ghost use Rattle.credential_text.specs.Refusal.{is_space, is_empty, part_texts, part_fault, first_part_fault, body_fault};
+ghost use Rattle.credential_text.specs.Refusal.{is_empty, part_texts, part_fault, first_part_fault, body_fault};
 ghost use Rattle.credential_text.specs.Reading.{ReadsAs, ReadsParts, ReadsBody};
 
 use crate::exprs::Expr;
 use crate::faults::CredFault;
 use crate::intersections::{MOST_PARTS, Part, Parts};
-use crate::trimming::trimmed;
-use names::{Entity, Role, RoleName, cut};
+use names::texts::{cut, is_blank, trim};
+use names::{Entity, Role, RoleName};
 use std::alloc::{AllocError, Global};
 
 /// The part that the text spells in a credential whose head has this owner.
@@ -48,12 +48,6 @@ fn read_part(owner: &Entity, text: &[u8]) -> Result<Part, CredFault>
     ))
 }
 
-fn is_blank(text: &[u8]) -> bool
-    ensures { result ≡ list_all is_space text.now }
-{
-    text.iter().all(|byte| *byte == b' ')
-}
-
 fn ampersands(text: &[u8]) -> usize
     ensures { result ≡ count_by (λ b. b == ampersand) text.now }
 {
@@ -66,7 +60,7 @@ fn has_empty_part(body: &[u8]) -> bool
     let mut left = Some(body);
     while let Some(text) = left {
         let (part, rest) = cut(text, b'&');
-        if trimmed(part).is_empty() {
+        if trim(part).is_empty() {
             return true;
         }
         left = rest;
@@ -96,7 +90,7 @@ fn read_parts(
     let mut left = Some(body);
     while let Some(text) = left {
         let (part, rest) = cut(text, b'&');
-        parts[count] = read_part(owner, trimmed(part))?;
+        parts[count] = read_part(owner, trim(part))?;
         count += 1;
         left = rest;
     }

@@ -6,7 +6,7 @@ use Rattle.names.specs.declared.roles.Role.{Role}
 use Rattle.names.specs.declared.faults.NameFault.TheVariants.{NotRole}
 use Rattle.names.specs.Name.{IsName}
 use Rattle.names.specs.Fault.{name_fault, role_fault, role_fault_of, or_then}
-use Rattle.names.specs.Pieces.{dot, pieces}
+use Rattle.names.specs.Texts.{dot, pieces}
 use Rattle.names.specs.Role.{SpellsRole}
 use Rattle.names.specs.Laws.{FaultlessAreNames, FaultlessAreRoles}
 use Rattle.names.proofs.Avoiding.{name_avoids, NameParts, name_parts}

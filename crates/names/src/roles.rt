@@ -1,10 +1,10 @@
 ghost use Rattle.std.specs.Prelude.{◌≡◌, Some, IfOk, IfErr};
 ghost use Rattle.names.specs.Fault.{role_fault};
 
-use crate::cuts::cut;
 use crate::entities::Entity;
 use crate::faults::NameFault;
 use crate::role_names::RoleName;
+use crate::texts::cut;
 use std::cmp::Ordering;
 
 /// A role: the set of entities that its owner defines under the role name. Only the owner defines it.

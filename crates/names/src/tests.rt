@@ -1,4 +1,5 @@
 use super::*;
+use crate::texts::{cut, is_blank, trim, trim_end, trim_start};
 use std::alloc::{AllocError, Global};
 use std::cmp::Ordering;
 use std::test::Fail;
@@ -102,4 +103,16 @@ fn texts_are_cut_at_the_first_place(rt: HostRuntime) -> Result<(), Fail> {
     assert_eq!(rt; whole, b"A".as_slice());
     assert!(rt; nothing.is_none());
     Ok(())
+}
+
+#[test]
+fn texts_lose_their_outer_spaces(rt: HostRuntime) {
+    let text = b"  a b\t ";
+    assert_eq!(rt; trim_start(text), b"a b\t ".as_slice());
+    assert_eq!(rt; trim_end(text), b"  a b\t".as_slice());
+    assert_eq!(rt; trim(text), b"a b\t".as_slice());
+    assert_eq!(rt; trim(b"   "), b"".as_slice());
+    for (text, blank) in [(b"".as_slice(), true), (b"  ", true), (b" \t", false)] {
+        assert_eq!(rt; is_blank(text), blank);
+    }
 }

@@ -6,17 +6,18 @@ use Rattle.std.specs.Ordering.{eq_by_cmp}
 use Rattle.std.proofs.lemmas.Bool.{and_parts, and_from, and_right}
 use Rattle.std.proofs.lemmas.List.Elements.{filter_agree, All-contains, All-map}
 use Rattle.std.proofs.lemmas.List.Folds.{list_any-append}
-use Rattle.names.specs.Name.{name_order}
+use Rattle.names.specs.Name.{name_order, is_same}
 use Rattle.credential_text.specs.declared.credentials.Credential.{Credential}
 use Rattle.credential_text.specs.Credential.{credential_order}
 use Rattle.vaults.specs.declared.changes.Change.{Change}
 use Rattle.vaults.specs.declared.changes.Change.TheVariants.{Upload, Withdraw, Grant, Revoke}
 use Rattle.vaults.specs.declared.changes.Entry.{Entry}
 use Rattle.vaults.specs.InOrder.{in_order}
-use Rattle.vaults.specs.Journal.{is_same, moves, admits, change_credential, moved_credential, change_reader, named_reader, uploads, grants, entry_is, entries_of, holds, granted, reads, vault, readers, names_read, Vault, vault_record, view, credentials}
+use Rattle.vaults.specs.Journal.{moves, admits, change_credential, moved_credential, change_reader, named_reader, uploads, grants, entry_is, entries_of, holds, granted, reads, vault, readers, names_read, Vault, vault_record, view, credentials}
 use Rattle.vaults.specs.Laws.{VaultsAreExact, ReadersAreExact, NamesReadAreExact, ViewsAreOfNamesRead, ViewsAreExact, HoldingIsOwn, GrantingIsOwn, VaultsAreOwn, ReadersAreOwn, RefusalsAreOwn}
 use Rattle.vaults.proofs.Elements.{has, has-in_order, has-filter, sorted-in_order, has_iff, tied_both_ways}
-use Rattle.vaults.proofs.Orders.{credentials_exact, names_exact, is_same_tied, same_from_is_same, is_same_itself}
+use Rattle.names.proofs.SameNames.{is_same_tied, same_from_is_same, is_same_itself}
+use Rattle.vaults.proofs.Orders.{credentials_exact, names_exact}
 use Rattle.vaults.proofs.LastEntries.{asked, last_named, list_any_agree, last_has_tenant, last_entry_own, entries_own}
 
 and_absorbs : (b m : Bool) → (b ≡ true → m ≡ true) → (b && m) ≡ b

@@ -11,12 +11,13 @@ use Rattle.std.specs.Ordering.{eq_by_cmp}
 use Rattle.std.proofs.lemmas.Cmp.{eq_by_cmp_equiv}
 use Rattle.std.proofs.lemmas.Map.Entries.{lookup-filter-values, option_filter}
 use Rattle.std.proofs.lemmas.Map.Keys.{IsDistinct-from_sorted}
-use Rattle.names.specs.Name.{name_order}
+use Rattle.names.specs.Name.{name_order, is_same}
 use Rattle.vaults.specs.declared.changes.Entry.{Entry}
-use Rattle.vaults.specs.Journal.{is_same, granted, names_read}
+use Rattle.vaults.specs.Journal.{granted, names_read}
 use Rattle.vaults.specs.Page.{Kept, nothing_kept, kept_of, ArePages, granting_names}
 use Rattle.vaults.proofs.Elements.{has, has-insert_key, sorted-insert_key, same_in_order}
-use Rattle.vaults.proofs.Orders.{names_exact, is_same_tied}
+use Rattle.names.proofs.SameNames.{is_same_tied}
+use Rattle.vaults.proofs.Orders.{names_exact}
 use Rattle.vaults.proofs.Exactness.{has-readers, has-names_read, sorted-names_read}
 
 -- what holds of each key holds of the keys that a filter of the entries keeps

@@ -7,7 +7,8 @@ use Rattle.std.proofs.lemmas.List.Sorted.{list_any-IsPermutation, IsPermutation-
 use Rattle.std.proofs.lemmas.Bool.{or_left, or_right}
 use Rattle.vaults.specs.declared.changes.Change.{Change}
 use Rattle.vaults.specs.declared.changes.Entry.{Entry}
-use Rattle.vaults.specs.Journal.{is_same, entries_of, last_entry, entry_is}
+use Rattle.names.specs.Name.{is_same}
+use Rattle.vaults.specs.Journal.{entries_of, last_entry, entry_is}
 
 -- a test that asks what a filter asked finds the same
 find-filter : {X : Type 0} (p t : X → Bool) (xs : List X) → find (λ x. p x && t x) (filter p xs) ≡ find (λ x. p x && t x) xs

@@ -5,17 +5,18 @@ use Rattle.std.specs.BTreeMap.{BTreeMap, get}
 use Rattle.std.specs.List.Sorted.{IsStrictlySortedBy}
 use Rattle.std.proofs.lemmas.List.{append-nil}
 use Rattle.std.proofs.lemmas.List.Filters.{length-filter_both}
-use Rattle.names.specs.Name.{name_order}
+use Rattle.names.specs.Name.{name_order, is_same}
 use Rattle.credential_text.specs.declared.credentials.Credential.{Credential}
 use Rattle.credential_text.specs.Credential.{credential_order}
 use Rattle.vaults.specs.declared.changes.Change.{Change}
 use Rattle.vaults.specs.declared.changes.Change.TheVariants.{Upload, Withdraw, Grant, Revoke}
 use Rattle.vaults.specs.declared.changes.Entry.{Entry}
 use Rattle.vaults.specs.declared.faults.VaultFault.TheVariants.{NotIssuer, AlreadyHeld}
-use Rattle.vaults.specs.Journal.{is_same, moves, admits, uploads, grants, entry_is, entries_of, last_entry, holds, granted, vault, readers, refusal}
+use Rattle.vaults.specs.Journal.{moves, admits, uploads, grants, entry_is, entries_of, last_entry, holds, granted, vault, readers, refusal}
 use Rattle.vaults.specs.Page.{Kept, nothing_kept, kept_of, held_after, readers_after, kept_after, ArePages, KeepsChange}
 use Rattle.vaults.proofs.Elements.{has, same_in_order, has-insert_key, sorted-insert_key, has-without, sorted-without, same_from_tied, tied_both_ways}
-use Rattle.vaults.proofs.Orders.{credentials_exact, names_exact, is_same_tied, same_from_is_same, is_same_itself}
+use Rattle.names.proofs.SameNames.{is_same_tied, same_from_is_same, is_same_itself}
+use Rattle.vaults.proofs.Orders.{credentials_exact, names_exact}
 use Rattle.vaults.proofs.LastEntries.{last_entry_push, entries_push}
 use Rattle.vaults.proofs.Exactness.{has-vault, sorted-vault, has-readers, sorted-readers, vaults_own, readers_own}
 

@@ -1,8 +1,8 @@
 ghost use Rattle.std.specs.Prelude.{◌≡◌, ◌++◌, ◌&&◌, ◌+◌, ◌<◌, ◌^◌, [], ◌∷◌, None, length, unwrap_or, IfOk, IfErr, OnOk, OnErr, vec_len};
 ghost use Rattle.std.specs.Vec.{vec_capacity};
 ghost use Rattle.std.specs.BTreeMap.{get, IsOrdered};
-ghost use Rattle.names.specs.Name.{name_order};
-ghost use Rattle.vaults.specs.Journal.{is_same, entries_of, holds, granted, reads, vault, readers, names_read, refusal};
+ghost use Rattle.names.specs.Name.{name_order, is_same};
+ghost use Rattle.vaults.specs.Journal.{entries_of, holds, granted, reads, vault, readers, names_read, refusal};
 ghost use Rattle.vaults.specs.Page.{nothing_kept, KeepsChange, IsUnchanged, granting_names};
 
 use crate::changes::{Change, Entry};

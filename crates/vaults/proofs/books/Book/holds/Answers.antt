@@ -1,7 +1,8 @@
 use Rattle.std.proofs.Common.{List, ◌∙◌, ap, ◌&&◌}
 use Rattle.credential_text.specs.Credential.{credential_order}
 use Rattle.vaults.specs.declared.changes.Entry.{Entry}
-use Rattle.vaults.specs.Journal.{is_same, holds}
+use Rattle.names.specs.Name.{is_same}
+use Rattle.vaults.specs.Journal.{holds}
 use Rattle.vaults.specs.Page.{Kept}
 use Rattle.vaults.proofs.Elements.{has}
 use Rattle.vaults.proofs.Exactness.{has-vault}

@@ -1,8 +1,8 @@
 use Rattle.std.proofs.Common.{ℕ, sym, ap, ◌∙◌, ◌≡◌, take, arith}
-use Rattle.credential_text.specs.Refusal.{trim_end}
-use Rattle.credential_text.proofs.Spaces.{space_last, other_last}
-use Rattle.credential_text.proofs.trimming.without_trailing.Goals as goal
-use Rattle.credential_text.proofs.trimming.without_trailing.Goals.{then-loop-end-test+else-text-end-eq32, else-loop-end-test}
+use Rattle.names.specs.Texts.{trim_end}
+use Rattle.names.proofs.Spaces.{space_last, other_last}
+use Rattle.names.proofs.texts.trim_end.Goals as goal
+use Rattle.names.proofs.texts.trim_end.Goals.{then-loop-end-test+else-text-end-eq32, else-loop-end-test}
 
 pub loop-end-preserved : goal.loop-end-preserved
 loop-end-preserved c = (

@@ -1,6 +1,6 @@
 use Rattle.std.proofs.Common.{◌≡◌, ◌≤◌, length, take}
-use Rattle.credential_text.specs.Refusal.{trim_end}
-use Rattle.credential_text.proofs.trimming.without_trailing.Given as goal
+use Rattle.names.specs.Texts.{trim_end}
+use Rattle.names.proofs.texts.trim_end.Given as goal
 
 abbrev pub invariant-loop-end : goal.invariant-loop-end
 invariant-loop-end l = (l.end ≤ length l.text) × (trim_end l.text ≡ trim_end (take l.end l.text))

@@ -5,8 +5,7 @@ use Rattle.std.proofs.lemmas.List.{append-nil, take_more}
 use Rattle.std.proofs.lemmas.List.Elements.{All-head, All-tail}
 use Rattle.std.proofs.lemmas.Bool.{and_parts, and_cases, and_from, and_left, and_right, cases_Bool, cond-true, cond-false, ne_eqb}
 use Rattle.names.proofs.Avoiding.{Avoids}
-use Rattle.credential_text.specs.Spelling.{IsSpaces}
-use Rattle.credential_text.specs.Refusal.{is_space, trim_start, trim_end, trim}
+use Rattle.names.specs.Texts.{is_space, IsSpaces, trim_start, trim_end, trim}
 
 -- the first byte of a text that a byte doesn't stand in, and the rest
 pub avoids_parts : (byte b : ℕ) (bs : List ℕ) → Avoids byte (b ∷ bs) → ((b == byte) ≡ false) × Avoids byte bs
