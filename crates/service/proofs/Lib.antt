@@ -1,7 +1,6 @@
 pub mod LineLemmas
 pub mod LinesLemmas
 pub mod NumberLemmas
-pub mod PositionLemmas
 pub mod TakenLemmas
 pub mod LimitLemmas
 pub mod RosterLemmas

@@ -12,7 +12,7 @@ use Rattle.service.specs.declared.commands.Command.TheVariants.{Alter, Seek, Pol
 use Rattle.service.specs.declared.refusals.Refusal.{Refusal}
 use Rattle.service.specs.declared.refusals.Refusal.TheVariants as refusal
 use Rattle.service.specs.Line.{Line, text, too_long, not_ascii}
-use Rattle.service.specs.Words.{is_colon, after_spaces}
+use Rattle.service.specs.Words.{is_colon, trim_start}
 use Rattle.service.specs.Command.{Form, form_of, Reads}
 use Rattle.service.specs.Reply.{refusal_line, reply_lines}
 
@@ -48,7 +48,7 @@ IsSpoken hall line outcome = MatchBool (list_any is_colon line)
 abbrev pub IsOutcome : HallState → Line → Outcome → Type 0
 IsOutcome hall too_long outcome = outcome ≡ nobody refusal.LineLong
 IsOutcome hall not_ascii outcome = outcome ≡ nobody refusal.NotAscii
-IsOutcome hall (text t) outcome = IsSpoken hall (after_spaces t) outcome
+IsOutcome hall (text t) outcome = IsSpoken hall (trim_start t) outcome
 
 -- what a command asks of the hall
 abbrev pub deed_of : Command → Deed

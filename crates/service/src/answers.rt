@@ -13,16 +13,17 @@ use crate::registry::Registry;
 use crate::reply_lines::{fill_refusal, fill_reply};
 use crate::rooms::Room;
 use crate::speakers::Speaker;
-use crate::words::{skip_spaces, split_at_colon};
+use crate::words::split_at_colon;
 use hall::{Fault, Reply};
 use names::Entity;
+use names::texts::trim_start;
 use std::alloc::Global;
 
 /// Answers a line that isn't blank.
 pub(crate) fn answer_line(alloc: Global, line: &[u8], registry: &mut Registry, reply: &mut Room)
     ensures { Answered registry.old (text line.now) reply.new registry.new }
 {
-    let Some((before, said)) = split_at_colon(skip_spaces(line)) else {
+    let Some((before, said)) = split_at_colon(trim_start(line)) else {
         return fill_refusal(reply, &Speaker::Nobody, Refusal::Command);
     };
     match registry.called(before) {

@@ -16,8 +16,8 @@ use crate::rooms::Room;
 use crate::rosters::Roster;
 use crate::script_faults::ScriptFault;
 use crate::speakers::Speaker;
-use crate::words::is_blank;
 use crate::writing::write_reply;
+use names::texts::is_blank;
 use std::alloc::Global;
 use std::io::{Read, Write};
 

@@ -8,7 +8,7 @@ use Rattle.service.proofs.answers.answer_line.Goals as goal
 pub returns-in_default : goal.returns-in_default
 returns-in_default c = record {
   outcome = nobody refusal.Command;
-  allowed = IsOutcome-no_colon c.args.registry.now c.args.line.now (rw c.skip_spaces.ensures at c.in_default.ensures.found);
+  allowed = IsOutcome-no_colon c.args.registry.now c.args.line.now (rw c.trim_start.ensures at c.in_default.ensures.found);
   carried = refl;
   text = sym c.fill_refusal.ensures;
 }
@@ -18,8 +18,8 @@ returns-in-Some-called c =
     let said = c.answer_tenant.ensures in
     record {
       outcome = said.outcome;
-      allowed = IsOutcome-tenant c.args.registry.now c.args.line.now c.in-Some.before.now c.in-Some.said.now c.in-Some-called.who said.outcome (rw c.skip_spaces.ensures at c.in-Some.ensures.found)
-          (rw c.skip_spaces.ensures at c.in-Some.ensures.before) (rw c.skip_spaces.ensures at c.in-Some.ensures.after) c.in-Some-called.ensures said.allowed;
+      allowed = IsOutcome-tenant c.args.registry.now c.args.line.now c.in-Some.before.now c.in-Some.said.now c.in-Some-called.who said.outcome (rw c.trim_start.ensures at c.in-Some.ensures.found)
+          (rw c.trim_start.ensures at c.in-Some.ensures.before) (rw c.trim_start.ensures at c.in-Some.ensures.after) c.in-Some-called.ensures said.allowed;
       carried = said.carried;
       text = said.text;
     }
@@ -27,8 +27,8 @@ returns-in-Some-called c =
 pub returns-in-None : goal.returns-in-None
 returns-in-None c = record {
   outcome = nobody refusal.BadHello;
-  allowed = IsOutcome-stranger c.args.registry.now c.args.line.now c.in-Some.before.now (rw c.skip_spaces.ensures at c.in-Some.ensures.found)
-      (rw c.skip_spaces.ensures at c.in-Some.ensures.before) c.in-None.ensures;
+  allowed = IsOutcome-stranger c.args.registry.now c.args.line.now c.in-Some.before.now (rw c.trim_start.ensures at c.in-Some.ensures.found)
+      (rw c.trim_start.ensures at c.in-Some.ensures.before) c.in-None.ensures;
   carried = refl;
   text = sym c.fill_refusal-in-None.ensures;
 }
