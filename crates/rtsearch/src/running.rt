@@ -21,8 +21,11 @@ pub fn run_words<R: Read + Drop, W: Write>(
     reader: &mut R,
     writer: &mut W,
 ) -> u8
-    ensures ran { result ≡ 0 → IfSome (R.remaining reader.old) (λ input. ScriptWrote (commands_of input) (Ok tt) (Appends (W.contents writer.old) (W.contents writer.new))) }
-    ensures failed { result ≡ 1 → IfSome (R.remaining reader.old) (λ input. (fault : ScriptFault) × ScriptWrote (commands_of input) (Err fault) (Appends (W.contents writer.old) (W.contents writer.new))) }
+    ensures ran { result ≡ 0 → IfSome (R.remaining reader.old)
+        (λ input. ScriptWrote (commands_of input) (Ok tt) (Appends (W.contents writer.old) (W.contents writer.new))) }
+    ensures failed { result ≡ 1 → IfSome (R.remaining reader.old)
+        (λ input. (fault : ScriptFault) × ScriptWrote (commands_of input) (Err fault)
+        (Appends (W.contents writer.old) (W.contents writer.new))) }
     ensures script { AsksForScript (map (λ w. w.now) words.now) → result ≤ 1 }
     ensures unread { result ≡ 2 → R.remaining reader.new ≡ R.remaining reader.old }
     ensures status { result ≤ 2 }

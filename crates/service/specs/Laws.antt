@@ -15,7 +15,9 @@ use Rattle.service.specs.Transcript.{IsTranscript}
 
 -- lines that begin with a roster begin with one, and one list of lines follows it
 abbrev pub OneReading : Type 0
-OneReading = (lines : List Line) (rows others : List Row) (rest more : List Line) → HasRoster lines rows rest → HasRoster lines others more → (rows ≡ others) × (rest ≡ more)
+OneReading =
+    (lines : List Line) (rows others : List Row) (rest more : List Line)
+    → HasRoster lines rows rest → HasRoster lines others more → (rows ≡ others) × (rest ≡ more)
 
 -- the tenant's requests among the outcomes, each with its view just before it
 abbrev pub trace_in : List ℕ → List Entry → List Outcome → List Moment
@@ -28,7 +30,8 @@ replies_in tenant outcomes = replies_to tenant (calls_of (deeds_in outcomes)) (r
 -- from one account, over one trace, the replies of two scripts agree place by place
 abbrev pub TwoScripts : Type 0
 TwoScripts =
-    (tenant : List ℕ) (start : Account) (one other one_end other_end : HallState) (lines more : List Line) (first second : List Outcome) (output other_output : List ℕ)
+    (tenant : List ℕ) (start : Account) (one other one_end other_end : HallState)
+    (lines more : List Line) (first second : List Outcome) (output other_output : List ℕ)
     → account_of one tenant ≡ Some start → account_of other tenant ≡ Some start
     → IsTranscript one lines first output one_end → IsTranscript other more second other_output other_end
     → trace_in tenant one.journal first ≡ trace_in tenant other.journal second

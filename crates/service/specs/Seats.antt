@@ -53,7 +53,10 @@ new_seat name limits = record { name = name; limits = limits; opens = 0; searche
 -- a search that was opened just now
 abbrev pub new_search : ℕ → List Entry → List ℕ → Query → Copied
 new_search n journal name query =
-    record { running = record { number = n; opened_at = length journal; query = query; settled = Nothing }; over = credentials (view journal name) }
+    record {
+      running = record { number = n; opened_at = length journal; query = query; settled = Nothing };
+      over = credentials (view journal name);
+    }
 
 -- the seat with one more search, of this number and opened now
 abbrev pub seat_opening : List Entry → Query → ℕ → SeatState → SeatState

@@ -21,6 +21,7 @@ mod scripts;
 mod searches;
 mod seats;
 mod speakers;
+mod verbs;
 mod views;
 mod words;
 mod writing;

@@ -26,13 +26,19 @@ impl Model for Search {
 
     ghost Value = { Copied };
 
-    ghost view = { λ s. record { running = record { number = s.number; opened_at = s.opened_at; query = s.query; settled = settled_by s.answer }; over = s.over.items } };
+    ghost view = { λ s. record {
+      running = record { number = s.number; opened_at = s.opened_at; query = s.query; settled = settled_by s.answer };
+      over = s.over.items;
+    } };
 }
 
 impl Search {
     /// The search, for which nobody has waited.
     pub(crate) fn new(number: u64, opened_at: u64, query: Query, over: Vec<Credential>) -> Search
-        ensures { result ≡ record { running = record { number = number; opened_at = opened_at; query = query; settled = Nothing }; over = over.items } }
+        ensures { result ≡ record {
+          running = record { number = number; opened_at = opened_at; query = query; settled = Nothing };
+          over = over.items;
+        } }
     {
         Search {
             number,
