@@ -1,11 +1,11 @@
--- What one line of a script does, and what a script has done so far.
-use Rattle.std.specs.Prelude.{◌≡◌, ℕ, List, [], ◌++◌}
+-- What one line of a script does.
+use Rattle.std.specs.Prelude.{◌≡◌, ℕ, List, []}
 use Rattle.hall.specs.State.{HallState}
 use Rattle.hall.specs.Deeds.{AreDone}
 use Rattle.service.specs.declared.scripts.Turn.{Turn}
 use Rattle.service.specs.declared.scripts.Turn.TheVariants.{Blank, Replied, End, Fault}
 use Rattle.service.specs.Line.{Line}
-use Rattle.service.specs.LineReader.{Source, known, TakesFirst, TakesBlank}
+use Rattle.service.specs.LineReader.{Source, TakesFirst, TakesBlank}
 use Rattle.service.specs.Outcome.{Outcome, outcome_text, IsSaid, IsOutcome, deed_in}
 use Rattle.service.specs.Command.{Form}
 
