@@ -1,7 +1,7 @@
 -- What tenants did one after another is a run, in which a wait is a poll before which its search settled.
 use Rattle.std.proofs.Common.{ℕ, List, [], ◌∷◌, sym, subst}
 use Rattle.hall.specs.declared.replies.Reply.{Reply}
-use Rattle.hall.specs.State.{HallState, IsSound, Settles}
+use Rattle.hall.specs.State.{HallState, IsSoundHall, Settles}
 use Rattle.hall.specs.Run.{IsServed, Run}
 use Rattle.hall.specs.Deeds.{Deed, asks, waits, Told, CarriesOut, AreDone, DeedsAreAllowed, request_of, calls_of, replies_of}
 use Rattle.hall.proofs.Settling.{hall_stays, driving_settles}
@@ -13,9 +13,9 @@ record IsStep (old : HallState) (who : List ℕ) (deed : Deed) (reply : Reply) (
   before : HallState
   settles : Settles old before
   served : IsServed before who (request_of deed) reply new
-  sound : IsSound new
+  sound : IsSoundHall new
 
-step_of : (old new : HallState) (who : List ℕ) (deed : Deed) (reply : Reply) → IsSound old → CarriesOut old who deed reply new → IsStep old who deed reply new
+step_of : (old new : HallState) (who : List ℕ) (deed : Deed) (reply : Reply) → IsSoundHall old → CarriesOut old who deed reply new → IsStep old who deed reply new
 step_of old new who (asks q) reply sound served =
     record { before = old; settles = hall_stays old; served = served; sound = served_sound old new who q reply sound served }
 step_of old new who (waits k) reply sound driven = record {
@@ -25,7 +25,7 @@ step_of old new who (waits k) reply sound driven = record {
   sound = driven_sound old new who k reply sound driven;
 }
 
-run_of : (old new : HallState) (deeds : List Told) → IsSound old → AreDone old deeds new → Run old (calls_of deeds) (replies_of deeds) new
+run_of : (old new : HallState) (deeds : List Told) → IsSoundHall old → AreDone old deeds new → Run old (calls_of deeds) (replies_of deeds) new
 run_of old new [] sound done = subst (λ (h : HallState). Settles old h) (sym done) (hall_stays old)
 run_of old new (told ∷ more) sound done =
     let step = step_of old done.0 told.tenant told.deed told.reply sound done.1.carried in

@@ -12,7 +12,7 @@ use Rattle.hall.specs.declared.replies.Reply.{Reply}
 use Rattle.hall.specs.declared.replies.Reply.TheVariants.{Counted, Opened, Closed}
 use Rattle.hall.specs.Truth.{MaySettle}
 use Rattle.hall.specs.Account.{OpenSearch, Account, GoesOn, Waits, Moment, AllowedRun, account_after}
-use Rattle.hall.specs.State.{Running, Tenant, HallState, tenant_named, open_search, account, account_of, IsSound, RunningGoesOn, TenantGoesOn, Settles}
+use Rattle.hall.specs.State.{Running, Tenant, HallState, tenant_named, open_search, account, account_of, IsSoundHall, RunningGoesOn, TenantGoesOn, Settles}
 use Rattle.hall.specs.Run.{Call, IsServed, hall_after, journal_after, trace, replies_to, IsAllowedRun, IsAllowedToEach}
 use Rattle.hall.specs.Laws.{RunsAreAllowed}
 use Rattle.hall.specs.Agree.{Agree, HasMemory, TwoHalls}
@@ -103,7 +103,7 @@ journal_grows h name request.Vault told = refl
 journal_grows h name request.Sees told = refl
 
 -- one request more at the start of a run
-request_first : (tenant : List ℕ) (old before after new : HallState) (call : Call) (told : Reply) (moments : List Moment) (replies : List Reply) → IsSound before →
+request_first : (tenant : List ℕ) (old before after new : HallState) (call : Call) (told : Reply) (moments : List Moment) (replies : List Reply) → IsSoundHall before →
     Settles old before → IsServed before call.tenant call.request told after →
     IsAllowedRun tenant (account_of after tenant) moments replies (account_of new tenant) → (own : Bool) → is_same call.tenant tenant ≡ own →
     IsAllowedRun tenant (account_of old tenant) (cond own (record { view = view old.journal tenant; request = call.request } ∷ []) [] ++ moments) (cond own (told ∷ []) [] ++ replies) (account_of new tenant)
@@ -125,7 +125,7 @@ runs_allowed old new [] [] sound run tenant = allowed_end tenant (account_of old
 runs_allowed old new [] (told ∷ replies) sound run tenant = absurd run
 runs_allowed old new (call ∷ calls) [] sound run tenant = absurd run
 runs_allowed old new (call ∷ calls) (told ∷ replies) sound run tenant =
-    let before : IsSound run.0 = settles_sound old run.0 sound run.2 in
+    let before : IsSoundHall run.0 = settles_sound old run.0 sound run.2 in
     let grown : run.1.journal ≡ journal_after old.journal call told =
     ap (λ (h : HallState). h.journal) run.3.after ∙ journal_grows run.0 call.tenant call.request told ∙ ap (λ (j : List Entry). journal_after j call told) run.2.journal in
     let rest : IsAllowedRun tenant (account_of run.1 tenant) (trace tenant run.1.journal calls replies) (replies_to tenant calls replies) (account_of new tenant) =

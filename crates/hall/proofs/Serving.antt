@@ -16,7 +16,7 @@ use Rattle.hall.specs.declared.replies.Reply.{Reply}
 use Rattle.hall.specs.declared.replies.Reply.TheVariants.{Counted, Opened, Closed, Refused}
 use Rattle.hall.specs.Truth.{Nothing}
 use Rattle.hall.specs.Account.{OpenSearch, Account, MayReply, account_after}
-use Rattle.hall.specs.State.{Running, Tenant, HallState, tenant_named, open_search, account, account_of, at_name, with_tenant, IsSound, IsSoundSearch, IsSoundTenant}
+use Rattle.hall.specs.State.{Running, Tenant, HallState, tenant_named, open_search, account, account_of, at_name, with_tenant, IsSoundHall, IsSoundSearch, IsSoundTenant}
 use Rattle.hall.specs.Run.{opening, ending, hall_after, MayReplyTo, IsServed}
 use Rattle.hall.proofs.Elements.{filter-map}
 use Rattle.hall.proofs.Named.{named_changed}
@@ -37,7 +37,7 @@ own_changed h name change t keeps found is =
     ∙ ap (λ (u : Tenant). Some (account h.journal u)) (changed_here name change t is)
 
 -- and where that of another name was
-other_changed : (h : HallState) (name other : List ℕ) (change : Tenant → Tenant) → ((u : Tenant) → (change u).name ≡ u.name) → IsSound h → is_same name other ≡ false →
+other_changed : (h : HallState) (name other : List ℕ) (change : Tenant → Tenant) → ((u : Tenant) → (change u).name ≡ u.name) → IsSoundHall h → is_same name other ≡ false →
     account_of (with_tenant h name change) other ≡ account_of h other
 other_changed h name other change keeps sound apart =
     ap (option_map (account h.journal)) (named_changed name other change keeps h.tenants ∙ by (tenant_named other h.tenants) refl)
@@ -101,7 +101,7 @@ own_after h name request.Vault told t sound found is = ap (option_map (account h
 own_after h name request.Sees told t sound found is = ap (option_map (account h.journal)) found
 
 -- another tenant's entry leaves the account as it was
-other_entered : (h : HallState) (e : Entry) (other : List ℕ) → IsSound h → is_same e.tenant other ≡ false →
+other_entered : (h : HallState) (e : Entry) (other : List ℕ) → IsSoundHall h → is_same e.tenant other ≡ false →
     option_map (account (h.journal ++ e ∷ [])) (tenant_named other h.tenants) ≡ account_of h other
 other_entered h e other sound apart = by (tenant_named other h.tenants) refl
   where
@@ -112,7 +112,7 @@ other_entered h e other sound apart = by (tenant_named other h.tenants) refl
         ap Some (account_without h.journal e t this.0 (ap (is_same e.tenant) this.1 ∙ apart))
 
 -- and so does each request of another name
-pub other_after : (h : HallState) (name other : List ℕ) (q : Request) (told : Reply) → IsSound h → is_same name other ≡ false → account_of (hall_after h name q told) other ≡ account_of h other
+pub other_after : (h : HallState) (name other : List ℕ) (q : Request) (told : Reply) → IsSoundHall h → is_same name other ≡ false → account_of (hall_after h name q told) other ≡ account_of h other
 other_after h name other (request.Alter change) (Counted n) sound apart = other_entered h (record { tenant = name; change = change }) other sound apart
 other_after h name other (request.Alter change) _ sound apart = refl
 other_after h name other (request.Seek query) (Opened n) sound apart = other_changed h name other (opening h.journal query n) (λ u. refl) sound apart
@@ -137,7 +137,7 @@ abbrev pub ServesTo : List ℕ → List Vault → Request → Reply → Option A
 ServesTo name v q told None after = (told ≡ Refused NoTenant) × (after ≡ None)
 ServesTo name v q told (Some a) after = MayReply name v a q told × (after ≡ Some (account_after name v a q told))
 
-serves_found : (h : HallState) (name : List ℕ) (q : Request) (told : Reply) (o : Option Tenant) → IsSound h → tenant_named name h.tenants ≡ o →
+serves_found : (h : HallState) (name : List ℕ) (q : Request) (told : Reply) (o : Option Tenant) → IsSoundHall h → tenant_named name h.tenants ≡ o →
     MayReplyTo h name (option_map (account h.journal) o) q told → ServesTo name (view h.journal name) q told (option_map (account h.journal) o) (account_of (hall_after h name q told) name)
 serves_found h name q told None sound is may =
     (may, ap (λ (r : Reply). account_of (hall_after h name q r) name) may ∙ ap (λ (g : HallState). account_of g name) (refused_stays h name q) ∙ ap (option_map (account h.journal)) is)
@@ -145,7 +145,7 @@ serves_found h name q told (Some t) sound is may =
     let this : IsSoundTenant h.journal t × (t.name ≡ name) = found_tenant (IsSoundTenant h.journal) name h.tenants sound.tenants t is in
     (may, own_after h name q told t this.0 is this.1)
 
-pub serves_own : (old new : HallState) (name : List ℕ) (q : Request) (told : Reply) → IsSound old → IsServed old name q told new →
+pub serves_own : (old new : HallState) (name : List ℕ) (q : Request) (told : Reply) → IsSoundHall old → IsServed old name q told new →
     ServesTo name (view old.journal name) q told (account_of old name) (account_of new name)
 serves_own old new name q told sound served =
     subst (λ (g : HallState). ServesTo name (view old.journal name) q told (account_of old name) (account_of g name)) (sym served.after)

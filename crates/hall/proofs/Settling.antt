@@ -10,7 +10,7 @@ use Rattle.vaults.specs.Journal.{Vault, view}
 use Rattle.names.proofs.SameNames.{same_from_is_same}
 use Rattle.hall.specs.declared.queries.Query.{Query}
 use Rattle.hall.specs.Truth.{Settled, IsTruth, MaySettle}
-use Rattle.hall.specs.State.{Running, Tenant, HallState, tenant_named, running_numbered, running_of, search_at, settling, AreDistinct, AreNumbered, IsSound, IsSoundTenant, RunningGoesOn, TenantGoesOn, Settles}
+use Rattle.hall.specs.State.{Running, Tenant, HallState, tenant_named, running_numbered, running_of, search_at, settling, AreDistinct, AreNumbered, IsSoundHall, IsSoundTenant, RunningGoesOn, TenantGoesOn, Settles}
 use Rattle.hall.specs.Run.{SettlesAt}
 use Rattle.hall.proofs.Elements.{IsOnce, zip_same, zip_changed}
 
@@ -72,7 +72,7 @@ tenant_settles journal k s t r sound found may = record {
     same_one : (x : Running) → running_numbered k t.searches ≡ Some x → r ≡ x
     same_one x here = cc
 
-settles_found : (old new : HallState) (name : List ℕ) (k : ℕ) (t : Option Tenant) → IsSound old → tenant_named name old.tenants ≡ t → SettlesAt old name k (running_of k t) new → Settles old new
+settles_found : (old new : HallState) (name : List ℕ) (k : ℕ) (t : Option Tenant) → IsSoundHall old → tenant_named name old.tenants ≡ t → SettlesAt old name k (running_of k t) new → Settles old new
 settles_found old new name k None sound is settles = subst (Settles old) (sym settles) (hall_stays old)
 settles_found old new name k (Some t) sound is settles = by (running_numbered k t.searches) refl settles
   where
@@ -96,5 +96,5 @@ settles_found old new name k (Some t) sound is settles = by (running_numbered k 
         one = tenant_settles old.journal k settles.0 t r this.0 found (subst (λ (n : List ℕ). MaySettle (view (take r.opened_at old.journal) n) r.query r.settled settles.0) (sym this.1) settles.1)
 
 -- where one search may settle, the hall settles
-pub driving_settles : (old new : HallState) (name : List ℕ) (k : ℕ) → IsSound old → SettlesAt old name k (search_at old name k) new → Settles old new
+pub driving_settles : (old new : HallState) (name : List ℕ) (k : ℕ) → IsSoundHall old → SettlesAt old name k (search_at old name k) new → Settles old new
 driving_settles old new name k sound settles = settles_found old new name k (tenant_named name old.tenants) sound refl settles

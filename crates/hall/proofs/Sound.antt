@@ -13,7 +13,7 @@ use Rattle.hall.specs.declared.replies.Reply.{Reply}
 use Rattle.hall.specs.declared.replies.Reply.TheVariants.{Counted, Opened, Closed}
 use Rattle.hall.specs.Truth.{Nothing, MaySettle}
 use Rattle.hall.specs.Account.{Account, unless_refused, seek_refusal}
-use Rattle.hall.specs.State.{Running, Tenant, HallState, tenant_named, account, account_of, at_name, AreDistinct, AreNumbered, IsSound, IsSoundSearch, IsSoundTenant, RunningGoesOn, TenantGoesOn, Settles}
+use Rattle.hall.specs.State.{Running, Tenant, HallState, tenant_named, account, account_of, at_name, AreDistinct, AreNumbered, IsSoundHall, IsSoundSearch, IsSoundTenant, RunningGoesOn, TenantGoesOn, Settles}
 use Rattle.hall.specs.Run.{entered, opening, opened, ending, closed, MayReplyTo}
 use Rattle.hall.specs.Laws.{ServingKeepsSoundness, DrivingKeepsSoundness, DrivingIsServing}
 use Rattle.hall.proofs.Elements.{all_changed, all_weaker, all_filtered, all_pushed, all_over, find-map, find_both, Both}
@@ -43,7 +43,7 @@ search_kept journal more name r sound = record {
   settled = subst (λ (j : List Entry). MaySettle (view j name) r.query Nothing r.settled) (sym (take-append-le r.opened_at journal more sound.opened)) sound.settled;
 }
 
-entered_sound : (h : HallState) (name : List ℕ) (change : Change) (told : Reply) → IsSound h → IsSound (entered h name change told)
+entered_sound : (h : HallState) (name : List ℕ) (change : Change) (told : Reply) → IsSoundHall h → IsSoundHall (entered h name change told)
 entered_sound h name change (Counted n) sound = record {
   names = sound.names;
   tenants = all_weaker (IsSoundTenant h.journal) (IsSoundTenant (h.journal ++ record { tenant = name; change = change } ∷ [])) (λ t s. record {
@@ -70,8 +70,8 @@ opening_sound journal query n t sound is = record {
       (record { opened = omega arith; settled = inl refl });
 }
 
-opened_sound : (h : HallState) (name : List ℕ) (query : Query) (told : Reply) → IsSound h →
-    ((n : ℕ) (t : Tenant) → told ≡ Opened n → tenant_named name h.tenants ≡ Some t → n ≡ t.opens + 1) → IsSound (opened h name query told)
+opened_sound : (h : HallState) (name : List ℕ) (query : Query) (told : Reply) → IsSoundHall h →
+    ((n : ℕ) (t : Tenant) → told ≡ Opened n → tenant_named name h.tenants ≡ Some t → n ≡ t.opens + 1) → IsSoundHall (opened h name query told)
 opened_sound h name query (Opened n) sound counted = record {
   names = distinct_kept (at_name name (opening h.journal query n)) (name_stays name (opening h.journal query n) (λ t. refl)) h.tenants sound.names;
   tenants = all_changed (IsSoundTenant h.journal) (λ t. is_same t.name name) (opening h.journal query n) h.tenants (once_named name h.tenants sound.names) sound.tenants
@@ -93,7 +93,7 @@ ending_sound journal k t sound = record {
   searches = all_filtered (IsSoundSearch journal t.name) (λ r. not (r.number == k)) t.searches sound.searches;
 }
 
-closed_sound : (h : HallState) (name : List ℕ) (k : ℕ) (told : Reply) → IsSound h → IsSound (closed h name k told)
+closed_sound : (h : HallState) (name : List ℕ) (k : ℕ) (told : Reply) → IsSoundHall h → IsSoundHall (closed h name k told)
 closed_sound h name k Closed sound = record {
   names = distinct_kept (at_name name (ending k)) (name_stays name (ending k) (λ t. refl)) h.tenants sound.names;
   tenants = all_changed (IsSoundTenant h.journal) (λ t. is_same t.name name) (ending k) h.tenants (once_named name h.tenants sound.names) sound.tenants
@@ -117,13 +117,13 @@ told_next h name query told (Some a) is (inl e) n t said found =
 told_next h name query told (Some a) is (inr e) n t said found = cc (e.0)
 
 pub served_sound : ServingKeepsSoundness
-served_sound old new name (request.Alter change) told sound served = subst IsSound (sym served.after) (entered_sound old name change told sound)
+served_sound old new name (request.Alter change) told sound served = subst IsSoundHall (sym served.after) (entered_sound old name change told sound)
 served_sound old new name (request.Seek query) told sound served =
-    subst IsSound (sym served.after) (opened_sound old name query told sound (told_next old name query told (account_of old name) refl served.may_reply))
-served_sound old new name (request.Poll k) told sound served = subst IsSound (sym served.after) sound
-served_sound old new name (request.Close k) told sound served = subst IsSound (sym served.after) (closed_sound old name k told sound)
-served_sound old new name request.Vault told sound served = subst IsSound (sym served.after) sound
-served_sound old new name request.Sees told sound served = subst IsSound (sym served.after) sound
+    subst IsSoundHall (sym served.after) (opened_sound old name query told sound (told_next old name query told (account_of old name) refl served.may_reply))
+served_sound old new name (request.Poll k) told sound served = subst IsSoundHall (sym served.after) sound
+served_sound old new name (request.Close k) told sound served = subst IsSoundHall (sym served.after) (closed_sound old name k told sound)
+served_sound old new name request.Vault told sound served = subst IsSoundHall (sym served.after) sound
+served_sound old new name request.Sees told sound served = subst IsSoundHall (sym served.after) sound
 
 -- a search that goes on is the old one, but for what it has come to
 same_running : (journal : List Entry) (name : List ℕ) (r s : Running) → RunningGoesOn journal name r s → s ≡ record r { settled = s.settled }
@@ -181,9 +181,9 @@ distinct_goes_on journal (t ∷ ts) (u ∷ us) zip distinct = (
 pub same_hall : (old new : HallState) → Settles old new → new ≡ record old { tenants = new.tenants }
 same_hall old new settles = λ i. record { journal = settles.journal i; tenants = new.tenants }
 
-pub settles_sound : (old new : HallState) → IsSound old → Settles old new → IsSound new
+pub settles_sound : (old new : HallState) → IsSoundHall old → Settles old new → IsSoundHall new
 settles_sound old new sound settles =
-    subst IsSound (sym (same_hall old new settles)) record {
+    subst IsSoundHall (sym (same_hall old new settles)) record {
       names = distinct_goes_on old.journal old.tenants new.tenants settles.tenants sound.names;
       tenants = all_over (TenantGoesOn old.journal) (IsSoundTenant old.journal) (IsSoundTenant old.journal) (tenant_goes_on old.journal) old.tenants new.tenants settles.tenants sound.tenants;
     }

@@ -8,7 +8,7 @@ use Rattle.hall.specs.declared.requests.Request.{Request}
 use Rattle.hall.specs.declared.requests.Request.TheVariants as request
 use Rattle.hall.specs.declared.replies.Reply.{Reply}
 use Rattle.hall.specs.declared.replies.Reply.TheVariants.{Opened, Refused}
-use Rattle.hall.specs.Account.{OpenSearch, Account, numbered, polled, closed, unless_refused, seek_refusal, reply_to, MayReply, account_after, Allowed, Moment, AllowedRun}
+use Rattle.hall.specs.Account.{OpenSearch, Account, numbered, polled, told_closed, unless_refused, seek_refusal, reply_to, MayReply, account_after, Allowed, Moment, AllowedRun}
 use Rattle.hall.specs.Agree.{Agree, same, HasMemory, TwoWorlds}
 use Rattle.hall.proofs.Elements.{Both, find_both}
 use Rattle.hall.proofs.Alike.{Alike, AreAlike, answers_agree, alike_itself, alike_waits, same_account, altered_alike, sought_alike, ended_alike}
@@ -22,7 +22,7 @@ polls_agree None (Some t) both = absurd both
 polls_agree (Some s) None both = absurd both
 polls_agree (Some s) (Some t) both = answers_agree s.view s.query s.settled t.settled both.settled
 
-closes_agree : (o p : Option OpenSearch) → Both Alike o p → closed o ≡ closed p
+closes_agree : (o p : Option OpenSearch) → Both Alike o p → told_closed o ≡ told_closed p
 closes_agree None None both = refl
 closes_agree None (Some t) both = absurd both
 closes_agree (Some s) None both = absurd both

@@ -1,5 +1,6 @@
 -- What one tenant may be told: by its own account and view alone. No other tenant stands in these definitions.
-use Rattle.std.specs.Prelude.{◌≡◌, ◌⊎◌, ℕ, ◌+◌, ◌==◌, nat_le, not, List, [], ◌∷◌, ◌++◌, length, map, filter, find, Option, None, Some, if◌then◌else◌, option_map}
+use Rattle.std.specs.Prelude.{◌≡◌, ◌⊎◌, ℕ, ◌+◌, ◌==◌, nat_le, not, List, [], ◌∷◌, ◌++◌, length, map, filter, find, Option, None}
+use Rattle.std.specs.Prelude.{Some, if◌then◌else◌, option_map}
 use Rattle.std.specs.List.{AllZip}
 use Rattle.credential_text.specs.declared.credentials.Credential.{Credential}
 use Rattle.quotas.specs.Quota.{Quota}
@@ -78,9 +79,9 @@ abbrev pub polled : Option OpenSearch → Reply
 polled None = reply.Refused fault.NoSuchSearch
 polled (Some s) = reply.Answered (answer_of s.settled)
 
-abbrev pub closed : Option OpenSearch → Reply
-closed None = reply.Refused fault.NoSuchSearch
-closed (Some s) = reply.Closed
+abbrev pub told_closed : Option OpenSearch → Reply
+told_closed None = reply.Refused fault.NoSuchSearch
+told_closed (Some s) = reply.Closed
 
 -- the credentials that a vault of a view lists
 abbrev pub rows_in : Option Vault → List Credential
@@ -93,10 +94,12 @@ rows_of owner view = rows_in (find (λ v. is_same v.owner owner) view)
 
 -- the reply that the account and the view give
 abbrev pub reply_to : List ℕ → List Vault → Account → Request → Reply
-reply_to tenant view a (request.Alter change) = unless_refused (alter_refusal a.limits a.entries tenant change) (reply.Counted (length a.entries + 1))
-reply_to tenant view a (request.Seek query) = unless_refused (seek_refusal a.limits (length a.searches) a.opens) (reply.Opened (a.opens + 1))
+reply_to tenant view a (request.Alter change) =
+    unless_refused (alter_refusal a.limits a.entries tenant change) (reply.Counted (length a.entries + 1))
+reply_to tenant view a (request.Seek query) =
+    unless_refused (seek_refusal a.limits (length a.searches) a.opens) (reply.Opened (a.opens + 1))
 reply_to tenant view a (request.Poll k) = polled (numbered k a.searches)
-reply_to tenant view a (request.Close k) = closed (numbered k a.searches)
+reply_to tenant view a (request.Close k) = told_closed (numbered k a.searches)
 reply_to tenant view a request.Vault = reply.Vault (rows_of tenant view)
 reply_to tenant view a request.Sees = reply.Sees (map (λ v. v.owner) view)
 
@@ -120,7 +123,8 @@ altered tenant a change _ = a
 
 -- an opened search has come to nothing yet
 abbrev pub sought : List Vault → Account → Query → Reply → Account
-sought view a query (reply.Opened n) = record a { opens = n; searches = a.searches ++ record { number = n; query = query; view = view; settled = Nothing } ∷ [] }
+sought view a query (reply.Opened n) =
+    record a { opens = n; searches = a.searches ++ record { number = n; query = query; view = view; settled = Nothing } ∷ [] }
 sought view a query _ = a
 
 -- an ended search is gone

@@ -7,7 +7,7 @@ use Rattle.hall.specs.declared.replies.Answer.TheVariants.{Working}
 use Rattle.hall.specs.declared.replies.Reply.{Reply}
 use Rattle.hall.specs.declared.replies.Reply.TheVariants.{Answered, Refused}
 use Rattle.hall.specs.Account.{Account, Moment, AllowedRun}
-use Rattle.hall.specs.State.{HallState, IsSound, account_of}
+use Rattle.hall.specs.State.{HallState, IsSoundHall, account_of}
 use Rattle.hall.specs.Run.{Call, Run, trace, replies_to}
 
 -- two replies to one request are equal, or both tell of a search and one of them says that it still works
@@ -32,7 +32,7 @@ TwoWorlds =
 abbrev pub TwoHalls : Type 0
 TwoHalls =
     (tenant : List ℕ) (start : Account) (one other one_end other_end : HallState) (calls more : List Call) (first second : List Reply)
-    → IsSound one → IsSound other
+    → IsSoundHall one → IsSoundHall other
     → account_of one tenant ≡ Some start → account_of other tenant ≡ Some start
     → trace tenant one.journal calls first ≡ trace tenant other.journal more second
     → Run one calls first one_end → Run other more second other_end

@@ -8,7 +8,7 @@ use Rattle.hall.specs.declared.requests.Request.TheVariants.{Poll}
 use Rattle.hall.specs.declared.replies.Answer.TheVariants.{Working}
 use Rattle.hall.specs.declared.replies.Reply.{Reply}
 use Rattle.hall.specs.declared.replies.Reply.TheVariants.{Answered, Refused}
-use Rattle.hall.specs.State.{HallState, IsSound, AreDistinct}
+use Rattle.hall.specs.State.{HallState, IsSoundHall, AreDistinct}
 use Rattle.hall.specs.Run.{Call, IsServed, IsDriven, RefusedLast, IsAllowedToEach}
 use Rattle.hall.specs.Calls.{new_hall}
 
@@ -88,7 +88,7 @@ AreTimely before (told ∷ more) = IsTimely before told.tenant told.deed told.re
 
 -- to each tenant its replies are allowed over its own trace, a wait counting as a poll
 abbrev pub DeedsAreAllowed : Type 0
-DeedsAreAllowed = (old new : HallState) (deeds : List Told) → IsSound old → AreDone old deeds new → AreAllowed old deeds new
+DeedsAreAllowed = (old new : HallState) (deeds : List Told) → IsSoundHall old → AreDone old deeds new → AreAllowed old deeds new
 
 -- from a new hall on, deeds are timely
 abbrev pub DeedsAreTimely : Type 0

@@ -1,7 +1,8 @@
 -- The number of each fault, and the faults of the lower layers.
 use Rattle.std.specs.Prelude.{ℕ}
 use Rattle.hall.specs.declared.faults.Fault.{Fault}
-use Rattle.hall.specs.declared.faults.Fault.TheVariants.{NotIssuer, AlreadyHeld, NotHeld, AlreadyGranted, NotGranted, GrantSelf, Creds, Grants, Searches, Changes, Opens, NoSuchSearch, NoTenant, Memory}
+use Rattle.hall.specs.declared.faults.Fault.TheVariants.{NotIssuer, AlreadyHeld, NotHeld, AlreadyGranted, NotGranted, GrantSelf}
+use Rattle.hall.specs.declared.faults.Fault.TheVariants.{Creds, Grants, Searches, Changes, Opens, NoSuchSearch, NoTenant, Memory}
 use Rattle.vaults.specs.declared.faults.VaultFault.{VaultFault}
 use Rattle.vaults.specs.declared.faults.VaultFault.TheVariants as vault
 use Rattle.quotas.specs.declared.faults.QuotaFault.{QuotaFault}

@@ -25,7 +25,10 @@ entered h name change _ = h
 -- the tenant with one more search, of this number and opened now
 abbrev pub opening : List Entry → Query → ℕ → Tenant → Tenant
 opening journal query n t =
-    record t { opens = n; searches = t.searches ++ record { number = n; opened_at = length journal; query = query; settled = Nothing } ∷ [] }
+    record t {
+      opens = n;
+      searches = t.searches ++ record { number = n; opened_at = length journal; query = query; settled = Nothing } ∷ [];
+    }
 
 abbrev pub opened : HallState → List ℕ → Query → Reply → HallState
 opened h name query (Opened n) = with_tenant h name (opening h.journal query n)
@@ -109,7 +112,8 @@ moments_of tenant journal call =
 abbrev pub trace : List ℕ → List Entry → List Call → List Reply → List Moment
 trace tenant journal [] replies = []
 trace tenant journal (call ∷ calls) [] = []
-trace tenant journal (call ∷ calls) (told ∷ replies) = moments_of tenant journal call ++ trace tenant (journal_after journal call told) calls replies
+trace tenant journal (call ∷ calls) (told ∷ replies) =
+    moments_of tenant journal call ++ trace tenant (journal_after journal call told) calls replies
 
 abbrev pub reply_of : List ℕ → Call → Reply → List Reply
 reply_of tenant call told = if is_same call.tenant tenant then told ∷ [] else []
@@ -128,4 +132,6 @@ IsAllowedRun tenant (Some a) moments replies end = (b : Account) × (end ≡ Som
 
 abbrev pub IsAllowedToEach : HallState → List Call → List Reply → HallState → Type 0
 IsAllowedToEach old calls replies new =
-    (tenant : List ℕ) → IsAllowedRun tenant (account_of old tenant) (trace tenant old.journal calls replies) (replies_to tenant calls replies) (account_of new tenant)
+    (tenant : List ℕ)
+    → IsAllowedRun tenant (account_of old tenant) (trace tenant old.journal calls replies) (replies_to tenant calls replies)
+    (account_of new tenant)

@@ -1,5 +1,6 @@
 -- A whole hall: one journal, and what each tenant has opened.
-use Rattle.std.specs.Prelude.{◌≡◌, ℕ, Bool, is_some, ◌≤◌, ◌<◌, ◌==◌, List, [], ◌∷◌, length, map, find, take, Option, None, Some, if◌then◌else◌, option_map}
+use Rattle.std.specs.Prelude.{◌≡◌, ℕ, Bool, is_some, ◌≤◌, ◌<◌, ◌==◌, List, [], ◌∷◌, length, map, find, take, Option, None, Some}
+use Rattle.std.specs.Prelude.{if◌then◌else◌, option_map}
 use Rattle.std.specs.List.{AllByRecursion, AllZip}
 use Rattle.quotas.specs.Quota.{Quota}
 use Rattle.vaults.specs.declared.changes.Entry.{Entry}
@@ -38,7 +39,13 @@ abbrev pub open_search : List Entry → List ℕ → Running → OpenSearch
 open_search journal name r = record { number = r.number; query = r.query; view = view (take r.opened_at journal) name; settled = r.settled }
 
 abbrev pub account : List Entry → Tenant → Account
-account journal t = record { limits = t.limits; entries = entries_of t.name journal; opens = t.opens; searches = map (open_search journal t.name) t.searches }
+account journal t =
+    record {
+      limits = t.limits;
+      entries = entries_of t.name journal;
+      opens = t.opens;
+      searches = map (open_search journal t.name) t.searches;
+    }
 
 -- the account of a tenant, where the name stands in the roster
 abbrev pub account_of : HallState → List ℕ → Option Account
@@ -90,7 +97,7 @@ pub record IsSoundTenant (journal : List Entry) (t : Tenant) : Type 0 where
   pub searches : AllByRecursion (IsSoundSearch journal t.name) t.searches
 
 -- what holds of every hall
-pub record IsSound (h : HallState) : Type 0 where
+pub record IsSoundHall (h : HallState) : Type 0 where
   pub names : AreDistinct h.tenants
   pub tenants : AllByRecursion (IsSoundTenant h.journal) h.tenants
 

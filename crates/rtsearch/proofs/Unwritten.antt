@@ -1,8 +1,8 @@
 -- What is said of a script that never began.
 use Rattle.std.proofs.Common.{ℕ, List, Option, Some, None, Err, IfSome}
 use Rattle.std.specs.Io.KnownBytes.{Appends}
-use Rattle.service.specs.Commands.{commands_of}
-use Rattle.service.specs.Outcome.{ScriptWrote}
+use Rattle.service.specs.Line.{commands_of}
+use Rattle.service.specs.Written.{ScriptWrote}
 use Rattle.service.specs.declared.script_faults.ScriptFault.{ScriptFault}
 use Rattle.service.specs.declared.script_faults.ScriptFault.TheVariants.{Memory}
 use Rattle.service.proofs.ScriptLemmas.{Appends-nothing}

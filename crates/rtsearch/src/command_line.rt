@@ -6,6 +6,9 @@ use clap::error::ErrorKind;
 use clap::{ArgMatches, Command, Error};
 use std::alloc::Global;
 
+/// What `--version` shows.
+const VERSION: &str = "0.1.0";
+
 /// Reads the words of the command line, the program's name first. The one subcommand is `script`.
 pub fn read_words<'a>(alloc: Global, words: &'a [&'a str]) -> Result<ArgMatches<'a>, Error>
     ensures script { IfErr result (λ e. AsksForScript (map (λ w. w.now) words.now) → kind_of e ≡ ErrorKind.OutOfMemory) }
@@ -15,6 +18,7 @@ pub fn read_words<'a>(alloc: Global, words: &'a [&'a str]) -> Result<ArgMatches<
     );
     let program = Command::new(alloc, "rtsearch")
         .about("Answers membership questions over RT0 credentials")
+        .version(VERSION)
         .subcommand_required(true)
         .subcommand(script)?;
     program.try_get_matches_from(words)

@@ -2,10 +2,12 @@
 #![tactic(auto)]
 
 mod command_line;
+mod ending;
 mod running;
 #[cfg(test)]
 mod tests;
 
+use crate::ending::end_with;
 use crate::running::run_words;
 use std::process::ExitCode;
 use std::{env, io};
@@ -20,18 +22,14 @@ fn run(rt: &HostRuntime) -> io::Result<u8> {
     for word in &words {
         texts.push(word.as_str())?;
     }
-    Ok(run_words(rt.alloc(), texts.as_slice(), rt.stdin(), &mut rt.stdout()))
+    Ok(run_words(
+        rt.alloc(),
+        texts.as_slice(),
+        &mut rt.stdin(),
+        &mut rt.stdout(),
+    ))
 }
 
 fn main(rt: HostRuntime) -> ExitCode {
-    match run(&rt) {
-        Ok(status) => ExitCode::from(status),
-        Err(error) => {
-            if error.kind() == io::ErrorKind::OutOfMemory {
-                ExitCode::from(1)
-            } else {
-                ExitCode::from(2)
-            }
-        }
-    }
+    end_with(run(&rt), &mut rt.stdout())
 }

@@ -1,7 +1,7 @@
 ghost use Rattle.std.specs.Prelude.{◌≡◌, ◌≤◌, ℕ, List, Ok, Err, IfSome, map};
 ghost use Rattle.std.specs.Io.KnownBytes.{Appends};
-ghost use Rattle.service.specs.Commands.{commands_of};
-ghost use Rattle.service.specs.Outcome.{ScriptWrote};
+ghost use Rattle.service.specs.Line.{commands_of};
+ghost use Rattle.service.specs.Written.{ScriptWrote};
 ghost use Rattle.service.specs.declared.script_faults.ScriptFault.{ScriptFault};
 ghost use Rattle.rtsearch.specs.CommandLine.{AsksForScript};
 
@@ -13,16 +13,21 @@ use std::io::{Read, Write};
 
 /// Does what the words of the command line ask for, the program's name first, and answers the status of the program:
 /// 0 where all input was read and answered, 1 on a fault of the roster, of reading, of writing or of memory, 2 where
-/// the command line is refused, whose text goes to the writer.
+/// the command line is refused, whose text goes to the writer, and nothing is read. `--help` and `--version` are among
+/// those.
 pub fn run_words<R: Read + Drop, W: Write>(
     alloc: Global,
     words: &[&str],
-    reader: R,
+    reader: &mut R,
     writer: &mut W,
 ) -> u8
-    ensures ran { result ≡ 0 → IfSome (R.remaining reader) (λ input. ScriptWrote (commands_of input) (Ok tt) (Appends (W.contents writer.old) (W.contents writer.new))) }
-    ensures failed { result ≡ 1 → IfSome (R.remaining reader) (λ input. (fault : ScriptFault) × ScriptWrote (commands_of input) (Err fault) (Appends (W.contents writer.old) (W.contents writer.new))) }
+    ensures ran { result ≡ 0 → IfSome (R.remaining reader.old)
+        (λ input. ScriptWrote (commands_of input) (Ok tt) (Appends (W.contents writer.old) (W.contents writer.new))) }
+    ensures failed { result ≡ 1 → IfSome (R.remaining reader.old)
+        (λ input. (fault : ScriptFault) × ScriptWrote (commands_of input) (Err fault)
+        (Appends (W.contents writer.old) (W.contents writer.new))) }
     ensures script { AsksForScript (map (λ w. w.now) words.now) → result ≤ 1 }
+    ensures unread { result ≡ 2 → R.remaining reader.new ≡ R.remaining reader.old }
     ensures status { result ≤ 2 }
 {
     match read_words(alloc, words) {

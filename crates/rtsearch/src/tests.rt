@@ -1,18 +1,20 @@
+use crate::ending::{NO_TEXT, end_with};
 use crate::running::run_words;
+use std::io;
+use std::process::ExitCode;
 use std::test::Fail;
 
-/// The status and the output of the program on these words and this input.
-fn status_of(rt: &HostRuntime, words: &[&str], input: &str, out: &mut Vec<u8>) -> u8 {
-    run_words(rt.alloc(), words, input.as_bytes(), out)
+/// The status and the output of the program on these words, and what it leaves of the input.
+fn status_of(rt: &HostRuntime, words: &[&str], input: &mut &[u8], out: &mut Vec<u8>) -> u8 {
+    run_words(rt.alloc(), words, input, out)
 }
 
 #[test]
 fn a_whole_script_ends_with_status_0(rt: HostRuntime) -> Result<(), Fail> {
     let mut out = Vec::new(rt.alloc());
     let words = ["rtsearch", "script"];
-    let input = "tenant A a\nbegin\nA: put A.r <- D\nA: ask A.r D\nA: wait 1\n";
-    let status = status_of(&rt, words.as_slice(), input, &mut out);
-    assert_eq!(rt; status, 0);
+    let mut input: &[u8] = b"tenant A a\nbegin\nA: put A.r <- D\nA: ask A.r D\nA: wait 1\n";
+    assert_eq!(rt; status_of(&rt, &words, &mut input, &mut out), 0);
     assert_eq!(rt;
         out.as_slice(),
         b"A: ok 1\nA: search 1\nA: yes\n".as_slice()
@@ -22,31 +24,43 @@ fn a_whole_script_ends_with_status_0(rt: HostRuntime) -> Result<(), Fail> {
 
 #[test]
 fn a_faulty_roster_ends_with_status_1(rt: HostRuntime) -> Result<(), Fail> {
+    let mut out = Vec::new(rt.alloc());
+    let mut input: &[u8] = b"tenant A a\nA: wait 1\n";
     let words = ["rtsearch", "script"];
-    for input in ["", "begin\n", "tenant A a\n", "tenant A a\nA: wait 1\n"] {
-        let mut out = Vec::new(rt.alloc());
-        let status = status_of(&rt, words.as_slice(), input, &mut out);
-        assert_eq!(rt; status, 1, "{input}");
-        assert_eq!(rt;
-            out.as_slice(),
-            b"?: error 63 roster\n".as_slice(),
-            "{input}"
-        );
-    }
+    assert_eq!(rt; status_of(&rt, &words, &mut input, &mut out), 1);
+    assert_eq!(rt; out.as_slice(), b"?: error 63 roster\n".as_slice());
     Ok(())
 }
 
-#[test]
-fn a_refused_command_line_ends_with_status_2(rt: HostRuntime) -> Result<(), Fail> {
-    let input = "tenant A a\nbegin\n";
+/// Whether a command line is refused: with status 2 and a text that begins so, which is no reply, and all of the input
+/// left unread.
+fn is_refused(rt: &HostRuntime, words: &[&str], front: &str) -> bool {
+    let script: &[u8] = b"tenant A a\nbegin\nA: vault\n";
+    let mut input = script;
     let mut out = Vec::new(rt.alloc());
-    let alone = ["rtsearch"];
-    assert_eq!(rt; status_of(&rt, alone.as_slice(), input, &mut out), 2);
-    let help = ["rtsearch", "--help"];
-    assert_eq!(rt; status_of(&rt, help.as_slice(), input, &mut out), 2);
-    let unknown = ["rtsearch", "serv"];
-    assert_eq!(rt; status_of(&rt, unknown.as_slice(), input, &mut out), 2);
-    let more = ["rtsearch", "script", "now"];
-    assert_eq!(rt; status_of(&rt, more.as_slice(), input, &mut out), 2);
+    let status = status_of(rt, words, &mut input, &mut out);
+    status == 2 && input == script && out.starts_with(front.as_bytes())
+}
+
+#[test]
+fn a_refused_command_line_ends_with_status_2(rt: HostRuntime) {
+    let help = "Answers membership questions over RT0 credentials\n";
+    assert!(rt; is_refused(&rt, &["rtsearch"], "error: "));
+    assert!(rt; is_refused(&rt, &["rtsearch", "--help"], help));
+    assert!(rt; is_refused(&rt, &["rtsearch", "--version"], "rtsearch 0.1.0\n"));
+    assert!(rt; is_refused(&rt, &["rtsearch", "serv"], "error: "));
+    assert!(rt; is_refused(&rt, &["rtsearch", "script", "now"], "error: "));
+}
+
+#[test]
+fn a_word_that_is_no_text_is_answered_by_a_line(rt: HostRuntime) -> Result<(), Fail> {
+    let mut out = Vec::new(rt.alloc());
+    assert!(rt; end_with(Ok(1), &mut out) == ExitCode::from(1));
+    let lacked = io::Error::from(io::ErrorKind::OutOfMemory);
+    assert!(rt; end_with(Err(lacked), &mut out) == ExitCode::from(1));
+    assert!(rt; out.is_empty());
+    let no_text = io::Error::from(io::ErrorKind::InvalidData);
+    assert!(rt; end_with(Err(no_text), &mut out) == ExitCode::from(2));
+    assert_eq!(rt; out.as_slice(), NO_TEXT.as_bytes());
     Ok(())
 }

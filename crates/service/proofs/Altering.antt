@@ -1,5 +1,6 @@
 -- Changes: the limits, then the journal.
-use Rattle.std.proofs.Common.{◌≡◌, ◌∙◌, ◌+◌, ℕ, Bool, true, false, cond, not, ◌&&◌, List, [], ◌∷◌, ◌++◌, length, ap, sym, refl, subst, Option, Some, None, option_map, unwrap_or, find}
+use Rattle.std.proofs.Common.{◌≡◌, ◌∙◌, ◌+◌, ℕ, Bool, true, false, cond, not, ◌&&◌, List, [], ◌∷◌, ◌++◌, length, ap, sym, refl, subst}
+use Rattle.std.proofs.Common.{Option, Some, None, option_map, unwrap_or, find}
 use Rattle.std.proofs.lemmas.List.{length-append}
 use Rattle.vaults.specs.declared.changes.Change.{Change}
 use Rattle.vaults.specs.declared.changes.Change.TheVariants.{Upload, Withdraw, Grant, Revoke}
@@ -19,7 +20,7 @@ use Rattle.hall.specs.Fault.{vault_fault}
 use Rattle.hall.specs.Account.{Account, first_of_two, limit_refusal, alter_refusal, unless_refused, reply_to}
 use Rattle.hall.specs.State.{account}
 use Rattle.hall.specs.Run.{IsServed, RefusedLast}
-use Rattle.service.specs.Seats.{SeatState, tenant_of, hall_of}
+use Rattle.service.specs.Seats.{SeatState, tenant_at, hall_of}
 use Rattle.service.proofs.SeatsFound.{is_called, seat_named, account_found}
 use Rattle.service.proofs.Replies.{told_served, refused_served, memory_last}
 
@@ -59,7 +60,7 @@ module _ (journal : List Entry) (seats : List SeatState) (who : List ℕ) (chang
   told = Counted (length (entries_of who journal) + 1)
 
   abbrev known_account : Account
-  known_account = account journal (tenant_of s)
+  known_account = account journal (tenant_at s)
 
   reply_is : reply_to who (view journal who) known_account (request.Alter change) ≡ unless_refused (alter_refusal s.limits (entries_of who journal) who change) told
   reply_is =

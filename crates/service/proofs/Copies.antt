@@ -7,7 +7,7 @@ use Rattle.vaults.specs.Journal.{view, credentials}
 use Rattle.hall.specs.declared.queries.Query.{Query}
 use Rattle.hall.specs.State.{IsSoundSearch, IsSoundTenant}
 use Rattle.hall.proofs.Elements.{all_pushed, all_filtered}
-use Rattle.service.specs.Seats.{Copied, SeatState, tenant_of, IsCopy, HasCopies, new_search, seat_opening, seat_ending}
+use Rattle.service.specs.Seats.{Copied, SeatState, tenant_at, IsCopy, HasCopies, new_search, seat_opening, seat_ending}
 use Rattle.service.proofs.Finding.{all_set}
 
 searches_entered : (journal more : List Entry) (name : List ℕ) (searches : List Copied) → AllByRecursion (IsSoundSearch journal name) (map (λ k. k.running) searches) →
@@ -19,7 +19,7 @@ searches_entered journal more name (k ∷ searches) sound copies = (
 )
 
 -- when the journal grows
-pub copies_entered : (journal more : List Entry) (seats : List SeatState) → AllByRecursion (IsSoundTenant journal) (map tenant_of seats) →
+pub copies_entered : (journal more : List Entry) (seats : List SeatState) → AllByRecursion (IsSoundTenant journal) (map tenant_at seats) →
     AllByRecursion (HasCopies journal) seats → AllByRecursion (HasCopies (journal ++ more)) seats
 copies_entered journal more [] sound copies = tt
 copies_entered journal more (s ∷ seats) sound copies = (

@@ -1,7 +1,6 @@
 pub mod LineLemmas
 pub mod LinesLemmas
 pub mod NumberLemmas
-pub mod PositionLemmas
 pub mod TakenLemmas
 pub mod LimitLemmas
 pub mod RosterLemmas
@@ -9,8 +8,6 @@ pub mod TenantLemmas
 pub mod RosterSteps
 pub mod ReplyLemmas
 pub mod WordsLemmas
-pub mod Worked
-pub mod WorkedTexts
 pub mod WrittenLemmas
 pub mod Finding
 pub mod SeatLemmas
@@ -24,9 +21,8 @@ pub mod Ending
 pub mod Waiting
 pub mod Viewing
 pub mod Making
-pub mod EntryLemmas
+pub mod OutcomeLemmas
 pub mod PrintedLemmas
 pub mod SaidLemmas
 pub mod TranscriptLemmas
 pub mod ScriptLemmas
-pub mod WorkedEntries

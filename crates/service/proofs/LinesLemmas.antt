@@ -6,9 +6,7 @@ use Rattle.std.specs.Io.KnownBytes.{Consumes}
 use Rattle.service.specs.declared.lines.NextLine.{NextLine}
 use Rattle.service.specs.declared.lines.NextLine.TheVariants.{Text, Long, NotAscii, End, Fault}
 use Rattle.service.specs.Line.{Line, line_of, lines_of}
-use Rattle.service.specs.Lines.{Shows, Gives}
-use Rattle.service.specs.Source.{Source, known, unknown, source_of}
-use Rattle.service.specs.Taken.{HasNoNewline}
+use Rattle.service.specs.LineReader.{Shows, Gives, Source, known, unknown, source_of, HasNoNewline}
 use Rattle.service.proofs.LineLemmas.{lines-newline, lines-last}
 
 -- an answer that shows the first line

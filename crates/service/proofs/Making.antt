@@ -5,12 +5,12 @@ use Rattle.quotas.specs.Quota.{Quota}
 use Rattle.vaults.specs.declared.changes.Entry.{Entry}
 use Rattle.hall.specs.State.{Tenant, AreDistinct, IsSoundTenant}
 use Rattle.hall.specs.Calls.{new_tenant, new_hall}
-use Rattle.service.specs.Seats.{SeatState, tenant_of, hall_of, HasCopies, IsRegistry, new_seat}
+use Rattle.service.specs.Seats.{SeatState, tenant_at, hall_of, HasCopies, IsRegistry, new_seat}
 
 abbrev pub seats_for : List (List ℕ × Quota) → List SeatState
 seats_for roster = map (λ row. new_seat row.0 row.1) roster
 
-tenants_for : (roster : List (List ℕ × Quota)) → map tenant_of (seats_for roster) ≡ map new_tenant roster
+tenants_for : (roster : List (List ℕ × Quota)) → map tenant_at (seats_for roster) ≡ map new_tenant roster
 tenants_for [] = refl
 tenants_for (row ∷ roster) = ap (λ (ts : List Tenant). new_tenant row ∷ ts) (tenants_for roster)
 
@@ -20,7 +20,7 @@ hall_for journal seats roster empty made =
     ∙ ap (hall_of []) made
     ∙ ap (λ (ts : List Tenant). record { journal = []; tenants = ts }) (tenants_for roster)
 
-sound_for : (journal : List Entry) (roster : List (List ℕ × Quota)) → AllByRecursion (IsSoundTenant journal) (map tenant_of (seats_for roster))
+sound_for : (journal : List Entry) (roster : List (List ℕ × Quota)) → AllByRecursion (IsSoundTenant journal) (map tenant_at (seats_for roster))
 sound_for journal [] = tt
 sound_for journal (row ∷ roster) = (record { numbers = tt; searches = tt }, sound_for journal roster)
 

@@ -8,7 +8,8 @@ use Rattle.hall.specs.declared.requests.Request.{Request}
 use Rattle.hall.specs.declared.requests.Request.TheVariants as request
 use Rattle.hall.specs.declared.replies.Reply.{Reply}
 use Rattle.hall.specs.declared.replies.Reply.TheVariants as reply
-use Rattle.hall.specs.Account.{Account, OpenSearch, MayLackMemory, reply_to, unless_refused, alter_refusal, seek_refusal, numbered, polled, closed}
+use Rattle.hall.specs.Account.{Account, OpenSearch, MayLackMemory, reply_to, unless_refused, alter_refusal, seek_refusal, numbered, polled}
+use Rattle.hall.specs.Account.{told_closed}
 use Rattle.hall.specs.State.{HallState, account_of}
 use Rattle.hall.specs.Run.{IsServed, MayReplyTo, IsDue, RefusedLast}
 use Rattle.hall.specs.Deeds.{Deed, asks, waits, CarriesOut, IsDone, request_of}
@@ -43,7 +44,7 @@ polled-short : (o : Option OpenSearch) → is_long (polled o) ≡ false
 polled-short None = refl
 polled-short (Some s) = refl
 
-closed-short : (o : Option OpenSearch) → is_long (closed o) ≡ false
+closed-short : (o : Option OpenSearch) → is_long (told_closed o) ≡ false
 closed-short None = refl
 closed-short (Some s) = refl
 

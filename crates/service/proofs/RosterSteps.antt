@@ -4,13 +4,12 @@ use Rattle.std.specs.Prelude.{⊤}
 use Rattle.service.specs.declared.script_faults.ScriptFault.{ScriptFault}
 use Rattle.service.specs.declared.script_faults.ScriptFault.TheVariants as fault
 use Rattle.service.specs.declared.roster_lines.RosterLine.TheVariants.{Blank, Tenant, Begin}
-use Rattle.service.specs.Line.{Line}
-use Rattle.service.specs.Source.{Source, known, unknown, failed}
-use Rattle.service.specs.Commands.{commands_of}
-use Rattle.service.specs.Taking.{IfKnown}
+use Rattle.service.specs.Line.{Line, commands_of}
+use Rattle.service.specs.LineReader.{Source, known, unknown, failed, IfKnown}
 use Rattle.service.specs.Roster.{Row, IsRoster, HasNoRoster}
 use Rattle.service.specs.RosterReading.{FindsLine, AddsRow, ReadsRoster}
-use Rattle.service.proofs.RosterLemmas.{LeavesLines, LeavesLines-all, LeavesLines-row, HasNoRoster-otherwise, HasNoRoster-empty, HasNoRoster-refused, HasRoster-read}
+use Rattle.service.proofs.RosterLemmas.{LeavesLines, LeavesLines-all, LeavesLines-row, HasNoRoster-otherwise, HasNoRoster-empty}
+use Rattle.service.proofs.RosterLemmas.{HasNoRoster-refused, HasRoster-read}
 
 -- the first of these lines are the rows, and the others are left
 abbrev pub SoFar : List Line → List Row → Source → Type 0

@@ -7,7 +7,7 @@ use Rattle.hall.specs.Deeds.{CarriesOut, request_of}
 use Rattle.service.specs.declared.commands.Command.{Command}
 use Rattle.service.specs.declared.refusals.Refusal.{Refusal}
 use Rattle.service.specs.Command.{Form, Reads}
-use Rattle.service.specs.Entry.{refused, served, deed_of}
+use Rattle.service.specs.Outcome.{refused, served, deed_of}
 use Rattle.service.specs.Reply.{refusal_line, IsFilled}
 use Rattle.service.specs.Turn.{Says}
 use Rattle.service.proofs.PrintedLemmas.{printed_done}
@@ -16,7 +16,7 @@ use Rattle.service.proofs.PrintedLemmas.{printed_done}
 pub Says-served : (old new : HallState) (who : List ℕ) (form : Form) (command : Command) (told : Reply) (bytes : List ℕ) → Reads form (Ok command) →
     CarriesOut old who (deed_of command) told new → RefusedLast old who (request_of (deed_of command)) told → IsFilled who told bytes → Says old who form bytes new
 Says-served old new who form command told bytes read carried last filled = record {
-  entry = served who command filled.told;
+  outcome = served who command filled.told;
   allowed = (refl, read);
   carried = (new, printed_done old new who (deed_of command) told filled.told carried last filled.printed, refl);
   text = sym filled.lines;
@@ -24,4 +24,4 @@ Says-served old new who form command told bytes read carried last filled = recor
 
 -- a command that its text refuses
 pub Says-refused : (old : HallState) (who : List ℕ) (form : Form) (why : Refusal) (bytes : List ℕ) → Reads form (Err why) → bytes ≡ refusal_line who why → Says old who form bytes old
-Says-refused old who form why bytes read line = record { entry = refused who why; allowed = (refl, read); carried = refl; text = sym line }
+Says-refused old who form why bytes read line = record { outcome = refused who why; allowed = (refl, read); carried = refl; text = sym line }

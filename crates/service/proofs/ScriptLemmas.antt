@@ -1,5 +1,6 @@
 -- Lemmas on what a script has done so far.
-use Rattle.std.proofs.Common.{◌≡◌, ℕ, List, [], ◌∷◌, ◌++◌, refl, sym, ap, ◌∙◌, subst, inl, inr, append_assoc, map, Option, Some, None, Result, Ok, Err}
+use Rattle.std.proofs.Common.{◌≡◌, ℕ, List, [], ◌∷◌, ◌++◌, refl, sym, ap, ◌∙◌, subst, inl, inr, append_assoc, map, Option, Some, None}
+use Rattle.std.proofs.Common.{Result, Ok, Err}
 use Rattle.std.specs.Prelude.{IfSome}
 use Rattle.std.specs.Io.KnownBytes.{Appends}
 use Rattle.std.proofs.lemmas.List.{append-nil}
@@ -8,19 +9,27 @@ use Rattle.hall.specs.Calls.{new_hall, IsNewHall}
 use Rattle.service.specs.declared.script_faults.ScriptFault.{ScriptFault}
 use Rattle.service.specs.declared.script_faults.ScriptFault.TheVariants.{Roster, Read, Write, Memory}
 use Rattle.service.specs.declared.scripts.Turn.TheVariants.{Blank, Replied, End}
-use Rattle.service.specs.Line.{Line}
-use Rattle.service.specs.Source.{Source, known, unknown, failed, source_of}
-use Rattle.service.specs.Commands.{commands_of}
-use Rattle.service.specs.Taking.{IfKnown}
-use Rattle.service.specs.Written.{WritesFront}
-use Rattle.service.specs.Entry.{entry_text}
+use Rattle.service.specs.Line.{Line, commands_of}
+use Rattle.service.specs.LineReader.{Source, known, unknown, failed, source_of, IfKnown}
+use Rattle.service.specs.Written.{WritesFront, Wrote, roster_refusal, ScriptWrote}
+use Rattle.service.specs.Outcome.{Outcome, outcome_text}
 use Rattle.service.specs.Transcript.{AreAnswered, IsTranscript}
 use Rattle.service.specs.Roster.{Row, tenant_of, HasRoster, HasNoRoster}
 use Rattle.service.specs.RosterReading.{ReadsRoster}
-use Rattle.service.specs.Outcome.{Wrote, roster_refusal, ScriptWrote}
-use Rattle.service.specs.Turn.{Takes, SoFar}
+use Rattle.service.specs.Turn.{Takes}
 use Rattle.service.proofs.TranscriptLemmas.{AreAnswered-more, AreAnswered-none, transcript_of}
 use Rattle.service.proofs.WrittenLemmas.{Appends-more}
+
+-- the first of these lines were answered so far, and the others are left
+pub record SoFar (lines : List Line) (old : HallState) (left : Source) (new : HallState) (went_out : List ℕ → Type 0) : Type 0 where
+  pub rest : List ℕ
+  pub source : left ≡ known rest
+  pub done : List Line
+  pub split : lines ≡ done ++ commands_of rest
+  pub outcomes : List Outcome
+  pub output : List ℕ
+  pub answered : AreAnswered old done outcomes output new
+  pub out : went_out output
 
 -- nothing went out
 pub Appends-nothing : (contents : Option (List ℕ)) → Appends contents contents []
@@ -36,7 +45,7 @@ SoFar-start (known bytes) old contents = record {
   source = refl;
   done = [];
   split = refl;
-  entries = [];
+  outcomes = [];
   output = [];
   answered = AreAnswered-none old;
   out = Appends-nothing contents;
@@ -53,9 +62,9 @@ SoFar-blank (known bytes) mid new start a b reply out so_far step =
       source = here.0.left;
       done = so_far.done;
       split = so_far.split ∙ ap (λ (lines : List Line). so_far.done ++ lines) here.0.same;
-      entries = so_far.entries;
+      outcomes = so_far.outcomes;
       output = so_far.output;
-      answered = subst (λ (h : HallState). AreAnswered start so_far.done so_far.entries so_far.output h) (sym here.1) so_far.answered;
+      answered = subst (λ (h : HallState). AreAnswered start so_far.done so_far.outcomes so_far.output h) (sym here.1) so_far.answered;
       out = so_far.out;
     }
 
@@ -70,9 +79,9 @@ SoFar-replied (known bytes) mid new start a b reply c0 c1 c2 fresh so_far step w
       source = here.1.left;
       done = so_far.done ++ here.0 ∷ [];
       split = so_far.split ∙ ap (λ (lines : List Line). so_far.done ++ lines) here.1.first ∙ sym (append_assoc so_far.done (here.0 ∷ []) (commands_of here.1.rest));
-      entries = so_far.entries ++ here.2.entry ∷ [];
+      outcomes = so_far.outcomes ++ here.2.outcome ∷ [];
       output = so_far.output ++ reply;
-      answered = AreAnswered-more start a b so_far.done so_far.entries here.0 so_far.output reply fresh so_far.answered here.2;
+      answered = AreAnswered-more start a b so_far.done so_far.outcomes here.0 so_far.output reply fresh so_far.answered here.2;
       out = Appends-more c0 c1 c2 so_far.output reply so_far.out written;
     }
 
@@ -85,10 +94,10 @@ Wrote-all (known bytes) mid new start a b reply out fresh so_far step =
     let here : Takes (commands_of so_far.rest) a End new b reply = subst (λ (s : Source). IfKnown s (λ lines. Takes lines a End new b reply)) so_far.source step in
     let all : so_far.done ≡ commands_of bytes = sym (append-nil so_far.done) ∙ ap (λ (lines : List Line). so_far.done ++ lines) (sym here.0) ∙ sym so_far.split in
     record {
-      entries = so_far.entries;
+      outcomes = so_far.outcomes;
       output = so_far.output;
       new = a;
-      transcript = subst (λ (lines : List Line). IsTranscript start lines so_far.entries so_far.output a) all (transcript_of start a so_far.done so_far.entries so_far.output fresh so_far.answered);
+      transcript = subst (λ (lines : List Line). IsTranscript start lines so_far.outcomes so_far.output a) all (transcript_of start a so_far.done so_far.outcomes so_far.output fresh so_far.answered);
       out = so_far.out;
     }
 
@@ -101,10 +110,10 @@ Wrote-some (known bytes) mid start a out fresh so_far = record {
   rest = commands_of so_far.rest;
   split = so_far.split;
   all = record {
-    entries = so_far.entries;
+    outcomes = so_far.outcomes;
     output = so_far.output;
     new = a;
-    transcript = transcript_of start a so_far.done so_far.entries so_far.output fresh so_far.answered;
+    transcript = transcript_of start a so_far.done so_far.outcomes so_far.output fresh so_far.answered;
     out = so_far.out;
   };
 }
@@ -120,19 +129,19 @@ Wrote-part (known bytes) mid new start a b reply c0 c1 c2 fresh so_far step writ
       line = here.0;
       rest = commands_of here.1.rest;
       split = so_far.split ∙ ap (λ (lines : List Line). so_far.done ++ lines) here.1.first;
-      entries = so_far.entries;
-      entry = here.2.entry;
+      outcomes = so_far.outcomes;
+      outcome = here.2.outcome;
       output = so_far.output;
       new = b;
       transcript =
-          transcript_of start b (so_far.done ++ here.0 ∷ []) (so_far.entries ++ here.2.entry ∷ []) (so_far.output ++ entry_text here.2.entry) fresh
-          (AreAnswered-more start a b so_far.done so_far.entries here.0 so_far.output (entry_text here.2.entry) fresh so_far.answered (record { entry = here.2.entry; allowed = here.2.allowed; carried = here.2.carried; text = refl }));
+          transcript_of start b (so_far.done ++ here.0 ∷ []) (so_far.outcomes ++ here.2.outcome ∷ []) (so_far.output ++ outcome_text here.2.outcome) fresh
+          (AreAnswered-more start a b so_far.done so_far.outcomes here.0 so_far.output (outcome_text here.2.outcome) fresh so_far.answered (record { outcome = here.2.outcome; allowed = here.2.allowed; carried = here.2.carried; text = refl }));
       front = record {
         front = written.front;
         back = written.back;
         parts = here.2.text ∙ written.parts;
         missing = written.missing;
-        out = Appends-more c0 c1 c2 so_far.output written.front so_far.out written.appended;
+        out = Appends-more c0 c1 c2 so_far.output written.front so_far.out written.out;
       };
     }
 
@@ -163,7 +172,7 @@ pub ScriptWrote-wrong_part : (source : Source) (c0 c1 : Option (List ℕ)) → I
 ScriptWrote-wrong_part unknown c0 c1 none written = tt
 ScriptWrote-wrong_part failed c0 c1 none written = tt
 ScriptWrote-wrong_part (known bytes) c0 c1 none written =
-    inl (none, record { front = written.front; back = written.back; parts = written.parts; missing = written.missing; out = written.appended })
+    inl (none, written)
 
 -- what a script with these bytes wrote
 pub ScriptWrote-known : (remaining : Option (List ℕ)) (source : Source) (result : Result (Unit {0}) ScriptFault) (out : List ℕ → Type 0) → source ≡ source_of remaining → IfKnown source (λ lines. ScriptWrote lines result out) → IfSome remaining (λ input. ScriptWrote (commands_of input) result out)

@@ -1,5 +1,6 @@
 -- The tenants of the seats, and the accounts of those that are found.
-use Rattle.std.proofs.Common.{◌≡◌, ◌∙◌, ℕ, Bool, List, length, map, set, ap, sym, refl, Some, None, option_map, find, position, slice_get, get_or, nat_lt}
+use Rattle.std.proofs.Common.{◌≡◌, ◌∙◌, ℕ, Bool, List, length, map, set, ap, sym, refl, Some, None, option_map, find, position, slice_get}
+use Rattle.std.proofs.Common.{get_or, nat_lt}
 use Rattle.std.specs.List.{position_or_len}
 use Rattle.std.proofs.lemmas.List.{map-set}
 use Rattle.std.proofs.lemmas.List.Folds.{find-set}
@@ -12,7 +13,7 @@ use Rattle.names.proofs.SameNames.{same_from_is_same, is_same_itself}
 use Rattle.hall.specs.State.{Tenant, AreDistinct, tenant_named, account, account_of, with_tenant}
 use Rattle.hall.proofs.Elements.{find-map}
 use Rattle.hall.proofs.Settling.{once_named}
-use Rattle.service.specs.Seats.{SeatState, tenant_of, hall_of}
+use Rattle.service.specs.Seats.{SeatState, tenant_at, hall_of}
 use Rattle.service.proofs.Finding.{find-position, changed_in_place, set_same}
 
 -- the seat is called by the name
@@ -45,24 +46,24 @@ found_set who seats place s new here kept =
     (position-Some (is_called who) seats place s here.at).0 (is_same_itself new.name who (kept ∙ here.named))
 
 module _ (journal : List Entry) (seats : List SeatState) (who : List ℕ) where
-  pub tenant_found : tenant_named who (map tenant_of seats) ≡ option_map tenant_of (find (is_called who) seats)
-  tenant_found = find-map (λ t. is_same t.name who) (is_called who) tenant_of (λ s. refl) seats
+  pub tenant_found : tenant_named who (map tenant_at seats) ≡ option_map tenant_at (find (is_called who) seats)
+  tenant_found = find-map (λ t. is_same t.name who) (is_called who) tenant_at (λ s. refl) seats
 
   pub nobody : find (is_called who) seats ≡ None → account_of (hall_of journal seats) who ≡ None
-  nobody none = ap (option_map (account journal)) (tenant_found ∙ ap (option_map tenant_of) none)
+  nobody none = ap (option_map (account journal)) (tenant_found ∙ ap (option_map tenant_at) none)
 
-  pub account_found : (s : SeatState) → find (is_called who) seats ≡ Some s → account_of (hall_of journal seats) who ≡ Some (account journal (tenant_of s))
-  account_found s found = ap (option_map (account journal)) (tenant_found ∙ ap (option_map tenant_of) found)
+  pub account_found : (s : SeatState) → find (is_called who) seats ≡ Some s → account_of (hall_of journal seats) who ≡ Some (account journal (tenant_at s))
+  account_found s found = ap (option_map (account journal)) (tenant_found ∙ ap (option_map tenant_at) found)
 
   -- a seat that is changed in its place changes its tenant and nothing else
-  pub in_place : (place : ℕ) (s new : SeatState) (change : Tenant → Tenant) → AreDistinct (map tenant_of seats) → Stands who seats place s → tenant_of new ≡ change (tenant_of s) →
+  pub in_place : (place : ℕ) (s new : SeatState) (change : Tenant → Tenant) → AreDistinct (map tenant_at seats) → Stands who seats place s → tenant_at new ≡ change (tenant_at s) →
       hall_of journal (set seats place new) ≡ with_tenant (hall_of journal seats) who change
   in_place place s new change distinct here becomes =
       ap (λ (ts : List Tenant). record { journal = journal; tenants = ts })
-      (map-set tenant_of seats place new
-      ∙ ap (set (map tenant_of seats) place) becomes
-      ∙ sym (changed_in_place (λ t. is_same t.name who) change (map tenant_of seats) place (tenant_of s) (once_named who (map tenant_of seats) distinct)
-      (slice_get-map tenant_of seats place ∙ ap (option_map tenant_of) here.there) (is_same_itself s.name who here.named)))
+      (map-set tenant_at seats place new
+      ∙ ap (set (map tenant_at seats) place) becomes
+      ∙ sym (changed_in_place (λ t. is_same t.name who) change (map tenant_at seats) place (tenant_at s) (once_named who (map tenant_at seats) distinct)
+      (slice_get-map tenant_at seats place ∙ ap (option_map tenant_at) here.there) (is_same_itself s.name who here.named)))
 
   -- a seat that is put back as it was changes nothing
   pub put_back : (place : ℕ) (s new : SeatState) → Stands who seats place s → new ≡ s → hall_of journal (set seats place new) ≡ hall_of journal seats

@@ -1,5 +1,6 @@
 -- Openings: the limits, then want of memory.
-use Rattle.std.proofs.Common.{◌≡◌, ◌∙◌, ◌+◌, ℕ, Bool, true, false, cond, List, [], ◌∷◌, length, map, set, nat_le, ap, sym, subst, Option, Some, None, unwrap_or, Result, Ok, Err, IfOk, IfErr, OnOk, OnErr}
+use Rattle.std.proofs.Common.{◌≡◌, ◌∙◌, ◌+◌, ℕ, Bool, true, false, cond, List, [], ◌∷◌, length, map, set, nat_le, ap, sym, subst, Option}
+use Rattle.std.proofs.Common.{Some, None, unwrap_or, Result, Ok, Err, IfOk, IfErr, OnOk, OnErr}
 use Rattle.std.proofs.lemmas.List.{length-map, map-append}
 use Rattle.vaults.specs.declared.changes.Entry.{Entry}
 use Rattle.vaults.specs.Journal.{view}
@@ -13,7 +14,7 @@ use Rattle.hall.specs.State.{Running, open_search, account}
 use Rattle.hall.specs.Run.{IsServed, RefusedLast, opening}
 use Rattle.hall.specs.Calls.{opened_number}
 use Rattle.hall.proofs.Sound.{served_sound}
-use Rattle.service.specs.Seats.{Copied, SeatState, tenant_of, hall_of, HasCopies, IsRegistry, new_search, seat_opening}
+use Rattle.service.specs.Seats.{Copied, SeatState, tenant_at, hall_of, HasCopies, IsRegistry, new_search, seat_opening}
 use Rattle.service.proofs.Finding.{all_at, all_set}
 use Rattle.service.proofs.Copies.{copies_opened}
 use Rattle.service.proofs.SeatsFound.{Stands, account_found, in_place, put_back}
@@ -31,12 +32,12 @@ module _ (journal : List Entry) (seats : List SeatState) (who : List ℕ) (query
       by false true e = cc
       by false false e = cc
 
-  reply_is : reply_to who (view journal who) (account journal (tenant_of s)) (request.Seek query) ≡ unless_refused refused_by (Opened (s.opens + 1))
+  reply_is : reply_to who (view journal who) (account journal (tenant_at s)) (request.Seek query) ≡ unless_refused refused_by (Opened (s.opens + 1))
   reply_is =
       ap (λ (n : ℕ). unless_refused (seek_refusal s.limits n s.opens) (Opened (s.opens + 1)))
       (length-map (map (λ (k : Copied). k.running) s.searches) (open_search journal s.name) ∙ length-map s.searches (λ (k : Copied). k.running))
 
-  opened_tenant : (n : ℕ) → tenant_of (seat_opening journal query n s) ≡ opening journal query n (tenant_of s)
+  opened_tenant : (n : ℕ) → tenant_at (seat_opening journal query n s) ≡ opening journal query n (tenant_at s)
   opened_tenant n =
       ap (λ (rs : List Running). record { name = s.name; limits = s.limits; opens = n; searches = rs })
       (map-append (λ (k : Copied). k.running) s.searches (new_search n journal s.name query ∷ []))
@@ -45,17 +46,17 @@ module _ (journal : List Entry) (seats : List SeatState) (who : List ℕ) (query
       IfOk r (λ n. new ≡ seat_opening journal query n s) → IfErr r (λ f. f ≡ unwrap_or refused_by Memory) → OnErr r (new ≡ s) →
       IsServed (hall_of journal seats) who (request.Seek query) (opened_number r) (hall_of journal (set seats place new))
   seek_served sound (Ok n) new allowed next opened refused unchanged =
-      told_served (hall_of journal seats) who (request.Seek query) (account journal (tenant_of s)) (account_found journal seats who s here.found) (Opened n) _
+      told_served (hall_of journal seats) who (request.Seek query) (account journal (tenant_at s)) (account_found journal seats who s here.found) (Opened n) _
       (ap Opened next ∙ ap (λ (o : Option Fault). unless_refused o (Opened (s.opens + 1))) (sym allowed) ∙ sym reply_is)
       (ap (λ (t : SeatState). hall_of journal (set seats place t)) opened
       ∙ in_place journal seats who place s (seat_opening journal query n s) (opening journal query n) sound.sound.names here (opened_tenant n))
   seek_served sound (Err f) new allowed next opened refused unchanged =
       subst (IsServed (hall_of journal seats) who (request.Seek query) (Refused f)) (sym (put_back journal seats who place s new here unchanged))
-      (refused_served (hall_of journal seats) who (request.Seek query) (account journal (tenant_of s)) (account_found journal seats who s here.found) refused_by (Opened (s.opens + 1)) f reply_is tt refused)
+      (refused_served (hall_of journal seats) who (request.Seek query) (account journal (tenant_at s)) (account_found journal seats who s here.found) refused_by (Opened (s.opens + 1)) f reply_is tt refused)
 
   pub seek_last : (r : Result ℕ Fault) → IfErr r (λ f. f ≡ unwrap_or refused_by Memory) → RefusedLast (hall_of journal seats) who (request.Seek query) (opened_number r)
   seek_last r refused =
-      memory_last (hall_of journal seats) who (request.Seek query) (account journal (tenant_of s)) (account_found journal seats who s here.found) refused_by (Opened (s.opens + 1)) (opened_number r)
+      memory_last (hall_of journal seats) who (request.Seek query) (account journal (tenant_at s)) (account_found journal seats who s here.found) refused_by (Opened (s.opens + 1)) (opened_number r)
       reply_is never_memory (λ f e. cc) (by r refused)
     where
       by : (r : Result ℕ Fault) → IfErr r (λ f. f ≡ unwrap_or refused_by Memory) → (f : Fault) → opened_number r ≡ Refused f → f ≡ unwrap_or refused_by Memory

@@ -1,12 +1,13 @@
 -- Lemmas on taking a line's bytes one by one.
-use Rattle.std.proofs.Common.{◌≡◌, ◌≢◌, ℕ, List, [], ◌∷◌, ◌++◌, length, take, arith, refl, Option, None, Some, append_assoc, sym, ◌∙◌, ap, inl, inr, Result}
+use Rattle.std.proofs.Common.{◌≡◌, ◌≢◌, ℕ, List, [], ◌∷◌, ◌++◌, length, take, arith, refl, Option, None, Some, append_assoc, sym, ◌∙◌, ap}
+use Rattle.std.proofs.Common.{inl, inr, Result}
 use Rattle.std.specs.Io.KnownBytes.{Consumes, IsAtEnd}
 use Rattle.std.specs.Prelude.{IfSome}
 use Rattle.std.proofs.lemmas.List.Elements.{All-push}
 use Rattle.std.proofs.lemmas.List.{append-nil, take_all, take-append-le, length-take}
 use Rattle.std.proofs.lemmas.Bool.{cases_lt}
 use Rattle.std.specs.Io.Iter.{YieldsKnownByte}
-use Rattle.service.specs.Taken.{HasNoNewline}
+use Rattle.service.specs.LineReader.{HasNoNewline}
 
 -- what was taken, and then one byte more
 pub Consumes-more : (old mid new : Option (List ℕ)) (raw : List ℕ) (b : ℕ) → Consumes old mid raw → Consumes mid new (b ∷ []) → Consumes old new (raw ++ b ∷ [])

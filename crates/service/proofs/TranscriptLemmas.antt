@@ -1,4 +1,4 @@
--- Lemmas on what a script is answered, entry after entry.
+-- Lemmas on what a script is answered, outcome after outcome.
 use Rattle.std.proofs.Common.{◌≡◌, ℕ, List, [], ◌∷◌, ◌++◌, refl, sym, ap, ◌∙◌, subst, Option, Some, None}
 use Rattle.std.specs.Prelude.{option_map, is_some}
 use Rattle.std.specs.List.{flat_map, AllByRecursion}
@@ -8,17 +8,17 @@ use Rattle.std.proofs.lemmas.List.{append-nil}
 use Rattle.quotas.specs.Quota.{Quota}
 use Rattle.hall.specs.declared.replies.Reply.{Reply}
 use Rattle.hall.specs.Account.{Moment}
-use Rattle.hall.specs.State.{HallState, Tenant, IsSound, IsSoundTenant, account, is_tenant, tenant_named}
+use Rattle.hall.specs.State.{HallState, Tenant, IsSoundHall, IsSoundTenant, account, is_tenant, tenant_named}
 use Rattle.hall.specs.Run.{IsAllowedRun}
 use Rattle.hall.specs.Calls.{new_hall, IsNewHall}
 use Rattle.hall.specs.Deeds.{Told, AreDone, AreAllowed}
 use Rattle.hall.proofs.Deeds.{deeds_allowed}
 use Rattle.hall.proofs.Timeliness.{deeds_are_timely}
 use Rattle.service.specs.Line.{Line}
-use Rattle.service.specs.Entry.{Entry, entry_text, IsEntry, deed_in, deeds_in}
+use Rattle.service.specs.Outcome.{Outcome, outcome_text, IsOutcome, deed_in, deeds_in}
 use Rattle.service.specs.Transcript.{AreAnswered, IsTranscript}
 use Rattle.service.specs.Turn.{Answered}
-use Rattle.service.proofs.EntryLemmas.{IsEntry-same}
+use Rattle.service.proofs.OutcomeLemmas.{IsOutcome-same}
 
 -- some deeds, and then some more
 done_more : (old mid new : HallState) (deeds more : List Told) → AreDone old deeds mid → AreDone mid more new → AreDone old (deeds ++ more) new
@@ -26,8 +26,8 @@ done_more old mid new [] more same done = subst (λ (h : HallState). AreDone h m
 done_more old mid new (told ∷ deeds) more first done = (first.0, first.1, done_more first.0 mid new deeds more first.2 done)
 
 -- nothing is amiss in a new hall
-pub new_sound : (h : HallState) → IsNewHall h → IsSound h
-new_sound h new = subst IsSound (sym new.2) record { names = new.1; tenants = each new.0 }
+pub new_sound : (h : HallState) → IsNewHall h → IsSoundHall h
+new_sound h new = subst IsSoundHall (sym new.2) record { names = new.1; tenants = each new.0 }
   where
     each : (roster : List (List ℕ × Quota)) → AllByRecursion (IsSoundTenant []) (new_hall roster).tenants
     each [] = tt
@@ -44,33 +44,33 @@ same_tenants old new deeds allowed name = by (tenant_named name old.tenants) (te
     by (Some t) None moments replies run = let e = run.1 in cc
     by (Some t) (Some u) moments replies run = refl
 
--- the deeds of one entry more
-deeds_in-more : (entries : List Entry) (entry : Entry) → deeds_in (entries ++ entry ∷ []) ≡ deeds_in entries ++ deed_in entry
-deeds_in-more entries entry = flat_map-append deed_in entries (entry ∷ []) ∙ ap (λ (l : List Told). deeds_in entries ++ l) (append-nil (deed_in entry))
+-- the deeds of one outcome more
+deeds_in-more : (outcomes : List Outcome) (outcome : Outcome) → deeds_in (outcomes ++ outcome ∷ []) ≡ deeds_in outcomes ++ deed_in outcome
+deeds_in-more outcomes outcome = flat_map-append deed_in outcomes (outcome ∷ []) ∙ ap (λ (l : List Told). deeds_in outcomes ++ l) (append-nil (deed_in outcome))
 
 -- one line more
-pub AreAnswered-more : (old mid new : HallState) (done : List Line) (entries : List Entry) (line : Line) (output reply : List ℕ) → IsNewHall old → AreAnswered old done entries output mid →
-    (answered : Answered mid line reply new) → AreAnswered old (done ++ line ∷ []) (entries ++ answered.entry ∷ []) (output ++ reply) new
-AreAnswered-more old mid new done entries line output reply fresh before answered = record {
-  one_each = all_zipped_more (IsEntry old) done entries line answered.entry before.one_each (IsEntry-same old mid line answered.entry (same_tenants old mid (deeds_in entries) allowed) answered.allowed);
-  carried = subst (λ (deeds : List Told). AreDone old deeds new) (sym (deeds_in-more entries answered.entry)) (done_more old mid new (deeds_in entries) (deed_in answered.entry) before.carried answered.carried);
+pub AreAnswered-more : (old mid new : HallState) (done : List Line) (outcomes : List Outcome) (line : Line) (output reply : List ℕ) → IsNewHall old → AreAnswered old done outcomes output mid →
+    (answered : Answered mid line reply new) → AreAnswered old (done ++ line ∷ []) (outcomes ++ answered.outcome ∷ []) (output ++ reply) new
+AreAnswered-more old mid new done outcomes line output reply fresh before answered = record {
+  one_each = all_zipped_more (IsOutcome old) done outcomes line answered.outcome before.one_each (IsOutcome-same old mid line answered.outcome (same_tenants old mid (deeds_in outcomes) allowed) answered.allowed);
+  carried = subst (λ (deeds : List Told). AreDone old deeds new) (sym (deeds_in-more outcomes answered.outcome)) (done_more old mid new (deeds_in outcomes) (deed_in answered.outcome) before.carried answered.carried);
   printed =
       ap (λ (t : List ℕ). t ++ reply) before.printed
-      ∙ ap (λ (t : List ℕ). flat_map entry_text entries ++ t) (sym answered.text ∙ sym (append-nil (entry_text answered.entry)))
-      ∙ sym (flat_map-append entry_text entries (answered.entry ∷ []));
+      ∙ ap (λ (t : List ℕ). flat_map outcome_text outcomes ++ t) (sym answered.text ∙ sym (append-nil (outcome_text answered.outcome)))
+      ∙ sym (flat_map-append outcome_text outcomes (answered.outcome ∷ []));
 }
   where
-    allowed : AreAllowed old (deeds_in entries) mid
-    allowed = deeds_allowed old mid (deeds_in entries) (new_sound old fresh) before.carried
+    allowed : AreAllowed old (deeds_in outcomes) mid
+    allowed = deeds_allowed old mid (deeds_in outcomes) (new_sound old fresh) before.carried
 
 -- no line yet
 pub AreAnswered-none : (old : HallState) → AreAnswered old [] [] [] old
 AreAnswered-none old = record { one_each = tt; carried = refl; printed = refl }
 
 -- what was answered from the start on is allowed and timely
-pub transcript_of : (old new : HallState) (lines : List Line) (entries : List Entry) (output : List ℕ) → IsNewHall old → AreAnswered old lines entries output new → IsTranscript old lines entries output new
-transcript_of old new lines entries output fresh answered = record {
+pub transcript_of : (old new : HallState) (lines : List Line) (outcomes : List Outcome) (output : List ℕ) → IsNewHall old → AreAnswered old lines outcomes output new → IsTranscript old lines outcomes output new
+transcript_of old new lines outcomes output fresh answered = record {
   answered = answered;
-  allowed = deeds_allowed old new (deeds_in entries) (new_sound old fresh) answered.carried;
-  timely = deeds_are_timely fresh.0 new (deeds_in entries) fresh.1 (subst (λ (h : HallState). AreDone h (deeds_in entries) new) fresh.2 answered.carried);
+  allowed = deeds_allowed old new (deeds_in outcomes) (new_sound old fresh) answered.carried;
+  timely = deeds_are_timely fresh.0 new (deeds_in outcomes) fresh.1 (subst (λ (h : HallState). AreDone h (deeds_in outcomes) new) fresh.2 answered.carried);
 }

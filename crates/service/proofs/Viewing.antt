@@ -15,7 +15,7 @@ use Rattle.hall.specs.Account.{Account, rows_in, rows_of}
 use Rattle.hall.specs.State.{Tenant, HallState, is_tenant, tenant_named, account, account_of}
 use Rattle.hall.specs.Run.{IsServed}
 use Rattle.hall.proofs.Elements.{find-map}
-use Rattle.service.specs.Seats.{SeatState, tenant_of, hall_of}
+use Rattle.service.specs.Seats.{SeatState, tenant_at, hall_of}
 use Rattle.service.proofs.SeatsFound.{is_called, tenant_found}
 use Rattle.service.proofs.Replies.{told_served}
 
@@ -29,13 +29,13 @@ is_some-copied (Some x) = refl
 
 -- a seat is found exactly where the name is a tenant's
 pub tenant_is_found : (journal : List Entry) (seats : List SeatState) (who : List ℕ) → is_some (find (is_called who) seats) ≡ is_tenant (hall_of journal seats) who
-tenant_is_found journal seats who = sym (ap is_some (tenant_found journal seats who) ∙ is_some-map tenant_of (find (is_called who) seats))
+tenant_is_found journal seats who = sym (ap is_some (tenant_found journal seats who) ∙ is_some-map tenant_at (find (is_called who) seats))
 
 -- the name by which a tenant is found is its seat's
 pub called_by : (journal : List Entry) (seats : List SeatState) (who : List ℕ) → option_map (λ s. s.name) (find (is_called who) seats) ≡ option_map (λ t. t.name) (tenant_named who (hall_of journal seats).tenants)
 called_by journal seats who = by (find (is_called who) seats) (tenant_found journal seats who)
   where
-    by : (o : Option SeatState) → tenant_named who (hall_of journal seats).tenants ≡ option_map tenant_of o → option_map (λ s. s.name) o ≡ option_map (λ t. t.name) (tenant_named who (hall_of journal seats).tenants)
+    by : (o : Option SeatState) → tenant_named who (hall_of journal seats).tenants ≡ option_map tenant_at o → option_map (λ s. s.name) o ≡ option_map (λ t. t.name) (tenant_named who (hall_of journal seats).tenants)
     by None found = sym (ap (option_map (λ (t : Tenant). t.name)) found)
     by (Some s) found = sym (ap (option_map (λ (t : Tenant). t.name)) found)
 

@@ -1,5 +1,6 @@
 -- Waits: a search comes to the truth of its view, or memory lacks.
-use Rattle.std.proofs.Common.{◌≡◌, ◌∙◌, ◌==◌, ℕ, List, length, map, set, take, find, nat_lt, inl, inr, ◌⊎◌, ap, sym, refl, subst, Option, Some, None, option_map, unwrap_or, Result, Ok, Err, IfOk, IfErr, OnErr}
+use Rattle.std.proofs.Common.{◌≡◌, ◌∙◌, ◌==◌, ℕ, List, length, map, set, take, find, nat_lt, inl, inr, ◌⊎◌, ap, sym, refl, subst, Option}
+use Rattle.std.proofs.Common.{Some, None, option_map, unwrap_or, Result, Ok, Err, IfOk, IfErr, OnErr}
 use Rattle.std.specs.List.{position_or_len}
 use Rattle.std.proofs.lemmas.List.{map-set}
 use Rattle.std.proofs.lemmas.List.Folds.{find-set}
@@ -25,7 +26,7 @@ use Rattle.hall.specs.Calls.{answered}
 use Rattle.hall.proofs.Elements.{find-map}
 use Rattle.hall.proofs.Settling.{once_numbered, found_tenant}
 use Rattle.hall.proofs.Sound.{driven_sound}
-use Rattle.service.specs.Seats.{Copied, SeatState, tenant_of, hall_of, IsCopy, HasCopies, IsRegistry}
+use Rattle.service.specs.Seats.{Copied, SeatState, tenant_at, hall_of, IsCopy, HasCopies, IsRegistry}
 use Rattle.service.specs.Settling.{IsTruthOver, copied_numbered, no_search, Drives}
 use Rattle.service.proofs.Finding.{all_at, all_set, find-position, changed_in_place, changed_same}
 use Rattle.service.proofs.Copies.{copies_set}
@@ -43,7 +44,7 @@ module _ (journal : List Entry) (seats : List SeatState) (who : List ℕ) (k : �
   pub nobody_driven : find (is_called who) seats ≡ None → IsDriven (hall_of journal seats) who k (Refused NoTenant) (hall_of journal seats)
   nobody_driven none = record {
     settles = subst (λ (o : Option Running). SettlesAt (hall_of journal seats) who k o (hall_of journal seats))
-        (sym (ap (running_of k) (tenant_found journal seats who ∙ ap (option_map tenant_of) none))) refl;
+        (sym (ap (running_of k) (tenant_found journal seats who ∙ ap (option_map tenant_at) none))) refl;
     polled = nobody_served (hall_of journal seats) who (request.Poll k) (nobody journal seats who none);
     answers = λ e. cc;
   }
@@ -53,8 +54,8 @@ module _ (journal : List Entry) (seats : List SeatState) (who : List ℕ) (k : �
   runs = map (λ c. c.running) s.searches
 
   -- the seat's tenant is the one of that name
-  tenant_is : tenant_named who (map tenant_of seats) ≡ Some (tenant_of s)
-  tenant_is = tenant_found journal seats who ∙ ap (option_map tenant_of) here.found
+  tenant_is : tenant_named who (map tenant_at seats) ≡ Some (tenant_at s)
+  tenant_is = tenant_found journal seats who ∙ ap (option_map tenant_at) here.found
 
   search_is : search_at (hall_of journal seats) who k ≡ option_map (λ c. c.running) (copied_numbered k s.searches)
   search_is = ap (running_of k) tenant_is ∙ find-map (λ r. r.number == k) (λ c. c.running.number == k) (λ (c : Copied). c.running) (λ c. refl) s.searches
@@ -64,7 +65,7 @@ module _ (journal : List Entry) (seats : List SeatState) (who : List ℕ) (k : �
   told_of None = Closed
   told_of (Some c) = Answered (answer_of c.running.settled)
 
-  reply_is : reply_to who (view journal who) (account journal (tenant_of s)) (request.Poll k) ≡ unless_refused (no_search (copied_numbered k s.searches)) (told_of (copied_numbered k s.searches))
+  reply_is : reply_to who (view journal who) (account journal (tenant_at s)) (request.Poll k) ≡ unless_refused (no_search (copied_numbered k s.searches)) (told_of (copied_numbered k s.searches))
   unfolding told_of
   reply_is = poll_is journal seats who k s here.found ∙ by (copied_numbered k s.searches)
     where
@@ -75,7 +76,7 @@ module _ (journal : List Entry) (seats : List SeatState) (who : List ℕ) (k : �
   pub wait_last : (r : Result Answer Fault) → IfErr r (λ f. f ≡ unwrap_or (no_search (copied_numbered k s.searches)) Memory) → RefusedLast (hall_of journal seats) who (request.Poll k) (answered r)
   unfolding told_of
   wait_last r refused =
-      memory_last (hall_of journal seats) who (request.Poll k) (account journal (tenant_of s)) (account_found journal seats who s here.found) (no_search (copied_numbered k s.searches))
+      memory_last (hall_of journal seats) who (request.Poll k) (account journal (tenant_at s)) (account_found journal seats who s here.found) (no_search (copied_numbered k s.searches))
       (told_of (copied_numbered k s.searches)) (answered r) reply_is (never (copied_numbered k s.searches)) (other (copied_numbered k s.searches)) (by r refused)
     where
       never : (o : Option Copied) → no_search o ≡ Some Memory → ⊥
@@ -92,8 +93,8 @@ module _ (journal : List Entry) (seats : List SeatState) (who : List ℕ) (k : �
       by (Err g) refused f e = cc
 
   module _ (sound : IsRegistry journal seats) where
-    seat_sound : IsSoundTenant journal (tenant_of s)
-    seat_sound = (found_tenant (IsSoundTenant journal) who (map tenant_of seats) sound.sound.tenants (tenant_of s) tenant_is).0
+    seat_sound : IsSoundTenant journal (tenant_at s)
+    seat_sound = (found_tenant (IsSoundTenant journal) who (map tenant_at seats) sound.sound.tenants (tenant_at s) tenant_is).0
 
     seat_copies : HasCopies journal s
     seat_copies = all_at (HasCopies journal) seats place s sound.copies here.there
@@ -119,9 +120,9 @@ module _ (journal : List Entry) (seats : List SeatState) (who : List ℕ) (k : �
                 (copy_is ∙ ap (λ (n : List ℕ). credentials (view (take drives.before.running.opened_at journal) n)) here.named) comes.1),
           )
 
-      settled_tenant : tenant_of new ≡ settling k drives.settles.settled (tenant_of s)
+      settled_tenant : tenant_at new ≡ settling k drives.settles.settled (tenant_at s)
       settled_tenant =
-          ap tenant_of drives.rest
+          ap tenant_at drives.rest
           ∙ ap (λ (rs : List Running). record { name = s.name; limits = s.limits; opens = s.opens; searches = rs })
           (map-set (λ (c : Copied). c.running) s.searches drives.place drives.after
           ∙ ap (set runs drives.place) (ap (λ (c : Copied). c.running) drives.settles.after)
@@ -169,7 +170,7 @@ module _ (journal : List Entry) (seats : List SeatState) (who : List ℕ) (k : �
     err_driven : (f : Fault) → f ≡ unwrap_or (no_search (copied_numbered k s.searches)) Memory → IsDriven (hall_of journal seats) who k (Refused f) (hall_of journal seats)
     err_driven f refused = record {
       settles = subst (λ (o : Option Running). SettlesAt (hall_of journal seats) who k o (hall_of journal seats)) (sym search_is) (stays_settled (copied_numbered k s.searches) refl);
-      polled = refused_served (hall_of journal seats) who (request.Poll k) (account journal (tenant_of s)) (account_found journal seats who s here.found)
+      polled = refused_served (hall_of journal seats) who (request.Poll k) (account journal (tenant_at s)) (account_found journal seats who s here.found)
           (no_search (copied_numbered k s.searches)) (told_of (copied_numbered k s.searches)) f reply_is tt refused;
       answers = λ e. cc;
     }

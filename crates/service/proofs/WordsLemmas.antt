@@ -1,13 +1,13 @@
 -- Lemmas on the words of a text.
-use Rattle.std.proofs.Common.{◌≡◌, ℕ, suc, ◌+◌, ◌<◌, Bool, true, false, ltb, List, [], ◌∷◌, length, arith, refl, sym, ap, ◌∙◌, inl, inr}
+use Rattle.std.proofs.Common.{◌≡◌, ℕ, ◌<◌, Bool, true, false, ltb, List, [], ◌∷◌, length, arith, refl, sym, ap, ◌∙◌, inl, inr}
 use Rattle.std.specs.Prelude.{filter, not}
 use Rattle.std.specs.List.{slice_split, position_or_len, before_first, after_first}
 use Rattle.std.proofs.lemmas.Bool.{cases_lt, lt-ltb}
-use Rattle.std.proofs.lemmas.List.{take_all, length-take, nil_from_length}
+use Rattle.std.proofs.lemmas.List.{take_all, length-take}
 use Rattle.std.proofs.lemmas.List.Splits.{slice_split-cons_yes, slice_split_first, slice_split_none}
 use Rattle.std.proofs.lemmas.List.Sums.{prefix_len-le-length, fails_before_first}
 use Rattle.std.proofs.Math.ListN.{drop_of_length-le}
-use Rattle.service.specs.Words.{is_space, words, after_spaces, first_word, after_word}
+use Rattle.service.specs.Words.{is_space, words, trim_start, first_word, after_word}
 
 -- the parts that are words
 abbrev only_words : List (List ℕ) → List (List ℕ)
@@ -21,14 +21,12 @@ only_words-cons part parts some = rw (lt-ltb 0 (length part) some) refl
 words-space : (b : ℕ) (text : List ℕ) → is_space b ≡ true → words (b ∷ text) ≡ words text
 words-space b text space = ap only_words (slice_split-cons_yes is_space b text space)
 
-after_spaces-space : (b : ℕ) (text : List ℕ) → is_space b ≡ true → after_spaces (b ∷ text) ≡ after_spaces text
-after_spaces-space b text space =
-    let one : 1 + position_or_len (λ x. not (is_space x)) text ≡ suc (position_or_len (λ x. not (is_space x)) text) = omega arith in
-    rw (space, one) refl
+trim_start-space : (b : ℕ) (text : List ℕ) → is_space b ≡ true → trim_start (b ∷ text) ≡ trim_start text
+trim_start-space b text space = rw space refl
 
 -- nothing stands in front of a byte that is no space
-after_spaces-visible : (b : ℕ) (text : List ℕ) → is_space b ≡ false → after_spaces (b ∷ text) ≡ b ∷ text
-after_spaces-visible b text visible = rw visible refl
+trim_start-visible : (b : ℕ) (text : List ℕ) → is_space b ≡ false → trim_start (b ∷ text) ≡ b ∷ text
+trim_start-visible b text visible = rw visible refl
 
 -- the place of the first space is past such a byte
 space_after : (b : ℕ) (text : List ℕ) → is_space b ≡ false → 0 < position_or_len is_space (b ∷ text)
@@ -58,38 +56,37 @@ abbrev split_words : List ℕ → List (List ℕ)
 split_words visible = before_first is_space visible ∷ words (after_first is_space visible)
 
 -- the step by one byte, by whether it is a space
-words-first_step : (b : ℕ) (text : List ℕ) (v : Bool) → is_space b ≡ v → (0 < length (after_spaces text) → words text ≡ split_words (after_spaces text)) → 0 < length (after_spaces (b ∷ text)) → words (b ∷ text) ≡ split_words (after_spaces (b ∷ text))
+words-first_step : (b : ℕ) (text : List ℕ) (v : Bool) → is_space b ≡ v → (0 < length (trim_start text) → words text ≡ split_words (trim_start text)) → 0 < length (trim_start (b ∷ text)) → words (b ∷ text) ≡ split_words (trim_start (b ∷ text))
 words-first_step b text true space later some =
-    let same = after_spaces-space b text space in
+    let same = trim_start-space b text space in
     words-space b text space ∙ later (omega (arith, some, ap length same)) ∙ sym (ap split_words same)
 words-first_step b text false visible later some =
-    words-visible b text visible ∙ sym (ap split_words (after_spaces-visible b text visible))
+    words-visible b text visible ∙ sym (ap split_words (trim_start-visible b text visible))
 
 -- a text has a first word where a byte is no space
-pub words-first : (text : List ℕ) → 0 < length (after_spaces text) → words text ≡ first_word text ∷ words (after_word text)
+pub words-first : (text : List ℕ) → 0 < length (trim_start text) → words text ≡ first_word text ∷ words (after_word text)
 words-first [] some = absurd (omega arith)
 words-first (b ∷ text) some = words-first_step b text (is_space b) refl (words-first text) some
 
-words-none_step : (b : ℕ) (text : List ℕ) (v : Bool) → is_space b ≡ v → (length (after_spaces text) ≡ 0 → words text ≡ []) → length (after_spaces (b ∷ text)) ≡ 0 → words (b ∷ text) ≡ []
+words-none_step : (b : ℕ) (text : List ℕ) (v : Bool) → is_space b ≡ v → (length (trim_start text) ≡ 0 → words text ≡ []) → length (trim_start (b ∷ text)) ≡ 0 → words (b ∷ text) ≡ []
 words-none_step b text true space later none =
-    words-space b text space ∙ later (sym (ap length (after_spaces-space b text space)) ∙ none)
+    words-space b text space ∙ later (sym (ap length (trim_start-space b text space)) ∙ none)
 words-none_step b text false visible later none =
-    absurd (omega (arith, none, ap length (after_spaces-visible b text visible)))
+    absurd (omega (arith, none, ap length (trim_start-visible b text visible)))
 
 -- a text of spaces alone has no word
-pub words-none : (text : List ℕ) → length (after_spaces text) ≡ 0 → words text ≡ []
+pub words-none : (text : List ℕ) → length (trim_start text) ≡ 0 → words text ≡ []
 words-none [] none = refl
 words-none (b ∷ text) none = words-none_step b text (is_space b) refl (words-none text) none
 
 -- the same from a text without the spaces in front, and what it was cut into
-pub words-cut : (text visible word rest : List ℕ) → visible ≡ after_spaces text → 0 < length visible → word ≡ before_first is_space visible → rest ≡ after_first is_space visible → words text ≡ word ∷ words rest
+pub words-cut : (text visible word rest : List ℕ) → visible ≡ trim_start text → 0 < length visible → word ≡ before_first is_space visible → rest ≡ after_first is_space visible → words text ≡ word ∷ words rest
 words-cut text visible word rest trimmed some first others =
     words-first text (omega (arith, some, ap length trimmed)) ∙ sym (ap split_words trimmed)
     ∙ sym (ap (λ w. w ∷ words rest) first ∙ ap (λ t. before_first is_space visible ∷ words t) others)
 
--- where no space stands in it, all of it is the one word
-pub before_first-all : (visible : List ℕ) → position_or_len is_space visible ≡ length visible → visible ≡ before_first is_space visible
-before_first-all visible none = sym (take_all (position_or_len is_space visible) visible (omega arith))
-
-pub after_first-none : (visible rest : List ℕ) → position_or_len is_space visible ≡ length visible → length rest ≡ 0 → rest ≡ after_first is_space visible
-after_first-none visible rest none empty = nil_from_length rest empty ∙ sym (drop_of_length-le visible (omega arith))
+-- where all of it is the one word, nothing stands behind that
+pub after_first-none : (visible : List ℕ) → visible ≡ before_first is_space visible → [] ≡ after_first is_space visible
+after_first-none visible all =
+    let n = position_or_len is_space visible in
+    sym (drop_of_length-le visible (omega (arith, length-take n visible, ap length all)))

@@ -1,17 +1,19 @@
 -- The commands of a script, as their lines write them.
-use Rattle.std.specs.Prelude.{◌≡◌, ℕ, List, [], ◌∷◌, Some, None, Result, Ok, Err, codes, if◌then◌else◌}
+use Rattle.std.specs.Prelude.{◌≡◌, ℕ, List, [], ◌∷◌, Option, Some, None, Result, Ok, Err, codes, if◌then◌else◌}
 use Rattle.std.specs.Str.{bytes_eq}
 use Rattle.names.specs.Name.{IsName}
 use Rattle.names.specs.Fault.{name_fault, role_fault, or_then}
 use Rattle.names.specs.Role.{SpellsRole}
 use Rattle.credential_text.specs.Spelling.{Spells}
 use Rattle.credential_text.specs.Refusal as credential
-use Rattle.vaults.specs.declared.changes.Change.TheVariants.{Upload, Withdraw, Grant, Revoke}
-use Rattle.hall.specs.declared.queries.Query.TheVariants.{Ask}
+use Rattle.vaults.specs.declared.changes.Change.TheVariants as change
+use Rattle.hall.specs.declared.queries.Query.TheVariants as query
 use Rattle.service.specs.declared.commands.Command.{Command}
-use Rattle.service.specs.declared.commands.Command.TheVariants.{Alter, Seek, Poll, Wait, End, Vault, Sees}
+use Rattle.service.specs.declared.commands.Command.TheVariants as command
 use Rattle.service.specs.declared.refusals.Refusal.{Refusal}
 use Rattle.service.specs.declared.refusals.Refusal.TheVariants as refusal
+use Rattle.service.specs.declared.verbs.Verb.{Verb}
+use Rattle.service.specs.declared.verbs.Verb.TheVariants.{Put, Drop, Grant, Revoke, Ask, Poll, Wait, End, Vault, Sees}
 use Rattle.service.specs.Words.{words, after_word, IsNumber}
 
 -- the form of a command, by its words
@@ -41,21 +43,39 @@ abbrev pub with_two : (List ℕ → List ℕ → Form) → List (List ℕ) → F
 with_two form (first ∷ second ∷ []) = form first second
 with_two form _ = unknown
 
--- the first word says which command it is; `put` and `drop` take the rest of the line
+-- the verb that a word is
+abbrev pub verb_of : List ℕ → Option Verb
+verb_of word =
+    if bytes_eq word (codes "put") then Some Put
+    else (if bytes_eq word (codes "drop") then Some Drop
+    else (if bytes_eq word (codes "grant") then Some Grant
+    else (if bytes_eq word (codes "revoke") then Some Revoke
+    else (if bytes_eq word (codes "ask") then Some Ask
+    else (if bytes_eq word (codes "poll") then Some Poll
+    else (if bytes_eq word (codes "wait") then Some Wait
+    else (if bytes_eq word (codes "end") then Some End
+    else (if bytes_eq word (codes "vault") then Some Vault
+    else (if bytes_eq word (codes "sees") then Some Sees
+    else None)))))))))
+
+-- `put` and `drop` take the rest of the line, each other verb so many words
+abbrev pub form_by_verb : Option Verb → List (List ℕ) → List ℕ → Form
+form_by_verb None args rest = unknown
+form_by_verb (Some Put) args rest = put rest
+form_by_verb (Some Drop) args rest = drop rest
+form_by_verb (Some Grant) args rest = with_one grant args
+form_by_verb (Some Revoke) args rest = with_one revoke args
+form_by_verb (Some Ask) args rest = with_two ask args
+form_by_verb (Some Poll) args rest = with_one poll args
+form_by_verb (Some Wait) args rest = with_one wait args
+form_by_verb (Some End) args rest = with_one end args
+form_by_verb (Some Vault) args rest = with_none vault args
+form_by_verb (Some Sees) args rest = with_none sees args
+
+-- the first word says which command it is
 abbrev pub form_by_words : List (List ℕ) → List ℕ → Form
 form_by_words [] rest = unknown
-form_by_words (word ∷ args) rest =
-    if bytes_eq word (codes "put") then put rest
-    else (if bytes_eq word (codes "drop") then drop rest
-    else (if bytes_eq word (codes "grant") then with_one grant args
-    else (if bytes_eq word (codes "revoke") then with_one revoke args
-    else (if bytes_eq word (codes "ask") then with_two ask args
-    else (if bytes_eq word (codes "poll") then with_one poll args
-    else (if bytes_eq word (codes "wait") then with_one wait args
-    else (if bytes_eq word (codes "end") then with_one end args
-    else (if bytes_eq word (codes "vault") then with_none vault args
-    else (if bytes_eq word (codes "sees") then with_none sees args
-    else unknown)))))))))
+form_by_words (word ∷ args) rest = form_by_verb (verb_of word) args rest
 
 abbrev pub form_of : List ℕ → Form
 form_of text = form_by_words (words text) (after_word text)
@@ -83,23 +103,23 @@ RefusesNumber text _ = ⊥
 
 -- the command that this form writes, or the first refusal from left to right; want of memory comes last
 abbrev pub Reads : Form → Result Command Refusal → Type 0
-Reads (put text) (Ok (Alter (Upload c))) = Spells text c
+Reads (put text) (Ok (command.Alter (change.Upload c))) = Spells text c
 Reads (put text) (Err why) = RefusesCredential text why
-Reads (drop text) (Ok (Alter (Withdraw c))) = Spells text c
+Reads (drop text) (Ok (command.Alter (change.Withdraw c))) = Spells text c
 Reads (drop text) (Err why) = RefusesCredential text why
-Reads (grant name) (Ok (Alter (Grant reader))) = IsName name × (reader ≡ name)
+Reads (grant name) (Ok (command.Alter (change.Grant reader))) = IsName name × (reader ≡ name)
 Reads (grant name) (Err why) = RefusesName name why
-Reads (revoke name) (Ok (Alter (Revoke reader))) = IsName name × (reader ≡ name)
+Reads (revoke name) (Ok (command.Alter (change.Revoke reader))) = IsName name × (reader ≡ name)
 Reads (revoke name) (Err why) = RefusesName name why
-Reads (ask role who) (Ok (Seek (Ask r d))) = SpellsRole role r × IsName who × (d ≡ who)
+Reads (ask role who) (Ok (command.Seek (query.Ask r d))) = SpellsRole role r × IsName who × (d ≡ who)
 Reads (ask role who) (Err why) = RefusesQuestion role who why
-Reads (poll number) (Ok (Poll n)) = IsNumber number n
+Reads (poll number) (Ok (command.Poll n)) = IsNumber number n
 Reads (poll number) (Err why) = RefusesNumber number why
-Reads (wait number) (Ok (Wait n)) = IsNumber number n
+Reads (wait number) (Ok (command.Wait n)) = IsNumber number n
 Reads (wait number) (Err why) = RefusesNumber number why
-Reads (end number) (Ok (End n)) = IsNumber number n
+Reads (end number) (Ok (command.End n)) = IsNumber number n
 Reads (end number) (Err why) = RefusesNumber number why
-Reads vault (Ok Vault) = Unit {0}
-Reads sees (Ok Sees) = Unit {0}
+Reads vault (Ok command.Vault) = Unit {0}
+Reads sees (Ok command.Sees) = Unit {0}
 Reads unknown (Err refusal.Command) = Unit {0}
 Reads _ _ = ⊥

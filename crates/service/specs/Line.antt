@@ -1,7 +1,8 @@
--- The lines of an input.
-use Rattle.std.specs.Prelude.{ℕ, Bool, ◌&&◌, List, length, map, nat_le, if◌then◌else◌}
+-- The lines of an input, and those of them that are answered.
+use Rattle.std.specs.Prelude.{ℕ, Bool, ◌&&◌, List, length, map, nat_le, if◌then◌else◌, false, not, filter}
 use Rattle.std.specs.List.{list_all}
 use Rattle.std.specs.Str.Lines.{lines}
+use Rattle.service.specs.Words.{is_space}
 
 -- one line: its text, or why it has none
 pub data Line : Type 0 where
@@ -21,3 +22,13 @@ line_of bytes = if nat_le (length bytes) 4096 then (if list_all is_printable byt
 -- the last newline is a line too, where there is any
 abbrev pub lines_of : List ℕ → List Line
 lines_of input = map line_of (lines input)
+
+-- a line of nothing but spaces
+abbrev pub is_blank : Line → Bool
+is_blank (text t) = list_all is_space t
+is_blank too_long = false
+is_blank not_ascii = false
+
+-- the lines that are not blank
+abbrev pub commands_of : List ℕ → List Line
+commands_of input = filter (λ line. not (is_blank line)) (lines_of input)

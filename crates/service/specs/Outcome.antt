@@ -1,73 +1,76 @@
--- What of a script's replies went out.
-use Rattle.std.specs.Prelude.{◌≡◌, ◌⊎◌, ℕ, ◌<◌, List, [], ◌∷◌, ◌++◌, length, map, Result, Ok, Err, codes}
-use Rattle.hall.specs.State.{HallState}
-use Rattle.hall.specs.Calls.{new_hall}
-use Rattle.service.specs.declared.script_faults.ScriptFault.{ScriptFault}
-use Rattle.service.specs.declared.script_faults.ScriptFault.TheVariants.{Roster, Read, Write, Memory}
-use Rattle.service.specs.Line.{Line}
-use Rattle.service.specs.Entry.{Entry, entry_text}
-use Rattle.service.specs.Transcript.{IsTranscript}
-use Rattle.service.specs.Roster.{Row, tenant_of, HasRoster, HasNoRoster}
+-- What a line of a script is answered, by its text alone.
+use Rattle.std.specs.Prelude.{◌≡◌, ℕ, List, [], ◌∷◌, Result, Ok, Err, MatchBool, codes}
+use Rattle.std.specs.List.{list_any, before_first, after_first, flat_map}
+use Rattle.hall.specs.declared.requests.Request.TheVariants as request
+use Rattle.hall.specs.declared.faults.Fault.{Fault}
+use Rattle.hall.specs.declared.replies.Reply.{Reply}
+use Rattle.hall.specs.declared.replies.Reply.TheVariants.{Refused}
+use Rattle.hall.specs.State.{HallState, is_tenant}
+use Rattle.hall.specs.Deeds.{Deed, asks, waits, Told}
+use Rattle.service.specs.declared.commands.Command.{Command}
+use Rattle.service.specs.declared.commands.Command.TheVariants.{Alter, Seek, Poll, Wait, End, Vault, Sees}
+use Rattle.service.specs.declared.refusals.Refusal.{Refusal}
+use Rattle.service.specs.declared.refusals.Refusal.TheVariants as refusal
+use Rattle.service.specs.Line.{Line, text, too_long, not_ascii}
+use Rattle.service.specs.Words.{is_colon, trim_start}
+use Rattle.service.specs.Command.{Form, form_of, Reads}
+use Rattle.service.specs.Reply.{refusal_line, reply_lines}
 
--- the replies to all these commands went out
-pub record WroteAll (old : HallState) (commands : List Line) (went_out : List ℕ → Type 0) : Type 0 where
-  pub entries : List Entry
-  pub output : List ℕ
-  pub new : HallState
-  pub transcript : IsTranscript old commands entries output new
-  pub out : went_out output
+-- what became of a line: it was refused by its text alone, to nobody or to the tenant, or carried out
+pub data Outcome : Type 0 where
+  nobody : Refusal → Outcome
+  refused : List ℕ → Refusal → Outcome
+  served : List ℕ → Command → Reply → Outcome
 
--- the replies to the first of them did
-pub record WroteSome (old : HallState) (commands : List Line) (went_out : List ℕ → Type 0) : Type 0 where
-  pub done : List Line
-  pub rest : List Line
-  pub split : commands ≡ done ++ rest
-  pub all : WroteAll old done went_out
+-- the lines that answer it
+abbrev pub outcome_text : Outcome → List ℕ
+outcome_text (nobody why) = refusal_line (codes "?") why
+outcome_text (refused who why) = refusal_line who why
+outcome_text (served who command reply) = reply_lines who reply
 
--- a front of the text went out after the output, and not all of it
-pub record WroteFront (output reply : List ℕ) (went_out : List ℕ → Type 0) : Type 0 where
-  pub front : List ℕ
-  pub back : List ℕ
-  pub parts : reply ≡ front ++ back
-  pub missing : 0 < length back
-  pub out : went_out (output ++ front)
+-- what the tenant's command may become
+abbrev pub IsSaid : List ℕ → Form → Outcome → Type 0
+IsSaid name form (nobody why) = ⊥
+IsSaid name form (refused who why) = (who ≡ name) × Reads form (Err why)
+IsSaid name form (served who command reply) = (who ≡ name) × Reads form (Ok command)
 
--- the replies to the first of them did, and a front of the next one, whose command was carried out
-pub record WrotePart (old : HallState) (commands : List Line) (went_out : List ℕ → Type 0) : Type 0 where
-  pub done : List Line
-  pub line : Line
-  pub rest : List Line
-  pub split : commands ≡ done ++ line ∷ rest
-  pub entries : List Entry
-  pub entry : Entry
-  pub output : List ℕ
-  pub new : HallState
-  pub transcript : IsTranscript old (done ++ line ∷ []) (entries ++ entry ∷ []) (output ++ entry_text entry) new
-  pub front : WroteFront output (entry_text entry) went_out
+-- what a command may become, by the name before it
+abbrev pub IsNamed : HallState → List ℕ → List ℕ → Outcome → Type 0
+IsNamed hall who said outcome = MatchBool (is_tenant hall who) (IsSaid who (form_of said) outcome) (outcome ≡ nobody refusal.BadHello)
 
--- what went out to these commands, by how the script ended
-abbrev pub Wrote : HallState → List Line → Result (Unit {0}) ScriptFault → (List ℕ → Type 0) → Type 0
-Wrote old commands (Ok _) went_out = WroteAll old commands went_out
-Wrote old commands (Err Read) went_out = WroteSome old commands went_out
-Wrote old commands (Err Write) went_out = WrotePart old commands went_out
-Wrote old commands (Err Roster) went_out = ⊥
-Wrote old commands (Err Memory) went_out = ⊥
+-- what a line `NAME: COMMAND`, without the spaces in front, may become
+abbrev pub IsSpoken : HallState → List ℕ → Outcome → Type 0
+IsSpoken hall line outcome = MatchBool (list_any is_colon line)
+    (IsNamed hall (before_first is_colon line) (after_first is_colon line) outcome)
+    (outcome ≡ nobody refusal.Command)
 
--- the one line that answers a faulty roster
-abbrev pub roster_refusal : List ℕ
-roster_refusal = codes "?: error 63 roster" ++ 10 ∷ []
+-- what a line may become where these are the tenants
+abbrev pub IsOutcome : HallState → Line → Outcome → Type 0
+IsOutcome hall too_long outcome = outcome ≡ nobody refusal.LineLong
+IsOutcome hall not_ascii outcome = outcome ≡ nobody refusal.NotAscii
+IsOutcome hall (text t) outcome = IsSpoken hall (trim_start t) outcome
 
--- the lines begin with a roster, and the commands of its tenants were answered
-pub record Answers (lines : List Line) (result : Result (Unit {0}) ScriptFault) (went_out : List ℕ → Type 0) : Type 0 where
-  pub rows : List Row
-  pub commands : List Line
-  pub roster : HasRoster lines rows commands
-  pub wrote : Wrote (new_hall (map tenant_of rows)) commands result went_out
+-- what a command asks of the hall
+abbrev pub deed_of : Command → Deed
+deed_of (Alter change) = asks (request.Alter change)
+deed_of (Seek query) = asks (request.Seek query)
+deed_of (Poll number) = asks (request.Poll number)
+deed_of (Wait number) = waits number
+deed_of (End number) = asks (request.Close number)
+deed_of Vault = asks request.Vault
+deed_of Sees = asks request.Sees
 
--- What went out of a script, by its lines that are not blank. Want of memory comes before anything is written.
-abbrev pub ScriptWrote : List Line → Result (Unit {0}) ScriptFault → (List ℕ → Type 0) → Type 0
-ScriptWrote lines (Ok u) went_out = Answers lines (Ok u) went_out
-ScriptWrote lines (Err Roster) went_out = HasNoRoster lines × went_out roster_refusal
-ScriptWrote lines (Err Read) went_out = went_out [] ⊎ Answers lines (Err Read) went_out
-ScriptWrote lines (Err Write) went_out = (HasNoRoster lines × WroteFront [] roster_refusal went_out) ⊎ Answers lines (Err Write) went_out
-ScriptWrote lines (Err Memory) went_out = went_out []
+-- the reply by what carrying it out came to
+abbrev pub told_by : Result Reply Fault → Reply
+told_by (Ok reply) = reply
+told_by (Err fault) = Refused fault
+
+-- what was carried out
+abbrev pub deed_in : Outcome → List Told
+deed_in (nobody why) = []
+deed_in (refused who why) = []
+deed_in (served who command reply) = record { tenant = who; deed = deed_of command; reply = reply } ∷ []
+
+-- the deeds of these outcomes, in order: what was refused by its text alone is none
+abbrev pub deeds_in : List Outcome → List Told
+deeds_in outcomes = flat_map deed_in outcomes

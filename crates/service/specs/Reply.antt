@@ -10,8 +10,14 @@ use Rattle.hall.specs.declared.replies.Reply.{Reply}
 use Rattle.hall.specs.declared.replies.Reply.TheVariants.{Counted, Opened, Answered, Closed, Vault, Sees, Refused}
 use Rattle.hall.specs.Fault.{fault_number}
 use Rattle.service.specs.declared.refusals.Refusal.{Refusal}
-use Rattle.service.specs.FaultTexts.{text_of}
-use Rattle.service.specs.Refusal.{refusal_number}
+use Rattle.service.specs.declared.speakers.Speaker.{Speaker}
+use Rattle.service.specs.declared.speakers.Speaker.TheVariants.{Nobody, Tenant}
+use Rattle.service.specs.Refusal.{text_of, refusal_number}
+
+-- what stands before the colon of a line to nobody, or to a tenant
+abbrev pub speaker_name : Speaker → List ℕ
+speaker_name Nobody = codes "?"
+speaker_name (Tenant who) = who
 
 -- a line to somebody: the name, a colon, a space, the text, and a newline
 abbrev pub line_to : List ℕ → List ℕ → List ℕ

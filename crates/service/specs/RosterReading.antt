@@ -6,11 +6,9 @@ use Rattle.service.specs.declared.script_faults.ScriptFault.{ScriptFault}
 use Rattle.service.specs.declared.script_faults.ScriptFault.TheVariants as fault
 use Rattle.service.specs.declared.roster_lines.RosterLine.{RosterLine}
 use Rattle.service.specs.declared.roster_lines.RosterLine.TheVariants.{Blank, Tenant, Begin}
-use Rattle.service.specs.Line.{Line, text}
-use Rattle.service.specs.Source.{Source, known}
+use Rattle.service.specs.Line.{Line, text, commands_of}
+use Rattle.service.specs.LineReader.{Source, known, TakesFirst, TakesBlank}
 use Rattle.service.specs.Words.{is_space, IsNumber}
-use Rattle.service.specs.Commands.{commands_of}
-use Rattle.service.specs.Taking.{TakesFirst, TakesBlank}
 use Rattle.service.specs.Roster.{Row, IsRow, IsRowLine, IsBeginLine, HasRoster, HasNoRoster}
 
 -- the first word is this number, and these words follow it

@@ -7,7 +7,7 @@ use Rattle.vaults.specs.declared.changes.Entry.{Entry}
 use Rattle.vaults.specs.Journal.{view, credentials}
 use Rattle.hall.specs.declared.queries.Query.{Query}
 use Rattle.hall.specs.Truth.{Settled, Nothing, Yes, No}
-use Rattle.hall.specs.State.{Running, Tenant, HallState, IsSound}
+use Rattle.hall.specs.State.{Running, Tenant, HallState, IsSoundHall}
 
 -- a search that has not ended, with the credentials that it looks at
 pub record Copied : Type 0 where
@@ -27,12 +27,12 @@ settled_by None = Nothing
 settled_by (Some true) = Yes
 settled_by (Some false) = No
 
-abbrev pub tenant_of : SeatState → Tenant
-tenant_of s = record { name = s.name; limits = s.limits; opens = s.opens; searches = map (λ k. k.running) s.searches }
+abbrev pub tenant_at : SeatState → Tenant
+tenant_at s = record { name = s.name; limits = s.limits; opens = s.opens; searches = map (λ k. k.running) s.searches }
 
 -- the hall of a journal and the tenants' seats
 abbrev pub hall_of : List Entry → List SeatState → HallState
-hall_of journal seats = record { journal = journal; tenants = map tenant_of seats }
+hall_of journal seats = record { journal = journal; tenants = map tenant_at seats }
 
 -- the search looks at the credentials of its tenant's view at the opening
 abbrev pub IsCopy : List Entry → List ℕ → Copied → Type 0
@@ -43,7 +43,7 @@ HasCopies journal s = AllByRecursion (IsCopy journal s.name) s.searches
 
 -- what holds of every registry
 pub record IsRegistry (journal : List Entry) (seats : List SeatState) : Type 0 where
-  pub sound : IsSound (hall_of journal seats)
+  pub sound : IsSoundHall (hall_of journal seats)
   pub copies : AllByRecursion (HasCopies journal) seats
 
 -- a tenant that has done nothing
@@ -53,7 +53,10 @@ new_seat name limits = record { name = name; limits = limits; opens = 0; searche
 -- a search that was opened just now
 abbrev pub new_search : ℕ → List Entry → List ℕ → Query → Copied
 new_search n journal name query =
-    record { running = record { number = n; opened_at = length journal; query = query; settled = Nothing }; over = credentials (view journal name) }
+    record {
+      running = record { number = n; opened_at = length journal; query = query; settled = Nothing };
+      over = credentials (view journal name);
+    }
 
 -- the seat with one more search, of this number and opened now
 abbrev pub seat_opening : List Entry → Query → ℕ → SeatState → SeatState

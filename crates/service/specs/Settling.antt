@@ -22,7 +22,7 @@ abbrev pub come_to : Settled → Copied → Copied
 come_to s k = record { running = record k.running { settled = s }; over = k.over }
 
 -- the search stays as it has settled, or comes to the truth of what it looks at; and that is told
-pub record Settles (old : Copied) (told : Answer) (new : Copied) : Type 0 where
+pub record ComesTo (old : Copied) (told : Answer) (new : Copied) : Type 0 where
   pub settled : Settled
   pub after : new ≡ come_to settled old
   pub truth : (settled ≡ old.running.settled) ⊎ ((old.running.settled ≡ Nothing) × IsTruthOver old.over old.running.query settled)
@@ -49,5 +49,5 @@ pub record Drives (k : ℕ) (old : SeatState) (told : Answer) (new : SeatState) 
   pub after : Copied
   pub found : position (λ c. c.running.number == k) old.searches ≡ Some place
   pub there : slice_get old.searches place ≡ Some before
-  pub settles : Settles before told after
+  pub settles : ComesTo before told after
   pub rest : new ≡ record old { searches = set old.searches place after }

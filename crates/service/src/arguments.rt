@@ -1,6 +1,5 @@
 //! The words that follow the first one of a line.
-ghost use Rattle.service.specs.Words.{words};
-ghost use Rattle.service.specs.Arguments.{AreArguments};
+ghost use Rattle.service.specs.Words.{words, AreArguments};
 
 use crate::words::next_word;
 

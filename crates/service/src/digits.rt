@@ -1,10 +1,6 @@
 //! Text that is put into room that is there already. Nothing here takes memory.
 ghost use Rattle.std.specs.Prelude.{◌≡◌, ◌+◌, ◌≤◌, ◌++◌, length, vec_len, vec_capacity};
 ghost use Rattle.std.specs.Fmt.{decimal};
-ghost use Rattle.service.specs.declared.digits.TheConstants.{NUMBER_ROOM};
-
-/// The room that every number's digits fit.
-pub(crate) const NUMBER_ROOM: usize = 20;
 
 /// Appends a text.
 pub(crate) fn append(out: &mut Vec<u8>, text: &[u8])
@@ -17,10 +13,10 @@ pub(crate) fn append(out: &mut Vec<u8>, text: &[u8])
 
 /// Appends the decimal digits of a number.
 pub(crate) fn append_number(out: &mut Vec<u8>, number: u64)
-    requires room { vec_len out.old + NUMBER_ROOM ≤ vec_capacity out.old }
+    requires room { vec_len out.old + 20 ≤ vec_capacity out.old }
     ensures items { out.new.items ≡ out.old.items ++ decimal number }
     ensures capacity { vec_capacity out.old ≤ vec_capacity out.new }
-    ensures short { length (decimal number) ≤ NUMBER_ROOM }
+    ensures short { length (decimal number) ≤ 20 }
 {
     append_digits(out, number);
 }
@@ -36,6 +32,3 @@ fn append_digits(out: &mut Vec<u8>, number: u64)
     }
     out.push(b'0' + (number % 10) as u8).unwrap();
 }
-
-#[cfg(test)]
-mod tests;

@@ -18,6 +18,11 @@ impl<'a> Drips<'a> {
     pub(crate) fn new(rest: &'a [u8], before_fault: u64) -> Drips<'a> {
         Drips { rest, before_fault }
     }
+
+    // What was left unread.
+    pub(crate) fn rest(&self) -> &'a [u8] {
+        self.rest
+    }
 }
 
 impl Read for Drips<'_> {

@@ -1,6 +1,6 @@
 //! The texts of the refusals.
 ghost use Rattle.std.specs.Prelude.{◌≡◌, ◌≤◌, length, option_map, IfSome};
-ghost use Rattle.service.specs.FaultTexts.{refusal_of};
+ghost use Rattle.service.specs.Refusal.{refusal_of};
 
 /// The text that a reply shows after the number of a refusal, in the words of the protocol. A number that stands
 /// for no reply has none.

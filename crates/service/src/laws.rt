@@ -1,6 +1,5 @@
 //! What holds of rosters and scripts by their definitions alone.
-ghost use Rattle.service.specs.OneReading.{OneReading};
-ghost use Rattle.service.specs.TwoScripts.{TwoScripts};
+ghost use Rattle.service.specs.Laws.{OneReading, TwoScripts};
 
 /// A roster is read in one way: the same lines have no two lists of tenants, and no two lists of commands behind them.
 pub fn rosters_have_one_reading()

@@ -1,15 +1,13 @@
 //! The lines of a reader.
-ghost use Rattle.std.specs.Prelude.{◌≡◌, ◌<◌, ◌≤◌, ◌∷◌, ◌++◌, [], take, length, vec_len, vec_capacity, IfOk};
+ghost use Rattle.std.specs.Prelude.{◌≡◌, ◌<◌, ◌≤◌, ◌∷◌, ◌++◌, ◌^◌, [], take, length, vec_len, vec_capacity, IfOk};
 ghost use Rattle.std.specs.Borrow.{sem};
 ghost use Rattle.std.specs.Io.BufRead.{Rests};
 ghost use Rattle.std.specs.List.{list_all};
 ghost use Rattle.std.specs.Str.Lines.{strip_carriage_return};
-ghost use Rattle.service.specs.declared.lines.TheConstants.{KEPT};
+ghost use Rattle.service.specs.declared.lines.TheConstants.{KEPT, LINE_ROOM};
+ghost use Rattle.service.specs.declared.lines.limit.TheConstants.{MOST_READS};
 ghost use Rattle.service.specs.Line.{line_of, is_printable};
-ghost use Rattle.service.specs.Lines.{Shows, Gives, IsText};
-ghost use Rattle.service.specs.Source.{source_of};
-ghost use Rattle.service.specs.Taken.{Takes};
-ghost use Rattle.service.specs.Unread.{unread_bytes};
+ghost use Rattle.service.specs.LineReader.{Shows, Gives, IsText, source_of, TakesBytes, unread_bytes};
 ghost use Rattle.service.specs.contracts.lines.LineReader.{the_row as reader-row};
 
 use limit::Limited;
@@ -66,11 +64,11 @@ enum LineEnd {
 
 impl<R: Read> Model for LineReader<R> {
     ghost use Rattle.std.specs.Prelude.{◌≤◌, vec_capacity};
-    ghost use Rattle.service.specs.Source.{Source};
+    ghost use Rattle.service.specs.LineReader.{Source};
 
     ghost Value = { Source };
 
-    ghost use Rattle.service.specs.Unread.{unread};
+    ghost use Rattle.service.specs.LineReader.{unread};
 
     ghost view = { λ r. unread R.remaining r.bytes r.stage };
 
@@ -80,7 +78,9 @@ impl<R: Read> Model for LineReader<R> {
 impl<R: Read + Drop> LineReader<R> {
     /// Takes all the memory that reading will need. Without it the reader is dropped.
     pub fn make(alloc: Global, reader: R) -> Result<LineReader<R>, AllocError>
-        ensures { IfOk result (λ lines. lines ≡ source_of (R.remaining reader)) }
+        ensures source { IfOk result (λ lines. lines ≡ source_of (R.remaining reader)) }
+        ensures most_reads { MOST_READS ≡ 2 ^ 40 }
+        ensures most_bytes { LINE_ROOM ≡ 4096 }
     {
         let line = Vec::with_capacity(alloc, KEPT)?;
         match BufReader::new(alloc, Limited::new(reader)) {
@@ -162,7 +162,7 @@ fn take_line<R: Read + Drop>(
     line: &mut Vec<u8>,
 ) -> LineEnd
     requires { KEPT ≤ vec_capacity line.old }
-    ensures taken { Takes (unread_bytes R.remaining bytes.old) result line.new.items (unread_bytes R.remaining bytes.new) }
+    ensures taken { TakesBytes (unread_bytes R.remaining bytes.old) result line.new.items (unread_bytes R.remaining bytes.new) }
     ensures room { KEPT ≤ vec_capacity line.new }
 {
     line.clear();

@@ -40,3 +40,28 @@ impl Refusal {
         }
     }
 }
+
+impl From<NameFault> for Refusal {
+    ghost use Rattle.std.specs.Prelude.{◌≡◌};
+    ghost use Rattle.service.specs.declared.refusals.Refusal.TheVariants.{Name};
+
+    ghost from_gives = { λ fault refusal. refusal ≡ Name fault };
+
+    fn from(fault: NameFault) -> Refusal {
+        Refusal::Name(fault)
+    }
+}
+
+impl From<CredFault> for Refusal {
+    ghost use Rattle.std.specs.Prelude.{◌≡◌};
+    ghost use Rattle.service.specs.Refusal.{refusal_of_credential};
+
+    ghost from_gives = { λ fault refusal. refusal ≡ refusal_of_credential fault };
+
+    fn from(fault: CredFault) -> Refusal {
+        match fault {
+            CredFault::Memory => Refusal::Memory,
+            _ => Refusal::Credential(fault),
+        }
+    }
+}

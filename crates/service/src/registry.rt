@@ -179,6 +179,3 @@ fn seats_of(alloc: Global, roster: Vec<(Entity, Limits)>) -> Result<Vec<Seat>, A
         .map(|(name, limits)| Seat::new(alloc, name, limits))
         .collect(alloc)
 }
-
-#[cfg(test)]
-mod tests;

@@ -1,106 +1,85 @@
-//! The lines of the replies. A short one is put into room that is there already.
-ghost use Rattle.std.specs.Prelude.{◌≡◌, ◌≤◌, ◌+◌, ◌++◌, ◌∷◌, [], length, vec_len, vec_capacity, codes, OnOk};
+//! The lines of the replies. Only a vault and a list of names may take memory.
+ghost use Rattle.std.specs.Prelude.{◌≡◌, ◌≤◌, ◌++◌, ◌∷◌, length, codes, OnOk};
 ghost use Rattle.std.specs.Fmt.{decimal};
 ghost use Rattle.credential_text.specs.Spelling.{canonical};
 ghost use Rattle.hall.specs.declared.replies.Reply.TheVariants as reply;
-ghost use Rattle.service.specs.declared.reply_lines.TheConstants.{REPLY_ROOM};
-ghost use Rattle.service.specs.FaultTexts.{text_of};
-ghost use Rattle.service.specs.Reply.{line_to, error_text, refusal_line, answer_text, reply_lines, IsFilled};
+ghost use Rattle.service.specs.Refusal.{text_of};
+ghost use Rattle.service.specs.Reply.{speaker_name, line_to, error_text, refusal_line, answer_text, reply_lines, IsFilled};
 
-use crate::digits::{append, append_number};
 use crate::fault_texts::fault_text;
 use crate::refusals::Refusal;
-use credential_text::{Credential, write_credential};
+use crate::rooms::Room;
+use crate::speakers::Speaker;
+use credential_text::Credential;
 use hall::{Answer, Fault, Reply};
 use names::Entity;
 use std::alloc::AllocError;
 
-/// The room that every short reply fits: a name of 64 bytes, a colon and a space, the reply, and a newline.
-pub(crate) const REPLY_ROOM: usize = 128;
-
 /// Fills the room with the line that refuses a text. It takes no memory.
-pub(crate) fn fill_refusal(out: &mut Vec<u8>, who: &[u8], refusal: Refusal)
-    requires room { REPLY_ROOM ≤ vec_capacity out.old }
-    requires name { length who.now ≤ 64 }
-    ensures line { out.new.items ≡ refusal_line who.now refusal }
-    ensures capacity { vec_capacity out.old ≤ vec_capacity out.new }
+pub(crate) fn fill_refusal(room: &mut Room, who: &Speaker, refusal: Refusal)
+    ensures { room.new ≡ refusal_line (speaker_name who.now) refusal }
 {
-    fill_error(out, who, refusal.number());
+    fill_error(room, who, refusal.number());
 }
 
 /// Fills the room with the lines of a reply. Only a vault and a list of names take memory, and without it the one line
 /// says so.
-pub(crate) fn fill_reply(out: &mut Vec<u8>, who: &[u8], reply: &Reply)
-    requires room { REPLY_ROOM ≤ vec_capacity out.old }
-    requires name { length who.now ≤ 64 }
-    ensures filled { IsFilled who.now reply.now out.new.items }
-    ensures capacity { vec_capacity out.old ≤ vec_capacity out.new }
+pub(crate) fn fill_reply(room: &mut Room, who: &Speaker, reply: &Reply)
+    ensures { IsFilled (speaker_name who.now) reply.now room.new }
 {
     match reply {
-        Reply::Counted(count) => fill_counted(out, who, b"ok ", *count),
-        Reply::Opened(number) => fill_counted(out, who, b"search ", *number),
-        Reply::Answered(answer) => fill_answer(out, who, *answer),
-        Reply::Closed => fill_text(out, who, b"ended"),
-        Reply::Vault(rows) => fill_vault(out, who, rows.as_slice()),
-        Reply::Sees(names) => fill_sees(out, who, names.as_slice()),
-        Reply::Refused(fault) => fill_error(out, who, fault.number()),
+        Reply::Counted(count) => fill_counted(room, who, b"ok ", *count),
+        Reply::Opened(number) => fill_counted(room, who, b"search ", *number),
+        Reply::Answered(answer) => fill_answer(room, who, *answer),
+        Reply::Closed => fill_text(room, who, b"ended"),
+        Reply::Vault(rows) => fill_vault(room, who, rows.as_slice()),
+        Reply::Sees(names) => fill_sees(room, who, names.as_slice()),
+        Reply::Refused(fault) => fill_error(room, who, fault.number()),
     }
 }
 
 /// What a search has come to.
-fn fill_answer(out: &mut Vec<u8>, who: &[u8], answer: Answer)
-    requires room { REPLY_ROOM ≤ vec_capacity out.old }
-    requires name { length who.now ≤ 64 }
-    ensures line { out.new.items ≡ line_to who.now (answer_text answer) }
-    ensures capacity { vec_capacity out.old ≤ vec_capacity out.new }
+fn fill_answer(room: &mut Room, who: &Speaker, answer: Answer)
+    ensures { room.new ≡ line_to (speaker_name who.now) (answer_text answer) }
 {
     match answer {
-        Answer::Working => fill_text(out, who, b"working"),
-        Answer::Yes => fill_text(out, who, b"yes"),
-        Answer::No => fill_text(out, who, b"no"),
+        Answer::Working => fill_text(room, who, b"working"),
+        Answer::Yes => fill_text(room, who, b"yes"),
+        Answer::No => fill_text(room, who, b"no"),
     }
 }
 
 /// A word.
-fn fill_text(out: &mut Vec<u8>, who: &[u8], text: &[u8])
-    requires room { REPLY_ROOM ≤ vec_capacity out.old }
-    requires name { length who.now ≤ 64 }
+fn fill_text(room: &mut Room, who: &Speaker, text: &[u8])
     requires word { length text.now ≤ 8 }
-    ensures line { out.new.items ≡ line_to who.now text.now }
-    ensures capacity { vec_capacity out.old ≤ vec_capacity out.new }
+    ensures { room.new ≡ line_to (speaker_name who.now) text.now }
 {
-    begin_line(out, who);
-    append(out, text);
-    append(out, b"\n");
+    room.begin(who);
+    room.append(text);
+    room.append(b"\n");
 }
 
 /// A word and a number.
-fn fill_counted(out: &mut Vec<u8>, who: &[u8], word: &[u8], number: u64)
-    requires room { REPLY_ROOM ≤ vec_capacity out.old }
-    requires name { length who.now ≤ 64 }
+fn fill_counted(room: &mut Room, who: &Speaker, word: &[u8], number: u64)
     requires word { length word.now ≤ 8 }
-    ensures line { out.new.items ≡ line_to who.now (word.now ++ decimal number) }
-    ensures capacity { vec_capacity out.old ≤ vec_capacity out.new }
+    ensures { room.new ≡ line_to (speaker_name who.now) (word.now ++ decimal number) }
 {
-    begin_line(out, who);
-    append(out, word);
-    append_number(out, number);
-    append(out, b"\n");
+    room.begin(who);
+    room.append(word);
+    room.append_number(number);
+    room.append(b"\n");
 }
 
 /// A refusal's number and text.
-fn fill_error(out: &mut Vec<u8>, who: &[u8], number: u64)
-    requires room { REPLY_ROOM ≤ vec_capacity out.old }
-    requires name { length who.now ≤ 64 }
-    ensures line { out.new.items ≡ line_to who.now (error_text number) }
-    ensures capacity { vec_capacity out.old ≤ vec_capacity out.new }
+fn fill_error(room: &mut Room, who: &Speaker, number: u64)
+    ensures { room.new ≡ line_to (speaker_name who.now) (error_text number) }
 {
-    begin_line(out, who);
-    append(out, b"error ");
-    append_number(out, number);
-    append(out, b" ");
-    append(out, text_after(number).as_bytes());
-    append(out, b"\n");
+    room.begin(who);
+    room.append(b"error ");
+    room.append_number(number);
+    room.append(b" ");
+    room.append(text_after(number).as_bytes());
+    room.append(b"\n");
 }
 
 /// The text that stands after a refusal's number.
@@ -111,90 +90,61 @@ fn text_after(number: u64) -> &'static str
     fault_text(number).unwrap_or("")
 }
 
-/// Empties the room, and says in it who is answered.
-fn begin_line(out: &mut Vec<u8>, who: &[u8])
-    requires room { REPLY_ROOM ≤ vec_capacity out.old }
-    requires name { length who.now ≤ 64 }
-    ensures items { out.new.items ≡ who.now ++ codes ": " }
-    ensures capacity { vec_capacity out.old ≤ vec_capacity out.new }
-{
-    out.clear();
-    append(out, who);
-    append(out, b": ");
-}
-
 /// The credentials of a vault, or that memory lacked.
-fn fill_vault(out: &mut Vec<u8>, who: &[u8], rows: &[Credential])
-    requires room { REPLY_ROOM ≤ vec_capacity out.old }
-    requires name { length who.now ≤ 64 }
-    ensures filled { IsFilled who.now (reply.Vault rows.now) out.new.items }
-    ensures capacity { vec_capacity out.old ≤ vec_capacity out.new }
+fn fill_vault(room: &mut Room, who: &Speaker, rows: &[Credential])
+    ensures { IsFilled (speaker_name who.now) (reply.Vault rows.now) room.new }
 {
-    if write_vault(out, who, rows).is_err() {
-        fill_error(out, who, Fault::Memory.number());
+    if write_vault(room, who, rows).is_err() {
+        fill_error(room, who, Fault::Memory.number());
     }
 }
 
 /// The names that are seen, or that memory lacked.
-fn fill_sees(out: &mut Vec<u8>, who: &[u8], names: &[Entity])
-    requires room { REPLY_ROOM ≤ vec_capacity out.old }
-    requires name { length who.now ≤ 64 }
-    ensures filled { IsFilled who.now (reply.Sees names.now) out.new.items }
-    ensures capacity { vec_capacity out.old ≤ vec_capacity out.new }
+fn fill_sees(room: &mut Room, who: &Speaker, names: &[Entity])
+    ensures { IsFilled (speaker_name who.now) (reply.Sees names.now) room.new }
 {
-    if write_sees(out, who, names).is_err() {
-        fill_error(out, who, Fault::Memory.number());
+    if write_sees(room, who, names).is_err() {
+        fill_error(room, who, Fault::Memory.number());
     }
 }
 
 /// How many credentials there are, and a line for each.
-fn write_vault(out: &mut Vec<u8>, who: &[u8], rows: &[Credential]) -> Result<(), AllocError>
-    requires room { REPLY_ROOM ≤ vec_capacity out.old }
-    requires name { length who.now ≤ 64 }
-    ensures lines { OnOk result (out.new.items ≡ reply_lines who.now (reply.Vault rows.now)) }
-    ensures capacity { vec_capacity out.old ≤ vec_capacity out.new }
+fn write_vault(room: &mut Room, who: &Speaker, rows: &[Credential]) -> Result<(), AllocError>
+    ensures { OnOk result (room.new ≡ reply_lines (speaker_name who.now) (reply.Vault rows.now)) }
 {
-    fill_counted(out, who, b"vault ", rows.len() as u64);
+    fill_counted(room, who, b"vault ", rows.len() as u64);
     for row in rows {
-        write_row(out, who, row)?;
+        write_row(room, who, row)?;
     }
     Ok(())
 }
 
 /// Appends the line of one credential.
-fn write_row(out: &mut Vec<u8>, who: &[u8], row: &Credential) -> Result<(), AllocError>
-    ensures line { OnOk result (out.new.items ≡ out.old.items ++ line_to who.now (canonical row.now)) }
-    ensures capacity { vec_capacity out.old ≤ vec_capacity out.new }
+fn write_row(room: &mut Room, who: &Speaker, row: &Credential) -> Result<(), AllocError>
+    ensures { OnOk result (room.new ≡ room.old ++ line_to (speaker_name who.now) (canonical row.now)) }
 {
-    out.extend_from_slice(who)?;
-    out.extend_from_slice(b": ")?;
-    write_credential(row, out)?;
-    out.extend_from_slice(b"\n")
+    room.extend(who.name())?;
+    room.extend(b": ")?;
+    room.extend_by(row)?;
+    room.extend(b"\n")
 }
 
 /// The names in one line.
-fn write_sees(out: &mut Vec<u8>, who: &[u8], names: &[Entity]) -> Result<(), AllocError>
-    requires room { REPLY_ROOM ≤ vec_capacity out.old }
-    requires name { length who.now ≤ 64 }
-    ensures lines { OnOk result (out.new.items ≡ reply_lines who.now (reply.Sees names.now)) }
-    ensures capacity { vec_capacity out.old ≤ vec_capacity out.new }
+fn write_sees(room: &mut Room, who: &Speaker, names: &[Entity]) -> Result<(), AllocError>
+    ensures { OnOk result (room.new ≡ reply_lines (speaker_name who.now) (reply.Sees names.now)) }
 {
-    begin_line(out, who);
-    append(out, b"sees");
+    room.begin(who);
+    room.append(b"sees");
     for name in names {
-        write_name(out, name)?;
+        write_name(room, name)?;
     }
-    out.extend_from_slice(b"\n")
+    room.extend(b"\n")
 }
 
 /// Appends a space and a name.
-fn write_name(out: &mut Vec<u8>, name: &Entity) -> Result<(), AllocError>
-    ensures name { OnOk result (out.new.items ≡ out.old.items ++ 32 ∷ name.now) }
-    ensures capacity { vec_capacity out.old ≤ vec_capacity out.new }
+fn write_name(room: &mut Room, name: &Entity) -> Result<(), AllocError>
+    ensures { OnOk result (room.new ≡ room.old ++ 32 ∷ name.now) }
 {
-    out.extend_from_slice(b" ")?;
-    out.extend_from_slice(name.bytes())
+    room.extend(b" ")?;
+    room.extend(name.bytes())
 }
-
-#[cfg(test)]
-mod tests;

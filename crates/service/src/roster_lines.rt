@@ -6,8 +6,9 @@ ghost use Rattle.service.specs.Roster.{AreLimits, IsLimits};
 ghost use Rattle.service.specs.RosterReading.{BeginsWith, ReadsRow, ReadsBegin, IsTakenFor};
 
 use crate::script_faults::ScriptFault;
-use crate::words::{is_blank, next_word, number};
+use crate::words::{next_word, number};
 use names::Entity;
+use names::texts::is_blank;
 use quotas::Limits;
 use std::alloc::Global;
 use std::marker::Model;

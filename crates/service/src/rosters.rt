@@ -7,7 +7,7 @@ ghost use Rattle.hall.specs.State.{AreDistinct};
 ghost use Rattle.service.specs.declared.script_faults.ScriptFault.TheVariants as fault;
 ghost use Rattle.service.specs.Roster.{IsTenant, IsRoster, tenant_of};
 ghost use Rattle.service.specs.RosterReading.{FindsLine, AddsRow, ReadsRoster};
-ghost use Rattle.service.specs.Taking.{IfKnown};
+ghost use Rattle.service.specs.LineReader.{IfKnown};
 
 use crate::lines::{LineReader, NextLine};
 use crate::roster_lines::{RosterLine, Row, roster_line};

@@ -1,22 +1,23 @@
 //! A script: a roster, then the commands of its tenants, each with its reply.
-ghost use Rattle.std.specs.Prelude.{◌≤◌, vec_capacity, IfSome};
+ghost use Rattle.std.specs.Prelude.{IfSome};
 ghost use Rattle.std.specs.Io.KnownBytes.{Appends};
-ghost use Rattle.service.specs.declared.reply_lines.TheConstants.{REPLY_ROOM};
-ghost use Rattle.service.specs.Commands.{commands_of};
-ghost use Rattle.service.specs.Taking.{IfKnown};
+ghost use Rattle.service.specs.Line.{commands_of};
+ghost use Rattle.service.specs.LineReader.{IfKnown};
 ghost use Rattle.hall.specs.Calls.{IsNewHall};
-ghost use Rattle.service.specs.Outcome.{Wrote, ScriptWrote};
+ghost use Rattle.service.specs.Written.{Wrote, ScriptWrote};
 ghost use Rattle.service.specs.Turn.{Takes};
 
 use crate::answers::answer_line;
 use crate::lines::{LineReader, NextLine};
 use crate::refusals::Refusal;
 use crate::registry::Registry;
-use crate::reply_lines::{REPLY_ROOM, fill_refusal};
+use crate::reply_lines::fill_refusal;
+use crate::rooms::Room;
 use crate::rosters::Roster;
 use crate::script_faults::ScriptFault;
-use crate::words::is_blank;
+use crate::speakers::Speaker;
 use crate::writing::write_reply;
+use names::texts::is_blank;
 use std::alloc::Global;
 use std::io::{Read, Write};
 
@@ -27,9 +28,6 @@ enum Turn {
     End,
     Fault,
 }
-
-/// Who is answered where no tenant spoke.
-pub(crate) const NOBODY: &[u8; 1] = b"?";
 
 /// What answers a faulty roster.
 const ROSTER_REFUSAL: &[u8; 19] = b"?: error 63 roster\n";
@@ -44,7 +42,7 @@ pub fn run_script<R: Read + Drop, W: Write>(
     ensures { IfSome (R.remaining reader)
         (λ input. ScriptWrote (commands_of input) result (Appends (W.contents writer.old) (W.contents writer.new))) }
 {
-    let mut reply = Vec::with_capacity(alloc, REPLY_ROOM)?;
+    let mut reply = Room::make(alloc)?;
     let mut lines = LineReader::make(alloc, reader)?;
     let roster = match Roster::read(alloc, &mut lines) {
         Ok(roster) => roster,
@@ -65,18 +63,17 @@ fn run_commands<R: Read + Drop, W: Write>(
     alloc: Global,
     lines: &mut LineReader<R>,
     registry: &mut Registry,
-    reply: &mut Vec<u8>,
+    reply: &mut Room,
     writer: &mut W,
 ) -> Result<(), ScriptFault>
-    requires room { REPLY_ROOM ≤ vec_capacity reply.old }
-    requires fresh { IsNewHall registry.old }
+    requires { IsNewHall registry.old }
     ensures { IfKnown lines.old
         (λ commands. Wrote registry.old commands result (Appends (W.contents writer.old) (W.contents writer.new))) }
 {
     for _ in 0..u64::MAX {
         match take_turn(alloc, lines, registry, reply) {
             Turn::Blank => {}
-            Turn::Replied => write_reply(writer, reply)?,
+            Turn::Replied => write_reply(writer, reply.as_slice())?,
             Turn::End => return Ok(()),
             Turn::Fault => return Err(ScriptFault::Read),
         }
@@ -89,11 +86,9 @@ fn take_turn<R: Read + Drop>(
     alloc: Global,
     lines: &mut LineReader<R>,
     registry: &mut Registry,
-    reply: &mut Vec<u8>,
+    reply: &mut Room,
 ) -> Turn
-    requires { REPLY_ROOM ≤ vec_capacity reply.old }
-    ensures takes { IfKnown lines.old (λ commands. Takes commands registry.old result lines.new registry.new reply.new.items) }
-    ensures room { REPLY_ROOM ≤ vec_capacity reply.new }
+    ensures { IfKnown lines.old (λ commands. Takes commands registry.old result lines.new registry.new reply.new) }
 {
     match lines.next() {
         NextLine::Text(line) => {
@@ -104,11 +99,11 @@ fn take_turn<R: Read + Drop>(
             Turn::Replied
         }
         NextLine::Long => {
-            fill_refusal(reply, NOBODY, Refusal::LineLong);
+            fill_refusal(reply, &Speaker::Nobody, Refusal::LineLong);
             Turn::Replied
         }
         NextLine::NotAscii => {
-            fill_refusal(reply, NOBODY, Refusal::NotAscii);
+            fill_refusal(reply, &Speaker::Nobody, Refusal::NotAscii);
             Turn::Replied
         }
         NextLine::End => Turn::End,
@@ -118,5 +113,3 @@ fn take_turn<R: Read + Drop>(
 
 #[cfg(test)]
 mod tests;
-#[cfg(test)]
-mod worked;

@@ -1,7 +1,7 @@
 //! The searches that a tenant has opened.
 ghost use Rattle.std.specs.Prelude.{◌≡◌, IfOk, OnErr};
 ghost use Rattle.hall.specs.Truth.{Nothing, answer_of};
-ghost use Rattle.service.specs.Settling.{IsTruthOver, Settles};
+ghost use Rattle.service.specs.Settling.{IsTruthOver, ComesTo};
 ghost use Rattle.service.specs.Seats.{settled_by};
 
 use credential_text::Credential;
@@ -26,13 +26,19 @@ impl Model for Search {
 
     ghost Value = { Copied };
 
-    ghost view = { λ s. record { running = record { number = s.number; opened_at = s.opened_at; query = s.query; settled = settled_by s.answer }; over = s.over.items } };
+    ghost view = { λ s. record {
+      running = record { number = s.number; opened_at = s.opened_at; query = s.query; settled = settled_by s.answer };
+      over = s.over.items;
+    } };
 }
 
 impl Search {
     /// The search, for which nobody has waited.
     pub(crate) fn new(number: u64, opened_at: u64, query: Query, over: Vec<Credential>) -> Search
-        ensures { result ≡ record { running = record { number = number; opened_at = opened_at; query = query; settled = Nothing }; over = over.items } }
+        ensures { result ≡ record {
+          running = record { number = number; opened_at = opened_at; query = query; settled = Nothing };
+          over = over.items;
+        } }
     {
         Search {
             number,
@@ -63,7 +69,7 @@ impl Search {
 
     /// What it comes to, found now where that was not done before.
     pub(crate) fn settle(&mut self, alloc: Global) -> Result<Answer, AllocError>
-        ensures settled { IfOk result (λ told. Settles self.old told self.new) }
+        ensures settled { IfOk result (λ told. ComesTo self.old told self.new) }
         ensures unchanged { OnErr result (self.new ≡ self.old) }
     {
         if self.answer.is_none() {

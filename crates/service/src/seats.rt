@@ -1,5 +1,7 @@
 //! The tenants, each with its limits and its searches.
-ghost use Rattle.std.specs.Prelude.{◌≡◌, ◌+◌, ◌<◌, ◌==◌, None, Some, length, unwrap_or, IfOk, IfErr, OnOk, OnErr, option_copied, position, filter, not};
+ghost use Rattle.std.specs.Prelude.{◌≡◌, ◌+◌, ◌<◌, ◌==◌, None, Some, length, unwrap_or, IfOk, IfErr, OnOk, OnErr, option_copied};
+ghost use Rattle.std.specs.Prelude.{position, filter};
+ghost use Rattle.std.specs.Prelude.{not};
 ghost use Rattle.names.specs.Name.{is_same};
 ghost use Rattle.vaults.specs.Journal.{entries_of, vault, readers};
 ghost use Rattle.hall.specs.declared.faults.Fault.TheVariants as faults;
@@ -72,7 +74,8 @@ impl Seat {
     #[tactic(auto, using(vaults::proofs::Exactness::vaults_own, vaults::proofs::Exactness::readers_own))]
     pub(crate) fn may_alter(&self, book: &Book, change: &Change) -> Result<(), Fault>
         ensures allowed { OnOk result (limit_refusal self.now.limits (entries_of self.now.name book.now) self.now.name change.now ≡ None) }
-        ensures refused { IfErr result (λ f. limit_refusal self.now.limits (entries_of self.now.name book.now) self.now.name change.now ≡ Some f) }
+        ensures refused { IfErr result
+            (λ f. limit_refusal self.now.limits (entries_of self.now.name book.now) self.now.name change.now ≡ Some f) }
     {
         let used = self.used(book);
         self.limits.may_change(&used)?;
@@ -90,7 +93,8 @@ impl Seat {
         ensures allowed { OnOk result (seek_refusal self.old.limits (length self.old.searches) self.old.opens ≡ None) }
         ensures number { IfOk result (λ n. n ≡ self.old.opens + 1) }
         ensures opened { IfOk result (λ n. self.new ≡ seat_opening book.now query n self.old) }
-        ensures refused { IfErr result (λ f. f ≡ unwrap_or (seek_refusal self.old.limits (length self.old.searches) self.old.opens) faults.Memory) }
+        ensures refused { IfErr result
+            (λ f. f ≡ unwrap_or (seek_refusal self.old.limits (length self.old.searches) self.old.opens) faults.Memory) }
         ensures unchanged { OnErr result (self.new ≡ self.old) }
     {
         self.may_open(book)?;

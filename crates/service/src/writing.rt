@@ -25,6 +25,3 @@ pub(crate) fn write_reply<W: Write>(writer: &mut W, reply: &[u8]) -> Result<(), 
     }
     Ok(())
 }
-
-#[cfg(test)]
-mod tests;

@@ -1,8 +1,7 @@
 //! A bound on how often a reader is asked.
-ghost use Rattle.std.specs.Prelude.{◌≡◌, ◌+◌, ◌<◌, IsErr};
+ghost use Rattle.std.specs.Prelude.{◌≡◌, ◌+◌, ◌<◌, ◌≤◌, ◌^◌, IsErr};
 ghost use Rattle.std.specs.Io.KnownBytes.{ReadConsumes};
 ghost use Rattle.std.specs.Io.{ReadsAtMost};
-ghost use Rattle.service.specs.declared.lines.limit.TheConstants.{MOST_READS};
 
 use std::io;
 use std::io::Read;
@@ -15,17 +14,19 @@ pub const MOST_READS: u64 = 1 << 40;
 pub(crate) struct Limited<R> {
     inner: R,
     left: u64,
+    ghost few: { left ≤ 2 ^ 40 },
 }
 
 impl<R> Limited<R> {
     pub(crate) fn new(inner: R) -> Limited<R>
         ensures inner { result.inner ≡ inner }
-        ensures left { result.left ≡ MOST_READS }
+        ensures left { result.left ≡ 2 ^ 40 }
     {
         Limited::with_reads(inner, MOST_READS)
     }
 
     pub(crate) fn with_reads(inner: R, left: u64) -> Limited<R>
+        requires { left ≤ 2 ^ 40 }
         ensures inner { result.inner ≡ inner }
         ensures left { result.left ≡ left }
     {

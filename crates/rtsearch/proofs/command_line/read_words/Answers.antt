@@ -12,8 +12,11 @@ script = new_app (codes "script")
 abbrev requiring : App → App
 requiring a = record { top = record a.top { subcommand_required = true }; subs = a.subs }
 
+abbrev versioned : App → App
+versioned a = record { top = record a.top { has_version = true }; subs = a.subs }
+
 abbrev bare : App
-bare = requiring (new_app (codes "rtsearch"))
+bare = requiring (versioned (new_app (codes "rtsearch")))
 
 abbrev program : App
 program = with_subcommand bare script.top
@@ -26,7 +29,7 @@ pub returns : goal.returns
 returns c =
     let script_is : app_of c.about-script.result ≡ script = ap app_of_fields c.about-script.ensures ∙ c.new.ensures.app in
     let bare_is : app_of c.subcommand_required.result ≡ bare = ap app_of_fields c.subcommand_required.ensures
-    ∙ ap requiring (ap app_of_fields c.about.ensures ∙ c.new-2.ensures.app) in
+    ∙ ap requiring (ap app_of_fields c.version.ensures ∙ ap versioned (ap app_of_fields c.about.ensures ∙ c.new-2.ensures.app)) in
     let program_is : app_of c.in_ok-program.program ≡ program = c.in_ok-program.ensures.shape (search rules)
     ∙ ap₂ with_subcommand bare_is (ap (λ (a : App). a.top) script_is) in
     let parse = c.try_get_matches_from in

@@ -1,34 +1,34 @@
 -- A line without a colon, or with no tenant's name before it, is answered to nobody.
 use Rattle.std.proofs.Common.{refl, sym}
 use Rattle.service.specs.declared.refusals.Refusal.TheVariants as refusal
-use Rattle.service.specs.Entry.{nobody}
-use Rattle.service.proofs.EntryLemmas.{IsEntry-no_colon, IsEntry-stranger, IsEntry-tenant}
+use Rattle.service.specs.Outcome.{nobody}
+use Rattle.service.proofs.OutcomeLemmas.{IsOutcome-no_colon, IsOutcome-stranger, IsOutcome-tenant}
 use Rattle.service.proofs.answers.answer_line.Goals as goal
 
-pub returns-in_default-clause-answered : goal.returns-in_default-clause-answered
-returns-in_default-clause-answered c = record {
-  entry = nobody refusal.Command;
-  allowed = IsEntry-no_colon c.args.registry.now c.args.line.now (rw c.skip_spaces.ensures at c.in_default.ensures.found);
+pub returns-in_default : goal.returns-in_default
+returns-in_default c = record {
+  outcome = nobody refusal.Command;
+  allowed = IsOutcome-no_colon c.args.registry.now c.args.line.now (rw c.trim_start.ensures at c.in_default.ensures.found);
   carried = refl;
-  text = sym c.fill_refusal.ensures.line;
+  text = sym c.fill_refusal.ensures;
 }
 
-pub returns-in-Some-called-clause-answered : goal.returns-in-Some-called-clause-answered
-returns-in-Some-called-clause-answered c =
-    let said = c.answer_tenant.ensures.said in
+pub returns-in-Some-called : goal.returns-in-Some-called
+returns-in-Some-called c =
+    let said = c.answer_tenant.ensures in
     record {
-      entry = said.entry;
-      allowed = IsEntry-tenant c.args.registry.now c.args.line.now c.in-Some.before.now c.in-Some.said.now c.in-Some-called.who said.entry (rw c.skip_spaces.ensures at c.in-Some.ensures.found)
-          (rw c.skip_spaces.ensures at c.in-Some.ensures.before) (rw c.skip_spaces.ensures at c.in-Some.ensures.after) c.in-Some-called.ensures said.allowed;
+      outcome = said.outcome;
+      allowed = IsOutcome-tenant c.args.registry.now c.args.line.now c.in-Some.before.now c.in-Some.said.now c.in-Some-called.who said.outcome (rw c.trim_start.ensures at c.in-Some.ensures.found)
+          (rw c.trim_start.ensures at c.in-Some.ensures.before) (rw c.trim_start.ensures at c.in-Some.ensures.after) c.in-Some-called.ensures said.allowed;
       carried = said.carried;
       text = said.text;
     }
 
-pub returns-in-None-clause-answered : goal.returns-in-None-clause-answered
-returns-in-None-clause-answered c = record {
-  entry = nobody refusal.BadHello;
-  allowed = IsEntry-stranger c.args.registry.now c.args.line.now c.in-Some.before.now (rw c.skip_spaces.ensures at c.in-Some.ensures.found)
-      (rw c.skip_spaces.ensures at c.in-Some.ensures.before) c.in-None.ensures;
+pub returns-in-None : goal.returns-in-None
+returns-in-None c = record {
+  outcome = nobody refusal.BadHello;
+  allowed = IsOutcome-stranger c.args.registry.now c.args.line.now c.in-Some.before.now (rw c.trim_start.ensures at c.in-Some.ensures.found)
+      (rw c.trim_start.ensures at c.in-Some.ensures.before) c.in-None.ensures;
   carried = refl;
-  text = sym c.fill_refusal-in-None.ensures.line;
+  text = sym c.fill_refusal-in-None.ensures;
 }

@@ -3,11 +3,11 @@ use Rattle.service.specs.Command.{form_of}
 use Rattle.service.proofs.SaidLemmas.{Says-served, Says-refused}
 use Rattle.service.proofs.answers.answer_tenant.Goals as goal
 
-pub returns-in-Ok-clause-said : goal.returns-in-Ok-clause-said
-returns-in-Ok-clause-said c =
-    Says-served c.args.registry.now c.serve-answer.new.registry c.args.who (form_of c.args.said.now) c.in-Ok.command c.serve-answer.result c.fill_reply.new.out.items
-    c.in-Ok.ensures c.serve-answer.ensures.carried c.serve-answer.ensures.memory_last (rw c.bytes.ensures.value at c.fill_reply.ensures.filled)
+pub returns-in-Ok : goal.returns-in-Ok
+returns-in-Ok c =
+    Says-served c.args.registry.now c.serve-told.new.registry c.args.who (form_of c.args.said.now) c.in-Ok.command c.serve-told.result c.fill_reply.new.room
+    c.in-Ok.ensures c.serve-told.ensures.carried c.serve-told.ensures.memory_last c.fill_reply.ensures
 
-pub returns-in-Err-clause-said : goal.returns-in-Err-clause-said
-returns-in-Err-clause-said c =
-    Says-refused c.args.registry.now c.args.who (form_of c.args.said.now) c.in-Err.refusal c.fill_refusal.new.out.items c.in-Err.ensures (rw c.bytes-in-Err.ensures.value at c.fill_refusal.ensures.line)
+pub returns-in-Err : goal.returns-in-Err
+returns-in-Err c =
+    Says-refused c.args.registry.now c.args.who (form_of c.args.said.now) c.in-Err.refusal c.fill_refusal.new.room c.in-Err.ensures c.fill_refusal.ensures

@@ -1,7 +1,7 @@
 -- What a transcript allows to a tenant agrees in both.
 use Rattle.hall.specs.Deeds.{calls_of, replies_of}
 use Rattle.hall.proofs.Runs.{allowed_agree}
-use Rattle.service.specs.Entry.{deeds_in}
+use Rattle.service.specs.Outcome.{deeds_in}
 use Rattle.service.proofs.laws.two_scripts.Goals as goal
 
 pub returns : goal.returns

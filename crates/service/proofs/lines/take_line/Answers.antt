@@ -3,7 +3,7 @@ use Rattle.std.proofs.Common.{arith, ◌∷◌, ◌++◌, []}
 use Rattle.std.proofs.lemmas.List.{length-take}
 use Rattle.std.specs.Io.KnownBytes.{Consumes}
 use Rattle.std.proofs.lemmas.Result.{IfOk-at_ok}
-use Rattle.service.specs.Unread.{unread_bytes}
+use Rattle.service.specs.LineReader.{unread_bytes}
 use Rattle.service.proofs.TakenLemmas.{Consumes-more, take-push_kept, HasNoNewline-push, same-at_end, IsAtEnd-at_none}
 use Rattle.service.proofs.lines.take_line.Goals as goal
 

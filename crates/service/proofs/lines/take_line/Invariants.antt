@@ -1,7 +1,6 @@
 use Rattle.std.proofs.Common.{◌≡◌, ◌≤◌, ℕ, List, take, vec_capacity}
 use Rattle.std.specs.Io.KnownBytes.{Consumes}
-use Rattle.service.specs.Taken.{HasNoNewline}
-use Rattle.service.specs.Unread.{unread_bytes}
+use Rattle.service.specs.LineReader.{HasNoNewline, unread_bytes}
 use Rattle.service.proofs.lines.take_line.Given as goal
 
 -- the bytes so far are no newlines, and the first of them are kept

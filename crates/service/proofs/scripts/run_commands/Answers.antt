@@ -5,23 +5,23 @@ use Rattle.service.proofs.scripts.run_commands.Goals as goal
 use Rattle.service.proofs.scripts.run_commands.Goals.{in-Blank, in-Replied+in_ok-write_reply-in-Replied}
 
 pub loop-init : goal.loop-init
-loop-init g c = record { so_far = SoFar-start c.args.lines.now c.args.registry.now (g.W.Write.contents c.args.writer.now); room = c.requires.room }
+loop-init g c = SoFar-start c.args.lines.now c.args.registry.now (g.W.Write.contents c.args.writer.now)
 
 pub returns-in_err-write_reply-in-Replied : goal.returns-in_err-write_reply-in-Replied
 returns-in_err-write_reply-in-Replied g c =
     let p = err_from_is_err_and c.from_residual.result c.from_residual.ensures.1 in
-    let written = rw c.deref.ensures.value at c.in_err-write_reply-in-Replied.ensures.err in
+    let written = rw c.as_slice.ensures at c.in_err-write_reply-in-Replied.ensures.err in
     rw (p.1, p.2)
-    (Wrote-part c.args.lines.now c.loop.lines c.take_turn.new.lines c.args.registry.now c.loop.registry c.take_turn.new.registry c.take_turn.new.reply.items _ _ _
-    c.requires.fresh c.loop.invariant.so_far c.in-Replied.ensures.takes written)
+    (Wrote-part c.args.lines.now c.loop.lines c.take_turn.new.lines c.args.registry.now c.loop.registry c.take_turn.new.registry c.take_turn.new.reply _ _ _
+    c.requires c.loop.invariant c.in-Replied.ensures written)
 
 pub returns-in-Fault : goal.returns-in-Fault
-returns-in-Fault g c = Wrote-some c.args.lines.now c.loop.lines c.args.registry.now c.loop.registry _ c.requires.fresh c.loop.invariant.so_far
+returns-in-Fault g c = Wrote-some c.args.lines.now c.loop.lines c.args.registry.now c.loop.registry _ c.requires c.loop.invariant
 
 pub returns-in-End : goal.returns-in-End
 returns-in-End g c =
-    Wrote-all c.args.lines.now c.loop.lines c.take_turn.new.lines c.args.registry.now c.loop.registry c.take_turn.new.registry c.take_turn.new.reply.items _
-    c.requires.fresh c.loop.invariant.so_far c.in-End.ensures.takes
+    Wrote-all c.args.lines.now c.loop.lines c.take_turn.new.lines c.args.registry.now c.loop.registry c.take_turn.new.registry c.take_turn.new.reply _
+    c.requires c.loop.invariant c.in-End.ensures
 
 pub loop-preserved : goal.loop-preserved
 loop-preserved g c =
@@ -31,17 +31,13 @@ loop-preserved g c =
     let start = c.args.registry.now in
     let before = c.loop.registry in
     let after = c.take_turn.new.registry in
-    let reply = c.take_turn.new.reply.items in
-    record {
-      so_far = elim c.match-take_turn.branch [
-        | in-Blank w ↦ rw w.writer-is (SoFar-blank old mid new start before after reply _ c.loop.invariant.so_far w.in-Blank.ensures.takes)
-        | in-Replied+in_ok-write_reply-in-Replied w ↦
-            let written = rw w.deref.ensures.value at w.in_ok-write_reply-in-Replied.ensures.ok in
-            rw w.writer-is
-            (SoFar-replied old mid new start before after reply _ _ _ c.requires.fresh c.loop.invariant.so_far w.in-Replied.ensures.takes written)
-      ];
-      room = c.take_turn.ensures.room;
-    }
+    let reply = c.take_turn.new.reply in
+    elim c.match-take_turn.branch [
+      | in-Blank w ↦ rw w.writer-is (SoFar-blank old mid new start before after reply _ c.loop.invariant w.in-Blank.ensures)
+      | in-Replied+in_ok-write_reply-in-Replied w ↦
+          let written = rw w.as_slice.ensures at w.in_ok-write_reply-in-Replied.ensures.ok in
+          rw w.writer-is (SoFar-replied old mid new start before after reply _ _ _ c.requires c.loop.invariant w.in-Replied.ensures written)
+    ]
 
 pub returns : goal.returns
-returns g c = Wrote-some c.args.lines.now c.loop.lines c.args.registry.now c.loop.registry _ c.requires.fresh c.loop.invariant.so_far
+returns g c = Wrote-some c.args.lines.now c.loop.lines c.args.registry.now c.loop.registry _ c.requires c.loop.invariant

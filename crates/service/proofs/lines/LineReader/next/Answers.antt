@@ -4,8 +4,7 @@ use Rattle.std.proofs.lemmas.List.{length-take}
 use Rattle.std.specs.Str.Lines.{strip_carriage_return}
 use Rattle.service.specs.declared.lines.NextLine.TheVariants.{End}
 use Rattle.service.specs.Line.{line_of}
-use Rattle.service.specs.Lines.{Shows}
-use Rattle.service.specs.Unread.{unread_bytes}
+use Rattle.service.specs.LineReader.{Shows, unread_bytes}
 use Rattle.service.proofs.LineLemmas.{line_of-kept, line_of-stripped_kept}
 use Rattle.service.proofs.LinesLemmas.{Gives-newline, Gives-at_end}
 use Rattle.service.proofs.lines.LineReader.next.Goals as goal

@@ -4,7 +4,8 @@ use Rattle.std.proofs.lemmas.Bool.{eqb-false, eqb-true}
 use Rattle.std.proofs.lemmas.List.{nil_from_length}
 use Rattle.std.proofs.lemmas.Result.{err_from_is_err_and}
 use Rattle.service.proofs.RosterLemmas.{IsDistinct-none, IsDistinct-row}
-use Rattle.service.proofs.RosterSteps.{SoFar-start, SoFar-blank, SoFar-row, ReadsRoster-unread, ReadsRoster-refused, ReadsRoster-empty, ReadsRoster-begin}
+use Rattle.service.proofs.RosterSteps.{SoFar-start, SoFar-blank, SoFar-row, ReadsRoster-unread, ReadsRoster-refused, ReadsRoster-empty}
+use Rattle.service.proofs.RosterSteps.{ReadsRoster-begin}
 use Rattle.service.proofs.rosters.Roster.read.Goals as goal
 use Rattle.service.proofs.rosters.Roster.read.Goals.{in-Blank, in-Tenant+in_ok-add_row-in-Tenant}
 

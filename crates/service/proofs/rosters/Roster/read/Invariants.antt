@@ -1,7 +1,7 @@
 use Rattle.std.proofs.Common.{◌≤◌, length}
 use Rattle.std.specs.List.{IsDistinct}
 use Rattle.names.specs.Name.{is_same}
-use Rattle.service.specs.Taking.{IfKnown}
+use Rattle.service.specs.LineReader.{IfKnown}
 use Rattle.service.specs.Roster.{names_of}
 use Rattle.service.proofs.RosterSteps.{SoFar}
 use Rattle.service.proofs.rosters.Roster.read.Given as goal
