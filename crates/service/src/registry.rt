@@ -42,7 +42,7 @@ impl Registry {
         ensures hall { IfOk result (λ h. h ≡ new_hall roster.items) }
         ensures only_memory { IfErr result (λ f. f ≡ Fault.Memory) }
     {
-        let book = Book::new(alloc)?;
+        let book = Book::new(alloc);
         let seats = seats_of(alloc, roster)?;
         Ok(Registry { alloc, book, seats })
     }
