@@ -11,7 +11,9 @@ pub record IsOrder {K : Type 0} (compare : K → K → Ordering) : Type 0 where
   pub tied : (x y : K) → (compare x y ≡ Equal) ↔ (x ≡ y)
 
 -- `==` finds the same just those that are equal, and both comparisons are the order
-pub record ComparesBy {K : Type 0} (order : K → K → Ordering) (eq : K → K → Bool) (partial_cmp : K → K → Option Ordering) (cmp : K → K → Ordering) : Type 0 where
+pub record ComparesBy
+    {K : Type 0} (order : K → K → Ordering)
+    (eq : K → K → Bool) (partial_cmp : K → K → Option Ordering) (cmp : K → K → Ordering) : Type 0 where
   pub same : (x y : K) → IsTrue (eq x y) ↔ (x ≡ y)
   pub partial : (x y : K) → partial_cmp x y ≡ Some (order x y)
   pub total : (x y : K) → cmp x y ≡ order x y
