@@ -10,7 +10,6 @@ use std::alloc::{AllocError, Global};
 use std::marker::Model;
 
 /// The nodes of a search with their listeners and solutions, each in order of adding. Nodes are numbered from 0.
-#[derive(Drop)]
 pub struct Graph {
     nodes: IndexSet<Expr>,
     listeners: Listeners,
@@ -32,6 +31,16 @@ impl Model for Graph {
     } };
 
     ghost invariant = { λ g. IsStored g.nodes.keys g.listeners g.solutions };
+}
+
+impl Drop for Graph {
+    fn drop(self) {
+        let Graph {
+            nodes: _nodes,
+            listeners: _listeners,
+            solutions: _solutions,
+        } = self;
+    }
 }
 
 impl Graph {
