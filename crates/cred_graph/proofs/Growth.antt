@@ -1,5 +1,5 @@
 -- A graph stays a graph where a node, a listener or a solution is added.
-use Rattle.std.proofs.Common.{ℕ, zero, suc, ◌<◌, ◌≤◌, ◌+◌, ◌≡◌, ◌∙◌, ◌⊎◌, refl, sym, ap, subst, inl, inr, List, [], ◌∷◌, ◌++◌, Some, Contains, length, get_or, slice_get, arith}
+use Rattle.std.proofs.Common.{ℕ, zero, suc, ◌<◌, ◌≤◌, ◌+◌, ◌≡◌, ◌∙◌, ◌⊎◌, refl, sym, ap, subst, inl, inr, List, [], ◌∷◌, ◌++◌, Some, Contains, length, slice_get, arith}
 use Rattle.std.proofs.lemmas.Bool.{cases_eq}
 use Rattle.std.proofs.lemmas.List.{take-append-le, length_push, length-set, get_or-set_same, get_or-set_other}
 use Rattle.std.proofs.lemmas.List.Elements.{All-weaker, Contains-push_cases}
@@ -12,7 +12,7 @@ use Rattle.cred_graph.specs.declared.listeners.Listening.{Listening}
 use Rattle.cred_graph.specs.declared.solutions.Solution.{Solution}
 use Rattle.cred_graph.specs.declared.solutions.Reason.{Reason}
 use Rattle.cred_graph.specs.declared.solutions.Reason.TheVariants as reason
-use Rattle.cred_graph.specs.GraphState.{GraphState, IsNode, Listens, IsSolution, Known, listed_at, listed_with, listeners_of, empty_graph, before}
+use Rattle.cred_graph.specs.GraphState.{GraphState, IsNode, Listens, IsSolution, Known, listed_at, listed_with, before}
 use Rattle.cred_graph.specs.Reason.{Fits}
 use Rattle.cred_graph.specs.Graph.{IsGraph}
 use Rattle.cred_graph.proofs.Lists.{Contains-at_place, slice_get_stays, slice_get_push_cases}
@@ -181,17 +181,6 @@ graph_with_solution g s graph absent fits = record {
   justified = justified_more g s graph fits;
 }
 
-pub graph_empty : IsGraph empty_graph
-graph_empty = record {
-  one_node = λ m n e p q. cc;
-  parts_in_range = λ n e at. cc;
-  one_list_each = refl;
-  askers_in_range = λ n l listens. absurd (omega (arith, listens.1));
-  one_listening = λ n i j l p q. cc;
-  one_solution = λ i j s t p q node who. cc;
-  justified = λ i s at. cc;
-}
-
 -- the same graphs, by their parts
 
 pub node_added : (g h : GraphState) (e : Expr) → IsGraph g → (Contains g.nodes e → ⊥) → HasPartsInRange e →
@@ -205,3 +194,9 @@ pub listener_added : (g h : GraphState) (n : ℕ) (l : Listening) → IsGraph g 
 listener_added g h n l graph absent asked asker nodes listeners solutions =
     let same : h ≡ with_listener g n l = λ i. record { nodes = nodes i; listeners = listeners i; solutions = solutions i } in
     subst IsGraph (sym same) (graph_with_listener g n l graph absent asked asker)
+
+pub solution_added : (g h : GraphState) (s : Solution) → IsGraph g → (IsSolution g s.node s.who → ⊥) → Fits g s.node s.who s.reason →
+    h.nodes ≡ g.nodes → h.listeners ≡ g.listeners → h.solutions ≡ g.solutions ++ s ∷ [] → IsGraph h
+solution_added g h s graph absent fits nodes listeners solutions =
+    let same : h ≡ with_solution g s = λ i. record { nodes = nodes i; listeners = listeners i; solutions = solutions i } in
+    subst IsGraph (sym same) (graph_with_solution g s graph absent fits)

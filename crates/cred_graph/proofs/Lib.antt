@@ -1,3 +1,9 @@
 pub mod Lists
 pub mod Found
 pub mod Growth
+pub mod Keys
+pub mod Tables
+pub mod PlaceLemmas
+pub mod EdgeLemmas
+pub mod SolutionLemmas
+pub mod StoredLemmas

@@ -1,31 +1,46 @@
 ghost use Rattle.std.specs.Prelude.{◌≡◌, ◌<◌, Some, IfOk, IfSome, OnOk, OnErr, MatchOption, Contains, length, slice_get};
 
-use crate::listeners::{Listening, Port, is_listening, listen};
-use crate::nodes::{copy_of, place_of};
-use crate::solutions::{Reason, Solution, reason_of, solution_at, solution_count};
+use crate::listeners::{Edge, Listeners, Listening, Port};
+use crate::nodes::copy_of;
+use crate::solutions::{Reason, Solution, Solutions};
 use credential_text::Expr;
+use indexmap::IndexSet;
 use names::Entity;
 use std::alloc::{AllocError, Global};
 use std::marker::Model;
 
 /// The nodes of a search with their listeners and solutions, each in order of adding. Nodes are numbered from 0.
-#[derive(Drop)]
 pub struct Graph {
-    nodes: Vec<Expr>,
-    listeners: Vec<Vec<Listening>>,
-    solutions: Vec<Solution>,
+    nodes: IndexSet<Expr>,
+    listeners: Listeners,
+    solutions: Solutions,
 }
 
 impl Model for Graph {
-    ghost use Rattle.std.specs.Prelude.{map};
+    ghost use Rattle.std.specs.Prelude.{length};
     ghost use Rattle.cred_graph.specs.GraphState.{GraphState};
-    ghost use Rattle.cred_graph.specs.Graph.{IsGraph};
+    ghost use Rattle.cred_graph.specs.Edges.{lists_from};
+    ghost use Rattle.cred_graph.specs.Stored.{IsStored};
 
     ghost Value = { GraphState };
 
-    ghost view = { λ g. record { nodes = g.nodes.items; listeners = map (λ l. l.items) g.listeners.items; solutions = g.solutions.items } };
+    ghost view = { λ g. record {
+      nodes = g.nodes.keys;
+      listeners = lists_from 0 (length g.nodes.keys) g.listeners;
+      solutions = g.solutions;
+    } };
 
-    ghost invariant = { λ g. IsGraph (record { nodes = g.nodes.items; listeners = map (λ l. l.items) g.listeners.items; solutions = g.solutions.items }) };
+    ghost invariant = { λ g. IsStored g.nodes.keys g.listeners g.solutions };
+}
+
+impl Drop for Graph {
+    fn drop(self) {
+        let Graph {
+            nodes: _nodes,
+            listeners: _listeners,
+            solutions: _solutions,
+        } = self;
+    }
 }
 
 impl Graph {
@@ -39,9 +54,9 @@ impl Graph {
         ensures graph { IsGraph result }
     {
         Graph {
-            nodes: Vec::new(alloc),
-            listeners: Vec::new(alloc),
-            solutions: Vec::new(alloc),
+            nodes: IndexSet::new(alloc),
+            listeners: Listeners::new(alloc),
+            solutions: Solutions::new(alloc),
         }
     }
 
@@ -53,15 +68,12 @@ impl Graph {
         ensures growth { OnErr result (Contains self.old.nodes expr.now → ⊥) }
         ensures unchanged { OnErr result (self.new ≡ self.old) }
     {
-        if let Some(n) = place_of(&self.nodes, expr) {
+        if let Some(n) = self.node(expr) {
             return Ok((n, false));
         }
         let n = self.nodes.len() as u64;
         let copy = copy_of(expr)?;
-        let listeners = Vec::new(*self.nodes.allocator());
-        self.nodes.reserve(1)?;
-        self.listeners.push(listeners)?;
-        self.nodes.push(copy).unwrap();
+        let _is_new = self.nodes.insert(copy)?;
         Ok((n, true))
     }
 
@@ -70,7 +82,10 @@ impl Graph {
         ensures node { MatchOption result (Contains self.now.nodes expr.now → ⊥) (λ n. IsNode self.now n expr.now) }
         ensures graph { IsGraph self.now }
     {
-        place_of(&self.nodes, expr)
+        match self.nodes.get_full(expr) {
+            Some((n, _expr)) => Some(n as u64),
+            None => None,
+        }
     }
 
     /// The expression of the node.
@@ -79,7 +94,7 @@ impl Graph {
         ensures node { IsNode self.now n result.now }
         ensures graph { IsGraph self.now }
     {
-        &self.nodes[n as usize]
+        &self.nodes.as_slice()[n as usize]
     }
 
     /// Lets the node `m` listen to the node `n` on the port, and answers whether that is new.
@@ -92,11 +107,14 @@ impl Graph {
         ensures growth { OnErr result (Listens self.old n (record { asker = m; port = port }) → ⊥) }
         ensures unchanged { OnErr result (self.new ≡ self.old) }
     {
-        let listening = Listening { asker: m, port };
-        if is_listening(&self.listeners[n as usize], &listening) {
+        let edge = Edge {
+            asked: n,
+            listening: Listening { asker: m, port },
+        };
+        if self.listeners.contains(&edge) {
             return Ok(false);
         }
-        listen(&mut self.listeners, n as usize, listening)?;
+        self.listeners.add(edge)?;
         Ok(true)
     }
 
@@ -106,7 +124,7 @@ impl Graph {
         ensures count { result ≡ length (listeners_of self.now n) }
         ensures graph { IsGraph self.now }
     {
-        self.listeners[n as usize].len() as u64
+        self.listeners.count(n)
     }
 
     /// The node that listens in this place among the node's listeners, and its port.
@@ -115,8 +133,8 @@ impl Graph {
         requires place { i < length (listeners_of self.now n) }
         ensures { slice_get (listeners_of self.now n) i ≡ Some (record { asker = result.0; port = result.1 }) }
     {
-        let listening = self.listeners[n as usize][i as usize];
-        (listening.asker, listening.port)
+        let Listening { asker, port } = self.listeners.get(n, i).listening;
+        (asker, port)
     }
 
     /// Makes the entity a solution of the node, and answers whether that is new. The first reason stays.
@@ -128,10 +146,10 @@ impl Graph {
         ensures growth { OnErr result (IsSolution self.old n who → ⊥) }
         ensures unchanged { OnErr result (self.new ≡ self.old) }
     {
-        if let Some(_found) = reason_of(&self.solutions, n, &who) {
+        if let Some(_found) = self.solutions.find(n, &who) {
             return Ok(false);
         }
-        self.solutions.push(Solution {
+        self.solutions.add(Solution {
             node: n,
             who,
             reason,
@@ -145,7 +163,7 @@ impl Graph {
         ensures count { result ≡ length (members_of self.now n) }
         ensures graph { IsGraph self.now }
     {
-        solution_count(&self.solutions, n)
+        self.solutions.count(n)
     }
 
     /// The solution of this place among the node's solutions.
@@ -154,10 +172,7 @@ impl Graph {
         requires place { i < length (members_of self.now n) }
         ensures { slice_get (members_of self.now n) i ≡ Some result }
     {
-        match solution_at(&self.solutions, n, i) {
-            Some(solution) => solution.who,
-            None => unreachable!(),
-        }
+        self.solutions.get(n, i)
     }
 
     /// The place of this solution of the node among all solutions of the graph, and its reason, if it is one.
@@ -166,6 +181,6 @@ impl Graph {
             slice_get self.now.solutions r.0 ≡ Some (record { node = n; who = who.now; reason = r.1 })) }
         ensures earlier { IfSome result (λ r. Fits (before r.0 self.now) n who.now r.1) }
     {
-        reason_of(&self.solutions, n, who)
+        self.solutions.find(n, who)
     }
 }

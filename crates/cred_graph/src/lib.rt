@@ -5,6 +5,7 @@
 mod graphs;
 mod listeners;
 mod nodes;
+mod places;
 mod solutions;
 #[cfg(test)]
 mod tests;

@@ -1,11 +1,13 @@
-ghost use Rattle.std.specs.Prelude.{◌≡◌, ◌<◌, ◌↔◌, IsTrue, OnOk, OnErr, Contains, length, map};
-ghost use Rattle.cred_graph.specs.GraphState.{listed_with};
+ghost use Rattle.std.specs.Prelude.{◌≡◌, ◌<◌, ◌∷◌, [], ◌++◌, ◌↔◌, IsTrue, Some, OnOk, OnErr, Contains, length, slice_get};
 
+use crate::places::Places;
+use indexmap::IndexSet;
 use names::Entity;
-use std::alloc::AllocError;
+use std::alloc::{AllocError, Global};
+use std::marker::Model;
 
 /// For what an expression listens to another.
-#[derive(Clone, Copy, PartialEq, Eq)]
+#[derive(Clone, Copy, PartialEq, Eq, Hash)]
 pub enum Port {
     /// A role, for the body of one of its credentials.
     Body,
@@ -19,30 +21,91 @@ pub enum Port {
 
 /// Who listens to a node: the node `asker`, on a port. One node may listen to another on two ports, which are two
 /// listeners.
-#[derive(Clone, Copy, PartialEq, Eq)]
+#[derive(Clone, Copy, PartialEq, Eq, Hash)]
 pub struct Listening {
     pub asker: u64,
     pub port: Port,
 }
 
-/// Whether this listener is there.
-pub fn is_listening(listeners: &[Listening], listening: &Listening) -> bool
-    ensures { IsTrue result ↔ Contains listeners.now listening.now }
-{
-    listeners.contains(listening)
+/// That a listener listens to the node `asked`.
+#[derive(Clone, Copy, PartialEq, Eq, Hash)]
+pub struct Edge {
+    pub asked: u64,
+    pub listening: Listening,
 }
 
-/// Adds the listener at the end of the list of this number.
-pub fn listen(
-    lists: &mut Vec<Vec<Listening>>,
-    n: usize,
-    listening: Listening,
-) -> Result<(), AllocError>
-    requires { n < length lists.old.items }
-    ensures added { OnOk result (map (λ l. l.items) lists.new.items ≡ listed_with (map (λ l. l.items) lists.old.items) n listening) }
-    ensures unchanged { OnErr result (map (λ l. l.items) lists.new.items ≡ map (λ l. l.items) lists.old.items) }
-{
-    let Listening { asker, port } = listening;
-    lists[n].push(Listening { asker, port })?;
-    Ok(())
+/// The listeners of all nodes, each once, in order of adding, with the places of each node's.
+#[derive(Drop)]
+pub struct Listeners {
+    edges: IndexSet<Edge>,
+    places: Places,
+}
+
+impl Model for Listeners {
+    ghost use Rattle.std.specs.Prelude.{List};
+    ghost use Rattle.cred_graph.specs.declared.listeners.Edge.{Edge};
+    ghost use Rattle.cred_graph.specs.Places.{ArePlaces};
+
+    ghost Value = { List Edge };
+
+    ghost view = { λ l. l.edges.keys };
+
+    ghost invariant = { λ l. ArePlaces (λ (e : Edge). e.asked) l.edges.keys l.places };
+}
+
+impl Listeners {
+    ghost use Rattle.cred_graph.specs.Edges.{edges_to};
+
+    /// No listener of any node.
+    pub fn new(alloc: Global) -> Self
+        ensures { result ≡ [] }
+    {
+        Listeners {
+            edges: IndexSet::new(alloc),
+            places: Places::new(alloc),
+        }
+    }
+
+    /// Whether this listener is there.
+    pub fn contains(&self, edge: &Edge) -> bool
+        ensures { IsTrue result ↔ Contains self.now edge.now }
+    {
+        self.edges.contains(edge)
+    }
+
+    /// Adds a listener that isn't there.
+    pub fn add(&mut self, edge: Edge) -> Result<(), AllocError>
+        requires { Contains self.old edge → ⊥ }
+        ensures added { OnOk result (self.new ≡ self.old ++ edge ∷ []) }
+        ensures unchanged { OnErr result (self.new ≡ self.old) }
+    {
+        let Edge {
+            asked,
+            listening: Listening { asker, port },
+        } = edge;
+        self.edges.reserve(1)?;
+        self.places.add(asked, self.edges.len() as u64)?;
+        let listening = Listening { asker, port };
+        let _is_new = self.edges.insert(Edge { asked, listening }).unwrap();
+        Ok(())
+    }
+
+    /// How many listeners the node has.
+    pub fn count(&self, n: u64) -> u64
+        ensures { result ≡ length (edges_to n self.now) }
+    {
+        self.places.count(n)
+    }
+
+    /// The listener that stands here among those of the node.
+    pub fn get(&self, n: u64, i: u64) -> Edge
+        requires { i < length (edges_to n self.now) }
+        ensures { slice_get (edges_to n self.now) i ≡ Some result }
+    {
+        let place = self.places.get(n, i);
+        match self.edges.get_index(place as usize) {
+            Some(edge) => *edge,
+            None => unreachable!(),
+        }
+    }
 }

@@ -1,8 +1,10 @@
-ghost use Rattle.std.specs.Prelude.{◌≡◌, ◌==◌, ◌↔◌, IsTrue, Some, MatchOption, length, filter, slice_get};
-ghost use Rattle.std.specs.Option.{option_copied};
-ghost use Rattle.cred_graph.specs.GraphState.{HasSolution};
+ghost use Rattle.std.specs.Prelude.{◌≡◌, ◌<◌, ◌==◌, ◌∷◌, [], ◌++◌, Some, OnOk, OnErr, MatchOption, length, filter, map, slice_get};
 
+use crate::places::Places;
+use indexmap::IndexMap;
 use names::Entity;
+use std::alloc::{AllocError, Global};
+use std::marker::Model;
 
 /// Why an entity is a solution of a node.
 #[derive(Clone, Copy, PartialEq, Eq)]
@@ -26,36 +28,87 @@ pub struct Solution {
     pub reason: Reason,
 }
 
-/// Whether it says that the entity is a solution of the node.
-fn is_of(solution: &Solution, n: u64, who: &Entity) -> bool
-    ensures { IsTrue result ↔ ((solution.now.node ≡ n) × (solution.now.who ≡ who.now)) }
-{
-    solution.node == n && solution.who == *who
+/// That an entity is a solution of a node.
+#[derive(Clone, Copy, PartialEq, Eq, Hash)]
+pub struct Solved {
+    pub node: u64,
+    pub who: Entity,
 }
 
-/// The place of the solution, and its reason, if it is there.
-pub fn reason_of(solutions: &[Solution], n: u64, who: &Entity) -> Option<(u64, Reason)>
-    ensures { MatchOption result (HasSolution solutions.now n who.now → ⊥) (λ r.
-        slice_get solutions.now r.0 ≡ Some (record { node = n; who = who.now; reason = r.1 })) }
-{
-    for (place, solution) in solutions.iter().enumerate() {
-        if is_of(solution, n, who) {
-            return Some((place as u64, solution.reason));
+/// The solutions of all nodes with their reasons, in order of adding, and the places of each node's.
+#[derive(Drop)]
+pub struct Solutions {
+    reasons: IndexMap<Solved, Reason>,
+    places: Places,
+}
+
+impl Model for Solutions {
+    ghost use Rattle.std.specs.Prelude.{List, map};
+    ghost use Rattle.cred_graph.specs.declared.solutions.Solution.{Solution};
+    ghost use Rattle.cred_graph.specs.Solved.{solution_of};
+    ghost use Rattle.cred_graph.specs.Places.{ArePlaces};
+
+    ghost Value = { List Solution };
+
+    ghost view = { λ s. map solution_of s.reasons.entries };
+
+    ghost invariant = { λ a. ArePlaces (λ (s : Solution). s.node) (map solution_of a.reasons.entries) a.places };
+}
+
+impl Solutions {
+    ghost use Rattle.cred_graph.specs.GraphState.{HasSolution};
+
+    /// No solution of any node.
+    pub fn new(alloc: Global) -> Self
+        ensures { result ≡ [] }
+    {
+        Solutions {
+            reasons: IndexMap::new(alloc),
+            places: Places::new(alloc),
         }
     }
-    None
-}
 
-/// How many of these are solutions of the node.
-pub fn solution_count(solutions: &[Solution], n: u64) -> u64
-    ensures { result ≡ length (filter (λ s. s.node == n) solutions.now) }
-{
-    solutions.iter().filter(|s| s.node == n).count() as u64
-}
+    /// The place of the solution, and its reason, if it is there.
+    pub fn find(&self, n: u64, who: &Entity) -> Option<(u64, Reason)>
+        ensures { MatchOption result (HasSolution self.now n who.now → ⊥) (λ r.
+            slice_get self.now r.0 ≡ Some (record { node = n; who = who.now; reason = r.1 })) }
+    {
+        let solved = Solved { node: n, who: *who };
+        match self.reasons.get_full(&solved) {
+            Some((place, _solved, reason)) => Some((place as u64, *reason)),
+            None => None,
+        }
+    }
 
-/// The solution of this place among those of the node.
-pub fn solution_at(solutions: &[Solution], n: u64, i: u64) -> Option<&Solution>
-    ensures { option_copied result ≡ slice_get (filter (λ s. s.node == n) solutions.now) i }
-{
-    solutions.iter().filter(|s| s.node == n).nth(i as usize)
+    /// Adds a solution that isn't there.
+    pub fn add(&mut self, solution: Solution) -> Result<(), AllocError>
+        requires { HasSolution self.old solution.node solution.who → ⊥ }
+        ensures added { OnOk result (self.new ≡ self.old ++ solution ∷ []) }
+        ensures unchanged { OnErr result (self.new ≡ self.old) }
+    {
+        let Solution { node, who, reason } = solution;
+        self.reasons.reserve(1)?;
+        self.places.add(node, self.reasons.len() as u64)?;
+        let _earlier = self.reasons.insert(Solved { node, who }, reason).unwrap();
+        Ok(())
+    }
+
+    /// How many solutions the node has.
+    pub fn count(&self, n: u64) -> u64
+        ensures { result ≡ length (filter (λ s. s.node == n) self.now) }
+    {
+        self.places.count(n)
+    }
+
+    /// The solution that stands here among those of the node.
+    pub fn get(&self, n: u64, i: u64) -> Entity
+        requires { i < length (filter (λ s. s.node == n) self.now) }
+        ensures { slice_get (map (λ s. s.who) (filter (λ s. s.node == n) self.now)) i ≡ Some result }
+    {
+        let place = self.places.get(n, i);
+        match self.reasons.get_index(place as usize) {
+            Some((solved, _reason)) => solved.who,
+            None => unreachable!(),
+        }
+    }
 }

@@ -188,6 +188,23 @@ fn two_ports_are_two_listeners(rt: HostRuntime) -> Result<(), Fail> {
 }
 
 #[test]
+fn a_fifth_listener_stands_behind_four(rt: HostRuntime) -> Result<(), Fail> {
+    let role = Expr::Rol(Role::read(b"A.r")?);
+    let entity = Expr::Ent(Entity::read(b"D")?);
+    let mut graph = Graph::new(rt.alloc());
+    let _role = node_of(&mut graph, &role)?;
+    let _entity = node_of(&mut graph, &entity)?;
+    for part in 0..5 {
+        assert!(rt; listen(&mut graph, &entity, &role, Port::Part(part))? == Some(true));
+    }
+    assert!(rt; listen(&mut graph, &entity, &role, Port::Part(4))? == Some(false));
+    assert!(rt; listener_of(&graph, &entity, 3) == Some((0, Port::Part(3))));
+    assert!(rt; listener_of(&graph, &entity, 4) == Some((0, Port::Part(4))));
+    assert!(rt; listener_of(&graph, &entity, 5) == None);
+    Ok(())
+}
+
+#[test]
 fn a_solution_stands_once_with_its_reason(rt: HostRuntime) -> Result<(), Fail> {
     let role = Role::read(b"A.r")?;
     let who = Entity::read(b"D")?;

@@ -1,27 +1,28 @@
-use Rattle.std.proofs.Common.{◌≡◌, ◌++◌, ◌∷◌, [], length, refl, rules}
-use Rattle.cred_graph.proofs.Lists.{slice_get_pushed, map-pushed_empty}
-use Rattle.cred_graph.proofs.Growth.{node_added}
+use Rattle.cred_graph.proofs.Lists.{slice_get_pushed}
+use Rattle.cred_graph.proofs.StoredLemmas.{added_node, lists-node, stored-node}
 use Rattle.cred_graph.proofs.graphs.Graph.node_of.Goals as goal
 
 pub invariant_of-self-2 : goal.invariant_of-self-2
 invariant_of-self-2 c =
-    let absent = rw c.deref.ensures.value at c.in_default.ensures in
-    let last = rw c.unwrap.ensures at c.push-2.ensures.items in
-    let nodes : c.push-2.new.self.items ≡ c.self.inside.nodes.items ++ c.args.expr.now ∷ [] = cc (last, c.in_ok-copy.ensures.same, c.in_ok-reserve.ensures.items) in
-    let lists = map-pushed_empty (λ l. l.items) c.self.inside.listeners.items c.push.new.self.items c.new-listeners.result c.in_ok-push.ensures.items c.new-listeners.ensures.items in
-    node_added _ _ c.args.expr.now c.self.invariant absent c.copy_of.ensures.range nodes lists refl
+    let absent = rw (← c.self.view_is) at c.in_default.ensures.node in
+    let nodes = added_node _ _ _ c.args.expr.now absent c.in_ok-copy.ensures.same c.in_ok-_is_new.ensures.keys in
+    stored-node _ _ _ _ c.args.expr.now c.self.invariant absent c.copy_of.ensures.range nodes
 
 pub returns-clause-graph : goal.returns-clause-graph
 returns-clause-graph c =
-    let absent = rw c.deref.ensures.value at c.in_default.ensures in
-    let last = rw c.unwrap.ensures at c.push-2.ensures.items in
-    let nodes : c.push-2.new.self.items ≡ c.self.inside.nodes.items ++ c.args.expr.now ∷ [] = cc (last, c.in_ok-copy.ensures.same, c.in_ok-reserve.ensures.items) in
-    let lists = map-pushed_empty (λ l. l.items) c.self.inside.listeners.items c.push.new.self.items c.new-listeners.result c.in_ok-push.ensures.items c.new-listeners.ensures.items in
-    node_added _ _ c.args.expr.now c.self.invariant absent c.copy_of.ensures.range nodes lists refl
+    let absent = rw (← c.self.view_is) at c.in_default.ensures.node in
+    let nodes = added_node _ _ _ c.args.expr.now absent c.in_ok-copy.ensures.same c.in_ok-_is_new.ensures.keys in
+    (stored-node _ _ _ c.self.inside.solutions c.args.expr.now c.self.invariant absent c.copy_of.ensures.range nodes).graph
 
 pub returns-clause-node : goal.returns-clause-node
 returns-clause-node c =
-    let last = rw c.unwrap.ensures at c.push-2.ensures.items in
-    let nodes : c.push-2.new.self.items ≡ c.self.inside.nodes.items ++ c.args.expr.now ∷ [] = cc (last, c.in_ok-copy.ensures.same, c.in_ok-reserve.ensures.items) in
-    let number : c.len-n.result ≡ length c.self.inside.nodes.items = search rules in
-    rw (nodes, number) (slice_get_pushed c.self.inside.nodes.items c.args.expr.now)
+    let absent = rw (← c.self.view_is) at c.in_default.ensures.node in
+    let nodes = added_node _ _ _ c.args.expr.now absent c.in_ok-copy.ensures.same c.in_ok-_is_new.ensures.keys in
+    rw (nodes, c.len-n.ensures.len) (slice_get_pushed c.self.inside.nodes.keys c.args.expr.now)
+
+pub returns-clause-ok : goal.returns-clause-ok
+returns-clause-ok c =
+    let absent = rw (← c.self.view_is) at c.in_default.ensures.node in
+    let nodes = added_node _ _ _ c.args.expr.now absent c.in_ok-copy.ensures.same c.in_ok-_is_new.ensures.keys in
+    let lists = lists-node _ _ _ c.self.inside.solutions c.args.expr.now c.self.invariant nodes in
+    rw (← c.self.view_is) (absent, c.copy_of.ensures.range, c.len-n.ensures.len, λ i. record { nodes = nodes i; listeners = lists i; solutions = c.self.inside.solutions })
