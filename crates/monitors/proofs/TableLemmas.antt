@@ -5,6 +5,7 @@ use Rattle.std.specs.Cmp.Lexicographic.{pointwise}
 use Rattle.std.specs.List.{IsDistinct, AllByRecursion, list_any}
 use Rattle.std.specs.Map.{keys_of}
 use Rattle.std.specs.FinSet as fin
+use Rattle.std.proofs.Math.Bool.{or-false, and-false, and-true}
 use Rattle.std.proofs.lemmas.Bool.{ne_eqb, eq-eqb, eqb-true, eqb-false}
 use Rattle.std.proofs.lemmas.Cmp.{nat_list_eq_equiv}
 use Rattle.std.proofs.lemmas.Grind.{get_or-set_at}
@@ -32,29 +33,17 @@ earlier (true ∷ told) part k who q below =
     ap (λ b. b || stands part who (pairs_from (k + 1) told q)) (apart part k who q other) ∙ earlier told part (k + 1) who q (omega arith)
 earlier (false ∷ told) part k who q below = earlier told part (k + 1) who q (omega arith)
 
-both_false : (b : Bool) → false ≡ (b && false)
-both_false true = refl
-both_false false = refl
-
-both_true : (b : Bool) → b ≡ (b && true)
-both_true true = refl
-both_true false = refl
-
-or_false : (b : Bool) → (b || false) ≡ b
-or_false true = refl
-or_false false = refl
-
 -- a part stands with the entity where it told it
 of_entity : (told : List Bool) (part k i : ℕ) (who q : List ℕ) → part ≡ k + i → stands part who (pairs_from k told q) ≡ (pointwise nat_eq who q && get_or told i false)
-of_entity [] part k i who q is = both_false (pointwise nat_eq who q)
+of_entity [] part k i who q is = sym (and-false (pointwise nat_eq who q))
 of_entity (true ∷ told) part k zero who q is =
     let here : part ≡ k = omega arith in
     ap (λ b. eq_by_cmp told_order (part, who) (k, q) || b) (earlier told part (k + 1) who q (omega arith))
-    ∙ or_false _ ∙ told_order_ties (part, who) (k, q) ∙ ap (λ b. b && pointwise nat_eq who q) (eq-eqb part k here) ∙ both_true (pointwise nat_eq who q)
+    ∙ or-false _ ∙ told_order_ties (part, who) (k, q) ∙ ap (λ b. b && pointwise nat_eq who q) (eq-eqb part k here) ∙ sym (and-true (pointwise nat_eq who q))
 of_entity (true ∷ told) part k (suc i) who q is =
     let other : part ≢ k = omega arith in
     ap (λ b. b || stands part who (pairs_from (k + 1) told q)) (apart part k who q other) ∙ of_entity told part (k + 1) i who q (omega arith)
-of_entity (false ∷ told) part k zero who q is = earlier told part (k + 1) who q (omega arith) ∙ both_false (pointwise nat_eq who q)
+of_entity (false ∷ told) part k zero who q is = earlier told part (k + 1) who q (omega arith) ∙ sym (and-false (pointwise nat_eq who q))
 of_entity (false ∷ told) part k (suc i) who q is = of_entity told part (k + 1) i who q (omega arith)
 
 -- an entity that is the same as none of the keys has no line
@@ -73,7 +62,7 @@ stands_in (e ∷ es) part who once =
     ∙ by (pointwise nat_eq who e.0) refl
   where
     by : (b : Bool) → pointwise nat_eq who e.0 ≡ b → ((b && get_or e.1.told part false) || is_teller es part who) ≡ is_among part (cond b (Some e.1) (tellers_at es who))
-    by true same = ap (λ t. get_or e.1.told part false || is_among part t) (no_line es who e.0 same once.0) ∙ or_false _
+    by true same = ap (λ t. get_or e.1.told part false || is_among part t) (no_line es who e.0 same once.0) ∙ or-false _
     by false other = refl
 
 abbrev pub seen : ℕ → List (List ℕ × Tellers) → MeetTold
@@ -115,10 +104,10 @@ module _ {parts : ℕ} {old new : List (List ℕ × Tellers)} {part : ℕ} {who 
       by : (b : Bool) → pointwise nat_eq who q ≡ b → is_among p (cond b (Some u) (tellers_at old q)) ≡ ((p == part && pointwise nat_eq q who) || is_teller old p q)
       by true same =
           on_line p
-          ∙ (λ i. both_true (p == part) i || (adds.line p ∙ ap (is_teller old p) (same_name who q same)) i)
+          ∙ (λ i. sym (and-true (p == part)) i || (adds.line p ∙ ap (is_teller old p) (same_name who q same)) i)
           ∙ ap (λ b. (p == part && b) || is_teller old p q) (sym (nat_list_eq_equiv.symm q who ∙ same))
       by false other =
-          ap (λ b. b || is_teller old p q) (both_false (p == part))
+          ap (λ b. b || is_teller old p q) (sym (and-false (p == part)))
           ∙ ap (λ b. (p == part && b) || is_teller old p q) (sym (nat_list_eq_equiv.symm q who ∙ other))
 
   pub still_tellers : AreTellers parts new

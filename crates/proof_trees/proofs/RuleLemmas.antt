@@ -1,5 +1,5 @@
 -- The checks of a step, one for each rule.
-use Rattle.std.proofs.Common.{◌≡◌, ◌↔◌, ◌≤◌, ◌∙◌, ℕ, Bool, false, IsTrue, List, [], ◌∷◌, Some, None, length, sym, ap, subst, refl, arith, true≢false}
+use Rattle.std.proofs.Common.{◌≡◌, ◌↔◌, ◌≤◌, ◌∙◌, ℕ, Bool, false, IsTrue, List, [], ◌∷◌, Some, length, sym, ap, subst, refl, arith, true≢false}
 use Rattle.std.specs.Prelude.{slice_get}
 use Rattle.names.specs.declared.roles.Role.{Role}
 use Rattle.credential_text.specs.declared.credentials.Credential.{Credential}
@@ -19,19 +19,9 @@ claims_at steps place who claim s at (t, there, whose, what) =
     let same : s ≡ t = cc in
     (ap (λ (u : Step). u.who) same ∙ whose, ap (λ (u : Step). u.claim) same ∙ what)
 
--- where there is no step, nothing is claimed
-nothing_at : (steps : List Step) (place : ℕ) (who : List ℕ) (claim : Expr) → slice_get steps place ≡ None → Claims steps place who claim → ⊥
-nothing_at steps place who claim none (t, there, whose, what) = cc
-
 module _ (credentials : List Credential) (before : List Step) (who : List ℕ) (claim : Expr) (place : ℕ) where
-  pub credential_nowhere : slice_get before place ≡ None → IsByCredential credentials before who claim place → ⊥
-  credential_nowhere none (head, body, is, has, claims) = nothing_at before place who body none claims
-
   pub credential_of_another : (s : Step) → slice_get before place ≡ Some s → (s.who ≡ who → ⊥) → IsByCredential credentials before who claim place → ⊥
   credential_of_another s at other (head, body, is, has, claims) = other (claims_at before place who body s at claims).0
-
-  pub credential_of_no_role : ((head : Role) → claim ≡ expr.Rol head → ⊥) → IsByCredential credentials before who claim place → ⊥
-  credential_of_no_role other (head, body, is, has, claims) = other head is
 
   pub credential_found : (head : Role) (s : Step) (b : Bool) → claim ≡ expr.Rol head → slice_get before place ≡ Some s → s.who ≡ who → IsTrue b ↔ HasCredential credentials head s.claim → IsTrue b ↔ IsByCredential credentials before who claim place
   credential_found head s b is at whose answers = (
@@ -46,17 +36,6 @@ module _ (credentials : List Credential) (before : List Step) (who : List ℕ) (
           answers.1 (subst (HasCredential credentials head) bodies (subst (λ (h : Role). HasCredential credentials h body) heads has))
 
 module _ (before : List Step) (who : List ℕ) (claim : Expr) (base_place role_place : ℕ) where
-  pub link_nowhere : slice_get before base_place ≡ None → IsByLink before who claim base_place role_place → ⊥
-  link_nowhere none (base, name, member, is, in_base, in_role) = nothing_at before base_place member (expr.Rol base) none in_base
-
-  pub link_of_another : (base : Role) (name : List ℕ) (s : Step) → claim ≡ expr.Link base name → slice_get before base_place ≡ Some s → (s.claim ≡ expr.Rol base → ⊥) → IsByLink before who claim base_place role_place → ⊥
-  link_of_another base name s is at other (base', name', member, is', in_base, in_role) =
-      let bases : base' ≡ base = cc in
-      other ((claims_at before base_place member (expr.Rol base') s at in_base).1 ∙ ap expr.Rol bases)
-
-  pub link_of_no_link : ((base : Role) (name : List ℕ) → claim ≡ expr.Link base name → ⊥) → IsByLink before who claim base_place role_place → ⊥
-  link_of_no_link other (base, name, member, is, in_base, in_role) = other base name is
-
   pub link_found : (base : Role) (name : List ℕ) (s : Step) (b : Bool) → claim ≡ expr.Link base name → slice_get before base_place ≡ Some s → s.claim ≡ expr.Rol base → IsTrue b ↔ Claims before role_place who (expr.Rol (record { owner = s.who; name = name })) → IsTrue b ↔ IsByLink before who claim base_place role_place
   link_found base name s b is at what answers = (
     λ e. (base, name, s.who, is, (s, at, refl, what), answers.0 e),
@@ -70,9 +49,6 @@ module _ (before : List Step) (who : List ℕ) (claim : Expr) (base_place role_p
           answers.1 (subst (λ (n : List ℕ). Claims before role_place who (expr.Rol (record { owner = s.who; name = n }))) names (subst (λ (m : List ℕ). Claims before role_place who (expr.Rol (record { owner = m; name = name' }))) whose in_role))
 
 module _ (before : List Step) (who : List ℕ) (claim : Expr) (places : List ℕ) where
-  pub parts_of_no_parts : ((parts : List Part) → claim ≡ expr.Meet parts → ⊥) → IsByParts before who claim places → ⊥
-  parts_of_no_parts other (part, parts, is, each) = other (part ∷ parts) is
-
   pub parts_found : (parts : List Part) (b : Bool) → claim ≡ expr.Meet parts → 2 ≤ length parts → IsTrue b ↔ ClaimsEach before places who parts → IsTrue b ↔ IsByParts before who claim places
   parts_found [] b is several answers = absurd (omega arith)
   parts_found (part ∷ parts) b is several answers = (λ e. (part, parts, is, answers.0 e), back)

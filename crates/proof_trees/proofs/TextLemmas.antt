@@ -1,5 +1,6 @@
 -- The lines of the first steps and of one more.
-use Rattle.std.proofs.Common.{◌≡◌, ◌∙◌, ℕ, ◌+◌, List, [], ◌∷◌, ◌++◌, length, refl, ap, sym, arith, append_assoc, Option, codes}
+use Rattle.std.proofs.Common.{◌≡◌, ◌∙◌, ℕ, ◌+◌, List, [], ◌∷◌, ◌++◌, length, ap, sym, arith, append_assoc, Option, codes}
+use Rattle.std.proofs.lemmas.List.{append-nil}
 use Rattle.names.specs.Role.{role_text}
 use Rattle.credential_text.specs.declared.exprs.Expr.{Expr}
 use Rattle.credential_text.specs.Expr.{expr_text}
@@ -7,13 +8,9 @@ use Rattle.proof_trees.specs.declared.steps.Step.{Step}
 use Rattle.proof_trees.specs.Text.{claim_text, line_text, lines_from}
 use Rattle.proof_trees.specs.Laws.{CitedAreCanonical}
 
-append_nil : (xs : List ℕ) → xs ++ [] ≡ xs
-append_nil [] = refl
-append_nil (x ∷ xs) = ap (λ (t : List ℕ). x ∷ t) (append_nil xs)
-
 -- a line more
 pub lines_push : (steps : List Step) (number : ℕ) (some : List Step) (s : Step) (n : ℕ) → n ≡ number + length some → lines_from steps number (some ++ s ∷ []) ≡ lines_from steps number some ++ line_text steps n s
-lines_push steps number [] s n is = append_nil (line_text steps number s) ∙ ap (λ k. line_text steps k s) (omega arith)
+lines_push steps number [] s n is = append-nil (line_text steps number s) ∙ ap (λ k. line_text steps k s) (omega arith)
 lines_push steps number (t ∷ some) s n is =
     ap (λ (text : List ℕ). line_text steps number t ++ text) (lines_push steps (number + 1) some s n (omega arith))
     ∙ sym (append_assoc (line_text steps number t) (lines_from steps (number + 1) some) (line_text steps n s))

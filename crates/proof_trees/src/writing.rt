@@ -1,4 +1,4 @@
-ghost use Rattle.std.specs.Prelude.{◌≡◌, ◌+◌, ◌≤◌, ◌++◌, codes, OnOk, OnErr, length, take, vec_capacity};
+ghost use Rattle.std.specs.Prelude.{◌≡◌, ◌+◌, ◌<◌, ◌≤◌, ◌++◌, codes, OnOk, OnErr, length, take, vec_capacity};
 ghost use Rattle.std.specs.Fmt.{decimal};
 ghost use Rattle.credential_text.specs.Expr.{expr_text};
 ghost use Rattle.proof_trees.specs.Text.{claim_at, claimed_text, numbers_text, rule_text, line_text, proof_text};
@@ -108,6 +108,7 @@ fn append_line(
 /// Appends the lines of the steps.
 fn append_lines(steps: &[Step], out: &mut Vec<u8>) -> Result<(), AllocError>
     ensures written { OnOk result (out.new.items ≡ out.old.items ++ proof_text steps.now) }
+    ensures growth { OnErr result (0 < length steps.now) }
     ensures kept { take (length out.old.items) out.new.items ≡ out.old.items }
     ensures capacity { vec_capacity out.old ≤ vec_capacity out.new }
 {
@@ -122,6 +123,7 @@ fn append_lines(steps: &[Step], out: &mut Vec<u8>) -> Result<(), AllocError>
 /// or `parts`. Steps are counted from 1 here. A step that isn't there has a number, but no text of its own.
 pub fn write_proof(proof: &Proof, out: &mut Vec<u8>) -> Result<(), AllocError>
     ensures written { OnOk result (out.new.items ≡ out.old.items ++ proof_text proof.now) }
+    ensures growth { OnErr result (0 < length proof.now) }
     ensures unchanged { OnErr result (out.new.items ≡ out.old.items) }
     ensures capacity { vec_capacity out.old ≤ vec_capacity out.new }
 {
