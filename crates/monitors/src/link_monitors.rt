@@ -38,7 +38,8 @@ impl LinkMonitor {
     pub fn base_told(&mut self, base: Entity) -> Result<bool, AllocError>
         ensures ok { IfOk result (λ new. HearsBase self.old self.new base new) }
         ensures told { OnOk result (Contains self.new.bases base) }
-        ensures err { OnErr result (self.new ≡ self.old) }
+        ensures growth { OnErr result (Contains self.old.bases base → ⊥) }
+        ensures unchanged { OnErr result (self.new ≡ self.old) }
     {
         if is_among(&self.bases, &base) {
             return Ok(false);
@@ -53,7 +54,8 @@ impl LinkMonitor {
         requires { Contains self.old.bases base }
         ensures ok { IfOk result (λ new. HearsVia self.old self.new who new) }
         ensures told { OnOk result (Contains self.new.members who) }
-        ensures err { OnErr result (self.new ≡ self.old) }
+        ensures growth { OnErr result (Contains self.old.members who → ⊥) }
+        ensures unchanged { OnErr result (self.new ≡ self.old) }
     {
         let _base = base;
         if is_among(&self.members, &who) {

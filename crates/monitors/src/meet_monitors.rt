@@ -1,4 +1,5 @@
-ghost use Rattle.std.specs.Prelude.{◌≡◌, ◌<◌, ◌≤◌, ◌↔◌, ℕ, [], IsTrue, IfOk, OnOk, OnErr, Contains};
+ghost use Rattle.std.specs.Prelude.{◌≡◌, ◌<◌, ◌≤◌, ◌↔◌, ℕ, IsTrue, IfOk, OnOk, OnErr, Contains};
+ghost use Rattle.std.specs.FinSet as set;
 
 use names::Entity;
 use std::alloc::{AllocError, Global};
@@ -11,8 +12,7 @@ struct PartTold {
     who: Entity,
 }
 
-/// What an intersection of 2 to 8 parts was told: which part told which entity. Contracts see the pairs in order of
-/// telling, each once.
+/// What an intersection of 2 to 8 parts was told: which part told which entity. Contracts see the set of these pairs.
 #[derive(Drop)]
 pub struct MeetMonitor {
     parts: u8,
@@ -20,21 +20,24 @@ pub struct MeetMonitor {
 }
 
 impl Model for MeetMonitor {
-    ghost use Rattle.monitors.specs.MeetMonitor.{MeetTold, pairs_of};
+    ghost use Rattle.std.specs.FinSet as set;
+    ghost use Rattle.monitors.specs.MeetMonitor.{MeetTold, meet_code, pairs_of};
 
     ghost Value = { MeetTold };
 
-    ghost view = { λ m. record { parts = m.parts; told = pairs_of m.told.items } };
+    ghost coded = { meet_code };
+
+    ghost view = { λ m. record { parts = m.parts; told = set.from_list (pairs_of m.told.items) } };
 }
 
 impl MeetMonitor {
-    ghost use Rattle.monitors.specs.MeetMonitor.{HearsPart};
+    ghost use Rattle.monitors.specs.MeetMonitor.{HasTold, HearsPart};
 
     /// The monitor of an intersection of so many parts that was told nothing yet.
     pub fn make(alloc: Global, parts: u8) -> Self
         requires low { 2 ≤ parts }
         requires high { parts ≤ 8 }
-        ensures { result ≡ record { parts = parts; told = [] } }
+        ensures { result ≡ record { parts = parts; told = set.empty } }
     {
         MeetMonitor {
             parts,
@@ -46,9 +49,10 @@ impl MeetMonitor {
     pub fn part_told(&mut self, part: u8, who: Entity) -> Result<bool, AllocError>
         requires { part < self.old.parts }
         ensures ok { IfOk result (λ last. HearsPart self.old self.new part who last) }
-        ensures told { OnOk result (Contains self.new.told (part, who)) }
+        ensures told { OnOk result (HasTold self.new part who) }
         ensures parts { self.new.parts ≡ self.old.parts }
-        ensures err { OnErr result (self.new ≡ self.old) }
+        ensures growth { OnErr result (HasTold self.old part who → ⊥) }
+        ensures unchanged { OnErr result (self.new ≡ self.old) }
     {
         let tell = PartTold { part, who };
         if is_told(&self.told, &tell) {
