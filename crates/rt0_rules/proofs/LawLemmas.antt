@@ -14,7 +14,7 @@ use Rattle.credential_text.specs.declared.exprs.Expr.TheVariants.{Ent, Rol, Link
 use Rattle.credential_text.specs.declared.intersections.Part.{Part}
 use Rattle.credential_text.specs.Expr.{part_expr}
 use Rattle.rt0_rules.specs.Derivation.{Derives, DerivesEach, leaf, credential, link, meet, last, more}
-use Rattle.rt0_rules.specs.Laws.{MembersAreOne, OnlyMembershipCounts}
+use Rattle.rt0_rules.specs.Laws.{MembersAreOne, MoreCredentialsKeepMembers, OrderAndRepeatsDontMatter}
 use Rattle.rt0_rules.proofs.Listed.{listed_iff}
 
 mutual
@@ -46,5 +46,9 @@ members_are_one C role ds es of_ds of_es =
     same_sorted ds es of_ds.in_order of_es.in_order
     (λ d among. (of_es.exact d).1 ((of_ds.exact d).0 among)) (λ d among. (of_ds.exact d).1 ((of_es.exact d).0 among))
 
-pub only_membership_counts : OnlyMembershipCounts
-only_membership_counts C D wider d role member = widen C D wider d (Rol role) member
+pub more_keep_members : MoreCredentialsKeepMembers
+more_keep_members C D wider d role member = widen C D wider d (Rol role) member
+
+pub order_and_repeats : OrderAndRepeatsDontMatter
+order_and_repeats C D same d role =
+    (more_keep_members C D (λ c. (same c).0) d role, more_keep_members D C (λ c. (same c).1) d role)

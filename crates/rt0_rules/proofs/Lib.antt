@@ -8,3 +8,9 @@ pub mod Searched
 pub mod Listed
 pub mod LawLemmas
 pub mod Exact
+pub mod Counting
+pub mod WorkLaws
+pub mod FixedPoint
+pub mod Distinct
+pub mod Letters
+pub mod LetterSteps

@@ -25,7 +25,8 @@ knows facts role d = list_any (says role d) facts
 
 -- somebody that the facts have in the base has d in its role of this name
 abbrev pub holds_link : List Fact → List ℕ → Role → List ℕ → Bool
-holds_link facts d base n = list_any (λ fact. is_same_role fact.role base && knows facts (record { owner = fact.who; name = n }) d) facts
+holds_link facts d base n =
+    list_any (λ fact. is_same_role fact.role base && knows facts (record { owner = fact.who; name = n }) d) facts
 
 -- one rule gives from the facts that d is in the part
 abbrev pub holds_part : List Fact → List ℕ → Part → Bool

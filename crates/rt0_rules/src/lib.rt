@@ -7,5 +7,5 @@ mod members;
 #[cfg(test)]
 mod tests;
 
-pub use laws::membership_is_exact;
+pub use laws::{membership_is_exact, work_is_exact};
 pub use members::members_plain;

@@ -1,4 +1,4 @@
-use crate::{members_plain, membership_is_exact};
+use crate::{members_plain, membership_is_exact, work_is_exact};
 use credential_text::{Credential, Expr, Part, Parts};
 use names::{Entity, Role, RoleName, cut};
 use std::alloc::Global;
@@ -61,6 +61,7 @@ fn has_members(
 #[test]
 fn nobody_is_a_member_without_credentials(rt: HostRuntime) -> Result<(), Fail> {
     membership_is_exact();
+    work_is_exact();
     assert!(rt; has_members(&rt, &[], "A.r", &[])?);
     assert!(rt; has_members(&rt, &[("A.s", &["D"]), ("B.r", &["E"])], "A.r", &[])?);
     Ok(())
