@@ -1,24 +1,15 @@
 -- What stands in the lists of a graph.
-use Rattle.std.proofs.Common.{ℕ, ◌<◌, ◌≡◌, ◌==◌, ◌∙◌, ap, true, List, Option, Some, None, MatchOption, IfSome, filter, length, slice_get, get_or}
-use Rattle.std.proofs.lemmas.Bool.{eqb-true}
+use Rattle.std.proofs.Common.{ℕ, ◌<◌, ◌≡◌, ◌↔◌, ◌∙◌, ap, sym, subst, Bool, true, false, true≢false, IsTrue, List, [], ◌∷◌, ◌++◌, Option, Some, None, MatchOption, IfSome, Contains, length, slice_get, get_or}
 use Rattle.std.proofs.lemmas.Option.{get_or_from_slice_get}
-use Rattle.std.proofs.lemmas.List.Elements.{All-contains, filter_passes}
+use Rattle.std.proofs.lemmas.List.{get_or-set_same}
+use Rattle.std.proofs.lemmas.List.Elements.{Contains-push}
 use Rattle.cred_graph.specs.declared.listeners.Listening.{Listening}
 use Rattle.cred_graph.specs.declared.solutions.Solution.{Solution}
 use Rattle.cred_graph.specs.declared.solutions.Reason.{Reason}
-use Rattle.cred_graph.specs.GraphState.{GraphState, HasSolution, before}
+use Rattle.cred_graph.specs.GraphState.{GraphState, HasSolution, listed_at, listed_with, before}
 use Rattle.cred_graph.specs.Reason.{Fits}
 use Rattle.cred_graph.specs.Graph.{IsGraph}
 use Rattle.cred_graph.proofs.Lists.{Contains-at_place, at_no_place}
-
--- a listener among those to a node listens to that node
-pub listens_to : (listeners : List Listening) (n i : ℕ) (l : Listening) → slice_get (filter (λ x. x.asked == n) listeners) i ≡ Some l →
-    slice_get (filter (λ x. x.asked == n) listeners) i ≡ Some (record { asked = n; asker = l.asker; port = l.port })
-listens_to listeners n i l at =
-    let is_of : Listening → Type 0 = λ x. (x.asked == n) ≡ true in
-    let passes : (l.asked == n) ≡ true =
-    All-contains is_of (filter (λ x. x.asked == n) listeners) l (filter_passes (λ x. x.asked == n) listeners) (Contains-at_place _ i l at) in
-    at ∙ ap (λ (asked : ℕ). Some (record { asked = asked; asker = l.asker; port = l.port })) (eqb-true l.asked n passes)
 
 pub solution_at_place : (solutions : List Solution) (place n : ℕ) (who : List ℕ) (why : Reason) → slice_get solutions place ≡ Some (record { node = n; who = who; reason = why }) → HasSolution solutions n who
 solution_at_place solutions place n who why at = (why, Contains-at_place solutions place (record { node = n; who = who; reason = why }) at)
@@ -40,3 +31,15 @@ pub not_at_place : (solutions : List Solution) (place n : ℕ) (who : List ℕ) 
 not_at_place solutions place n who s is other why at =
     let same : s ≡ record { node = n; who = who; reason = why } = is ∙ get_or_from_slice_get solutions place (record { node = n; who = who; reason = why }) s at in
     other (ap (λ (x : Solution). x.node) same, ap (λ (x : Solution). x.who) same)
+
+-- a test that is false says that the listener isn't there
+pub not_listening : (is_there : Bool) (listeners listed : List Listening) (l : Listening) → (IsTrue is_there ↔ Contains listeners l) → is_there ≡ false → listed ≡ listeners → Contains listed l → ⊥
+not_listening is_there listeners listed l decides fails same stands =
+    let holds : is_there ≡ true = decides.1 (subst (λ ls. Contains ls l) same stands) in
+    true≢false (sym holds ∙ fails)
+
+-- a listener that was added is there
+pub listens_now : (lists after : List (List Listening)) (n : ℕ) (l : Listening) → n < length lists → after ≡ listed_with lists n l → Contains (listed_at after n) l
+listens_now lists after n l within same =
+    let here : listed_at after n ≡ listed_at lists n ++ l ∷ [] = ap (λ x. listed_at x n) same ∙ get_or-set_same lists n (listed_at lists n ++ l ∷ []) [] within in
+    subst (λ ls. Contains ls l) (sym here) (Contains-push (listed_at lists n) l)

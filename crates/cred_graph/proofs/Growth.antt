@@ -1,17 +1,18 @@
 -- A graph stays a graph where a node, a listener or a solution is added.
-use Rattle.std.proofs.Common.{ℕ, ◌<◌, ◌≤◌, ◌≡◌, ◌∙◌, sym, ap, subst, inl, inr, List, [], ◌∷◌, ◌++◌, Some, Contains, length, slice_get, arith, length-append}
-use Rattle.std.proofs.lemmas.List.{take-append-le}
-use Rattle.std.proofs.lemmas.List.Elements.{All-weaker, All-push}
+use Rattle.std.proofs.Common.{ℕ, zero, suc, ◌<◌, ◌≤◌, ◌+◌, ◌≡◌, ◌∙◌, ◌⊎◌, refl, sym, ap, subst, inl, inr, List, [], ◌∷◌, ◌++◌, Some, Contains, length, get_or, slice_get, arith}
+use Rattle.std.proofs.lemmas.Bool.{cases_eq}
+use Rattle.std.proofs.lemmas.List.{take-append-le, length_push, length-set, get_or-set_same, get_or-set_other}
+use Rattle.std.proofs.lemmas.List.Elements.{All-weaker, Contains-push_cases}
 use Rattle.std.proofs.lemmas.Option.{slice_get_within}
 use Rattle.std.proofs.Math.Seq.{take-append_seam}
 use Rattle.credential_text.specs.declared.exprs.Expr.{Expr}
 use Rattle.credential_text.specs.declared.intersections.Part.{Part}
-use Rattle.credential_text.specs.Expr.{part_expr}
+use Rattle.credential_text.specs.Expr.{part_expr, HasPartsInRange}
 use Rattle.cred_graph.specs.declared.listeners.Listening.{Listening}
 use Rattle.cred_graph.specs.declared.solutions.Solution.{Solution}
 use Rattle.cred_graph.specs.declared.solutions.Reason.{Reason}
 use Rattle.cred_graph.specs.declared.solutions.Reason.TheVariants as reason
-use Rattle.cred_graph.specs.GraphState.{GraphState, IsNode, IsSolution, Known, before}
+use Rattle.cred_graph.specs.GraphState.{GraphState, IsNode, Listens, IsSolution, Known, listed_at, listed_with, listeners_of, empty_graph, before}
 use Rattle.cred_graph.specs.Reason.{Fits}
 use Rattle.cred_graph.specs.Graph.{IsGraph}
 use Rattle.cred_graph.proofs.Lists.{Contains-at_place, slice_get_stays, slice_get_push_cases}
@@ -38,10 +39,10 @@ grown_fits g h grows n who reason.Parts (parts, node, all) =
     (parts, grows.nodes n _ node, All-weaker (λ (p : Part). Known g who (part_expr p)) (λ (p : Part). Known h who (part_expr p)) (λ p known. grown_known g h grows who (part_expr p) known) parts all)
 
 abbrev pub with_node : GraphState → Expr → GraphState
-with_node g e = record g { nodes = g.nodes ++ e ∷ [] }
+with_node g e = record g { nodes = g.nodes ++ e ∷ []; listeners = g.listeners ++ [] ∷ [] }
 
-abbrev pub with_listener : GraphState → Listening → GraphState
-with_listener g l = record g { listeners = g.listeners ++ l ∷ [] }
+abbrev pub with_listener : GraphState → ℕ → Listening → GraphState
+with_listener g n l = record g { listeners = listed_with g.listeners n l }
 
 abbrev pub with_solution : GraphState → Solution → GraphState
 with_solution g s = record g { solutions = g.solutions ++ s ∷ [] }
@@ -61,33 +62,72 @@ one_place xs y absent once i j x p q =
       ]
     ]
 
+-- a new node has no listener, and the others keep theirs
+pub listed_at-pushed : (lists : List (List Listening)) (m : ℕ) → listed_at (lists ++ [] ∷ []) m ≡ listed_at lists m
+listed_at-pushed [] zero = refl
+listed_at-pushed [] (suc m) = refl
+listed_at-pushed (ls ∷ lists) zero = refl
+listed_at-pushed (ls ∷ lists) (suc m) = listed_at-pushed lists m
+
+-- the list of this number has one more listener, and the others stay
+pub listed_with_cases : (lists : List (List Listening)) (n : ℕ) (l : Listening) (m : ℕ) → n < length lists →
+    ((m ≡ n) × (listed_at (listed_with lists n l) m ≡ listed_at lists m ++ l ∷ [])) ⊎ (listed_at (listed_with lists n l) m ≡ listed_at lists m)
+listed_with_cases lists n l m within =
+    elim (cases_eq m n) [
+      | inl same ↦ inl (same, rw same (get_or-set_same lists n (listed_at lists n ++ l ∷ []) [] within))
+      | inr other ↦ inr (get_or-set_other lists n m (listed_at lists n ++ l ∷ []) [] other)
+    ]
+
 pub node_grows : (g : GraphState) (e : Expr) (i : ℕ) → Grows (before i g) (before i (with_node g e))
 node_grows g e i = record { nodes = λ n f node. slice_get_stays g.nodes (e ∷ []) n f node; solutions = λ s stands. stands }
 
-pub graph_with_node : (g : GraphState) (e : Expr) → IsGraph g → (Contains g.nodes e → ⊥) → IsGraph (with_node g e)
-graph_with_node g e graph absent = record {
+pub graph_with_node : (g : GraphState) (e : Expr) → IsGraph g → (Contains g.nodes e → ⊥) → HasPartsInRange e → IsGraph (with_node g e)
+graph_with_node g e graph absent range = record {
   one_node = one_place g.nodes e absent graph.one_node;
-  listeners_in_range =
-      let longer : length g.nodes ≤ length (g.nodes ++ e ∷ []) = omega (arith, length-append g.nodes (e ∷ [])) in
-      All-weaker
-      (λ (l : Listening). (l.asked < length g.nodes) × (l.asker < length g.nodes))
-      (λ (l : Listening). (l.asked < length (g.nodes ++ e ∷ [])) × (l.asker < length (g.nodes ++ e ∷ [])))
-      (λ l h. (omega arith, omega arith))
-      g.listeners
-      graph.listeners_in_range;
-  one_listening = graph.one_listening;
+  parts_in_range = λ n f at. elim (slice_get_push_cases g.nodes e n f at) [
+    | inl before ↦ graph.parts_in_range n f before
+    | inr new ↦ subst HasPartsInRange new.1 range
+  ];
+  one_list_each = length_push g.listeners [] ∙ ap (λ n. n + 1) graph.one_list_each ∙ sym (length_push g.nodes e);
+  askers_in_range = λ n l listens.
+      let asker : l.asker < length g.nodes = graph.askers_in_range n l (subst (λ ls. Contains ls l) (listed_at-pushed g.listeners n) listens) in
+      omega (arith, length_push g.nodes e);
+  one_listening = λ n i j l p q.
+      graph.one_listening n i j l
+      (subst (λ ls. slice_get ls i ≡ Some l) (listed_at-pushed g.listeners n) p)
+      (subst (λ ls. slice_get ls j ≡ Some l) (listed_at-pushed g.listeners n) q);
   one_solution = graph.one_solution;
   justified = λ i s at. grown_fits (before i g) (before i (with_node g e)) (node_grows g e i) s.node s.who s.reason (graph.justified i s at);
 }
 
-pub graph_with_listener : (g : GraphState) (l : Listening) → IsGraph g → (Contains g.listeners l → ⊥) → l.asked < length g.nodes → l.asker < length g.nodes → IsGraph (with_listener g l)
-graph_with_listener g l graph absent asked asker = record {
-  one_node = graph.one_node;
-  listeners_in_range = All-push (λ (l : Listening). (l.asked < length g.nodes) × (l.asker < length g.nodes)) g.listeners l graph.listeners_in_range (asked, asker);
-  one_listening = one_place g.listeners l absent graph.one_listening;
-  one_solution = graph.one_solution;
-  justified = λ i s at. grown_fits (before i g) (before i (with_listener g l)) (record { nodes = λ n f node. node; solutions = λ s stands. stands }) s.node s.who s.reason (graph.justified i s at);
-}
+pub graph_with_listener : (g : GraphState) (n : ℕ) (l : Listening) → IsGraph g → (Listens g n l → ⊥) → n < length g.nodes → l.asker < length g.nodes → IsGraph (with_listener g n l)
+graph_with_listener g n l graph absent asked asker =
+    let within : n < length g.listeners = omega (arith, graph.one_list_each) in
+    record {
+      one_node = graph.one_node;
+      parts_in_range = graph.parts_in_range;
+      one_list_each = length-set g.listeners n (listed_at g.listeners n ++ l ∷ []) ∙ graph.one_list_each;
+      askers_in_range = λ m k listens. elim (listed_with_cases g.listeners n l m within) [
+        | inl here ↦ elim (Contains-push_cases (listed_at g.listeners m) l k (subst (λ ls. Contains ls k) here.1 listens)) [
+          | inl before ↦ graph.askers_in_range m k before
+          | inr new ↦ subst (λ (x : Listening). x.asker < length g.nodes) new asker
+        ]
+        | inr other ↦ graph.askers_in_range m k (subst (λ ls. Contains ls k) other listens)
+      ];
+      one_listening = λ m i j k p q. elim (listed_with_cases g.listeners n l m within) [
+        | inl here ↦
+            one_place (listed_at g.listeners m) l (subst (λ x. Listens g x l → ⊥) (sym here.0) absent) (graph.one_listening m) i j k
+            (subst (λ ls. slice_get ls i ≡ Some k) here.1 p)
+            (subst (λ ls. slice_get ls j ≡ Some k) here.1 q)
+        | inr other ↦
+            graph.one_listening m i j k
+            (subst (λ ls. slice_get ls i ≡ Some k) other p)
+            (subst (λ ls. slice_get ls j ≡ Some k) other q)
+      ];
+      one_solution = graph.one_solution;
+      justified = λ i s at.
+          grown_fits (before i g) (before i (with_listener g n l)) (record { nodes = λ n f node. node; solutions = λ s stands. stands }) s.node s.who s.reason (graph.justified i s at);
+    }
 
 -- the entity is no solution of the node: so it stands at no place
 pub other_solution : (g : GraphState) (s t : Solution) (i : ℕ) → (IsSolution g s.node s.who → ⊥) → slice_get g.solutions i ≡ Some t → s.node ≡ t.node → s.who ≡ t.who → ⊥
@@ -133,8 +173,35 @@ justified_more g s graph fits i t at =
 pub graph_with_solution : (g : GraphState) (s : Solution) → IsGraph g → (IsSolution g s.node s.who → ⊥) → Fits g s.node s.who s.reason → IsGraph (with_solution g s)
 graph_with_solution g s graph absent fits = record {
   one_node = graph.one_node;
-  listeners_in_range = graph.listeners_in_range;
+  parts_in_range = graph.parts_in_range;
+  one_list_each = graph.one_list_each;
+  askers_in_range = graph.askers_in_range;
   one_listening = graph.one_listening;
   one_solution = one_solution_more g s graph absent;
   justified = justified_more g s graph fits;
 }
+
+pub graph_empty : IsGraph empty_graph
+graph_empty = record {
+  one_node = λ m n e p q. cc;
+  parts_in_range = λ n e at. cc;
+  one_list_each = refl;
+  askers_in_range = λ n l listens. absurd (omega (arith, listens.1));
+  one_listening = λ n i j l p q. cc;
+  one_solution = λ i j s t p q node who. cc;
+  justified = λ i s at. cc;
+}
+
+-- the same graphs, by their parts
+
+pub node_added : (g h : GraphState) (e : Expr) → IsGraph g → (Contains g.nodes e → ⊥) → HasPartsInRange e →
+    h.nodes ≡ g.nodes ++ e ∷ [] → h.listeners ≡ g.listeners ++ [] ∷ [] → h.solutions ≡ g.solutions → IsGraph h
+node_added g h e graph absent range nodes listeners solutions =
+    let same : h ≡ with_node g e = λ i. record { nodes = nodes i; listeners = listeners i; solutions = solutions i } in
+    subst IsGraph (sym same) (graph_with_node g e graph absent range)
+
+pub listener_added : (g h : GraphState) (n : ℕ) (l : Listening) → IsGraph g → (Listens g n l → ⊥) → n < length g.nodes → l.asker < length g.nodes →
+    h.nodes ≡ g.nodes → h.listeners ≡ listed_with g.listeners n l → h.solutions ≡ g.solutions → IsGraph h
+listener_added g h n l graph absent asked asker nodes listeners solutions =
+    let same : h ≡ with_listener g n l = λ i. record { nodes = nodes i; listeners = listeners i; solutions = solutions i } in
+    subst IsGraph (sym same) (graph_with_listener g n l graph absent asked asker)

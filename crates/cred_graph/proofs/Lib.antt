@@ -1,4 +1,3 @@
-pub mod ExprLemmas
 pub mod Lists
 pub mod Found
 pub mod Growth

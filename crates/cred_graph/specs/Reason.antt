@@ -13,5 +13,6 @@ use Rattle.cred_graph.specs.GraphState.{GraphState, IsNode, IsSolution, Known}
 abbrev pub Fits : GraphState → ℕ → List ℕ → Reason → Type 0
 Fits g n who reason.Leaf = IsNode g n (Ent who)
 Fits g n who (reason.Body m) = (r : Role) × (e : Expr) × IsNode g n (Rol r) × IsNode g m e × IsSolution g m who
-Fits g n who (reason.Via b) = (r : Role) × (t : List ℕ) × IsNode g n (Link r t) × Known g b (Rol r) × Known g who (Rol (record { owner = b; name = t }))
+Fits g n who (reason.Via b) =
+    (r : Role) × (t : List ℕ) × IsNode g n (Link r t) × Known g b (Rol r) × Known g who (Rol (record { owner = b; name = t }))
 Fits g n who reason.Parts = (parts : List Part) × IsNode g n (Meet parts) × All (λ p. Known g who (part_expr p)) parts

@@ -1,5 +1,5 @@
-ghost use Rattle.std.specs.Prelude.{◌≡◌, ◌==◌, ◌<◌, ◌++◌, ◌∷◌, [], ◌↔◌, length, filter, slice_get, IsTrue, Contains};
-ghost use Rattle.std.specs.Option.{option_copied};
+ghost use Rattle.std.specs.Prelude.{◌≡◌, ◌<◌, ◌↔◌, IsTrue, OnOk, OnErr, Contains, length, map};
+ghost use Rattle.cred_graph.specs.GraphState.{listed_with};
 
 use names::Entity;
 use std::alloc::AllocError;
@@ -17,11 +17,10 @@ pub enum Port {
     Part(u8),
 }
 
-/// That the node `asker` listens to the node `asked` on a port. One node may listen to another on two ports, which are
-/// two listeners.
+/// Who listens to a node: the node `asker`, on a port. One node may listen to another on two ports, which are two
+/// listeners.
 #[derive(Clone, Copy, PartialEq, Eq)]
 pub struct Listening {
-    pub asked: u64,
     pub asker: u64,
     pub port: Port,
 }
@@ -33,16 +32,17 @@ pub fn is_listening(listeners: &[Listening], listening: &Listening) -> bool
     listeners.contains(listening)
 }
 
-/// How many of these listen to the node.
-pub fn listener_count(listeners: &[Listening], n: u64) -> u64
-    ensures { result ≡ length (filter (λ l. l.asked == n) listeners.now) }
+/// Adds the listener at the end of the list of this number.
+pub fn listen(
+    lists: &mut Vec<Vec<Listening>>,
+    n: usize,
+    listening: Listening,
+) -> Result<(), AllocError>
+    requires { n < length lists.old.items }
+    ensures added { OnOk result (map (λ l. l.items) lists.new.items ≡ listed_with (map (λ l. l.items) lists.old.items) n listening) }
+    ensures unchanged { OnErr result (map (λ l. l.items) lists.new.items ≡ map (λ l. l.items) lists.old.items) }
 {
-    listeners.iter().filter(|l| l.asked == n).count() as u64
-}
-
-/// The listener of this place among those to the node.
-pub fn listener_at(listeners: &[Listening], n: u64, i: u64) -> Option<&Listening>
-    ensures { option_copied result ≡ slice_get (filter (λ l. l.asked == n) listeners.now) i }
-{
-    listeners.iter().filter(|l| l.asked == n).nth(i as usize)
+    let Listening { asker, port } = listening;
+    lists[n].push(Listening { asker, port })?;
+    Ok(())
 }

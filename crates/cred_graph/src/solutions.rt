@@ -35,7 +35,8 @@ fn is_of(solution: &Solution, n: u64, who: &Entity) -> bool
 
 /// The place of the solution, and its reason, if it is there.
 pub fn reason_of(solutions: &[Solution], n: u64, who: &Entity) -> Option<(u64, Reason)>
-    ensures { MatchOption result (HasSolution solutions.now n who.now → ⊥) (λ r. slice_get solutions.now r.0 ≡ Some (record { node = n; who = who.now; reason = r.1 })) }
+    ensures { MatchOption result (HasSolution solutions.now n who.now → ⊥) (λ r.
+        slice_get solutions.now r.0 ≡ Some (record { node = n; who = who.now; reason = r.1 })) }
 {
     for (place, solution) in solutions.iter().enumerate() {
         if is_of(solution, n, who) {

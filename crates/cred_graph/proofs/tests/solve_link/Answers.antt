@@ -5,7 +5,7 @@ pub solve-requires : goal.solve-requires
 solve-requires c = (
   c.args.base,
   c.args.name,
-  c.in-Some.ensures,
-  (c.in-Some-node.m, c.in-Some-node.ensures, solution_at_place _ _ _ _ _ c.in-Some-reason.ensures.found),
-  (c.in-Some-node-2.k, c.in-Some-node-2.ensures, solution_at_place _ _ _ _ _ c.in-Some-reason-2.ensures.found),
+  c.in-Some.ensures.node,
+  (c.in-Some-node.m, c.in-Some-node.ensures.node, solution_at_place _ _ _ _ _ c.in-Some-reason.ensures.found),
+  (c.in-Some-node-2.k, c.in-Some-node-2.ensures.node, solution_at_place _ _ _ _ _ c.in-Some-reason-2.ensures.found),
 )

@@ -20,6 +20,6 @@ both_know g n who p q made parts two is node one other =
 
 pub solve-requires : goal.solve-requires
 solve-requires c =
-    both_know c.args.graph.now _ _ c.args.first c.args.second _ _ c.in_ok-parts.ensures c.in-Some.is c.in-Some-node.ensures
-    (c.in-Some-node-2.m, rw c.expr.ensures at c.in-Some-node-2.ensures, solution_at_place _ _ _ _ _ c.in-Some-reason.ensures.found)
-    (c.in-Some-node-3.k, rw c.expr-2.ensures at c.in-Some-node-3.ensures, solution_at_place _ _ _ _ _ c.in-Some-reason-2.ensures.found)
+    both_know c.args.graph.now _ _ c.args.first c.args.second _ _ c.in_ok-parts.ensures c.in-Some.is c.in-Some-node.ensures.node
+    (c.in-Some-node-2.m, rw c.expr.ensures at c.in-Some-node-2.ensures.node, solution_at_place _ _ _ _ _ c.in-Some-reason.ensures.found)
+    (c.in-Some-node-3.k, rw c.expr-2.ensures at c.in-Some-node-3.ensures.node, solution_at_place _ _ _ _ _ c.in-Some-reason-2.ensures.found)

@@ -16,5 +16,11 @@ invariant_of-self-2 c =
     let fits = rw (← c.self.view_is) at c.requires in
     rw c.in_ok-push.ensures.items (graph_with_solution _ _ c.self.invariant absent fits)
 
+pub returns-clause-graph : goal.returns-clause-graph
+returns-clause-graph c =
+    let absent = rw c.deref.ensures.value at c.in_default.ensures in
+    let fits = rw (← c.self.view_is) at c.requires in
+    rw c.in_ok-push.ensures.items (graph_with_solution _ _ c.self.invariant absent fits)
+
 pub returns-clause-solves : goal.returns-clause-solves
 returns-clause-solves c = rw c.in_ok-push.ensures.items (c.args.reason, Contains-push c.self.inside.solutions.items _)
