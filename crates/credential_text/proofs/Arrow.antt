@@ -4,7 +4,7 @@ use Rattle.std.proofs.lemmas.List.{append-nil, drop_more, drop_all, take_more}
 use Rattle.std.proofs.lemmas.Bool.{and_parts, and_left, cases_Bool, cond-true, cond-false, eqb-true, false_from_ne_true}
 use Rattle.names.proofs.Avoiding.{Avoids}
 use Rattle.credential_text.specs.Refusal.{split_arrow, put_before}
-use Rattle.credential_text.proofs.Spaces.{avoids_parts}
+use Rattle.names.proofs.Spaces.{avoids_parts}
 
 -- no arrow begins here
 pub split_arrow-more : (b c : ℕ) (bs : List ℕ) → ((b == 60) && (c == 45)) ≡ false → split_arrow (b ∷ c ∷ bs) ≡ put_before b (split_arrow (c ∷ bs))

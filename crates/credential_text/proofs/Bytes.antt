@@ -4,13 +4,12 @@ use Rattle.std.specs.List.{list_all}
 use Rattle.std.proofs.lemmas.Bool.{and_parts}
 use Rattle.names.specs.declared.roles.Role.{Role}
 use Rattle.names.specs.Name.{is_name, is_name_byte, IsName}
-use Rattle.names.specs.Pieces.{dot}
+use Rattle.names.specs.Texts.{dot, IsSpaces}
 use Rattle.names.specs.Role.{role_text}
 use Rattle.names.proofs.Avoiding.{Avoids, Avoids-cons, Avoids-append, list_avoids, name_avoids}
 use Rattle.credential_text.specs.declared.intersections.Part.{Part}
 use Rattle.credential_text.specs.declared.intersections.Part.TheVariants.{Ent, Rol, Link}
 use Rattle.credential_text.specs.Part.{has_names, part_text}
-use Rattle.credential_text.specs.Spelling.{IsSpaces}
 
 -- a byte that stands in no name and isn't the dot
 pub record IsMark (byte : ℕ) : Type 0 where

@@ -5,7 +5,7 @@ use Rattle.std.proofs.lemmas.List.{append-nil}
 use Rattle.std.proofs.lemmas.Bool.{leb-true, and_parts}
 use Rattle.names.specs.declared.roles.Role.{Role}
 use Rattle.names.specs.Name.{IsName}
-use Rattle.names.specs.Pieces.{dot}
+use Rattle.names.specs.Texts.{dot}
 use Rattle.names.specs.Role.{role_text}
 use Rattle.names.proofs.Avoiding.{NameParts, name_parts}
 use Rattle.credential_text.specs.declared.intersections.Part.{Part}

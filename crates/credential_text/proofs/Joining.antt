@@ -3,16 +3,16 @@ use Rattle.std.proofs.Common.{ℕ, true, List, [], ◌∷◌, ◌++◌, ◌<◌,
 use Rattle.std.specs.List.{list_all, join_with_byte}
 use Rattle.std.proofs.lemmas.List.Splits.{join_with_byte-slice_split}
 use Rattle.std.proofs.lemmas.Bool.{and_parts}
-use Rattle.names.specs.Pieces.{pieces}
+use Rattle.names.specs.Texts.{pieces, IsSpaces, trim}
 use Rattle.names.proofs.Avoiding.{Avoids, Avoids-append}
 use Rattle.names.proofs.PieceLemmas.{pieces_at, pieces_none}
 use Rattle.credential_text.specs.declared.intersections.Part.{Part}
 use Rattle.credential_text.specs.Part.{has_names, part_text}
 use Rattle.credential_text.specs.Expr.{parts_text}
-use Rattle.credential_text.specs.Spelling.{IsSpaces, JoinsParts, ampersand}
-use Rattle.credential_text.specs.Refusal.{trim, part_texts}
+use Rattle.credential_text.specs.Spelling.{JoinsParts, ampersand}
+use Rattle.credential_text.specs.Refusal.{part_texts}
 use Rattle.credential_text.proofs.Bytes.{mark_space, mark_ampersand, spaces_avoid, part_avoids}
-use Rattle.credential_text.proofs.Spaces.{trim-round, Trimmed, trim_parts}
+use Rattle.names.proofs.Spaces.{trim-round, Trimmed, trim_parts}
 
 between_spaces : (l m r : List ℕ) → IsSpaces l → IsSpaces r → Avoids ampersand m → Avoids ampersand (l ++ m ++ r)
 between_spaces l m r before after avoids =

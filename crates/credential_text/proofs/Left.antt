@@ -5,12 +5,12 @@ use Rattle.std.proofs.lemmas.List.{length-map, length-set, append_assoc, map_pus
 use Rattle.std.proofs.lemmas.Bool.{and_parts, and_from, le-ltb, lt-ltb}
 use Rattle.std.proofs.lemmas.List.Splits.{length-slice_split}
 use Rattle.names.specs.Fault.{or_then}
-use Rattle.names.specs.Pieces.{pieces}
+use Rattle.names.specs.Texts.{pieces, trim}
 use Rattle.credential_text.specs.declared.faults.CredFault.{CredFault}
 use Rattle.credential_text.specs.declared.intersections.Part.{Part}
 use Rattle.credential_text.specs.Part.{has_names, part_text, is_based_on}
 use Rattle.credential_text.specs.Spelling.{ampersand}
-use Rattle.credential_text.specs.Refusal.{trim, part_texts, part_fault, first_part_fault}
+use Rattle.credential_text.specs.Refusal.{part_texts, part_fault, first_part_fault}
 use Rattle.credential_text.specs.Reading.{ReadsAs}
 use Rattle.credential_text.proofs.Readings.{part_faultless}
 

@@ -1,5 +1,5 @@
+pub mod Same
 pub mod Bytes
-pub mod Spaces
 pub mod Arrow
 pub mod Readings
 pub mod Joining

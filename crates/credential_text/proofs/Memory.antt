@@ -2,10 +2,10 @@
 use Rattle.std.proofs.Common.{ℕ, Bool, true, false, List, [], ◌∷◌, ◌≡◌, Option, Some, None, cond}
 use Rattle.names.specs.declared.faults.NameFault.{NameFault}
 use Rattle.names.specs.Fault.{name_fault, or_then}
-use Rattle.names.specs.Pieces.{dot, pieces}
+use Rattle.names.specs.Texts.{dot, pieces}
 use Rattle.credential_text.specs.declared.faults.CredFault.{CredFault}
 use Rattle.credential_text.specs.declared.faults.CredFault.TheVariants as faults
-use Rattle.credential_text.specs.Part.{is_same}
+use Rattle.names.specs.Name.{is_same}
 use Rattle.credential_text.specs.Refusal.{as_cred_fault, part_fault, part_fault_of, first_part_fault}
 
 no_name_memory : (o : Option NameFault) → as_cred_fault o ≡ Some faults.Memory → ⊥

@@ -15,7 +15,7 @@ use Rattle.credential_text.specs.Part.{parts_order}
 use Rattle.credential_text.specs.PartOrder.{name_lists_tied, parts_order_total, parts_order_tied}
 use Rattle.credential_text.specs.Expr.{expr_kind, plain_names, met_parts, expr_order}
 use Rattle.credential_text.specs.Credential.{credential_order}
-use Rattle.credential_text.specs.Same.{same_credential}
+use Rattle.credential_text.proofs.Same.{same_credential}
 use Rattle.credential_text.specs.Laws.{ExprsInOrder, CredentialsInOrder}
 
 -- expressions of the same kind, names and parts are the same

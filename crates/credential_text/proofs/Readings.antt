@@ -1,13 +1,14 @@
 -- What a part's text and its pieces tell of the part.
 use Rattle.std.proofs.Common.{ℕ, Bool, true, false, List, [], ◌∷◌, ◌++◌, ◌≡◌, refl, ap, sym, ◌∙◌, Option, Some, None, length, ◌<◌, arith, append_assoc, cond}
+use Rattle.std.specs.Prelude.{MatchOption, is_some}
 use Rattle.std.specs.List.{join_with_byte}
 use Rattle.std.proofs.lemmas.List.Splits.{join_with_byte-slice_split}
 use Rattle.std.proofs.lemmas.Bool.{and_from}
 use Rattle.names.specs.declared.faults.NameFault.{NameFault}
 use Rattle.names.specs.declared.roles.Role.{Role}
-use Rattle.names.specs.Name.{IsName}
+use Rattle.names.specs.Name.{IsName, is_same}
 use Rattle.names.specs.Fault.{name_fault, or_then}
-use Rattle.names.specs.Pieces.{dot, pieces}
+use Rattle.names.specs.Texts.{dot, pieces}
 use Rattle.names.specs.Role.{role_text}
 use Rattle.names.proofs.Avoiding.{name_avoids}
 use Rattle.names.proofs.PieceLemmas.{pieces_at, pieces_none, some_piece}
@@ -15,7 +16,7 @@ use Rattle.names.proofs.RoleLemmas.{role_pieces, name_faultless, faultless_name,
 use Rattle.credential_text.specs.declared.faults.CredFault.TheVariants as faults
 use Rattle.credential_text.specs.declared.intersections.Part.{Part}
 use Rattle.credential_text.specs.declared.intersections.Part.TheVariants.{Ent, Rol, Link}
-use Rattle.credential_text.specs.Part.{has_names, part_names, part_text, is_same, is_based_on}
+use Rattle.credential_text.specs.Part.{has_names, part_names, part_text, is_based_on}
 use Rattle.credential_text.specs.PartOrder.{names_tell}
 use Rattle.credential_text.specs.Refusal.{as_cred_fault, part_fault, part_fault_of}
 use Rattle.credential_text.specs.Reading.{ReadsAs}
@@ -101,8 +102,9 @@ many_pieces owner a b c [] some = absurd (omega arith)
 many_pieces owner a b c (d ∷ others) some = refl
 
 -- a part with three dots or more
-pub four_pieces : (owner text a rest b last c more : List ℕ) → pieces dot text ≡ a ∷ pieces dot rest → pieces dot rest ≡ b ∷ pieces dot last → pieces dot last ≡ c ∷ pieces dot more →
-    part_fault owner text ≡ Some faults.Dots
-four_pieces owner text a rest b last c more first second third =
+pub four_pieces : {B : Type 0} (value : B → List ℕ) (owner text a rest b last c : List ℕ) (more : Option B) → pieces dot text ≡ a ∷ pieces dot rest → pieces dot rest ≡ b ∷ pieces dot last →
+    is_some more ≡ true → MatchOption more (pieces dot last ≡ c ∷ []) (λ m. pieces dot last ≡ c ∷ pieces dot (value m)) → part_fault owner text ≡ Some faults.Dots
+four_pieces value owner text a rest b last c None first second some third = cc
+four_pieces value owner text a rest b last c (Some more) first second some third =
     ap (part_fault_of owner) first ∙ ap (λ (ps : List (List ℕ)). part_fault_of owner (a ∷ ps)) second
-    ∙ ap (λ (ps : List (List ℕ)). part_fault_of owner (a ∷ b ∷ ps)) third ∙ many_pieces owner a b c (pieces dot more) (some_piece dot more)
+    ∙ ap (λ (ps : List (List ℕ)). part_fault_of owner (a ∷ b ∷ ps)) third ∙ many_pieces owner a b c (pieces dot (value more)) (some_piece dot (value more))

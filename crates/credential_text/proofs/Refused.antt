@@ -8,7 +8,7 @@ use Rattle.names.specs.declared.faults.NameFault.TheVariants as name
 use Rattle.names.specs.declared.roles.Role.{Role}
 use Rattle.names.specs.Name.{is_name, IsName}
 use Rattle.names.specs.Fault.{role_fault, or_then}
-use Rattle.names.specs.Pieces.{dot, pieces}
+use Rattle.names.specs.Texts.{dot, pieces, IsSpaces, is_space, trim, trim_end}
 use Rattle.names.specs.Role.{role_text, SpellsRole}
 use Rattle.names.proofs.PieceLemmas.{pieces_none, some_piece}
 use Rattle.names.proofs.RoleLemmas.{role_pieces, role_faultless, faultless_are_roles, neither}
@@ -19,12 +19,12 @@ use Rattle.credential_text.specs.declared.exprs.Expr.{Expr}
 use Rattle.credential_text.specs.declared.credentials.Credential.{Credential}
 use Rattle.credential_text.specs.Part.{has_names, part_text, is_based_on}
 use Rattle.credential_text.specs.Expr.{expr_parts, HasPartsInRange}
-use Rattle.credential_text.specs.Spelling.{Spells, IsSpaces, ampersand}
-use Rattle.credential_text.specs.Refusal.{is_space, trim, trim_end, split_arrow, head_fault, head_fault_of, part_fault, first_part_fault, is_empty, part_texts, parts_fault, body_fault, first_piece, owner_text, fault_round, refusal}
+use Rattle.credential_text.specs.Spelling.{Spells, ampersand}
+use Rattle.credential_text.specs.Refusal.{split_arrow, head_fault, head_fault_of, part_fault, first_part_fault, is_empty, part_texts, parts_fault, body_fault, first_piece, owner_text, fault_round, refusal}
 use Rattle.credential_text.specs.Reading.{ReadsAs, ReadsParts, ReadsBody, Shows}
 use Rattle.credential_text.specs.Laws.{RefusedUnlessSpelled}
 use Rattle.credential_text.proofs.Bytes.{one_name, spaces_avoid}
-use Rattle.credential_text.proofs.Spaces.{trim_start-spaces}
+use Rattle.names.proofs.Spaces.{trim_start-spaces}
 use Rattle.credential_text.proofs.Readings.{part_faultless, faultless_reads}
 use Rattle.credential_text.proofs.ExprLemmas.{few_parts, some_expr}
 use Rattle.credential_text.proofs.Showing.{shown, spelled_from}

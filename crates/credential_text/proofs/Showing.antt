@@ -5,13 +5,14 @@ use Rattle.names.specs.Role.{role_text}
 use Rattle.names.proofs.Avoiding.{Avoids, Avoids-append}
 use Rattle.credential_text.specs.declared.credentials.Credential.{Credential}
 use Rattle.credential_text.specs.Expr.{expr_parts}
-use Rattle.credential_text.specs.Same.{same_credential}
+use Rattle.credential_text.proofs.Same.{same_credential}
 use Rattle.credential_text.specs.Spelling.{Spells}
-use Rattle.credential_text.specs.Refusal.{split_arrow, trim, part_texts}
+use Rattle.names.specs.Texts.{trim}
+use Rattle.credential_text.specs.Refusal.{split_arrow, part_texts}
 use Rattle.credential_text.specs.Reading.{Shows}
 use Rattle.credential_text.specs.Laws.{NoTextSpellsTwo}
 use Rattle.credential_text.proofs.Bytes.{mark_space, mark_arrow, spaces_avoid, role_avoids}
-use Rattle.credential_text.proofs.Spaces.{trim-round, Trimmed, trim_parts}
+use Rattle.names.proofs.Spaces.{trim-round, Trimmed, trim_parts}
 use Rattle.credential_text.proofs.Arrow.{split_arrow_at, split_arrow_parts, IsRound}
 use Rattle.credential_text.proofs.Readings.{role_texts_tell}
 use Rattle.credential_text.proofs.Joining.{joined_texts, Joined, joined_from}

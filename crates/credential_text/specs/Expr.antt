@@ -36,6 +36,13 @@ HasPartsInRange (Rol r) = Unit {0}
 HasPartsInRange (Link r n) = Unit {0}
 HasPartsInRange (Meet ps) = (2 ≤ length ps) × (length ps ≤ 8)
 
+-- an intersection
+abbrev pub IsIntersection : Expr → Type 0
+IsIntersection (Ent e) = ⊥
+IsIntersection (Rol r) = ⊥
+IsIntersection (Link r n) = ⊥
+IsIntersection (Meet ps) = Unit {0}
+
 -- parts, with " & " between them
 abbrev pub parts_text : List Part → List ℕ
 parts_text [] = []

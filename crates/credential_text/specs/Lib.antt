@@ -2,7 +2,6 @@ pub mod Part
 pub mod PartOrder
 pub mod Expr
 pub mod Credential
-pub mod Same
 pub mod Spelling
 pub mod Fault
 pub mod Refusal

@@ -1,11 +1,11 @@
 -- Parts of a body: their names, text and order.
-use Rattle.std.specs.Prelude.{ℕ, Bool, true, List, [], ◌∷◌, ◌++◌, nat_eq}
+use Rattle.std.specs.Prelude.{ℕ, Bool, true, List, [], ◌∷◌, ◌++◌}
 use Rattle.std.specs.List.{list_all}
 use Rattle.std.specs.declared.cmp.Ordering.{Ordering}
 use Rattle.std.specs.Ordering.{nat_cmp, on, then_cmp, eq_by_cmp}
-use Rattle.std.specs.Cmp.Lexicographic.{pointwise, slice_cmp}
-use Rattle.names.specs.Name.{is_name, name_order}
-use Rattle.names.specs.Pieces.{dot}
+use Rattle.std.specs.Cmp.Lexicographic.{slice_cmp}
+use Rattle.names.specs.Name.{is_name, is_same, name_order}
+use Rattle.names.specs.Texts.{dot}
 use Rattle.names.specs.Role.{role_text}
 use Rattle.credential_text.specs.declared.intersections.Part.{Part}
 use Rattle.credential_text.specs.declared.intersections.Part.TheVariants.{Ent, Rol, Link}
@@ -31,10 +31,6 @@ abbrev pub part_text : Part → List ℕ
 part_text (Ent e) = e
 part_text (Rol r) = role_text r
 part_text (Link r n) = role_text r ++ dot ∷ n
-
--- the same text
-abbrev pub is_same : List ℕ → List ℕ → Bool
-is_same = pointwise nat_eq
 
 -- a linked role's base is a role of this issuer
 abbrev pub is_based_on : List ℕ → Part → Bool

@@ -8,7 +8,8 @@ use Rattle.credential_text.specs.declared.credentials.Credential.{Credential}
 use Rattle.credential_text.specs.Part.{has_names, part_text, is_based_on}
 use Rattle.credential_text.specs.Expr.{expr_parts, HasPartsInRange}
 use Rattle.credential_text.specs.Credential.{IsCredential}
-use Rattle.credential_text.specs.Refusal.{split_arrow, trim, part_texts}
+use Rattle.names.specs.Texts.{trim}
+use Rattle.credential_text.specs.Refusal.{split_arrow, part_texts}
 
 -- the text is that of the part, its names are names, and a linked role in it is based on the owner's role
 pub record ReadsAs (owner : List ℕ) (text : List ℕ) (p : Part) : Type 0 where

@@ -1,29 +1,14 @@
 -- Which texts are refused as a credential, and as what: the first refusal that applies, by whole lists.
 use Rattle.std.specs.Prelude.{ℕ, Bool, true, false, List, [], ◌∷◌, ◌==◌, ◌&&◌, ◌||◌, nat_lt, length, map, Option, Some, None, if◌then◌else◌}
-use Rattle.std.specs.List.{list_all, list_any}
+use Rattle.std.specs.List.{list_any}
 use Rattle.names.specs.declared.faults.NameFault.{NameFault}
 use Rattle.names.specs.declared.faults.NameFault.TheVariants as name
 use Rattle.names.specs.Fault.{name_fault, role_fault, or_then}
-use Rattle.names.specs.Pieces.{dot, pieces}
+use Rattle.names.specs.Texts.{dot, is_blank, pieces, trim}
 use Rattle.credential_text.specs.declared.faults.CredFault.{CredFault}
 use Rattle.credential_text.specs.declared.faults.CredFault.TheVariants as faults
-use Rattle.credential_text.specs.Part.{is_same}
+use Rattle.names.specs.Name.{is_same}
 use Rattle.credential_text.specs.Spelling.{ampersand}
-
-abbrev pub is_space : ℕ → Bool
-is_space b = b == 32
-
-abbrev pub trim_start : List ℕ → List ℕ
-trim_start [] = []
-trim_start (b ∷ bs) = if is_space b then trim_start bs else b ∷ bs
-
-abbrev pub trim_end : List ℕ → List ℕ
-trim_end [] = []
-trim_end (b ∷ bs) = if list_all is_space (b ∷ bs) then [] else b ∷ trim_end bs
-
--- the text without its outer spaces
-abbrev pub trim : List ℕ → List ℕ
-trim text = trim_end (trim_start text)
 
 -- the byte before what stands before the arrow
 abbrev pub put_before : ℕ → Option (List ℕ × List ℕ) → Option (List ℕ × List ℕ)
@@ -83,7 +68,7 @@ parts_fault owner parts =
 
 abbrev pub body_fault : List ℕ → List ℕ → Option CredFault
 body_fault owner body =
-    if list_all is_space body then Some faults.BodyEmpty
+    if is_blank body then Some faults.BodyEmpty
     else parts_fault owner (part_texts body)
 
 abbrev pub first_piece : List (List ℕ) → List ℕ

@@ -1,7 +1,7 @@
 -- The texts that spell a credential, and the one of them that is written.
-use Rattle.std.specs.Prelude.{ℕ, List, [], ◌∷◌, ◌++◌, ◌≡◌, ◌==◌, IsTrue, codes}
-use Rattle.std.specs.List.{list_all}
+use Rattle.std.specs.Prelude.{ℕ, List, [], ◌∷◌, ◌++◌, ◌≡◌, codes}
 use Rattle.names.specs.Role.{role_text}
+use Rattle.names.specs.Texts.{IsSpaces}
 use Rattle.credential_text.specs.declared.intersections.Part.{Part}
 use Rattle.credential_text.specs.declared.credentials.Credential.{Credential}
 use Rattle.credential_text.specs.Part.{part_text}
@@ -11,10 +11,6 @@ use Rattle.credential_text.specs.Credential.{IsCredential}
 -- '&'
 abbrev pub ampersand : ℕ
 ampersand = 38
-
--- zero or more spaces
-abbrev pub IsSpaces : List ℕ → Type 0
-IsSpaces text = IsTrue (list_all (λ b. b == 32) text)
 
 -- parts, with '&' between them and any spaces round it
 abbrev pub JoinsParts : List Part → List ℕ → Type 0

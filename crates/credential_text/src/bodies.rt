@@ -1,17 +1,30 @@
 ghost use Rattle.std.specs.Prelude.{◌≡◌, ◌≢◌, ◌<◌, ◌≤◌, ◌==◌, ◌||◌, not, nat_lt, length, take, count_by, Some, None, IfOk, IfErr, IsErrOf};
-ghost use Rattle.std.specs.List.{list_all, list_any};
+ghost use Rattle.std.specs.List.{list_any};
+ghost use Rattle.names.specs.Name.{IsName};
+ghost use Rattle.names.specs.Fault.{name_fault, or_then};
 ghost use Rattle.credential_text.specs.declared.faults.CredFault.TheVariants as faults;
 ghost use Rattle.credential_text.specs.Expr.{expr_parts, HasPartsInRange};
 ghost use Rattle.credential_text.specs.Spelling.{ampersand};
-ghost use Rattle.credential_text.specs.Refusal.{is_space, is_empty, part_texts, part_fault, first_part_fault, body_fault};
+ghost use Rattle.credential_text.specs.Refusal.{is_empty, part_texts, part_fault, first_part_fault, body_fault};
 ghost use Rattle.credential_text.specs.Reading.{ReadsAs, ReadsParts, ReadsBody};
 
 use crate::exprs::Expr;
 use crate::faults::CredFault;
 use crate::intersections::{MOST_PARTS, Part, Parts};
-use crate::trimming::trimmed;
-use names::{Entity, Role, RoleName, cut};
+use names::texts::{cut, is_blank, trim};
+use names::{Entity, NameFault, Role, RoleName};
 use std::alloc::{AllocError, Global};
+
+/// The role of these two names.
+fn role_of(owner: &[u8], name: &[u8]) -> Result<Role, NameFault>
+    ensures owner { IfOk result (λ r. IsName owner.now × (r.owner ≡ owner.now)) }
+    ensures name { IfOk result (λ r. IsName name.now × (r.name ≡ name.now)) }
+    ensures refused { IfErr result (λ f. or_then (name_fault owner.now) (name_fault name.now) ≡ Some f) }
+{
+    let owner = Entity::read(owner)?;
+    let name = RoleName::read(name)?;
+    Ok(Role { owner, name })
+}
 
 /// The part that the text spells in a credential whose head has this owner.
 fn read_part(owner: &Entity, text: &[u8]) -> Result<Part, CredFault>
@@ -22,36 +35,18 @@ fn read_part(owner: &Entity, text: &[u8]) -> Result<Part, CredFault>
         return Ok(Part::Ent(Entity::read(text)?));
     };
     let (second, Some(last)) = cut(others, b'.') else {
-        let holder = Entity::read(first)?;
-        let name = RoleName::read(others)?;
-        return Ok(Part::Rol(Role {
-            owner: holder,
-            name,
-        }));
+        return Ok(Part::Rol(role_of(first, others)?));
     };
     let (third, more) = cut(last, b'.');
-    if let Some(_more) = more {
+    if more.is_some() {
         return Err(CredFault::Dots);
     }
-    let holder = Entity::read(first)?;
-    let name = RoleName::read(second)?;
-    let through = RoleName::read(third)?;
-    if holder != *owner {
+    let base = role_of(first, second)?;
+    let name = RoleName::read(third)?;
+    if base.owner != *owner {
         return Err(CredFault::LinkBase);
     }
-    Ok(Part::Link(
-        Role {
-            owner: holder,
-            name,
-        },
-        through,
-    ))
-}
-
-fn is_blank(text: &[u8]) -> bool
-    ensures { result ≡ list_all is_space text.now }
-{
-    text.iter().all(|byte| *byte == b' ')
+    Ok(Part::Link(base, name))
 }
 
 fn ampersands(text: &[u8]) -> usize
@@ -66,7 +61,7 @@ fn has_empty_part(body: &[u8]) -> bool
     let mut left = Some(body);
     while let Some(text) = left {
         let (part, rest) = cut(text, b'&');
-        if trimmed(part).is_empty() {
+        if trim(part).is_empty() {
             return true;
         }
         left = rest;
@@ -96,7 +91,7 @@ fn read_parts(
     let mut left = Some(body);
     while let Some(text) = left {
         let (part, rest) = cut(text, b'&');
-        parts[count] = read_part(owner, trimmed(part))?;
+        parts[count] = read_part(owner, trim(part))?;
         count += 1;
         left = rest;
     }

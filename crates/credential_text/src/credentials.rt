@@ -1,5 +1,5 @@
-ghost use Rattle.std.specs.Prelude.{◌≡◌, ◌↔◌, IsTrue, IsSome, IfSome, IfOk};
-ghost use Rattle.credential_text.specs.Expr.{keeps_issuer};
+ghost use Rattle.std.specs.Prelude.{◌≡◌, ◌↔◌, IsTrue, IsSome, IfSome, IfOk, OnErr};
+ghost use Rattle.credential_text.specs.Expr.{IsIntersection, keeps_issuer};
 
 use crate::exprs::Expr;
 use names::Role;
@@ -40,9 +40,10 @@ impl Credential {
             .then(self.body.compare(&other.body))
     }
 
-    /// The same credential again.
+    /// The same credential again. Only the copy of an intersection takes memory.
     pub fn try_clone(&self) -> Result<Credential, AllocError>
-        ensures { IfOk result (λ c. c ≡ self.now) }
+        ensures same { IfOk result (λ c. c ≡ self.now) }
+        ensures growth { OnErr result (IsIntersection self.now.body) }
     {
         let body = self.body.try_clone()?;
         Ok(Credential {

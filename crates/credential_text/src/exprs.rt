@@ -1,4 +1,4 @@
-ghost use Rattle.std.specs.Prelude.{◌≡◌, IfOk};
+ghost use Rattle.std.specs.Prelude.{◌≡◌, IfOk, OnErr};
 
 use crate::intersections::{Parts, are_based_on};
 use names::{Entity, Role, RoleName};
@@ -19,7 +19,7 @@ pub enum Expr {
 }
 
 impl Expr {
-    ghost use Rattle.credential_text.specs.Expr.{expr_kind, expr_order, keeps_issuer};
+    ghost use Rattle.credential_text.specs.Expr.{IsIntersection, expr_kind, expr_order, keeps_issuer};
 
     fn kind(&self) -> u8
         ensures { result ≡ expr_kind self.now }
@@ -58,9 +58,10 @@ impl Expr {
         }
     }
 
-    /// The same expression again.
+    /// The same expression again. Only the copy of an intersection takes memory.
     pub fn try_clone(&self) -> Result<Expr, AllocError>
-        ensures { IfOk result (λ e. e ≡ self.now) }
+        ensures same { IfOk result (λ e. e ≡ self.now) }
+        ensures growth { OnErr result (IsIntersection self.now) }
     {
         Ok(match self {
             Expr::Ent(entity) => Expr::Ent(*entity),

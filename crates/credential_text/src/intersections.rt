@@ -1,4 +1,4 @@
-ghost use Rattle.std.specs.Prelude.{◌≡◌, ◌↔◌, ◌≤◌, length, IsSome, IfSome, IfOk};
+ghost use Rattle.std.specs.Prelude.{◌≡◌, ◌↔◌, ◌≤◌, length, IsSome, IfSome, IfOk, OnErr};
 ghost use Rattle.std.specs.List.{list_all};
 ghost use Rattle.credential_text.specs.Part.{parts_order, is_based_on};
 
@@ -112,10 +112,11 @@ impl Model for Parts {
 }
 
 impl Parts {
-    /// The parts in order, or `None` where they are not 2 to 8.
+    /// The parts in order, or `None` where they are not 2 to 8: then no memory is wanted.
     pub fn make(alloc: Global, parts: &[Part]) -> Result<Option<Parts>, AllocError>
         ensures made { IfOk result (λ made. IsSome made ↔ ((2 ≤ length parts.now) × (length parts.now ≤ 8))) }
         ensures parts { IfOk result (λ made. IfSome made (λ ps. ps ≡ parts.now)) }
+        ensures growth { OnErr result ((2 ≤ length parts.now) × (length parts.now ≤ 8)) }
     {
         if parts.len() < 2 || parts.len() > MOST_PARTS {
             return Ok(None);

@@ -1,7 +1,8 @@
 ghost use Rattle.std.specs.Prelude.{◌≡◌, ◌↔◌, IsTrue};
 ghost use Rattle.credential_text.specs.declared.exprs.Expr.{Expr as AnyExpr};
 ghost use Rattle.credential_text.specs.declared.intersections.Part.{Part as AnyPart};
-ghost use Rattle.credential_text.specs.Laws.{CanonicalSpells, CanonicalIsShort, NoTextSpellsTwo, RefusedUnlessSpelled, ExprsInOrder, CredentialsInOrder};
+ghost use Rattle.credential_text.specs.Laws.{CanonicalSpells, CanonicalIsShort, NoTextSpellsTwo, RefusedUnlessSpelled};
+ghost use Rattle.credential_text.specs.Laws.{ExprsInOrder, CredentialsInOrder};
 
 use crate::exprs::Expr;
 use crate::intersections::Part;

@@ -10,7 +10,6 @@ mod laws;
 mod reading;
 #[cfg(test)]
 mod tests;
-mod trimming;
 mod writing;
 
 pub use credentials::Credential;

@@ -7,7 +7,7 @@ ghost use Rattle.credential_text.specs.Refusal.{split_arrow, head_fault, refusal
 use crate::bodies::read_body;
 use crate::credentials::Credential;
 use crate::faults::CredFault;
-use crate::trimming::trimmed;
+use names::texts::trim;
 use names::{NameFault, Role};
 use std::alloc::Global;
 
@@ -49,7 +49,7 @@ pub fn read_credential(alloc: Global, text: &[u8]) -> Result<Credential, CredFau
     let Some((before, after)) = round_arrow(text) else {
         return Err(CredFault::NoArrow);
     };
-    let head = read_head(trimmed(before))?;
+    let head = read_head(trim(before))?;
     let body = read_body(alloc, &head.owner, after)?;
     Ok(Credential { head, body })
 }

@@ -129,6 +129,26 @@ fn texts_that_are_refused(rt: HostRuntime) {
 }
 
 #[test]
+fn faults_by_number_and_text(rt: HostRuntime) -> Result<(), Fail> {
+    let table = [
+        (CredFault::NoArrow, 21, "no arrow"),
+        (CredFault::Head, 22, "head"),
+        (CredFault::BodyEmpty, 23, "empty body"),
+        (CredFault::Dots, 24, "too many dots"),
+        (CredFault::LinkBase, 25, "link base"),
+        (CredFault::Parts, 26, "parts"),
+        (CredFault::Long, 27, "credential too long"),
+        (CredFault::Name(NameFault::Byte), 13, "name byte"),
+        (CredFault::Memory, 90, "memory"),
+    ];
+    for (fault, number, text) in table {
+        assert_eq!(rt; fault.number(), number);
+        assert_eq!(rt; format!(in rt.alloc(); "{fault}")?.as_str(), text);
+    }
+    Ok(())
+}
+
+#[test]
 fn texts_of_the_greatest_length(rt: HostRuntime) -> Result<(), Fail> {
     let longest = padded_to(rt.alloc(), b"A.r <- D", 4096)?;
     assert_eq!(rt;

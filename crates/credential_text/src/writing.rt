@@ -105,7 +105,7 @@ fn cut_back(
 pub fn write_expr(expr: &Expr, out: &mut Vec<u8>) -> Result<(), AllocError>
     ensures written { OnOk result (out.new.items ≡ out.old.items ++ expr_text expr.now) }
     ensures names { OnOk result (IsTrue (list_all has_names (expr_parts expr.now)) × HasPartsInRange expr.now) }
-    ensures kept { OnErr result (out.new.items ≡ out.old.items) }
+    ensures unchanged { OnErr result (out.new.items ≡ out.old.items) }
     ensures capacity { vec_capacity out.old ≤ vec_capacity out.new }
 {
     let held = out.len();
@@ -118,7 +118,7 @@ pub fn write_expr(expr: &Expr, out: &mut Vec<u8>) -> Result<(), AllocError>
 pub fn write_credential(credential: &Credential, out: &mut Vec<u8>) -> Result<(), AllocError>
     ensures written { OnOk result (out.new.items ≡ out.old.items ++ canonical credential.now) }
     ensures spells { OnOk result (Spells (canonical credential.now) credential.now) }
-    ensures kept { OnErr result (out.new.items ≡ out.old.items) }
+    ensures unchanged { OnErr result (out.new.items ≡ out.old.items) }
     ensures capacity { vec_capacity out.old ≤ vec_capacity out.new }
 {
     let held = out.len();

@@ -2,8 +2,8 @@
 use Rattle.std.proofs.Common.{◌≡◌, ℕ, Bool, true, false, cond, List, [], ◌∷◌, refl, ap, ◌∙◌, sym, map, filter, find, Some}
 use Rattle.std.specs.Prelude.{option_map}
 use Rattle.std.proofs.lemmas.Bool.{false≢true}
-use Rattle.vaults.specs.Journal.{is_same}
-use Rattle.vaults.proofs.Orders.{same_from_is_same}
+use Rattle.names.specs.Name.{is_same}
+use Rattle.names.proofs.SameNames.{same_from_is_same}
 use Rattle.rt0_rules.proofs.Elements.{find-Some}
 use Rattle.hall.proofs.Elements.{find-map}
 use Rattle.hall.proofs.Sound.{name_stays}

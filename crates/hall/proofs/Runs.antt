@@ -2,8 +2,9 @@
 use Rattle.std.proofs.Common.{ℕ, Bool, true, false, cond, List, [], ◌∷◌, ◌++◌, ◌≡◌, ◌∙◌, sym, ap, refl, subst, subst₂, take, Option, Some, None}
 use Rattle.std.specs.List.{AllZip}
 use Rattle.vaults.specs.declared.changes.Entry.{Entry}
-use Rattle.vaults.specs.Journal.{is_same, view, Vault}
-use Rattle.vaults.proofs.Orders.{same_from_is_same}
+use Rattle.names.specs.Name.{is_same}
+use Rattle.vaults.specs.Journal.{view, Vault}
+use Rattle.names.proofs.SameNames.{same_from_is_same}
 use Rattle.hall.specs.declared.queries.Query.{Query}
 use Rattle.hall.specs.declared.requests.Request.{Request}
 use Rattle.hall.specs.declared.requests.Request.TheVariants as request

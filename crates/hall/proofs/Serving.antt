@@ -4,8 +4,9 @@ use Rattle.std.specs.List.{AllByRecursion}
 use Rattle.std.proofs.lemmas.Bool.{false_from_ne_true, both_ways}
 use Rattle.std.proofs.lemmas.List.{map-append, take-append-le, take_all}
 use Rattle.vaults.specs.declared.changes.Entry.{Entry}
-use Rattle.vaults.specs.Journal.{is_same, entries_of, view, Vault}
-use Rattle.vaults.proofs.Orders.{same_from_is_same, is_same_itself}
+use Rattle.names.specs.Name.{is_same}
+use Rattle.vaults.specs.Journal.{entries_of, view, Vault}
+use Rattle.names.proofs.SameNames.{same_from_is_same, is_same_itself}
 use Rattle.vaults.proofs.LastEntries.{entries_push}
 use Rattle.hall.specs.declared.faults.Fault.TheVariants.{NoTenant}
 use Rattle.hall.specs.declared.queries.Query.{Query}

@@ -5,8 +5,9 @@ use Rattle.std.specs.List.{Contains}
 use Rattle.std.proofs.lemmas.List.Elements.{All-from_recursion, All-contains}
 use Rattle.rt0_rules.proofs.Elements.{find-Some}
 use Rattle.vaults.specs.declared.changes.Entry.{Entry}
-use Rattle.vaults.specs.Journal.{is_same, Vault, view}
-use Rattle.vaults.proofs.Orders.{same_from_is_same}
+use Rattle.names.specs.Name.{is_same}
+use Rattle.vaults.specs.Journal.{Vault, view}
+use Rattle.names.proofs.SameNames.{same_from_is_same}
 use Rattle.hall.specs.declared.queries.Query.{Query}
 use Rattle.hall.specs.Truth.{Settled, IsTruth, MaySettle}
 use Rattle.hall.specs.State.{Running, Tenant, HallState, tenant_named, running_numbered, running_of, search_at, settling, AreDistinct, AreNumbered, IsSound, IsSoundTenant, RunningGoesOn, TenantGoesOn, Settles}

@@ -4,7 +4,8 @@ use Rattle.std.specs.List.{AllZip}
 use Rattle.std.proofs.lemmas.List.{take-append-le}
 use Rattle.vaults.specs.declared.changes.Change.{Change}
 use Rattle.vaults.specs.declared.changes.Entry.{Entry}
-use Rattle.vaults.specs.Journal.{is_same, view}
+use Rattle.names.specs.Name.{is_same}
+use Rattle.vaults.specs.Journal.{view}
 use Rattle.hall.specs.declared.faults.Fault.{Fault}
 use Rattle.hall.specs.declared.queries.Query.{Query}
 use Rattle.hall.specs.declared.requests.Request.TheVariants as request

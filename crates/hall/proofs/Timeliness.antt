@@ -5,8 +5,9 @@ use Rattle.std.proofs.lemmas.List.Elements.{Contains-push}
 use Rattle.std.proofs.lemmas.Bool.Decides.{Decides-eqb}
 use Rattle.quotas.specs.Quota.{Quota}
 use Rattle.vaults.specs.declared.changes.Change.{Change}
-use Rattle.vaults.specs.Journal.{is_same, Vault, view}
-use Rattle.vaults.proofs.Orders.{same_from_is_same}
+use Rattle.names.specs.Name.{is_same}
+use Rattle.vaults.specs.Journal.{Vault, view}
+use Rattle.names.proofs.SameNames.{same_from_is_same}
 use Rattle.rt0_rules.proofs.Elements.{find-Some, Contains-none}
 use Rattle.hall.specs.declared.faults.Fault.{Fault}
 use Rattle.hall.specs.declared.faults.Fault.TheVariants.{NoTenant, NoSuchSearch, Memory}

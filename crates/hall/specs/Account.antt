@@ -6,7 +6,8 @@ use Rattle.quotas.specs.Quota.{Quota}
 use Rattle.vaults.specs.declared.changes.Change.{Change}
 use Rattle.vaults.specs.declared.changes.Change.TheVariants.{Upload, Withdraw, Grant, Revoke}
 use Rattle.vaults.specs.declared.changes.Entry.{Entry}
-use Rattle.vaults.specs.Journal.{is_same, vault, readers, refusal, Vault}
+use Rattle.names.specs.Name.{is_same}
+use Rattle.vaults.specs.Journal.{vault, readers, refusal, Vault}
 use Rattle.hall.specs.declared.faults.Fault.{Fault}
 use Rattle.hall.specs.declared.faults.Fault.TheVariants as fault
 use Rattle.hall.specs.declared.queries.Query.{Query}

@@ -3,7 +3,8 @@ use Rattle.std.specs.Prelude.{◌≡◌, ◌≢◌, ℕ, ◌==◌, not, List, []
 use Rattle.std.specs.List.{AllByRecursion}
 use Rattle.vaults.specs.declared.changes.Change.{Change}
 use Rattle.vaults.specs.declared.changes.Entry.{Entry}
-use Rattle.vaults.specs.Journal.{is_same, view}
+use Rattle.names.specs.Name.{is_same}
+use Rattle.vaults.specs.Journal.{view}
 use Rattle.hall.specs.declared.faults.Fault.{Fault}
 use Rattle.hall.specs.declared.faults.Fault.TheVariants.{NoTenant, Memory}
 use Rattle.hall.specs.declared.queries.Query.{Query}

@@ -3,7 +3,8 @@ use Rattle.std.specs.Prelude.{◌≡◌, ℕ, Bool, is_some, ◌≤◌, ◌<◌,
 use Rattle.std.specs.List.{AllByRecursion, AllZip}
 use Rattle.quotas.specs.Quota.{Quota}
 use Rattle.vaults.specs.declared.changes.Entry.{Entry}
-use Rattle.vaults.specs.Journal.{is_same, entries_of, view}
+use Rattle.names.specs.Name.{is_same}
+use Rattle.vaults.specs.Journal.{entries_of, view}
 use Rattle.hall.specs.declared.queries.Query.{Query}
 use Rattle.hall.specs.Truth.{Settled, Nothing, MaySettle}
 use Rattle.hall.specs.Account.{OpenSearch, Account}

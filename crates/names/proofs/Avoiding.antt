@@ -18,10 +18,6 @@ Avoids-cons byte b bs first others = All-cons (λ (x : ℕ). (x == byte) ≡ fal
 pub Avoids-append : (byte : ℕ) (xs ys : List ℕ) → Avoids byte xs → Avoids byte ys → Avoids byte (xs ++ ys)
 Avoids-append byte xs ys in_xs in_ys = All-append (λ (b : ℕ). (b == byte) ≡ false) xs ys in_xs in_ys
 
--- it doesn't stand in one byte more
-pub Avoids-more : (byte : ℕ) (text : List ℕ) (i : ℕ) → i < length text → Avoids byte (take i text) → (get_or text i 0 ≡ byte → ⊥) → Avoids byte (take (i + 1) text)
-Avoids-more byte text i within so_far other = All-more (λ (b : ℕ). (b == byte) ≡ false) text i 0 within so_far (ne_eqb (get_or text i 0) byte other)
-
 -- what passes a test is no byte that fails it
 pub other_byte : (p : ℕ → Bool) (b byte : ℕ) → p byte ≡ false → p b ≡ true → (b == byte) ≡ false
 other_byte p b byte fails passes = ne_eqb b byte (λ (same : b ≡ byte). let e : p b ≡ p byte = ap p same in cc)

@@ -1,12 +1,13 @@
 -- A text has no fault exactly where it is a name, or spells a role.
-use Rattle.std.proofs.Common.{ℕ, List, [], ◌∷◌, ◌++◌, ◌<◌, ◌≡◌, ◌∙◌, sym, ap, refl, Option, Some, None, arith, length}
+use Rattle.std.proofs.Common.{ℕ, true, List, [], ◌∷◌, ◌++◌, ◌<◌, ◌≡◌, ◌∙◌, sym, ap, refl, Option, Some, None, arith, length}
+use Rattle.std.specs.Prelude.{MatchOption, is_some}
 use Rattle.std.specs.List.{join_with_byte}
 use Rattle.std.proofs.lemmas.List.Splits.{join_with_byte-slice_split}
 use Rattle.names.specs.declared.roles.Role.{Role}
 use Rattle.names.specs.declared.faults.NameFault.TheVariants.{NotRole}
 use Rattle.names.specs.Name.{IsName}
 use Rattle.names.specs.Fault.{name_fault, role_fault, role_fault_of, or_then}
-use Rattle.names.specs.Pieces.{dot, pieces}
+use Rattle.names.specs.Texts.{dot, pieces}
 use Rattle.names.specs.Role.{SpellsRole}
 use Rattle.names.specs.Laws.{FaultlessAreNames, FaultlessAreRoles}
 use Rattle.names.proofs.Avoiding.{name_avoids, NameParts, name_parts}
@@ -60,6 +61,10 @@ faultless_are_roles text = (
 )
 
 -- a text with two dots is no role
-pub two_dots : (text owner rest name more : List ℕ) → pieces dot text ≡ owner ∷ pieces dot rest → pieces dot rest ≡ name ∷ pieces dot more → role_fault text ≡ Some NotRole
-two_dots text owner rest name more first second =
-    ap role_fault_of first ∙ ap (λ (ps : List (List ℕ)). role_fault_of (owner ∷ ps)) second ∙ many_pieces owner name (pieces dot more) (some_piece dot more)
+pub two_dots : {B : Type 0} (value : B → List ℕ) (text owner rest name : List ℕ) (more : Option B) → pieces dot text ≡ owner ∷ pieces dot rest → is_some more ≡ true →
+    MatchOption more (pieces dot rest ≡ name ∷ []) (λ m. pieces dot rest ≡ name ∷ pieces dot (value m)) → role_fault text ≡ Some NotRole
+two_dots value text owner rest name None first some second = cc
+two_dots value text owner rest name (Some more) first some second =
+    ap role_fault_of first
+    ∙ ap (λ (ps : List (List ℕ)). role_fault_of (owner ∷ ps)) second
+    ∙ many_pieces owner name (pieces dot (value more)) (some_piece dot (value more))

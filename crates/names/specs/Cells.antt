@@ -17,4 +17,5 @@ length_held cells len h = length-take-le len cells (subst (λ (n : ℕ). len ≤
 
 -- the name, padded again, gives the cells back
 pub cells_again : (cells : List ℕ) (len : ℕ) → HoldsName cells len → take len cells ++ replicate (64 - length (take len cells)) 0 ≡ cells
-cells_again cells len h = ap (λ (n : ℕ). take len cells ++ replicate (64 - n) 0) (length_held cells len h) ∙ sym h.padded
+cells_again cells len h =
+    ap (λ (n : ℕ). take len cells ++ replicate (64 - n) 0) (length_held cells len h) ∙ sym h.padded

@@ -4,7 +4,7 @@ use Rattle.std.specs.List.{list_all}
 use Rattle.names.specs.declared.faults.NameFault.{NameFault}
 use Rattle.names.specs.declared.faults.NameFault.TheVariants.{Empty, Start, Byte, Long, NotRole}
 use Rattle.names.specs.Name.{is_letter, is_name_byte}
-use Rattle.names.specs.Pieces.{dot, pieces}
+use Rattle.names.specs.Texts.{dot, pieces}
 
 -- the first that applies: nothing there, a first byte that is no letter, a later byte that isn't allowed, too long
 abbrev pub name_fault : List ℕ → Option NameFault

@@ -1,5 +1,5 @@
 pub mod Name
-pub mod Pieces
+pub mod Texts
 pub mod Fault
 pub mod Cells
 pub mod Role

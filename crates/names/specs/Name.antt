@@ -1,9 +1,9 @@
 -- What a name is: an ASCII letter, then ASCII letters, digits, '_' and '-', 64 bytes at most.
-use Rattle.std.specs.Prelude.{ℕ, Bool, false, List, [], ◌∷◌, ◌==◌, ◌&&◌, ◌||◌, nat_le, length, IsTrue}
+use Rattle.std.specs.Prelude.{ℕ, Bool, false, List, [], ◌∷◌, ◌==◌, ◌&&◌, ◌||◌, nat_eq, nat_le, length, IsTrue}
 use Rattle.std.specs.List.{list_all}
 use Rattle.std.specs.declared.cmp.Ordering.{Ordering}
 use Rattle.std.specs.Ordering.{nat_cmp}
-use Rattle.std.specs.Cmp.Lexicographic.{slice_cmp}
+use Rattle.std.specs.Cmp.Lexicographic.{pointwise, slice_cmp}
 
 -- 'A' to 'Z' and 'a' to 'z'
 abbrev pub is_letter : ℕ → Bool
@@ -24,6 +24,10 @@ is_name (b ∷ bs) = is_letter b && list_all is_name_byte bs && nat_le (length (
 
 abbrev pub IsName : List ℕ → Type 0
 IsName text = IsTrue (is_name text)
+
+-- the same name, byte by byte
+abbrev pub is_same : List ℕ → List ℕ → Bool
+is_same = pointwise nat_eq
 
 -- the order of names: by their bytes, a prefix first
 abbrev pub name_order : List ℕ → List ℕ → Ordering

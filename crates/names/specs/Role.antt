@@ -4,7 +4,7 @@ use Rattle.std.specs.declared.cmp.Ordering.{Ordering}
 use Rattle.std.specs.Ordering.{on, then_cmp}
 use Rattle.names.specs.declared.roles.Role.{Role}
 use Rattle.names.specs.Name.{IsName, name_order}
-use Rattle.names.specs.Pieces.{dot}
+use Rattle.names.specs.Texts.{dot}
 
 -- owner '.' name
 abbrev pub role_text : Role → List ℕ

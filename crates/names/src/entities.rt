@@ -28,10 +28,8 @@ impl Entity {
         ensures entity { IfOk result (λ e. e ≡ text.now) }
         ensures refused { IfErr result (λ f. name_fault text.now ≡ Some f) }
     {
-        match Name::read(text) {
-            Ok(name) => Ok(Entity { name }),
-            Err(fault) => Err(fault),
-        }
+        let name = Name::read(text)?;
+        Ok(Entity { name })
     }
 
     /// The bytes of the name.

@@ -2,7 +2,6 @@
 #![tactic(auto)]
 
 mod cells;
-mod cuts;
 mod entities;
 mod faults;
 mod laws;
@@ -11,10 +10,10 @@ mod role_names;
 mod roles;
 #[cfg(test)]
 mod tests;
+pub mod texts;
 
-pub use cuts::cut;
 pub use entities::Entity;
 pub use faults::NameFault;
-pub use laws::names_and_orders;
+pub use laws::{names_and_orders, operators_are_exact};
 pub use role_names::RoleName;
 pub use roles::Role;

@@ -28,10 +28,8 @@ impl RoleName {
         ensures role_name { IfOk result (λ n. n ≡ text.now) }
         ensures refused { IfErr result (λ f. name_fault text.now ≡ Some f) }
     {
-        match Name::read(text) {
-            Ok(name) => Ok(RoleName { name }),
-            Err(fault) => Err(fault),
-        }
+        let name = Name::read(text)?;
+        Ok(RoleName { name })
     }
 
     /// The bytes of the name.

@@ -1,10 +1,10 @@
 ghost use Rattle.std.specs.Prelude.{◌≡◌, Some, IfOk, IfErr};
 ghost use Rattle.names.specs.Fault.{role_fault};
 
-use crate::cuts::cut;
 use crate::entities::Entity;
 use crate::faults::NameFault;
 use crate::role_names::RoleName;
+use crate::texts::cut;
 use std::cmp::Ordering;
 
 /// A role: the set of entities that its owner defines under the role name. Only the owner defines it.
@@ -26,7 +26,7 @@ impl Role {
             return Err(NameFault::NotRole);
         };
         let (name, more) = cut(rest, b'.');
-        if let Some(_another) = more {
+        if more.is_some() {
             return Err(NameFault::NotRole);
         }
         let owner = Entity::read(owner)?;

@@ -1,4 +1,5 @@
 use super::*;
+use crate::texts::{cut, is_blank, trim, trim_end, trim_start};
 use std::alloc::{AllocError, Global};
 use std::cmp::Ordering;
 use std::test::Fail;
@@ -94,6 +95,22 @@ fn orders(rt: HostRuntime) -> Result<(), Fail> {
 }
 
 #[test]
+fn faults_by_number_and_text(rt: HostRuntime) -> Result<(), Fail> {
+    let table = [
+        (NameFault::Empty, 11, "empty name"),
+        (NameFault::Start, 12, "name start"),
+        (NameFault::Byte, 13, "name byte"),
+        (NameFault::Long, 14, "name too long"),
+        (NameFault::NotRole, 15, "not a role"),
+    ];
+    for (fault, number, text) in table {
+        assert_eq!(rt; fault.number(), number);
+        assert_eq!(rt; format!(in rt.alloc(); "{fault}")?.as_str(), text);
+    }
+    Ok(())
+}
+
+#[test]
 fn texts_are_cut_at_the_first_place(rt: HostRuntime) -> Result<(), Fail> {
     let (before, after) = cut(b"A.r.s", b'.');
     assert_eq!(rt; before, b"A".as_slice());
@@ -102,4 +119,16 @@ fn texts_are_cut_at_the_first_place(rt: HostRuntime) -> Result<(), Fail> {
     assert_eq!(rt; whole, b"A".as_slice());
     assert!(rt; nothing.is_none());
     Ok(())
+}
+
+#[test]
+fn texts_lose_their_outer_spaces(rt: HostRuntime) {
+    let text = b"  a b\t ";
+    assert_eq!(rt; trim_start(text), b"a b\t ".as_slice());
+    assert_eq!(rt; trim_end(text), b"  a b\t".as_slice());
+    assert_eq!(rt; trim(text), b"a b\t".as_slice());
+    assert_eq!(rt; trim(b"   "), b"".as_slice());
+    for (text, blank) in [(b"".as_slice(), true), (b"  ", true), (b" \t", false)] {
+        assert_eq!(rt; is_blank(text), blank);
+    }
 }

@@ -1,4 +1,4 @@
--- The six limits of a tenant, and their ranges.
+-- A tenant's quota, which is what contracts see of its `Limits`: six limits, each in its range.
 use Rattle.std.specs.Prelude.{ℕ, ◌≤◌}
 
 -- how many credentials, grants, open searches, changes and openings, and how many letters of one search
@@ -9,6 +9,11 @@ pub record Quota : Type 0 where
   pub changes : ℕ
   pub opens : ℕ
   pub work : ℕ
+
+-- the quota of these six
+abbrev pub quota : ℕ → ℕ → ℕ → ℕ → ℕ → ℕ → Quota
+quota creds grants searches changes opens work =
+    record { creds = creds; grants = grants; searches = searches; changes = changes; opens = opens; work = work }
 
 -- at least 1, and at most the greatest
 abbrev pub IsFrom1To : ℕ → ℕ → Type 0
@@ -25,4 +30,4 @@ pub record IsQuota (q : Quota) : Type 0 where
 
 -- the limits of a tenant of which nothing else is said
 abbrev pub usual_quota : Quota
-usual_quota = record { creds = 1000; grants = 100; searches = 16; changes = 10000; opens = 10000; work = 1000000 }
+usual_quota = quota 1000 100 16 10000 10000 1000000

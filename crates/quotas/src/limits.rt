@@ -1,10 +1,10 @@
 ghost use Rattle.std.specs.Prelude.{◌≡◌, ◌<◌, ◌≤◌, ◌↔◌, IsOk, IsTrue, IsSome, IfSome, IsErrOf, OnOk};
-ghost use Rattle.quotas.specs.Quota.{IsFrom1To, IsQuota, usual_quota};
+ghost use Rattle.quotas.specs.Quota.{IsFrom1To, IsQuota, quota, usual_quota};
 
 use crate::faults::QuotaFault;
 use std::marker::Model;
 
-/// The six limits of a tenant, each in its range.
+/// The six limits of a tenant, each in its range. Contracts see them as a `Quota`.
 #[derive(Clone, Copy)]
 pub struct Limits {
     creds: u64,
@@ -20,11 +20,32 @@ impl Model for Limits {
 
     ghost Value = { Quota };
 
-    ghost view = { λ l. record { creds = l.creds; grants = l.grants; searches = l.searches; changes = l.changes; opens = l.opens; work = l.work } };
+    ghost view = { λ l. record {
+      creds = l.creds;
+      grants = l.grants;
+      searches = l.searches;
+      changes = l.changes;
+      opens = l.opens;
+      work = l.work;
+    } };
 
-    ghost invariant = { λ l. IsQuota (record { creds = l.creds; grants = l.grants; searches = l.searches; changes = l.changes; opens = l.opens; work = l.work }) };
+    ghost invariant = { λ l. IsQuota (record {
+      creds = l.creds;
+      grants = l.grants;
+      searches = l.searches;
+      changes = l.changes;
+      opens = l.opens;
+      work = l.work;
+    }) };
 
-    ghost inverse = { λ q. record { creds = q.creds; grants = q.grants; searches = q.searches; changes = q.changes; opens = q.opens; work = q.work } };
+    ghost inverse = { λ q. record {
+      creds = q.creds;
+      grants = q.grants;
+      searches = q.searches;
+      changes = q.changes;
+      opens = q.opens;
+      work = q.work;
+    } };
 }
 
 /// What a tenant uses of its limits: the credentials that it holds, the readers that it has granted, the searches that
@@ -49,8 +70,8 @@ impl Limits {
         opens: u64,
         work: u64,
     ) -> Option<Limits>
-        ensures ranges { IsSome result ↔ IsQuota (record { creds = creds; grants = grants; searches = searches; changes = changes; opens = opens; work = work }) }
-        ensures value { IfSome result (λ l. l ≡ record { creds = creds; grants = grants; searches = searches; changes = changes; opens = opens; work = work }) }
+        ensures ranges { IsSome result ↔ IsQuota (quota creds grants searches changes opens work) }
+        ensures value { IfSome result (λ l. l ≡ quota creds grants searches changes opens work) }
     {
         let small = is_from_1_to(100_000, creds)
             && is_from_1_to(1_000, grants)

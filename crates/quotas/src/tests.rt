@@ -79,10 +79,17 @@ fn at_each_limit(rt: HostRuntime) -> Result<(), Fail> {
 }
 
 #[test]
-fn numbers_and_texts(rt: HostRuntime) -> Result<(), Fail> {
-    assert_eq!(rt; QuotaFault::Creds.number(), 41);
-    assert_eq!(rt; QuotaFault::Opens.number(), 45);
-    let text = format!(in rt.alloc(); "{}", QuotaFault::Changes)?;
-    assert_eq!(rt; text.as_str(), "changes limit");
+fn faults_by_number_and_text(rt: HostRuntime) -> Result<(), Fail> {
+    let table = [
+        (QuotaFault::Creds, 41, "creds limit"),
+        (QuotaFault::Grants, 42, "grants limit"),
+        (QuotaFault::Searches, 43, "searches limit"),
+        (QuotaFault::Changes, 44, "changes limit"),
+        (QuotaFault::Opens, 45, "opens limit"),
+    ];
+    for (fault, number, text) in table {
+        assert_eq!(rt; fault.number(), number);
+        assert_eq!(rt; format!(in rt.alloc(); "{fault}")?.as_str(), text);
+    }
     Ok(())
 }

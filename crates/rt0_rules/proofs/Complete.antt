@@ -15,7 +15,7 @@ use Rattle.rt0_rules.specs.Derivation.{Derives, DerivesEach, leaf, credential, l
 use Rattle.rt0_rules.specs.Facts.{knows, holds_part, has_part, holds, is_owed, IsClosed, entities_in_part, entities_in, all_entities}
 use Rattle.rt0_rules.proofs.Linking.{held_by}
 use Rattle.rt0_rules.proofs.Elements.{Contains-none, Contains-first, Contains-flat_map, find-None}
-use Rattle.rt0_rules.proofs.SameTexts.{text_itself}
+use Rattle.names.proofs.SameNames.{is_same_itself}
 
 -- the entities of an expression are listed
 pub record AreListed (entities : List (List ℕ)) (e : Expr) : Type 0 where
@@ -71,7 +71,7 @@ held_in_part facts (part.Link base n) d held = held
 mutual
   pub complete : (C : List Credential) (facts : List Fact) → IsClosed C (all_entities C) facts →
       (d : List ℕ) (e : Expr) → Derives C d e → AreListed (all_entities C) e → IsFound (all_entities C) facts d e
-  complete C facts closed d (Ent w) leaf listed = record { listed = listed.each d (Contains-first d []); holds = text_itself d }
+  complete C facts closed d (Ent w) leaf listed = record { listed = listed.each d (Contains-first d []); holds = is_same_itself d d refl }
   complete C facts closed d (Rol r) (credential c among head der) listed =
       let body : IsFound (all_entities C) facts d c.body = complete C facts closed d c.body der (bodies_listed C c among) in
       record {

@@ -1,12 +1,13 @@
 -- The entity by whom the facts put another into a linked role.
-use Rattle.std.proofs.Common.{ℕ, Bool, true, List, ◌<◌, ◌≡◌, ◌&&◌, sym, subst, length, get_or}
+use Rattle.std.proofs.Common.{ℕ, Bool, true, List, ◌<◌, ◌≡◌, ◌&&◌, refl, sym, subst, length, get_or}
 use Rattle.std.specs.List.{Any}
 use Rattle.std.proofs.lemmas.Bool.{and_parts, and_from}
 use Rattle.std.proofs.lemmas.List.Folds.{Any-from_list_any, list_any_at}
 use Rattle.names.specs.declared.roles.Role.{Role}
 use Rattle.rt0_rules.specs.declared.facts.Fact.{Fact}
 use Rattle.rt0_rules.specs.Facts.{is_same_role, says, knows, holds_link}
-use Rattle.rt0_rules.proofs.SameTexts.{text_itself, role_itself, said}
+use Rattle.names.proofs.SameNames.{is_same_itself}
+use Rattle.rt0_rules.proofs.SameTexts.{role_itself, said}
 
 -- the facts have somebody in the base, and d in their role of this name
 pub record LinksBy (facts : List Fact) (base : Role) (n d : List ℕ) : Type 0 where
@@ -36,7 +37,7 @@ links_by facts base n d held =
     record {
       who = fact.who;
       in_base = list_any_at (says base fact.who) facts at.0 fact at.2
-          (subst (λ (f : Fact). says base fact.who f ≡ true) (sym at.3) (and_from _ _ both.0 (text_itself fact.who)));
+          (subst (λ (f : Fact). says base fact.who f ≡ true) (sym at.3) (and_from _ _ both.0 (is_same_itself fact.who fact.who refl)));
       in_role = both.1;
     }
 

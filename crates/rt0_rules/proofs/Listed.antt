@@ -8,10 +8,9 @@ use Rattle.std.proofs.lemmas.List.Folds.{list_any_more}
 use Rattle.std.proofs.lemmas.Map.Text.{is_eq-slice_cmp}
 use Rattle.std.proofs.lemmas.Map.Views.{btree_set_contains_iff}
 use Rattle.names.specs.declared.roles.Role.{Role}
-use Rattle.names.specs.Name.{name_order}
+use Rattle.names.specs.Name.{name_order, is_same}
 use Rattle.names.proofs.OrderLemmas.{name_order_tied}
 use Rattle.rt0_rules.specs.declared.facts.Fact.{Fact}
-use Rattle.credential_text.specs.Part.{is_same}
 use Rattle.rt0_rules.specs.Facts.{is_same_role, says, knows}
 
 -- one fact more of those that are looked at

@@ -14,7 +14,8 @@ use Rattle.credential_text.specs.Expr.{part_expr}
 use Rattle.rt0_rules.specs.Derivation.{Derives, DerivesEach, leaf, credential, link, meet, last, more}
 use Rattle.rt0_rules.specs.Membership.{IsMember}
 use Rattle.rt0_rules.specs.Facts.{says, knows, holds_link, holds_part, holds, IsOwed, IsSound}
-use Rattle.rt0_rules.proofs.SameTexts.{same_text, said}
+use Rattle.names.proofs.SameNames.{same_from_is_same}
+use Rattle.rt0_rules.proofs.SameTexts.{said}
 use Rattle.rt0_rules.proofs.Linking.{LinksBy, links_by}
 use Rattle.rt0_rules.proofs.Unknown.{owed_parts}
 
@@ -25,7 +26,7 @@ sound_link C facts sound base n d held =
     link by.who (sound base by.who by.in_base) (sound (record { owner = by.who; name = n }) d by.in_role)
 
 sound_in_part : (C : List Credential) (facts : List Fact) → IsSound C facts → (p : Part) (d : List ℕ) → holds_part facts d p ≡ true → Derives C d (part_expr p)
-sound_in_part C facts sound (part.Ent e) d same = subst (λ (w : List ℕ). Derives C d (Ent w)) (sym (same_text e d same)) leaf
+sound_in_part C facts sound (part.Ent e) d same = subst (λ (w : List ℕ). Derives C d (Ent w)) (sym (same_from_is_same e d same)) leaf
 sound_in_part C facts sound (part.Rol r) d known = sound r d known
 sound_in_part C facts sound (part.Link base n) d held = sound_link C facts sound base n d held
 

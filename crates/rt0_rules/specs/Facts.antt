@@ -7,7 +7,7 @@ use Rattle.credential_text.specs.declared.exprs.Expr.{Expr}
 use Rattle.credential_text.specs.declared.exprs.Expr.TheVariants as expr
 use Rattle.credential_text.specs.declared.intersections.Part.{Part}
 use Rattle.credential_text.specs.declared.intersections.Part.TheVariants as part
-use Rattle.credential_text.specs.Part.{is_same}
+use Rattle.names.specs.Name.{is_same}
 use Rattle.rt0_rules.specs.declared.facts.Fact.{Fact}
 use Rattle.rt0_rules.specs.Membership.{IsMember}
 

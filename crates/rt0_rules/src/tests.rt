@@ -1,6 +1,7 @@
 use crate::{members_plain, membership_is_exact, work_is_exact};
 use credential_text::{Credential, Expr, Part, Parts};
-use names::{Entity, Role, RoleName, cut};
+use names::texts::cut;
+use names::{Entity, Role, RoleName};
 use std::alloc::Global;
 use std::test::Fail;
 

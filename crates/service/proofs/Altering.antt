@@ -6,7 +6,8 @@ use Rattle.vaults.specs.declared.changes.Change.TheVariants.{Upload, Withdraw, G
 use Rattle.vaults.specs.declared.changes.Entry.{Entry}
 use Rattle.vaults.specs.declared.faults.VaultFault.{VaultFault}
 use Rattle.vaults.specs.declared.faults.VaultFault.TheVariants as vault
-use Rattle.vaults.specs.Journal.{is_same, entries_of, holds, granted, refusal, view}
+use Rattle.names.specs.Name.{is_same}
+use Rattle.vaults.specs.Journal.{entries_of, holds, granted, refusal, view}
 use Rattle.vaults.proofs.Exactness.{refusals_own}
 use Rattle.vaults.proofs.Steps.{own_entries_push}
 use Rattle.hall.specs.declared.faults.Fault.{Fault}

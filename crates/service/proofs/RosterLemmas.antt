@@ -8,7 +8,7 @@ use Rattle.std.proofs.lemmas.Cmp.{nat_list_eq_equiv}
 use Rattle.std.proofs.lemmas.List.{append-nil, length-append, map-append}
 use Rattle.std.proofs.lemmas.List.Elements.{All-from_recursion, All-contains, Contains-append_right}
 use Rattle.std.proofs.lemmas.Map.Keys.{IsDistinct-head, IsDistinct-tail, IsDistinct-push}
-use Rattle.credential_text.specs.Part.{is_same}
+use Rattle.names.specs.Name.{is_same}
 use Rattle.quotas.specs.Quota.{Quota}
 use Rattle.service.specs.declared.script_faults.ScriptFault.{ScriptFault}
 use Rattle.service.specs.declared.script_faults.ScriptFault.TheVariants as fault

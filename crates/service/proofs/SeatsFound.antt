@@ -7,8 +7,8 @@ use Rattle.std.proofs.lemmas.List.Quantifiers.{position-Some}
 use Rattle.std.proofs.lemmas.Option.{slice_get_read, slice_get-map, cond_some}
 use Rattle.rt0_rules.proofs.Elements.{find-Some}
 use Rattle.vaults.specs.declared.changes.Entry.{Entry}
-use Rattle.vaults.specs.Journal.{is_same}
-use Rattle.vaults.proofs.Orders.{same_from_is_same, is_same_itself}
+use Rattle.names.specs.Name.{is_same}
+use Rattle.names.proofs.SameNames.{same_from_is_same, is_same_itself}
 use Rattle.hall.specs.State.{Tenant, AreDistinct, tenant_named, account, account_of, with_tenant}
 use Rattle.hall.proofs.Elements.{find-map}
 use Rattle.hall.proofs.Settling.{once_named}

@@ -5,9 +5,10 @@ use Rattle.std.proofs.lemmas.List.Elements.{All-contains}
 use Rattle.rt0_rules.proofs.Elements.{find-Some, find-None}
 use Rattle.credential_text.specs.declared.credentials.Credential.{Credential}
 use Rattle.vaults.specs.declared.changes.Entry.{Entry}
-use Rattle.vaults.specs.Journal.{is_same, reads, granted, vault, names_read, vault_record, view}
+use Rattle.names.specs.Name.{is_same}
+use Rattle.vaults.specs.Journal.{reads, granted, vault, names_read, vault_record, view}
 use Rattle.vaults.proofs.Exactness.{names_read_exact, views_of_names_read}
-use Rattle.vaults.proofs.Orders.{same_from_is_same, is_same_itself}
+use Rattle.names.proofs.SameNames.{same_from_is_same, is_same_itself}
 use Rattle.hall.specs.declared.requests.Request.TheVariants as request
 use Rattle.hall.specs.declared.replies.Reply.TheVariants as reply
 use Rattle.hall.specs.Account.{Account, rows_in, rows_of}

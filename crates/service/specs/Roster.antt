@@ -1,8 +1,7 @@
 -- The roster that an input begins with.
 use Rattle.std.specs.Prelude.{◌≡◌, ◌⊎◌, ℕ, ◌<◌, ◌≤◌, List, [], ◌∷◌, length, map, codes, Any}
 use Rattle.std.specs.List.{AllZip, IsDistinct}
-use Rattle.names.specs.Name.{IsName}
-use Rattle.credential_text.specs.Part.{is_same}
+use Rattle.names.specs.Name.{IsName, is_same}
 use Rattle.quotas.specs.Quota.{Quota, IsQuota, usual_quota}
 use Rattle.service.specs.Line.{Line, text, too_long, not_ascii}
 use Rattle.service.specs.Words.{words, IsNumber}

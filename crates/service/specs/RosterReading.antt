@@ -1,7 +1,7 @@
 -- How a roster is read.
 use Rattle.std.specs.Prelude.{◌≡◌, ◌⊎◌, ⊤, ℕ, ◌≤◌, List, [], ◌∷◌, ◌++◌, length, true, false, Result, Ok, Err}
 use Rattle.std.specs.List.{list_all, list_any}
-use Rattle.credential_text.specs.Part.{is_same}
+use Rattle.names.specs.Name.{is_same}
 use Rattle.service.specs.declared.script_faults.ScriptFault.{ScriptFault}
 use Rattle.service.specs.declared.script_faults.ScriptFault.TheVariants as fault
 use Rattle.service.specs.declared.roster_lines.RosterLine.{RosterLine}

@@ -2,7 +2,7 @@
 use Rattle.std.specs.Prelude.{◌≡◌, ◌≢◌, ℕ, ◌≤◌, Bool, ◌==◌, not, List, length, drop, filter, slice_index, nat_lt}
 use Rattle.std.specs.List.{slice_split, position_or_len, before_first, after_first}
 use Rattle.std.specs.Str.Parse.{IsNumeral, digits_value}
-pub use Rattle.credential_text.specs.Refusal.{is_space}
+pub use Rattle.names.specs.Texts.{is_space}
 
 -- the byte that parts a name from its command
 abbrev pub is_colon : ℕ → Bool

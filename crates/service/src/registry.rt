@@ -1,6 +1,6 @@
 //! The registry of all tenants.
 ghost use Rattle.std.specs.Prelude.{◌≡◌, option_map, IfOk, IfErr, option_copied, find, position, map};
-ghost use Rattle.vaults.specs.Journal.{is_same};
+ghost use Rattle.names.specs.Name.{is_same};
 ghost use Rattle.hall.specs.declared.requests.Request.TheVariants as request;
 ghost use Rattle.hall.specs.Calls.{new_hall, counted, opened_number, answered, closing, rows_seen, names_seen};
 ghost use Rattle.hall.specs.State.{AreDistinct, is_tenant, tenant_named};

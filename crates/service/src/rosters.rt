@@ -1,7 +1,7 @@
 //! Rosters: the tenants that an input begins with.
 ghost use Rattle.std.specs.Prelude.{◌≡◌, ◌≢◌, ◌↔◌, map, true, IsTrue, IfOk, IfErr};
 ghost use Rattle.std.specs.List.{list_any};
-ghost use Rattle.credential_text.specs.Part.{is_same};
+ghost use Rattle.names.specs.Name.{is_same};
 ghost use Rattle.hall.specs.Calls.{new_hall};
 ghost use Rattle.hall.specs.State.{AreDistinct};
 ghost use Rattle.service.specs.declared.script_faults.ScriptFault.TheVariants as fault;

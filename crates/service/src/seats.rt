@@ -1,6 +1,7 @@
 //! The tenants, each with its limits and its searches.
 ghost use Rattle.std.specs.Prelude.{◌≡◌, ◌+◌, ◌<◌, ◌==◌, None, Some, length, unwrap_or, IfOk, IfErr, OnOk, OnErr, option_copied, position, filter, not};
-ghost use Rattle.vaults.specs.Journal.{is_same, entries_of, vault, readers};
+ghost use Rattle.names.specs.Name.{is_same};
+ghost use Rattle.vaults.specs.Journal.{entries_of, vault, readers};
 ghost use Rattle.hall.specs.declared.faults.Fault.TheVariants as faults;
 ghost use Rattle.hall.specs.Account.{limit_refusal, seek_refusal};
 ghost use Rattle.service.specs.Seats.{new_seat, seat_opening, seat_ending};

@@ -5,10 +5,10 @@ use Rattle.std.specs.List.Sorted.{IsStrictlySortedBy}
 use Rattle.std.specs.BTreeSet.{BTreeSet, insert_key}
 use Rattle.std.specs.declared.cmp.Ordering.{Ordering}
 use Rattle.std.specs.declared.cmp.Ordering.TheVariants.{Less, Equal, Greater}
-use Rattle.std.specs.Ordering.{eq_by_cmp, is_eq, match_ordering, ordering_reverse}
+use Rattle.std.specs.Ordering.{eq_by_cmp, match_ordering, ordering_reverse}
 use Rattle.std.specs.Cmp.{IsTotalOrder, Equal-is}
 use Rattle.std.specs.FinMap.{IsAntisymmetric}
-use Rattle.std.proofs.lemmas.Cmp.{tied_itself, eq_by_cmp_equiv}
+use Rattle.std.proofs.lemmas.Cmp.{eq_by_cmp_equiv}
 use Rattle.std.proofs.lemmas.List.Elements.{All-from_recursion, recursion_from_All, All-weaker, All-cons}
 use Rattle.std.proofs.lemmas.List.Kept.{IsStrictlySortedBy-filter}
 use Rattle.std.proofs.lemmas.Map.Lookups.{btree_set_from_contains}
@@ -38,9 +38,6 @@ module _ {K : Type 0} {R : K → K → Ordering} (o : IsExactOrder R) where
   -- tied elements are equal
   pub same_from_tied : (x y : K) → eq_by_cmp R x y ≡ true → x ≡ y
   same_from_tied x y e = o.exact x y ((Equal-is (R x y)).0 e)
-
-  pub tied_with_itself : (x : K) → eq_by_cmp R x x ≡ true
-  tied_with_itself x = ap is_eq (tied_itself o.total x)
 
   pub tied_both_ways : (x y : K) → eq_by_cmp R x y ≡ eq_by_cmp R y x
   tied_both_ways x y = (eq_by_cmp_equiv o.total).symm x y

@@ -6,17 +6,18 @@ use Rattle.std.specs.Ordering.{eq_by_cmp}
 use Rattle.std.proofs.lemmas.Bool.{and_parts, and_from, and_right}
 use Rattle.std.proofs.lemmas.List.Elements.{filter_agree, All-contains, All-map}
 use Rattle.std.proofs.lemmas.List.Folds.{list_any-append}
-use Rattle.names.specs.Name.{name_order}
+use Rattle.names.specs.Name.{is_same, name_order}
 use Rattle.credential_text.specs.declared.credentials.Credential.{Credential}
 use Rattle.credential_text.specs.Credential.{credential_order}
 use Rattle.vaults.specs.declared.changes.Change.{Change}
 use Rattle.vaults.specs.declared.changes.Change.TheVariants.{Upload, Withdraw, Grant, Revoke}
 use Rattle.vaults.specs.declared.changes.Entry.{Entry}
 use Rattle.vaults.specs.InOrder.{in_order}
-use Rattle.vaults.specs.Journal.{is_same, moves, admits, change_credential, moved_credential, change_reader, named_reader, uploads, grants, entry_is, entries_of, holds, granted, reads, vault, readers, names_read, Vault, vault_record, view, credentials}
+use Rattle.vaults.specs.Journal.{moves, concerns, change_credential, moved_credential, change_reader, named_reader, uploads, grants, entry_is, entries_of, holds, granted, reads, vault, readers, names_read, Vault, vault_record, view, credentials}
 use Rattle.vaults.specs.Laws.{VaultsAreExact, ReadersAreExact, NamesReadAreExact, ViewsAreOfNamesRead, ViewsAreExact, HoldingIsOwn, GrantingIsOwn, VaultsAreOwn, ReadersAreOwn, RefusalsAreOwn}
 use Rattle.vaults.proofs.Elements.{has, has-in_order, has-filter, sorted-in_order, has_iff, tied_both_ways}
-use Rattle.vaults.proofs.Orders.{credentials_exact, names_exact, is_same_tied, same_from_is_same, is_same_itself}
+use Rattle.names.proofs.SameNames.{is_same_tied, same_from_is_same, is_same_itself}
+use Rattle.vaults.proofs.Orders.{credentials_exact, names_exact}
 use Rattle.vaults.proofs.LastEntries.{asked, last_named, list_any_agree, last_has_tenant, last_entry_own, entries_own}
 
 and_absorbs : (b m : Bool) → (b ≡ true → m ≡ true) → (b && m) ≡ b
@@ -29,11 +30,11 @@ moves_named c (Withdraw d) e = tied_both_ways credentials_exact c d ∙ e
 moves_named c (Grant reader) e = cc
 moves_named c (Revoke reader) e = cc
 
-admits_named : (reader : List ℕ) (change : Change) → admits reader change ≡ true → asked (eq_by_cmp name_order reader) (change_reader change) ≡ true
-admits_named reader (Upload d) e = cc
-admits_named reader (Withdraw d) e = cc
-admits_named reader (Grant other) e = tied_both_ways names_exact reader other ∙ is_same_tied other reader ∙ e
-admits_named reader (Revoke other) e = tied_both_ways names_exact reader other ∙ is_same_tied other reader ∙ e
+concerns_named : (reader : List ℕ) (change : Change) → concerns reader change ≡ true → asked (eq_by_cmp name_order reader) (change_reader change) ≡ true
+concerns_named reader (Upload d) e = cc
+concerns_named reader (Withdraw d) e = cc
+concerns_named reader (Grant other) e = tied_both_ways names_exact reader other ∙ is_same_tied other reader ∙ e
+concerns_named reader (Revoke other) e = tied_both_ways names_exact reader other ∙ is_same_tied other reader ∙ e
 
 -- the vault has what its owner issues and holds
 pub has-vault : (journal : List Entry) (owner : List ℕ) (c : Credential) → has credential_order (vault journal owner) c ≡ (is_same c.head.owner owner && holds journal owner c)
@@ -55,7 +56,7 @@ has-readers journal owner reader =
     has-in_order names_exact (filter (granted journal owner) (filter_map named_reader (entries_of owner journal))) reader
     ∙ has-filter names_exact (granted journal owner) (filter_map named_reader (entries_of owner journal)) reader
     ∙ and_absorbs (granted journal owner reader) (has name_order (filter_map named_reader (entries_of owner journal)) reader)
-    (λ given. last_named named_reader (eq_by_cmp name_order reader) grants (admits reader) (λ e. admits_named reader e.change) journal owner given)
+    (λ given. last_named named_reader (eq_by_cmp name_order reader) grants (concerns reader) (λ e. concerns_named reader e.change) journal owner given)
 
 pub sorted-readers : (journal : List Entry) (owner : List ℕ) → IsStrictlySortedBy name_order (readers journal owner)
 unfolding readers
@@ -84,7 +85,7 @@ has-names_read journal reader owner =
     (λ given.
     list_any-map (eq_by_cmp name_order owner) (λ (e : Entry). e.tenant) journal
     ∙ list_any_agree (λ (e : Entry). eq_by_cmp name_order owner e.tenant) (λ e. is_same e.tenant owner) (λ e. is_same_tied owner e.tenant ∙ same_either_way owner e.tenant) journal
-    ∙ last_has_tenant grants (admits reader) journal owner given)
+    ∙ last_has_tenant grants (concerns reader) journal owner given)
 
 pub sorted-names_read : (journal : List Entry) (reader : List ℕ) → IsStrictlySortedBy name_order (names_read journal reader)
 unfolding names_read
@@ -174,7 +175,7 @@ pub holding_own : HoldingIsOwn
 holding_own journal tenant c = ap (entry_is uploads) (last_entry_own journal tenant (moves c))
 
 pub granting_own : GrantingIsOwn
-granting_own journal tenant reader = ap (entry_is grants) (last_entry_own journal tenant (admits reader))
+granting_own journal tenant reader = ap (entry_is grants) (last_entry_own journal tenant (concerns reader))
 
 pub vaults_own : VaultsAreOwn
 unfolding vault

@@ -5,9 +5,10 @@ use Rattle.std.proofs.lemmas.List.{reverse-append, append-nil}
 use Rattle.std.proofs.lemmas.List.Elements.{filter-append}
 use Rattle.std.proofs.lemmas.List.Sorted.{list_any-IsPermutation, IsPermutation-reverse}
 use Rattle.std.proofs.lemmas.Bool.{or_left, or_right}
+use Rattle.names.specs.Name.{is_same}
 use Rattle.vaults.specs.declared.changes.Change.{Change}
 use Rattle.vaults.specs.declared.changes.Entry.{Entry}
-use Rattle.vaults.specs.Journal.{is_same, entries_of, last_entry, entry_is}
+use Rattle.vaults.specs.Journal.{entries_of, last_entry, entry_is}
 
 -- a test that asks what a filter asked finds the same
 find-filter : {X : Type 0} (p t : X → Bool) (xs : List X) → find (λ x. p x && t x) (filter p xs) ≡ find (λ x. p x && t x) xs
@@ -94,6 +95,13 @@ last_named part ask kind test gives journal tenant found =
 pub list_any_agree : {X : Type 0} (p q : X → Bool) → ((x : X) → p x ≡ q x) → (xs : List X) → list_any p xs ≡ list_any q xs
 list_any_agree p q agree [] = refl
 list_any_agree p q agree (x ∷ xs) = ap (λ (b : Bool). b || list_any p xs) (agree x) ∙ ap (λ (b : Bool). q x || b) (list_any_agree p q agree xs)
+
+-- where the last entry is of the kind, an entry of the tenant passes the test
+pub last_entry_any : (kind test : Change → Bool) (journal : List Entry) (tenant : List ℕ) →
+    entry_is kind (last_entry journal tenant test) ≡ true → list_any (λ e. is_same e.tenant tenant && test e.change) journal ≡ true
+last_entry_any kind test journal tenant found =
+    list_any-IsPermutation (λ e. is_same e.tenant tenant && test e.change) journal (reverse journal) (IsPermutation-reverse journal)
+    ∙ found_any kind (λ e. is_same e.tenant tenant) test (λ e. test e.change) (λ e passes. passes) (reverse journal) found
 
 and-true : (b : Bool) → b ≡ (b && true)
 and-true true = refl

@@ -2,6 +2,7 @@ pub mod Elements
 pub mod Orders
 pub mod LastEntries
 pub mod Exactness
+pub mod Accepted
 pub mod Places
 pub mod Steps
 pub mod PageWrites

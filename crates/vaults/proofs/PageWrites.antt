@@ -4,13 +4,14 @@ use Rattle.std.specs.Ordering.{eq_by_cmp}
 use Rattle.std.specs.BTreeMap.{BTreeMap, get}
 use Rattle.names.specs.Name.{name_order}
 use Rattle.vaults.specs.declared.changes.Change.{Change}
-use Rattle.vaults.specs.Page.{Kept, nothing_kept, kept_after, KeepsChange, IsUnchanged}
+use Rattle.vaults.specs.Page.{PageState, empty_page, page_after}
+use Rattle.vaults.specs.Book.{KeepsChange}
 use Rattle.vaults.proofs.Elements.{same_from_tied}
 use Rattle.vaults.proofs.Orders.{names_exact}
 
 -- a page that is written as it was
-pub written_back : (who : List ℕ) (old new : BTreeMap (List ℕ) Kept) (page : Kept) → Some page ≡ get name_order old who →
-    ((tenant : List ℕ) → get name_order new tenant ≡ cond (eq_by_cmp name_order who tenant) (Some page) (get name_order old tenant)) → IsUnchanged old new
+pub written_back : {X : Type 0} (who : List ℕ) (old new : BTreeMap (List ℕ) X) (page : X) → Some page ≡ get name_order old who →
+    ((tenant : List ℕ) → get name_order new tenant ≡ cond (eq_by_cmp name_order who tenant) (Some page) (get name_order old tenant)) → (tenant : List ℕ) → get name_order new tenant ≡ get name_order old tenant
 written_back who old new page was writes tenant = writes tenant ∙ by (eq_by_cmp name_order who tenant) refl
   where
     by : (b : Bool) → eq_by_cmp name_order who tenant ≡ b → cond b (Some page) (get name_order old tenant) ≡ get name_order old tenant
@@ -18,8 +19,8 @@ written_back who old new page was writes tenant = writes tenant ∙ by (eq_by_cm
     by false apart = refl
 
 -- a new page with the tenant's first change
-pub inserted_new : (who : List ℕ) (change : Change) (old new : BTreeMap (List ℕ) Kept) (page : Kept) → None ≡ get name_order old who → page ≡ kept_after change nothing_kept →
+pub inserted_new : (who : List ℕ) (change : Change) (old new : BTreeMap (List ℕ) PageState) (page : PageState) → None ≡ get name_order old who → page ≡ page_after change empty_page →
     ((tenant : List ℕ) → get name_order new tenant ≡ cond (eq_by_cmp name_order who tenant) (Some page) (get name_order old tenant)) → KeepsChange who change old new
 inserted_new who change old new page none made inserts tenant =
     inserts tenant
-    ∙ ap (λ (k : Kept). cond (eq_by_cmp name_order who tenant) (Some k) (get name_order old tenant)) (made ∙ ap (λ (o : Option Kept). kept_after change (unwrap_or o nothing_kept)) none)
+    ∙ ap (λ (k : PageState). cond (eq_by_cmp name_order who tenant) (Some k) (get name_order old tenant)) (made ∙ ap (λ (o : Option PageState). page_after change (unwrap_or o empty_page)) none)

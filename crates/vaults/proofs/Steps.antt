@@ -5,17 +5,19 @@ use Rattle.std.specs.BTreeMap.{BTreeMap, get}
 use Rattle.std.specs.List.Sorted.{IsStrictlySortedBy}
 use Rattle.std.proofs.lemmas.List.{append-nil}
 use Rattle.std.proofs.lemmas.List.Filters.{length-filter_both}
-use Rattle.names.specs.Name.{name_order}
+use Rattle.names.specs.Name.{is_same, name_order}
 use Rattle.credential_text.specs.declared.credentials.Credential.{Credential}
 use Rattle.credential_text.specs.Credential.{credential_order}
 use Rattle.vaults.specs.declared.changes.Change.{Change}
 use Rattle.vaults.specs.declared.changes.Change.TheVariants.{Upload, Withdraw, Grant, Revoke}
 use Rattle.vaults.specs.declared.changes.Entry.{Entry}
 use Rattle.vaults.specs.declared.faults.VaultFault.TheVariants.{NotIssuer, AlreadyHeld}
-use Rattle.vaults.specs.Journal.{is_same, moves, admits, uploads, grants, entry_is, entries_of, last_entry, holds, granted, vault, readers, refusal}
-use Rattle.vaults.specs.Page.{Kept, nothing_kept, kept_of, held_after, readers_after, kept_after, ArePages, KeepsChange}
+use Rattle.vaults.specs.Journal.{moves, concerns, uploads, grants, entry_is, entries_of, last_entry, holds, granted, vault, readers, refusal}
+use Rattle.vaults.specs.Page.{PageState, empty_page, page_of, rows_after, readers_after, page_after}
+use Rattle.vaults.specs.Book.{ArePages, KeepsChange}
 use Rattle.vaults.proofs.Elements.{has, same_in_order, has-insert_key, sorted-insert_key, has-without, sorted-without, same_from_tied, tied_both_ways}
-use Rattle.vaults.proofs.Orders.{credentials_exact, names_exact, is_same_tied, same_from_is_same, is_same_itself}
+use Rattle.names.proofs.SameNames.{is_same_tied, same_from_is_same, is_same_itself}
+use Rattle.vaults.proofs.Orders.{credentials_exact, names_exact}
 use Rattle.vaults.proofs.LastEntries.{last_entry_push, entries_push}
 use Rattle.vaults.proofs.Exactness.{has-vault, sorted-vault, has-readers, sorted-readers, vaults_own, readers_own}
 
@@ -35,11 +37,11 @@ asked_last kind test journal who change =
     by false = refl
 
 -- a change leaves the vault in order
-sorted-held_after : (journal : List Entry) (who : List ℕ) (change : Change) → IsStrictlySortedBy credential_order (held_after change (vault journal who))
-sorted-held_after journal who (Upload c) = sorted-insert_key credentials_exact (vault journal who) c (sorted-vault journal who)
-sorted-held_after journal who (Withdraw c) = sorted-without credentials_exact (vault journal who) c (sorted-vault journal who)
-sorted-held_after journal who (Grant reader) = sorted-vault journal who
-sorted-held_after journal who (Revoke reader) = sorted-vault journal who
+sorted-rows_after : (journal : List Entry) (who : List ℕ) (change : Change) → IsStrictlySortedBy credential_order (rows_after change (vault journal who))
+sorted-rows_after journal who (Upload c) = sorted-insert_key credentials_exact (vault journal who) c (sorted-vault journal who)
+sorted-rows_after journal who (Withdraw c) = sorted-without credentials_exact (vault journal who) c (sorted-vault journal who)
+sorted-rows_after journal who (Grant reader) = sorted-vault journal who
+sorted-rows_after journal who (Revoke reader) = sorted-vault journal who
 
 issued_then : (s h e : Bool) → (e ≡ true → s ≡ true) → (s && cond e true h) ≡ (e || (s && h))
 issued_then s h true issued = ap (λ (b : Bool). b && true) (issued refl)
@@ -58,31 +60,31 @@ issued journal who c accepted = by (is_same c.head.owner who) refl accepted
     by true e _ = e
     by false e refused = cc
 
-has-held_after : (journal : List Entry) (who : List ℕ) (change : Change) → refusal journal who change ≡ None → (x : Credential) →
-    (is_same x.head.owner who && cond (moves x change) (uploads change) (holds journal who x)) ≡ has credential_order (held_after change (vault journal who)) x
-has-held_after journal who (Upload c) accepted x =
+has-rows_after : (journal : List Entry) (who : List ℕ) (change : Change) → refusal journal who change ≡ None → (x : Credential) →
+    (is_same x.head.owner who && cond (moves x change) (uploads change) (holds journal who x)) ≡ has credential_order (rows_after change (vault journal who)) x
+has-rows_after journal who (Upload c) accepted x =
     ap (λ (e : Bool). is_same x.head.owner who && cond e true (holds journal who x)) (tied_both_ways credentials_exact c x)
     ∙ issued_then (is_same x.head.owner who) (holds journal who x) (eq_by_cmp credential_order x c)
     (λ tied. ap (λ (d : Credential). is_same d.head.owner who) (same_from_tied credentials_exact x c tied) ∙ issued journal who c accepted)
     ∙ ap (λ (b : Bool). eq_by_cmp credential_order x c || b) (sym (has-vault journal who x))
     ∙ sym (has-insert_key credentials_exact (vault journal who) c x)
-has-held_after journal who (Withdraw c) accepted x =
+has-rows_after journal who (Withdraw c) accepted x =
     gone_then (is_same x.head.owner who) (holds journal who x) (eq_by_cmp credential_order c x)
     ∙ ap (λ (b : Bool). not (eq_by_cmp credential_order c x) && b) (sym (has-vault journal who x))
     ∙ sym (has-without credentials_exact (vault journal who) c x)
-has-held_after journal who (Grant reader) accepted x = sym (has-vault journal who x)
-has-held_after journal who (Revoke reader) accepted x = sym (has-vault journal who x)
+has-rows_after journal who (Grant reader) accepted x = sym (has-vault journal who x)
+has-rows_after journal who (Revoke reader) accepted x = sym (has-vault journal who x)
 
 -- an accepted change of the owner and its vault
 vault_push : (journal : List Entry) (who : List ℕ) (change : Change) → refusal journal who change ≡ None →
-    vault (journal ++ entry who change ∷ []) who ≡ held_after change (vault journal who)
+    vault (journal ++ entry who change ∷ []) who ≡ rows_after change (vault journal who)
 vault_push journal who change accepted =
-    same_in_order credentials_exact (vault (journal ++ entry who change ∷ []) who) (held_after change (vault journal who))
-    (sorted-vault (journal ++ entry who change ∷ []) who) (sorted-held_after journal who change)
+    same_in_order credentials_exact (vault (journal ++ entry who change ∷ []) who) (rows_after change (vault journal who))
+    (sorted-vault (journal ++ entry who change ∷ []) who) (sorted-rows_after journal who change)
     (λ x.
     has-vault (journal ++ entry who change ∷ []) who x
     ∙ ap (λ (b : Bool). is_same x.head.owner who && b) (asked_last uploads (moves x) journal who change)
-    ∙ has-held_after journal who change accepted x)
+    ∙ has-rows_after journal who change accepted x)
 
 sorted-readers_after : (journal : List Entry) (who : List ℕ) (change : Change) → IsStrictlySortedBy name_order (readers_after change (readers journal who))
 sorted-readers_after journal who (Upload c) = sorted-readers journal who
@@ -99,7 +101,7 @@ revoked_then h true = refl
 revoked_then h false = refl
 
 has-readers_after : (journal : List Entry) (who : List ℕ) (change : Change) (x : List ℕ) →
-    cond (admits x change) (grants change) (granted journal who x) ≡ has name_order (readers_after change (readers journal who)) x
+    cond (concerns x change) (grants change) (granted journal who x) ≡ has name_order (readers_after change (readers journal who)) x
 has-readers_after journal who (Upload c) x = sym (has-readers journal who x)
 has-readers_after journal who (Withdraw c) x = sym (has-readers journal who x)
 has-readers_after journal who (Grant reader) x =
@@ -118,7 +120,7 @@ readers_push : (journal : List Entry) (who : List ℕ) (change : Change) → rea
 readers_push journal who change =
     same_in_order names_exact (readers (journal ++ entry who change ∷ []) who) (readers_after change (readers journal who))
     (sorted-readers (journal ++ entry who change ∷ []) who) (sorted-readers_after journal who change)
-    (λ x. has-readers (journal ++ entry who change ∷ []) who x ∙ asked_last grants (admits x) journal who change ∙ has-readers_after journal who change x)
+    (λ x. has-readers (journal ++ entry who change ∷ []) who x ∙ asked_last grants (concerns x) journal who change ∙ has-readers_after journal who change x)
 
 pub own_entries_push : (journal : List Entry) (who : List ℕ) (change : Change) → entries_of who (journal ++ entry who change ∷ []) ≡ entries_of who journal ++ entry who change ∷ []
 own_entries_push journal who change =
@@ -128,76 +130,76 @@ changes_push : (journal : List Entry) (who : List ℕ) (change : Change) → len
 changes_push journal who change = ap length (own_entries_push journal who change) ∙ length-append (entries_of who journal) (entry who change ∷ [])
 
 -- what is kept of the tenant that made the change
-pub kept_push : (journal : List Entry) (who : List ℕ) (change : Change) → refusal journal who change ≡ None →
-    kept_of (journal ++ entry who change ∷ []) who ≡ kept_after change (kept_of journal who)
-kept_push journal who change accepted = λ i. record {
-  held = vault_push journal who change accepted i;
+pub page_push : (journal : List Entry) (who : List ℕ) (change : Change) → refusal journal who change ≡ None →
+    page_of (journal ++ entry who change ∷ []) who ≡ page_after change (page_of journal who)
+page_push journal who change accepted = λ i. record {
+  rows = vault_push journal who change accepted i;
   readers = readers_push journal who change i;
   changes = changes_push journal who change i;
 }
 
 -- what is kept of every other tenant
-pub kept_push_other : (journal : List Entry) (who other : List ℕ) (change : Change) → is_same who other ≡ false →
-    kept_of (journal ++ entry who change ∷ []) other ≡ kept_of journal other
-kept_push_other journal who other change apart =
+pub page_push_other : (journal : List Entry) (who other : List ℕ) (change : Change) → is_same who other ≡ false →
+    page_of (journal ++ entry who change ∷ []) other ≡ page_of journal other
+page_push_other journal who other change apart =
     let same : entries_of other (journal ++ entry who change ∷ []) ≡ entries_of other journal =
     entries_push journal (entry who change) other ∙ ap (λ (b : Bool). entries_of other journal ++ cond b (entry who change ∷ []) []) apart ∙ append-nil (entries_of other journal) in
     λ i. record {
-      held = (sym (vaults_own (journal ++ entry who change ∷ []) other) ∙ ap (λ (es : List Entry). vault es other) same ∙ vaults_own journal other) i;
+      rows = (sym (vaults_own (journal ++ entry who change ∷ []) other) ∙ ap (λ (es : List Entry). vault es other) same ∙ vaults_own journal other) i;
       readers = (sym (readers_own (journal ++ entry who change ∷ []) other) ∙ ap (λ (es : List Entry). readers es other) same ∙ readers_own journal other) i;
       changes = ap length same i;
     }
 
 -- an empty journal gives nothing
-pub kept_of_nothing : (tenant : List ℕ) → nothing_kept ≡ kept_of [] tenant
+pub page_of_nothing : (tenant : List ℕ) → empty_page ≡ page_of [] tenant
 unfolding vault readers
-kept_of_nothing tenant = refl
+page_of_nothing tenant = refl
 
 -- a page that is found is what the journal gives
-pub page_found : (journal : List Entry) (pages : BTreeMap (List ℕ) Kept) (tenant : List ℕ) (kept : Kept) → ArePages journal pages → Some kept ≡ get name_order pages tenant → kept ≡ kept_of journal tenant
-page_found journal pages tenant kept right found = ap (λ (o : Option Kept). unwrap_or o nothing_kept) found ∙ right tenant
+pub page_found : (journal : List Entry) (pages : BTreeMap (List ℕ) PageState) (tenant : List ℕ) (kept : PageState) → ArePages journal pages → Some kept ≡ get name_order pages tenant → kept ≡ page_of journal tenant
+page_found journal pages tenant kept right found = ap (λ (o : Option PageState). unwrap_or o empty_page) found ∙ right tenant
 
 -- where none is found, the journal gives nothing
-pub page_missing : (journal : List Entry) (pages : BTreeMap (List ℕ) Kept) (tenant : List ℕ) → ArePages journal pages → None ≡ get name_order pages tenant → nothing_kept ≡ kept_of journal tenant
-page_missing journal pages tenant right none = ap (λ (o : Option Kept). unwrap_or o nothing_kept) none ∙ right tenant
+pub page_missing : (journal : List Entry) (pages : BTreeMap (List ℕ) PageState) (tenant : List ℕ) → ArePages journal pages → None ≡ get name_order pages tenant → empty_page ≡ page_of journal tenant
+page_missing journal pages tenant right none = ap (λ (o : Option PageState). unwrap_or o empty_page) none ∙ right tenant
 
 -- pages that keep an accepted change are those of the journal with its entry
-pub pages_push : (journal : List Entry) (who : List ℕ) (change : Change) (old new : BTreeMap (List ℕ) Kept) → refusal journal who change ≡ None →
+pub pages_push : (journal : List Entry) (who : List ℕ) (change : Change) (old new : BTreeMap (List ℕ) PageState) → refusal journal who change ≡ None →
     ArePages journal old → KeepsChange who change old new → ArePages (journal ++ entry who change ∷ []) new
 pages_push journal who change old new accepted right keeps tenant =
-    ap (λ (o : Option Kept). unwrap_or o nothing_kept) (keeps tenant) ∙ by (is_same who tenant) refl
+    ap (λ (o : Option PageState). unwrap_or o empty_page) (keeps tenant) ∙ by (is_same who tenant) refl
   where
     by : (b : Bool) → is_same who tenant ≡ b →
-        unwrap_or (cond (eq_by_cmp name_order who tenant) (Some (kept_after change (unwrap_or (get name_order old who) nothing_kept))) (get name_order old tenant)) nothing_kept
-        ≡ kept_of (journal ++ entry who change ∷ []) tenant
+        unwrap_or (cond (eq_by_cmp name_order who tenant) (Some (page_after change (unwrap_or (get name_order old who) empty_page))) (get name_order old tenant)) empty_page
+        ≡ page_of (journal ++ entry who change ∷ []) tenant
     by true same =
-        ap (λ (b : Bool). unwrap_or (cond b (Some (kept_after change (unwrap_or (get name_order old who) nothing_kept))) (get name_order old tenant)) nothing_kept) (is_same_tied who tenant ∙ same)
-        ∙ ap (kept_after change) (right who) ∙ sym (kept_push journal who change accepted)
-        ∙ ap (kept_of (journal ++ entry who change ∷ [])) (same_from_is_same who tenant same)
+        ap (λ (b : Bool). unwrap_or (cond b (Some (page_after change (unwrap_or (get name_order old who) empty_page))) (get name_order old tenant)) empty_page) (is_same_tied who tenant ∙ same)
+        ∙ ap (page_after change) (right who) ∙ sym (page_push journal who change accepted)
+        ∙ ap (page_of (journal ++ entry who change ∷ [])) (same_from_is_same who tenant same)
     by false apart =
-        ap (λ (b : Bool). unwrap_or (cond b (Some (kept_after change (unwrap_or (get name_order old who) nothing_kept))) (get name_order old tenant)) nothing_kept) (is_same_tied who tenant ∙ apart)
-        ∙ right tenant ∙ sym (kept_push_other journal who tenant change apart)
+        ap (λ (b : Bool). unwrap_or (cond b (Some (page_after change (unwrap_or (get name_order old who) empty_page))) (get name_order old tenant)) empty_page) (is_same_tied who tenant ∙ apart)
+        ∙ right tenant ∙ sym (page_push_other journal who tenant change apart)
 
 -- a tenant has no more entries than the journal
 length-entries_of : (tenant : List ℕ) (journal : List Entry) → length (entries_of tenant journal) ≤ length journal
 length-entries_of tenant journal = omega (arith, length-filter_both (λ (e : Entry). is_same e.tenant tenant) (λ e. not (is_same e.tenant tenant)) (λ e. refl) journal)
 
 -- so the number of its changes fits, and one more
-pub changes_fit : (journal : List Entry) (pages : BTreeMap (List ℕ) Kept) (who : List ℕ) (n : ℕ) → ArePages journal pages → length journal ≤ n → n < 2 ^ 63 →
-    (unwrap_or (get name_order pages who) nothing_kept).changes + 1 < 2 ^ 64
+pub changes_fit : (journal : List Entry) (pages : BTreeMap (List ℕ) PageState) (who : List ℕ) (n : ℕ) → ArePages journal pages → length journal ≤ n → n < 2 ^ 63 →
+    (unwrap_or (get name_order pages who) empty_page).changes + 1 < 2 ^ 64
 changes_fit journal pages who n right within small =
-    let same : (unwrap_or (get name_order pages who) nothing_kept).changes ≡ length (entries_of who journal) = ap (λ (k : Kept). k.changes) (right who) in
+    let same : (unwrap_or (get name_order pages who) empty_page).changes ≡ length (entries_of who journal) = ap (λ (k : PageState). k.changes) (right who) in
     omega (arith, length-entries_of who journal)
 
 -- an accepted change, entered in the journal and kept on the pages: now is the journal, and after is it with its entry
-pub pages_after : (journal now before after : List Entry) (who : List ℕ) (change : Change) (old new : BTreeMap (List ℕ) Kept) → journal ≡ now → None ≡ refusal now who change →
+pub pages_after : (journal now before after : List Entry) (who : List ℕ) (change : Change) (old new : BTreeMap (List ℕ) PageState) → journal ≡ now → None ≡ refusal now who change →
     ArePages journal old → KeepsChange who change old new → before ≡ journal → after ≡ before ++ entry who change ∷ [] → ArePages after new
 pages_after journal now before after who change old new is accepted right keeps same entered =
     subst (λ (j : List Entry). ArePages j new) (sym (entered ∙ ap (λ (j : List Entry). j ++ entry who change ∷ []) same))
     (pages_push journal who change old new (sym (subst (λ (j : List Entry). None ≡ refusal j who change) (sym is) accepted)) right keeps)
 
-pub count_after : (journal before after : List Entry) (who : List ℕ) (change : Change) (pages : BTreeMap (List ℕ) Kept) (n : ℕ) → ArePages journal pages →
-    n ≡ (unwrap_or (get name_order pages who) nothing_kept).changes + 1 → before ≡ journal → after ≡ before ++ entry who change ∷ [] → n ≡ length (entries_of who after)
+pub count_after : (journal before after : List Entry) (who : List ℕ) (change : Change) (pages : BTreeMap (List ℕ) PageState) (n : ℕ) → ArePages journal pages →
+    n ≡ (unwrap_or (get name_order pages who) empty_page).changes + 1 → before ≡ journal → after ≡ before ++ entry who change ∷ [] → n ≡ length (entries_of who after)
 count_after journal before after who change pages n right counted same entered =
-    counted ∙ ap (λ (k : Kept). k.changes + 1) (right who) ∙ sym (changes_push journal who change)
+    counted ∙ ap (λ (k : PageState). k.changes + 1) (right who) ∙ sym (changes_push journal who change)
     ∙ ap (λ (j : List Entry). length (entries_of who j)) (sym (entered ∙ ap (λ (j : List Entry). j ++ entry who change ∷ []) same))

@@ -1,7 +1,8 @@
 -- The number of each fault.
 use Rattle.std.specs.Prelude.{ℕ}
 use Rattle.vaults.specs.declared.faults.VaultFault.{VaultFault}
-use Rattle.vaults.specs.declared.faults.VaultFault.TheVariants.{NotIssuer, AlreadyHeld, NotHeld, AlreadyGranted, NotGranted, GrantSelf, Memory}
+use Rattle.vaults.specs.declared.faults.VaultFault.TheVariants.{NotIssuer, AlreadyHeld, NotHeld}
+use Rattle.vaults.specs.declared.faults.VaultFault.TheVariants.{AlreadyGranted, NotGranted, GrantSelf, Memory}
 
 abbrev pub vault_fault_number : VaultFault → ℕ
 vault_fault_number NotIssuer = 31

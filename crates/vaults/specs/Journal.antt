@@ -1,16 +1,17 @@
--- What a journal means: every question about it is answered by the last entry on its subject.
-use Rattle.std.specs.Prelude.{ℕ, Bool, true, false, not, ◌&&◌, ◌||◌, if◌then◌else◌, List, [], ◌∷◌, ◌++◌, map, filter, find, reverse, Option, Some, None}
-use Rattle.std.specs.List.{filter_map}
+-- What a journal means, as which a book is seen: every question about it is answered by the last entry on its subject.
+use Rattle.std.specs.Prelude.{ℕ, Bool, true, false, not, ◌≡◌, ◌&&◌, ◌||◌, if◌then◌else◌, Option, Some, None}
+use Rattle.std.specs.Prelude.{List, [], ◌∷◌, ◌++◌, map, filter, find, reverse, take}
+use Rattle.std.specs.List.{filter_map, slice_get}
 use Rattle.std.specs.Ordering.{eq_by_cmp}
-pub use Rattle.credential_text.specs.Part.{is_same}
-use Rattle.names.specs.Name.{name_order}
+use Rattle.names.specs.Name.{is_same, name_order}
 use Rattle.credential_text.specs.declared.credentials.Credential.{Credential}
 use Rattle.credential_text.specs.Credential.{credential_order}
 use Rattle.vaults.specs.declared.changes.Change.{Change}
 use Rattle.vaults.specs.declared.changes.Change.TheVariants.{Upload, Withdraw, Grant, Revoke}
 use Rattle.vaults.specs.declared.changes.Entry.{Entry}
 use Rattle.vaults.specs.declared.faults.VaultFault.{VaultFault}
-use Rattle.vaults.specs.declared.faults.VaultFault.TheVariants.{NotIssuer, AlreadyHeld, NotHeld, AlreadyGranted, NotGranted, GrantSelf}
+use Rattle.vaults.specs.declared.faults.VaultFault.TheVariants.{NotIssuer, AlreadyHeld, NotHeld}
+use Rattle.vaults.specs.declared.faults.VaultFault.TheVariants.{AlreadyGranted, NotGranted, GrantSelf}
 use Rattle.vaults.specs.InOrder.{in_order}
 
 -- the same credential: equally placed in the order
@@ -25,11 +26,11 @@ moves c (Grant reader) = false
 moves c (Revoke reader) = false
 
 -- the change grants to the reader or revokes from it
-abbrev pub admits : List ℕ → Change → Bool
-admits reader (Upload c) = false
-admits reader (Withdraw c) = false
-admits reader (Grant other) = is_same other reader
-admits reader (Revoke other) = is_same other reader
+abbrev pub concerns : List ℕ → Change → Bool
+concerns reader (Upload c) = false
+concerns reader (Withdraw c) = false
+concerns reader (Grant other) = is_same other reader
+concerns reader (Revoke other) = is_same other reader
 
 -- the credential that the change uploads or withdraws
 abbrev pub change_credential : Change → Option Credential
@@ -82,7 +83,7 @@ holds journal owner c = entry_is uploads (last_entry journal owner (moves c))
 
 -- the owner's last entry that grants to the reader or revokes from it is a grant
 abbrev pub granted : List Entry → List ℕ → List ℕ → Bool
-granted journal owner reader = entry_is grants (last_entry journal owner (admits reader))
+granted journal owner reader = entry_is grants (last_entry journal owner (concerns reader))
 
 -- the reader reads the owner's vault
 abbrev pub reads : List Entry → List ℕ → List ℕ → Bool
@@ -90,8 +91,8 @@ reads journal reader owner = is_same owner reader || granted journal owner reade
 
 -- the credentials that the owner issues and holds, in order, each once
 unfoldable pub vault : List Entry → List ℕ → List Credential
-vault journal owner =
-    in_order credential_order (filter (λ c. is_same c.head.owner owner && holds journal owner c) (filter_map moved_credential (entries_of owner journal)))
+vault journal owner = in_order credential_order
+    (filter (λ c. is_same c.head.owner owner && holds journal owner c) (filter_map moved_credential (entries_of owner journal)))
 
 -- the readers that the owner has granted, in order, each once
 unfoldable pub readers : List Entry → List ℕ → List (List ℕ)
@@ -132,3 +133,7 @@ refusal journal who (Grant reader) =
     else (if granted journal who reader then Some AlreadyGranted else None)
 refusal journal who (Revoke reader) =
     if not (is_same reader who) && granted journal who reader then None else Some NotGranted
+
+-- every entry is an accepted change: nothing that stood before it refuses it
+abbrev pub AreAccepted : List Entry → Type 0
+AreAccepted journal = (n : ℕ) (e : Entry) → slice_get journal n ≡ Some e → refusal (take n journal) e.tenant e.change ≡ None

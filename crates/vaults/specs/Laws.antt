@@ -1,5 +1,5 @@
 -- What holds of vaults, readers and views by their definitions alone.
-use Rattle.std.specs.Prelude.{ℕ, List, ◌≡◌, ◌↔◌, IsTrue, map}
+use Rattle.std.specs.Prelude.{ℕ, List, ◌≡◌, ◌≢◌, ◌↔◌, IsTrue, map}
 use Rattle.std.specs.List.{Contains}
 use Rattle.std.specs.List.Sorted.{IsStrictlySortedBy}
 use Rattle.names.specs.Name.{name_order}
@@ -7,7 +7,8 @@ use Rattle.credential_text.specs.declared.credentials.Credential.{Credential}
 use Rattle.credential_text.specs.Credential.{credential_order}
 use Rattle.vaults.specs.declared.changes.Change.{Change}
 use Rattle.vaults.specs.declared.changes.Entry.{Entry}
-use Rattle.vaults.specs.Journal.{entries_of, holds, granted, reads, vault, readers, names_read, Vault, view, credentials, refusal}
+use Rattle.vaults.specs.Journal.{entries_of, holds, granted, reads, refusal, AreAccepted}
+use Rattle.vaults.specs.Journal.{vault, readers, names_read, Vault, view, credentials}
 
 -- the list is in the order, each element once, and has exactly what the fact holds of
 pub record ListsInOrder {K : Type 0} (InOrder : List K → Type 0) (P : K → Type 0) (xs : List K) : Type 0 where
@@ -17,7 +18,8 @@ pub record ListsInOrder {K : Type 0} (InOrder : List K → Type 0) (P : K → Ty
 -- a vault has exactly the credentials that its owner issues and holds
 abbrev pub VaultsAreExact : Type 0
 VaultsAreExact = (journal : List Entry) (owner : List ℕ) →
-    ListsInOrder (IsStrictlySortedBy credential_order) (λ c. (c.head.owner ≡ owner) × IsTrue (holds journal owner c)) (vault journal owner)
+    ListsInOrder (IsStrictlySortedBy credential_order) (λ c. (c.head.owner ≡ owner) × IsTrue (holds journal owner c))
+    (vault journal owner)
 
 -- the readers are exactly those that the owner has granted
 abbrev pub ReadersAreExact : Type 0
@@ -38,14 +40,27 @@ ViewsAreOfNamesRead = (journal : List Entry) (reader : List ℕ) →
 -- the credentials of a view are exactly those that their issuer holds and the reader reads
 abbrev pub ViewsAreExact : Type 0
 ViewsAreExact = (journal : List Entry) (reader : List ℕ) (c : Credential) →
-    Contains (credentials (view journal reader)) c ↔ (IsTrue (reads journal reader c.head.owner) × IsTrue (holds journal c.head.owner c))
+    Contains (credentials (view journal reader)) c
+    ↔ (IsTrue (reads journal reader c.head.owner) × IsTrue (holds journal c.head.owner c))
+
+-- what a tenant holds by accepted changes it issues
+abbrev pub HeldAreIssued : Type 0
+HeldAreIssued = (journal : List Entry) (owner : List ℕ) (c : Credential) → AreAccepted journal →
+    IsTrue (holds journal owner c) → c.head.owner ≡ owner
+
+-- nobody grants itself by accepted changes
+abbrev pub GrantedAreOthers : Type 0
+GrantedAreOthers = (journal : List Entry) (owner reader : List ℕ) → AreAccepted journal →
+    IsTrue (granted journal owner reader) → reader ≢ owner
 
 -- each of these functions says the same of a tenant's own entries as of the journal
 abbrev pub HoldingIsOwn : Type 0
-HoldingIsOwn = (journal : List Entry) (tenant : List ℕ) (c : Credential) → holds (entries_of tenant journal) tenant c ≡ holds journal tenant c
+HoldingIsOwn = (journal : List Entry) (tenant : List ℕ) (c : Credential) →
+    holds (entries_of tenant journal) tenant c ≡ holds journal tenant c
 
 abbrev pub GrantingIsOwn : Type 0
-GrantingIsOwn = (journal : List Entry) (tenant reader : List ℕ) → granted (entries_of tenant journal) tenant reader ≡ granted journal tenant reader
+GrantingIsOwn = (journal : List Entry) (tenant reader : List ℕ) →
+    granted (entries_of tenant journal) tenant reader ≡ granted journal tenant reader
 
 abbrev pub VaultsAreOwn : Type 0
 VaultsAreOwn = (journal : List Entry) (tenant : List ℕ) → vault (entries_of tenant journal) tenant ≡ vault journal tenant
@@ -54,4 +69,5 @@ abbrev pub ReadersAreOwn : Type 0
 ReadersAreOwn = (journal : List Entry) (tenant : List ℕ) → readers (entries_of tenant journal) tenant ≡ readers journal tenant
 
 abbrev pub RefusalsAreOwn : Type 0
-RefusalsAreOwn = (journal : List Entry) (tenant : List ℕ) (change : Change) → refusal (entries_of tenant journal) tenant change ≡ refusal journal tenant change
+RefusalsAreOwn = (journal : List Entry) (tenant : List ℕ) (change : Change) →
+    refusal (entries_of tenant journal) tenant change ≡ refusal journal tenant change

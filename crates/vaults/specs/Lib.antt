@@ -2,4 +2,6 @@ pub mod InOrder
 pub mod Fault
 pub mod Journal
 pub mod Laws
+pub mod Version
 pub mod Page
+pub mod Book

@@ -1,51 +1,60 @@
-ghost use Rattle.std.specs.Prelude.{◌≡◌, ◌++◌, ◌&&◌, ◌+◌, ◌<◌, ◌^◌, [], ◌∷◌, None, length, unwrap_or, IfOk, IfErr, OnOk, OnErr, vec_len};
+ghost use Rattle.std.specs.Prelude.{◌≡◌, ◌++◌, ◌+◌, ◌<◌, ◌^◌, ℕ, List, [], ◌∷◌, None, length, unwrap_or, vec_len};
+ghost use Rattle.std.specs.Prelude.{false, IfOk, IfErr, OnOk, OnErr};
 ghost use Rattle.std.specs.Vec.{vec_capacity};
-ghost use Rattle.std.specs.BTreeMap.{get, IsOrdered};
+ghost use Rattle.std.specs.BTreeMap.{get};
 ghost use Rattle.names.specs.Name.{name_order};
-ghost use Rattle.vaults.specs.Journal.{is_same, entries_of, holds, granted, reads, vault, readers, names_read, refusal};
-ghost use Rattle.vaults.specs.Page.{nothing_kept, KeepsChange, IsUnchanged, granting_names};
+ghost use Rattle.vaults.specs.Journal.{entries_of, holds, granted, reads, vault, readers, names_read, refusal, AreAccepted};
+ghost use Rattle.vaults.specs.Page.{empty_page};
+ghost use Rattle.vaults.specs.Version.{version_rows};
+ghost use Rattle.vaults.specs.Book.{is_granting, KeepsChange, IsUnchanged, KeepsGrant, SameGranting};
+ghost use Rattle.vaults.specs.declared.changes.Change.TheVariants.{Grant, Revoke};
 
 use crate::changes::{Change, Entry};
 use crate::faults::VaultFault;
-use crate::pages::{Page, admit};
+use crate::name_sets::NameSet;
+use crate::pages::Page;
+use crate::versions::Version;
 use credential_text::Credential;
 use names::Entity;
 use std::alloc::{AllocError, Global};
 use std::collections::BTreeMap;
 use std::marker::Model;
+use std::sync::Arc;
 
-/// The journal of accepted changes. Beside the journal it keeps a page for each tenant with what the journal gives it,
-/// so that no call walks over the journal.
+/// The journal of accepted changes, and seen as it. Beside the journal it keeps a page for each tenant with what the
+/// journal gives it, and for each reader those that have granted it, so that no call walks over the journal, nor over
+/// all tenants.
 #[derive(Drop)]
 pub struct Book {
     alloc: Global,
     journal: Vec<Entry>,
     pages: BTreeMap<Entity, Page>,
+    granting: BTreeMap<Entity, NameSet>,
 }
 
 impl Model for Book {
     ghost use Rattle.std.specs.Prelude.{List};
     ghost use Rattle.vaults.specs.declared.changes.Entry.{Entry};
-    ghost use Rattle.vaults.specs.Page.{ArePages};
+    ghost use Rattle.vaults.specs.Book.{IsBook};
 
     ghost Value = { List Entry };
 
     ghost view = { λ b. b.journal.items };
 
-    ghost invariant = { λ b. ArePages b.journal.items b.pages };
+    ghost invariant = { λ b. IsBook b.journal.items b.pages b.granting };
 }
 
 impl Book {
     /// A book with no entry.
-    pub fn new(alloc: Global) -> Result<Book, VaultFault>
-        ensures empty { IfOk result (λ book. book ≡ []) }
-        ensures only_memory { IfErr result (λ f. f ≡ VaultFault.Memory) }
+    pub fn new(alloc: Global) -> Book
+        ensures { result ≡ [] }
     {
-        Ok(Book {
+        Book {
             alloc,
             journal: Vec::new(alloc),
             pages: BTreeMap::new(alloc),
-        })
+            granting: BTreeMap::new(alloc),
+        }
     }
 
     /// Enters the change of the tenant, and answers how many of its changes were accepted so far. The order of
@@ -62,7 +71,13 @@ impl Book {
             return Err(fault);
         }
         self.journal.try_reserve(1)?;
-        let count = keep(self.alloc, &mut self.pages, who, &change)?;
+        let count = keep(
+            self.alloc,
+            &mut self.pages,
+            &mut self.granting,
+            who,
+            &change,
+        )?;
         enter(&mut self.journal, who, change);
         Ok(count)
     }
@@ -70,50 +85,27 @@ impl Book {
     fn refusal_of(&self, who: &Entity, change: &Change) -> Option<VaultFault>
         ensures { result ≡ refusal self.now who.now change.now }
     {
-        match change {
-            Change::Upload(credential) => {
-                if credential.head.owner != *who {
-                    Some(VaultFault::NotIssuer)
-                } else if self.holds(who, credential) {
-                    Some(VaultFault::AlreadyHeld)
-                } else {
-                    None
-                }
+        let fault = match change {
+            Change::Upload(credential) if credential.head.owner != *who => VaultFault::NotIssuer,
+            Change::Upload(credential) if self.holds(who, credential) => VaultFault::AlreadyHeld,
+            Change::Withdraw(credential) if credential.head.owner != *who => VaultFault::NotIssuer,
+            Change::Withdraw(credential) if !self.holds(who, credential) => VaultFault::NotHeld,
+            Change::Grant(reader) if *reader == *who => VaultFault::GrantSelf,
+            Change::Grant(reader) if self.grants(who, reader) => VaultFault::AlreadyGranted,
+            Change::Revoke(reader) if *reader == *who || !self.grants(who, reader) => {
+                VaultFault::NotGranted
             }
-            Change::Withdraw(credential) => {
-                if credential.head.owner != *who {
-                    Some(VaultFault::NotIssuer)
-                } else if self.holds(who, credential) {
-                    None
-                } else {
-                    Some(VaultFault::NotHeld)
-                }
-            }
-            Change::Grant(reader) => {
-                if *reader == *who {
-                    Some(VaultFault::GrantSelf)
-                } else if self.grants(who, reader) {
-                    Some(VaultFault::AlreadyGranted)
-                } else {
-                    None
-                }
-            }
-            Change::Revoke(reader) => {
-                if *reader != *who && self.grants(who, reader) {
-                    None
-                } else {
-                    Some(VaultFault::NotGranted)
-                }
-            }
-        }
+            _ => return None,
+        };
+        Some(fault)
     }
 
-    /// Whether the owner issues and holds the credential.
+    /// Whether the owner holds the credential.
     fn holds(&self, owner: &Entity, credential: &Credential) -> bool
-        ensures { result ≡ (is_same credential.now.head.owner owner.now && holds self.now owner.now credential.now) }
+        ensures { result ≡ holds self.now owner.now credential.now }
     {
         match self.pages.get(owner) {
-            Some(page) => page.has(credential),
+            Some(page) => page.has_row(credential),
             None => false,
         }
     }
@@ -123,7 +115,7 @@ impl Book {
         ensures { result ≡ granted self.now owner.now reader.now }
     {
         match self.pages.get(owner) {
-            Some(page) => page.admits(reader),
+            Some(page) => page.has_reader(reader),
             None => false,
         }
     }
@@ -140,8 +132,20 @@ impl Book {
         ensures { result.now ≡ vault self.now who }
     {
         match self.pages.get(&who) {
-            Some(page) => page.held(),
+            Some(page) => page.rows(),
             None => &[],
+        }
+    }
+
+    /// The version of the owner's vault, to be held by others too: no row is copied, and whatever becomes of the vault,
+    /// it keeps its rows.
+    pub fn version_of(&self, owner: Entity) -> Result<Option<Arc<Version>>, VaultFault>
+        ensures rows { IfOk result (λ version. version_rows version ≡ vault self.now owner) }
+        ensures only_memory { IfErr result (λ f. f ≡ VaultFault.Memory) }
+    {
+        match self.pages.get(&owner) {
+            Some(page) => Ok(page.version()?),
+            None => Ok(None),
         }
     }
 
@@ -150,9 +154,9 @@ impl Book {
         ensures names { IfOk result (λ names. names.items ≡ names_read self.now who) }
         ensures only_memory { IfErr result (λ f. f ≡ VaultFault.Memory) }
     {
-        let mut owners = granting(self.alloc, &self.pages, &who)?;
-        admit(&mut owners, &who)?;
-        Ok(owners)
+        let mut owners = granting_names(self.alloc, &self.granting, &who)?;
+        owners.add(&who)?;
+        Ok(owners.into_names())
     }
 
     /// How many readers the tenant has granted, itself not counted.
@@ -160,7 +164,7 @@ impl Book {
         ensures { result ≡ length (readers self.now who) }
     {
         match self.pages.get(&who) {
-            Some(page) => page.readers().len() as u64,
+            Some(page) => page.readers_len() as u64,
             None => 0,
         }
     }
@@ -184,53 +188,117 @@ impl Book {
 
     /// The accepted changes, the oldest first.
     pub fn entries(&self) -> &[Entry]
-        ensures { result.now ≡ self.now }
+        ensures entries { result.now ≡ self.now }
+        ensures accepted { AreAccepted self.now }
     {
         &self.journal
     }
 }
 
-/// Keeps the change on the tenant's page, and answers how many changes stand there.
+/// Keeps the change on the tenant's page and for the reader that it concerns, and answers how many changes stand on the
+/// page.
 fn keep(
+    alloc: Global,
+    pages: &mut BTreeMap<Entity, Page>,
+    granting: &mut BTreeMap<Entity, NameSet>,
+    who: Entity,
+    change: &Change,
+) -> Result<u64, AllocError>
+    requires fits { (unwrap_or (get name_order pages.old who) empty_page).changes + 1 < 2 ^ 64 }
+    requires first { (reader : List ℕ) → change.now ≡ Grant reader → is_granting granting.old who reader ≡ false }
+    ensures kept { OnOk result (KeepsChange who change.now pages.old pages.new) }
+    ensures grant { OnOk result (KeepsGrant who change.now granting.old granting.new) }
+    ensures count { IfOk result (λ n. n ≡ (unwrap_or (get name_order pages.old who) empty_page).changes + 1) }
+    ensures unchanged { OnErr result (IsUnchanged pages.old pages.new) }
+    ensures same_granting { OnErr result (SameGranting granting.old granting.new) }
+{
+    match change {
+        Change::Grant(reader) => {
+            add_granting(alloc, granting, who, *reader)?;
+            let kept = keep_on_page(alloc, pages, who, change);
+            if kept.is_err() {
+                drop_granting(granting, who, *reader);
+            }
+            kept
+        }
+        Change::Revoke(reader) => {
+            let count = keep_on_page(alloc, pages, who, change)?;
+            drop_granting(granting, who, *reader);
+            Ok(count)
+        }
+        Change::Upload(_) | Change::Withdraw(_) => keep_on_page(alloc, pages, who, change),
+    }
+}
+
+/// Keeps that the owner has granted the reader.
+fn add_granting(
+    alloc: Global,
+    granting: &mut BTreeMap<Entity, NameSet>,
+    owner: Entity,
+    reader: Entity,
+) -> Result<(), AllocError>
+    ensures kept { OnOk result (KeepsGrant owner (Grant reader) granting.old granting.new) }
+    ensures unchanged { OnErr result (SameGranting granting.old granting.new) }
+{
+    match granting.get_mut(&reader) {
+        Some(owners) => owners.add(&owner),
+        None => {
+            let mut owners = NameSet::new(alloc);
+            owners.add(&owner)?;
+            granting.insert(reader, owners)?;
+            Ok(())
+        }
+    }
+}
+
+/// Keeps that the owner has revoked the reader.
+fn drop_granting(granting: &mut BTreeMap<Entity, NameSet>, owner: Entity, reader: Entity)
+    ensures { KeepsGrant owner (Revoke reader) granting.old granting.new }
+{
+    if let Some(owners) = granting.get_mut(&reader) {
+        owners.remove(&owner);
+    }
+}
+
+/// Those that have granted the reader.
+fn granting_names(
+    alloc: Global,
+    granting: &BTreeMap<Entity, NameSet>,
+    reader: &Entity,
+) -> Result<NameSet, AllocError>
+    ensures { IfOk result (λ names. names ≡ unwrap_or (get name_order granting.now reader.now) []) }
+{
+    match granting.get(reader) {
+        Some(owners) => owners.try_clone(),
+        None => Ok(NameSet::new(alloc)),
+    }
+}
+
+/// Keeps the change on the tenant's page, and answers how many changes stand there.
+fn keep_on_page(
     alloc: Global,
     pages: &mut BTreeMap<Entity, Page>,
     who: Entity,
     change: &Change,
 ) -> Result<u64, AllocError>
-    requires { (unwrap_or (get name_order pages.old who) nothing_kept).changes + 1 < 2 ^ 64 }
+    requires { (unwrap_or (get name_order pages.old who) empty_page).changes + 1 < 2 ^ 64 }
     ensures kept { OnOk result (KeepsChange who change.now pages.old pages.new) }
-    ensures count { IfOk result (λ n. n ≡ (unwrap_or (get name_order pages.old who) nothing_kept).changes + 1) }
+    ensures count { IfOk result (λ n. n ≡ (unwrap_or (get name_order pages.old who) empty_page).changes + 1) }
     ensures unchanged { OnErr result (IsUnchanged pages.old pages.new) }
 {
     match pages.get_mut(&who) {
         Some(page) => {
-            page.keep(change)?;
+            page.keep(alloc, change)?;
             Ok(page.changes())
         }
         None => {
             let mut page = Page::new(alloc);
-            page.keep(change)?;
+            page.keep(alloc, change)?;
             let count = page.changes();
             pages.insert(who, page)?;
             Ok(count)
         }
     }
-}
-
-/// The tenants whose pages have the reader, in order.
-fn granting(
-    alloc: Global,
-    pages: &BTreeMap<Entity, Page>,
-    reader: &Entity,
-) -> Result<Vec<Entity>, AllocError>
-    ensures names { IfOk result (λ names. names.items ≡ granting_names reader.now pages.now.entries) }
-    ensures ordered { IsOrdered name_order pages.now }
-{
-    pages
-        .iter()
-        .filter(|(_, page)| page.admits(reader))
-        .map(|(name, _)| *name)
-        .collect(alloc)
 }
 
 /// Appends the entry where there is room for it.

@@ -1,4 +1,6 @@
-ghost use Rattle.vaults.specs.Laws.{VaultsAreExact, ReadersAreExact, NamesReadAreExact, ViewsAreOfNamesRead, ViewsAreExact, HoldingIsOwn, GrantingIsOwn, VaultsAreOwn, ReadersAreOwn, RefusalsAreOwn};
+ghost use Rattle.vaults.specs.Laws.{VaultsAreExact, ReadersAreExact, NamesReadAreExact, ViewsAreOfNamesRead, ViewsAreExact};
+ghost use Rattle.vaults.specs.Laws.{HeldAreIssued, GrantedAreOthers};
+ghost use Rattle.vaults.specs.Laws.{HoldingIsOwn, GrantingIsOwn, VaultsAreOwn, ReadersAreOwn, RefusalsAreOwn};
 
 /// A vault has exactly the credentials that its owner issues and holds, in order, each once; the readers of a vault
 /// are exactly those that its owner granted last, in order, each once.
@@ -13,6 +15,12 @@ pub fn views_are_exact()
     ensures names { NamesReadAreExact }
     ensures vaults { ViewsAreOfNamesRead }
     ensures credentials { ViewsAreExact }
+{}
+
+/// By accepted changes a tenant holds only what it issues, and grants only others.
+pub fn accepted_changes_are_own()
+    ensures holding { HeldAreIssued }
+    ensures granting { GrantedAreOthers }
 {}
 
 /// What a tenant holds and grants, its vault, its readers and the refusals of its changes depend on its own entries

@@ -1,65 +1,69 @@
-ghost use Rattle.std.specs.Prelude.{◌≡◌, ◌+◌, ◌<◌, ◌^◌, OnOk, OnErr};
+ghost use Rattle.std.specs.Prelude.{◌≡◌, ◌+◌, ◌<◌, ◌^◌, IfOk, OnOk, OnErr, length};
 ghost use Rattle.std.specs.List.{list_any};
-ghost use Rattle.std.specs.BTreeSet.{insert_key};
-ghost use Rattle.std.specs.List.Sorted.{IsStrictlySortedBy};
 ghost use Rattle.std.specs.Ordering.{eq_by_cmp};
 ghost use Rattle.names.specs.Name.{name_order};
 ghost use Rattle.credential_text.specs.Credential.{credential_order};
-ghost use Rattle.vaults.specs.InOrder.{without, IsPlace};
-ghost use Rattle.vaults.specs.Page.{nothing_kept, kept_after};
+ghost use Rattle.vaults.specs.Version.{version_rows};
+ghost use Rattle.vaults.specs.Page.{empty_page, page_after};
 
 use crate::changes::Change;
+use crate::name_sets::NameSet;
+use crate::versions::{Version, put_row, rows_of, shared, take_row};
 use credential_text::Credential;
 use names::Entity;
 use std::alloc::{AllocError, Global};
 use std::marker::Model;
+use std::sync::Arc;
 
-/// What is kept of one tenant beside the journal: the credentials that it issues and holds, in order, its readers, in
+/// What is kept of one tenant beside the journal: the version of its vault, none before the first row, its readers, in
 /// order, and how many of its changes were accepted.
 #[derive(Drop)]
 pub struct Page {
-    held: Vec<Credential>,
-    readers: Vec<Entity>,
+    version: Option<Arc<Version>>,
+    readers: NameSet,
     changes: u64,
 }
 
 impl Model for Page {
-    ghost use Rattle.std.specs.List.Sorted.{IsStrictlySortedBy};
-    ghost use Rattle.names.specs.Name.{name_order};
-    ghost use Rattle.credential_text.specs.Credential.{credential_order};
-    ghost use Rattle.vaults.specs.Page.{Kept};
+    ghost use Rattle.vaults.specs.Version.{version_rows};
+    ghost use Rattle.vaults.specs.Page.{PageState};
 
-    ghost Value = { Kept };
+    ghost Value = { PageState };
 
-    ghost view = { λ p. record { held = p.held.items; readers = p.readers.items; changes = p.changes } };
-
-    ghost invariant = { λ p. IsStrictlySortedBy credential_order p.held.items × IsStrictlySortedBy name_order p.readers.items };
+    ghost view = { λ p. record { rows = version_rows p.version; readers = p.readers; changes = p.changes } };
 }
 
 impl Page {
     /// The page of a tenant without a change.
     pub fn new(alloc: Global) -> Page
-        ensures { result ≡ nothing_kept }
+        ensures { result ≡ empty_page }
     {
         Page {
-            held: Vec::new(alloc),
-            readers: Vec::new(alloc),
+            version: None,
+            readers: NameSet::new(alloc),
             changes: 0,
         }
     }
 
-    /// The credentials of the tenant, in order.
-    pub fn held(&self) -> &[Credential]
-        ensures { result.now ≡ self.now.held }
+    /// The rows of the tenant's vault, in order.
+    pub fn rows(&self) -> &[Credential]
+        ensures { result.now ≡ self.now.rows }
     {
-        &self.held
+        rows_of(&self.version)
     }
 
-    /// The readers of the tenant, in order.
-    pub fn readers(&self) -> &[Entity]
-        ensures { result.now ≡ self.now.readers }
+    /// The version of the tenant's vault, to be held by others too.
+    pub fn version(&self) -> Result<Option<Arc<Version>>, AllocError>
+        ensures { IfOk result (λ version. version_rows version ≡ self.now.rows) }
     {
-        &self.readers
+        shared(&self.version)
+    }
+
+    /// How many readers the tenant has.
+    pub fn readers_len(&self) -> usize
+        ensures { result ≡ length self.now.readers }
+    {
+        self.readers.len()
     }
 
     /// How many changes of the tenant were accepted.
@@ -69,89 +73,36 @@ impl Page {
         self.changes
     }
 
-    /// Whether the credential is among those of the tenant.
-    pub fn has(&self, credential: &Credential) -> bool
-        ensures { result ≡ list_any (eq_by_cmp credential_order credential.now) self.now.held }
+    /// Whether the credential is a row of the tenant's vault.
+    pub fn has_row(&self, credential: &Credential) -> bool
+        ensures { result ≡ list_any (eq_by_cmp credential_order credential.now) self.now.rows }
     {
-        place_of(&self.held, credential).is_ok()
+        match &self.version {
+            Some(version) => version.has(credential),
+            None => false,
+        }
     }
 
     /// Whether the reader is among those of the tenant.
-    pub fn admits(&self, reader: &Entity) -> bool
+    pub fn has_reader(&self, reader: &Entity) -> bool
         ensures { result ≡ list_any (eq_by_cmp name_order reader.now) self.now.readers }
     {
-        place_among(&self.readers, reader).is_ok()
+        self.readers.has(reader)
     }
 
     /// Keeps one change more.
-    pub fn keep(&mut self, change: &Change) -> Result<(), AllocError>
+    pub fn keep(&mut self, alloc: Global, change: &Change) -> Result<(), AllocError>
         requires { self.old.changes + 1 < 2 ^ 64 }
-        ensures kept { OnOk result (self.new ≡ kept_after change.now self.old) }
+        ensures kept { OnOk result (self.new ≡ page_after change.now self.old) }
         ensures unchanged { OnErr result (self.new ≡ self.old) }
     {
         match change {
-            Change::Upload(credential) => hold(&mut self.held, credential)?,
-            Change::Withdraw(credential) => let_go(&mut self.held, credential),
-            Change::Grant(reader) => admit(&mut self.readers, reader)?,
-            Change::Revoke(reader) => dismiss(&mut self.readers, reader),
+            Change::Upload(credential) => put_row(alloc, &mut self.version, credential)?,
+            Change::Withdraw(credential) => take_row(&mut self.version, credential)?,
+            Change::Grant(reader) => self.readers.add(reader)?,
+            Change::Revoke(reader) => self.readers.remove(reader),
         }
         self.changes += 1;
         Ok(())
-    }
-}
-
-fn place_of(held: &[Credential], credential: &Credential) -> Result<usize, usize>
-    requires { IsStrictlySortedBy credential_order held.now }
-    ensures { IsPlace credential_order held.now credential.now result }
-{
-    held.binary_search_by(|other| other.compare(credential))
-}
-
-fn place_among(readers: &[Entity], reader: &Entity) -> Result<usize, usize>
-    requires { IsStrictlySortedBy name_order readers.now }
-    ensures { IsPlace name_order readers.now reader.now result }
-{
-    readers.binary_search(reader)
-}
-
-fn hold(held: &mut Vec<Credential>, credential: &Credential) -> Result<(), AllocError>
-    requires { IsStrictlySortedBy credential_order held.old.items }
-    ensures held { OnOk result (held.new.items ≡ insert_key credential_order held.old.items credential.now) }
-    ensures unchanged { OnErr result (held.new.items ≡ held.old.items) }
-{
-    if let Err(place) = place_of(held, credential) {
-        let copy = credential.try_clone()?;
-        held.insert(place, copy)?;
-    }
-    Ok(())
-}
-
-fn let_go(held: &mut Vec<Credential>, credential: &Credential)
-    requires { IsStrictlySortedBy credential_order held.old.items }
-    ensures { held.new.items ≡ without credential_order credential.now held.old.items }
-{
-    if let Ok(place) = place_of(held, credential) {
-        held.remove(place);
-    }
-}
-
-/// Puts the reader into its place, if it isn't there.
-pub fn admit(readers: &mut Vec<Entity>, reader: &Entity) -> Result<(), AllocError>
-    requires { IsStrictlySortedBy name_order readers.old.items }
-    ensures admitted { OnOk result (readers.new.items ≡ insert_key name_order readers.old.items reader.now) }
-    ensures unchanged { OnErr result (readers.new.items ≡ readers.old.items) }
-{
-    if let Err(place) = place_among(readers, reader) {
-        readers.insert(place, *reader)?;
-    }
-    Ok(())
-}
-
-fn dismiss(readers: &mut Vec<Entity>, reader: &Entity)
-    requires { IsStrictlySortedBy name_order readers.old.items }
-    ensures { readers.new.items ≡ without name_order reader.now readers.old.items }
-{
-    if let Ok(place) = place_among(readers, reader) {
-        readers.remove(place);
     }
 }

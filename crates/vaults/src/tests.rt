@@ -1,4 +1,7 @@
-use crate::{Book, Change, VaultFault, own_entries_decide, vaults_are_exact, views_are_exact};
+use crate::{
+    Book, Change, VaultFault, accepted_changes_are_own, own_entries_decide, vaults_are_exact,
+    views_are_exact,
+};
 use credential_text::{Credential, Expr};
 use names::{Entity, Role};
 use std::alloc::Global;
@@ -45,9 +48,8 @@ fn answers(book: &mut Book, rows: &[(&str, &str, &str, &str, u64)]) -> Result<bo
     Ok(true)
 }
 
-/// Whether these are the credentials of the tenant's vault, in this order.
-fn has_vault(book: &Book, who: &str, expected: &[(&str, &str)]) -> Result<bool, Fail> {
-    let rows = book.vault_of(entity(who)?);
+/// Whether these are the rows, in this order.
+fn are_rows(rows: &[Credential], expected: &[(&str, &str)]) -> Result<bool, Fail> {
     if rows.len() != expected.len() {
         return Ok(false);
     }
@@ -57,6 +59,27 @@ fn has_vault(book: &Book, who: &str, expected: &[(&str, &str)]) -> Result<bool, 
         }
     }
     Ok(true)
+}
+
+/// Whether these are the credentials of the tenant's vault, in this order.
+fn has_vault(book: &Book, who: &str, expected: &[(&str, &str)]) -> Result<bool, Fail> {
+    are_rows(book.vault_of(entity(who)?), expected)
+}
+
+/// Withdraws the tenant's credential and uploads it again, so many times. Answers the count of its last change.
+fn change_in_turn(
+    book: &mut Book,
+    who: &str,
+    head: &str,
+    body: &str,
+    times: u64,
+) -> Result<u64, Fail> {
+    let mut count = 0;
+    for _ in 0..times {
+        book.change(entity(who)?, Change::Withdraw(credential(head, body)?))?;
+        count = book.change(entity(who)?, Change::Upload(credential(head, body)?))?;
+    }
+    Ok(count)
 }
 
 /// Whether these are the names that the tenant reads, in this order.
@@ -70,7 +93,7 @@ fn reads_names(alloc: Global, book: &Book, who: &str, expected: &[&str]) -> Resu
 
 #[test]
 fn each_refusal_once(rt: HostRuntime) -> Result<(), Fail> {
-    let mut book = Book::new(rt.alloc())?;
+    let mut book = Book::new(rt.alloc());
     let rows = [
         ("A", "put", "B.r", "D", 31),
         ("A", "put", "A.r", "D", 1),
@@ -96,7 +119,7 @@ fn each_refusal_once(rt: HostRuntime) -> Result<(), Fail> {
 
 #[test]
 fn a_vault_is_in_order(rt: HostRuntime) -> Result<(), Fail> {
-    let mut book = Book::new(rt.alloc())?;
+    let mut book = Book::new(rt.alloc());
     let rows = [
         ("A", "put", "A.s", "D", 1),
         ("A", "put", "A.r-", "D", 2),
@@ -116,7 +139,7 @@ fn a_vault_is_in_order(rt: HostRuntime) -> Result<(), Fail> {
 
 #[test]
 fn a_grant_lets_its_reader_read(rt: HostRuntime) -> Result<(), Fail> {
-    let mut book = Book::new(rt.alloc())?;
+    let mut book = Book::new(rt.alloc());
     let rows = [
         ("C", "grant", "B", "", 1),
         ("A", "grant", "B", "", 1),
@@ -136,7 +159,7 @@ fn a_grant_lets_its_reader_read(rt: HostRuntime) -> Result<(), Fail> {
 
 #[test]
 fn a_revoked_reader_reads_no_more(rt: HostRuntime) -> Result<(), Fail> {
-    let mut book = Book::new(rt.alloc())?;
+    let mut book = Book::new(rt.alloc());
     let rows = [
         ("A", "grant", "B", "", 1),
         ("C", "grant", "B", "", 1),
@@ -151,14 +174,45 @@ fn a_revoked_reader_reads_no_more(rt: HostRuntime) -> Result<(), Fail> {
 }
 
 #[test]
-fn numbers_texts_and_laws(rt: HostRuntime) -> Result<(), Fail> {
+fn a_held_version_stays(rt: HostRuntime) -> Result<(), Fail> {
+    let mut book = Book::new(rt.alloc());
+    let b = entity("B")?;
+    assert!(rt; book.version_of(b)?.is_none());
+    assert!(rt; answers(&mut book, &[("B", "put", "B.s", "D", 1)])?);
+    let held = book.version_of(b)?.ok_or("a version")?;
+    assert_eq!(rt; change_in_turn(&mut book, "B", "B.s", "D", 500)?, 1_001);
+    assert!(rt; answers(&mut book, &[("B", "drop", "B.s", "D", 1_002)])?);
+    assert!(rt; are_rows(held.rows(), &[("B.s", "D")])?);
+    assert!(rt; has_vault(&book, "B", &[])?);
+    Ok(())
+}
+
+/// Whether the fault has this number and this text.
+fn is_told(alloc: Global, fault: VaultFault, number: u64, text: &str) -> Result<bool, Fail> {
+    Ok(fault.number() == number && format!(in alloc; "{fault}")?.as_str() == text)
+}
+
+#[test]
+fn numbers_and_texts(rt: HostRuntime) -> Result<(), Fail> {
+    let table = [
+        (VaultFault::NotIssuer, 31, "not issuer"),
+        (VaultFault::AlreadyHeld, 32, "already held"),
+        (VaultFault::NotHeld, 33, "not held"),
+        (VaultFault::AlreadyGranted, 34, "already granted"),
+        (VaultFault::NotGranted, 35, "not granted"),
+        (VaultFault::GrantSelf, 36, "grant self"),
+        (VaultFault::Memory, 90, "memory"),
+    ];
+    for (fault, number, text) in &table {
+        assert!(rt; is_told(rt.alloc(), *fault, *number, text)?);
+    }
+    Ok(())
+}
+
+#[test]
+fn laws() {
     vaults_are_exact();
     views_are_exact();
+    accepted_changes_are_own();
     own_entries_decide();
-    assert_eq!(rt; VaultFault::NotIssuer.number(), 31);
-    assert_eq!(rt; VaultFault::GrantSelf.number(), 36);
-    assert_eq!(rt; VaultFault::Memory.number(), 90);
-    let text = format!(in rt.alloc(); "{}", VaultFault::AlreadyGranted)?;
-    assert_eq!(rt; text.as_str(), "already granted");
-    Ok(())
 }

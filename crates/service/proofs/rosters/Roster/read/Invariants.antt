@@ -1,6 +1,6 @@
 use Rattle.std.proofs.Common.{◌≤◌, length}
 use Rattle.std.specs.List.{IsDistinct}
-use Rattle.credential_text.specs.Part.{is_same}
+use Rattle.names.specs.Name.{is_same}
 use Rattle.service.specs.Taking.{IfKnown}
 use Rattle.service.specs.Roster.{names_of}
 use Rattle.service.proofs.RosterSteps.{SoFar}

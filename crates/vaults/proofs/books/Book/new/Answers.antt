@@ -1,5 +1,11 @@
-use Rattle.vaults.proofs.Steps.{kept_of_nothing}
+use Rattle.std.proofs.Common.{refl}
+use Rattle.vaults.proofs.Accepted.{accepted_none}
+use Rattle.vaults.proofs.Steps.{page_of_nothing}
 use Rattle.vaults.proofs.books.Book.new.Goals as goal
 
 pub invariant_of-result : goal.invariant_of-result
-invariant_of-result c tenant = rw (c.new.ensures.items, c.new-2.ensures.empty) (kept_of_nothing tenant)
+invariant_of-result c = rw (c.new.ensures.items, c.new-2.ensures.empty, c.new-3.ensures.empty) (record {
+  accepted = accepted_none;
+  pages_are = page_of_nothing;
+  granting_are = λ owner reader. refl;
+})

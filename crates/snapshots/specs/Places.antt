@@ -1,0 +1,11 @@
+-- What stands next to a place in a list.
+use Rattle.std.specs.Prelude.{ℕ, Bool, true, false, List, Some, ◌≡◌, ◌-◌, ◌<◌}
+use Rattle.std.specs.List.{slice_get}
+
+-- the element below the place, if there is one, passes
+abbrev pub PassesBelow : {X : Type 0} → (X → Bool) → List X → ℕ → Type 0
+PassesBelow {X} p xs place = (x : X) → 0 < place → slice_get xs (place - 1) ≡ Some x → p x ≡ true
+
+-- the element at the place, if there is one, fails
+abbrev pub FailsAt : {X : Type 0} → (X → Bool) → List X → ℕ → Type 0
+FailsAt {X} p xs place = (x : X) → slice_get xs place ≡ Some x → p x ≡ false

@@ -1,0 +1,47 @@
+-- What a book keeps beside its journal, which is what contracts see of it.
+use Rattle.std.specs.Prelude.{ℕ, Bool, List, [], ◌≡◌, ◌&&◌, Some, unwrap_or, if◌then◌else◌}
+use Rattle.std.specs.List.{list_any}
+use Rattle.std.specs.Ordering.{eq_by_cmp}
+use Rattle.std.specs.BTreeMap.{BTreeMap, get}
+use Rattle.names.specs.Name.{is_same, name_order}
+use Rattle.vaults.specs.declared.changes.Change.{Change}
+use Rattle.vaults.specs.declared.changes.Entry.{Entry}
+use Rattle.vaults.specs.Journal.{concerns, grants, granted, AreAccepted}
+use Rattle.vaults.specs.Page.{PageState, empty_page, page_of, page_after}
+
+-- each tenant's page is what the journal gives it; a tenant without a page has nothing
+abbrev pub ArePages : List Entry → BTreeMap (List ℕ) PageState → Type 0
+ArePages journal pages = (tenant : List ℕ) → unwrap_or (get name_order pages tenant) empty_page ≡ page_of journal tenant
+
+-- whether the owner is kept among those that have granted the reader
+abbrev pub is_granting : BTreeMap (List ℕ) (List (List ℕ)) → List ℕ → List ℕ → Bool
+is_granting granting owner reader = list_any (eq_by_cmp name_order owner) (unwrap_or (get name_order granting reader) [])
+
+-- for each reader, just those are kept that the journal says to have granted it
+abbrev pub AreGranting : List Entry → BTreeMap (List ℕ) (List (List ℕ)) → Type 0
+AreGranting journal granting = (owner reader : List ℕ) → is_granting granting owner reader ≡ granted journal owner reader
+
+-- the journal is of accepted changes, and the pages and who has granted whom are what it gives
+pub record IsBook (journal : List Entry) (pages : BTreeMap (List ℕ) PageState) (granting : BTreeMap (List ℕ) (List (List ℕ))) : Type 0 where
+  pub accepted : AreAccepted journal
+  pub pages_are : ArePages journal pages
+  pub granting_are : AreGranting journal granting
+
+-- the change is kept on the tenant's page, and every other page is as it was
+abbrev pub KeepsChange : List ℕ → Change → BTreeMap (List ℕ) PageState → BTreeMap (List ℕ) PageState → Type 0
+KeepsChange who change old new = (tenant : List ℕ) → get name_order new tenant
+    ≡ (if eq_by_cmp name_order who tenant then Some (page_after change (unwrap_or (get name_order old who) empty_page))
+    else get name_order old tenant)
+
+-- every page is as it was
+abbrev pub IsUnchanged : BTreeMap (List ℕ) PageState → BTreeMap (List ℕ) PageState → Type 0
+IsUnchanged old new = (tenant : List ℕ) → get name_order new tenant ≡ get name_order old tenant
+
+-- the change is kept for the reader that it concerns, and every other reader has the owners that it had
+abbrev pub KeepsGrant : List ℕ → Change → BTreeMap (List ℕ) (List (List ℕ)) → BTreeMap (List ℕ) (List (List ℕ)) → Type 0
+KeepsGrant who change old new = (owner reader : List ℕ) → is_granting new owner reader
+    ≡ (if is_same who owner && concerns reader change then grants change else is_granting old owner reader)
+
+-- every reader has the owners that it had
+abbrev pub SameGranting : BTreeMap (List ℕ) (List (List ℕ)) → BTreeMap (List ℕ) (List (List ℕ)) → Type 0
+SameGranting old new = (owner reader : List ℕ) → is_granting new owner reader ≡ is_granting old owner reader
