@@ -1,0 +1,102 @@
+-- The finish of a letter does to a search what its result says, and keeps what a search keeps.
+use Rattle.std.proofs.Common.{ℕ, ◌+◌, ◌<◌, ◌≤◌, ◌≡◌, ◌∙◌, refl, sym, subst, ap, Bool, true, false, List, [], Option, None, Some, length, get_or}
+use Rattle.vaults.specs.Journal.{Vault, credentials}
+use Rattle.snapshots.specs.Snapshot.{SnapshotState, IsOrdered}
+use Rattle.cred_graph.specs.GraphState.{GraphState, IsNode}
+use Rattle.credential_text.specs.declared.exprs.Expr.{Expr}
+use Rattle.credential_text.specs.declared.exprs.Expr.TheVariants.{Ent}
+use Rattle.std.proofs.lemmas.Option.{slice_get-get_or}
+use Rattle.scholten_core.specs.declared.letters.Letter.{Letter}
+use Rattle.scholten_core.specs.Computation.{Computation}
+use Rattle.scholten_core.specs.Call.{FinishesLetter}
+use Rattle.search.specs.declared.letters.Load.{Load}
+use Rattle.search.specs.declared.letters.Held.{Held}
+use Rattle.search.specs.declared.findings.Monitor.{Monitor}
+use Rattle.search.specs.declared.queries.Hint.{Hint}
+use Rattle.search.specs.declared.queries.Need.{Need}
+use Rattle.search.specs.declared.outcomes.Finished.{Finished}
+use Rattle.search.specs.declared.outcomes.Finished.TheVariants as finished
+use Rattle.search.specs.declared.stages.Stage.{Stage}
+use Rattle.search.specs.declared.stages.Stage.TheVariants as stage
+use Rattle.search.specs.Net.{sent_of}
+use Rattle.search.specs.Answers.{Progress, progress, Answers}
+use Rattle.search.specs.Need.{need_of, right_hint}
+use Rattle.search.specs.Stage.{HoldsLetter, letter_in, held_in, if_held, stage_marked, Sends}
+use Rattle.search.specs.Search.{SearchState, SameQuestion, KeptBy, IsKept, asked_role, rows_of}
+use Rattle.search.specs.Finish.{Needs, IsRightly, Received, Exceeds, Finishes}
+use Rattle.search.proofs.Grow.{one_expr}
+use Rattle.search.proofs.Receive.{receipt}
+use Rattle.search.proofs.Closing.{awaits_letter, done_kept}
+use Rattle.search.proofs.Searching.{held_awaits}
+use Rattle.search.proofs.Holding.{same_running}
+
+-- the letter in hand is the held letter of its number
+pub held_letter_is : (st : Stage) (number : ℕ) (h : Held) → HoldsLetter st number h → held_in st number ≡ Some (letter_in h)
+held_letter_is st number h held =
+    subst (λ (s : Stage). held_in s number ≡ Some (letter_in h)) (sym held.runs) (ap if_held held.letter)
+
+-- the hint is right for the need of the letter, whatever is known of its receiver
+pub rightly : (s : SearchState) (number : ℕ) (hint : Hint) (h : Held) (view : SnapshotState) → view ≡ s.snapshot → HoldsLetter s.stage number h →
+    ((e : Expr) → IsNode s.graph h.to e → hint ≡ right_hint view.vaults (need_of e h.load)) → IsRightly s number hint (letter_in h)
+rightly s number hint h view same held right = record {
+  held = held_letter_is s.stage number h held;
+  hint_is = λ need needs.
+      right needs.0 needs.1 ∙ ap (λ (v : SnapshotState). right_hint v.vaults (need_of needs.0 h.load)) same ∙ ap (right_hint s.snapshot.vaults) (sym needs.2);
+}
+
+-- where a search runs after a letter was finished, it ran before
+pub record RanBefore (old : Stage) (work number : ℕ) (outs : List (ℕ × Load)) (after : Computation Load) : Type 0 where
+  pub before : Computation Load
+  pub ran : old ≡ stage.Running before
+  pub within : before.sent + length outs ≤ work
+  pub finishes : FinishesLetter before number outs after
+
+sent_from : (old new : Stage) (work number : ℕ) (outs : List (ℕ × Load)) (result : Finished) → Sends old new work number outs result → (e : Computation Load) → new ≡ stage.Running e → RanBefore old work number outs e
+sent_from old new work number outs finished.Done (c, d, ran, runs, within, finishes) e now =
+    record { before = c; ran = ran; within = within; finishes = subst (FinishesLetter c number outs) (same_running d e (sym runs ∙ now)) finishes }
+sent_from old new work number outs finished.Spent (c, ran, over, is) e now = let clash : stage.Spent ≡ stage.Running e = sym is ∙ now in cc
+sent_from old new work number outs finished.Broken (c, ran, within, is) e now = let clash : stage.Broken ≡ stage.Running e = sym is ∙ now in cc
+sent_from old new work number outs finished.BadHint sent e now = absurd sent
+sent_from old new work number outs finished.NotHeld sent e now = absurd sent
+
+module _ (s : SearchState) (number : ℕ) (hint : Hint) (h : Held) (held : HoldsLetter s.stage number h) (right : IsRightly s number hint (letter_in h))
+    (g : GraphState) (ms : List Monitor) (outs : List (ℕ × Load)) (row : Answers s.snapshot.vaults (progress s.graph s.monitors []) (progress g ms outs) h.from h.to h.load) where
+  abbrev after : Stage → SearchState
+  after st = record s { graph = g; monitors = ms; stage = st }
+
+  same_question : (st : Stage) → SameQuestion s (after st)
+  same_question st = record { query = refl; work = refl; snapshot = refl }
+
+  pub sent_finishes : (st : Stage) (result : Finished) → Sends s.stage st s.work number outs result → Finishes s (after st) number hint result
+  sent_finishes st finished.Done (c, d, ran, runs, within, finishes) =
+      (letter_in h, right, record { before = c; after = d; outs = outs; ran = ran; runs = runs; finishes = finishes; within = within; row = row }, same_question st)
+  sent_finishes st finished.Spent (c, ran, over, is) =
+      (letter_in h, right, record { before = c; reached = progress g ms outs; ran = ran; row = row; over = over }, is, same_question st)
+  sent_finishes st finished.Broken (c, ran, within, is) = (letter_in h, right, is, same_question st)
+  sent_finishes st finished.BadHint sent = absurd sent
+  sent_finishes st finished.NotHeld sent = absurd sent
+
+  module _ (kept : IsKept s) (ordered : IsOrdered s.snapshot.vaults) where
+    kept_done : (c d : Computation Load) → s.stage ≡ stage.Running c → c.sent + length outs ≤ s.work → FinishesLetter c number outs d → KeptBy (rows_of s) (asked_role s.query) s.work g ms d
+    kept_done c d ran within finishes =
+        let same : held.running ≡ c = same_running held.running c (sym held.runs ∙ ran) in
+        let finishes' : FinishesLetter held.running number outs d = subst (λ (x : Computation Load). FinishesLetter x number outs d) (sym same) finishes in
+        let within' : held.running.sent + length outs ≤ s.work = subst (λ (x : Computation Load). x.sent + length outs ≤ s.work) (sym same) within in
+        let kept_now = kept held.running held.runs in
+        let paid = receipt s.snapshot.vaults (asked_role s.query) (sent_of held.running.letters) ordered s.graph s.monitors (progress g ms outs) h.from h.to h.load (held_awaits s kept number h held) row in
+        done_kept s.snapshot.vaults (asked_role s.query) s.work s.graph s.monitors held.running d number (letter_in h) (progress g ms outs) ordered kept_now held.by_number held.letter finishes' paid within'
+
+    pub sent_kept : (st : Stage) (result : Finished) → Sends s.stage st s.work number outs result → IsKept (after st)
+    sent_kept st result sends e now =
+        let ran = sent_from s.stage st s.work number outs result sends e now in
+        kept_done ran.before e ran.ran ran.within ran.finishes
+
+-- a hint that isn't right for the need of the letter
+pub wrongly : (s : SearchState) (number : ℕ) (hint : Hint) (h : Held) (view : SnapshotState) (st : Stage) → view ≡ s.snapshot → HoldsLetter s.stage number h → h.to < length s.graph.nodes →
+    (((e : Expr) → IsNode s.graph h.to e → hint ≡ right_hint view.vaults (need_of e h.load)) → ⊥) → st ≡ stage_marked number false s.stage → Finishes s (record s { stage = st }) number hint finished.BadHint
+wrongly s number hint h view st same held node_in wrong is =
+    let e : Expr = get_or s.graph.nodes h.to (Ent []) in
+    let at : IsNode s.graph h.to e = slice_get-get_or s.graph.nodes h.to (Ent []) node_in in
+    (letter_in h, need_of e h.load, held_letter_is s.stage number h held, (e, at, refl),
+      λ right. wrong (λ f there. subst (λ (x : Expr). hint ≡ right_hint view.vaults (need_of x h.load)) (one_expr s.graph h.to e f at there) (subst (λ (v : SnapshotState). hint ≡ right_hint v.vaults (need_of e h.load)) (sym same) right)),
+      ap (λ (x : Stage). record s { stage = x }) is)

@@ -1,0 +1,224 @@
+-- What a search keeps gives its status, and is kept by its calls.
+use Rattle.std.proofs.Common.{ℕ, zero, suc, ◌+◌, ◌<◌, ◌≤◌, ◌↔◌, ◌≡◌, ◌∙◌, ◌⊎◌, inl, inr, refl, sym, subst, ap, Bool, true, false, not, List, [], ◌∷◌, ◌++◌, Some, Contains, length, slice_get, arith}
+use Rattle.std.specs.FinMap as fin
+use Rattle.std.proofs.lemmas.Option.{same_Some, slice_get_within}
+use Rattle.names.specs.declared.roles.Role.{Role}
+use Rattle.credential_text.specs.declared.credentials.Credential.{Credential}
+use Rattle.credential_text.specs.declared.exprs.Expr.{Expr}
+use Rattle.credential_text.specs.declared.exprs.Expr.TheVariants.{Ent, Rol, Link, Meet}
+use Rattle.rt0_rules.specs.Derivation.{Derives}
+use Rattle.rt0_rules.specs.Membership.{IsMember}
+use Rattle.rt0_rules.specs.Asks.{Demanded, asked_role as asked_itself}
+use Rattle.rt0_rules.specs.FixedPoint.{IsExact}
+use Rattle.rt0_rules.proofs.FixedPoint.{exact}
+use Rattle.rt0_rules.proofs.Elements.{Contains-none, Contains-first, Contains-cons_cases}
+use Rattle.rt0_rules.proofs.Distinct.{filtered}
+use Rattle.rt0_rules.proofs.Unknown.{Contains-map}
+use Rattle.cred_graph.proofs.Lists.{Contains-at_place}
+use Rattle.vaults.specs.Journal.{Vault, credentials}
+use Rattle.cred_graph.specs.declared.listeners.Port.{Port}
+use Rattle.cred_graph.specs.GraphState.{GraphState, IsNode, IsSolution, Known, Listens, members_of, empty_graph}
+use Rattle.cred_graph.specs.Graph.{IsGraph, NodeGiven}
+use Rattle.scholten_core.specs.declared.parents.Parent.{Parent}
+use Rattle.scholten_core.specs.declared.parents.Parent.TheVariants.{Neutral, Environment, Node}
+use Rattle.scholten_core.specs.declared.letters.Letter.{Letter}
+use Rattle.scholten_core.specs.Computation.{Computation, outstanding, waiting}
+use Rattle.scholten_core.specs.Step.{started, marked}
+use Rattle.search.specs.declared.letters.Load.{Load}
+use Rattle.search.specs.declared.letters.Load.TheVariants as load
+use Rattle.search.specs.declared.letters.Held.{Held}
+use Rattle.search.specs.declared.findings.Monitor.{Monitor}
+use Rattle.search.specs.declared.findings.Monitor.TheVariants as monitor
+use Rattle.search.specs.declared.queries.Query.{Query}
+use Rattle.search.specs.declared.queries.Query.TheVariants as query
+use Rattle.search.specs.declared.outcomes.Status.{Status}
+use Rattle.search.specs.declared.outcomes.Status.TheVariants as status
+use Rattle.search.specs.declared.stages.Stage.{Stage}
+use Rattle.search.specs.declared.stages.Stage.TheVariants as stage
+use Rattle.search.specs.Net.{Net, Sent, plain, sent_of, IsPendingStart, IsPendingBetween, IsOpen, LetterFits}
+use Rattle.search.specs.Steady.{IsRight, IsPaid, IsSteady, OwesRules}
+use Rattle.search.specs.Receipt.{Awaits}
+use Rattle.search.specs.Stage.{HoldsLetter, Holds, letter_in, stage_marked, waiting_in, Delivers}
+use Rattle.search.specs.Search.{SearchState, KeptBy, IsKept, StartsAlone, IsOutstanding, IsCompleted, asked_role, rows_of, net_of}
+use Rattle.search.specs.Finish.{AnswerIs, StatusIs, IsRightStatus}
+use Rattle.search.proofs.Owed.{owes_rules}
+use Rattle.search.proofs.Solve.{solution_of_member, member_of_solution}
+use Rattle.search.proofs.Closing.{awaits_letter, marked_kept, signalled_kept}
+use Rattle.search.proofs.Receive.{receiver_in}
+use Rattle.search.proofs.Holding.{same_running}
+
+-- the graph of a search just opened
+abbrev pub first_graph : Role → GraphState
+first_graph role = record { nodes = Rol role ∷ []; listeners = [] ∷ []; solutions = [] }
+
+pub first_graph_is : (g : GraphState) (role : Role) (n : ℕ) (new : Bool) → NodeGiven empty_graph g (Rol role) n new → g ≡ first_graph role
+first_graph_is g role n true (absent, range, at, is) = is
+first_graph_is g role n false (at, is) = cc
+
+module _ (rows : List Credential) (role : Role) where
+  abbrev start : Sent
+  start = record { from = Environment; to = 0; load = load.Start }
+
+  abbrev first_net : Net
+  first_net = record { graph = first_graph role; monitors = monitor.Plain ∷ []; pending = start ∷ [] }
+
+  only_node : (n : ℕ) (e : Expr) → IsNode (first_graph role) n e → (n ≡ 0) × (Rol role ≡ e)
+  only_node zero e at = (refl, same_Some (Rol role) e at)
+  only_node (suc n) e at = cc
+
+  no_listener : (n : ℕ) (m : ℕ) (p : Port) → Listens (first_graph role) n (record { asker = m; port = p }) → ⊥
+  no_listener zero m p among = Contains-none (record { asker = m; port = p }) among
+  no_listener (suc n) m p among = Contains-none (record { asker = m; port = p }) among
+
+  no_monitor : (m : ℕ) (x : Monitor) → slice_get (monitor.Plain ∷ []) m ≡ Some x → monitor.Plain ≡ x
+  no_monitor zero x at = same_Some monitor.Plain x at
+  no_monitor (suc m) x at = cc
+
+  first_right : IsGraph (first_graph role) → IsRight rows role first_net
+  first_right graph = record {
+    graph = graph;
+    fit = (tt, tt);
+    root_node = refl;
+    demanded = λ n e at. subst (Demanded rows role) (only_node n e at).1 asked_itself;
+    listeners_fit = λ n m p among. absurd (no_listener n m p among);
+    solutions_fit = λ s among. absurd (Contains-none s among);
+    letters_fit = λ x among. elim (Contains-cons_cases start [] x among) [
+      | inl same ↦ subst (λ (y : Sent). LetterFits rows first_net y.from y.to y.load) same refl
+      | inr none ↦ absurd (Contains-none x none)
+    ];
+    parts_fit = λ m i who told. let clash = no_monitor m (monitor.Meet told.0) told.1 in cc;
+  }
+
+  never_open : (m : ℕ) → IsOpen first_net m → ⊥
+  never_open m (inl (k, p, among)) = no_listener m k p among
+  never_open m (inr (root, gone)) = gone (0, Contains-first start [])
+
+  first_paid : IsGraph (first_graph role) → IsPaid rows first_net
+  first_paid graph = record {
+    root = inr (0, Contains-first start []);
+    opened = λ m e at opens. absurd (never_open m opens);
+    via = λ m r t b at told. let clash = no_monitor m (monitor.Link told.0) told.1 in cc;
+    told = λ n m p who among solution. absurd (no_listener n m p among);
+    met = λ m parts who at all. let clash : Rol role ≡ Meet parts = (only_node m (Meet parts) at).1 in cc;
+  }
+
+  pub first_kept : (work : ℕ) → 0 < work → IsGraph (first_graph role) → KeptBy rows role work (first_graph role) (monitor.Plain ∷ []) (started 0 load.Start)
+  first_kept work some graph = record {
+    steady = record { right = first_right graph; paid = first_paid graph };
+    starts = λ n among. refl;
+    within = omega arith;
+  }
+
+pub opened_kept : (s : SearchState) → s.graph ≡ first_graph (asked_role s.query) → s.monitors ≡ monitor.Plain ∷ [] → s.stage ≡ stage.Running (started 0 load.Start) → 0 < s.work → IsGraph s.graph → IsKept s
+opened_kept s g_is ms_is stage_is some graph c runs =
+    let c_is : started 0 load.Start ≡ c = same_running (started 0 load.Start) c (sym stage_is ∙ runs) in
+    let kept = first_kept (rows_of s) (asked_role s.query) s.work some (subst IsGraph g_is graph) in
+    subst (KeptBy (rows_of s) (asked_role s.query) s.work s.graph s.monitors) c_is
+    (subst (λ (ms : List Monitor). KeptBy (rows_of s) (asked_role s.query) s.work s.graph ms (started 0 load.Start)) (sym ms_is)
+    (subst (λ (g : GraphState). KeptBy (rows_of s) (asked_role s.query) s.work g (monitor.Plain ∷ []) (started 0 load.Start)) (sym g_is) kept))
+
+-- a held letter is awaited
+pub held_awaits : (s : SearchState) → IsKept s → (number : ℕ) (h : Held) → (held : HoldsLetter s.stage number h) → Awaits (rows_of s) (asked_role s.query) s.graph s.monitors (sent_of held.running.letters) h.from h.to h.load
+held_awaits s kept number h held = awaits_letter (kept held.running held.runs) held.by_number number (letter_in h) held.letter
+
+module _ (rows : List Credential) (role : Role) (work : ℕ) (g : GraphState) (ms : List Monitor) (c : Computation Load) (kept : KeptBy rows role work g ms c) where
+  pub rules_owed : OwesRules rows role (net_of g ms c)
+  rules_owed = owes_rules rows role (net_of g ms c) kept.steady.right kept.steady.paid
+
+  no_letters : outstanding c ≡ 0 → sent_of c.letters ≡ []
+  no_letters none = none_sent c.letters (omega arith)
+    where
+      none_sent : (letters : List (ℕ × Letter Load)) → length letters ≡ 0 → sent_of letters ≡ []
+      none_sent [] e = refl
+      none_sent (x ∷ letters) e = absurd (omega arith)
+
+  no_letter : outstanding c ≡ 0 → (x : Sent) → Contains (sent_of c.letters) x → ⊥
+  no_letter none x among = Contains-none x (subst (λ (xs : List Sent). Contains xs x) (no_letters none) among)
+
+  pub completed_exact : outstanding c ≡ 0 → IsExact rows role (Known g)
+  completed_exact none = exact rules_owed (λ first. no_letter none _ first.1) (λ e f between. nothing_between e f between)
+    where
+      nothing_between : (e f : Expr) → IsPendingBetween (net_of g ms c) e f → ⊥
+      nothing_between e f (m, n, node_e, node_f, (l, inl there)) = no_letter none _ there
+      nothing_between e f (m, n, node_e, node_f, (l, inr back)) = no_letter none _ back
+
+  member_found : (who : List ℕ) → outstanding c ≡ 0 → IsMember rows who role → IsSolution g 0 who
+  member_found who none member =
+      let known = (completed_exact none who (Rol role) asked_itself).1 member in
+      subst (λ (n : ℕ). IsSolution g n who) (kept.steady.right.graph.one_node known.0 0 (Rol role) known.1 kept.steady.right.root_node) known.2
+
+  found_member : (who : List ℕ) → outstanding c ≡ 0 → IsSolution g 0 who → IsMember rows who role
+  found_member who none found = (completed_exact none who (Rol role) asked_itself).0 (0, kept.steady.right.root_node, found)
+
+  pub answer_true : outstanding c ≡ 0 → (q : Query) (result : Status) → asked_role q ≡ role → AnswerIs g q result → IsRightStatus rows q result
+  answer_true none (query.Ask asked who) status.Yes same is = subst (λ (r : Role). IsMember rows who r) (sym same) (found_member who none is)
+  answer_true none (query.Ask asked who) status.No same is = λ member. is (member_found who none (subst (λ (r : Role). IsMember rows who r) same member))
+  answer_true none (query.Ask asked who) status.Working same is = absurd is
+  answer_true none (query.Ask asked who) status.Members same is = absurd is
+  answer_true none (query.Ask asked who) status.Spent same is = absurd is
+  answer_true none (query.Ask asked who) status.Broken same is = absurd is
+  answer_true none (query.Who asked) status.Members same is = tt
+  answer_true none (query.Who asked) status.Yes same is = absurd is
+  answer_true none (query.Who asked) status.No same is = absurd is
+  answer_true none (query.Who asked) status.Working same is = absurd is
+  answer_true none (query.Who asked) status.Spent same is = absurd is
+  answer_true none (query.Who asked) status.Broken same is = absurd is
+
+pub status_true : (s : SearchState) (st : Stage) (result : Status) → s.stage ≡ st → IsKept s → StatusIs st s.graph s.query result → IsCompleted st → IsRightStatus (rows_of s) s.query result
+status_true s (stage.Running c) result runs kept (inl (done, sound, is)) completed =
+    answer_true (rows_of s) (asked_role s.query) s.work s.graph s.monitors c (kept c runs) done s.query result refl is
+status_true s (stage.Running c) result runs kept (inr (busy, is)) completed = absurd (busy completed)
+status_true s stage.Spent result runs kept is completed = absurd completed
+status_true s stage.Broken result runs kept is completed = absurd completed
+
+pub status_exact : (s : SearchState) (st : Stage) → s.stage ≡ st → IsKept s → IsCompleted st → IsExact (rows_of s) (asked_role s.query) (Known s.graph)
+status_exact s (stage.Running c) runs kept completed = completed_exact (rows_of s) (asked_role s.query) s.work s.graph s.monitors c (kept c runs) completed
+status_exact s stage.Spent runs kept completed = absurd completed
+status_exact s stage.Broken runs kept completed = absurd completed
+
+-- a letter that is held or waits again
+marked_from : (number : ℕ) (held : Bool) (st : Stage) (d : Computation Load) → stage_marked number held st ≡ stage.Running d → (c : Computation Load) × (st ≡ stage.Running c) × (marked c number held ≡ d)
+marked_from number held (stage.Running c) d e = (c, refl, same_running (marked c number held) d e)
+marked_from number held stage.Spent d e = cc
+marked_from number held stage.Broken d e = cc
+
+pub marked_stage_kept : (s : SearchState) (st : Stage) (number : ℕ) (held : Bool) → IsKept s → st ≡ stage_marked number held s.stage → IsKept (record s { stage = st })
+marked_stage_kept s st number held kept is d now =
+    let from = marked_from number held s.stage d (sym is ∙ now) in
+    subst (KeptBy (rows_of s) (asked_role s.query) s.work s.graph s.monitors) from.2 (marked_kept (kept from.0 from.1) number held)
+
+pub marked_view : (s t : SearchState) (st : Stage) (number : ℕ) (held : Bool) → s ≡ t → st ≡ stage_marked number held s.stage → record s { stage = st } ≡ record t { stage = stage_marked number held t.stage }
+marked_view s t st number held same is =
+    subst (λ (x : SearchState). record s { stage = st } ≡ record x { stage = stage_marked number held x.stage }) same (ap (λ (y : Stage). record s { stage = y }) is)
+
+pub delivered_kept : (s : SearchState) (st : Stage) (place : ℕ) (b : Bool) → IsKept s → Delivers s.stage st place b → IsKept (record s { stage = st })
+delivered_kept s st place true kept (c, d, ran, runs, below, delivers) e now =
+    subst (KeptBy (rows_of s) (asked_role s.query) s.work s.graph s.monitors) (same_running d e (sym runs ∙ now)) (signalled_kept (kept c ran) place delivers)
+delivered_kept s st place false kept (past, same) e now = kept e (sym same ∙ now)
+
+-- a letter that waits goes to a node
+waiting_to : (s : SearchState) (st : Stage) (place number : ℕ) (l : Letter Load) → IsKept s → s.stage ≡ st → slice_get (waiting_in st) place ≡ Some (number, l) → l.to < length s.graph.nodes
+waiting_to s (stage.Running c) place number l kept runs at =
+    let kept_now = kept c runs in
+    let among = (filtered (λ (x : ℕ × Letter Load). not x.1.held) c.letters (number, l) (Contains-at_place (waiting c) place (number, l) at)).0 in
+    let sent = Contains-map (λ (x : ℕ × Letter Load). plain x.1) c.letters (number, l) among in
+    receiver_in (rows_of s) (asked_role s.query) (net_of s.graph s.monitors c) kept_now.steady.right l.from l.to l.load (kept_now.steady.right.letters_fit (plain l) sent)
+waiting_to s stage.Spent place number l kept runs at = cc
+waiting_to s stage.Broken place number l kept runs at = cc
+
+pub taken_to : (s : SearchState) (st : Stage) (place number : ℕ) (h : Held) → IsKept s → Holds s.stage st place number h → h.to < length s.graph.nodes
+taken_to s st place number h kept holds =
+    subst (λ (n : ℕ). n < length s.graph.nodes) (ap (λ (l : Letter Load). l.to) holds.taken) (waiting_to s s.stage place number holds.letter kept refl holds.waited)
+
+-- a completed search has a node for its role, whose solutions are its members
+pub completed_root : (s : SearchState) (st : Stage) → s.stage ≡ st → IsKept s → IsCompleted st → 0 < length s.graph.nodes
+completed_root s (stage.Running c) runs kept completed = slice_get_within s.graph.nodes 0 (Rol (asked_role s.query)) (kept c runs).steady.right.root_node
+completed_root s stage.Spent runs kept completed = absurd completed
+completed_root s stage.Broken runs kept completed = absurd completed
+
+pub completed_members : (s : SearchState) (st : Stage) → s.stage ≡ st → IsKept s → IsCompleted st → (d : List ℕ) → Contains (members_of s.graph 0) d ↔ IsMember (rows_of s) d (asked_role s.query)
+completed_members s (stage.Running c) runs kept completed d =
+    (λ among. found_member (rows_of s) (asked_role s.query) s.work s.graph s.monitors c (kept c runs) d completed (solution_of_member s.graph 0 d among),
+      λ member. member_of_solution s.graph 0 d (member_found (rows_of s) (asked_role s.query) s.work s.graph s.monitors c (kept c runs) d completed member))
+completed_members s stage.Spent runs kept completed d = absurd completed
+completed_members s stage.Broken runs kept completed d = absurd completed

@@ -1,0 +1,18 @@
+-- A letter says the same where it waits again.
+use Rattle.std.proofs.Common.{◌≡◌, false, subst, Some}
+use Rattle.search.specs.Stage.{held_in, letter_in}
+use Rattle.search.specs.Search.{SearchState}
+use Rattle.search.specs.contracts.searches.Search.{the_view}
+use Rattle.search.proofs.Searching.{marked_stage_kept, marked_view}
+use Rattle.search.proofs.Finishing.{held_letter_is}
+use Rattle.search.proofs.searches.Search.put_back.Goals as goal
+
+pub invariant_of-self : goal.invariant_of-self
+invariant_of-self c = marked_stage_kept (the_view c.self.inside) c.wait_again.new.stage c.args.letter false c.self.invariant c.wait_again.ensures
+
+pub returns-clause-waits : goal.returns-clause-waits
+returns-clause-waits c =
+    λ _. (
+      (letter_in c.in-Some._held, subst (λ (s : SearchState). held_in s.stage c.args.letter ≡ Some (letter_in c.in-Some._held)) c.self.view_is (held_letter_is c.self.inside.stage c.args.letter c.in-Some._held c.in-Some.ensures)),
+      marked_view (the_view c.self.inside) c.args.self.now c.wait_again.new.stage c.args.letter false c.self.view_is c.wait_again.ensures,
+    )

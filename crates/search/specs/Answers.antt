@@ -1,0 +1,174 @@
+-- How a node answers a letter: what it finds, and what it sends.
+use Rattle.std.specs.Prelude.{ℕ, ◌+◌, ◌<◌, Bool, true, false, List, [], ◌∷◌, ◌++◌, ◌≡◌, ◌⊎◌, Some, Contains, length, map, slice_get, slice_set}
+use Rattle.std.specs.FinSet as set
+use Rattle.names.specs.declared.roles.Role.{Role}
+use Rattle.credential_text.specs.declared.credentials.Credential.{Credential}
+use Rattle.credential_text.specs.declared.intersections.Part.{Part}
+use Rattle.credential_text.specs.declared.exprs.Expr.{Expr}
+use Rattle.credential_text.specs.declared.exprs.Expr.TheVariants.{Ent, Rol, Link, Meet}
+use Rattle.credential_text.specs.Expr.{part_expr, HasPartsInRange}
+use Rattle.cred_graph.specs.declared.listeners.Port.{Port}
+use Rattle.cred_graph.specs.declared.listeners.Port.TheVariants as port
+use Rattle.cred_graph.specs.declared.listeners.Listening.{Listening}
+use Rattle.cred_graph.specs.declared.solutions.Reason.{Reason}
+use Rattle.cred_graph.specs.declared.solutions.Reason.TheVariants as reason
+use Rattle.cred_graph.specs.Reason.{Fits}
+use Rattle.cred_graph.specs.GraphState.{GraphState, IsNode, IsSolution, Listens, listed_with, listeners_of, members_of}
+use Rattle.monitors.specs.LinkMonitor.{LinkTold, HearsBase}
+use Rattle.monitors.specs.MeetMonitor.{MeetTold, HearsPart, AllTold, with_tell}
+use Rattle.scholten_core.specs.declared.parents.Parent.{Parent}
+use Rattle.scholten_core.specs.declared.parents.Parent.TheVariants.{Neutral, Environment, Node}
+use Rattle.vaults.specs.Journal.{Vault}
+use Rattle.snapshots.specs.Span.{role_rows}
+use Rattle.search.specs.declared.letters.Load.{Load}
+use Rattle.search.specs.declared.letters.Load.TheVariants as load
+use Rattle.search.specs.declared.findings.Monitor.{Monitor}
+use Rattle.search.specs.declared.findings.Monitor.TheVariants as monitor
+use Rattle.search.specs.Net.{Net, Sent, sent_by}
+
+-- what was found while a node answers a letter, and what it sends
+pub record Progress : Type 0 where
+  pub graph : GraphState
+  pub monitors : List Monitor
+  pub outs : List (ℕ × Load)
+
+abbrev pub progress : GraphState → List Monitor → List (ℕ × Load) → Progress
+progress g ms outs = record { graph = g; monitors = ms; outs = outs }
+
+-- the search while a node answers a letter: the other letters, and those that it sends
+abbrev pub net_at : Progress → List Sent → ℕ → Net
+net_at s rest node = record { graph = s.graph; monitors = s.monitors; pending = rest ++ sent_by node s.outs }
+
+-- what a new node remembers: nothing was told yet
+abbrev pub new_monitor : Expr → Monitor
+new_monitor (Ent d) = monitor.Plain
+new_monitor (Rol r) = monitor.Plain
+new_monitor (Link r t) = monitor.Link (record { bases = []; members = [] })
+new_monitor (Meet parts) = monitor.Meet (record { parts = length parts; told = set.empty })
+
+-- an Ask goes to the node of the expression, which is added with its monitor where there is none
+abbrev pub AsksFor : Progress → Progress → Expr → Port → Type 0
+AsksFor s t e p =
+    (to : ℕ) × (t.outs ≡ s.outs ++ (to, load.Ask p) ∷ [])
+    × ((IsNode s.graph to e × (t.graph ≡ s.graph) × (t.monitors ≡ s.monitors))
+      ⊎ ((Contains s.graph.nodes e → ⊥) × HasPartsInRange e × (to ≡ length s.graph.nodes)
+        × (t.graph ≡ record s.graph { nodes = s.graph.nodes ++ e ∷ []; listeners = s.graph.listeners ++ [] ∷ [] })
+        × (t.monitors ≡ s.monitors ++ new_monitor e ∷ [])))
+
+-- these expressions are asked in turn
+abbrev pub AsksEach : Progress → List (Expr × Port) → Progress → Type 0
+AsksEach s [] t = t ≡ s
+AsksEach s (w ∷ ws) t = (mid : Progress) × AsksFor s mid w.0 w.1 × AsksEach mid ws t
+
+-- a Tell to every listener of the node
+abbrev pub new_tells : GraphState → ℕ → List ℕ → List (ℕ × Load)
+new_tells g n who = map (λ l. (l.asker, load.Tell l.port who)) (listeners_of g n)
+
+-- the entity is a solution of the node now; where it is new, every listener is told
+abbrev pub Solves : Progress → Progress → ℕ → List ℕ → Reason → Type 0
+Solves s t n who why =
+    (t.monitors ≡ s.monitors)
+    × ((IsSolution s.graph n who × (t.graph ≡ s.graph) × (t.outs ≡ s.outs))
+      ⊎ ((IsSolution s.graph n who → ⊥)
+        × (t.graph ≡ record s.graph { solutions = s.graph.solutions ++ record { node = n; who = who; reason = why } ∷ [] })
+        × (t.outs ≡ s.outs ++ new_tells s.graph n who)))
+
+-- a Tell to the asker for each solution that the node has
+abbrev pub known_tells : GraphState → ℕ → ℕ → Port → List (ℕ × Load)
+known_tells g n m p = map (λ who. (m, load.Tell p who)) (members_of g n)
+
+-- the node m listens to the node n now; where that is new, it is told each solution that the node has
+abbrev pub HearsAsk : Progress → Progress → ℕ → ℕ → Port → Type 0
+HearsAsk s t n m p =
+    (t.monitors ≡ s.monitors)
+    × ((Listens s.graph n (record { asker = m; port = p }) × (t.graph ≡ s.graph) × (t.outs ≡ s.outs))
+      ⊎ ((Listens s.graph n (record { asker = m; port = p }) → ⊥)
+        × (t.graph ≡ record s.graph { listeners = listed_with s.graph.listeners n (record { asker = m; port = p }) })
+        × (t.outs ≡ s.outs ++ known_tells s.graph n m p)))
+
+-- the monitor of a linked role hears a member of its base, and the answer says whether that is new
+abbrev pub BaseHeard : List Monitor → List Monitor → ℕ → List ℕ → Bool → Type 0
+BaseHeard ms ms' node base new =
+    (x y : LinkTold) × (slice_get ms node ≡ Some (monitor.Link x)) × HearsBase x y base new × (ms' ≡ slice_set ms node (monitor.Link y))
+
+-- a linked role is told a member of its base: where it is new, the member's role is asked
+abbrev pub TellsBase : Progress → Progress → ℕ → List ℕ → Type 0
+TellsBase s t node base =
+    (r : Role) × (name : List ℕ) × IsNode s.graph node (Link r name)
+    × ((new : Bool) × (ms : List Monitor) × BaseHeard s.monitors ms node base new
+      × (((new ≡ false) × (t ≡ record s { monitors = ms }))
+        ⊎ ((new ≡ true) × AsksFor (record s { monitors = ms }) t (Rol (record { owner = base; name = name })) (port.Via base))))
+
+-- the monitor of an intersection hears that a part told an entity, and the answer says whether it is the last
+abbrev pub PartHeard : List Monitor → List Monitor → ℕ → ℕ → List ℕ → Bool → Type 0
+PartHeard ms ms' node i who last =
+    (x y : MeetTold) × (slice_get ms node ≡ Some (monitor.Meet x)) × HearsPart x y i who last × (ms' ≡ slice_set ms node (monitor.Meet y))
+
+-- an intersection is told an entity by its part i: with the last part it is a solution
+abbrev pub TellsPart : Progress → Progress → ℕ → ℕ → List ℕ → Type 0
+TellsPart s t node i who =
+    (last : Bool) × (ms : List Monitor) × PartHeard s.monitors ms node i who last
+    × (((last ≡ false) × (t ≡ record s { monitors = ms }))
+      ⊎ ((last ≡ true) × Solves (record s { monitors = ms }) t node who reason.Parts))
+
+-- a node takes in what the node m told it on a port
+abbrev pub TakesIn : Progress → Progress → ℕ → ℕ → Port → List ℕ → Type 0
+TakesIn s t n m port.Body who = Solves s t n who (reason.Body m)
+TakesIn s t n m port.Base who = TellsBase s t n who
+TakesIn s t n m (port.Via b) who = Solves s t n who (reason.Via b)
+TakesIn s t n m (port.Part i) who = TellsPart s t n i who
+
+-- where with this tell the last part has told the entity, it is known of each part
+abbrev pub TellsLast : GraphState → List Monitor → ℕ → ℕ → List ℕ → Type 0
+TellsLast g ms n i who =
+    (x : MeetTold) → slice_get ms n ≡ Some (monitor.Meet x) → AllTold (with_tell x i who) who → Fits g n who reason.Parts
+
+-- the node is one that the node m may tell this
+abbrev pub MayTakeIn : GraphState → List Monitor → ℕ → ℕ → Port → List ℕ → Type 0
+MayTakeIn g ms n m port.Body who = Fits g n who (reason.Body m)
+MayTakeIn g ms n m port.Base who =
+    ((r : Role) × (name : List ℕ) × IsNode g n (Link r name)) × ((x : LinkTold) × (slice_get ms n ≡ Some (monitor.Link x)))
+MayTakeIn g ms n m (port.Via b) who = Fits g n who (reason.Via b)
+MayTakeIn g ms n m (port.Part i) who =
+    ((x : MeetTold) × (slice_get ms n ≡ Some (monitor.Meet x)) × (i < x.parts)) × TellsLast g ms n i who
+
+-- the asks of a role: the body of each of its rows
+abbrev pub row_asks : List Credential → List (Expr × Port)
+row_asks rows = map (λ c. (c.body, port.Body)) rows
+
+-- the asks of an intersection, from its part i on
+abbrev pub part_asks : ℕ → List Part → List (Expr × Port)
+part_asks i [] = []
+part_asks i (p ∷ ps) = (part_expr p, port.Part i) ∷ part_asks (i + 1) ps
+
+-- the node of the expression opens, where these are the rows of its role: an entity is its own solution, any other asks
+abbrev pub Opens : List Credential → Progress → Progress → ℕ → Expr → Type 0
+Opens rows s t n (Ent d) = Solves s t n d reason.Leaf
+Opens rows s t n (Rol r) = AsksEach s (row_asks rows) t
+Opens rows s t n (Link r name) = AsksEach s ((Rol r, port.Base) ∷ []) t
+Opens rows s t n (Meet parts) = AsksEach s (part_asks 0 parts) t
+
+-- the node was asked before: the asked role's by the environment, any other by a listener
+abbrev pub IsOpenAt : GraphState → ℕ → Type 0
+IsOpenAt g n = (n ≡ 0) ⊎ (0 < length (listeners_of g n))
+
+-- the rows that the expression asks, where it is a role
+abbrev pub own_rows : List Vault → Expr → List Credential
+own_rows view (Ent d) = []
+own_rows view (Rol r) = role_rows view r
+own_rows view (Link r name) = []
+own_rows view (Meet parts) = []
+
+-- a node is asked on a port by the node m: at its first Ask it opens, and then it hears the asker
+abbrev pub AnswersAsk : List Vault → Progress → Progress → ℕ → ℕ → Port → Type 0
+AnswersAsk view s t n m p =
+    (mid : Progress)
+    × ((IsOpenAt s.graph n × (mid ≡ s)) ⊎ ((IsOpenAt s.graph n → ⊥) × ((e : Expr) → IsNode s.graph n e → Opens (own_rows view e) s mid n e)))
+    × HearsAsk mid t n m p
+
+-- how a node answers a letter from this sender: the environment's opens it
+abbrev pub Answers : List Vault → Progress → Progress → Parent → ℕ → Load → Type 0
+Answers view s t Environment to load.Start = (e : Expr) → IsNode s.graph to e → Opens (own_rows view e) s t to e
+Answers view s t (Node m) to (load.Ask p) = AnswersAsk view s t to m p
+Answers view s t (Node m) to (load.Tell p who) = TakesIn s t to m p who
+Answers view s t _ to _ = ⊥

@@ -1,0 +1,93 @@
+-- What the calls of a search do to it.
+use Rattle.std.specs.Prelude.{ℕ, ◌+◌, ◌<◌, ◌≤◌, Bool, true, false, List, [], ◌≡◌, ◌⊎◌, Option, Some, None, length, slice_get}
+use Rattle.credential_text.specs.declared.exprs.Expr.{Expr}
+use Rattle.credential_text.specs.declared.exprs.Expr.TheVariants.{Rol}
+use Rattle.rt0_rules.specs.Membership.{IsMember}
+use Rattle.credential_text.specs.declared.credentials.Credential.{Credential}
+use Rattle.cred_graph.specs.GraphState.{GraphState, IsNode, IsSolution}
+use Rattle.scholten_core.specs.declared.letters.Letter.{Letter}
+use Rattle.scholten_core.specs.Computation.{Computation, outstanding}
+use Rattle.scholten_core.specs.Sound.{IsSound}
+use Rattle.scholten_core.specs.Call.{FinishesLetter}
+use Rattle.search.specs.declared.letters.Load.{Load}
+use Rattle.search.specs.declared.queries.Query.{Query}
+use Rattle.search.specs.declared.queries.Query.TheVariants as query
+use Rattle.search.specs.declared.queries.Need.{Need}
+use Rattle.search.specs.declared.queries.Hint.{Hint}
+use Rattle.search.specs.declared.outcomes.Status.{Status}
+use Rattle.search.specs.declared.outcomes.Status.TheVariants as status
+use Rattle.search.specs.declared.outcomes.Finished.{Finished}
+use Rattle.search.specs.declared.outcomes.Finished.TheVariants as finished
+use Rattle.search.specs.declared.stages.Stage.{Stage}
+use Rattle.search.specs.declared.stages.Stage.TheVariants as stage
+use Rattle.search.specs.Answers.{Progress, progress, Answers}
+use Rattle.search.specs.Need.{need_of, right_hint}
+use Rattle.search.specs.Stage.{waiting_in, held_in, stage_marked}
+use Rattle.search.specs.Search.{SearchState, SameQuestion}
+
+-- the answer that the rules give
+abbrev pub IsRightStatus : List Credential → Query → Status → Type 0
+IsRightStatus C (query.Ask role who) status.Yes = IsMember C who role
+IsRightStatus C (query.Ask role who) status.No = IsMember C who role → ⊥
+IsRightStatus C (query.Ask role who) _ = ⊥
+IsRightStatus C (query.Who role) status.Members = Unit {0}
+IsRightStatus C (query.Who role) _ = ⊥
+
+-- the answer of a completed search, by what it found of the asked role's node
+abbrev pub AnswerIs : GraphState → Query → Status → Type 0
+AnswerIs g (query.Ask role who) status.Yes = IsSolution g 0 who
+AnswerIs g (query.Ask role who) status.No = IsSolution g 0 who → ⊥
+AnswerIs g (query.Ask role who) _ = ⊥
+AnswerIs g (query.Who role) status.Members = Unit {0}
+AnswerIs g (query.Who role) _ = ⊥
+
+-- what a search has come to, by where it stands
+abbrev pub StatusIs : Stage → GraphState → Query → Status → Type 0
+StatusIs (stage.Running c) g q result = ((outstanding c ≡ 0) × IsSound c × AnswerIs g q result) ⊎ ((outstanding c ≡ 0 → ⊥) × (result ≡ status.Working))
+StatusIs stage.Spent g q result = result ≡ status.Spent
+StatusIs stage.Broken g q result = result ≡ status.Broken
+
+-- the letter needs this to be finished
+abbrev pub Needs : SearchState → Letter Load → Need → Type 0
+Needs s l need = (e : Expr) × IsNode s.graph l.to e × (need ≡ need_of e l.load)
+
+-- the waiting letter at a place has this number, is held from now on, and needs this; nothing else changes
+pub record Takes (s t : SearchState) (place number : ℕ) (need : Need) : Type 0 where
+  pub letter : Letter Load
+  pub waited : slice_get (waiting_in s.stage) place ≡ Some (number, letter)
+  pub needs : Needs s letter need
+  pub after : t ≡ record s { stage = stage_marked number true s.stage }
+
+-- a letter was received: it is gone, and its receiver's answers wait
+pub record Received (s t : SearchState) (number : ℕ) (l : Letter Load) : Type 0 where
+  pub before : Computation Load
+  pub after : Computation Load
+  pub outs : List (ℕ × Load)
+  pub ran : s.stage ≡ stage.Running before
+  pub runs : t.stage ≡ stage.Running after
+  pub finishes : FinishesLetter before number outs after
+  pub within : before.sent + length outs ≤ s.work
+  pub row : Answers s.snapshot.vaults (progress s.graph s.monitors []) (progress t.graph t.monitors outs) l.from l.to l.load
+
+-- the letters sent, with those that its receiver answers, would exceed the work limit
+pub record Exceeds (s : SearchState) (l : Letter Load) : Type 0 where
+  pub before : Computation Load
+  pub reached : Progress
+  pub ran : s.stage ≡ stage.Running before
+  pub row : Answers s.snapshot.vaults (progress s.graph s.monitors []) reached l.from l.to l.load
+  pub over : s.work < before.sent + length reached.outs
+
+-- the letter is held, and the hint is the one that it needs
+pub record IsRightly (s : SearchState) (number : ℕ) (hint : Hint) (l : Letter Load) : Type 0 where
+  pub held : held_in s.stage number ≡ Some l
+  pub hint_is : (need : Need) → Needs s l need → hint ≡ right_hint s.snapshot.vaults need
+
+-- the letter of a number is finished with this hint
+abbrev pub Finishes : SearchState → SearchState → ℕ → Hint → Finished → Type 0
+Finishes s t number hint finished.NotHeld = (held_in s.stage number ≡ None) × (t ≡ s)
+Finishes s t number hint finished.BadHint =
+    (l : Letter Load) × (need : Need) × (held_in s.stage number ≡ Some l) × Needs s l need × (hint ≡ right_hint s.snapshot.vaults need → ⊥)
+    × (t ≡ record s { stage = stage_marked number false s.stage })
+Finishes s t number hint finished.Done = (l : Letter Load) × IsRightly s number hint l × Received s t number l × SameQuestion s t
+Finishes s t number hint finished.Spent = (l : Letter Load) × IsRightly s number hint l × Exceeds s l × (t.stage ≡ stage.Spent) × SameQuestion s t
+Finishes s t number hint finished.Broken = (l : Letter Load) × IsRightly s number hint l × (t.stage ≡ stage.Broken) × SameQuestion s t

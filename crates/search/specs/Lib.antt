@@ -1,0 +1,9 @@
+pub mod Net
+pub mod Steady
+pub mod Answers
+pub mod Receipt
+pub mod Stage
+pub mod Search
+pub mod Need
+pub mod Finish
+pub mod Ending

@@ -1,0 +1,29 @@
+-- What a letter needs to be finished, and the hint that this asks for.
+use Rattle.std.specs.Prelude.{List}
+use Rattle.credential_text.specs.declared.exprs.Expr.{Expr}
+use Rattle.credential_text.specs.declared.exprs.Expr.TheVariants.{Ent, Rol, Link, Meet}
+use Rattle.vaults.specs.Journal.{Vault}
+use Rattle.snapshots.specs.Span.{span_of}
+use Rattle.search.specs.declared.letters.Load.{Load}
+use Rattle.search.specs.declared.letters.Load.TheVariants as load
+use Rattle.search.specs.declared.queries.Need.{Need}
+use Rattle.search.specs.declared.queries.Need.TheVariants as need
+use Rattle.search.specs.declared.queries.Hint.{Hint}
+use Rattle.search.specs.declared.queries.Hint.TheVariants as hint
+
+abbrev pub rows_for : Expr → Need
+rows_for (Ent d) = need.Nothing
+rows_for (Rol r) = need.Rows r
+rows_for (Link r name) = need.Nothing
+rows_for (Meet parts) = need.Nothing
+
+-- rows are needed by a letter that asks a role, and by no other
+abbrev pub need_of : Expr → Load → Need
+need_of e load.Start = rows_for e
+need_of e (load.Ask p) = rows_for e
+need_of e (load.Tell p who) = need.Nothing
+
+-- the hint that a need asks for
+abbrev pub right_hint : List Vault → Need → Hint
+right_hint view (need.Rows role) = hint.Rows (span_of view role)
+right_hint view need.Nothing = hint.Nothing

@@ -1,0 +1,79 @@
+-- A search, by its parts, and what it keeps while it runs.
+use Rattle.std.specs.Prelude.{ℕ, ◌+◌, ◌<◌, ◌≤◌, Bool, true, false, List, [], ◌∷◌, ◌≡◌, Option, Some, None, Contains, length, slice_get, if◌then◌else◌, option_and_then}
+use Rattle.std.specs.FinMap as fin
+use Rattle.names.specs.declared.roles.Role.{Role}
+use Rattle.credential_text.specs.declared.credentials.Credential.{Credential}
+use Rattle.credential_text.specs.declared.exprs.Expr.TheVariants.{Rol}
+use Rattle.vaults.specs.Journal.{credentials}
+use Rattle.snapshots.specs.Snapshot.{SnapshotState}
+use Rattle.cred_graph.specs.GraphState.{GraphState}
+use Rattle.scholten_core.specs.declared.parents.Parent.{Parent}
+use Rattle.scholten_core.specs.declared.parents.Parent.TheVariants.{Neutral, Environment, Node}
+use Rattle.scholten_core.specs.declared.letters.Letter.{Letter}
+use Rattle.scholten_core.specs.Computation.{Computation, outstanding, waiting}
+use Rattle.scholten_core.specs.Step.{marked, started}
+use Rattle.search.specs.declared.letters.Load.{Load}
+use Rattle.search.specs.declared.letters.Load.TheVariants as load
+use Rattle.search.specs.declared.findings.Monitor.{Monitor}
+use Rattle.search.specs.declared.findings.Monitor.TheVariants as monitor
+use Rattle.search.specs.declared.queries.Query.{Query}
+use Rattle.search.specs.declared.stages.Stage.{Stage}
+use Rattle.search.specs.declared.stages.Stage.TheVariants as stage
+pub use Rattle.search.specs.Ending.{asked_role}
+use Rattle.search.specs.Net.{Net, sent_of}
+use Rattle.search.specs.Steady.{IsSteady}
+
+pub record SearchState : Type 0 where
+  pub query : Query
+  pub work : ℕ
+  pub snapshot : SnapshotState
+  pub graph : GraphState
+  pub monitors : List Monitor
+  pub stage : Stage
+
+-- the credentials that the search reads
+abbrev pub rows_of : SearchState → List Credential
+rows_of s = credentials s.snapshot.vaults
+
+-- something of the search is outstanding
+abbrev pub IsOutstanding : Stage → Type 0
+IsOutstanding (stage.Running c) = outstanding c ≡ 0 → ⊥
+IsOutstanding stage.Spent = ⊥
+IsOutstanding stage.Broken = ⊥
+
+-- the search ran until nothing was outstanding
+abbrev pub IsCompleted : Stage → Type 0
+IsCompleted (stage.Running c) = outstanding c ≡ 0
+IsCompleted stage.Spent = ⊥
+IsCompleted stage.Broken = ⊥
+
+-- the letter to the asked role waits, and nothing else was done
+pub record IsNew (s : SearchState) (query : Query) (work : ℕ) (snapshot : SnapshotState) : Type 0 where
+  pub query_is : s.query ≡ query
+  pub work_is : s.work ≡ work
+  pub snapshot_is : s.snapshot ≡ snapshot
+  pub graph_is : s.graph ≡ record { nodes = Rol (asked_role query) ∷ []; listeners = [] ∷ []; solutions = [] }
+  pub monitors_is : s.monitors ≡ monitor.Plain ∷ []
+  pub stage_is : s.stage ≡ stage.Running (started 0 load.Start)
+
+-- while the environment's letter is there it is the only one
+abbrev pub StartsAlone : List (ℕ × Letter Load) → Type 0
+StartsAlone letters = (n : ℕ) → Contains (sent_of letters) (record { from = Environment; to = n; load = load.Start }) → length letters ≡ 1
+
+-- what a running search keeps: each rule is applied or owed, and no more letters were sent than it may send
+pub record KeptBy (rows : List Credential) (asked : Role) (work : ℕ) (g : GraphState) (ms : List Monitor) (c : Computation Load) : Type 0 where
+  pub steady : IsSteady rows asked (record { graph = g; monitors = ms; pending = sent_of c.letters })
+  pub starts : StartsAlone c.letters
+  pub within : c.sent ≤ work
+
+abbrev pub IsKept : SearchState → Type 0
+IsKept s = (c : Computation Load) → s.stage ≡ stage.Running c → KeptBy (rows_of s) (asked_role s.query) s.work s.graph s.monitors c
+
+abbrev pub net_of : GraphState → List Monitor → Computation Load → Net
+net_of g ms c = record { graph = g; monitors = ms; pending = sent_of c.letters }
+
+-- one question
+pub record SameQuestion (s t : SearchState) : Type 0 where
+  pub query : t.query ≡ s.query
+  pub work : t.work ≡ s.work
+  pub snapshot : t.snapshot ≡ s.snapshot

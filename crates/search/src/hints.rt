@@ -1,0 +1,63 @@
+//! What a letter needs to be finished, and whether a hint is right.
+ghost use Rattle.std.specs.Prelude.{◌≡◌, ◌<◌, ◌↔◌, length, IsTrue};
+ghost use Rattle.credential_text.specs.declared.exprs.Expr.{Expr};
+ghost use Rattle.cred_graph.specs.GraphState.{IsNode};
+ghost use Rattle.snapshots.specs.Snapshot.{IsOrdered};
+ghost use Rattle.search.specs.Need.{rows_for, need_of, right_hint};
+
+use crate::letters::{Held, Load};
+use crate::queries::{Hint, Need};
+use cred_graph::Graph;
+use credential_text::Expr;
+use snapshots::Snapshot;
+
+fn rows_needed(expr: &Expr) -> Need
+    ensures { result ≡ rows_for expr.now }
+{
+    match expr {
+        Expr::Rol(role) => Need::Rows(*role),
+        Expr::Ent(_entity) => Need::Nothing,
+        Expr::Link(_base, _name) => Need::Nothing,
+        Expr::Meet(_parts) => Need::Nothing,
+    }
+}
+
+// Rows are needed by a letter that asks a role, and by no other.
+pub(crate) fn needed(graph: &Graph, held: &Held) -> Need
+    requires { held.now.to < length graph.now.nodes }
+    ensures { (e : Expr) × IsNode graph.now held.now.to e × (result ≡ need_of e held.now.load) }
+{
+    let expr = graph.expr(held.to);
+    match held.load {
+        Load::Start => rows_needed(expr),
+        Load::Ask(_port) => rows_needed(expr),
+        Load::Tell(_port, _who) => Need::Nothing,
+    }
+}
+
+// Whether the hint is the one that the need asks for.
+fn meets(snapshot: &Snapshot, need: &Need, hint: &Hint) -> bool
+    ensures { IsTrue result ↔ (hint.now ≡ right_hint snapshot.now.vaults need.now) }
+{
+    match need {
+        Need::Rows(role) => match hint {
+            Hint::Rows(span) => *span == snapshot.find(role),
+            Hint::Nothing => false,
+        },
+        Need::Nothing => match hint {
+            Hint::Rows(_span) => false,
+            Hint::Nothing => true,
+        },
+    }
+}
+
+// Whether the hint is the one that the letter needs.
+pub(crate) fn hint_is_right(graph: &Graph, snapshot: &Snapshot, held: &Held, hint: &Hint) -> bool
+    requires { held.now.to < length graph.now.nodes }
+    ensures right { IsTrue result ↔ ((e : Expr) → IsNode graph.now held.now.to e → hint.now ≡ right_hint snapshot.now.vaults (need_of e held.now.load)) }
+    ensures ordered { IsOrdered snapshot.now.vaults }
+{
+    let _asker = snapshot.asker();
+    let need = needed(graph, held);
+    meets(snapshot, &need, hint)
+}

@@ -1,0 +1,27 @@
+//! One search for the members of a role, as a diffusing computation along the credential graph: letters ask and tell,
+//! signals end it. When nothing is outstanding, what was found is exactly what is derivable. A `Search` is seen as a
+//! `SearchState` (specs/Search.antt); what a receipt does is said row by row in specs/Answers.antt, what each finish does
+//! in specs/Finish.antt, and what a running search keeps in specs/Steady.antt.
+#![tactic(auto)]
+
+mod asking;
+mod findings;
+mod hearing;
+mod hints;
+mod letters;
+mod members;
+mod opening;
+mod outcomes;
+mod queries;
+mod receiving;
+mod searches;
+mod solving;
+mod stages;
+mod telling;
+
+pub use findings::{Findings, Monitor};
+pub use letters::Load;
+pub use outcomes::{Finished, Status};
+pub use queries::{Hint, Need, Query, Task};
+pub use searches::Search;
+pub use stages::Stage;

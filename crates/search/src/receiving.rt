@@ -1,0 +1,95 @@
+//! How a node receives a letter: what is found, and the letters that it sends.
+ghost use Rattle.std.specs.Prelude.{◌≡◌, ◌<◌, ◌↔◌, ℕ, List, [], length, IsTrue, IfOk, OnOk};
+ghost use Rattle.names.specs.declared.roles.Role.{Role};
+ghost use Rattle.credential_text.specs.declared.exprs.Expr.{Expr};
+ghost use Rattle.vaults.specs.Journal.{credentials};
+ghost use Rattle.cred_graph.specs.GraphState.{IsNode};
+ghost use Rattle.search.specs.Net.{Sent};
+ghost use Rattle.search.specs.Receipt.{Awaits};
+ghost use Rattle.search.specs.Answers.{progress, IsOpenAt, AnswersAsk, Answers};
+ghost use Rattle.search.specs.Need.{rows_for, need_of, right_hint};
+
+use crate::findings::Findings;
+use crate::hearing::hear_ask;
+use crate::letters::{Held, Load};
+use crate::opening::open;
+use crate::queries::Hint;
+use crate::telling::take_in;
+use cred_graph::{Graph, Port};
+use scholten_core::Parent;
+use snapshots::Snapshot;
+use std::alloc::{AllocError, Global};
+
+// Whether the node was asked before: the asked role's by the environment, any other by a listener.
+fn is_open(graph: &Graph, node: u64) -> bool
+    requires { node < length graph.now.nodes }
+    ensures { IsTrue result ↔ IsOpenAt graph.now node }
+{
+    node == 0 || graph.listeners(node) > 0
+}
+
+// The node that sent a letter.
+fn sender(from: Parent) -> u64
+    requires { (m : ℕ) × (from ≡ Parent.Node m) }
+    ensures { from ≡ Parent.Node result }
+{
+    match from {
+        Parent::Node(node) => node,
+        Parent::Environment => unreachable!(),
+        Parent::Neutral => unreachable!(),
+    }
+}
+
+// A node is asked on a port: at its first Ask it opens; then the asker listens to it.
+fn asked(
+    alloc: Global,
+    found: &mut Findings,
+    outs: &mut Vec<(u64, Load)>,
+    snapshot: &Snapshot,
+    node: u64,
+    asker: u64,
+    port: &Port,
+    hint: &Hint,
+) -> Result<(), AllocError>
+    requires node { node < length found.old.graph.nodes }
+    requires asker { asker < length found.old.graph.nodes }
+    requires hint { (e : Expr) → IsNode found.old.graph node e → hint.now ≡ right_hint snapshot.now.vaults (rows_for e) }
+    ensures { OnOk result (AnswersAsk snapshot.now.vaults (progress found.old.graph found.old.monitors.items outs.old.items) (progress found.new.graph found.new.monitors.items outs.new.items) node asker port.now) }
+{
+    if is_open(&found.graph, node) {
+        return hear_ask(found, outs, node, asker, port);
+    }
+    open(alloc, found, outs, snapshot, node, hint)?;
+    hear_ask(found, outs, node, asker, port)
+}
+
+// The receiver of the letter receives it, with what its finisher looked up, and answers what it sends.
+pub(crate) fn receive(
+    alloc: Global,
+    found: &mut Findings,
+    snapshot: &Snapshot,
+    held: &Held,
+    hint: &Hint,
+) -> Result<Vec<(u64, Load)>, AllocError>
+    requires awaits { (role : Role) × (rest : List Sent) × Awaits (credentials snapshot.now.vaults) role found.old.graph found.old.monitors.items rest held.now.from held.now.to held.now.load }
+    requires hint { (e : Expr) → IsNode found.old.graph held.now.to e → hint.now ≡ right_hint snapshot.now.vaults (need_of e held.now.load) }
+    ensures { IfOk result (λ outs. Answers snapshot.now.vaults (progress found.old.graph found.old.monitors.items []) (progress found.new.graph found.new.monitors.items outs.items) held.now.from held.now.to held.now.load) }
+{
+    let mut outs = Vec::new(alloc);
+    match held.load {
+        Load::Start => {
+            open(alloc, found, &mut outs, snapshot, held.to, hint)?;
+            Ok(outs)
+        }
+        Load::Ask(port) => {
+            let asker = sender(held.from);
+            asked(alloc, found, &mut outs, snapshot, held.to, asker, &port, hint)?;
+            Ok(outs)
+        }
+        Load::Tell(port, who) => {
+            let teller = sender(held.from);
+            take_in(alloc, found, &mut outs, held.to, teller, &port, who)?;
+            Ok(outs)
+        }
+    }
+}

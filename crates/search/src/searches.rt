@@ -1,0 +1,238 @@
+ghost use Rattle.std.specs.Prelude.{◌≡◌, ◌<◌, ◌↔◌, ℕ, true, false, None, Some, length, slice_get, IsTrue, IfOk, IfSome, OnErr, MatchOption};
+ghost use Rattle.std.specs.Arc.{arc_value};
+ghost use Rattle.credential_text.specs.declared.exprs.Expr.{Expr};
+ghost use Rattle.rt0_rules.specs.Membership.{AreMembers};
+ghost use Rattle.rt0_rules.specs.FixedPoint.{IsExact};
+ghost use Rattle.cred_graph.specs.GraphState.{GraphState, IsNode, Known};
+ghost use Rattle.scholten_core.specs.declared.letters.Letter.{Letter};
+ghost use Rattle.scholten_core.specs.Computation.{Computation};
+ghost use Rattle.search.specs.declared.letters.Load.{Load};
+ghost use Rattle.search.specs.Steady.{OwesRules};
+ghost use Rattle.search.specs.Finish.{StatusIs, AnswerIs};
+
+use crate::findings::{Findings, first_findings};
+use crate::hints::{hint_is_right, needed};
+use crate::letters::Load;
+use crate::members::solutions_in_order;
+use crate::outcomes::{Finished, Status};
+use crate::queries::{Hint, Need, Query, Task};
+use crate::receiving::receive;
+use crate::stages::{
+    Stage, deliver, held_letter, hold, send, signals_under_way, wait_again, waiting_letters,
+};
+use cred_graph::{Graph, Port};
+use names::Entity;
+use scholten_core::Diffusion;
+use snapshots::Snapshot;
+use std::alloc::{AllocError, Global};
+use std::marker::Model;
+use std::sync::Arc;
+
+/// One search, from its opening to its answer.
+#[derive(Drop)]
+pub struct Search {
+    query: Query,
+    work: u64,
+    snapshot: Arc<Snapshot>,
+    found: Findings,
+    stage: Stage,
+    alloc: Global,
+}
+
+impl Model for Search {
+    ghost use Rattle.std.specs.Arc.{arc_value};
+    ghost use Rattle.std.specs.Coded.{codes};
+    ghost use Rattle.search.specs.contracts.stages.Stage as running;
+    ghost use Rattle.search.specs.contracts.findings.Monitor as memory;
+    ghost use Rattle.search.specs.Search.{SearchState, IsKept};
+
+    ghost Value = { SearchState };
+
+    ghost coded = { Prim.hlevel (codes, running.the_row.coded, memory.the_row.coded) };
+
+    ghost view = { λ s. record { query = s.query; work = s.work; snapshot = arc_value s.snapshot; graph = s.found.graph; monitors = s.found.monitors.items; stage = s.stage } };
+
+    ghost invariant = { λ s. IsKept (record { query = s.query; work = s.work; snapshot = arc_value s.snapshot; graph = s.found.graph; monitors = s.found.monitors.items; stage = s.stage }) };
+}
+
+impl Search {
+    ghost use Rattle.search.specs.Search.{SearchState, IsNew, IsOutstanding, IsCompleted, rows_of, asked_role, net_of, SameQuestion};
+    ghost use Rattle.search.specs.Stage.{waiting_in, signals_in, held_in, stage_marked, Delivers};
+    ghost use Rattle.search.specs.Finish.{IsRightStatus, Takes, Finishes};
+
+    /// A search over the snapshot that may send so many letters. One letter, to the asked role, waits.
+    pub fn open(
+        alloc: Global,
+        snapshot: Arc<Snapshot>,
+        query: Query,
+        work: u64,
+    ) -> Result<Search, AllocError>
+        requires { 0 < work }
+        ensures { IfOk result (λ s. IsNew s query work (arc_value snapshot)) }
+    {
+        let found = first_findings(alloc, query.role())?;
+        let running = Diffusion::start(alloc, 0, Load::Start)?;
+        let _ports: Option<Port> = None;
+        Ok(Search {
+            query,
+            work,
+            snapshot,
+            found,
+            stage: Stage::Running(running),
+            alloc,
+        })
+    }
+
+    /// How many letters wait.
+    pub fn waiting(&self) -> u64
+        ensures { result ≡ length (waiting_in self.now.stage) }
+    {
+        waiting_letters(&self.stage)
+    }
+
+    /// How many signals are under way.
+    pub fn signals(&self) -> u64
+        ensures { result ≡ length (signals_in self.now.stage) }
+    {
+        signals_under_way(&self.stage)
+    }
+
+    /// What the search has come to.
+    pub fn status(&self) -> Status
+        ensures working { (result ≡ Status.Working) ↔ IsOutstanding self.now.stage }
+        ensures spent { (result ≡ Status.Spent) ↔ (self.now.stage ≡ Stage.Spent) }
+        ensures broken { (result ≡ Status.Broken) ↔ (self.now.stage ≡ Stage.Broken) }
+        ensures truth { IsCompleted self.now.stage → IsRightStatus (rows_of self.now) self.now.query result }
+        ensures exact { IsCompleted self.now.stage → IsExact (rows_of self.now) (asked_role self.now.query) (Known self.now.graph) }
+        ensures rules { (c : Computation Load) → self.now.stage ≡ Stage.Running c → OwesRules (rows_of self.now) (asked_role self.now.query) (net_of self.now.graph self.now.monitors c) }
+    {
+        let _work = self.work;
+        status_of(&self.stage, &self.found.graph, &self.query)
+    }
+
+    /// The members of the asked role, in order, each once. A completed search has them.
+    pub fn members(&self) -> Result<Vec<Entity>, AllocError>
+        requires { IsCompleted self.now.stage }
+        ensures { IfOk result (λ members. AreMembers (rows_of self.now) (asked_role self.now.query) members.items) }
+    {
+        solutions_in_order(self.alloc, &self.found.graph, 0)
+    }
+
+    /// Takes the waiting letter at that place, in order of sending, without the snapshot: its number, and what it
+    /// needs.
+    pub fn take_letter(&mut self, place: u64) -> Option<(u64, Need)>
+        ensures { MatchOption result ((slice_get (waiting_in self.old.stage) place ≡ None) × (self.new ≡ self.old)) (λ r. Takes self.old self.new place r.0 r.1) }
+    {
+        let Some((number, held)) = hold(&mut self.stage, place) else {
+            return None;
+        };
+        Some((number, needed(&self.found.graph, &held)))
+    }
+
+    /// Takes the waiting letter at that place, in order of sending. Want of memory changes nothing.
+    pub fn take(&mut self, place: u64) -> Result<Option<Task>, AllocError>
+        ensures none { IfOk result (λ r. r ≡ None → (slice_get (waiting_in self.old.stage) place ≡ None) × (self.new ≡ self.old)) }
+        ensures task { IfOk result (λ r. IfSome r (λ t. Takes self.old self.new place t.letter t.need)) }
+        ensures snapshot { IfOk result (λ r. IfSome r (λ t. arc_value t.snap ≡ self.old.snapshot)) }
+        ensures unchanged { OnErr result (self.new ≡ self.old) }
+    {
+        let snap = self.snapshot.clone()?;
+        let Some((letter, need)) = self.take_letter(place) else {
+            return Ok(None);
+        };
+        Ok(Some(Task { letter, need, snap }))
+    }
+
+    /// The held letter of that number waits again. False where it isn't held.
+    pub fn put_back(&mut self, letter: u64) -> bool
+        ensures held { result ≡ false → held_in self.old.stage letter ≡ None }
+        ensures unchanged { result ≡ false → self.new ≡ self.old }
+        ensures waits { result ≡ true → ((l : Letter Load) × (held_in self.old.stage letter ≡ Some l)) × (self.new ≡ record self.old { stage = stage_marked letter false self.old.stage }) }
+    {
+        let Some(_held) = held_letter(&self.stage, letter) else {
+            return false;
+        };
+        wait_again(&mut self.stage, letter);
+        true
+    }
+
+    /// Finishes the held letter of that number with what was looked up. Where a growth is refused the search is broken.
+    pub fn finish(&mut self, letter: u64, hint: Hint) -> Finished
+        ensures { Finishes self.old self.new letter hint result }
+    {
+        let Some(held) = held_letter(&self.stage, letter) else {
+            return Finished::NotHeld;
+        };
+        if !hint_is_right(&self.found.graph, &self.snapshot, &held, &hint) {
+            wait_again(&mut self.stage, letter);
+            return Finished::BadHint;
+        }
+        match receive(self.alloc, &mut self.found, &self.snapshot, &held, &hint) {
+            Ok(answers) => send(&mut self.stage, self.work, letter, answers),
+            Err(_refusal) => {
+                self.stage = Stage::Broken;
+                Finished::Broken
+            }
+        }
+    }
+
+    /// Delivers the signal at that place, the oldest first. False where there is none.
+    pub fn signal(&mut self, place: u64) -> bool
+        ensures delivered { Delivers self.old.stage self.new.stage place result }
+        ensures findings { (self.new.graph ≡ self.old.graph) × (self.new.monitors ≡ self.old.monitors) }
+        ensures question { SameQuestion self.old self.new }
+    {
+        deliver(&mut self.stage, place)
+    }
+
+    /// What the search is for.
+    pub fn query(&self) -> Query
+        ensures { result ≡ self.now.query }
+    {
+        self.query
+    }
+
+    /// What the search reads.
+    pub fn snapshot(&self) -> &Arc<Snapshot>
+        ensures { arc_value result.now ≡ self.now.snapshot }
+    {
+        &self.snapshot
+    }
+
+    /// What the search has found.
+    pub fn graph(&self) -> &Graph
+        ensures { result.now ≡ self.now.graph }
+    {
+        &self.found.graph
+    }
+}
+
+// What a search of this stage has come to, whose graph is this.
+fn status_of(stage: &Stage, graph: &Graph, query: &Query) -> Status
+    ensures { StatusIs stage.now graph.now query.now result }
+{
+    match stage {
+        Stage::Spent => Status::Spent,
+        Stage::Broken => Status::Broken,
+        Stage::Running(running) => {
+            if running.is_complete() {
+                answer(graph, query)
+            } else {
+                Status::Working
+            }
+        }
+    }
+}
+
+// The answer of a completed search.
+fn answer(graph: &Graph, query: &Query) -> Status
+    ensures { AnswerIs graph.now query.now result }
+{
+    match query {
+        Query::Who(_role) => Status::Members,
+        Query::Ask(_role, who) => match graph.reason(0, who) {
+            Some(_reason) => Status::Yes,
+            None => Status::No,
+        },
+    }
+}

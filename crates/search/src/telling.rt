@@ -1,0 +1,121 @@
+//! How a node takes in what it is told.
+ghost use Rattle.std.specs.Prelude.{◌≡◌, ◌<◌, ℕ, List, Some, length, slice_get, slice_set, IfOk, OnOk};
+ghost use Rattle.names.specs.declared.roles.Role.{Role};
+ghost use Rattle.credential_text.specs.declared.exprs.Expr.TheVariants as exprs;
+ghost use Rattle.cred_graph.specs.GraphState.{GraphState, IsNode};
+ghost use Rattle.cred_graph.specs.Reason.{Fits};
+ghost use Rattle.monitors.specs.LinkMonitor.{LinkTold};
+ghost use Rattle.monitors.specs.MeetMonitor.{MeetTold};
+ghost use Rattle.search.specs.Answers.{progress, BaseHeard, PartHeard, TellsLast, TellsBase, TellsPart, MayTakeIn, TakesIn};
+
+use crate::asking::ask;
+use crate::findings::{Findings, Monitor};
+use crate::letters::Load;
+use crate::solving::solve;
+use cred_graph::{Graph, Port, Reason};
+use credential_text::Expr;
+use names::{Entity, Role};
+use std::alloc::{AllocError, Global};
+
+// The monitor of a linked role hears a member of its base, and answers whether that is new.
+fn hear_base(monitors: &mut Vec<Monitor>, node: u64, base: Entity) -> Result<bool, AllocError>
+    requires { (x : LinkTold) × (slice_get monitors.old.items node ≡ Some (Monitor.Link x)) }
+    ensures { IfOk result (λ new. BaseHeard monitors.old.items monitors.new.items node base new) }
+{
+    match &mut monitors[node as usize] {
+        Monitor::Link(told) => told.base_told(base),
+        Monitor::Plain => unreachable!(),
+        Monitor::Meet(_told) => unreachable!(),
+    }
+}
+
+// The monitor of an intersection hears that a part told the entity, and answers whether it is the last.
+fn hear_part(
+    monitors: &mut Vec<Monitor>,
+    node: u64,
+    part: u8,
+    who: Entity,
+) -> Result<bool, AllocError>
+    requires { (x : MeetTold) × (slice_get monitors.old.items node ≡ Some (Monitor.Meet x)) × (part < x.parts) }
+    ensures { IfOk result (λ last. PartHeard monitors.old.items monitors.new.items node part who last) }
+{
+    match &mut monitors[node as usize] {
+        Monitor::Meet(told) => told.part_told(part, who),
+        Monitor::Plain => unreachable!(),
+        Monitor::Link(_told) => unreachable!(),
+    }
+}
+
+// The role that the member of its base gives to the linked role at the node.
+fn given_role(graph: &Graph, node: u64, base: Entity) -> Expr
+    requires { (r : Role) × (name : List ℕ) × IsNode graph.now node (exprs.Link r name) }
+    ensures { (r : Role) → (name : List ℕ) → IsNode graph.now node (exprs.Link r name) → result ≡ exprs.Rol (record { owner = base; name = name }) }
+{
+    match graph.expr(node) {
+        Expr::Link(_base, name) => Expr::Rol(Role {
+            owner: base,
+            name: *name,
+        }),
+        _ => unreachable!(),
+    }
+}
+
+// A linked role hears a member of its base; where that is new, it asks the member's role.
+fn told_base(
+    alloc: Global,
+    found: &mut Findings,
+    outs: &mut Vec<(u64, Load)>,
+    node: u64,
+    base: Entity,
+) -> Result<(), AllocError>
+    requires link { (r : Role) × (name : List ℕ) × IsNode found.old.graph node (exprs.Link r name) }
+    requires monitor { (x : LinkTold) × (slice_get found.old.monitors.items node ≡ Some (Monitor.Link x)) }
+    ensures { OnOk result (TellsBase (progress found.old.graph found.old.monitors.items outs.old.items) (progress found.new.graph found.new.monitors.items outs.new.items) node base) }
+{
+    if !hear_base(&mut found.monitors, node, base)? {
+        return Ok(());
+    }
+    let role = given_role(&found.graph, node, base);
+    ask(alloc, found, outs, &role, &Port::Via(base))
+}
+
+// An intersection hears that a part told the entity; with the last part it is a solution.
+fn told_part(
+    found: &mut Findings,
+    outs: &mut Vec<(u64, Load)>,
+    node: u64,
+    part: u8,
+    who: Entity,
+) -> Result<(), AllocError>
+    requires node { node < length found.old.graph.nodes }
+    requires monitor { (x : MeetTold) × (slice_get found.old.monitors.items node ≡ Some (Monitor.Meet x)) × (part < x.parts) }
+    requires last { TellsLast found.old.graph found.old.monitors.items node part who }
+    ensures { OnOk result (TellsPart (progress found.old.graph found.old.monitors.items outs.old.items) (progress found.new.graph found.new.monitors.items outs.new.items) node part who) }
+{
+    if !hear_part(&mut found.monitors, node, part, who)? {
+        return Ok(());
+    }
+    solve(found, outs, node, who, &Reason::Parts)
+}
+
+// The node is told on a port, by the node that it listens to, that the entity is a member.
+pub(crate) fn take_in(
+    alloc: Global,
+    found: &mut Findings,
+    outs: &mut Vec<(u64, Load)>,
+    node: u64,
+    from: u64,
+    port: &Port,
+    who: Entity,
+) -> Result<(), AllocError>
+    requires node { node < length found.old.graph.nodes }
+    requires may { MayTakeIn found.old.graph found.old.monitors.items node from port.now who }
+    ensures { OnOk result (TakesIn (progress found.old.graph found.old.monitors.items outs.old.items) (progress found.new.graph found.new.monitors.items outs.new.items) node from port.now who) }
+{
+    match port {
+        Port::Body => solve(found, outs, node, who, &Reason::Body(from)),
+        Port::Via(base) => solve(found, outs, node, who, &Reason::Via(*base)),
+        Port::Base => told_base(alloc, found, outs, node, who),
+        Port::Part(part) => told_part(found, outs, node, *part, who),
+    }
+}
