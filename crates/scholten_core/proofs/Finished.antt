@@ -23,7 +23,7 @@ use Rattle.scholten_core.proofs.Fields.{engagements_are, get-engagements}
 use Rattle.scholten_core.proofs.Lists.{filter-remove, sum_by-filter_number}
 use Rattle.scholten_core.proofs.Paid.{count_of}
 use Rattle.scholten_core.proofs.Same.{same_parent-self}
-use Rattle.scholten_core.proofs.Sent.{length-numbered, waiting-numbered}
+use Rattle.scholten_core.proofs.Sent.{length-numbered}
 use Rattle.scholten_core.proofs.Steps.{IsReceived, acknowledged, deficit-sends, engages, received, rest}
 use Rattle.scholten_core.proofs.Whole.{is_finished}
 

@@ -126,21 +126,6 @@ module _ {X : Type 0} where
   lookup_from_Contains low ls high k x rising (i, within, is) =
       lookup_at low ls high i k x rising (slice_get-get_or ls i (k, x) within ∙ ap Some is)
 
-  -- the first place that has a number has its entry
-  pub lookup_at_position : (low : ℕ) (ls : List (ℕ × X)) (high k i : ℕ) (y : ℕ × X) → IsNumbered low ls high → position (λ l. l.0 == k) ls ≡ Some i → y ≡ get_or ls i y → lookup (λ n. n == k) ls ≡ Some y.1
-  lookup_at_position low ls high k i y rising first is =
-      let passes = position-Some (λ (l : ℕ × X). l.0 == k) ls i y first in
-      let one = exact_unsigned_eq y.0 k (ap (λ (l : ℕ × X). l.0 == k) is ∙ passes.1) in
-      lookup_at low ls high i k y.1 rising (slice_get_read ls (length ls) i y refl passes.0 is ∙ ap Some (λ j. (one j, y.1)))
-
-  -- where no place has a number, no entry has it
-  pub lookup_nowhere : (k : ℕ) (ls : List (ℕ × X)) → position (λ l. l.0 == k) ls ≡ None → lookup (λ n. n == k) ls ≡ None
-  lookup_nowhere k ls nowhere =
-      elim (lookup (λ n. n == k) ls) as (λ o. lookup (λ n. n == k) ls ≡ o → o ≡ None) [
-        | None ↦ λ _. refl
-        | Some x ↦ λ found. absurd (none-some _ (sym nowhere ∙ (place_from_lookup k ls x found).2))
-      ] refl
-
 -- the entry of a number, where entries of that number are changed
 pub lookup-changed : {X : Type 0} (k : ℕ) (f : X → X) (ls : List (ℕ × X)) → lookup (λ n. n == k) (map (changed k f) ls) ≡ option_map f (lookup (λ n. n == k) ls)
 lookup-changed k f [] = refl
@@ -202,11 +187,3 @@ pub sum_by-map_same : {X : Type 0} (f : X → ℕ) (g : X → X) → ((x : X) �
 sum_by-map_same f g same [] = refl
 sum_by-map_same f g same (x ∷ xs) =
     omega (arith, sum_by-cons f (g x) (map g xs), sum_by-cons f x xs, same x, sum_by-map_same f g same xs)
-
--- the first element that passes a test, among those from a place on
-pub filter_first : {X : Type 0} (p : X → Bool) (xs : List X) (i : ℕ) (x : X) → i < length xs → x ≡ get_or xs i x → p x ≡ true → slice_get (filter p (drop i xs)) 0 ≡ slice_get xs i
-filter_first p xs i x within is passes =
-    let rest = filter p (drop (suc i) xs) in
-    ap (λ ys. slice_get (filter p ys) 0) (drop-cons xs i x within ∙ ap (λ y. y ∷ drop (suc i) xs) (sym is))
-    ∙ ap (λ b. slice_get (cond b (x ∷ rest) rest) 0) passes
-    ∙ sym (slice_get_read xs (length xs) i x refl within is)

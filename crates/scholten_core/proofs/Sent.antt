@@ -27,11 +27,6 @@ module _ {P : Type 0} (from : Parent) where
       let joined : cond {A = ℕ} (same_parent p from) 1 0 + cond (same_parent p from) (length outs) 0 ≡ cond (same_parent p from) (suc (length outs)) 0 = elim (same_parent p from) as (λ b. cond {A = ℕ} b 1 0 + cond b (length outs) 0 ≡ cond b (suc (length outs)) 0) [ true ↦ omega arith | false ↦ refl ] in
       omega (arith, first, rest, joined)
 
-  -- all of them wait
-  pub waiting-numbered : (k : ℕ) (outs : List (ℕ × P)) → filter (λ l. not l.1.held) (numbered from k outs) ≡ numbered from k outs
-  waiting-numbered k [] = refl
-  waiting-numbered k (o ∷ outs) = ap (λ ls. (k, record { from = from; to = o.0; held = false; load = o.1 }) ∷ ls) (waiting-numbered (k + 1) outs)
-
   -- one more letter takes the next number
   pub numbered_push : (k : ℕ) (outs : List (ℕ × P)) (o : ℕ × P) → numbered from k (outs ++ o ∷ []) ≡ numbered from k outs ++ (k + length outs, record { from = from; to = o.0; held = false; load = o.1 }) ∷ []
   numbered_push k [] o =

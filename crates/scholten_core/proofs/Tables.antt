@@ -13,15 +13,6 @@ use Rattle.scholten_core.proofs.Counts.{count-append, count-le-length, count-set
 use Rattle.scholten_core.proofs.Lists.{numbered-append, numbered-filter}
 use Rattle.scholten_core.proofs.Standing.{length-numbered_le, numbered-front, numbered-set_value, standing-append, standing-change}
 
-module _ {P : Type 0} where
-  -- all of the entries that an end cut off has
-  pub count-cut : (n : ℕ) (es : List (ℕ × Option (Letter P))) → count does_wait (take (min n (length es)) es) ≡ count does_wait (take n es)
-  count-cut n es =
-      either_way n (length es)
-      (λ less. let is : min n (length es) ≡ n = omega arith in ap (λ m. count does_wait (take m es)) is)
-      (λ more. let is : min n (length es) ≡ length es = omega arith in
-      ap (λ m. count does_wait (take m es)) is ∙ ap (count does_wait) (take_all (length es) es (omega arith) ∙ sym (take_all n es (omega arith))))
-
 module _ {P : Type 0} (sent waits holes first last : ℕ) (es : List (ℕ × Option (Letter P))) (is : IsTable sent waits holes first last es) where
   pub waits-le-sent : waits ≤ sent
   waits-le-sent =
@@ -36,8 +27,8 @@ module _ {P : Type 0} (sent waits holes first last : ℕ) (es : List (ℕ × Opt
   -- a letter is sent
   pub pushed : (l : Letter P) → l.held ≡ false → IsTable (sent + 1) (waits + 1) holes first (length (es ++ (sent + 1, Some l) ∷ [])) (es ++ (sent + 1, Some l) ∷ [])
   pushed l waiting =
-      let added = (sent + 1, Some l) ∷ [] in
-      let more = es ++ added in
+      let added : List (ℕ × Option (Letter P)) = (sent + 1, Some l) ∷ [] in
+      let more : List (ℕ × Option (Letter P)) = es ++ added in
       let counts : one (does_wait (Some l)) ≡ 1 = ap (λ b. one (not b)) waiting in
       let all : take (length more) more ≡ more = take_all (length more) more (omega arith) in
       record {

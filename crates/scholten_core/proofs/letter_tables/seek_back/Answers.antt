@@ -1,5 +1,5 @@
-use Rattle.std.proofs.Common.{◌≡◌, ◌+◌, ◌-◌, ap, subst, ◌∙◌, arith, sym, take}
-use Rattle.scholten_core.specs.LetterTable.{count, does_wait, one}
+use Rattle.std.proofs.Common.{◌-◌, ap, ◌∙◌, arith, sym}
+use Rattle.scholten_core.specs.LetterTable.{one}
 use Rattle.scholten_core.proofs.Counts.{count-back, waits_here}
 use Rattle.scholten_core.proofs.letter_tables.seek_back.Goals as goal
 

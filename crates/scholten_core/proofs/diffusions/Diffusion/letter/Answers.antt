@@ -1,4 +1,3 @@
-use Rattle.std.proofs.Common.{◌∙◌}
 use Rattle.scholten_core.proofs.Complete.{stand_by_number}
 use Rattle.scholten_core.proofs.diffusions.Diffusion.letter.Goals as goal
 

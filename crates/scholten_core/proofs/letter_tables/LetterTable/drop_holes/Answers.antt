@@ -1,4 +1,4 @@
-use Rattle.std.proofs.Common.{◌≡◌, filter, is_some, ap, sym, subst, ◌∙◌, arith, rules}
+use Rattle.std.proofs.Common.{◌≡◌, filter, is_some, arith, rules}
 use Rattle.std.proofs.lemmas.Map.Made.{filter_same_pairs}
 use Rattle.scholten_core.proofs.Counts.{standing-full}
 use Rattle.scholten_core.proofs.Tables.{dropped, holes-le-length}

@@ -1,6 +1,5 @@
-use Rattle.std.proofs.Common.{◌≡◌, ◌+◌, ◌++◌, ◌∷◌, [], Some, nat_eq, ap, sym, subst, ◌∙◌, arith}
+use Rattle.std.proofs.Common.{◌≡◌, ◌+◌, ◌++◌, ◌∷◌, [], Some, nat_eq, ◌∙◌, arith}
 use Rattle.indexmap.proofs.CallerLemmas.{insert_entry-new}
-use Rattle.scholten_core.specs.LetterTable.{standing}
 use Rattle.scholten_core.proofs.Standing.{absent, standing-append}
 use Rattle.scholten_core.proofs.Tables.{pushed, waits-le-sent}
 use Rattle.scholten_core.proofs.letter_tables.LetterTable.push.Given.{Over}
