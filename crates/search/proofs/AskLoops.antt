@@ -1,8 +1,7 @@
 -- What a loop that asks each expression of a list has asked so far.
-use Rattle.std.proofs.Common.{ℕ, zero, suc, ◌+◌, ◌<◌, ◌≤◌, ◌≡◌, ◌∙◌, inl, inr, refl, sym, subst, ap, List, [], ◌∷◌, ◌++◌, Some, length, map, take, slice_get, arith, add-one, length-append}
-use Rattle.std.proofs.lemmas.Option.{same_Some, slice_get-map}
+use Rattle.std.proofs.Common.{ℕ, zero, suc, ◌+◌, ◌≤◌, ◌≡◌, ◌∙◌, inl, inr, refl, sym, subst, ap, List, [], ◌∷◌, ◌++◌, Some, length, take, slice_get, arith, add-one}
+use Rattle.std.proofs.lemmas.Option.{same_Some}
 use Rattle.std.proofs.lemmas.List.{length_push}
-use Rattle.std.specs.Option.{option_map}
 use Rattle.credential_text.specs.declared.credentials.Credential.{Credential}
 use Rattle.credential_text.specs.declared.intersections.Part.{Part}
 use Rattle.credential_text.specs.declared.exprs.Expr.{Expr}
@@ -11,7 +10,7 @@ use Rattle.credential_text.specs.Expr.{part_expr}
 use Rattle.cred_graph.specs.declared.listeners.Port.{Port}
 use Rattle.cred_graph.specs.declared.listeners.Port.TheVariants as port
 use Rattle.cred_graph.specs.GraphState.{GraphState}
-use Rattle.search.specs.Answers.{Progress, AsksFor, AsksEach, Solves, Opens, row_asks, part_asks}
+use Rattle.search.specs.Answers.{Progress, AsksFor, AsksEach, Opens, row_asks, part_asks}
 
 take_more : {A : Type 0} (xs : List A) (k : ℕ) (x : A) → slice_get xs k ≡ Some x → take (suc k) xs ≡ take k xs ++ x ∷ []
 take_more [] k x at = cc

@@ -1,5 +1,5 @@
 -- What a running search keeps is kept by each step of its computation.
-use Rattle.std.proofs.Common.{ℕ, zero, suc, ◌+◌, ◌<◌, ◌≤◌, ◌==◌, ◌≡◌, ◌∙◌, ◌⊎◌, inl, inr, refl, sym, subst, ap, Bool, true, false, not, cond, List, [], ◌∷◌, ◌++◌, Some, Contains, length, filter, map, slice_get, arith}
+use Rattle.std.proofs.Common.{ℕ, suc, ◌+◌, ◌≤◌, ◌==◌, ◌≡◌, ◌∙◌, ◌⊎◌, inl, inr, refl, sym, subst, ap, Bool, true, false, not, cond, List, [], ◌∷◌, ◌++◌, Some, Contains, length, filter, map, arith}
 use Rattle.std.proofs.lemmas.Bool.{cases_eq, eqb-true, eq-eqb, false≢true}
 use Rattle.std.proofs.lemmas.Option.{same_Some}
 use Rattle.std.proofs.lemmas.List.{map-append, append-nil}
@@ -12,19 +12,18 @@ use Rattle.rt0_rules.proofs.Unknown.{Contains-map}
 use Rattle.vaults.specs.Journal.{Vault, credentials}
 use Rattle.snapshots.specs.Snapshot.{IsOrdered}
 use Rattle.cred_graph.specs.GraphState.{GraphState}
-use Rattle.scholten_core.specs.declared.parents.Parent.{Parent}
-use Rattle.scholten_core.specs.declared.parents.Parent.TheVariants.{Neutral, Environment, Node}
+use Rattle.scholten_core.specs.declared.parents.Parent.TheVariants.{Environment, Node}
 use Rattle.scholten_core.specs.declared.letters.Letter.{Letter}
 use Rattle.scholten_core.specs.Computation.{Computation, StandByNumber, letter_of}
-use Rattle.scholten_core.specs.Step.{marked, numbered, letters_after, answers}
+use Rattle.scholten_core.specs.Step.{marked, numbered, answers}
 use Rattle.scholten_core.specs.Call.{FinishesLetter, DeliversSignal}
 use Rattle.search.specs.declared.letters.Load.{Load}
 use Rattle.search.specs.declared.letters.Load.TheVariants as load
 use Rattle.search.specs.declared.findings.Monitor.{Monitor}
-use Rattle.search.specs.Net.{Net, Sent, plain, sent_of, sent_by}
+use Rattle.search.specs.Net.{Sent, plain, sent_of, sent_by}
 use Rattle.search.specs.Steady.{IsSteady}
-use Rattle.search.specs.Receipt.{Awaits, IsReceived}
-use Rattle.search.specs.Answers.{Progress, progress, net_at}
+use Rattle.search.specs.Receipt.{Awaits}
+use Rattle.search.specs.Answers.{Progress}
 use Rattle.search.specs.Search.{StartsAlone, KeptBy}
 use Rattle.search.proofs.Settled.{TakesOut, settled}
 use Rattle.search.proofs.Receive.{Receipt}

@@ -1,32 +1,29 @@
 -- The finish of a letter does to a search what its result says, and keeps what a search keeps.
-use Rattle.std.proofs.Common.{ℕ, ◌+◌, ◌<◌, ◌≤◌, ◌≡◌, ◌∙◌, refl, sym, subst, ap, Bool, true, false, List, [], Option, None, Some, length, get_or}
-use Rattle.vaults.specs.Journal.{Vault, credentials}
+use Rattle.std.proofs.Common.{ℕ, ◌+◌, ◌<◌, ◌≤◌, ◌≡◌, ◌∙◌, refl, sym, subst, ap, false, List, [], Some, length, get_or}
 use Rattle.snapshots.specs.Snapshot.{SnapshotState, IsOrdered}
 use Rattle.cred_graph.specs.GraphState.{GraphState, IsNode}
 use Rattle.credential_text.specs.declared.exprs.Expr.{Expr}
 use Rattle.credential_text.specs.declared.exprs.Expr.TheVariants.{Ent}
 use Rattle.std.proofs.lemmas.Option.{slice_get-get_or}
-use Rattle.scholten_core.specs.declared.letters.Letter.{Letter}
 use Rattle.scholten_core.specs.Computation.{Computation}
 use Rattle.scholten_core.specs.Call.{FinishesLetter}
 use Rattle.search.specs.declared.letters.Load.{Load}
 use Rattle.search.specs.declared.letters.Held.{Held}
 use Rattle.search.specs.declared.findings.Monitor.{Monitor}
 use Rattle.search.specs.declared.queries.Hint.{Hint}
-use Rattle.search.specs.declared.queries.Need.{Need}
 use Rattle.search.specs.declared.outcomes.Finished.{Finished}
 use Rattle.search.specs.declared.outcomes.Finished.TheVariants as finished
 use Rattle.search.specs.declared.stages.Stage.{Stage}
 use Rattle.search.specs.declared.stages.Stage.TheVariants as stage
 use Rattle.search.specs.Net.{sent_of}
-use Rattle.search.specs.Answers.{Progress, progress, Answers}
+use Rattle.search.specs.Answers.{progress, Answers}
 use Rattle.search.specs.Need.{need_of, right_hint}
 use Rattle.search.specs.Stage.{HoldsLetter, letter_in, held_in, if_held, stage_marked, Sends}
 use Rattle.search.specs.Search.{SearchState, SameQuestion, KeptBy, IsKept, asked_role, rows_of}
-use Rattle.search.specs.Finish.{Needs, IsRightly, Received, Exceeds, Finishes}
+use Rattle.search.specs.Finish.{IsRightly, Finishes}
 use Rattle.search.proofs.Grow.{one_expr}
 use Rattle.search.proofs.Receive.{receipt}
-use Rattle.search.proofs.Closing.{awaits_letter, done_kept}
+use Rattle.search.proofs.Closing.{done_kept}
 use Rattle.search.proofs.Searching.{held_awaits}
 use Rattle.search.proofs.Holding.{same_running}
 
@@ -96,7 +93,11 @@ pub wrongly : (s : SearchState) (number : ℕ) (hint : Hint) (h : Held) (view : 
     (((e : Expr) → IsNode s.graph h.to e → hint ≡ right_hint view.vaults (need_of e h.load)) → ⊥) → st ≡ stage_marked number false s.stage → Finishes s (record s { stage = st }) number hint finished.BadHint
 wrongly s number hint h view st same held node_in wrong is =
     let e : Expr = get_or s.graph.nodes h.to (Ent []) in
-    let at : IsNode s.graph h.to e = slice_get-get_or s.graph.nodes h.to (Ent []) node_in in
-    (letter_in h, need_of e h.load, held_letter_is s.stage number h held, (e, at, refl),
+    let at : IsNode s.graph h.to e = slice_get-get_or s.graph.nodes h.to (Ent []) node_in in (
+      letter_in h,
+      need_of e h.load,
+      held_letter_is s.stage number h held,
+      (e, at, refl),
       λ right. wrong (λ f there. subst (λ (x : Expr). hint ≡ right_hint view.vaults (need_of x h.load)) (one_expr s.graph h.to e f at there) (subst (λ (v : SnapshotState). hint ≡ right_hint v.vaults (need_of e h.load)) (sym same) right)),
-      ap (λ (x : Stage). record s { stage = x }) is)
+      ap (λ (x : Stage). record s { stage = x }) is,
+    )

@@ -1,5 +1,5 @@
 -- What is found and sent stays right, and what is paid stays paid, where more is found and sent.
-use Rattle.std.proofs.Common.{ℕ, zero, suc, ◌<◌, ◌≤◌, ◌≡◌, ◌∙◌, ◌⊎◌, inl, inr, sym, subst, List, [], ◌∷◌, Some, Contains, length, slice_get, arith}
+use Rattle.std.proofs.Common.{ℕ, zero, suc, ◌<◌, ◌≡◌, ◌∙◌, ◌⊎◌, inl, inr, sym, subst, List, [], ◌∷◌, Some, Contains, length, slice_get, arith}
 use Rattle.std.specs.List.{AllZip}
 use Rattle.std.proofs.lemmas.Option.{same_Some}
 use Rattle.names.specs.declared.roles.Role.{Role}
@@ -20,8 +20,7 @@ use Rattle.scholten_core.specs.declared.parents.Parent.{Parent}
 use Rattle.scholten_core.specs.declared.parents.Parent.TheVariants.{Neutral, Environment, Node}
 use Rattle.search.specs.declared.letters.Load.{Load}
 use Rattle.search.specs.declared.letters.Load.TheVariants as load
-use Rattle.search.specs.declared.findings.Monitor.{Monitor}
-use Rattle.search.specs.Net.{Net, Sent, HasListener, IsPendingStart, IsPendingAsk, IsPendingTell, IsBaseTold, IsPartTold, IsOpen, IsAsked, IsTaken, why_of}
+use Rattle.search.specs.Net.{Net, Sent, HasListener, IsPendingStart, IsPendingTell, IsBaseTold, IsPartTold, IsOpen, IsAsked, IsTaken}
 use Rattle.search.specs.Net.{AskFits, LetterFits, ByRow, SolutionFits, PartFits, OpenedPaid}
 use Rattle.search.specs.Steady.{MonitorFits, MonitorsFit, IsRight, IsPaid}
 

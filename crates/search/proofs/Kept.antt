@@ -1,5 +1,5 @@
 -- A search stays steady where a node is added, and where letters are.
-use Rattle.std.proofs.Common.{ℕ, ◌≡◌, ◌∙◌, ◌⊎◌, inl, inr, sym, subst, ap, false, true, List, [], ◌∷◌, ◌++◌, Some, Contains, IsTrue, length, map, slice_get}
+use Rattle.std.proofs.Common.{ℕ, ◌≡◌, ◌∙◌, ◌⊎◌, inl, inr, sym, subst, ap, List, [], ◌∷◌, ◌++◌, Contains, length}
 use Rattle.std.specs.FinSet as set
 use Rattle.std.proofs.lemmas.Slice.Zip.{all_zipped_more}
 use Rattle.std.proofs.lemmas.List.{map-append}
@@ -12,21 +12,21 @@ use Rattle.credential_text.specs.declared.exprs.Expr.TheVariants.{Ent, Rol, Link
 use Rattle.credential_text.specs.Expr.{HasPartsInRange}
 use Rattle.rt0_rules.specs.Asks.{Demanded}
 use Rattle.rt0_rules.proofs.Elements.{Contains-none}
-use Rattle.rt0_rules.proofs.Distinct.{IsMapped, mapped}
+use Rattle.rt0_rules.proofs.Distinct.{mapped}
 use Rattle.cred_graph.specs.declared.listeners.Listening.{Listening}
-use Rattle.cred_graph.specs.GraphState.{GraphState, IsNode, Listens, listed_at}
+use Rattle.cred_graph.specs.GraphState.{GraphState, Listens}
 use Rattle.cred_graph.proofs.Lists.{slice_get_stays, slice_get_push_cases}
 use Rattle.cred_graph.proofs.Growth.{with_node, graph_with_node, listed_at-pushed}
 use Rattle.monitors.specs.LinkMonitor.{LinkTold}
 use Rattle.monitors.specs.MeetMonitor.{MeetTold, HasTold, told_order}
-use Rattle.scholten_core.specs.declared.parents.Parent.TheVariants.{Neutral, Environment, Node}
+use Rattle.scholten_core.specs.declared.parents.Parent.TheVariants.{Environment, Node}
 use Rattle.search.specs.declared.letters.Load.{Load}
 use Rattle.search.specs.declared.letters.Load.TheVariants as load
 use Rattle.search.specs.declared.findings.Monitor.{Monitor}
 use Rattle.search.specs.declared.findings.Monitor.TheVariants as monitor
-use Rattle.search.specs.Net.{Net, Sent, sent_by, IsPendingStart, IsBaseTold, IsPartTold, LetterFits}
-use Rattle.search.specs.Steady.{MonitorFits, IsRight, IsPaid, IsSteady}
-use Rattle.search.specs.Answers.{Progress, net_at, new_monitor}
+use Rattle.search.specs.Net.{Net, Sent, sent_by, IsBaseTold, IsPartTold, LetterFits}
+use Rattle.search.specs.Steady.{MonitorFits, IsSteady}
+use Rattle.search.specs.Answers.{new_monitor}
 use Rattle.search.proofs.Grow.{Grows, AddsRightly, AddsPaid, grown_right, grown_paid}
 
 pub steady_grown : {rows : List Credential} {asked : Role} {old new : Net} → Grows old new → IsSteady rows asked old → AddsRightly rows asked old new → AddsPaid rows old new → IsSteady rows asked new

@@ -1,5 +1,5 @@
 -- What a loop that sends one letter for each element of a list has sent so far.
-use Rattle.std.proofs.Common.{ℕ, zero, suc, ◌+◌, ◌<◌, ◌≡◌, ◌∙◌, sym, ap, subst, List, [], ◌∷◌, ◌++◌, Some, map, take, slice_get, append_assoc, add-one}
+use Rattle.std.proofs.Common.{ℕ, zero, suc, ◌+◌, ◌≡◌, ◌∙◌, sym, ap, List, [], ◌∷◌, ◌++◌, Some, map, take, slice_get, append_assoc, add-one}
 use Rattle.std.proofs.lemmas.Option.{same_Some}
 
 -- one more element of the list is taken

@@ -1,5 +1,5 @@
 -- What a steady search has found and sent is what the rules call for, or a letter that is under way.
-use Rattle.std.proofs.Common.{ℕ, zero, suc, ◌+◌, ◌<◌, ◌≡◌, ◌⊎◌, inl, inr, refl, sym, subst, List, [], ◌∷◌, ◌++◌, Some, Contains, length, map, slice_get, arith}
+use Rattle.std.proofs.Common.{ℕ, zero, suc, ◌+◌, ◌<◌, ◌≡◌, ◌⊎◌, inl, inr, refl, subst, List, [], ◌∷◌, Some, Contains, length, map, slice_get, arith}
 use Rattle.std.specs.List.{AllByRecursion}
 use Rattle.names.specs.declared.roles.Role.{Role}
 use Rattle.credential_text.specs.declared.credentials.Credential.{Credential}
@@ -8,16 +8,14 @@ use Rattle.credential_text.specs.declared.exprs.Expr.{Expr}
 use Rattle.credential_text.specs.declared.exprs.Expr.TheVariants.{Ent, Rol, Link, Meet}
 use Rattle.credential_text.specs.Expr.{part_expr}
 use Rattle.rt0_rules.specs.Derivation.{Derives}
-use Rattle.rt0_rules.specs.Asks.{Why, for_body, for_base, for_via, for_part, Asks, asks_body, asks_base, asks_via, asks_part}
-use Rattle.rt0_rules.specs.FixedPoint.{Follows, by_leaf, by_credential, by_link, by_meet, RulesAreOwed}
+use Rattle.rt0_rules.specs.Asks.{Why, Asks, asks_body, asks_base, asks_via, asks_part}
+use Rattle.rt0_rules.specs.FixedPoint.{Follows, by_leaf, by_credential, by_link, by_meet}
 use Rattle.rt0_rules.proofs.Elements.{Contains-first, Contains-later}
 use Rattle.cred_graph.specs.declared.listeners.Port.{Port}
 use Rattle.cred_graph.specs.declared.listeners.Port.TheVariants as port
-use Rattle.cred_graph.specs.GraphState.{GraphState, IsNode, IsSolution, Known}
-use Rattle.scholten_core.specs.declared.parents.Parent.TheVariants.{Neutral, Environment, Node}
-use Rattle.search.specs.declared.letters.Load.{Load}
+use Rattle.cred_graph.specs.GraphState.{IsNode, IsSolution, Known}
 use Rattle.search.specs.declared.letters.Load.TheVariants as load
-use Rattle.search.specs.Net.{Net, why_of, HasListener, IsPendingStart, IsPendingAsk, IsPendingTell, IsBaseTold, IsPartTold, IsOpen, IsAsked, IsTaken, ListensFor, IsOpenExpr, IsPendingBetween}
+use Rattle.search.specs.Net.{Net, why_of, IsPartTold, IsOpen, IsAsked, IsTaken, ListensFor, IsOpenExpr, IsPendingBetween}
 use Rattle.search.specs.Steady.{IsRight, IsPaid, OwesRules}
 use Rattle.search.proofs.Grow.{one_expr}
 
@@ -74,7 +72,7 @@ module _ (rows : List Credential) (asked : Role) (net : Net) (right : IsRight ro
   parts_owed m parts who node i (p ∷ ps) asked all =
       let here : IsAsked net m (port.Part i) (part_expr p) = subst (λ (j : ℕ). IsAsked net m (port.Part j) (part_expr p)) (omega arith) (asked 0 p refl) in
       let later : (k : ℕ) (q : Part) → slice_get ps k ≡ Some q → IsAsked net m (port.Part ((i + 1) + k)) (part_expr q) =
-          λ k q at. subst (λ (j : ℕ). IsAsked net m (port.Part j) (part_expr q)) (omega arith) (asked (suc k) q at) in
+      λ k q at. subst (λ (j : ℕ). IsAsked net m (port.Part j) (part_expr q)) (omega arith) (asked (suc k) q at) in
       elim (told_owed m (Meet parts) (port.Part i) (part_expr p) who node here all.0) [
         | inr pending ↦ inr (part_expr p, Contains-first (part_expr p) (map part_expr ps), pending)
         | inl told ↦ elim (parts_owed m parts who node (i + 1) ps later all.1) [

@@ -1,5 +1,5 @@
 -- The receipt of a letter keeps a search steady, and pays the letter.
-use Rattle.std.proofs.Common.{ℕ, zero, suc, ◌+◌, ◌<◌, ◌≤◌, ◌≡◌, ◌∙◌, ◌⊎◌, inl, inr, refl, sym, subst, ap, List, [], ◌∷◌, ◌++◌, Some, Contains, length, get_or, slice_get, arith}
+use Rattle.std.proofs.Common.{ℕ, ◌<◌, ◌≡◌, inl, inr, sym, subst, List, [], ◌++◌, Contains, length, get_or}
 use Rattle.std.proofs.lemmas.Option.{slice_get_within}
 use Rattle.std.proofs.lemmas.List.Elements.{Contains-get_or, Contains-append_left, Contains-append_cases}
 use Rattle.rt0_rules.proofs.Elements.{Contains-none}
@@ -16,13 +16,13 @@ use Rattle.scholten_core.specs.declared.parents.Parent.TheVariants.{Neutral, Env
 use Rattle.search.specs.declared.letters.Load.{Load}
 use Rattle.search.specs.declared.letters.Load.TheVariants as load
 use Rattle.search.specs.declared.findings.Monitor.{Monitor}
-use Rattle.search.specs.Net.{Net, Sent, IsPendingStart, HasListener, IsOpen, LetterFits, AskFits, OpenedPaid}
+use Rattle.search.specs.Net.{Net, Sent, LetterFits, OpenedPaid}
 use Rattle.search.specs.Steady.{IsRight, IsSteady}
 use Rattle.search.specs.Receipt.{Awaits, IsReceived}
-use Rattle.search.specs.Answers.{Progress, progress, net_at, HearsAsk, TakesIn, Opens, IsOpenAt, own_rows, AnswersAsk, Answers, MayTakeIn}
-use Rattle.search.proofs.Grow.{open_node, one_expr, asked_stays, opened_stays, ask_fits_stays}
-use Rattle.search.proofs.Steps.{Moves, Opened, Heard, RowsFor, opens, hears, stays}
-use Rattle.search.proofs.Taken.{TakenIn, IsTold, takes_in, may_take_in}
+use Rattle.search.specs.Answers.{Progress, progress, net_at, HearsAsk, TakesIn, Opens, IsOpenAt, own_rows, AnswersAsk, Answers}
+use Rattle.search.proofs.Grow.{one_expr, ask_fits_stays}
+use Rattle.search.proofs.Steps.{RowsFor, opens, hears}
+use Rattle.search.proofs.Taken.{IsTold, takes_in}
 use Rattle.search.proofs.Rows.{role_rows_are}
 
 pub own_rows_are : (view : List Vault) (e : Expr) → IsOrdered view → RowsFor (credentials view) e (own_rows view e)
@@ -99,7 +99,7 @@ module _ (view : List Vault) (asked : Role) (rest : List Sent) (ordered : IsOrde
       let fits = awaited_fits awaits in
       let first = opens (credentials view) asked rest to (own_rows view fits.1) (progress g ms []) mid fits.1 fits.3 (opening fits.1 fits.3) (own_rows_are view fits.1 ordered) awaits.steady in
       let done = hears (credentials view) asked rest to mid t m p heard first.moves.steady (ask_fits_stays first.moves.grows m p to fits)
-          (λ e at. subst (OpenedPaid (credentials view) (net_at mid rest to) to) (one_expr mid.graph to fits.1 e (first.moves.grows.nodes to fits.1 fits.3) at) first.paid) in
+      (λ e at. subst (OpenedPaid (credentials view) (net_at mid rest to) to) (one_expr mid.graph to fits.1 e (first.moves.grows.nodes to fits.1 fits.3) at) first.paid) in
       record { steady = done.moves.steady; received = done.listener }
 
   takes_letter : (g : GraphState) (ms : List Monitor) (t : Progress) (m to : ℕ) (p : Port) (who : List ℕ) → (awaits : Awaits (credentials view) asked g ms rest (Node m) to (load.Tell p who)) →

@@ -1,11 +1,10 @@
 -- The rows of a role are the credentials of the view with that head.
-use Rattle.std.proofs.Common.{ℕ, ◌+◌, ◌≡◌, ◌∙◌, ◌⊎◌, inl, inr, refl, sym, subst, ap, Bool, true, false, List, [], ◌∷◌, ◌++◌, All, Contains, length, filter, arith}
+use Rattle.std.proofs.Common.{◌+◌, ◌≡◌, ◌∙◌, ◌⊎◌, inl, inr, refl, sym, subst, ap, true, false, List, [], ◌∷◌, Contains, length, filter, arith}
 use Rattle.std.specs.declared.cmp.Ordering.{Ordering}
 use Rattle.std.specs.declared.cmp.Ordering.TheVariants.{Less, Equal, Greater}
 use Rattle.std.specs.Ordering.{is_eq, is_lt, is_le}
 use Rattle.std.proofs.lemmas.List.Elements.{All-contains, Contains-append_left, Contains-append_right, Contains-append_cases}
 use Rattle.names.specs.declared.roles.Role.{Role}
-use Rattle.names.specs.Name.{name_order}
 use Rattle.names.specs.Role.{role_order}
 use Rattle.names.proofs.OrderLemmas.{names_in_order, roles_in_order}
 use Rattle.credential_text.specs.declared.credentials.Credential.{Credential}
@@ -54,6 +53,7 @@ role_rows_are view r ordered c = (from, to)
         let held = of_credentials (filter (is_owned r.owner) view) c kept.0 in
         let vault = filtered (is_owned r.owner) view held.vault held.there in
         (in_credentials view held.vault c vault.0 held.among, (roles_in_order.tied c.head r).0 (is_eq_Equal (role_order c.head r) kept.1))
+
     to : Contains (credentials view) c × (c.head ≡ r) → Contains (role_rows view r) c
     to (among, head) =
         let held = of_credentials view c among in

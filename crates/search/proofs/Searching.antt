@@ -1,12 +1,10 @@
 -- What a search keeps gives its status, and is kept by its calls.
-use Rattle.std.proofs.Common.{ℕ, zero, suc, ◌+◌, ◌<◌, ◌≤◌, ◌↔◌, ◌≡◌, ◌∙◌, ◌⊎◌, inl, inr, refl, sym, subst, ap, Bool, true, false, not, List, [], ◌∷◌, ◌++◌, Some, Contains, length, slice_get, arith}
-use Rattle.std.specs.FinMap as fin
+use Rattle.std.proofs.Common.{ℕ, zero, suc, ◌<◌, ◌↔◌, ◌≡◌, ◌∙◌, inl, inr, refl, sym, subst, ap, Bool, true, false, not, List, [], ◌∷◌, Some, Contains, length, slice_get, arith}
 use Rattle.std.proofs.lemmas.Option.{same_Some, slice_get_within}
 use Rattle.names.specs.declared.roles.Role.{Role}
 use Rattle.credential_text.specs.declared.credentials.Credential.{Credential}
 use Rattle.credential_text.specs.declared.exprs.Expr.{Expr}
-use Rattle.credential_text.specs.declared.exprs.Expr.TheVariants.{Ent, Rol, Link, Meet}
-use Rattle.rt0_rules.specs.Derivation.{Derives}
+use Rattle.credential_text.specs.declared.exprs.Expr.TheVariants.{Rol, Meet}
 use Rattle.rt0_rules.specs.Membership.{IsMember}
 use Rattle.rt0_rules.specs.Asks.{Demanded, asked_role as asked_itself}
 use Rattle.rt0_rules.specs.FixedPoint.{IsExact}
@@ -15,12 +13,10 @@ use Rattle.rt0_rules.proofs.Elements.{Contains-none, Contains-first, Contains-co
 use Rattle.rt0_rules.proofs.Distinct.{filtered}
 use Rattle.rt0_rules.proofs.Unknown.{Contains-map}
 use Rattle.cred_graph.proofs.Lists.{Contains-at_place}
-use Rattle.vaults.specs.Journal.{Vault, credentials}
 use Rattle.cred_graph.specs.declared.listeners.Port.{Port}
 use Rattle.cred_graph.specs.GraphState.{GraphState, IsNode, IsSolution, Known, Listens, members_of, empty_graph}
 use Rattle.cred_graph.specs.Graph.{IsGraph, NodeGiven}
-use Rattle.scholten_core.specs.declared.parents.Parent.{Parent}
-use Rattle.scholten_core.specs.declared.parents.Parent.TheVariants.{Neutral, Environment, Node}
+use Rattle.scholten_core.specs.declared.parents.Parent.TheVariants.{Environment}
 use Rattle.scholten_core.specs.declared.letters.Letter.{Letter}
 use Rattle.scholten_core.specs.Computation.{Computation, outstanding, waiting}
 use Rattle.scholten_core.specs.Step.{started, marked}
@@ -35,11 +31,11 @@ use Rattle.search.specs.declared.outcomes.Status.{Status}
 use Rattle.search.specs.declared.outcomes.Status.TheVariants as status
 use Rattle.search.specs.declared.stages.Stage.{Stage}
 use Rattle.search.specs.declared.stages.Stage.TheVariants as stage
-use Rattle.search.specs.Net.{Net, Sent, plain, sent_of, IsPendingStart, IsPendingBetween, IsOpen, LetterFits}
-use Rattle.search.specs.Steady.{IsRight, IsPaid, IsSteady, OwesRules}
+use Rattle.search.specs.Net.{Net, Sent, plain, sent_of, IsPendingBetween, IsOpen, LetterFits}
+use Rattle.search.specs.Steady.{IsRight, IsPaid, OwesRules}
 use Rattle.search.specs.Receipt.{Awaits}
 use Rattle.search.specs.Stage.{HoldsLetter, Holds, letter_in, stage_marked, waiting_in, Delivers}
-use Rattle.search.specs.Search.{SearchState, KeptBy, IsKept, StartsAlone, IsOutstanding, IsCompleted, asked_role, rows_of, net_of}
+use Rattle.search.specs.Search.{SearchState, KeptBy, IsKept, IsCompleted, asked_role, rows_of, net_of}
 use Rattle.search.specs.Finish.{AnswerIs, StatusIs, IsRightStatus}
 use Rattle.search.proofs.Owed.{owes_rules}
 use Rattle.search.proofs.Solve.{solution_of_member, member_of_solution}
@@ -217,8 +213,9 @@ completed_root s stage.Spent runs kept completed = absurd completed
 completed_root s stage.Broken runs kept completed = absurd completed
 
 pub completed_members : (s : SearchState) (st : Stage) → s.stage ≡ st → IsKept s → IsCompleted st → (d : List ℕ) → Contains (members_of s.graph 0) d ↔ IsMember (rows_of s) d (asked_role s.query)
-completed_members s (stage.Running c) runs kept completed d =
-    (λ among. found_member (rows_of s) (asked_role s.query) s.work s.graph s.monitors c (kept c runs) d completed (solution_of_member s.graph 0 d among),
-      λ member. member_of_solution s.graph 0 d (member_found (rows_of s) (asked_role s.query) s.work s.graph s.monitors c (kept c runs) d completed member))
+completed_members s (stage.Running c) runs kept completed d = (
+  λ among. found_member (rows_of s) (asked_role s.query) s.work s.graph s.monitors c (kept c runs) d completed (solution_of_member s.graph 0 d among),
+  λ member. member_of_solution s.graph 0 d (member_found (rows_of s) (asked_role s.query) s.work s.graph s.monitors c (kept c runs) d completed member),
+)
 completed_members s stage.Spent runs kept completed d = absurd completed
 completed_members s stage.Broken runs kept completed d = absurd completed

@@ -12,8 +12,8 @@ use Rattle.scholten_core.specs.declared.parents.Parent.TheVariants.{Neutral, Env
 use Rattle.search.specs.declared.letters.Load.{Load}
 use Rattle.search.specs.declared.letters.Load.TheVariants as load
 use Rattle.search.specs.declared.findings.Monitor.{Monitor}
-use Rattle.search.specs.Net.{Net, Sent, HasListener, IsPendingStart, IsOpen, IsAsked, IsTaken, OpenedPaid}
-use Rattle.search.specs.Steady.{IsRight, IsPaid, IsSteady}
+use Rattle.search.specs.Net.{Net, Sent, IsPendingStart, IsOpen, IsAsked, OpenedPaid}
+use Rattle.search.specs.Steady.{IsPaid, IsSteady}
 use Rattle.search.specs.Receipt.{IsReceived}
 
 abbrev with_pending : GraphState → List Monitor → List Sent → Net

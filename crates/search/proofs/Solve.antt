@@ -1,28 +1,28 @@
 -- A search stays steady where a node has a new solution and tells its listeners, and where a node hears an Ask.
-use Rattle.std.proofs.Common.{ℕ, ◌<◌, ◌≡◌, ◌∙◌, ◌⊎◌, inl, inr, sym, subst, ap, refl, true, ◌==◌, List, [], ◌∷◌, ◌++◌, Some, Contains, length, map, filter, slice_get, arith}
+use Rattle.std.proofs.Common.{ℕ, ◌<◌, ◌≡◌, ◌∙◌, ◌⊎◌, inl, inr, sym, subst, ap, refl, ◌==◌, List, [], ◌∷◌, ◌++◌, Contains, length, filter}
 use Rattle.std.proofs.lemmas.List.Elements.{Contains-append_left, Contains-push, Contains-push_cases}
 use Rattle.std.proofs.lemmas.Bool.{eqb-true, eq-eqb}
 use Rattle.std.proofs.lemmas.List.{get_or-set_same}
 use Rattle.names.specs.declared.roles.Role.{Role}
 use Rattle.credential_text.specs.declared.credentials.Credential.{Credential}
 use Rattle.credential_text.specs.declared.exprs.Expr.{Expr}
-use Rattle.rt0_rules.proofs.Distinct.{IsMapped, mapped, filtered, kept_by}
+use Rattle.rt0_rules.proofs.Distinct.{mapped, filtered, kept_by}
 use Rattle.rt0_rules.proofs.Unknown.{Contains-map}
 use Rattle.cred_graph.specs.declared.listeners.Port.{Port}
 use Rattle.cred_graph.specs.declared.listeners.Listening.{Listening}
 use Rattle.cred_graph.specs.declared.solutions.Reason.{Reason}
 use Rattle.cred_graph.specs.declared.solutions.Solution.{Solution}
-use Rattle.cred_graph.specs.GraphState.{GraphState, IsNode, IsSolution, Listens, listed_at, listed_with, listeners_of, members_of}
+use Rattle.cred_graph.specs.GraphState.{GraphState, IsNode, IsSolution, Listens, listed_at, listeners_of, members_of}
 use Rattle.cred_graph.specs.Reason.{Fits}
 use Rattle.cred_graph.proofs.Growth.{with_solution, with_listener, graph_with_solution, graph_with_listener, listed_with_cases}
-use Rattle.scholten_core.specs.declared.parents.Parent.TheVariants.{Neutral, Environment, Node}
+use Rattle.scholten_core.specs.declared.parents.Parent.TheVariants.{Node}
 use Rattle.search.specs.declared.letters.Load.{Load}
 use Rattle.search.specs.declared.letters.Load.TheVariants as load
 use Rattle.search.specs.declared.findings.Monitor.{Monitor}
 use Rattle.search.specs.Net.{Net, Sent, sent_by, HasListener, LetterFits, SolutionFits, AskFits, OpenedPaid}
-use Rattle.search.specs.Steady.{IsRight, IsPaid, IsSteady}
+use Rattle.search.specs.Steady.{IsSteady}
 use Rattle.search.specs.Answers.{new_tells, known_tells}
-use Rattle.search.proofs.Grow.{Grows, AddsRightly, AddsPaid, solution_fits_stays, ask_fits_stays, opened_stays}
+use Rattle.search.proofs.Grow.{Grows, solution_fits_stays, ask_fits_stays, opened_stays}
 use Rattle.search.proofs.Kept.{steady_grown, pending_on, pending_new, pending_cases, start_before}
 
 -- the members of a node are its solutions

@@ -1,25 +1,24 @@
 -- The steps by which a node answers a letter keep a search steady.
-use Rattle.std.proofs.Common.{ℕ, zero, suc, ◌+◌, ◌<◌, ◌↔◌, ◌≡◌, ◌∙◌, ◌⊎◌, inl, inr, refl, sym, subst, ap, List, [], ◌∷◌, ◌++◌, Some, Contains, length, map, slice_get, arith}
+use Rattle.std.proofs.Common.{ℕ, zero, suc, ◌+◌, ◌<◌, ◌↔◌, ◌≡◌, ◌∙◌, inl, inr, refl, sym, subst, ap, List, [], ◌∷◌, ◌++◌, Some, Contains, length, map, slice_get, arith}
 use Rattle.std.proofs.lemmas.Option.{slice_get_within, same_Some}
-use Rattle.std.proofs.lemmas.List.Elements.{Contains-push, Contains-push_cases}
+use Rattle.std.proofs.lemmas.List.Elements.{Contains-push}
 use Rattle.names.specs.declared.roles.Role.{Role}
 use Rattle.credential_text.specs.declared.credentials.Credential.{Credential}
 use Rattle.credential_text.specs.declared.intersections.Part.{Part}
 use Rattle.credential_text.specs.declared.exprs.Expr.{Expr}
 use Rattle.credential_text.specs.declared.exprs.Expr.TheVariants.{Ent, Rol, Link, Meet}
 use Rattle.credential_text.specs.Expr.{part_expr, HasPartsInRange}
-use Rattle.rt0_rules.specs.Derivation.{Derives, leaf}
-use Rattle.rt0_rules.specs.Asks.{Why, Asks, asks_body, asks_base, asks_part, Demanded, asked_by}
+use Rattle.rt0_rules.specs.Derivation.{leaf}
+use Rattle.rt0_rules.specs.Asks.{Asks, asks_body, asks_base, asks_part, Demanded, asked_by}
 use Rattle.rt0_rules.proofs.Elements.{Contains-none, Contains-first, Contains-later, Contains-cons_cases}
-use Rattle.rt0_rules.proofs.Distinct.{IsMapped, mapped}
+use Rattle.rt0_rules.proofs.Distinct.{mapped}
 use Rattle.rt0_rules.proofs.Unknown.{Contains-map}
 use Rattle.cred_graph.specs.declared.listeners.Port.{Port}
 use Rattle.cred_graph.specs.declared.listeners.Port.TheVariants as port
-use Rattle.cred_graph.specs.declared.listeners.Listening.{Listening}
 use Rattle.cred_graph.specs.declared.solutions.Reason.{Reason}
 use Rattle.cred_graph.specs.declared.solutions.Reason.TheVariants as reason
 use Rattle.cred_graph.specs.declared.solutions.Solution.{Solution}
-use Rattle.cred_graph.specs.GraphState.{GraphState, IsNode, IsSolution, Known, Listens, listed_at}
+use Rattle.cred_graph.specs.GraphState.{GraphState, IsNode, IsSolution, Known, Listens}
 use Rattle.cred_graph.specs.Reason.{Fits}
 use Rattle.cred_graph.proofs.Lists.{slice_get_pushed}
 use Rattle.cred_graph.proofs.Growth.{with_node, with_listener}
@@ -28,7 +27,7 @@ use Rattle.search.specs.declared.letters.Load.{Load}
 use Rattle.search.specs.declared.letters.Load.TheVariants as load
 use Rattle.search.specs.declared.findings.Monitor.{Monitor}
 use Rattle.search.specs.Net.{Net, Sent, sent_by, why_of, HasListener, IsAsked, AskFits, LetterFits, SolutionFits, OpenedPaid}
-use Rattle.search.specs.Steady.{IsRight, IsPaid, IsSteady}
+use Rattle.search.specs.Steady.{IsSteady}
 use Rattle.search.specs.Answers.{Progress, progress, net_at, new_monitor, AsksFor, AsksEach, Solves, HearsAsk, part_asks, Opens, new_tells, known_tells}
 use Rattle.search.proofs.Grow.{Grows, known_stays, asks_more, asked_stays}
 use Rattle.search.proofs.Kept.{node_grows, node_steady, letters_grow, letters_steady, pending_new}
@@ -190,7 +189,7 @@ module _ (rows : List Credential) (asked : Role) (rest : List Sent) (node : ℕ)
   asks_each (w ∷ ws) s t d (mid, here, later) steady asker asks =
       let first = asks_for s mid w.0 w.1 d here steady asker (asks w.0 w.1 (Contains-first w ws)) in
       let others = asks_each ws mid t d later first.moves.steady (first.moves.grows.nodes node d asker)
-          (λ e p among. asks_more (known_stays first.moves.grows) (asks e p (Contains-later w ws (e, p) among))) in
+      (λ e p among. asks_more (known_stays first.moves.grows) (asks e p (Contains-later w ws (e, p) among))) in
       record {
         moves = moves_on s mid t first.moves others.moves;
         asked_now = λ e p among. elim (Contains-cons_cases w ws (e, p) among) [
@@ -274,16 +273,16 @@ module _ (rows : List Credential) (asked : Role) (rest : List Sent) (node : ℕ)
   opens own s t (Rol r) at step are steady = opens_role own s t r at step are steady
   opens own s t (Link r n) at step are steady =
       let each = asks_each ((Rol r, port.Base) ∷ []) s t (Link r n) step steady at (λ e p among.
-          elim (Contains-cons_cases (Rol r, port.Base) [] (e, p) among) [
-            | inl same ↦ subst (λ (w : Expr × Port). Asks rows (Known s.graph) (Link r n) (why_of w.1) w.0) same (asks_base r n)
-            | inr none ↦ absurd (Contains-none (e, p) none)
-          ]) in
+      elim (Contains-cons_cases (Rol r, port.Base) [] (e, p) among) [
+        | inl same ↦ subst (λ (w : Expr × Port). Asks rows (Known s.graph) (Link r n) (why_of w.1) w.0) same (asks_base r n)
+        | inr none ↦ absurd (Contains-none (e, p) none)
+      ]) in
       record { moves = each.moves; paid = each.asked_now (Rol r) port.Base (Contains-first (Rol r, port.Base) []) }
   opens own s t (Meet parts) at step are steady =
       let each = asks_each (part_asks 0 parts) s t (Meet parts) step steady at (λ e p among.
-          let part = part_asked 0 parts e p refl among in
-          let ask : Asks rows (Known s.graph) (Meet parts) (why_of (port.Part part.place)) (part_expr part.part) = asks_part part.place part.part part.at in
-          subst (λ (w : Port). Asks rows (Known s.graph) (Meet parts) (why_of w) e) (sym part.port_is) (subst (λ (f : Expr). Asks rows (Known s.graph) (Meet parts) (why_of (port.Part part.place)) f) (sym part.expr_is) ask)) in
+      let part = part_asked 0 parts e p refl among in
+      let ask : Asks rows (Known s.graph) (Meet parts) (why_of (port.Part part.place)) (part_expr part.part) = asks_part part.place part.part part.at in
+      subst (λ (w : Port). Asks rows (Known s.graph) (Meet parts) (why_of w) e) (sym part.port_is) (subst (λ (f : Expr). Asks rows (Known s.graph) (Meet parts) (why_of (port.Part part.place)) f) (sym part.expr_is) ask)) in
       record {
         moves = each.moves;
         paid = λ i p place. each.asked_now (part_expr p) (port.Part i) (all_parts_asked 0 parts i p i (omega arith) place);

@@ -1,37 +1,35 @@
 -- A search stays steady where a node takes in what it was told.
-use Rattle.std.proofs.Common.{ℕ, zero, suc, ◌+◌, ◌<◌, ◌≤◌, ◌≡◌, ◌∙◌, ◌⊎◌, inl, inr, refl, sym, subst, ap, Bool, true, false, List, [], ◌∷◌, ◌++◌, All, Some, Contains, IsTrue, length, set, get_or, slice_get, arith}
+use Rattle.std.proofs.Common.{ℕ, zero, suc, ◌<◌, ◌≤◌, ◌≡◌, ◌∙◌, inl, inr, refl, sym, subst, ap, true, false, List, [], ◌∷◌, ◌++◌, Some, Contains, length, set, get_or, slice_get, arith}
 use Rattle.std.specs.FinSet as fin
 use Rattle.std.proofs.lemmas.Bool.{cases_Bool, false≢true}
-use Rattle.std.proofs.lemmas.Option.{same_Some, slice_get_within, slice_get-get_or, get_or_from_slice_get}
+use Rattle.std.proofs.lemmas.Option.{same_Some, slice_get_within, slice_get-get_or}
 use Rattle.names.specs.declared.roles.Role.{Role}
 use Rattle.credential_text.specs.declared.credentials.Credential.{Credential}
 use Rattle.credential_text.specs.declared.intersections.Part.{Part}
 use Rattle.credential_text.specs.declared.exprs.Expr.{Expr}
-use Rattle.credential_text.specs.declared.exprs.Expr.TheVariants.{Ent, Rol, Link, Meet}
+use Rattle.credential_text.specs.declared.exprs.Expr.TheVariants.{Rol, Link, Meet}
 use Rattle.credential_text.specs.Expr.{part_expr}
 use Rattle.rt0_rules.specs.Derivation.{Derives, DerivesEach, credential, link, meet, last, more}
 use Rattle.rt0_rules.specs.Asks.{Why, for_body, for_base, for_via, for_part, Asks, asks_body, asks_base, asks_via, asks_part}
 use Rattle.cred_graph.specs.declared.listeners.Port.{Port}
 use Rattle.cred_graph.specs.declared.listeners.Port.TheVariants as port
-use Rattle.cred_graph.specs.declared.solutions.Reason.{Reason}
 use Rattle.cred_graph.specs.declared.solutions.Reason.TheVariants as reason
-use Rattle.cred_graph.specs.declared.solutions.Solution.{Solution}
 use Rattle.cred_graph.specs.GraphState.{GraphState, IsNode, IsSolution, Known}
 use Rattle.cred_graph.specs.Reason.{Fits}
 use Rattle.cred_graph.proofs.Lists.{slice_get_stays}
 use Rattle.monitors.specs.LinkMonitor.{LinkTold, HearsBase}
-use Rattle.monitors.specs.MeetMonitor.{MeetTold, HasTold, AllTold, HearsPart, with_tell}
+use Rattle.monitors.specs.MeetMonitor.{MeetTold, HasTold, AllTold, with_tell}
 use Rattle.search.specs.declared.letters.Load.{Load}
 use Rattle.search.specs.declared.letters.Load.TheVariants as load
 use Rattle.search.specs.declared.findings.Monitor.{Monitor}
 use Rattle.search.specs.declared.findings.Monitor.TheVariants as monitor
-use Rattle.search.specs.Net.{Net, Sent, sent_by, why_of, HasListener, IsBaseTold, IsPartTold, IsAsked, IsTaken, AskFits, SolutionFits, PartFits}
-use Rattle.search.specs.Steady.{MonitorFits, IsRight, IsPaid, IsSteady}
-use Rattle.search.specs.Answers.{Progress, progress, net_at, new_monitor, AsksFor, Solves, BaseHeard, TellsBase, PartHeard, TellsPart, TakesIn, TellsLast, MayTakeIn}
-use Rattle.search.proofs.Grow.{Grows, zip_right, zip_left, one_expr, part_fits_stays}
-use Rattle.search.proofs.Told.{set_same, tell_cases, base_grows, base_taken, base_steady, part_grows, part_taken, part_steady, same_link, same_meet}
+use Rattle.search.specs.Net.{Net, Sent, sent_by, IsAsked, IsTaken, AskFits, SolutionFits, PartFits}
+use Rattle.search.specs.Steady.{MonitorFits, IsSteady}
+use Rattle.search.specs.Answers.{Progress, progress, net_at, new_monitor, AsksFor, TellsBase, TellsPart, TakesIn, TellsLast, MayTakeIn}
+use Rattle.search.proofs.Grow.{zip_right, one_expr, part_fits_stays}
+use Rattle.search.proofs.Told.{tell_cases, base_grows, base_taken, base_steady, part_grows, part_taken, part_steady}
 use Rattle.search.proofs.Owed.{sound}
-use Rattle.search.proofs.Steps.{Moves, Solved, Asked, asks_for, solves, stays, same_net, grows_on, moves_on, progress_is}
+use Rattle.search.proofs.Steps.{Moves, Asked, asks_for, solves, stays, grows_on, progress_is}
 
 -- why one expression asks another on a port
 pub data BodyAsk (C : List Credential) : Expr → Expr → Type 0 where
@@ -301,8 +299,11 @@ module _ (rows : List Credential) (asked : Role) (rest : List Sent) (node m : �
       (λ all. elim (cases_Bool (fin.contains x.told (i, who))) [
         | inl before ↦
             let count = parts_count fits.parts x fits.node heard.2 in
-            steady.paid.met node fits.parts who fits.node (λ j below. (x, heard.2,
-                elim (tell_cases x i j who who (all j (subst (λ (n : ℕ). j < n) (sym count) below))) [ inl told ↦ told | inr here ↦ subst (λ (k : ℕ). HasTold x k who) (sym here.0) before ]))
+            steady.paid.met node fits.parts who fits.node (λ j below. (
+              x,
+              heard.2,
+              elim (tell_cases x i j who who (all j (subst (λ (n : ℕ). j < n) (sym count) below))) [ inl told ↦ told | inr here ↦ subst (λ (k : ℕ). HasTold x k who) (sym here.0) before ],
+            ))
         | inr absent ↦
             let now = heard.3.1.1 (subst (λ (y : MeetTold). AllTold y who) (sym y_is) all, λ there. false≢true (sym absent ∙ there)) in
             absurd (false≢true (sym later ∙ now))

@@ -1,5 +1,5 @@
 -- A search stays steady where a linked role hears a member of its base, and where an intersection hears a part.
-use Rattle.std.proofs.Common.{ℕ, zero, suc, ◌+◌, ◌<◌, ◌≡◌, ◌≢◌, ◌∙◌, ◌⊎◌, inl, inr, sym, subst, ap, refl, Bool, true, false, ◌||◌, List, [], ◌∷◌, ◌++◌, Some, Contains, IsTrue, length, set, slice_get, arith}
+use Rattle.std.proofs.Common.{ℕ, zero, suc, ◌<◌, ◌≡◌, ◌∙◌, ◌⊎◌, inl, inr, sym, subst, ap, refl, Bool, true, false, ◌||◌, List, [], ◌∷◌, ◌++◌, Some, Contains, length, set, slice_get}
 use Rattle.std.specs.List.{AllZip}
 use Rattle.std.specs.Ordering.{eq_by_cmp}
 use Rattle.std.specs.FinSet as fin
@@ -21,8 +21,8 @@ use Rattle.monitors.proofs.MeetLemmas.{told_order_total, told_order_tied}
 use Rattle.search.specs.declared.findings.Monitor.{Monitor}
 use Rattle.search.specs.declared.findings.Monitor.TheVariants as monitor
 use Rattle.search.specs.Net.{Net, Sent, IsBaseTold, IsPartTold, IsAsked, PartFits}
-use Rattle.search.specs.Steady.{MonitorFits, MonitorsFit, IsRight, IsSteady}
-use Rattle.search.proofs.Grow.{Grows, AddsRightly, AddsPaid, part_fits_stays, asked_stays, zip_right, zip_left, one_expr}
+use Rattle.search.specs.Steady.{MonitorFits, MonitorsFit, IsSteady}
+use Rattle.search.proofs.Grow.{Grows, part_fits_stays, asked_stays, zip_left, one_expr}
 use Rattle.search.proofs.Kept.{steady_grown}
 
 -- a list where one place is written
@@ -79,10 +79,11 @@ module _ (rows : List Credential) (asked : Role) (g : GraphState) (ms : List Mon
       elim (cases_eq m node) [
         | inl same ↦
             let here : slice_get ms node ≡ Some (monitor.Link y) = subst (λ (k : ℕ). slice_get ms k ≡ Some (monitor.Link y)) same there in
-            let is : y ≡ x = same_link y x (same_Some (monitor.Link y) (monitor.Link x) (sym here ∙ at)) in
-            (told_link,
+            let is : y ≡ x = same_link y x (same_Some (monitor.Link y) (monitor.Link x) (sym here ∙ at)) in (
+              told_link,
               subst (λ (k : ℕ). slice_get (set ms node (monitor.Link told_link)) k ≡ Some (monitor.Link told_link)) (sym same) (set_same ms node (monitor.Link x) (monitor.Link told_link) at),
-              Contains-append_left x.bases (base ∷ []) b (subst (λ (z : LinkTold). Contains z.bases b) is among))
+              Contains-append_left x.bases (base ∷ []) b (subst (λ (z : LinkTold). Contains z.bases b) is among),
+            )
         | inr other ↦ (y, set_other ms node m (monitor.Link told_link) other ∙ there, among)
       ]
 
@@ -210,10 +211,11 @@ module _ (rows : List Credential) (asked : Role) (g : GraphState) (ms : List Mon
   parts_on : (m j : ℕ) (w : List ℕ) → IsPartTold unheard m j w → IsPartTold heard m j w
   parts_on m j w (y, there, told) =
       elim (cases_eq m node) [
-        | inl same ↦
-            (told_meet,
-              subst (λ (k : ℕ). slice_get (set ms node (monitor.Meet told_meet)) k ≡ Some (monitor.Meet told_meet)) (sym same) (set_same ms node (monitor.Meet x) (monitor.Meet told_meet) at),
-              tell_on x i j who w (subst (λ (z : MeetTold). HasTold z j w) (meet_at m y same there) told))
+        | inl same ↦ (
+          told_meet,
+          subst (λ (k : ℕ). slice_get (set ms node (monitor.Meet told_meet)) k ≡ Some (monitor.Meet told_meet)) (sym same) (set_same ms node (monitor.Meet x) (monitor.Meet told_meet) at),
+          tell_on x i j who w (subst (λ (z : MeetTold). HasTold z j w) (meet_at m y same there) told),
+        )
         | inr other ↦ (y, set_other ms node m (monitor.Meet told_meet) other ∙ there, told)
       ]
 

@@ -1,5 +1,6 @@
 -- How a node answers a letter: what it finds, and what it sends.
-use Rattle.std.specs.Prelude.{ℕ, ◌+◌, ◌<◌, Bool, true, false, List, [], ◌∷◌, ◌++◌, ◌≡◌, ◌⊎◌, Some, Contains, length, map, slice_get, slice_set}
+use Rattle.std.specs.Prelude.{ℕ, ◌+◌, ◌<◌, Bool, true, false, List, [], ◌∷◌, ◌++◌, ◌≡◌, ◌⊎◌, Some}
+use Rattle.std.specs.Prelude.{Contains, length, map, slice_get, slice_set}
 use Rattle.std.specs.FinSet as set
 use Rattle.names.specs.declared.roles.Role.{Role}
 use Rattle.credential_text.specs.declared.credentials.Credential.{Credential}
@@ -9,7 +10,6 @@ use Rattle.credential_text.specs.declared.exprs.Expr.TheVariants.{Ent, Rol, Link
 use Rattle.credential_text.specs.Expr.{part_expr, HasPartsInRange}
 use Rattle.cred_graph.specs.declared.listeners.Port.{Port}
 use Rattle.cred_graph.specs.declared.listeners.Port.TheVariants as port
-use Rattle.cred_graph.specs.declared.listeners.Listening.{Listening}
 use Rattle.cred_graph.specs.declared.solutions.Reason.{Reason}
 use Rattle.cred_graph.specs.declared.solutions.Reason.TheVariants as reason
 use Rattle.cred_graph.specs.Reason.{Fits}
@@ -17,7 +17,7 @@ use Rattle.cred_graph.specs.GraphState.{GraphState, IsNode, IsSolution, Listens,
 use Rattle.monitors.specs.LinkMonitor.{LinkTold, HearsBase}
 use Rattle.monitors.specs.MeetMonitor.{MeetTold, HearsPart, AllTold, with_tell}
 use Rattle.scholten_core.specs.declared.parents.Parent.{Parent}
-use Rattle.scholten_core.specs.declared.parents.Parent.TheVariants.{Neutral, Environment, Node}
+use Rattle.scholten_core.specs.declared.parents.Parent.TheVariants.{Environment, Node}
 use Rattle.vaults.specs.Journal.{Vault}
 use Rattle.snapshots.specs.Span.{role_rows}
 use Rattle.search.specs.declared.letters.Load.{Load}
@@ -51,9 +51,9 @@ abbrev pub AsksFor : Progress → Progress → Expr → Port → Type 0
 AsksFor s t e p =
     (to : ℕ) × (t.outs ≡ s.outs ++ (to, load.Ask p) ∷ [])
     × ((IsNode s.graph to e × (t.graph ≡ s.graph) × (t.monitors ≡ s.monitors))
-      ⊎ ((Contains s.graph.nodes e → ⊥) × HasPartsInRange e × (to ≡ length s.graph.nodes)
-        × (t.graph ≡ record s.graph { nodes = s.graph.nodes ++ e ∷ []; listeners = s.graph.listeners ++ [] ∷ [] })
-        × (t.monitors ≡ s.monitors ++ new_monitor e ∷ [])))
+    ⊎ ((Contains s.graph.nodes e → ⊥) × HasPartsInRange e × (to ≡ length s.graph.nodes)
+    × (t.graph ≡ record s.graph { nodes = s.graph.nodes ++ e ∷ []; listeners = s.graph.listeners ++ [] ∷ [] })
+    × (t.monitors ≡ s.monitors ++ new_monitor e ∷ [])))
 
 -- these expressions are asked in turn
 abbrev pub AsksEach : Progress → List (Expr × Port) → Progress → Type 0
@@ -69,9 +69,9 @@ abbrev pub Solves : Progress → Progress → ℕ → List ℕ → Reason → Ty
 Solves s t n who why =
     (t.monitors ≡ s.monitors)
     × ((IsSolution s.graph n who × (t.graph ≡ s.graph) × (t.outs ≡ s.outs))
-      ⊎ ((IsSolution s.graph n who → ⊥)
-        × (t.graph ≡ record s.graph { solutions = s.graph.solutions ++ record { node = n; who = who; reason = why } ∷ [] })
-        × (t.outs ≡ s.outs ++ new_tells s.graph n who)))
+    ⊎ ((IsSolution s.graph n who → ⊥)
+    × (t.graph ≡ record s.graph { solutions = s.graph.solutions ++ record { node = n; who = who; reason = why } ∷ [] })
+    × (t.outs ≡ s.outs ++ new_tells s.graph n who)))
 
 -- a Tell to the asker for each solution that the node has
 abbrev pub known_tells : GraphState → ℕ → ℕ → Port → List (ℕ × Load)
@@ -82,9 +82,9 @@ abbrev pub HearsAsk : Progress → Progress → ℕ → ℕ → Port → Type 0
 HearsAsk s t n m p =
     (t.monitors ≡ s.monitors)
     × ((Listens s.graph n (record { asker = m; port = p }) × (t.graph ≡ s.graph) × (t.outs ≡ s.outs))
-      ⊎ ((Listens s.graph n (record { asker = m; port = p }) → ⊥)
-        × (t.graph ≡ record s.graph { listeners = listed_with s.graph.listeners n (record { asker = m; port = p }) })
-        × (t.outs ≡ s.outs ++ known_tells s.graph n m p)))
+    ⊎ ((Listens s.graph n (record { asker = m; port = p }) → ⊥)
+    × (t.graph ≡ record s.graph { listeners = listed_with s.graph.listeners n (record { asker = m; port = p }) })
+    × (t.outs ≡ s.outs ++ known_tells s.graph n m p)))
 
 -- the monitor of a linked role hears a member of its base, and the answer says whether that is new
 abbrev pub BaseHeard : List Monitor → List Monitor → ℕ → List ℕ → Bool → Type 0
@@ -96,8 +96,8 @@ abbrev pub TellsBase : Progress → Progress → ℕ → List ℕ → Type 0
 TellsBase s t node base =
     (r : Role) × (name : List ℕ) × IsNode s.graph node (Link r name)
     × ((new : Bool) × (ms : List Monitor) × BaseHeard s.monitors ms node base new
-      × (((new ≡ false) × (t ≡ record s { monitors = ms }))
-        ⊎ ((new ≡ true) × AsksFor (record s { monitors = ms }) t (Rol (record { owner = base; name = name })) (port.Via base))))
+    × (((new ≡ false) × (t ≡ record s { monitors = ms }))
+    ⊎ ((new ≡ true) × AsksFor (record s { monitors = ms }) t (Rol (record { owner = base; name = name })) (port.Via base))))
 
 -- the monitor of an intersection hears that a part told an entity, and the answer says whether it is the last
 abbrev pub PartHeard : List Monitor → List Monitor → ℕ → ℕ → List ℕ → Bool → Type 0
@@ -109,7 +109,7 @@ abbrev pub TellsPart : Progress → Progress → ℕ → ℕ → List ℕ → Ty
 TellsPart s t node i who =
     (last : Bool) × (ms : List Monitor) × PartHeard s.monitors ms node i who last
     × (((last ≡ false) × (t ≡ record s { monitors = ms }))
-      ⊎ ((last ≡ true) × Solves (record s { monitors = ms }) t node who reason.Parts))
+    ⊎ ((last ≡ true) × Solves (record s { monitors = ms }) t node who reason.Parts))
 
 -- a node takes in what the node m told it on a port
 abbrev pub TakesIn : Progress → Progress → ℕ → ℕ → Port → List ℕ → Type 0
@@ -163,7 +163,8 @@ own_rows view (Meet parts) = []
 abbrev pub AnswersAsk : List Vault → Progress → Progress → ℕ → ℕ → Port → Type 0
 AnswersAsk view s t n m p =
     (mid : Progress)
-    × ((IsOpenAt s.graph n × (mid ≡ s)) ⊎ ((IsOpenAt s.graph n → ⊥) × ((e : Expr) → IsNode s.graph n e → Opens (own_rows view e) s mid n e)))
+    × ((IsOpenAt s.graph n × (mid ≡ s))
+    ⊎ ((IsOpenAt s.graph n → ⊥) × ((e : Expr) → IsNode s.graph n e → Opens (own_rows view e) s mid n e)))
     × HearsAsk mid t n m p
 
 -- how a node answers a letter from this sender: the environment's opens it

@@ -1,7 +1,6 @@
 -- What the calls of a search do to it.
-use Rattle.std.specs.Prelude.{ℕ, ◌+◌, ◌<◌, ◌≤◌, Bool, true, false, List, [], ◌≡◌, ◌⊎◌, Option, Some, None, length, slice_get}
+use Rattle.std.specs.Prelude.{ℕ, ◌+◌, ◌<◌, ◌≤◌, true, false, List, [], ◌≡◌, ◌⊎◌, Some, None, length, slice_get}
 use Rattle.credential_text.specs.declared.exprs.Expr.{Expr}
-use Rattle.credential_text.specs.declared.exprs.Expr.TheVariants.{Rol}
 use Rattle.rt0_rules.specs.Membership.{IsMember}
 use Rattle.credential_text.specs.declared.credentials.Credential.{Credential}
 use Rattle.cred_graph.specs.GraphState.{GraphState, IsNode, IsSolution}
@@ -43,7 +42,8 @@ AnswerIs g (query.Who role) _ = ⊥
 
 -- what a search has come to, by where it stands
 abbrev pub StatusIs : Stage → GraphState → Query → Status → Type 0
-StatusIs (stage.Running c) g q result = ((outstanding c ≡ 0) × IsSound c × AnswerIs g q result) ⊎ ((outstanding c ≡ 0 → ⊥) × (result ≡ status.Working))
+StatusIs (stage.Running c) g q result =
+    ((outstanding c ≡ 0) × IsSound c × AnswerIs g q result) ⊎ ((outstanding c ≡ 0 → ⊥) × (result ≡ status.Working))
 StatusIs stage.Spent g q result = result ≡ status.Spent
 StatusIs stage.Broken g q result = result ≡ status.Broken
 
@@ -89,5 +89,6 @@ Finishes s t number hint finished.BadHint =
     (l : Letter Load) × (need : Need) × (held_in s.stage number ≡ Some l) × Needs s l need × (hint ≡ right_hint s.snapshot.vaults need → ⊥)
     × (t ≡ record s { stage = stage_marked number false s.stage })
 Finishes s t number hint finished.Done = (l : Letter Load) × IsRightly s number hint l × Received s t number l × SameQuestion s t
-Finishes s t number hint finished.Spent = (l : Letter Load) × IsRightly s number hint l × Exceeds s l × (t.stage ≡ stage.Spent) × SameQuestion s t
+Finishes s t number hint finished.Spent =
+    (l : Letter Load) × IsRightly s number hint l × Exceeds s l × (t.stage ≡ stage.Spent) × SameQuestion s t
 Finishes s t number hint finished.Broken = (l : Letter Load) × IsRightly s number hint l × (t.stage ≡ stage.Broken) × SameQuestion s t

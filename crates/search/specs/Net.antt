@@ -1,6 +1,5 @@
 -- What a search has found, what is under way, and how the two stand to the rules.
-use Rattle.std.specs.Prelude.{ℕ, List, ◌≡◌, ◌⊎◌, Some, Contains, map, length, slice_get}
-use Rattle.names.specs.declared.roles.Role.{Role}
+use Rattle.std.specs.Prelude.{ℕ, List, ◌≡◌, ◌⊎◌, Some, Contains, map, slice_get}
 use Rattle.credential_text.specs.declared.credentials.Credential.{Credential}
 use Rattle.credential_text.specs.declared.intersections.Part.{Part}
 use Rattle.credential_text.specs.declared.exprs.Expr.{Expr}
@@ -17,7 +16,7 @@ use Rattle.cred_graph.specs.GraphState.{GraphState, IsNode, IsSolution, Known, L
 use Rattle.monitors.specs.LinkMonitor.{LinkTold}
 use Rattle.monitors.specs.MeetMonitor.{MeetTold, HasTold}
 use Rattle.scholten_core.specs.declared.parents.Parent.{Parent}
-use Rattle.scholten_core.specs.declared.parents.Parent.TheVariants.{Neutral, Environment, Node}
+use Rattle.scholten_core.specs.declared.parents.Parent.TheVariants.{Environment, Node}
 use Rattle.scholten_core.specs.declared.letters.Letter.{Letter}
 use Rattle.search.specs.declared.letters.Load.{Load}
 use Rattle.search.specs.declared.letters.Load.TheVariants as load
@@ -142,4 +141,6 @@ IsOpenExpr net e = (n : ℕ) × IsNode net.graph n e × IsOpen net n
 abbrev pub IsPendingBetween : Net → Expr → Expr → Type 0
 IsPendingBetween net e f =
     (m n : ℕ) × IsNode net.graph m e × IsNode net.graph n f
-    × ((l : Load) × (Contains net.pending (record { from = Node m; to = n; load = l }) ⊎ Contains net.pending (record { from = Node n; to = m; load = l })))
+    × ((l : Load)
+    × (Contains net.pending (record { from = Node m; to = n; load = l })
+    ⊎ Contains net.pending (record { from = Node n; to = m; load = l })))

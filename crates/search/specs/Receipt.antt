@@ -5,7 +5,7 @@ use Rattle.credential_text.specs.declared.credentials.Credential.{Credential}
 use Rattle.credential_text.specs.declared.exprs.Expr.{Expr}
 use Rattle.cred_graph.specs.GraphState.{GraphState, IsNode}
 use Rattle.scholten_core.specs.declared.parents.Parent.{Parent}
-use Rattle.scholten_core.specs.declared.parents.Parent.TheVariants.{Neutral, Environment, Node}
+use Rattle.scholten_core.specs.declared.parents.Parent.TheVariants.{Environment, Node}
 use Rattle.search.specs.declared.letters.Load.{Load}
 use Rattle.search.specs.declared.letters.Load.TheVariants as load
 use Rattle.search.specs.declared.findings.Monitor.{Monitor}
@@ -21,7 +21,8 @@ IsReceived rows net (Node n) to (load.Tell p who) = IsTaken net to p who
 IsReceived rows net _ to _ = ⊥
 
 -- a letter among those under way is to be received: the environment's is the only one
-pub record Awaits (rows : List Credential) (asked : Role) (g : GraphState) (ms : List Monitor) (rest : List Sent) (from : Parent) (to : ℕ) (l : Load) : Type 0 where
+pub record Awaits (rows : List Credential) (asked : Role) (g : GraphState) (ms : List Monitor) (rest : List Sent)
+    (from : Parent) (to : ℕ) (l : Load) : Type 0 where
   pub there : Contains rest (record { from = from; to = to; load = l })
   pub alone : (l ≡ load.Start → ⊥) → (n : ℕ) → Contains rest (record { from = Environment; to = n; load = load.Start }) → ⊥
   pub steady : IsSteady rows asked (net_at (progress g ms []) rest to)

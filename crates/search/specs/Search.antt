@@ -1,17 +1,15 @@
 -- A search, by its parts, and what it keeps while it runs.
-use Rattle.std.specs.Prelude.{ℕ, ◌+◌, ◌<◌, ◌≤◌, Bool, true, false, List, [], ◌∷◌, ◌≡◌, Option, Some, None, Contains, length, slice_get, if◌then◌else◌, option_and_then}
-use Rattle.std.specs.FinMap as fin
+use Rattle.std.specs.Prelude.{ℕ, ◌≤◌, List, [], ◌∷◌, ◌≡◌, Contains, length}
 use Rattle.names.specs.declared.roles.Role.{Role}
 use Rattle.credential_text.specs.declared.credentials.Credential.{Credential}
 use Rattle.credential_text.specs.declared.exprs.Expr.TheVariants.{Rol}
 use Rattle.vaults.specs.Journal.{credentials}
 use Rattle.snapshots.specs.Snapshot.{SnapshotState}
 use Rattle.cred_graph.specs.GraphState.{GraphState}
-use Rattle.scholten_core.specs.declared.parents.Parent.{Parent}
-use Rattle.scholten_core.specs.declared.parents.Parent.TheVariants.{Neutral, Environment, Node}
+use Rattle.scholten_core.specs.declared.parents.Parent.TheVariants.{Environment}
 use Rattle.scholten_core.specs.declared.letters.Letter.{Letter}
-use Rattle.scholten_core.specs.Computation.{Computation, outstanding, waiting}
-use Rattle.scholten_core.specs.Step.{marked, started}
+use Rattle.scholten_core.specs.Computation.{Computation, outstanding}
+use Rattle.scholten_core.specs.Step.{started}
 use Rattle.search.specs.declared.letters.Load.{Load}
 use Rattle.search.specs.declared.letters.Load.TheVariants as load
 use Rattle.search.specs.declared.findings.Monitor.{Monitor}
@@ -61,7 +59,8 @@ abbrev pub StartsAlone : List (ℕ × Letter Load) → Type 0
 StartsAlone letters = (n : ℕ) → Contains (sent_of letters) (record { from = Environment; to = n; load = load.Start }) → length letters ≡ 1
 
 -- what a running search keeps: each rule is applied or owed, and no more letters were sent than it may send
-pub record KeptBy (rows : List Credential) (asked : Role) (work : ℕ) (g : GraphState) (ms : List Monitor) (c : Computation Load) : Type 0 where
+pub record KeptBy (rows : List Credential) (asked : Role) (work : ℕ) (g : GraphState) (ms : List Monitor)
+    (c : Computation Load) : Type 0 where
   pub steady : IsSteady rows asked (record { graph = g; monitors = ms; pending = sent_of c.letters })
   pub starts : StartsAlone c.letters
   pub within : c.sent ≤ work

@@ -62,7 +62,8 @@ pub record Holds (old new : Stage) (place number : ℕ) (h : Held) : Type 0 wher
 -- the held letter of a number is finished, and its receiver sends these, where the work limit allows it
 abbrev pub Sends : Stage → Stage → ℕ → ℕ → List (ℕ × Load) → Finished → Type 0
 Sends old new work number outs finished.Done =
-    (c d : Computation Load) × (old ≡ stage.Running c) × (new ≡ stage.Running d) × (c.sent + length outs ≤ work) × FinishesLetter c number outs d
+    (c d : Computation Load) × (old ≡ stage.Running c) × (new ≡ stage.Running d)
+    × (c.sent + length outs ≤ work) × FinishesLetter c number outs d
 Sends old new work number outs finished.Spent =
     (c : Computation Load) × (old ≡ stage.Running c) × (work < c.sent + length outs) × (new ≡ stage.Spent)
 Sends old new work number outs finished.Broken =
@@ -72,5 +73,7 @@ Sends old new work number outs finished.NotHeld = ⊥
 
 -- the signal at a place is delivered, where there is one
 abbrev pub Delivers : Stage → Stage → ℕ → Bool → Type 0
-Delivers old new place true = (c d : Computation Load) × (old ≡ stage.Running c) × (new ≡ stage.Running d) × (place < length c.signals) × DeliversSignal c place d
+Delivers old new place true =
+    (c d : Computation Load) × (old ≡ stage.Running c) × (new ≡ stage.Running d)
+    × (place < length c.signals) × DeliversSignal c place d
 Delivers old new place false = (length (signals_in old) ≤ place) × (new ≡ old)

@@ -29,7 +29,8 @@ pub(crate) fn ask(
     expr: &Expr,
     port: &Port,
 ) -> Result<(), AllocError>
-    ensures { OnOk result (AsksFor (progress found.old.graph found.old.monitors.items outs.old.items) (progress found.new.graph found.new.monitors.items outs.new.items) expr.now port.now) }
+    ensures { OnOk result (AsksFor (progress found.old.graph found.old.monitors.items outs.old.items)
+        (progress found.new.graph found.new.monitors.items outs.new.items) expr.now port.now) }
 {
     let (node, is_new) = found.graph.node_of(expr)?;
     if is_new {

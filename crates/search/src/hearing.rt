@@ -17,7 +17,8 @@ pub(crate) fn hear_ask(
 ) -> Result<(), AllocError>
     requires node { node < length found.old.graph.nodes }
     requires asker { asker < length found.old.graph.nodes }
-    ensures { OnOk result (HearsAsk (progress found.old.graph found.old.monitors.items outs.old.items) (progress found.new.graph found.new.monitors.items outs.new.items) node asker port.now) }
+    ensures { OnOk result (HearsAsk (progress found.old.graph found.old.monitors.items outs.old.items)
+        (progress found.new.graph found.new.monitors.items outs.new.items) node asker port.now) }
 {
     if !found.graph.add_listener(node, asker, *port)? {
         return Ok(());

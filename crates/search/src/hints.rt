@@ -54,7 +54,9 @@ fn meets(snapshot: &Snapshot, need: &Need, hint: &Hint) -> bool
 // Whether the hint is the one that the letter needs.
 pub(crate) fn hint_is_right(graph: &Graph, snapshot: &Snapshot, held: &Held, hint: &Hint) -> bool
     requires { held.now.to < length graph.now.nodes }
-    ensures right { IsTrue result ↔ ((e : Expr) → IsNode graph.now held.now.to e → hint.now ≡ right_hint snapshot.now.vaults (need_of e held.now.load)) }
+    ensures right { IsTrue result
+        ↔ ((e : Expr) → IsNode graph.now held.now.to e
+        → hint.now ≡ right_hint snapshot.now.vaults (need_of e held.now.load)) }
     ensures ordered { IsOrdered snapshot.now.vaults }
 {
     let _asker = snapshot.asker();

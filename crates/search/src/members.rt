@@ -31,7 +31,11 @@ fn listed(alloc: Global, set: BTreeSet<Entity>) -> Result<Vec<Entity>, AllocErro
 }
 
 /// The solutions of the node, in order, each once.
-pub(crate) fn solutions_in_order(alloc: Global, graph: &Graph, node: u64) -> Result<Vec<Entity>, AllocError>
+pub(crate) fn solutions_in_order(
+    alloc: Global,
+    graph: &Graph,
+    node: u64,
+) -> Result<Vec<Entity>, AllocError>
     requires { node < length graph.now.nodes }
     ensures in_order { IfOk result (λ list. IsStrictlySortedBy name_order list.items) }
     ensures exact { IfOk result (λ list. (d : List ℕ) → Contains list.items d ↔ Contains (members_of graph.now node) d) }

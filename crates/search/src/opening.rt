@@ -27,7 +27,9 @@ fn ask_rows(
     span: Span,
 ) -> Result<(), AllocError>
     requires { span ≡ span_of snapshot.now.vaults role.now }
-    ensures { OnOk result (AsksEach (progress found.old.graph found.old.monitors.items outs.old.items) (row_asks (role_rows snapshot.now.vaults role.now)) (progress found.new.graph found.new.monitors.items outs.new.items)) }
+    ensures { OnOk result (AsksEach
+        (progress found.old.graph found.old.monitors.items outs.old.items) (row_asks (role_rows snapshot.now.vaults role.now))
+        (progress found.new.graph found.new.monitors.items outs.new.items)) }
 {
     for place in 0..span.hi - span.lo {
         let row = snapshot.row(span, place);
@@ -44,7 +46,8 @@ fn ask_parts(
     parts: &[Part],
 ) -> Result<(), AllocError>
     requires { length parts.now ≤ 8 }
-    ensures { OnOk result (AsksEach (progress found.old.graph found.old.monitors.items outs.old.items) (part_asks 0 parts.now) (progress found.new.graph found.new.monitors.items outs.new.items)) }
+    ensures { OnOk result (AsksEach (progress found.old.graph found.old.monitors.items outs.old.items) (part_asks 0 parts.now)
+        (progress found.new.graph found.new.monitors.items outs.new.items)) }
 {
     for (place, part) in parts.iter().enumerate() {
         ask(alloc, found, outs, &part.expr(), &Port::Part(place as u8))?;
@@ -65,7 +68,8 @@ fn open_as(
     requires node { node < length found.old.graph.nodes }
     requires expr { IsNode found.old.graph node expr.now }
     requires hint { hint.now ≡ right_hint snapshot.now.vaults (rows_for expr.now) }
-    ensures { OnOk result (Opens (own_rows snapshot.now.vaults expr.now) (progress found.old.graph found.old.monitors.items outs.old.items) (progress found.new.graph found.new.monitors.items outs.new.items) node expr.now) }
+    ensures { OnOk result (Opens (own_rows snapshot.now.vaults expr.now) (progress found.old.graph found.old.monitors.items outs.old.items)
+        (progress found.new.graph found.new.monitors.items outs.new.items) node expr.now) }
 {
     match expr {
         Expr::Ent(who) => solve(found, outs, node, *who, &Reason::Leaf),
@@ -89,7 +93,9 @@ pub(crate) fn open(
 ) -> Result<(), AllocError>
     requires node { node < length found.old.graph.nodes }
     requires hint { (e : Expr) → IsNode found.old.graph node e → hint.now ≡ right_hint snapshot.now.vaults (rows_for e) }
-    ensures { OnOk result ((e : Expr) → IsNode found.old.graph node e → Opens (own_rows snapshot.now.vaults e) (progress found.old.graph found.old.monitors.items outs.old.items) (progress found.new.graph found.new.monitors.items outs.new.items) node e) }
+    ensures { OnOk result ((e : Expr) → IsNode found.old.graph node e → Opens (own_rows snapshot.now.vaults e)
+        (progress found.old.graph found.old.monitors.items outs.old.items)
+        (progress found.new.graph found.new.monitors.items outs.new.items) node e) }
 {
     let expr = found.graph.expr(node).try_clone()?;
     open_as(alloc, found, outs, snapshot, node, &expr, hint)

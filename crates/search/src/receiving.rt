@@ -54,7 +54,8 @@ fn asked(
     requires node { node < length found.old.graph.nodes }
     requires asker { asker < length found.old.graph.nodes }
     requires hint { (e : Expr) → IsNode found.old.graph node e → hint.now ≡ right_hint snapshot.now.vaults (rows_for e) }
-    ensures { OnOk result (AnswersAsk snapshot.now.vaults (progress found.old.graph found.old.monitors.items outs.old.items) (progress found.new.graph found.new.monitors.items outs.new.items) node asker port.now) }
+    ensures { OnOk result (AnswersAsk snapshot.now.vaults (progress found.old.graph found.old.monitors.items outs.old.items)
+        (progress found.new.graph found.new.monitors.items outs.new.items) node asker port.now) }
 {
     if is_open(&found.graph, node) {
         return hear_ask(found, outs, node, asker, port);
@@ -71,9 +72,13 @@ pub(crate) fn receive(
     held: &Held,
     hint: &Hint,
 ) -> Result<Vec<(u64, Load)>, AllocError>
-    requires awaits { (role : Role) × (rest : List Sent) × Awaits (credentials snapshot.now.vaults) role found.old.graph found.old.monitors.items rest held.now.from held.now.to held.now.load }
-    requires hint { (e : Expr) → IsNode found.old.graph held.now.to e → hint.now ≡ right_hint snapshot.now.vaults (need_of e held.now.load) }
-    ensures { IfOk result (λ outs. Answers snapshot.now.vaults (progress found.old.graph found.old.monitors.items []) (progress found.new.graph found.new.monitors.items outs.items) held.now.from held.now.to held.now.load) }
+    requires awaits { (role : Role) × (rest : List Sent)
+        × Awaits (credentials snapshot.now.vaults) role found.old.graph found.old.monitors.items rest
+        held.now.from held.now.to held.now.load }
+    requires hint { (e : Expr) → IsNode found.old.graph held.now.to e
+        → hint.now ≡ right_hint snapshot.now.vaults (need_of e held.now.load) }
+    ensures { IfOk result (λ outs. Answers snapshot.now.vaults (progress found.old.graph found.old.monitors.items [])
+        (progress found.new.graph found.new.monitors.items outs.items) held.now.from held.now.to held.now.load) }
 {
     let mut outs = Vec::new(alloc);
     match held.load {
@@ -83,7 +88,9 @@ pub(crate) fn receive(
         }
         Load::Ask(port) => {
             let asker = sender(held.from);
-            asked(alloc, found, &mut outs, snapshot, held.to, asker, &port, hint)?;
+            asked(
+                alloc, found, &mut outs, snapshot, held.to, asker, &port, hint,
+            )?;
             Ok(outs)
         }
         Load::Tell(port, who) => {

@@ -50,9 +50,23 @@ impl Model for Search {
 
     ghost coded = { Prim.hlevel (codes, running.the_row.coded, memory.the_row.coded) };
 
-    ghost view = { λ s. record { query = s.query; work = s.work; snapshot = arc_value s.snapshot; graph = s.found.graph; monitors = s.found.monitors.items; stage = s.stage } };
+    ghost view = { λ s. record {
+      query = s.query;
+      work = s.work;
+      snapshot = arc_value s.snapshot;
+      graph = s.found.graph;
+      monitors = s.found.monitors.items;
+      stage = s.stage;
+    } };
 
-    ghost invariant = { λ s. IsKept (record { query = s.query; work = s.work; snapshot = arc_value s.snapshot; graph = s.found.graph; monitors = s.found.monitors.items; stage = s.stage }) };
+    ghost invariant = { λ s. IsKept (record {
+      query = s.query;
+      work = s.work;
+      snapshot = arc_value s.snapshot;
+      graph = s.found.graph;
+      monitors = s.found.monitors.items;
+      stage = s.stage;
+    }) };
 }
 
 impl Search {
@@ -104,7 +118,9 @@ impl Search {
         ensures broken { (result ≡ Status.Broken) ↔ (self.now.stage ≡ Stage.Broken) }
         ensures truth { IsCompleted self.now.stage → IsRightStatus (rows_of self.now) self.now.query result }
         ensures exact { IsCompleted self.now.stage → IsExact (rows_of self.now) (asked_role self.now.query) (Known self.now.graph) }
-        ensures rules { (c : Computation Load) → self.now.stage ≡ Stage.Running c → OwesRules (rows_of self.now) (asked_role self.now.query) (net_of self.now.graph self.now.monitors c) }
+        ensures rules { (c : Computation Load) → self.now.stage ≡ Stage.Running c
+            → OwesRules (rows_of self.now)
+            (asked_role self.now.query) (net_of self.now.graph self.now.monitors c) }
     {
         let _work = self.work;
         status_of(&self.stage, &self.found.graph, &self.query)
@@ -121,7 +137,8 @@ impl Search {
     /// Takes the waiting letter at that place, in order of sending, without the snapshot: its number, and what it
     /// needs.
     pub fn take_letter(&mut self, place: u64) -> Option<(u64, Need)>
-        ensures { MatchOption result ((slice_get (waiting_in self.old.stage) place ≡ None) × (self.new ≡ self.old)) (λ r. Takes self.old self.new place r.0 r.1) }
+        ensures { MatchOption result ((slice_get (waiting_in self.old.stage) place ≡ None) × (self.new ≡ self.old))
+            (λ r. Takes self.old self.new place r.0 r.1) }
     {
         let Some((number, held)) = hold(&mut self.stage, place) else {
             return None;
@@ -147,7 +164,8 @@ impl Search {
     pub fn put_back(&mut self, letter: u64) -> bool
         ensures held { result ≡ false → held_in self.old.stage letter ≡ None }
         ensures unchanged { result ≡ false → self.new ≡ self.old }
-        ensures waits { result ≡ true → ((l : Letter Load) × (held_in self.old.stage letter ≡ Some l)) × (self.new ≡ record self.old { stage = stage_marked letter false self.old.stage }) }
+        ensures waits { result ≡ true → ((l : Letter Load) × (held_in self.old.stage letter ≡ Some l))
+            × (self.new ≡ record self.old { stage = stage_marked letter false self.old.stage }) }
     {
         let Some(_held) = held_letter(&self.stage, letter) else {
             return false;

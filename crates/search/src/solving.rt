@@ -19,7 +19,8 @@ pub(crate) fn solve(
 ) -> Result<(), AllocError>
     requires node { node < length found.old.graph.nodes }
     requires fits { Fits found.old.graph node who reason.now }
-    ensures { OnOk result (Solves (progress found.old.graph found.old.monitors.items outs.old.items) (progress found.new.graph found.new.monitors.items outs.new.items) node who reason.now) }
+    ensures { OnOk result (Solves (progress found.old.graph found.old.monitors.items outs.old.items)
+        (progress found.new.graph found.new.monitors.items outs.new.items) node who reason.now) }
 {
     if !found.graph.add_solution(node, who, *reason)? {
         return Ok(());

@@ -38,7 +38,8 @@ pub(crate) fn held_letter(stage: &Stage, number: u64) -> Option<Held>
 
 // The waiting letter at that place is held from now on; its number and what it says.
 pub(crate) fn hold(stage: &mut Stage, place: u64) -> Option<(u64, Held)>
-    ensures { MatchOption result ((slice_get (waiting_in stage.old) place ≡ None) × (stage.new ≡ stage.old)) (λ r. Holds stage.old stage.new place r.0 r.1) }
+    ensures { MatchOption result ((slice_get (waiting_in stage.old) place ≡ None) × (stage.new ≡ stage.old))
+        (λ r. Holds stage.old stage.new place r.0 r.1) }
 {
     let Stage::Running(running) = stage else {
         return None;
@@ -67,12 +68,7 @@ pub(crate) fn wait_again(stage: &mut Stage, number: u64)
 }
 
 // The held letter of that number is finished, and its receiver sends these, where the work limit allows it.
-pub(crate) fn send(
-    stage: &mut Stage,
-    work: u64,
-    number: u64,
-    outs: Vec<(u64, Load)>,
-) -> Finished
+pub(crate) fn send(stage: &mut Stage, work: u64, number: u64, outs: Vec<(u64, Load)>) -> Finished
     requires { (c : Computation Load) × (stage.old ≡ Stage.Running c) × IsHeld c number × (c.sent ≤ work) }
     ensures { Sends stage.old stage.new work number outs.items result }
 {

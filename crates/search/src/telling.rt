@@ -49,7 +49,8 @@ fn hear_part(
 // The role that the member of its base gives to the linked role at the node.
 fn given_role(graph: &Graph, node: u64, base: Entity) -> Expr
     requires { (r : Role) × (name : List ℕ) × IsNode graph.now node (exprs.Link r name) }
-    ensures { (r : Role) → (name : List ℕ) → IsNode graph.now node (exprs.Link r name) → result ≡ exprs.Rol (record { owner = base; name = name }) }
+    ensures { (r : Role) → (name : List ℕ) → IsNode graph.now node (exprs.Link r name)
+        → result ≡ exprs.Rol (record { owner = base; name = name }) }
 {
     match graph.expr(node) {
         Expr::Link(_base, name) => Expr::Rol(Role {
@@ -70,7 +71,8 @@ fn told_base(
 ) -> Result<(), AllocError>
     requires link { (r : Role) × (name : List ℕ) × IsNode found.old.graph node (exprs.Link r name) }
     requires monitor { (x : LinkTold) × (slice_get found.old.monitors.items node ≡ Some (Monitor.Link x)) }
-    ensures { OnOk result (TellsBase (progress found.old.graph found.old.monitors.items outs.old.items) (progress found.new.graph found.new.monitors.items outs.new.items) node base) }
+    ensures { OnOk result (TellsBase (progress found.old.graph found.old.monitors.items outs.old.items)
+        (progress found.new.graph found.new.monitors.items outs.new.items) node base) }
 {
     if !hear_base(&mut found.monitors, node, base)? {
         return Ok(());
@@ -90,7 +92,8 @@ fn told_part(
     requires node { node < length found.old.graph.nodes }
     requires monitor { (x : MeetTold) × (slice_get found.old.monitors.items node ≡ Some (Monitor.Meet x)) × (part < x.parts) }
     requires last { TellsLast found.old.graph found.old.monitors.items node part who }
-    ensures { OnOk result (TellsPart (progress found.old.graph found.old.monitors.items outs.old.items) (progress found.new.graph found.new.monitors.items outs.new.items) node part who) }
+    ensures { OnOk result (TellsPart (progress found.old.graph found.old.monitors.items outs.old.items)
+        (progress found.new.graph found.new.monitors.items outs.new.items) node part who) }
 {
     if !hear_part(&mut found.monitors, node, part, who)? {
         return Ok(());
@@ -110,7 +113,8 @@ pub(crate) fn take_in(
 ) -> Result<(), AllocError>
     requires node { node < length found.old.graph.nodes }
     requires may { MayTakeIn found.old.graph found.old.monitors.items node from port.now who }
-    ensures { OnOk result (TakesIn (progress found.old.graph found.old.monitors.items outs.old.items) (progress found.new.graph found.new.monitors.items outs.new.items) node from port.now who) }
+    ensures { OnOk result (TakesIn (progress found.old.graph found.old.monitors.items outs.old.items)
+        (progress found.new.graph found.new.monitors.items outs.new.items) node from port.now who) }
 {
     match port {
         Port::Body => solve(found, outs, node, who, &Reason::Body(from)),

@@ -1,5 +1,5 @@
 -- The role is the first node of an empty graph.
-use Rattle.std.proofs.Common.{Bool, subst}
+use Rattle.std.proofs.Common.{subst}
 use Rattle.cred_graph.specs.GraphState.{GraphState}
 use Rattle.cred_graph.specs.Graph.{NodeGiven}
 use Rattle.credential_text.specs.declared.exprs.Expr.TheVariants.{Rol}

@@ -1,4 +1,4 @@
-use Rattle.std.proofs.Common.{◌≡◌, ◌↔◌, ℕ, List, true, Contains, subst, take, arith}
+use Rattle.std.proofs.Common.{◌≡◌, ◌↔◌, ℕ, List, true, Contains, subst, arith}
 use Rattle.std.specs.BTreeSet.{contains}
 use Rattle.std.proofs.lemmas.List.{take_all}
 use Rattle.names.specs.Name.{name_order}

@@ -1,5 +1,5 @@
 -- One more part was asked, and then all.
-use Rattle.std.proofs.Common.{◌≡◌, ◌∙◌, refl, subst, Some, length, slice_get, arith}
+use Rattle.std.proofs.Common.{◌≡◌, refl, subst, Some, length, slice_get, arith}
 use Rattle.std.proofs.lemmas.Option.{slice_get_read}
 use Rattle.credential_text.specs.declared.exprs.Expr.{Expr}
 use Rattle.credential_text.specs.Expr.{part_expr}

@@ -1,5 +1,5 @@
 -- One more row's body was asked, and then all.
-use Rattle.std.proofs.Common.{ℕ, ◌≡◌, ◌≤◌, ◌+◌, ap, length, arith}
+use Rattle.std.proofs.Common.{ap, arith}
 use Rattle.cred_graph.specs.declared.listeners.Port.TheVariants as port
 use Rattle.snapshots.specs.declared.spans.Span.{Span}
 use Rattle.snapshots.specs.Span.{role_rows}

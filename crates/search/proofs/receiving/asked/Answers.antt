@@ -1,5 +1,5 @@
 -- What opens adds nodes, so the node and its asker are there still.
-use Rattle.std.proofs.Common.{◌<◌, ◌≤◌, [], length, get_or, arith}
+use Rattle.std.proofs.Common.{[], get_or, arith}
 use Rattle.std.proofs.lemmas.Option.{slice_get-get_or}
 use Rattle.credential_text.specs.declared.exprs.Expr.{Expr}
 use Rattle.credential_text.specs.declared.exprs.Expr.TheVariants.{Ent}

@@ -1,6 +1,5 @@
 -- What the letter says decides what its receiver does.
-use Rattle.std.proofs.Common.{ℕ, ◌≡◌, List, [], subst}
-use Rattle.credential_text.specs.declared.exprs.Expr.{Expr}
+use Rattle.std.proofs.Common.{ℕ, ◌≡◌, List, subst}
 use Rattle.search.specs.declared.letters.Load.{Load}
 use Rattle.search.specs.Answers.{Progress, progress, Answers}
 use Rattle.search.specs.Need.{need_of, right_hint}

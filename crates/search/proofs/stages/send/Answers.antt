@@ -1,5 +1,5 @@
 -- The letters sent with these are compared with the work limit.
-use Rattle.std.proofs.Common.{ℕ, ◌≤◌, ◌≡◌, ◌∙◌, refl, sym, subst, length, arith}
+use Rattle.std.proofs.Common.{◌≤◌, ◌≡◌, ◌∙◌, refl, sym, subst, length, arith}
 use Rattle.scholten_core.specs.Computation.{Computation}
 use Rattle.search.specs.declared.letters.Load.{Load}
 use Rattle.search.proofs.Holding.{same_running}

@@ -1,5 +1,5 @@
 -- With the last part the entity is a solution, since each part has it.
-use Rattle.std.proofs.Common.{List, ℕ, inr, subst}
+use Rattle.std.proofs.Common.{inr, subst}
 use Rattle.std.proofs.lemmas.Result.{on_ok_weaker}
 use Rattle.monitors.specs.MeetMonitor.{MeetTold, AllTold}
 use Rattle.search.proofs.telling.told_part.Goals as goal

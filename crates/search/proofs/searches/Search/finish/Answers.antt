@@ -1,6 +1,5 @@
 -- A held letter is awaited by its receiver, whose receipt keeps what a search keeps.
-use Rattle.std.proofs.Common.{◌≡◌, ◌∙◌, false, refl, sym, subst, []}
-use Rattle.std.specs.Arc.{arc_value}
+use Rattle.std.proofs.Common.{◌∙◌, false, refl, sym, subst, []}
 use Rattle.std.proofs.lemmas.Bool.{false≢true}
 use Rattle.vaults.specs.Journal.{credentials}
 use Rattle.snapshots.specs.Snapshot.{SnapshotState, IsOrdered}
@@ -29,15 +28,17 @@ returns-then-not-hint_is_right c =
     let s = the_view c.self.inside in
     subst (λ (x : SearchState). Finishes x (record s { stage = c.wait_again.new.stage }) c.args.letter c.args.hint finished.BadHint) c.self.view_is
     (wrongly s c.args.letter c.args.hint c.in-Some.held c.deref.result.now c.wait_again.new.stage c.deref.ensures c.in-Some.ensures
-      (node_in (held_awaits s c.self.invariant c.args.letter c.in-Some.held c.in-Some.ensures))
-      (λ right. false≢true (sym c.if-not-hint_is_right.true ∙ c.hint_is_right.ensures.right.1 right)) c.wait_again.ensures)
+    (node_in (held_awaits s c.self.invariant c.args.letter c.in-Some.held c.in-Some.ensures))
+    (λ right. false≢true (sym c.if-not-hint_is_right.true ∙ c.hint_is_right.ensures.right.1 right)) c.wait_again.ensures)
 
 pub receive-requires-clause-awaits : goal.receive-requires-clause-awaits
 receive-requires-clause-awaits c =
-    let s = the_view c.self.inside in
-    (asked_role c.self.inside.query, sent_of c.in-Some.ensures.running.letters,
+    let s = the_view c.self.inside in (
+      asked_role c.self.inside.query,
+      sent_of c.in-Some.ensures.running.letters,
       subst (λ (v : SnapshotState). Awaits (credentials v.vaults) (asked_role c.self.inside.query) c.self.inside.found.graph c.self.inside.found.monitors.items (sent_of c.in-Some.ensures.running.letters) c.in-Some.held.from c.in-Some.held.to c.in-Some.held.load)
-      (sym c.deref-2.ensures) (held_awaits s c.self.invariant c.args.letter c.in-Some.held c.in-Some.ensures))
+          (sym c.deref-2.ensures) (held_awaits s c.self.invariant c.args.letter c.in-Some.held c.in-Some.ensures),
+    )
 
 pub send-requires : goal.send-requires
 send-requires c =

@@ -4,10 +4,10 @@ use Rattle.std.proofs.lemmas.Result.{IfOk-weaker}
 use Rattle.std.specs.Result.{IfOk}
 use Rattle.std.specs.List.Sorted.{IsStrictlySortedBy}
 use Rattle.names.specs.Name.{name_order}
-use Rattle.rt0_rules.specs.Membership.{AreMembers, IsMember}
+use Rattle.rt0_rules.specs.Membership.{AreMembers}
 use Rattle.rt0_rules.proofs.Listed.{both_if_ok}
 use Rattle.cred_graph.specs.GraphState.{members_of}
-use Rattle.search.specs.Search.{SearchState, IsKept, IsCompleted, rows_of, asked_role}
+use Rattle.search.specs.Search.{SearchState, IsCompleted, rows_of, asked_role}
 use Rattle.search.specs.contracts.searches.Search.{the_view}
 use Rattle.search.proofs.Searching.{completed_root, completed_members}
 use Rattle.search.proofs.searches.Search.members.Goals as goal
@@ -24,7 +24,7 @@ returns c =
     let are = completed_members s s.stage refl c.self.invariant (subst (λ (x : SearchState). IsCompleted x.stage) (sym c.self.view_is) c.requires) in
     subst (λ (x : SearchState). IfOk list_of (λ members. AreMembers (rows_of x) (asked_role x.query) members.items)) c.self.view_is
     (IfOk-weaker list_of
-      (λ list. IsStrictlySortedBy name_order list.items × ((d : List ℕ) → Contains list.items d ↔ Contains (members_of s.graph 0) d))
-      (λ list. AreMembers (rows_of s) (asked_role s.query) list.items)
-      (λ list h. record { in_order = h.0; exact = λ d. ((λ among. (are d).0 ((h.1 d).0 among)), (λ member. (h.1 d).1 ((are d).1 member))) })
-      (both_if_ok list_of (λ list. IsStrictlySortedBy name_order list.items) (λ list. (d : List ℕ) → Contains list.items d ↔ Contains (members_of s.graph 0) d) c.solutions_in_order.ensures.in_order c.solutions_in_order.ensures.exact))
+    (λ list. IsStrictlySortedBy name_order list.items × ((d : List ℕ) → Contains list.items d ↔ Contains (members_of s.graph 0) d))
+    (λ list. AreMembers (rows_of s) (asked_role s.query) list.items)
+    (λ list h. record { in_order = h.0; exact = λ d. ((λ among. (are d).0 ((h.1 d).0 among)), (λ member. (h.1 d).1 ((are d).1 member))) })
+    (both_if_ok list_of (λ list. IsStrictlySortedBy name_order list.items) (λ list. (d : List ℕ) → Contains list.items d ↔ Contains (members_of s.graph 0) d) c.solutions_in_order.ensures.in_order c.solutions_in_order.ensures.exact))
