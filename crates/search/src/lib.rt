@@ -18,6 +18,8 @@ mod searches;
 mod solving;
 mod stages;
 mod telling;
+#[cfg(test)]
+mod tests;
 
 pub use findings::{Findings, Monitor};
 pub use letters::Load;
