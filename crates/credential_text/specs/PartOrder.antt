@@ -41,8 +41,8 @@ part_order_total = then_total (on_total part_kind nat_cmp_total) (on_total part_
 pub part_order_tied : IsAntisymmetric part_order
 part_order_tied p q tied =
     let both :
-        (nat_cmp (part_kind p) (part_kind q) ≡ Equal) × (slice_cmp name_order (part_names p) (part_names q) ≡ Equal) =
-        both_tied _ _ tied in
+    (nat_cmp (part_kind p) (part_kind q) ≡ Equal) × (slice_cmp name_order (part_names p) (part_names q) ≡ Equal) =
+    both_tied _ _ tied in
     names_tell p q (name_lists_tied (part_names p) (part_names q) both.1)
 
 pub parts_order_total : IsTotalOrder parts_order

@@ -16,3 +16,10 @@ pub mod Listing
 pub mod Arms
 pub mod Searching
 pub mod Finishing
+pub mod Counting
+pub mod CountedGraph
+pub mod Asked
+pub mod Counted
+pub mod CountedReceipt
+pub mod CountedSteps
+pub mod WorkOf

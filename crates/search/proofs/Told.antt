@@ -17,7 +17,7 @@ use Rattle.cred_graph.specs.declared.listeners.Port.TheVariants as port
 use Rattle.cred_graph.specs.GraphState.{GraphState, IsNode, IsSolution}
 use Rattle.monitors.specs.LinkMonitor.{LinkTold}
 use Rattle.monitors.specs.MeetMonitor.{MeetTold, HasTold, AllTold, with_tell, told_order}
-use Rattle.monitors.proofs.MeetLemmas.{told_order_total, told_order_tied}
+use Rattle.monitors.proofs.ToldOrder.{told_order_total, told_order_tied}
 use Rattle.search.specs.declared.findings.Monitor.{Monitor}
 use Rattle.search.specs.declared.findings.Monitor.TheVariants as monitor
 use Rattle.search.specs.Net.{Net, Sent, IsBaseTold, IsPartTold, IsAsked, PartFits}

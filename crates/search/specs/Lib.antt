@@ -7,3 +7,5 @@ pub mod Search
 pub mod Need
 pub mod Finish
 pub mod Ending
+pub mod Counted
+pub mod Laws

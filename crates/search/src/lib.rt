@@ -8,6 +8,7 @@ mod asking;
 mod findings;
 mod hearing;
 mod hints;
+mod laws;
 mod letters;
 mod members;
 mod opening;
@@ -22,6 +23,7 @@ mod telling;
 mod tests;
 
 pub use findings::{Findings, Monitor};
+pub use laws::letters_are_counted;
 pub use letters::Load;
 pub use outcomes::{Finished, Status};
 pub use queries::{Hint, Need, Query, Task};

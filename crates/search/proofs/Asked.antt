@@ -1,0 +1,151 @@
+-- The asks that a node sends where expressions are asked in turn.
+use Rattle.std.proofs.Common.{ℕ, ◌≡◌, ◌∙◌, inl, inr, sym, subst, ap, refl, List, [], ◌∷◌, ◌++◌, Some, length, slice_get, arith}
+use Rattle.std.specs.List.{Contains, AllZip}
+use Rattle.std.proofs.lemmas.Option.{same_Some}
+use Rattle.std.proofs.lemmas.List.{append-nil, length-append, append_assoc, map-append}
+use Rattle.credential_text.specs.declared.exprs.Expr.{Expr}
+use Rattle.rt0_rules.specs.Letters.{NodeAsk}
+use Rattle.rt0_rules.proofs.Elements.{Contains-none, Contains-first, Contains-later, Contains-cons_cases}
+use Rattle.cred_graph.specs.declared.listeners.Port.{Port}
+use Rattle.cred_graph.specs.declared.listeners.Port.TheVariants as port
+use Rattle.cred_graph.specs.GraphState.{GraphState}
+use Rattle.cred_graph.proofs.Lists.{slice_get_stays, slice_get_pushed}
+use Rattle.scholten_core.specs.declared.parents.Parent.TheVariants.{Node}
+use Rattle.search.specs.declared.letters.Load.{Load}
+use Rattle.search.specs.declared.letters.Load.TheVariants as load
+use Rattle.search.specs.Net.{sent_by, why_of}
+use Rattle.search.specs.Answers.{Progress, AsksFor, AsksEach}
+use Rattle.search.specs.Counted.{heard, asks_in}
+use Rattle.search.proofs.CountedGraph.{heard_pushed, asks_in-append}
+
+-- the ask that goes from the node to that of the expression, on the port
+pub record IsAskFor (nodes : List Expr) (n : ℕ) (w : Expr × Port) (a : NodeAsk) : Type 0 where
+  pub asker : a.asker ≡ n
+  pub why : a.why ≡ why_of w.1
+  pub asked : slice_get nodes a.asked ≡ Some w.0
+
+port_by_why : (p q : Port) → why_of p ≡ why_of q → p ≡ q
+port_by_why port.Body port.Body same = refl
+port_by_why port.Body port.Base same = cc
+port_by_why port.Body (port.Via b) same = cc
+port_by_why port.Body (port.Part i) same = cc
+port_by_why port.Base port.Body same = cc
+port_by_why port.Base port.Base same = refl
+port_by_why port.Base (port.Via b) same = cc
+port_by_why port.Base (port.Part i) same = cc
+port_by_why (port.Via a) port.Body same = cc
+port_by_why (port.Via a) port.Base same = cc
+port_by_why (port.Via a) (port.Via b) same = cc
+port_by_why (port.Via a) (port.Part i) same = cc
+port_by_why (port.Part j) port.Body same = cc
+port_by_why (port.Part j) port.Base same = cc
+port_by_why (port.Part j) (port.Via b) same = cc
+port_by_why (port.Part j) (port.Part i) same = cc
+
+-- an ask is for one expression on one port
+pub ask_for_one : (nodes : List Expr) (n : ℕ) (v w : Expr × Port) (a : NodeAsk) → IsAskFor nodes n v a → IsAskFor nodes n w a → v ≡ w
+ask_for_one nodes n v w a is also =
+    let expr : v.0 ≡ w.0 = same_Some v.0 w.0 (sym is.asked ∙ also.asked) in
+    let on : v.1 ≡ w.1 = port_by_why v.1 w.1 (sym is.why ∙ also.why) in
+    λ i. (expr i, on i)
+
+ask_for_stays : (nodes more : List Expr) (n : ℕ) (ws : List (Expr × Port)) (asks : List NodeAsk) →
+    AllZip (IsAskFor nodes n) ws asks → AllZip (IsAskFor (nodes ++ more) n) ws asks
+ask_for_stays nodes more n [] [] all = tt
+ask_for_stays nodes more n [] (a ∷ asks) all = absurd all
+ask_for_stays nodes more n (w ∷ ws) [] all = absurd all
+ask_for_stays nodes more n (w ∷ ws) (a ∷ asks) all =
+    (record { asker = all.0.asker; why = all.0.why; asked = slice_get_stays nodes more a.asked w.0 all.0.asked }, ask_for_stays nodes more n ws asks all.1)
+
+-- what asking these expressions in turn does
+pub record AskedFor (n : ℕ) (s t : Progress) (ws : List (Expr × Port)) : Type 0 where
+  pub asks : List NodeAsk
+  pub letters : List (ℕ × Load)
+  pub more : List Expr
+  pub nodes : t.graph.nodes ≡ s.graph.nodes ++ more
+  pub outs : t.outs ≡ s.outs ++ letters
+  pub sent : asks_in (sent_by n letters) ≡ asks
+  pub number : length letters ≡ length asks
+  pub solutions : t.graph.solutions ≡ s.graph.solutions
+  pub heard_same : heard t.graph ≡ heard s.graph
+  pub are : AllZip (IsAskFor t.graph.nodes n) ws asks
+
+asked_one : (n : ℕ) (s t : Progress) (e : Expr) (p : Port) → AsksFor s t e p → AskedFor n s t ((e, p) ∷ [])
+asked_one n s t e p (to, outs, inl (node, graph, monitors)) = record {
+  asks = record { asker = n; why = why_of p; asked = to } ∷ [];
+  letters = (to, load.Ask p) ∷ [];
+  more = [];
+  nodes = ap (λ (g : GraphState). g.nodes) graph ∙ sym (append-nil s.graph.nodes);
+  outs = outs;
+  sent = refl;
+  number = refl;
+  solutions = ap (λ (g : GraphState). g.solutions) graph;
+  heard_same = ap heard graph;
+  are = (record { asker = refl; why = refl; asked = subst (λ (g : GraphState). slice_get g.nodes to ≡ Some e) (sym graph) node }, tt);
+}
+asked_one n s t e p (to, outs, inr (absent, range, is, graph, monitors)) = record {
+  asks = record { asker = n; why = why_of p; asked = to } ∷ [];
+  letters = (to, load.Ask p) ∷ [];
+  more = e ∷ [];
+  nodes = ap (λ (g : GraphState). g.nodes) graph;
+  outs = outs;
+  sent = refl;
+  number = refl;
+  solutions = ap (λ (g : GraphState). g.solutions) graph;
+  heard_same = ap heard graph ∙ heard_pushed 0 s.graph.listeners;
+  are = (record { asker = refl; why = refl; asked = subst (λ (g : GraphState). slice_get g.nodes to ≡ Some e) (sym graph) (rw is (slice_get_pushed s.graph.nodes e)) }, tt);
+}
+
+-- each node of a list of letters sends one after another
+pub sent_more : (n : ℕ) (xs ys : List (ℕ × Load)) → asks_in (sent_by n (xs ++ ys)) ≡ asks_in (sent_by n xs) ++ asks_in (sent_by n ys)
+sent_more n xs ys =
+    ap asks_in (map-append (λ (out : ℕ × Load). record { from = Node n; to = out.0; load = out.1 }) xs ys) ∙ asks_in-append (sent_by n xs) (sent_by n ys)
+
+pub asked_each : (n : ℕ) (s t : Progress) (ws : List (Expr × Port)) → AsksEach s ws t → AskedFor n s t ws
+asked_each n s t [] same = record {
+  asks = [];
+  letters = [];
+  more = [];
+  nodes = ap (λ (p : Progress). p.graph.nodes) same ∙ sym (append-nil s.graph.nodes);
+  outs = ap (λ (p : Progress). p.outs) same ∙ sym (append-nil s.outs);
+  sent = refl;
+  number = refl;
+  solutions = ap (λ (p : Progress). p.graph.solutions) same;
+  heard_same = ap (λ (p : Progress). heard p.graph) same;
+  are = tt;
+}
+asked_each n s t (w ∷ ws) (mid, first, rest) =
+    let one : AskedFor n s mid (w ∷ []) = asked_one n s mid w.0 w.1 first in
+    let others : AskedFor n mid t ws = asked_each n mid t ws rest in
+    record {
+      asks = one.asks ++ others.asks;
+      letters = one.letters ++ others.letters;
+      more = one.more ++ others.more;
+      nodes = others.nodes ∙ ap (λ l. l ++ others.more) one.nodes ∙ append_assoc s.graph.nodes one.more others.more;
+      outs = others.outs ∙ ap (λ l. l ++ others.letters) one.outs ∙ append_assoc s.outs one.letters others.letters;
+      sent = sent_more n one.letters others.letters ∙ ap (λ l. l ++ asks_in (sent_by n others.letters)) one.sent ∙ ap (λ l. one.asks ++ l) others.sent;
+      number = simp length-append (omega (arith, one.number, others.number));
+      solutions = others.solutions ∙ one.solutions;
+      heard_same = others.heard_same ∙ one.heard_same;
+      are = zipped_append (IsAskFor t.graph.nodes n) (w ∷ []) ws one.asks others.asks
+          (subst (λ nodes. AllZip (IsAskFor nodes n) (w ∷ []) one.asks) (sym others.nodes) (ask_for_stays mid.graph.nodes others.more n (w ∷ []) one.asks one.are))
+          others.are;
+    }
+  where
+    zipped_append : {X Y : Type 0} (R : X → Y → Type 0) (xs zs : List X) (ys ws : List Y) → AllZip R xs ys → AllZip R zs ws → AllZip R (xs ++ zs) (ys ++ ws)
+    zipped_append R [] zs [] ws all more = more
+    zipped_append R [] zs (y ∷ ys) ws all more = absurd all
+    zipped_append R (x ∷ xs) zs [] ws all more = absurd all
+    zipped_append R (x ∷ xs) zs (y ∷ ys) ws all more = (all.0, zipped_append R xs zs ys ws all.1 more)
+
+-- an ask among them is for one of the expressions
+pub own_ask : {nodes : List Expr} (n : ℕ) (ws : List (Expr × Port)) (asks : List NodeAsk) → AllZip (IsAskFor nodes n) ws asks → (a : NodeAsk) → Contains asks a →
+    (w : Expr × Port) × Contains ws w × IsAskFor nodes n w a
+own_ask n [] [] all a has = absurd (Contains-none a has)
+own_ask n [] (b ∷ asks) all a has = absurd all
+own_ask n (w ∷ ws) [] all a has = absurd all
+own_ask n (w ∷ ws) (b ∷ asks) all a has =
+    elim (Contains-cons_cases b asks a has) [
+      | inl same ↦ (w, Contains-first w ws, subst (IsAskFor _ n w) same all.0)
+      | inr later ↦ let (v, among, is) = own_ask n ws asks all.1 a later in (v, Contains-later w ws v among, is)
+    ]

@@ -1,0 +1,79 @@
+-- How many letters a search has sent, by what was asked and found.
+use Rattle.std.specs.Prelude.{ℕ, suc, ◌+◌, List, [], ◌∷◌, ◌++◌, ◌≡◌, Contains, length, map}
+use Rattle.std.specs.List.{flat_map}
+use Rattle.rt0_rules.specs.Asks.{Why, for_body, for_base, for_via, for_part}
+use Rattle.rt0_rules.specs.Work.{AreDistinct}
+use Rattle.rt0_rules.specs.Letters.{NodeAsk, letters_sent}
+use Rattle.cred_graph.specs.declared.listeners.Port.{Port}
+use Rattle.cred_graph.specs.declared.listeners.Port.TheVariants as port
+use Rattle.cred_graph.specs.declared.listeners.Listening.{Listening}
+use Rattle.cred_graph.specs.GraphState.{GraphState, members_of}
+use Rattle.scholten_core.specs.declared.parents.Parent.{Parent}
+use Rattle.scholten_core.specs.declared.parents.Parent.TheVariants.{Neutral, Environment, Node}
+use Rattle.search.specs.declared.letters.Load.{Load}
+use Rattle.search.specs.declared.letters.Load.TheVariants as load
+use Rattle.search.specs.Net.{Net, Sent, sent_by, IsBaseTold, IsOpen, why_of}
+use Rattle.search.specs.Answers.{Progress}
+
+-- what a listener of the node asked
+abbrev pub heard_of : ℕ → Listening → NodeAsk
+heard_of n l = record { asker = l.asker; why = why_of l.port; asked = n }
+
+-- the asks that the nodes from n on heard
+abbrev pub heard_from : ℕ → List (List Listening) → List NodeAsk
+heard_from n [] = []
+heard_from n (ls ∷ lists) = map (heard_of n) ls ++ heard_from (suc n) lists
+
+abbrev pub heard : GraphState → List NodeAsk
+heard g = heard_from 0 g.listeners
+
+-- what a letter of a node asks
+abbrev pub ask_by : ℕ → ℕ → Load → List NodeAsk
+ask_by m n load.Start = []
+ask_by m n (load.Ask p) = record { asker = m; why = why_of p; asked = n } ∷ []
+ask_by m n (load.Tell p who) = []
+
+abbrev pub ask_from : Parent → ℕ → Load → List NodeAsk
+ask_from Neutral n l = []
+ask_from Environment n l = []
+ask_from (Node m) n l = ask_by m n l
+
+-- the asks among the letters
+abbrev pub asks_in : List Sent → List NodeAsk
+asks_in letters = flat_map (λ x. ask_from x.from x.to x.load) letters
+
+-- an open node may ask for itself, and a linked role for the members of its base that it was told
+abbrev pub MayAskFor : Net → ℕ → Why → Type 0
+MayAskFor net m for_body = IsOpen net m
+MayAskFor net m for_base = IsOpen net m
+MayAskFor net m (for_via b) = IsBaseTold net m b
+MayAskFor net m (for_part i) = IsOpen net m
+
+abbrev pub MayAsk : Net → NodeAsk → Type 0
+MayAsk net a = MayAskFor net a.asker a.why
+
+-- each ask stands once, by one that may ask it, and so many letters were sent as that and what was found make
+pub record IsCountedBy (may_ask : NodeAsk → Type 0) (members : ℕ → List (List ℕ)) (listeners pending : List NodeAsk) (sent : ℕ) : Type 0 where
+  pub distinct : AreDistinct (listeners ++ pending)
+  pub askers : (a : NodeAsk) → Contains (listeners ++ pending) a → may_ask a
+  pub total : sent ≡ letters_sent members listeners pending
+
+-- the same of a search
+abbrev pub IsCounted : Net → ℕ → Type 0
+IsCounted net sent = IsCountedBy (MayAsk net) (members_of net.graph) (heard net.graph) (asks_in net.pending) sent
+
+-- the letters are counted while the node answers a letter, where these others are under way
+abbrev pub IsCountedAt : List Sent → ℕ → ℕ → (NodeAsk → Type 0) → Progress → Type 0
+IsCountedAt rest n sent may_ask s = IsCountedBy may_ask (members_of s.graph) (heard s.graph) (asks_in (rest ++ sent_by n s.outs)) (sent + length s.outs)
+
+-- a node that opens asks so; on behalf of the members of a base a linked role asks later
+abbrev pub IsOwn : Why → Type 0
+IsOwn for_body = Unit {0}
+IsOwn for_base = Unit {0}
+IsOwn (for_via b) = ⊥
+IsOwn (for_part i) = Unit {0}
+
+-- what a node may ask once it was told who on a port
+abbrev pub AsksOnceTold : Port → List ℕ → Why → Type 0
+AsksOnceTold port.Base who why = why ≡ for_via who
+AsksOnceTold _ who why = ⊥
