@@ -53,7 +53,8 @@ abbrev pub MayAsk : Net → NodeAsk → Type 0
 MayAsk net a = MayAskFor net a.asker a.why
 
 -- each ask stands once, by one that may ask it, and so many letters were sent as that and what was found make
-pub record IsCountedBy (may_ask : NodeAsk → Type 0) (members : ℕ → List (List ℕ)) (listeners pending : List NodeAsk) (sent : ℕ) : Type 0 where
+pub record IsCountedBy (may_ask : NodeAsk → Type 0) (members : ℕ → List (List ℕ)) (listeners pending : List NodeAsk)
+    (sent : ℕ) : Type 0 where
   pub distinct : AreDistinct (listeners ++ pending)
   pub askers : (a : NodeAsk) → Contains (listeners ++ pending) a → may_ask a
   pub total : sent ≡ letters_sent members listeners pending
@@ -64,7 +65,8 @@ IsCounted net sent = IsCountedBy (MayAsk net) (members_of net.graph) (heard net.
 
 -- the letters are counted while the node answers a letter, where these others are under way
 abbrev pub IsCountedAt : List Sent → ℕ → ℕ → (NodeAsk → Type 0) → Progress → Type 0
-IsCountedAt rest n sent may_ask s = IsCountedBy may_ask (members_of s.graph) (heard s.graph) (asks_in (rest ++ sent_by n s.outs)) (sent + length s.outs)
+IsCountedAt rest n sent may_ask s =
+    IsCountedBy may_ask (members_of s.graph) (heard s.graph) (asks_in (rest ++ sent_by n s.outs)) (sent + length s.outs)
 
 -- a node that opens asks so; on behalf of the members of a base a linked role asks later
 abbrev pub IsOwn : Why → Type 0
