@@ -32,7 +32,7 @@ use Rattle.search.specs.declared.outcomes.Status.TheVariants as status
 use Rattle.search.specs.declared.stages.Stage.{Stage}
 use Rattle.search.specs.declared.stages.Stage.TheVariants as stage
 use Rattle.search.specs.Net.{Net, Sent, plain, sent_of, IsPendingBetween, IsOpen, LetterFits}
-use Rattle.search.specs.Steady.{IsRight, IsPaid, OwesRules}
+use Rattle.search.specs.Steady.{IsRight, IsPaid, IsJustified, OwesRules}
 use Rattle.search.specs.Receipt.{Awaits}
 use Rattle.search.specs.Stage.{HoldsLetter, Holds, letter_in, stage_marked, waiting_in, Delivers}
 use Rattle.search.specs.Search.{SearchState, KeptBy, IsKept, IsCompleted, asked_role, rows_of, net_of}
@@ -120,6 +120,13 @@ held_awaits s kept number h held = awaits_letter (kept held.running held.runs) h
 module _ (rows : List Credential) (role : Role) (work : ℕ) (g : GraphState) (ms : List Monitor) (c : Computation Load) (kept : KeptBy rows role work g ms c) where
   pub rules_owed : OwesRules rows role (net_of g ms c)
   rules_owed = owes_rules rows role (net_of g ms c) kept.steady.right kept.steady.paid
+
+  pub justified : IsJustified rows role g
+  justified = record {
+    graph = kept.steady.right.graph;
+    root_node = kept.steady.right.root_node;
+    solutions_fit = kept.steady.right.solutions_fit;
+  }
 
   no_letters : outstanding c ≡ 0 → sent_of c.letters ≡ []
   no_letters none = none_sent c.letters (omega arith)

@@ -7,7 +7,7 @@ ghost use Rattle.cred_graph.specs.GraphState.{GraphState, IsNode, Known};
 ghost use Rattle.scholten_core.specs.declared.letters.Letter.{Letter};
 ghost use Rattle.scholten_core.specs.Computation.{Computation};
 ghost use Rattle.search.specs.declared.letters.Load.{Load};
-ghost use Rattle.search.specs.Steady.{OwesRules};
+ghost use Rattle.search.specs.Steady.{OwesRules, IsJustified};
 ghost use Rattle.search.specs.Finish.{StatusIs, AnswerIs};
 
 use crate::findings::{Findings, first_findings};
@@ -219,7 +219,9 @@ impl Search {
 
     /// What the search has found.
     pub fn graph(&self) -> &Graph
-        ensures { result.now ≡ self.now.graph }
+        ensures graph { result.now ≡ self.now.graph }
+        ensures reasons { (c : Computation Load) → self.now.stage ≡ Stage.Running c
+            → IsJustified (rows_of self.now) (asked_role self.now.query) self.now.graph }
     {
         &self.found.graph
     }
