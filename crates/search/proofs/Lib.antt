@@ -23,3 +23,6 @@ pub mod Counted
 pub mod CountedReceipt
 pub mod CountedSteps
 pub mod WorkOf
+pub mod Tallied
+pub mod TalliedFinish
+pub mod Ended

@@ -6,6 +6,8 @@ use Rattle.rt0_rules.specs.Membership.{IsMember, AreMembers}
 use Rattle.rt0_rules.specs.Work.{WorkIs, WorkExceeds}
 use Rattle.search.specs.declared.queries.Query.{Query}
 use Rattle.search.specs.declared.queries.Query.TheVariants.{Ask, Who}
+use Rattle.search.specs.declared.outcomes.Status.{Status}
+use Rattle.search.specs.declared.outcomes.Status.TheVariants as status
 
 -- what a search has come to
 pub data Settled : Type 0 where
@@ -15,6 +17,15 @@ pub data Settled : Type 0 where
   Members : List (List ℕ) → Settled
   Spent : Settled
   Broken : Settled
+
+-- the status of what a search has come to
+abbrev pub status_of : Settled → Status
+status_of Nothing = status.Working
+status_of Yes = status.Yes
+status_of No = status.No
+status_of (Members names) = status.Members
+status_of Spent = status.Spent
+status_of Broken = status.Broken
 
 -- the role that is asked about
 abbrev pub asked_role : Query → Role

@@ -7,7 +7,7 @@ ghost use Rattle.cred_graph.specs.GraphState.{GraphState, IsNode, Known};
 ghost use Rattle.scholten_core.specs.declared.letters.Letter.{Letter};
 ghost use Rattle.scholten_core.specs.Computation.{Computation};
 ghost use Rattle.search.specs.declared.letters.Load.{Load};
-ghost use Rattle.search.specs.Steady.{OwesRules};
+ghost use Rattle.search.specs.Steady.{OwesRules, IsJustified};
 ghost use Rattle.search.specs.Finish.{StatusIs, AnswerIs};
 
 use crate::findings::{Findings, first_findings};
@@ -72,7 +72,8 @@ impl Model for Search {
 impl Search {
     ghost use Rattle.search.specs.Search.{SearchState, IsNew, IsOutstanding, IsCompleted, rows_of, asked_role, net_of, SameQuestion};
     ghost use Rattle.search.specs.Stage.{waiting_in, signals_in, held_in, stage_marked, Delivers};
-    ghost use Rattle.search.specs.Finish.{IsRightStatus, Takes, Finishes};
+    ghost use Rattle.search.specs.Finish.{Takes, Finishes};
+    ghost use Rattle.search.specs.Ending.{Settled, IsEnding, status_of};
 
     /// A search over the snapshot that may send so many letters. One letter, to the asked role, waits.
     pub fn open(
@@ -116,14 +117,15 @@ impl Search {
         ensures working { (result ≡ Status.Working) ↔ IsOutstanding self.now.stage }
         ensures spent { (result ≡ Status.Spent) ↔ (self.now.stage ≡ Stage.Spent) }
         ensures broken { (result ≡ Status.Broken) ↔ (self.now.stage ≡ Stage.Broken) }
-        ensures truth { IsCompleted self.now.stage → IsRightStatus (rows_of self.now) self.now.query result }
+        ensures ending { (result ≡ Status.Working → ⊥)
+            → (end : Settled) × (result ≡ status_of end) × IsEnding self.now.work (rows_of self.now) self.now.query end }
         ensures exact { IsCompleted self.now.stage → IsExact (rows_of self.now) (asked_role self.now.query) (Known self.now.graph) }
         ensures rules { (c : Computation Load) → self.now.stage ≡ Stage.Running c
             → OwesRules (rows_of self.now)
             (asked_role self.now.query) (net_of self.now.graph self.now.monitors c) }
     {
         let _work = self.work;
-        status_of(&self.stage, &self.found.graph, &self.query)
+        status_at(&self.stage, &self.found.graph, &self.query)
     }
 
     /// The members of the asked role, in order, each once. A completed search has them.
@@ -219,14 +221,16 @@ impl Search {
 
     /// What the search has found.
     pub fn graph(&self) -> &Graph
-        ensures { result.now ≡ self.now.graph }
+        ensures graph { result.now ≡ self.now.graph }
+        ensures reasons { (c : Computation Load) → self.now.stage ≡ Stage.Running c
+            → IsJustified (rows_of self.now) (asked_role self.now.query) self.now.graph }
     {
         &self.found.graph
     }
 }
 
 // What a search of this stage has come to, whose graph is this.
-fn status_of(stage: &Stage, graph: &Graph, query: &Query) -> Status
+fn status_at(stage: &Stage, graph: &Graph, query: &Query) -> Status
     ensures { StatusIs stage.now graph.now query.now result }
 {
     match stage {

@@ -18,7 +18,7 @@ use Rattle.search.proofs.Finishing.{rightly, wrongly, sent_finishes, sent_kept}
 use Rattle.search.proofs.searches.Search.finish.Goals as goal
 
 pub hint_is_right-requires : goal.hint_is_right-requires
-hint_is_right-requires c = node_in (held_awaits (the_view c.self.inside) c.self.invariant c.args.letter c.in-Some.held c.in-Some.ensures)
+hint_is_right-requires c = node_in (held_awaits (the_view c.self.inside) c.self.invariant.rules c.args.letter c.in-Some.held c.in-Some.ensures)
 
 pub invariant_of-self : goal.invariant_of-self
 invariant_of-self c = marked_stage_kept (the_view c.self.inside) c.wait_again.new.stage c.args.letter false c.self.invariant c.wait_again.ensures
@@ -28,7 +28,7 @@ returns-then-not-hint_is_right c =
     let s = the_view c.self.inside in
     subst (λ (x : SearchState). Finishes x (record s { stage = c.wait_again.new.stage }) c.args.letter c.args.hint finished.BadHint) c.self.view_is
     (wrongly s c.args.letter c.args.hint c.in-Some.held c.deref.result.now c.wait_again.new.stage c.deref.ensures c.in-Some.ensures
-    (node_in (held_awaits s c.self.invariant c.args.letter c.in-Some.held c.in-Some.ensures))
+    (node_in (held_awaits s c.self.invariant.rules c.args.letter c.in-Some.held c.in-Some.ensures))
     (λ right. false≢true (sym c.if-not-hint_is_right.true ∙ c.hint_is_right.ensures.right.1 right)) c.wait_again.ensures)
 
 pub receive-requires-clause-awaits : goal.receive-requires-clause-awaits
@@ -37,13 +37,13 @@ receive-requires-clause-awaits c =
       asked_role c.self.inside.query,
       sent_of c.in-Some.ensures.running.letters,
       subst (λ (v : SnapshotState). Awaits (credentials v.vaults) (asked_role c.self.inside.query) c.self.inside.found.graph c.self.inside.found.monitors.items (sent_of c.in-Some.ensures.running.letters) c.in-Some.held.from c.in-Some.held.to c.in-Some.held.load)
-          (sym c.deref-2.ensures) (held_awaits s c.self.invariant c.args.letter c.in-Some.held c.in-Some.ensures),
+          (sym c.deref-2.ensures) (held_awaits s c.self.invariant.rules c.args.letter c.in-Some.held c.in-Some.ensures),
     )
 
 pub send-requires : goal.send-requires
 send-requires c =
     let held = c.in-Some.ensures in
-    (held.running, held.runs, held.held, (c.self.invariant held.running held.runs).within)
+    (held.running, held.runs, held.held, (c.self.invariant.rules held.running held.runs).within)
 
 pub invariant_of-self-in-Ok : goal.invariant_of-self-in-Ok
 invariant_of-self-in-Ok c =

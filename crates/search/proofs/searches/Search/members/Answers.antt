@@ -15,13 +15,13 @@ use Rattle.search.proofs.searches.Search.members.Goals as goal
 pub solutions_in_order-requires : goal.solutions_in_order-requires
 solutions_in_order-requires c =
     let s = the_view c.self.inside in
-    completed_root s s.stage refl c.self.invariant (subst (λ (x : SearchState). IsCompleted x.stage) (sym c.self.view_is) c.requires)
+    completed_root s s.stage refl c.self.invariant.rules (subst (λ (x : SearchState). IsCompleted x.stage) (sym c.self.view_is) c.requires)
 
 pub returns : goal.returns
 returns c =
     let s = the_view c.self.inside in
     let list_of = c.solutions_in_order.result in
-    let are = completed_members s s.stage refl c.self.invariant (subst (λ (x : SearchState). IsCompleted x.stage) (sym c.self.view_is) c.requires) in
+    let are = completed_members s s.stage refl c.self.invariant.rules (subst (λ (x : SearchState). IsCompleted x.stage) (sym c.self.view_is) c.requires) in
     subst (λ (x : SearchState). IfOk list_of (λ members. AreMembers (rows_of x) (asked_role x.query) members.items)) c.self.view_is
     (IfOk-weaker list_of
     (λ list. IsStrictlySortedBy name_order list.items × ((d : List ℕ) → Contains list.items d ↔ Contains (members_of s.graph 0) d))

@@ -5,7 +5,7 @@ use Rattle.search.proofs.Searching.{taken_to, marked_stage_kept}
 use Rattle.search.proofs.searches.Search.take_letter.Goals as goal
 
 pub needed-requires : goal.needed-requires
-needed-requires c = taken_to (the_view c.self.inside) c.hold.new.stage c.args.place c.in-Some.number c.in-Some.held c.self.invariant c.in-Some.ensures
+needed-requires c = taken_to (the_view c.self.inside) c.hold.new.stage c.args.place c.in-Some.number c.in-Some.held c.self.invariant.rules c.in-Some.ensures
 
 pub invariant_of-self-2 : goal.invariant_of-self-2
 invariant_of-self-2 c = marked_stage_kept (the_view c.self.inside) c.hold.new.stage c.in-Some.number true c.self.invariant c.in-Some.ensures.marked
