@@ -26,3 +26,7 @@ pub mod WorkOf
 pub mod Tallied
 pub mod TalliedFinish
 pub mod Ended
+pub mod ByNumber
+pub mod InHand
+pub mod StepsLeft
+pub mod Driven
