@@ -2,6 +2,7 @@
 //! hold of them. Definitions of a whole hall of tenants stand beside them.
 #![tactic(auto)]
 
+pub mod calls;
 mod faults;
 mod laws;
 mod lists;
