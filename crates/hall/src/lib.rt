@@ -9,6 +9,7 @@ mod lists;
 mod queries;
 mod replies;
 mod requests;
+pub mod run_laws;
 #[cfg(test)]
 mod tests;
 
