@@ -9,3 +9,4 @@ pub mod Named
 pub mod Timely
 pub mod Timeliness
 pub mod Deeds
+pub mod halls

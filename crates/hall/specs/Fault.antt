@@ -2,7 +2,7 @@
 use Rattle.std.specs.Prelude.{ℕ}
 use Rattle.hall.specs.declared.faults.Fault.{Fault}
 use Rattle.hall.specs.declared.faults.Fault.TheVariants.{NotIssuer, AlreadyHeld, NotHeld, AlreadyGranted, NotGranted, GrantSelf}
-use Rattle.hall.specs.declared.faults.Fault.TheVariants.{Creds, Grants, Searches, Changes, Opens, NoSuchSearch, NoTenant, Memory}
+use Rattle.hall.specs.declared.faults.Fault.TheVariants.{Creds, Grants, Searches, Changes, Opens, NoSuchSearch, NotDone, NoProof, NoTenant, Memory}
 use Rattle.vaults.specs.declared.faults.VaultFault.{VaultFault}
 use Rattle.vaults.specs.declared.faults.VaultFault.TheVariants as vault
 use Rattle.quotas.specs.declared.faults.QuotaFault.{QuotaFault}
@@ -21,6 +21,8 @@ fault_number Searches = 43
 fault_number Changes = 44
 fault_number Opens = 45
 fault_number NoSuchSearch = 51
+fault_number NotDone = 52
+fault_number NoProof = 53
 fault_number NoTenant = 62
 fault_number Memory = 90
 

@@ -7,3 +7,4 @@ pub mod Run
 pub mod Laws
 pub mod Calls
 pub mod Deeds
+pub mod halls

@@ -44,6 +44,12 @@ pub enum Fault {
     /// The tenant has no search of this number that it has not ended.
     #[error("no such search")]
     NoSuchSearch,
+    /// The search has no answer that could be proved.
+    #[error("not done")]
+    NotDone,
+    /// The entity is no member, so there is no proof that it is.
+    #[error("no proof")]
+    NoProof,
     /// The name doesn't stand in the roster.
     #[error("bad hello")]
     NoTenant,
@@ -72,6 +78,8 @@ impl Fault {
             Fault::Changes => 44,
             Fault::Opens => 45,
             Fault::NoSuchSearch => 51,
+            Fault::NotDone => 52,
+            Fault::NoProof => 53,
             Fault::NoTenant => 62,
             Fault::Memory => 90,
         }

@@ -2,12 +2,14 @@
 //! hold of them. Definitions of a whole hall of tenants stand beside them.
 #![tactic(auto)]
 
+pub mod calls;
 mod faults;
 mod laws;
 mod lists;
 mod queries;
 mod replies;
 mod requests;
+pub mod run_laws;
 #[cfg(test)]
 mod tests;
 

@@ -44,6 +44,8 @@ fn numbers_and_texts(rt: HostRuntime) -> Result<(), Fail> {
         (Fault::Changes, 44, "changes limit"),
         (Fault::Opens, 45, "opens limit"),
         (Fault::NoSuchSearch, 51, "no such search"),
+        (Fault::NotDone, 52, "not done"),
+        (Fault::NoProof, 53, "no proof"),
         (Fault::NoTenant, 62, "bad hello"),
         (Fault::Memory, 90, "memory"),
     ];

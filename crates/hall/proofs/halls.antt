@@ -1,0 +1,9 @@
+pub mod Lists
+pub mod Holders
+pub mod Truths
+pub mod Alike
+pub mod Worlds
+pub mod Stepping
+pub mod Sound
+pub mod Serving
+pub mod Runs

@@ -1,0 +1,10 @@
+pub mod Searches
+pub mod Holder
+pub mod Account
+pub mod State
+pub mod Run
+pub mod Agree
+pub mod Calls
+pub mod Answers
+pub mod Deeds
+pub mod Laws
