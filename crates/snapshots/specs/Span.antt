@@ -1,5 +1,5 @@
 -- Where the rows of a role stand in a view: said by counting what stands before them.
-use Rattle.std.specs.Prelude.{ℕ, Bool, List, length, filter}
+use Rattle.std.specs.Prelude.{ℕ, ◌+◌, Bool, List, length, filter}
 use Rattle.std.specs.Ordering.{is_lt, is_eq, is_le}
 use Rattle.names.specs.Name.{name_order}
 use Rattle.names.specs.declared.roles.Role.{Role}
@@ -9,6 +9,7 @@ use Rattle.vaults.specs.Journal.{Vault, credentials}
 use Rattle.snapshots.specs.declared.spans.Span.{Span}
 use Rattle.snapshots.specs.declared.spans.Cut.{Cut}
 use Rattle.snapshots.specs.declared.spans.Cut.TheVariants.{Before, Through}
+use Rattle.snapshots.specs.Places.{neighbours}
 
 -- how many elements pass
 abbrev pub how_many : {X : Type 0} → (X → Bool) → List X → ℕ
@@ -56,3 +57,9 @@ span_of view role = record {
 abbrev pub is_cut : Cut → Role → Credential → Bool
 is_cut Before role = is_before role
 is_cut Through role = is_through role
+
+-- how many comparisons show that a span is right: with the owners and the rows next to its places, and with the owner of
+-- its vault
+abbrev pub comparisons : List Vault → Role → Span → ℕ
+comparisons view role span =
+    neighbours view span.vault + 1 + neighbours (rows_of view role.owner) span.lo + neighbours (rows_of view role.owner) span.hi

@@ -1,12 +1,12 @@
-ghost use Rattle.std.specs.Prelude.{◌≡◌, ◌+◌, ◌++◌, ◌<◌, ◌≤◌, ◌↔◌, Some, [], ◌∷◌, length, IsTrue, IfOk, IfErr, OnOk};
+ghost use Rattle.std.specs.Prelude.{◌≡◌, ◌+◌, ◌++◌, ◌<◌, ◌≤◌, ◌↔◌, Some, [], ◌∷◌, length, nat_lt, IsTrue, IfOk, IfErr, OnOk};
 ghost use Rattle.std.specs.List.{slice_get};
 ghost use Rattle.std.specs.List.Sorted.{IsStrictlySortedBy};
 ghost use Rattle.names.specs.declared.roles.Role.{Role};
 ghost use Rattle.credential_text.specs.Credential.{credential_order};
 ghost use Rattle.vaults.specs.Journal.{view};
 ghost use Rattle.vaults.specs.declared.faults.VaultFault.TheVariants as faults;
-ghost use Rattle.snapshots.specs.Span.{is_below, place_of, rows_of, role_rows, span_of};
-ghost use Rattle.snapshots.specs.Places.{PassesBelow, FailsAt};
+ghost use Rattle.snapshots.specs.Span.{is_below, place_of, rows_of, role_rows, span_of, comparisons};
+ghost use Rattle.snapshots.specs.Places.{PassesBelow, FailsAt, one, neighbours};
 ghost use Rattle.snapshots.specs.Snapshot.{IsOrdered};
 
 use crate::holdings::Holding;
@@ -79,6 +79,7 @@ impl Snapshot {
     pub fn span_is<L: Ledger>(&self, role: &Role, span: Span, steps: &mut Steps<L>) -> bool
         ensures exact { IsTrue result ↔ (span ≡ span_of self.now.vaults role.now) }
         ensures cost { steps.new ≤ steps.old + 8 }
+        ensures counted { IsTrue result → steps.new ≡ steps.old + comparisons self.now.vaults role.now span }
     {
         if !is_vaults_below(&self.vaults, &role.owner, span.vault, steps) {
             return false;
@@ -150,6 +151,7 @@ fn is_vaults_below<L: Ledger>(
     requires { IsOrdered vaults.now }
     ensures exact { IsTrue result ↔ (count ≡ place_of vaults.now owner.now) }
     ensures cost { steps.new ≤ steps.old + 2 }
+    ensures counted { IsTrue result → steps.new ≡ steps.old + neighbours vaults.now count }
 {
     if count > vaults.len() as u64 {
         return false;
@@ -168,7 +170,7 @@ fn owner_passes_below<L: Ledger>(
 ) -> bool
     requires { place ≤ length vaults.now }
     ensures exact { IsTrue result ↔ PassesBelow (is_below owner.now) vaults.now place }
-    ensures cost { steps.new ≤ steps.old + 1 }
+    ensures counted { steps.new ≡ steps.old + one (nat_lt 0 place) }
 {
     if place == 0 {
         return true;
@@ -185,7 +187,7 @@ fn owner_fails_at<L: Ledger>(
 ) -> bool
     requires { place ≤ length vaults.now }
     ensures exact { IsTrue result ↔ FailsAt (is_below owner.now) vaults.now place }
-    ensures cost { steps.new ≤ steps.old + 1 }
+    ensures counted { steps.new ≡ steps.old + one (nat_lt place (length vaults.now)) }
 {
     if place == vaults.len() {
         return true;

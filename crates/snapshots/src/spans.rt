@@ -1,8 +1,8 @@
-ghost use Rattle.std.specs.Prelude.{◌≡◌, ◌+◌, ◌≤◌, IsTrue, ◌↔◌, length};
+ghost use Rattle.std.specs.Prelude.{◌≡◌, ◌+◌, ◌≤◌, IsTrue, ◌↔◌, nat_lt, length};
 ghost use Rattle.std.specs.List.Sorted.{IsStrictlySortedBy};
 ghost use Rattle.credential_text.specs.Credential.{credential_order};
 ghost use Rattle.snapshots.specs.Span.{how_many, is_cut};
-ghost use Rattle.snapshots.specs.Places.{PassesBelow, FailsAt};
+ghost use Rattle.snapshots.specs.Places.{PassesBelow, FailsAt, one, neighbours};
 
 use crate::steps::Steps;
 use credential_text::Credential;
@@ -57,6 +57,7 @@ pub fn is_rows_until<L: Ledger>(
     requires { IsStrictlySortedBy credential_order rows.now }
     ensures exact { IsTrue result ↔ (count ≡ how_many (is_cut cut role.now) rows.now) }
     ensures cost { steps.new ≤ steps.old + 2 }
+    ensures counted { IsTrue result → steps.new ≡ steps.old + neighbours rows.now count }
 {
     if count > rows.len() as u64 {
         return false;
@@ -77,7 +78,7 @@ fn passes_below<L: Ledger>(
 ) -> bool
     requires { place ≤ length rows.now }
     ensures exact { IsTrue result ↔ PassesBelow (is_cut cut role.now) rows.now place }
-    ensures cost { steps.new ≤ steps.old + 1 }
+    ensures counted { steps.new ≡ steps.old + one (nat_lt 0 place) }
 {
     if place == 0 {
         return true;
@@ -96,7 +97,7 @@ fn fails_at<L: Ledger>(
 ) -> bool
     requires { place ≤ length rows.now }
     ensures exact { IsTrue result ↔ FailsAt (is_cut cut role.now) rows.now place }
-    ensures cost { steps.new ≤ steps.old + 1 }
+    ensures counted { steps.new ≡ steps.old + one (nat_lt place (length rows.now)) }
 {
     if place == rows.len() {
         return true;
