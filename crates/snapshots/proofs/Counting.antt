@@ -1,6 +1,6 @@
 -- How many elements pass, where those that pass come first.
-use Rattle.std.proofs.Common.{ℕ, zero, suc, Bool, true, false, cond, List, [], ◌∷◌, ◌≡◌, ◌∙◌, ◌↔◌, ◌-◌, ◌<◌, ◌≤◌, sym, ap, refl, subst, length, filter, get_or, arith, Some, inl, inr}
-use Rattle.std.specs.List.{AllWithin, slice_get}
+use Rattle.std.proofs.Common.{ℕ, zero, suc, Bool, true, false, cond, List, [], ◌∷◌, ◌≡◌, ◌∙◌, ◌↔◌, ◌-◌, ◌<◌, ◌≤◌, sym, ap, refl, subst, length, filter, get_or, arith, inl, inr}
+use Rattle.std.specs.List.{AllWithin}
 use Rattle.std.specs.List.Sorted.{IsPartitionedBy, IsPartitionPoint, IsStrictlySortedBy}
 use Rattle.std.specs.declared.cmp.Ordering.{Ordering}
 use Rattle.std.specs.declared.cmp.Ordering.TheVariants.{Less}

@@ -1,5 +1,5 @@
 -- Cuts through the rows of a vault, and the rows of a role between two of them.
-use Rattle.std.proofs.Common.{ℕ, zero, suc, Bool, true, false, cond, List, [], ◌∷◌, ◌≡◌, ◌∙◌, ◌⊎◌, ◌+◌, ◌<◌, ◌≤◌, sym, ap, refl, subst, length, filter, arith, Option, Some, inl, inr}
+use Rattle.std.proofs.Common.{ℕ, zero, suc, true, cond, List, [], ◌∷◌, ◌≡◌, ◌∙◌, ◌⊎◌, ◌+◌, ◌<◌, sym, ap, refl, subst, length, filter, arith, Some, inl, inr}
 use Rattle.std.specs.List.{slice_get}
 use Rattle.std.specs.List.Sorted.{IsPartitionedBy, IsStrictlySortedBy}
 use Rattle.std.specs.declared.cmp.Ordering.{Ordering}

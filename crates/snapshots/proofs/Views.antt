@@ -1,6 +1,6 @@
 -- Views in order, and where an owner's vault stands in one.
-use Rattle.std.proofs.Common.{ℕ, Bool, true, false, cond, List, [], ◌∷◌, ◌++◌, ◌≡◌, ◌∙◌, sym, ap, refl, subst, ◌+◌, ◌<◌, ◌≤◌, length, take, map, filter, get_or, arith, Option, Some, None, IsTrue}
-use Rattle.std.specs.List.{slice_get, All, AllByRecursion, Contains}
+use Rattle.std.proofs.Common.{ℕ, Bool, true, false, cond, List, [], ◌∷◌, ◌++◌, ◌≡◌, ◌∙◌, sym, ap, refl, subst, ◌+◌, ◌<◌, ◌≤◌, length, take, map, filter, get_or, arith, Option, Some, None}
+use Rattle.std.specs.List.{slice_get, All, AllByRecursion}
 use Rattle.std.specs.List.Sorted.{IsPartitionedBy, IsStrictlySortedBy}
 use Rattle.std.specs.declared.cmp.Ordering.{Ordering}
 use Rattle.std.specs.declared.cmp.Ordering.TheVariants.{Less, Equal, Greater}

@@ -1,6 +1,5 @@
-use Rattle.std.proofs.Common.{Bool, List, [], None, ◌∙◌, sym, ap, cond}
+use Rattle.std.proofs.Common.{Bool, [], None, ◌∙◌, sym, ap, cond}
 use Rattle.std.proofs.lemmas.Option.{slice_get_past}
-use Rattle.credential_text.specs.declared.credentials.Credential.{Credential}
 use Rattle.snapshots.proofs.Views.{placed_rows, rows_there, sorted_rows_of}
 use Rattle.snapshots.proofs.snapshots.rows_at.Goals as goal
 

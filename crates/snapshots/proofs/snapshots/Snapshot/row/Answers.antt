@@ -1,10 +1,8 @@
 use Rattle.std.proofs.Common.{List, ◌≡◌, ◌<◌, ◌+◌, ◌∙◌, arith, sym, ap, subst, length, Some}
 use Rattle.std.specs.List.{slice_get}
 use Rattle.std.proofs.lemmas.Option.{slice_get_within}
-use Rattle.names.specs.declared.roles.Role.{Role}
 use Rattle.credential_text.specs.declared.credentials.Credential.{Credential}
 use Rattle.vaults.specs.Journal.{Vault}
-use Rattle.snapshots.specs.declared.spans.Span.{Span}
 use Rattle.snapshots.specs.Span.{rows_of, role_rows, span_of}
 use Rattle.snapshots.specs.Snapshot.{SnapshotState}
 use Rattle.snapshots.proofs.Views.{span_vault, span_rows, span_within, span_row}
