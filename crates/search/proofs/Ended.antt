@@ -4,6 +4,7 @@ use Rattle.std.specs.List.{list_any, Contains}
 use Rattle.std.specs.List.Sorted.{IsStrictlySortedBy}
 use Rattle.std.proofs.lemmas.Bool.{cases_Bool, cases_eq, false≢true}
 use Rattle.names.specs.declared.roles.Role.{Role}
+use Rattle.credential_text.specs.declared.credentials.Credential.{Credential}
 use Rattle.names.specs.Name.{is_same, name_order}
 use Rattle.rt0_rules.specs.Membership.{IsMember, AreMembers}
 use Rattle.rt0_rules.specs.Work.{WorkIs}
@@ -81,14 +82,28 @@ ends s kept = ends_at s s.stage refl kept
 pub same_question : (s : SearchState) (g : GraphState) (ms : List Monitor) (st : Stage) → SameQuestion s (record s { graph = g; monitors = ms; stage = st })
 same_question s g ms st = record { query = refl; work = refl; snapshot = refl }
 
+-- what settles one settles the other of the same question
+same_asked : {s t : SearchState} → SameQuestion s t → {old new : Settled} → MaySettle t.work (rows_of t) t.query old new → MaySettle s.work (rows_of s) s.query old new
+same_asked {s} {t} same {old} {new} may =
+    subst (λ (n : ℕ). MaySettle n (rows_of s) s.query old new) same.work
+    (subst (λ (v : SnapshotState). MaySettle t.work (credentials v.vaults) s.query old new) same.snapshot
+    (subst (λ (q : Query). MaySettle t.work (rows_of t) q old new) same.query may))
+
+-- one step after another
+settles_twice : (limit : ℕ) (C : List Credential) (q : Query) (x y z : Settled) → MaySettle limit C q x y → MaySettle limit C q y z → MaySettle limit C q x z
+settles_twice limit C q x y z (inl same) (inl again) = inl (again ∙ same)
+settles_twice limit C q x y z (inl same) (inr later) = inr (sym same ∙ later.0, later.1)
+settles_twice limit C q x y z (inr ended) (inl again) = inr (ended.0, subst (IsEnding limit C q) (sym again) ended.1)
+settles_twice limit C q x y z (inr ended) (inr later) = inr (ended.0, later.1)
+
+pub settles_on : (s t u : SearchState) → SameQuestion s t → Settles s t → Settles t u → Settles s u
+settles_on s t u same first later = settles_twice s.work (rows_of s) s.query (settled_of s) (settled_of t) (settled_of u) first (same_asked same later)
+
 -- a step of a search of which something is outstanding
 pub settles : {s old t : SearchState} → s ≡ old → SameQuestion s t → IsKept t → IsOutstanding s.stage → Settles old t
 settles {s} {old} {t} view same kept busy =
     subst (λ (x : SearchState). Settles x t) view
-    (subst (λ (was : Settled). MaySettle s.work (rows_of s) s.query was (settled_of t)) (sym (unsettled s busy))
-    (subst (λ (n : ℕ). MaySettle n (rows_of s) s.query Nothing (settled_of t)) same.work
-    (subst (λ (v : SnapshotState). MaySettle t.work (credentials v.vaults) s.query Nothing (settled_of t)) same.snapshot
-    (subst (λ (q : Query). MaySettle t.work (rows_of t) q Nothing (settled_of t)) same.query (ends t kept)))))
+    (subst (λ (was : Settled). MaySettle s.work (rows_of s) s.query was (settled_of t)) (sym (unsettled s busy)) (same_asked same (ends t kept)))
 
 -- a signal
 pub signal_settles : {s old : SearchState} (st : Stage) (place : ℕ) (b : Bool) → s ≡ old → IsKept s → Delivers s.stage st place b → Settles old (record s { stage = st })
