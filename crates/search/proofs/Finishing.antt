@@ -21,7 +21,7 @@ use Rattle.search.specs.Net.{sent_of}
 use Rattle.search.specs.Answers.{progress, Answers}
 use Rattle.search.specs.Need.{need_of, right_hint}
 use Rattle.search.specs.Stage.{HoldsLetter, letter_in, held_in, if_held, stage_marked, Sends}
-use Rattle.search.specs.Search.{SearchState, SameQuestion, KeptBy, IsTallied, IsKept, asked_role, rows_of}
+use Rattle.search.specs.Search.{SearchState, KeptBy, IsTallied, IsKept, asked_role, rows_of}
 use Rattle.search.specs.Finish.{IsRightly, Finishes}
 use Rattle.search.proofs.Grow.{one_expr}
 use Rattle.search.proofs.Receive.{receipt}
@@ -29,6 +29,7 @@ use Rattle.search.proofs.Closing.{done_kept}
 use Rattle.search.proofs.TalliedFinish.{done_tallied, work_exceeds}
 use Rattle.search.proofs.Searching.{held_awaits}
 use Rattle.search.proofs.Holding.{same_running}
+use Rattle.search.proofs.Ended.{same_question}
 
 -- the letter in hand is the held letter of its number
 pub held_letter_is : (st : Stage) (number : ℕ) (h : Held) → HoldsLetter st number h → held_in st number ≡ Some (letter_in h)
@@ -72,15 +73,12 @@ module _ (s : SearchState) (number : ℕ) (hint : Hint) (h : Held) (held : Holds
   abbrev after : Stage → SearchState
   after st = record s { graph = g; monitors = ms; stage = st }
 
-  same_question : (st : Stage) → SameQuestion s (after st)
-  same_question st = record { query = refl; work = refl; snapshot = refl }
-
   pub sent_finishes : (st : Stage) (result : Finished) → Sends s.stage st s.work number outs result → Finishes s (after st) number hint result
   sent_finishes st finished.Done (c, d, ran, runs, within, finishes) =
-      (letter_in h, right, record { before = c; after = d; outs = outs; ran = ran; runs = runs; finishes = finishes; within = within; row = row }, same_question st)
+      (letter_in h, right, record { before = c; after = d; outs = outs; ran = ran; runs = runs; finishes = finishes; within = within; row = row }, same_question s g ms st)
   sent_finishes st finished.Spent (c, ran, over, is) =
-      (letter_in h, right, record { before = c; reached = progress g ms outs; ran = ran; row = row; over = over }, is, same_question st)
-  sent_finishes st finished.Broken (c, ran, within, is) = (letter_in h, right, is, same_question st)
+      (letter_in h, right, record { before = c; reached = progress g ms outs; ran = ran; row = row; over = over }, is, same_question s g ms st)
+  sent_finishes st finished.Broken (c, ran, within, is) = (letter_in h, right, is, same_question s g ms st)
   sent_finishes st finished.BadHint sent = absurd sent
   sent_finishes st finished.NotHeld sent = absurd sent
 

@@ -25,6 +25,7 @@ pub mod CountedSteps
 pub mod WorkOf
 pub mod Tallied
 pub mod TalliedFinish
+pub mod Answered
 pub mod Ended
 pub mod ByNumber
 pub mod InHand

@@ -18,6 +18,7 @@ use Rattle.search.specs.declared.findings.Monitor.TheVariants as monitor
 use Rattle.search.specs.declared.queries.Query.{Query}
 use Rattle.search.specs.declared.stages.Stage.{Stage}
 use Rattle.search.specs.declared.stages.Stage.TheVariants as stage
+use Rattle.search.specs.Ending.{Settled, MaySettle, come_to}
 pub use Rattle.search.specs.Ending.{asked_role}
 use Rattle.search.specs.Net.{Net, IsPendingStart, sent_of}
 use Rattle.search.specs.Steady.{IsSteady}
@@ -34,6 +35,10 @@ pub record SearchState : Type 0 where
 -- the credentials that the search reads
 abbrev pub rows_of : SearchState → List Credential
 rows_of s = credentials s.snapshot.vaults
+
+-- what the search has come to
+unfoldable pub settled_of : SearchState → Settled
+settled_of s = come_to s.stage s.graph s.query
 
 -- something of the search is outstanding
 abbrev pub IsOutstanding : Stage → Type 0
@@ -96,3 +101,7 @@ pub record SameQuestion (s t : SearchState) : Type 0 where
   pub query : t.query ≡ s.query
   pub work : t.work ≡ s.work
   pub snapshot : t.snapshot ≡ s.snapshot
+
+-- a search settles once, and with what it may come to
+abbrev pub Settles : SearchState → SearchState → Type 0
+Settles s t = MaySettle s.work (rows_of s) s.query (settled_of s) (settled_of t)

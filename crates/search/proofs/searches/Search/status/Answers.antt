@@ -1,16 +1,19 @@
--- What the search keeps gives the truth of its answer.
+-- What the search keeps gives the truth of what it has come to.
 use Rattle.std.proofs.Common.{refl, subst}
-use Rattle.search.specs.Search.{SearchState, IsKept, rows_of, asked_role}
-use Rattle.search.specs.Finish.{StatusIs}
+use Rattle.search.specs.Search.{IsKept, rows_of, asked_role}
 use Rattle.search.proofs.Searching.{status_exact, rules_owed}
-use Rattle.search.proofs.Ended.{comes_to}
+use Rattle.search.proofs.Answered.{status_is, works_as}
+use Rattle.search.proofs.Ended.{ends}
 use Rattle.search.proofs.searches.Search.status.Goals as goal
 
+pub returns-clause-is : goal.returns-clause-is
+returns-clause-is c = status_is c.self.view_is c.status_at.ensures
+
+pub returns-clause-working : goal.returns-clause-working
+returns-clause-working c = works_as c.self.view_is c.status_at.ensures
+
 pub returns-clause-ending : goal.returns-clause-ending
-returns-clause-ending c =
-    let s = c.args.self.now in
-    comes_to s s.stage c.status_at.result refl (subst IsKept c.self.view_is c.self.invariant)
-    (subst (λ (x : SearchState). StatusIs x.stage x.graph x.query c.status_at.result) c.self.view_is c.status_at.ensures)
+returns-clause-ending c = ends c.args.self.now (subst IsKept c.self.view_is c.self.invariant)
 
 pub returns-clause-exact : goal.returns-clause-exact
 returns-clause-exact c =
