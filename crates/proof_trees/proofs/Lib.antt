@@ -3,3 +3,10 @@ pub mod Zipped
 pub mod Soundness
 pub mod RuleLemmas
 pub mod TextLemmas
+pub mod FindingLemmas
+pub mod Numbered
+pub mod DraftLemmas
+pub mod PremiseLemmas
+pub mod ProvingLemmas
+pub mod Walk
+pub mod WalkLemmas

@@ -3,9 +3,16 @@
 #![tactic(auto)]
 
 mod checking;
+mod drafts;
+mod faults;
+mod findings;
 mod laws;
 mod premises;
 mod proofs;
+mod proving;
+mod rules;
+#[cfg(test)]
+mod search_tests;
 mod standing;
 mod steps;
 #[cfg(test)]
@@ -13,8 +20,10 @@ mod tests;
 mod writing;
 
 pub use checking::check_proof;
+pub use faults::ProofFault;
 pub use laws::{cited_credentials_are_canonical, proofs_are_sound};
 pub use premises::Premises;
 pub use proofs::Proof;
+pub use proving::proof_of;
 pub use steps::{Rule, Step};
 pub use writing::write_proof;

@@ -5,7 +5,7 @@ use std::alloc::Global;
 use std::marker::Model;
 
 /// The most premises of a step: one for each part of an intersection.
-const MOST_PREMISES: usize = 8;
+pub(crate) const MOST_PREMISES: usize = 8;
 
 /// The steps that a step by parts stands on, up to 8, counted from 0: the first for the first part, and so on.
 #[derive(Drop)]
