@@ -1,5 +1,6 @@
 pub mod Lists
 pub mod Holders
+pub mod Lookups
 pub mod Truths
 pub mod Alike
 pub mod Worlds
