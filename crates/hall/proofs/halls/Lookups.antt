@@ -73,6 +73,14 @@ search_ending {S} k of h at = by (find (is_number k) (filter (λ (s : Numbered S
     by None none e = cc
     by (Some s) found e = none_left k h.searches s found
 
+-- what is there after an ending was there
+pub search_was : {S : Type 0} (k gone : ℕ) (of : S) (h : Holder S) → search_in k (ending gone h) ≡ Some of → search_in k h ≡ Some of
+search_was {S} k gone of h at = by (gone == k) refl
+  where
+    by : (b : Bool) → (gone == k) ≡ b → search_in k h ≡ Some of
+    by true same = absurd (search_ending k of h (subst (λ (n : ℕ). search_in k (ending n h) ≡ Some of) ((Decides-eqb gone k).0 same) at))
+    by false apart = sym (search_ended k gone h (λ same. false≢true (sym apart ∙ (Decides-eqb gone k).1 same))) ∙ at
+
 -- the searches of other numbers stay where one goes on
 pub search_passed : {S : Type 0} (k at : ℕ) (new : S) (h : Holder S) → (at ≡ k → ⊥) → search_in k (going_on at new h) ≡ search_in k h
 search_passed {S} k at new h other =

@@ -26,32 +26,16 @@ use Rattle.hall.specs.halls.Run.{beginning, starting, hall_after, MayReplyTo, Is
 use Rattle.hall.proofs.Elements.{Both, both_mapped}
 use Rattle.hall.proofs.halls.Holders.{opening_mapped, ending_mapped, beside_itself, beside_going_on, beside_mapped, found_in}
 use Rattle.hall.proofs.halls.Stepping.{SearchGoesOn, step_goes_on, nothing_yet}
-use Rattle.hall.proofs.halls.Sound.{named_changed, found_tenant, running_at}
-
-changed_here : (name : List ℕ) (change : Holder Running → Holder Running) (t : Tenant) → t.name ≡ name → at_name name change t ≡ record { name = t.name; holder = change t.holder }
-changed_here name change t is = ap (λ (b : Bool). cond b (record { name = t.name; holder = change t.holder }) t) (is_same_itself t.name name is)
+use Rattle.hall.proofs.halls.Named.{named_changed, named_here, named_other, found_tenant, running_at}
 
 -- a tenant's account where what it holds was changed
-own_changed : (h : HallState) (name : List ℕ) (change : Holder Running → Holder Running) (t : Tenant) → tenant_named name h.tenants ≡ Some t → t.name ≡ name →
+own_changed : (h : HallState) (name : List ℕ) (change : Holder Running → Holder Running) (t : Tenant) → tenant_named name h.tenants ≡ Some t →
     account_of (with_holder h name change) name ≡ Some (account h.journal (record { name = t.name; holder = change t.holder }))
-own_changed h name change t found is =
-    ap (option_map (account h.journal)) (named_changed name name change h.tenants ∙ ap (option_map (at_name name change)) found)
-    ∙ ap (λ (u : Tenant). Some (account h.journal u)) (changed_here name change t is)
+own_changed h name change t found = ap (option_map (account h.journal)) (named_here name change h.tenants t found)
 
 -- and that of another name
-other_changed : (h : HallState) (name other : List ℕ) (change : Holder Running → Holder Running) → IsSound h → is_same name other ≡ false →
-    account_of (with_holder h name change) other ≡ account_of h other
-other_changed h name other change sound apart =
-    ap (option_map (account h.journal)) (named_changed name other change h.tenants ∙ by (tenant_named other h.tenants) refl)
-  where
-    unlike : (t : Tenant) → t.name ≡ other → is_same t.name name ≡ true → ⊥
-    unlike t is same = both_ways (is_same name other) apart (is_same_itself name other (sym (same_from_is_same t.name name same) ∙ is))
-
-    by : (o : Option Tenant) → tenant_named other h.tenants ≡ o → option_map (at_name name change) o ≡ o
-    by None is = refl
-    by (Some t) is =
-        let named = (found_tenant (IsSoundTenant h.journal) other h.tenants sound.tenants t is).1 in
-        ap (λ (b : Bool). Some (cond b (record { name = t.name; holder = change t.holder }) t)) (false_from_ne_true (is_same t.name name) (unlike t named))
+other_changed : (h : HallState) (name other : List ℕ) (change : Holder Running → Holder Running) → is_same name other ≡ false → account_of (with_holder h name change) other ≡ account_of h other
+other_changed h name other change apart = ap (option_map (account h.journal)) (named_other name other change h.tenants apart)
 
 -- a journal that has grown says the same of a search that was opened before
 searches_grown : (journal more : List Entry) (name : List ℕ) (limit : ℕ) (ss : List (Numbered Running)) → AllByRecursion (λ (s : Numbered Running). IsSoundSearch journal name limit s.of) ss →
@@ -105,11 +89,11 @@ own_after h name (request.Alter change) (Counted n) t sound found is =
     ∙ ap Some (account_with h.journal (record { tenant = name; change = change }) t sound is)
 own_after h name (request.Alter change) _ t sound found is = ap (option_map (account h.journal)) found
 own_after h name (request.Seek query) (Opened n) t sound found is =
-    own_changed h name (starting h.journal name query n) t found is ∙ ap Some (account_opening h.journal name query n t is)
+    own_changed h name (starting h.journal name query n) t found ∙ ap Some (account_opening h.journal name query n t is)
 own_after h name (request.Seek query) _ t sound found is = ap (option_map (account h.journal)) found
 own_after h name (request.Poll k) told t sound found is = ap (option_map (account h.journal)) found
 own_after h name (request.Close k) Closed t sound found is =
-    own_changed h name (ending k) t found is ∙ ap (λ (o : Holder Asked). Some (record (account h.journal t) { holder = o })) (ending_mapped (seen h.journal t.name) k t.holder)
+    own_changed h name (ending k) t found ∙ ap (λ (o : Holder Asked). Some (record (account h.journal t) { holder = o })) (ending_mapped (seen h.journal t.name) k t.holder)
 own_after h name (request.Close k) _ t sound found is = ap (option_map (account h.journal)) found
 own_after h name request.Vault told t sound found is = ap (option_map (account h.journal)) found
 own_after h name request.Sees told t sound found is = ap (option_map (account h.journal)) found
@@ -130,10 +114,10 @@ other_entered h e other sound apart = by (tenant_named other h.tenants) refl
 pub other_after : (h : HallState) (name other : List ℕ) (q : Request) (told : Reply) → IsSound h → is_same name other ≡ false → account_of (hall_after h name q told) other ≡ account_of h other
 other_after h name other (request.Alter change) (Counted n) sound apart = other_entered h (record { tenant = name; change = change }) other sound apart
 other_after h name other (request.Alter change) _ sound apart = refl
-other_after h name other (request.Seek query) (Opened n) sound apart = other_changed h name other (starting h.journal name query n) sound apart
+other_after h name other (request.Seek query) (Opened n) sound apart = other_changed h name other (starting h.journal name query n) apart
 other_after h name other (request.Seek query) _ sound apart = refl
 other_after h name other (request.Poll k) told sound apart = refl
-other_after h name other (request.Close k) Closed sound apart = other_changed h name other (ending k) sound apart
+other_after h name other (request.Close k) Closed sound apart = other_changed h name other (ending k) apart
 other_after h name other (request.Close k) _ sound apart = refl
 other_after h name other request.Vault told sound apart = refl
 other_after h name other request.Sees told sound apart = refl
