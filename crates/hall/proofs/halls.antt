@@ -1,9 +1,13 @@
 pub mod Lists
 pub mod Holders
+pub mod Lookups
 pub mod Truths
 pub mod Alike
 pub mod Worlds
 pub mod Stepping
+pub mod Named
 pub mod Sound
 pub mod Serving
 pub mod Runs
+pub mod Openings
+pub mod TrueAnswers

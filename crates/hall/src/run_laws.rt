@@ -1,5 +1,6 @@
 //! What holds of a hall that runs searches.
 ghost use Rattle.hall.specs.halls.Agree.{TwoWorlds, TwoHalls};
+ghost use Rattle.hall.specs.halls.Answers.{AnswersAreTrue};
 ghost use Rattle.hall.specs.halls.Laws.{NewHallsAreSound, EventsKeepSoundness, RunsAreAllowed};
 
 /// Whatever else happens in two worlds: two allowed runs from one account over one trace give a tenant equal answers,
@@ -19,4 +20,10 @@ pub fn runs_are_allowed()
 /// whatever order the steps of searches come.
 pub fn two_halls()
     ensures { TwoHalls }
+{}
+
+/// In each run from a new hall a poll that is answered yes, no or with members tells the truth of the query that opened
+/// the search, over what its asker could read then.
+pub fn answers_are_true()
+    ensures { AnswersAreTrue }
 {}

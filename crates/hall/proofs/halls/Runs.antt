@@ -26,7 +26,7 @@ use Rattle.hall.proofs.Elements.{Both}
 use Rattle.hall.proofs.halls.Holders.{beside_joined}
 use Rattle.hall.proofs.halls.Truths.{settles_twice}
 use Rattle.hall.proofs.halls.Sound.{events_keep}
-use Rattle.hall.proofs.halls.Serving.{ServesTo, serves_own, other_after, waits_itself, both_itself, stepped_waits}
+use Rattle.hall.proofs.halls.Serving.{ServesTo, serves_own, other_after, waits_itself, stepped_journal, stepped_waits}
 use Rattle.hall.proofs.halls.Worlds.{worlds_agree}
 
 goes_twice : (limit : ℕ) (s t u : Asked) → GoesOn limit s t → GoesOn limit t u → GoesOn limit s u
@@ -84,14 +84,10 @@ served_journal h name request.Vault told = refl
 served_journal h name request.Sees told = refl
 served_journal h name (request.Proof k who) told = refl
 
-stepped_journal : (old new : HallState) (made : Step) (answer : Stepped) (o : Option Running) → StepsRunning old o made answer new → new.journal ≡ old.journal
-stepped_journal old new made answer None steps = ap (λ (h : HallState). h.journal) steps.1
-stepped_journal old new made answer (Some r) steps = ap (λ (h : HallState). h.journal) steps.2
-
 -- the journal after an event
 pub journal_grows : (old new : HallState) (e : Event) (told : Reply) → Happens old e told new → new.journal ≡ journal_after old.journal e told
 journal_grows old new (event.Request name q) told served = ap (λ (h : HallState). h.journal) served.after ∙ served_journal old name q told
-journal_grows old new (event.Step made) told (answer, is, stepped) = stepped_journal old new made answer (search_at old (step_name made) (step_search made)) stepped
+journal_grows old new (event.Step made) told (answer, is, stepped) = stepped_journal old new made answer stepped
 
 -- one request more at the start of a run
 request_first : (tenant : List ℕ) (old after new : HallState) (name : List ℕ) (q : Request) (told : Reply) (moments : List Moment) (replies : List Reply) → IsSound old →

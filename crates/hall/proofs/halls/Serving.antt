@@ -19,39 +19,23 @@ use Rattle.hall.specs.declared.calls.replies.Reply.TheVariants.{Counted, Opened,
 use Rattle.hall.specs.declared.calls.steps.Step.{Step}
 use Rattle.hall.specs.declared.calls.steps.Stepped.{Stepped}
 use Rattle.hall.specs.halls.Searches.{settled_of, just_opened}
-use Rattle.hall.specs.halls.Holder.{Numbered, Holder, search_in, opening, ending, map_holder, map_numbered}
+use Rattle.hall.specs.halls.Holder.{Numbered, Holder, search_in, opening, ending, map_holder, map_numbered, Beside}
 use Rattle.hall.specs.halls.Account.{Asked, Account, MayReply, account_after, sight, GoesOn, Waits}
 use Rattle.hall.specs.halls.State.{Running, Tenant, HallState, tenant_named, seen, account, account_of, at_name, with_holder, search_at, IsSound, IsSoundSearch, IsSoundTenant}
 use Rattle.hall.specs.halls.Run.{beginning, starting, hall_after, MayReplyTo, IsServed, IsStepped, StepsRunning, step_name, step_search, stepping}
-use Rattle.hall.proofs.Elements.{Both}
+use Rattle.hall.proofs.Elements.{Both, both_mapped}
 use Rattle.hall.proofs.halls.Holders.{opening_mapped, ending_mapped, beside_itself, beside_going_on, beside_mapped, found_in}
 use Rattle.hall.proofs.halls.Stepping.{SearchGoesOn, step_goes_on, nothing_yet}
-use Rattle.hall.proofs.halls.Sound.{named_changed, found_tenant, running_at}
-
-changed_here : (name : List ℕ) (change : Holder Running → Holder Running) (t : Tenant) → t.name ≡ name → at_name name change t ≡ record { name = t.name; holder = change t.holder }
-changed_here name change t is = ap (λ (b : Bool). cond b (record { name = t.name; holder = change t.holder }) t) (is_same_itself t.name name is)
+use Rattle.hall.proofs.halls.Named.{named_changed, named_here, named_other, found_tenant, running_at}
 
 -- a tenant's account where what it holds was changed
-own_changed : (h : HallState) (name : List ℕ) (change : Holder Running → Holder Running) (t : Tenant) → tenant_named name h.tenants ≡ Some t → t.name ≡ name →
+own_changed : (h : HallState) (name : List ℕ) (change : Holder Running → Holder Running) (t : Tenant) → tenant_named name h.tenants ≡ Some t →
     account_of (with_holder h name change) name ≡ Some (account h.journal (record { name = t.name; holder = change t.holder }))
-own_changed h name change t found is =
-    ap (option_map (account h.journal)) (named_changed name name change h.tenants ∙ ap (option_map (at_name name change)) found)
-    ∙ ap (λ (u : Tenant). Some (account h.journal u)) (changed_here name change t is)
+own_changed h name change t found = ap (option_map (account h.journal)) (named_here name change h.tenants t found)
 
 -- and that of another name
-other_changed : (h : HallState) (name other : List ℕ) (change : Holder Running → Holder Running) → IsSound h → is_same name other ≡ false →
-    account_of (with_holder h name change) other ≡ account_of h other
-other_changed h name other change sound apart =
-    ap (option_map (account h.journal)) (named_changed name other change h.tenants ∙ by (tenant_named other h.tenants) refl)
-  where
-    unlike : (t : Tenant) → t.name ≡ other → is_same t.name name ≡ true → ⊥
-    unlike t is same = both_ways (is_same name other) apart (is_same_itself name other (sym (same_from_is_same t.name name same) ∙ is))
-
-    by : (o : Option Tenant) → tenant_named other h.tenants ≡ o → option_map (at_name name change) o ≡ o
-    by None is = refl
-    by (Some t) is =
-        let named = (found_tenant (IsSoundTenant h.journal) other h.tenants sound.tenants t is).1 in
-        ap (λ (b : Bool). Some (cond b (record { name = t.name; holder = change t.holder }) t)) (false_from_ne_true (is_same t.name name) (unlike t named))
+other_changed : (h : HallState) (name other : List ℕ) (change : Holder Running → Holder Running) → is_same name other ≡ false → account_of (with_holder h name change) other ≡ account_of h other
+other_changed h name other change apart = ap (option_map (account h.journal)) (named_other name other change h.tenants apart)
 
 -- a journal that has grown says the same of a search that was opened before
 searches_grown : (journal more : List Entry) (name : List ℕ) (limit : ℕ) (ss : List (Numbered Running)) → AllByRecursion (λ (s : Numbered Running). IsSoundSearch journal name limit s.of) ss →
@@ -105,11 +89,11 @@ own_after h name (request.Alter change) (Counted n) t sound found is =
     ∙ ap Some (account_with h.journal (record { tenant = name; change = change }) t sound is)
 own_after h name (request.Alter change) _ t sound found is = ap (option_map (account h.journal)) found
 own_after h name (request.Seek query) (Opened n) t sound found is =
-    own_changed h name (starting h.journal name query n) t found is ∙ ap Some (account_opening h.journal name query n t is)
+    own_changed h name (starting h.journal name query n) t found ∙ ap Some (account_opening h.journal name query n t is)
 own_after h name (request.Seek query) _ t sound found is = ap (option_map (account h.journal)) found
 own_after h name (request.Poll k) told t sound found is = ap (option_map (account h.journal)) found
 own_after h name (request.Close k) Closed t sound found is =
-    own_changed h name (ending k) t found is ∙ ap (λ (o : Holder Asked). Some (record (account h.journal t) { holder = o })) (ending_mapped (seen h.journal t.name) k t.holder)
+    own_changed h name (ending k) t found ∙ ap (λ (o : Holder Asked). Some (record (account h.journal t) { holder = o })) (ending_mapped (seen h.journal t.name) k t.holder)
 own_after h name (request.Close k) _ t sound found is = ap (option_map (account h.journal)) found
 own_after h name request.Vault told t sound found is = ap (option_map (account h.journal)) found
 own_after h name request.Sees told t sound found is = ap (option_map (account h.journal)) found
@@ -130,10 +114,10 @@ other_entered h e other sound apart = by (tenant_named other h.tenants) refl
 pub other_after : (h : HallState) (name other : List ℕ) (q : Request) (told : Reply) → IsSound h → is_same name other ≡ false → account_of (hall_after h name q told) other ≡ account_of h other
 other_after h name other (request.Alter change) (Counted n) sound apart = other_entered h (record { tenant = name; change = change }) other sound apart
 other_after h name other (request.Alter change) _ sound apart = refl
-other_after h name other (request.Seek query) (Opened n) sound apart = other_changed h name other (starting h.journal name query n) sound apart
+other_after h name other (request.Seek query) (Opened n) sound apart = other_changed h name other (starting h.journal name query n) apart
 other_after h name other (request.Seek query) _ sound apart = refl
 other_after h name other (request.Poll k) told sound apart = refl
-other_after h name other (request.Close k) Closed sound apart = other_changed h name other (ending k) sound apart
+other_after h name other (request.Close k) Closed sound apart = other_changed h name other (ending k) apart
 other_after h name other (request.Close k) _ sound apart = refl
 other_after h name other request.Vault told sound apart = refl
 other_after h name other request.Sees told sound apart = refl
@@ -194,10 +178,6 @@ serves_own old new name q told sound served =
 pub waits_itself : (a : Account) → Waits a a
 waits_itself a = record { entries = refl; holder = beside_itself (GoesOn a.holder.limits.work) (λ s. record { query = refl; view = refl; settled = inl refl }) a.holder }
 
-pub both_itself : (o : Option Account) → Both Waits o o
-both_itself None = tt
-both_itself (Some a) = waits_itself a
-
 -- a search that goes on, as its asker knows it
 seen_goes_on : (journal : List Entry) (name : List ℕ) (limit : ℕ) (r : Running) (s : SearchState) → IsSoundSearch journal name limit r → SearchGoesOn r.search s →
     GoesOn limit (seen journal name r) (seen journal name (record { opened_at = r.opened_at; search = s }))
@@ -207,35 +187,56 @@ seen_goes_on journal name limit r s sound goes = record {
   settled = subst₂ (λ (n : ℕ) (v : List Vault). MaySettle n (credentials v) r.search.query (settled_of r.search) (settled_of s)) sound.work sound.view goes.settles;
 }
 
-steps_own : (journal : List Entry) (k : ℕ) (t : Tenant) (r : Running) (s : SearchState) → IsSoundTenant journal t → search_in k t.holder ≡ Some r → SearchGoesOn r.search s →
-    Waits (account journal t) (account journal (record { name = t.name; holder = stepping k r s t.holder }))
-steps_own journal k t r s sound at goes = record {
-  entries = refl;
-  holder = beside_mapped SeenGoesOn (GoesOn t.holder.limits.work) (seen journal t.name) (seen journal t.name) (λ x y goes. goes) t.holder (stepping k r s t.holder)
-      (beside_going_on SeenGoesOn (λ x. record { query = refl; view = refl; settled = inl refl }) k r (record { opened_at = r.opened_at; search = s }) t.holder sound.numbers at
-      (seen_goes_on journal t.name t.holder.limits.work r s (found_in (IsSoundSearch journal t.name t.holder.limits.work) k r t.holder at sound.searches) goes));
-}
-  where
-    SeenGoesOn : Running → Running → Type 0
-    SeenGoesOn x y = GoesOn t.holder.limits.work (seen journal t.name x) (seen journal t.name y)
+-- the search goes on since the same opening
+pub record RunsOn (journal : List Entry) (name : List ℕ) (limit : ℕ) (old new : Running) : Type 0 where
+  pub opened_at : new.opened_at ≡ old.opened_at
+  pub goes_on : GoesOn limit (seen journal name old) (seen journal name new)
 
--- where a search makes a step, each account waits
-pub stepped_waits : (old new : HallState) (made : Step) (answer : Stepped) (tenant : List ℕ) → IsSound old → IsStepped old made answer new → Both Waits (account_of old tenant) (account_of new tenant)
-stepped_waits old new made answer tenant sound stepped = by (search_at old (step_name made) (step_search made)) refl stepped
+runs_itself : (journal : List Entry) (name : List ℕ) (limit : ℕ) (r : Running) → RunsOn journal name limit r r
+runs_itself journal name limit r = record { opened_at = refl; goes_on = record { query = refl; view = refl; settled = inl refl } }
+
+-- the tenant holds the same searches, which may have gone on
+pub record TenantGoesOn (journal : List Entry) (t u : Tenant) : Type 0 where
+  pub name : u.name ≡ t.name
+  pub holder : Beside (RunsOn journal t.name t.holder.limits.work) t.holder u.holder
+
+tenant_stays : (journal : List Entry) (t : Tenant) → TenantGoesOn journal t t
+tenant_stays journal t = record { name = refl; holder = beside_itself (RunsOn journal t.name t.holder.limits.work) (runs_itself journal t.name t.holder.limits.work) t.holder }
+
+steps_own : (journal : List Entry) (k : ℕ) (t : Tenant) (r : Running) (s : SearchState) → IsSoundTenant journal t → search_in k t.holder ≡ Some r → SearchGoesOn r.search s →
+    TenantGoesOn journal t (record { name = t.name; holder = stepping k r s t.holder })
+steps_own journal k t r s sound at goes = record {
+  name = refl;
+  holder = beside_going_on (RunsOn journal t.name t.holder.limits.work) (runs_itself journal t.name t.holder.limits.work) k r (record { opened_at = r.opened_at; search = s }) t.holder sound.numbers at (record {
+    opened_at = refl;
+    goes_on = seen_goes_on journal t.name t.holder.limits.work r s (found_in (IsSoundSearch journal t.name t.holder.limits.work) k r t.holder at sound.searches) goes;
+  });
+}
+
+-- where a search makes a step, each tenant goes on
+pub stepped_tenants : (old new : HallState) (made : Step) (answer : Stepped) (tenant : List ℕ) → IsSound old → IsStepped old made answer new →
+    Both (TenantGoesOn old.journal) (tenant_named tenant old.tenants) (tenant_named tenant new.tenants)
+stepped_tenants old new made answer tenant sound stepped = by (search_at old (step_name made) (step_search made)) refl stepped
   where
-    by : (o : Option Running) → search_at old (step_name made) (step_search made) ≡ o → StepsRunning old o made answer new → Both Waits (account_of old tenant) (account_of new tenant)
-    by None none steps = subst (λ (h : HallState). Both Waits (account_of old tenant) (account_of h tenant)) (sym steps.1) (both_itself (account_of old tenant))
+    Goes : Option Tenant → Option Tenant → Type 0
+    Goes o p = Both (TenantGoesOn old.journal) o p
+
+    itself : (o : Option Tenant) → Goes o o
+    itself None = tt
+    itself (Some t) = tenant_stays old.journal t
+
+    by : (o : Option Running) → search_at old (step_name made) (step_search made) ≡ o → StepsRunning old o made answer new → Goes (tenant_named tenant old.tenants) (tenant_named tenant new.tenants)
+    by None none steps = subst (λ (h : HallState). Goes (tenant_named tenant old.tenants) (tenant_named tenant h.tenants)) (sym steps.1) (itself (tenant_named tenant old.tenants))
     by (Some r) at (s, steps, after) =
-        subst (λ (h : HallState). Both Waits (account_of old tenant) (account_of h tenant)) (sym after)
-        (subst (λ (o : Option Tenant). Both Waits (account_of old tenant) (option_map (account old.journal) o)) (sym (named_changed (step_name made) tenant change old.tenants))
-        (each (tenant_named tenant old.tenants) refl))
+        subst (λ (h : HallState). Goes (tenant_named tenant old.tenants) (tenant_named tenant h.tenants)) (sym after)
+        (subst (Goes (tenant_named tenant old.tenants)) (sym (named_changed (step_name made) tenant change old.tenants)) (each (tenant_named tenant old.tenants) refl))
       where
         change : Holder Running → Holder Running
         change = stepping (step_search made) r s
 
         one : (t : Tenant) → tenant_named tenant old.tenants ≡ Some t → (b : Bool) → is_same t.name (step_name made) ≡ b →
-            Waits (account old.journal t) (account old.journal (cond b (record { name = t.name; holder = change t.holder }) t))
-        one t found false apart = waits_itself (account old.journal t)
+            TenantGoesOn old.journal t (cond b (record { name = t.name; holder = change t.holder }) t)
+        one t found false apart = tenant_stays old.journal t
         one t found true same =
             let this : IsSoundTenant old.journal t × (t.name ≡ tenant) = found_tenant (IsSoundTenant old.journal) tenant old.tenants sound.tenants t found in
             let named : tenant ≡ step_name made = sym this.1 ∙ same_from_is_same t.name (step_name made) same in
@@ -243,6 +244,29 @@ stepped_waits old new made answer tenant sound stepped = by (search_at old (step
             (running_at (step_search made) (step_name made) old t r at (subst (λ (n : List ℕ). tenant_named n old.tenants ≡ Some t) named found))
             (step_goes_on r.search s made answer steps)
 
-        each : (o : Option Tenant) → tenant_named tenant old.tenants ≡ o → Both Waits (option_map (account old.journal) o) (option_map (account old.journal) (option_map (at_name (step_name made) change) o))
+        each : (o : Option Tenant) → tenant_named tenant old.tenants ≡ o → Goes o (option_map (at_name (step_name made) change) o)
         each None none = tt
         each (Some t) found = one t found (is_same t.name (step_name made)) refl
+
+-- a step leaves the journal
+pub stepped_journal : (old new : HallState) (made : Step) (answer : Stepped) → IsStepped old made answer new → new.journal ≡ old.journal
+stepped_journal old new made answer stepped = by (search_at old (step_name made) (step_search made)) stepped
+  where
+    by : (o : Option Running) → StepsRunning old o made answer new → new.journal ≡ old.journal
+    by None steps = ap (λ (h : HallState). h.journal) steps.1
+    by (Some r) steps = ap (λ (h : HallState). h.journal) steps.2
+
+-- where a tenant goes on, its account waits
+account_waits : (journal : List Entry) (t u : Tenant) → TenantGoesOn journal t u → Waits (account journal t) (account journal u)
+account_waits journal t u goes =
+    subst (λ (v : Tenant). Waits (account journal t) (account journal v)) (λ i. record { name = sym goes.name i; holder = u.holder }) record {
+      entries = refl;
+      holder = beside_mapped (RunsOn journal t.name t.holder.limits.work) (GoesOn t.holder.limits.work) (seen journal t.name) (seen journal t.name) (λ x y on. on.goes_on) t.holder u.holder goes.holder;
+    }
+
+-- where a search makes a step, each account waits
+pub stepped_waits : (old new : HallState) (made : Step) (answer : Stepped) (tenant : List ℕ) → IsSound old → IsStepped old made answer new → Both Waits (account_of old tenant) (account_of new tenant)
+stepped_waits old new made answer tenant sound stepped =
+    subst (λ (j : List Entry). Both Waits (account_of old tenant) (option_map (account j) (tenant_named tenant new.tenants))) (sym (stepped_journal old new made answer stepped))
+    (both_mapped (TenantGoesOn old.journal) Waits (account old.journal) (account old.journal) (account_waits old.journal) (tenant_named tenant old.tenants) (tenant_named tenant new.tenants)
+    (stepped_tenants old new made answer tenant sound stepped))

@@ -29,41 +29,10 @@ use Rattle.hall.specs.halls.State.{Running, Tenant, HallState, tenant_named, see
 use Rattle.hall.specs.halls.Run.{entered, beginning, starting, opened, closed, MayReplyTo, IsServed, IsStepped, StepsRunning, step_name, step_search, stepping}
 use Rattle.hall.specs.halls.Laws.{NewHallsAreSound, EventsKeepSoundness}
 use Rattle.hall.proofs.Elements.{IsOnce, all_changed, all_weaker, all_filtered, all_pushed, find-map}
-use Rattle.hall.proofs.halls.Holders.{numbered_pushed, numbered_filtered, all_going_on, numbered_going_on}
+use Rattle.hall.proofs.halls.Named.{distinct_kept, once_named, found_tenant, running_at}
+use Rattle.hall.proofs.halls.Holders.{found_in, numbered_pushed, numbered_filtered, all_going_on, numbered_going_on}
 use Rattle.hall.proofs.halls.Truths.{settles_twice}
 use Rattle.hall.proofs.halls.Stepping.{SearchGoesOn, step_goes_on, nothing_yet}
-
-name_kept : (name : List ℕ) (change : Holder Running → Holder Running) (t : Tenant) → (at_name name change t).name ≡ t.name
-name_kept name change t = by (is_same t.name name)
-  where
-    by : (b : Bool) → (cond b (record { name = t.name; holder = change t.holder }) t).name ≡ t.name
-    by true = refl
-    by false = refl
-
--- under any name there is the tenant that was there, changed if it is the one
-pub named_changed : (name other : List ℕ) (change : Holder Running → Holder Running) (ts : List Tenant) →
-    tenant_named other (map (at_name name change) ts) ≡ option_map (at_name name change) (tenant_named other ts)
-named_changed name other change ts =
-    find-map (λ t. is_same t.name other) (λ t. is_same t.name other) (at_name name change) (λ t. ap (λ (n : List ℕ). is_same n other) (name_kept name change t)) ts
-
-distinct_kept : (name : List ℕ) (change : Holder Running → Holder Running) (ts : List Tenant) → AreDistinct ts → AreDistinct (map (at_name name change) ts)
-distinct_kept name change [] distinct = tt
-distinct_kept name change (t ∷ ts) distinct = (
-  ap (λ (n : List ℕ). tenant_named n (map (at_name name change) ts)) (name_kept name change t) ∙ named_changed name t.name change ts ∙ ap (option_map (at_name name change)) distinct.0,
-  distinct_kept name change ts distinct.1,
-)
-
--- at most one tenant has the name
-once_named : (name : List ℕ) (ts : List Tenant) → AreDistinct ts → IsOnce (λ t. is_same t.name name) ts
-once_named name [] distinct = tt
-once_named name (t ∷ ts) distinct =
-    (λ same. subst (λ (n : List ℕ). tenant_named n ts ≡ None) (same_from_is_same t.name name same) distinct.0, once_named name ts distinct.1)
-
--- where a tenant is found by its name, what holds of every tenant holds of it
-pub found_tenant : (P : Tenant → Type 0) (name : List ℕ) (ts : List Tenant) → AllByRecursion P ts → (t : Tenant) → tenant_named name ts ≡ Some t → P t × (t.name ≡ name)
-found_tenant P name ts all t found =
-    let here : Contains ts t × (is_same t.name name ≡ true) = find-Some (λ u. is_same u.name name) ts t found in
-    (All-contains P ts t (All-from_recursion P ts all) here.0, same_from_is_same t.name name here.1)
 
 -- the hall is sound where what the tenant holds is
 changed_sound : (h : HallState) (name : List ℕ) (change : Holder Running → Holder Running) → IsSound h →
@@ -135,7 +104,7 @@ opened_by None n opens e = cc
 opened_by (Some f) n opens e = cc
 
 -- the number that is told is the next one
-told_next : (h : HallState) (name : List ℕ) (query : Query) (told : Reply) (a : Option Account) → account_of h name ≡ a → MayReplyTo h name a (request.Seek query) told →
+pub told_next : (h : HallState) (name : List ℕ) (query : Query) (told : Reply) (a : Option Account) → account_of h name ≡ a → MayReplyTo h name a (request.Seek query) told →
     (n : ℕ) (t : Tenant) → told ≡ Opened n → tenant_named name h.tenants ≡ Some t → n ≡ t.holder.opens + 1
 told_next h name query told None is may n t said found = cc (ap (option_map (account h.journal)) found)
 told_next h name query told (Some a) is (inl e) n t said found =
@@ -171,9 +140,16 @@ search_steps journal name limit r s goes sound = record {
         subst (λ (x : SnapshotState). MaySettle s.work (credentials x.vaults) s.query Nothing (settled_of s)) (sym goes.question.snapshot)
         (subst₂ (λ (n : ℕ) (q : Query). MaySettle n (credentials r.search.snapshot.vaults) q Nothing (settled_of s)) (sym goes.question.work) (sym goes.question.query) may)
 
--- the search of a tenant that is found by its name
-pub running_at : (k : ℕ) (name : List ℕ) (h : HallState) (t : Tenant) (r : Running) → search_at h name k ≡ Some r → tenant_named name h.tenants ≡ Some t → search_in k t.holder ≡ Some r
-running_at k name h t r at found = sym (ap (running_of k) found) ∙ at
+-- a search of a sound hall is sound
+pub sound_at : (h : HallState) (name : List ℕ) (k : ℕ) (r : Running) → IsSound h → search_at h name k ≡ Some r →
+    (t : Tenant) × (tenant_named name h.tenants ≡ Some t) × IsSoundSearch h.journal name t.holder.limits.work r
+sound_at h name k r sound at = by (tenant_named name h.tenants) refl at
+  where
+    by : (o : Option Tenant) → tenant_named name h.tenants ≡ o → running_of k o ≡ Some r → (t : Tenant) × (tenant_named name h.tenants ≡ Some t) × IsSoundSearch h.journal name t.holder.limits.work r
+    by None none found = cc
+    by (Some t) is found =
+        let this : IsSoundTenant h.journal t × (t.name ≡ name) = found_tenant (IsSoundTenant h.journal) name h.tenants sound.tenants t is in
+        (t, is, subst (λ (n : List ℕ). IsSoundSearch h.journal n t.holder.limits.work r) this.1 (found_in (IsSoundSearch h.journal t.name t.holder.limits.work) k r t.holder found this.0.searches))
 
 stepped_sound : (old new : HallState) (made : Step) (answer : Stepped) (o : Option Running) → search_at old (step_name made) (step_search made) ≡ o → IsSound old →
     StepsRunning old o made answer new → IsSound new
