@@ -2,7 +2,7 @@
 use Rattle.std.proofs.Common.{ℕ, ◌<◌, ◌↔◌, ◌≡◌, ◌∙◌, inl, inr, sym, subst, ap, Bool, true, cond, not, List, [], ◌∷◌, Some, length, filter, slice_get, ◌==◌, eq-eqb, ne_eqb, arith}
 use Rattle.std.specs.List.{list_any}
 use Rattle.std.specs.Map.{lookup}
-use Rattle.std.proofs.lemmas.Bool.{cases_Bool}
+use Rattle.std.proofs.lemmas.Bool.{cases_Bool, cases_eq}
 use Rattle.names.specs.declared.roles.Role.{Role}
 use Rattle.names.specs.Name.{is_same, name_order}
 use Rattle.names.proofs.SameNames.{is_same_tied}
@@ -18,9 +18,9 @@ use Rattle.search.specs.declared.outcomes.Status.{Status}
 use Rattle.search.specs.declared.outcomes.Status.TheVariants as status
 use Rattle.search.specs.declared.stages.Stage.{Stage}
 use Rattle.search.specs.declared.stages.Stage.TheVariants as stage
-use Rattle.search.specs.Ending.{Nothing, Yes, No, status_of, found, come_to}
+use Rattle.search.specs.Ending.{Nothing, Yes, No, IsAnswered, status_of, found, come_to}
 use Rattle.search.specs.Stage.{waiting_in, held_in, if_held, Delivers}
-use Rattle.search.specs.Search.{SearchState, IsOutstanding, settled_of}
+use Rattle.search.specs.Search.{SearchState, IsOutstanding, IsCompleted, settled_of}
 use Rattle.search.proofs.Solve.{solution_of_member, member_of_solution}
 
 -- a name is among the members where the test finds it
@@ -75,6 +75,30 @@ works stage.Broken g q = (λ is. clash is, λ busy. absurd busy)
   where
     clash : status.Broken ≡ status.Working → ⊥
     clash is = cc
+
+-- what was found answers the query
+found_answers : (g : GraphState) (q : Query) → IsAnswered (status_of (found g q))
+found_answers g (query.Ask role who) =
+    elim (cases_Bool (list_any (is_same who) (members_of g 0))) [
+      | inl there ↦ rw there tt
+      | inr absent ↦ rw absent tt
+    ]
+found_answers g (query.Who role) = tt
+
+-- a search answers exactly where it is completed
+answers_at : (st : Stage) (g : GraphState) (q : Query) → IsAnswered (status_of (come_to st g q)) ↔ IsCompleted st
+answers_at (stage.Running c) g q =
+    elim (cases_eq (outstanding c) 0) [
+      | inl none ↦ rw (eq-eqb (outstanding c) 0 none) ((λ _. none), (λ _. found_answers g q))
+      | inr busy ↦ rw (ne_eqb (outstanding c) 0 busy) ((λ answered. absurd answered), (λ none. absurd (busy none)))
+    ]
+answers_at stage.Spent g q = (λ answered. absurd answered, λ completed. absurd completed)
+answers_at stage.Broken g q = (λ answered. absurd answered, λ completed. absurd completed)
+
+pub answers_as : {s t : SearchState} {result : Status} → s ≡ t → result ≡ status_of (come_to s.stage s.graph s.query) → IsAnswered result ↔ IsCompleted t.stage
+answers_as {s} {t} {result} same is =
+    subst (λ (x : SearchState). IsAnswered result ↔ IsCompleted x.stage) same
+    (subst (λ (r : Status). IsAnswered r ↔ IsCompleted s.stage) (sym is) (answers_at s.stage s.graph s.query))
 
 -- the same of a search, by its parts
 pub status_is : {s t : SearchState} {result : Status} → s ≡ t → result ≡ status_of (come_to s.stage s.graph s.query) → result ≡ status_of (settled_of t)

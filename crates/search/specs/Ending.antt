@@ -34,6 +34,15 @@ status_of (Members names) = status.Members
 status_of Spent = status.Spent
 status_of Broken = status.Broken
 
+-- a status that answers the query
+abbrev pub IsAnswered : Status → Type 0
+IsAnswered status.Working = ⊥
+IsAnswered status.Yes = Unit {0}
+IsAnswered status.No = Unit {0}
+IsAnswered status.Members = Unit {0}
+IsAnswered status.Spent = ⊥
+IsAnswered status.Broken = ⊥
+
 -- the answer of a completed search, by what it found of the asked role's node
 abbrev pub found : GraphState → Query → Settled
 found g (Ask role who) = if list_any (is_same who) (members_of g 0) then Yes else No

@@ -9,7 +9,7 @@ ghost use Rattle.scholten_core.specs.declared.letters.Letter.{Letter};
 ghost use Rattle.scholten_core.specs.Computation.{Computation};
 ghost use Rattle.search.specs.declared.letters.Load.{Load};
 ghost use Rattle.search.specs.Steady.{OwesRules, IsJustified};
-ghost use Rattle.search.specs.Ending.{MaySettle, Nothing, Members, status_of, found, come_to};
+ghost use Rattle.search.specs.Ending.{MaySettle, Nothing, Members, IsAnswered, status_of, found, come_to};
 
 use crate::findings::{Findings, first_findings};
 use crate::hints::{hint_is_right, needed};
@@ -119,6 +119,7 @@ impl Search {
     pub fn status(&self) -> Status
         ensures is { result ≡ status_of (settled_of self.now) }
         ensures working { (result ≡ Status.Working) ↔ IsOutstanding self.now.stage }
+        ensures completed { IsAnswered result ↔ IsCompleted self.now.stage }
         ensures ending { MaySettle self.now.work (rows_of self.now) self.now.query Nothing (settled_of self.now) }
         ensures exact { IsCompleted self.now.stage → IsExact (rows_of self.now) (asked_role self.now.query) (Known self.now.graph) }
         ensures rules { (c : Computation Load) → self.now.stage ≡ Stage.Running c

@@ -2,7 +2,7 @@
 use Rattle.std.proofs.Common.{refl, subst}
 use Rattle.search.specs.Search.{IsKept, rows_of, asked_role}
 use Rattle.search.proofs.Searching.{status_exact, rules_owed}
-use Rattle.search.proofs.Answered.{status_is, works_as}
+use Rattle.search.proofs.Answered.{status_is, works_as, answers_as}
 use Rattle.search.proofs.Ended.{ends}
 use Rattle.search.proofs.searches.Search.status.Goals as goal
 
@@ -11,6 +11,9 @@ returns-clause-is c = status_is c.self.view_is c.status_at.ensures
 
 pub returns-clause-working : goal.returns-clause-working
 returns-clause-working c = works_as c.self.view_is c.status_at.ensures
+
+pub returns-clause-completed : goal.returns-clause-completed
+returns-clause-completed c = answers_as c.self.view_is c.status_at.ensures
 
 pub returns-clause-ending : goal.returns-clause-ending
 returns-clause-ending c = ends c.args.self.now (subst IsKept c.self.view_is c.self.invariant)
