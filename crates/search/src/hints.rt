@@ -7,6 +7,7 @@ ghost use Rattle.search.specs.Need.{rows_for, need_of, right_hint};
 
 use crate::letters::{Held, Load};
 use crate::queries::{Hint, Need};
+use crate::rows_checks::is_span_of;
 use cred_graph::Graph;
 use credential_text::Expr;
 use snapshots::Snapshot;
@@ -41,7 +42,7 @@ fn meets(snapshot: &Snapshot, need: &Need, hint: &Hint) -> bool
 {
     match need {
         Need::Rows(role) => match hint {
-            Hint::Rows(span) => *span == snapshot.find(role),
+            Hint::Rows(span) => is_span_of(snapshot, role, *span),
             Hint::Nothing => false,
         },
         Need::Nothing => match hint {

@@ -16,6 +16,7 @@ mod opening;
 mod outcomes;
 mod queries;
 mod receiving;
+mod rows_checks;
 mod searches;
 mod solving;
 mod stages;

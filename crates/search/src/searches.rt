@@ -31,7 +31,6 @@ use std::marker::Model;
 use std::sync::Arc;
 
 /// One search, from its opening to its answer.
-#[derive(Drop)]
 pub struct Search {
     query: Query,
     work: u64,
@@ -69,6 +68,19 @@ impl Model for Search {
       monitors = s.found.monitors.items;
       stage = s.stage;
     }) };
+}
+
+impl Drop for Search {
+    fn drop(self) {
+        let Search {
+            query: _query,
+            work: _work,
+            snapshot: _snapshot,
+            found: _found,
+            stage: _stage,
+            alloc: _alloc,
+        } = self;
+    }
 }
 
 impl Search {

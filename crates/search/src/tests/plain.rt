@@ -1,0 +1,212 @@
+//! Searches over small vaults that a fixed row of numbers makes, compared with the plain programs.
+ghost use Rattle.std.specs.Prelude.{◌<◌};
+
+use super::{Order, ending, members_found, run};
+use crate::{Query, Search, Status};
+use credential_text::{Credential, Expr, Part, Parts};
+use names::{Entity, Role, RoleName};
+use rt0_rules::{members_plain, work_plain};
+use snapshots::Snapshot;
+use std::alloc::Global;
+use std::process::Abort;
+use std::sync::Arc;
+use std::test::Fail;
+use vaults::{Book, Change};
+
+// A row of numbers, each from the one before by a linear congruence.
+#[derive(Drop)]
+struct Numbers {
+    state: u64,
+}
+
+impl Numbers {
+    // The next number, below so many.
+    fn below(&mut self, bound: u64) -> u64
+        requires { 0 < bound }
+        ensures { result < bound }
+    {
+        let low = self.state % 2147483648;
+        self.state = low * 1103515245 + 12345;
+        self.state / 65536 % bound
+    }
+}
+
+fn entity(numbers: &mut Numbers) -> Result<Entity, Fail> {
+    let names = [b"A", b"B", b"C", b"D"];
+    Ok(Entity::read(names[numbers.below(4) as usize])?)
+}
+
+fn role_name(numbers: &mut Numbers) -> Result<RoleName, Fail> {
+    let names = [b"r", b"s", b"t"];
+    Ok(RoleName::read(names[numbers.below(3) as usize])?)
+}
+
+fn role(numbers: &mut Numbers) -> Result<Role, Fail> {
+    Ok(Role {
+        owner: entity(numbers)?,
+        name: role_name(numbers)?,
+    })
+}
+
+// A linked role over a role of that owner.
+fn link(numbers: &mut Numbers, owner: Entity) -> Result<(Role, RoleName), Fail> {
+    let name = role_name(numbers)?;
+    Ok((Role { owner, name }, role_name(numbers)?))
+}
+
+fn part(numbers: &mut Numbers, owner: Entity) -> Result<Part, Fail> {
+    Ok(match numbers.below(5) {
+        0 => Part::Ent(entity(numbers)?),
+        1 => {
+            let (base, name) = link(numbers, owner)?;
+            Part::Link(base, name)
+        }
+        _ => Part::Rol(role(numbers)?),
+    })
+}
+
+// An intersection of two parts, which may be one part twice, or of three.
+fn parts(alloc: Global, numbers: &mut Numbers, owner: Entity) -> Result<Parts, Fail> {
+    let (one, other) = (part(numbers, owner)?, part(numbers, owner)?);
+    let made = match numbers.below(4) {
+        0 => Parts::make(alloc, &[one, one])?,
+        1 => Parts::make(alloc, &[one, other, part(numbers, owner)?])?,
+        _ => Parts::make(alloc, &[one, other])?,
+    };
+    Ok(made.ok_or("no parts")?)
+}
+
+// A credential of one of the four forms.
+fn credential(alloc: Global, numbers: &mut Numbers) -> Result<Credential, Fail> {
+    let head = role(numbers)?;
+    let body = match numbers.below(6) {
+        0 => Expr::Rol(role(numbers)?),
+        1 => {
+            let (base, name) = link(numbers, head.owner)?;
+            Expr::Link(base, name)
+        }
+        2 => Expr::Meet(parts(alloc, numbers, head.owner)?),
+        3 => Expr::Rol(role(numbers)?),
+        _ => Expr::Ent(entity(numbers)?),
+    };
+    Ok(Credential::make(head, body).ok_or("no credential")?)
+}
+
+// Up to eleven credentials, each once.
+fn credentials(alloc: Global, numbers: &mut Numbers) -> Result<Vec<Credential>, Fail> {
+    let mut all: Vec<Credential> = Vec::new(alloc);
+    for _ in 0..numbers.below(12) {
+        let made = credential(alloc, numbers)?;
+        if all.iter().all(|other| !other.compare(&made).is_eq()) {
+            all.push(made)?;
+        }
+    }
+    Ok(all)
+}
+
+// What `A` reads, where each of the four holds its credentials and has granted them to `A`.
+fn snapshot_of(alloc: Global, credentials: &[Credential]) -> Result<Arc<Snapshot>, Fail> {
+    let mut book = Book::new(alloc);
+    for credential in credentials {
+        book.change(
+            credential.head.owner,
+            Change::Upload(credential.try_clone()?),
+        )?;
+    }
+    let reader = Entity::read(b"A")?;
+    for owner in [b"B", b"C", b"D"] {
+        book.change(Entity::read(owner)?, Change::Grant(reader))?;
+    }
+    Ok(Arc::new(alloc, Snapshot::take(alloc, &book, reader)?)?)
+}
+
+// A search with this work limit, run in this order.
+fn ran(
+    alloc: Global,
+    snapshot: &Arc<Snapshot>,
+    query: Query,
+    work: u64,
+    order: Order,
+    signals_first: bool,
+) -> Result<Search, Fail> {
+    let mut search = Search::open(alloc, snapshot.clone()?, query, work.max(1))?;
+    run(&mut search, order, signals_first);
+    Ok(search)
+}
+
+// In each order the search finds these members by this work, and by less is spent.
+fn finds(
+    rt: &impl Abort,
+    alloc: Global,
+    snapshot: &Arc<Snapshot>,
+    role: Role,
+    work: u64,
+    members: &[Entity],
+) -> Result<(), Fail> {
+    for order in [Order::First, Order::Last, Order::InTurn] {
+        for signals_first in [true, false] {
+            let whole = ran(
+                alloc,
+                snapshot,
+                Query::Who(role),
+                work,
+                order,
+                signals_first,
+            )?;
+            assert_eq!(rt; ending(&whole)?, Status::Members);
+            assert!(rt; members_found(&whole)?.as_slice() == members);
+            if work > 1 {
+                let less = ran(
+                    alloc,
+                    snapshot,
+                    Query::Who(role),
+                    work - 1,
+                    order,
+                    signals_first,
+                )?;
+                assert_eq!(rt; ending(&less)?, Status::Spent);
+            }
+        }
+    }
+    Ok(())
+}
+
+// Driven, the search answers for each of the four whether it is a member.
+fn answers(
+    rt: &impl Abort,
+    alloc: Global,
+    snapshot: &Arc<Snapshot>,
+    role: Role,
+    work: u64,
+    members: &[Entity],
+) -> Result<(), Fail> {
+    for name in [b"A", b"B", b"C", b"D"] {
+        let who = Entity::read(name)?;
+        let query = Query::Ask(role, who);
+        let mut search = Search::open(alloc, snapshot.clone()?, query, work.max(1))?;
+        search.drive();
+        let expected = if members.contains(&who) {
+            Status::Yes
+        } else {
+            Status::No
+        };
+        assert_eq!(rt; ending(&search)?, expected);
+    }
+    Ok(())
+}
+
+#[test]
+fn as_the_plain_programs(rt: HostRuntime) -> Result<(), Fail> {
+    let alloc = rt.alloc();
+    let mut numbers = Numbers { state: 1 };
+    for _ in 0..240 {
+        let all = credentials(alloc, &mut numbers)?;
+        let role = role(&mut numbers)?;
+        let members = members_plain(alloc, &all, &role)?;
+        let work = work_plain(alloc, &all, &role, 1000000)?.ok_or("too much work")?;
+        let snapshot = snapshot_of(alloc, &all)?;
+        finds(&rt, alloc, &snapshot, role, work, &members)?;
+        answers(&rt, alloc, &snapshot, role, work, &members)?;
+    }
+    Ok(())
+}
