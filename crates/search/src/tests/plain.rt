@@ -32,12 +32,12 @@ impl Numbers {
 }
 
 fn entity(numbers: &mut Numbers) -> Result<Entity, Fail> {
-    let names = [b"A", b"B", b"C", b"D"];
-    Ok(Entity::read(names[numbers.below(4) as usize])?)
+    let names = [b"A", b"A", b"B", b"B", b"C", b"D"];
+    Ok(Entity::read(names[numbers.below(6) as usize])?)
 }
 
 fn role_name(numbers: &mut Numbers) -> Result<RoleName, Fail> {
-    let names = [b"r", b"s", b"t"];
+    let names = [b"r", b"r", b"s"];
     Ok(RoleName::read(names[numbers.below(3) as usize])?)
 }
 
@@ -92,10 +92,10 @@ fn credential(alloc: Global, numbers: &mut Numbers) -> Result<Credential, Fail> 
     Ok(Credential::make(head, body).ok_or("no credential")?)
 }
 
-// Up to eleven credentials, each once.
+// Up to sixteen credentials, each once.
 fn credentials(alloc: Global, numbers: &mut Numbers) -> Result<Vec<Credential>, Fail> {
     let mut all: Vec<Credential> = Vec::new(alloc);
-    for _ in 0..numbers.below(12) {
+    for _ in 0..numbers.below(17) {
         let made = credential(alloc, numbers)?;
         if all.iter().all(|other| !other.compare(&made).is_eq()) {
             all.push(made)?;
