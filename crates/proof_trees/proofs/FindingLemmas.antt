@@ -39,10 +39,6 @@ module _ (g : GraphState) (graph : IsGraph g) where
   pub finding_fits : (f : Finding) → Stands g f → Fits g f.solution.node f.solution.who f.solution.reason
   finding_fits f stands = fits_later g f.place f.solution.node f.solution.who f.solution.reason (graph.justified f.place f.solution stands)
 
-  -- an entity is found once in a node
-  pub one_place : (f p : Finding) → Stands g f → Stands g p → f.solution.node ≡ p.solution.node → f.solution.who ≡ p.solution.who → f.place ≡ p.place
-  one_place f p stands other = graph.one_solution f.place p.place f.solution p.solution stands other
-
   -- what is known by the first k solutions was found among them
   known_earlier : (k : ℕ) (p : Finding) (e : Expr) → Stands g p → IsNode g p.solution.node e → Known (before k g) p.solution.who e → p.place < k
   known_earlier k p e stands node (n, same_node, (why, among)) =

@@ -96,15 +96,12 @@ first_need-push (f ∷ q ∷ fs) p = first_need-push (q ∷ fs) p
 not_none : (rest : List Finding) (p : Finding) → rest ++ p ∷ [] ≡ [] → ⊥
 not_none rest p none = let long : length (rest ++ p ∷ []) ≡ 0 = ap length none in omega (arith, length_push rest p)
 
-module _ (g : GraphState) (asked : Finding) (stands : Stands g asked) where
-  pub walk_starts : IsGraph g → IsWalk g asked (record { places = []; steps = [] }) (asked ∷ [])
-  walk_starts graph = record {
-    draft = record { graph = graph; claims = tt; distinct = tt; by_rules = λ rows by_rows i s at. cc };
-    needed_is = (refl, tt);
-    absent = λ f among has. Contains-none f.place has;
-    of_use = λ i s at. cc;
-  }
+-- what is needed, where its last was taken out
+pub popped : {g : GraphState} {asked : Finding} {d : DraftState} (needed rest : List Finding) (found : Finding) → needed ≡ rest ++ found ∷ [] → IsWalk g asked d needed →
+    IsWalk g asked d (rest ++ found ∷ [])
+popped {g = g} {asked = asked} {d = d} needed rest found items walk = subst (λ (l : List Finding). IsWalk g asked d l) items walk
 
+module _ (g : GraphState) (asked : Finding) (stands : Stands g asked) where
   module _ (d : DraftState) (rest : List Finding) (found : Finding) (walk : IsWalk g asked d (rest ++ found ∷ [])) where
     pub found_stands : Stands g found
     found_stands = needed_stands g asked stands d.places (rest ++ found ∷ []) walk.needed_is found (Contains-push rest found)

@@ -18,7 +18,8 @@ IsCitedLater steps i = (j : ℕ) × (t : Step) × (i < j) × (slice_get steps j 
 -- no two steps claim the same entity in the same expression
 abbrev pub AreApart : List Step → Type 0
 AreApart steps =
-    (i j : ℕ) (s t : Step) → slice_get steps i ≡ Some s → slice_get steps j ≡ Some t → s.who ≡ t.who → s.claim ≡ t.claim → i ≡ j
+    (i j : ℕ) (s t : Step) → slice_get steps i ≡ Some s → slice_get steps j ≡ Some t →
+    s.who ≡ t.who → s.claim ≡ t.claim → i ≡ j
 
 -- the same, and each step but the last is cited by a later one
 pub record IsLean (steps : List Step) : Type 0 where

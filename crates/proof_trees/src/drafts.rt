@@ -58,7 +58,12 @@ impl Draft {
     }
 
     /// The same of the expression's node.
-    pub(crate) fn number_in(&self, graph: &Graph, expr: &Expr, who: &Entity) -> Result<usize, Finding>
+    pub(crate) fn number_in(
+        &self,
+        graph: &Graph,
+        expr: &Expr,
+        who: &Entity,
+    ) -> Result<usize, Finding>
         requires draft { IsDraft graph.now self.now }
         requires known { Known graph.now who.now expr.now }
         ensures claims { IfOk result (λ number. Claims self.now.steps number who.now expr.now) }
@@ -71,7 +76,12 @@ impl Draft {
     }
 
     /// Adds the step that claims the solution by the rule. A draft to which it can't be added is of no more use.
-    pub(crate) fn add(&mut self, graph: &Graph, found: &Finding, rule: Rule) -> Result<(), AllocError>
+    pub(crate) fn add(
+        &mut self,
+        graph: &Graph,
+        found: &Finding,
+        rule: Rule,
+    ) -> Result<(), AllocError>
         requires draft { IsDraft graph.now self.old }
         requires stands { Stands graph.now found.now }
         requires absent { Contains self.old.places found.now.place → ⊥ }

@@ -72,7 +72,8 @@ fn written(alloc: Global, graph: &Graph, asked: Finding) -> Result<Proof, AllocE
     requires graph { IsGraph graph.now }
     requires stands { Stands graph.now asked }
     ensures by_rules { IfOk result (λ proof. (rows : List Credential) → AreByRows rows graph.now → AreByRules rows proof) }
-    ensures concludes { IfOk result (λ proof. (e : Expr) → IsNode graph.now asked.solution.node e → Concludes proof asked.solution.who e) }
+    ensures concludes { IfOk result (λ proof. (e : Expr)
+        → IsNode graph.now asked.solution.node e → Concludes proof asked.solution.who e) }
     ensures lean { IfOk result IsLean }
 {
     let mut draft = Draft::new(alloc);

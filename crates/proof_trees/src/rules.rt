@@ -48,7 +48,8 @@ fn link_rule(
     requires draft { IsDraft graph.now draft.now }
     requires fits { Fits graph.now node who.now (reason.Via member.now) }
     ensures by_reason { IfOk result (IsByReason graph.now draft.now.steps node who.now (reason.Via member.now)) }
-    ensures missing { IfErr result (IsMissingPremise graph.now draft.now (record { node = node; who = who.now; reason = reason.Via member.now })) }
+    ensures missing { IfErr result (IsMissingPremise graph.now draft.now
+        (record { node = node; who = who.now; reason = reason.Via member.now })) }
 {
     let Expr::Link(base, name) = graph.expr(node) else {
         unreachable!()
@@ -73,7 +74,8 @@ fn parts_rule(
     requires draft { IsDraft graph.now draft.now }
     requires fits { Fits graph.now node who.now reason.Parts }
     ensures by_reason { IfOk result (IsByReason graph.now draft.now.steps node who.now reason.Parts) }
-    ensures missing { IfErr result (IsMissingPremise graph.now draft.now (record { node = node; who = who.now; reason = reason.Parts })) }
+    ensures missing { IfErr result (IsMissingPremise graph.now draft.now
+        (record { node = node; who = who.now; reason = reason.Parts })) }
 {
     let Expr::Meet(parts) = graph.expr(node) else {
         unreachable!()

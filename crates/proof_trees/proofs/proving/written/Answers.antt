@@ -4,52 +4,54 @@ use Rattle.proof_trees.specs.declared.findings.Finding.{Finding}
 use Rattle.proof_trees.specs.Draft.{DraftState}
 use Rattle.proof_trees.proofs.FindingLemmas.{finding_fits}
 use Rattle.proof_trees.proofs.Walk.{IsWalk, walk_left}
-use Rattle.proof_trees.proofs.WalkLemmas.{walk_starts, found_stands, found_absent, walk_waits, walk_stepped, walk_concludes, walk_lean, nearer_by_premise, nearer_by_step}
+use Rattle.proof_trees.proofs.WalkLemmas.{popped, found_stands, found_absent, walk_waits, walk_stepped, walk_concludes, walk_lean, nearer_by_premise, nearer_by_step}
 use Rattle.proof_trees.proofs.proving.written.Goals as goal
 
 pub rule_for-requires-clause-fits : goal.rule_for-requires-clause-fits
 rule_for-requires-clause-fits c =
     let g = c.args.graph.now in
-    let walk = subst (λ (l : List Finding). IsWalk g c.args.asked c.loop-found.draft l) c.in-Some.ensures.items c.loop-found.invariant in
-    finding_fits g c.requires.graph c.in-Some.found (found_stands g c.args.asked c.requires.stands c.loop-found.draft c.pop.new.self.items c.in-Some.found walk)
+    let walk = popped c.loop-found.needed.items c.pop.new.self.items c.in-Some.found c.in-Some.ensures.items c.loop-found.invariant in
+    finding_fits g c.requires.graph c.in-Some.found (found_stands g c.args.asked c.requires.stands c.loop-found.draft _ c.in-Some.found walk)
 
 pub add-requires-clause-stands : goal.add-requires-clause-stands
 add-requires-clause-stands c =
     let g = c.args.graph.now in
-    let walk = subst (λ (l : List Finding). IsWalk g c.args.asked c.loop-found.draft l) c.in-Some.ensures.items c.loop-found.invariant in
-    found_stands g c.args.asked c.requires.stands c.loop-found.draft c.pop.new.self.items c.in-Some.found walk
+    let walk = popped c.loop-found.needed.items c.pop.new.self.items c.in-Some.found c.in-Some.ensures.items c.loop-found.invariant in
+    found_stands g c.args.asked c.requires.stands c.loop-found.draft _ c.in-Some.found walk
 
 pub add-requires-clause-absent : goal.add-requires-clause-absent
 add-requires-clause-absent c =
     let g = c.args.graph.now in
-    let walk = subst (λ (l : List Finding). IsWalk g c.args.asked c.loop-found.draft l) c.in-Some.ensures.items c.loop-found.invariant in
-    found_absent g c.args.asked c.requires.stands c.loop-found.draft c.pop.new.self.items c.in-Some.found walk
+    let walk = popped c.loop-found.needed.items c.pop.new.self.items c.in-Some.found c.in-Some.ensures.items c.loop-found.invariant in
+    found_absent g c.args.asked c.requires.stands c.loop-found.draft _ c.in-Some.found walk
 
 pub loop-found-preserved-in-Continue-branch-2 : goal.loop-found-preserved-in-Continue-branch-2
 loop-found-preserved-in-Continue-branch-2 c =
     let g = c.args.graph.now in
-    let walk = subst (λ (l : List Finding). IsWalk g c.args.asked c.loop-found.draft l) c.in-Some.ensures.items c.loop-found.invariant in
-    walk_stepped g c.args.asked c.requires.stands c.loop-found.draft c.pop.new.self.items c.in-Some.found walk c.add.new.self c.in-Ok.rule c.in-Ok.ensures.by_reason c.in_ok-add-in-Ok.ensures
+    let walk = popped c.loop-found.needed.items c.pop.new.self.items c.in-Some.found c.in-Some.ensures.items c.loop-found.invariant in
+    walk_stepped g c.args.asked c.requires.stands c.loop-found.draft _ c.in-Some.found walk c.add.new.self c.in-Ok.rule c.in-Ok.ensures.by_reason c.in_ok-add-in-Ok.ensures
 
 pub loop-found-smaller-in-Continue-branch-2 : goal.loop-found-smaller-in-Continue-branch-2
 loop-found-smaller-in-Continue-branch-2 c =
     let g = c.args.graph.now in
-    let walk = subst (λ (l : List Finding). IsWalk g c.args.asked c.loop-found.draft l) c.in-Some.ensures.items c.loop-found.invariant in
-    rw c.in-Some.ensures.items (nearer_by_step g c.args.asked c.requires.stands c.loop-found.draft c.pop.new.self.items c.in-Some.found walk c.add.new.self c.in-Ok.rule c.in-Ok.ensures.by_reason c.in_ok-add-in-Ok.ensures)
+    let walk = popped c.loop-found.needed.items c.pop.new.self.items c.in-Some.found c.in-Some.ensures.items c.loop-found.invariant in
+    rw c.in-Some.ensures.items (nearer_by_step g c.args.asked c.requires.stands c.loop-found.draft _ c.in-Some.found walk c.add.new.self c.in-Ok.rule c.in-Ok.ensures.by_reason c.in_ok-add-in-Ok.ensures)
 
 pub loop-found-preserved : goal.loop-found-preserved
 loop-found-preserved c =
     let g = c.args.graph.now in
-    let walk = subst (λ (l : List Finding). IsWalk g c.args.asked c.loop-found.draft l) c.in-Some.ensures.items c.loop-found.invariant in
-    let items : c.push-in-Err-2.new.self.items ≡ (c.pop.new.self.items ++ c.in-Some.found ∷ []) ++ c.in-Err.premise ∷ [] = c.in_ok-push-in-Err-2.ensures.items ∙ ap (λ (l : List Finding). l ++ c.in-Err.premise ∷ []) c.in_ok-push-in-Err.ensures.items in
-    rw items (walk_waits g c.args.asked c.requires.stands c.loop-found.draft c.pop.new.self.items c.in-Some.found walk c.in-Err.premise c.in-Err.ensures.missing)
+    let walk = popped c.loop-found.needed.items c.pop.new.self.items c.in-Some.found c.in-Some.ensures.items c.loop-found.invariant in
+    let items : c.push-in-Err-2.new.self.items ≡ (c.pop.new.self.items ++ c.in-Some.found ∷ []) ++ c.in-Err.premise ∷ [] =
+    c.in_ok-push-in-Err-2.ensures.items ∙ ap (λ (l : List Finding). l ++ c.in-Err.premise ∷ []) c.in_ok-push-in-Err.ensures.items in
+    rw items (walk_waits g c.args.asked c.requires.stands c.loop-found.draft _ c.in-Some.found walk c.in-Err.premise c.in-Err.ensures.missing)
 
 pub loop-found-smaller : goal.loop-found-smaller
 loop-found-smaller c =
     let g = c.args.graph.now in
-    let walk = subst (λ (l : List Finding). IsWalk g c.args.asked c.loop-found.draft l) c.in-Some.ensures.items c.loop-found.invariant in
-    let items : c.push-in-Err-2.new.self.items ≡ (c.pop.new.self.items ++ c.in-Some.found ∷ []) ++ c.in-Err.premise ∷ [] = c.in_ok-push-in-Err-2.ensures.items ∙ ap (λ (l : List Finding). l ++ c.in-Err.premise ∷ []) c.in_ok-push-in-Err.ensures.items in
-    rw (items, c.in-Some.ensures.items) (nearer_by_premise g c.args.asked c.requires.stands c.loop-found.draft c.pop.new.self.items c.in-Some.found walk c.in-Err.premise c.in-Err.ensures.missing)
+    let walk = popped c.loop-found.needed.items c.pop.new.self.items c.in-Some.found c.in-Some.ensures.items c.loop-found.invariant in
+    let items : c.push-in-Err-2.new.self.items ≡ (c.pop.new.self.items ++ c.in-Some.found ∷ []) ++ c.in-Err.premise ∷ [] =
+    c.in_ok-push-in-Err-2.ensures.items ∙ ap (λ (l : List Finding). l ++ c.in-Err.premise ∷ []) c.in_ok-push-in-Err.ensures.items in
+    rw (items, c.in-Some.ensures.items) (nearer_by_premise g c.args.asked c.requires.stands c.loop-found.draft _ c.in-Some.found walk c.in-Err.premise c.in-Err.ensures.missing)
 
 pub returns-clause-by_rules : goal.returns-clause-by_rules
 returns-clause-by_rules c =
