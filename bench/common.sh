@@ -1,6 +1,6 @@
 # What the benches share. Sourced by each of them, and needs the toolchain's `rt`. A program is made in a temporary
-# folder over copies of the crates, proved before it runs, and taken away again; its source is no .rt file here, since
-# the gate wants each of those in a crate.
+# folder over copies of the crates, proved before it runs, and taken away again; its source is no .rt file here, and its
+# proofs are no .antt files, since the gate wants each of those in a crate.
 set -eu
 
 root=$(cd "$(dirname "$0")/.." && pwd)
@@ -8,7 +8,8 @@ work=$(mktemp -d)
 trap 'rm -rf "$work"' EXIT
 
 # lay_out PROGRAM LIBRARY..: enters a new folder of the program bench/PROGRAM, which stands on these libraries: crates
-# of the repository, lower ones first, or the kit's own.
+# of the repository, lower ones first, or the kit's own. A file FUNCTION.antt.txt beside the program is what stands of
+# that function's proof.
 lay_out() {
     program=$1
     shift
@@ -18,6 +19,12 @@ lay_out() {
         grep "^$library:" "$root/crates.txt" >> "$work/crates.txt" || continue
         cp -R "$root/crates/$library" "$work/crates/$library"
     done
+    for proof in "$root/bench/$program"/*.antt.txt; do
+        [ -e "$proof" ] || continue
+        function=$(basename "$proof" .antt.txt)
+        mkdir -p "$work/crates/$program/proofs/$function"
+        cp "$proof" "$work/crates/$program/proofs/$function/Answers.antt"
+    done
     echo "$program: $*" >> "$work/crates.txt"
     cd "$work/crates/$program"
 }
@@ -26,4 +33,16 @@ lay_out() {
 # arguments. What that says is printed where it fails alone.
 build() {
     rt run > "$work/log" 2>&1 || { cat "$work/log"; exit 1; }
+}
+
+# medians RUNS COMMAND..: runs the command so often, and prints the median of each figure that it prints.
+medians() {
+    runs=$1
+    shift
+    for _ in $(seq "$runs"); do "$@"; done > "$work/figures"
+    column=1
+    for _ in $(head -n 1 "$work/figures"); do
+        cut -d ' ' -f "$column" "$work/figures" | sort -n | sed -n "$(((runs + 1) / 2))p"
+        column=$((column + 1))
+    done
 }

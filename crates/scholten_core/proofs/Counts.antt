@@ -100,6 +100,11 @@ module _ {P : Type 0} where
         | false ↦ omega (arith, length-waiting es)
       ]
 
+  -- a letter that waits is no hole
+  pub waits_full : (o : Option (Letter P)) → does_wait o ≡ true → one (is_hole o) ≡ 0
+  waits_full None waits = absurd (true≢false (sym waits))
+  waits_full (Some l) waits = refl
+
   -- to drop the holes leaves the letters, and no hole
   pub standing-full : (es : List (ℕ × Option (Letter P))) → standing (filter (λ e. is_some e.1) es) ≡ standing es
   standing-full [] = refl

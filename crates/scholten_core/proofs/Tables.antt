@@ -9,7 +9,7 @@ use Rattle.scholten_core.specs.declared.letters.Letter.{Letter}
 use Rattle.scholten_core.specs.Sound.{IsNumbered}
 use Rattle.scholten_core.specs.Step.{mark}
 use Rattle.scholten_core.specs.LetterTable.{IsTable, LetterTableState, TakesOut, count, does_wait, is_hole, one, standing, waiting_in}
-use Rattle.scholten_core.proofs.Counts.{count-append, count-le-length, count-set, count-take, count-take-le, count-take-pop, count-take-same, count-take-set, either_way, holes-full, take-set_value, waiting-at, waits-full}
+use Rattle.scholten_core.proofs.Counts.{count-append, count-le-length, count-set, count-take, count-take-le, count-take-pop, count-take-same, count-take-set, either_way, holes-full, take-set_value, waiting-at, waits-full, waits_full}
 use Rattle.scholten_core.proofs.Lists.{numbered-append, numbered-filter}
 use Rattle.scholten_core.proofs.Standing.{length-numbered_le, numbered-front, numbered-set_value, standing-append, standing-change}
 
@@ -25,16 +25,17 @@ module _ {P : Type 0} (sent waits holes first last : ℕ) (es : List (ℕ × Opt
   holes-le-sent = omega (arith, holes-le-length, length-numbered_le 0 es sent is.numbers)
 
   -- a letter is sent
-  pub pushed : (l : Letter P) → l.held ≡ false → IsTable (sent + 1) (waits + 1) holes first (length (es ++ (sent + 1, Some l) ∷ [])) (es ++ (sent + 1, Some l) ∷ [])
-  pushed l waiting =
-      let added : List (ℕ × Option (Letter P)) = (sent + 1, Some l) ∷ [] in
+  pub pushed : (o : Option (Letter P)) → does_wait o ≡ true → IsTable (sent + 1) (waits + 1) holes first (length (es ++ (sent + 1, o) ∷ [])) (es ++ (sent + 1, o) ∷ [])
+  pushed o waiting =
+      let added : List (ℕ × Option (Letter P)) = (sent + 1, o) ∷ [] in
       let more : List (ℕ × Option (Letter P)) = es ++ added in
-      let counts : one (does_wait (Some l)) ≡ 1 = ap (λ b. one (not b)) waiting in
+      let counts : one (does_wait o) ≡ 1 = ap one waiting in
+      let full = waits_full o waiting in
       let all : take (length more) more ≡ more = take_all (length more) more (omega arith) in
       record {
         numbers = numbered-append 0 es sent added (sent + 1) is.numbers (omega arith, omega arith);
         waiting = omega (arith, is.waiting, count-append does_wait es added, counts);
-        gone = omega (arith, is.gone, count-append is_hole es added);
+        gone = omega (arith, is.gone, count-append is_hole es added, full);
         before = ap (count does_wait) (take-append-le first es added is.within_first) ∙ is.before;
         all = ap (count does_wait) all ∙ omega (arith, is.waiting, count-append does_wait es added, counts);
         within_first = omega (arith, is.within_first, length-append es added);

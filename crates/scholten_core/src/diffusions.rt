@@ -3,6 +3,7 @@ use crate::letter_tables::LetterTable;
 use crate::letters::Letter;
 use crate::parents::Parent;
 use crate::signals::put;
+use crate::slots::{Slot, letters_from};
 use std::alloc::{AllocError, Global};
 use std::collections::{BTreeMap, VecDeque};
 use std::marker::Model;
@@ -47,12 +48,14 @@ impl<P: Drop> Diffusion<P> {
         ensures sound { IfOk result IsSound }
     {
         let mut letters = LetterTable::new(alloc)?;
-        letters.push(Letter {
+        let first = Letter {
             from: Parent::Environment,
             to: root,
             held: false,
             load,
-        });
+        };
+        let slot = Slot::full(alloc, first)?;
+        letters.push(slot);
         Ok(Diffusion {
             letters,
             signals: VecDeque::new(alloc),
@@ -119,12 +122,13 @@ impl<P: Drop> Diffusion<P> {
     {
         let letter = self.letters.get(number).unwrap();
         let (from, to) = (letter.from, letter.to);
-        self.letters.reserve(outs.len())?;
+        let slots = letters_from(Parent::Node(to), outs)?;
+        self.letters.reserve(slots.len())?;
         self.signals.reserve(1)?;
-        let by = receive(&mut self.nodes, from, to, outs.len() as u64)?;
+        let by = receive(&mut self.nodes, from, to, slots.len() as u64)?;
         put(&mut self.signals, by);
         self.letters.finish(number);
-        self.letters.send(Parent::Node(to), outs);
+        self.letters.send(slots);
         Ok(())
     }
 

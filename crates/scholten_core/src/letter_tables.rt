@@ -2,10 +2,10 @@
 ghost use Rattle.std.specs.Prelude.{◌≡◌, ◌+◌, ◌-◌, ◌<◌, ◌≤◌, Some, IfSome, is_some, nat_eq, slice_get, take};
 ghost use Rattle.std.specs.Map.{keys_of, lookup};
 ghost use Rattle.indexmap.specs.IndexMap.{index_map_len};
-ghost use Rattle.scholten_core.specs.LetterTable.{count, does_wait, held_as, is_of, last_hole, WaitsAt};
+ghost use Rattle.scholten_core.specs.LetterTable.{count, does_wait, is_of, last_hole, WaitsAt};
 
 use crate::letters::Letter;
-use crate::parents::Parent;
+use crate::slots::Slot;
 use indexmap::IndexMap;
 use std::alloc::{AllocError, Global};
 use std::marker::Model;
@@ -22,37 +22,19 @@ pub(crate) struct LetterTable<P> {
     first: usize,
     // From this place on none waits.
     last: usize,
-    letters: IndexMap<u64, Option<Letter<P>>>,
+    letters: IndexMap<u64, Slot<P>>,
 }
 
-// A letter is held from now on, or waits again.
-fn hold<P>(slot: &mut Option<Letter<P>>, held: bool)
-    ensures { slot.new ≡ held_as held slot.old }
-{
-    if let Some(letter) = slot {
-        letter.held = held;
-    }
-}
-
-fn waits<P>(slot: &Option<Letter<P>>) -> bool
-    ensures { result ≡ does_wait slot.now }
-{
-    match slot {
-        Some(letter) => !letter.held,
-        None => false,
-    }
-}
-
-fn ends_in_hole<P>(letters: &IndexMap<u64, Option<Letter<P>>>) -> bool
+fn ends_in_hole<P>(letters: &IndexMap<u64, Slot<P>>) -> bool
     ensures { result ≡ last_hole (slice_get letters.now.entries (index_map_len letters.now - 1)) }
 {
     match letters.last() {
-        Some((_, slot)) => slot.is_none(),
+        Some((_, slot)) => slot.is_hole(),
         None => false,
     }
 }
 
-fn stands_at<P>(letters: &IndexMap<u64, Option<Letter<P>>>, at: usize, number: u64) -> bool
+fn stands_at<P>(letters: &IndexMap<u64, Slot<P>>, at: usize, number: u64) -> bool
     ensures { result ≡ is_of number (slice_get letters.now.entries at) }
 {
     match letters.get_index(at) {
@@ -63,7 +45,7 @@ fn stands_at<P>(letters: &IndexMap<u64, Option<Letter<P>>>, at: usize, number: u
 
 // Where the number's entry stands. Numbers rise, so two places are tried before the table's index: where it stands if
 // no number lacks between the first and it, and if none lacks between it and the last.
-fn place_of<P>(letters: &IndexMap<u64, Option<Letter<P>>>, number: u64) -> Option<usize>
+fn place_of<P>(letters: &IndexMap<u64, Slot<P>>, number: u64) -> Option<usize>
     ensures found { is_some result ≡ is_some (lookup (nat_eq number) letters.now.entries) }
     ensures place { IfSome result (λ at. slice_get (keys_of letters.now.entries) at ≡ Some number) }
     ensures within { IfSome result (λ at. at < index_map_len letters.now) }
@@ -83,14 +65,14 @@ fn place_of<P>(letters: &IndexMap<u64, Option<Letter<P>>>, number: u64) -> Optio
 }
 
 // Where the waiting letter at that place stands, sought from a place on before which none waits.
-fn seek_on<P>(letters: &IndexMap<u64, Option<Letter<P>>>, first: usize, place: u64) -> usize
+fn seek_on<P>(letters: &IndexMap<u64, Slot<P>>, first: usize, place: u64) -> usize
     requires none { count does_wait (take first letters.now.entries) ≡ 0 }
     requires there { place < count does_wait letters.now.entries }
     ensures { WaitsAt letters.now.entries place result }
 {
     let mut left = place;
     for at in first..letters.len() {
-        if !waits(&letters[at]) {
+        if !letters[at].waits() {
             continue;
         }
         if left == 0 {
@@ -102,14 +84,14 @@ fn seek_on<P>(letters: &IndexMap<u64, Option<Letter<P>>>, first: usize, place: u
 }
 
 // Where the waiting letter that so many others follow stands, sought from a place back from which on none waits.
-fn seek_back<P>(letters: &IndexMap<u64, Option<Letter<P>>>, last: usize, follow: u64) -> usize
+fn seek_back<P>(letters: &IndexMap<u64, Slot<P>>, last: usize, follow: u64) -> usize
     requires within { last ≤ index_map_len letters.now }
     requires there { follow < count does_wait (take last letters.now.entries) }
     ensures { WaitsAt letters.now.entries (count does_wait (take last letters.now.entries) - follow - 1) result }
 {
     let mut left = follow;
     for at in (0..last).rev() {
-        if !waits(&letters[at]) {
+        if !letters[at].waits() {
             continue;
         }
         if left == 0 {
@@ -122,7 +104,7 @@ fn seek_back<P>(letters: &IndexMap<u64, Option<Letter<P>>>, last: usize, follow:
 
 // Where the waiting letter at that place stands, which so many others follow, sought from the nearer end.
 fn seek<P>(
-    letters: &IndexMap<u64, Option<Letter<P>>>,
+    letters: &IndexMap<u64, Slot<P>>,
     first: usize,
     last: usize,
     place: u64,
@@ -160,8 +142,8 @@ impl<P: Drop> LetterTable<P> {
     ghost use Rattle.std.specs.Prelude.{◌≡◌, ◌+◌, ◌^◌, ◌<◌, ◌≤◌, ◌==◌, ◌++◌, [], ◌∷◌, true, false, not, length, filter, map};
     ghost use Rattle.std.specs.Prelude.{vec_len, is_some, option_copied, IfOk, OnOk};
     ghost use Rattle.std.specs.Map.{lookup};
-    ghost use Rattle.scholten_core.specs.Step.{numbered, mark};
-    ghost use Rattle.scholten_core.specs.LetterTable.{waiting_in, IsHeldIn, TakesOut};
+    ghost use Rattle.scholten_core.specs.Step.{mark};
+    ghost use Rattle.scholten_core.specs.LetterTable.{waiting_in, standing, counted, AllWait, IsHeldIn, TakesOut};
 
     /// No letter, with room for one.
     pub(crate) fn new(alloc: Global) -> Result<Self, AllocError>
@@ -195,7 +177,7 @@ impl<P: Drop> LetterTable<P> {
         ensures { option_copied result ≡ lookup (λ n. n == number) self.now.letters }
     {
         let at = place_of(&self.letters, number)?;
-        self.letters[at].as_ref()
+        self.letters[at].letter()
     }
 
     /// Takes the waiting letter at that place, in order of number, and answers its number.
@@ -209,7 +191,7 @@ impl<P: Drop> LetterTable<P> {
         self.last = if follow == 0 { at } else { self.last };
         self.waits -= 1;
         let (number, slot) = self.letters.pair_mut(at);
-        hold(slot, true);
+        slot.hold(true);
         *number
     }
 
@@ -221,7 +203,7 @@ impl<P: Drop> LetterTable<P> {
     {
         let at = place_of(&self.letters, number).unwrap();
         let (_, slot) = self.letters.pair_mut(at);
-        hold(slot, false);
+        slot.hold(false);
         self.waits += 1;
         self.first = self.first.min(at);
         self.last = self.last.max(at + 1);
@@ -236,35 +218,31 @@ impl<P: Drop> LetterTable<P> {
         self.letters.reserve(count)
     }
 
-    /// Sends letters, where there is room for them.
-    pub(crate) fn send(&mut self, from: Parent, outs: Vec<(u64, P)>)
-        requires room { vec_len outs ≤ self.old.room }
-        requires numbers { self.old.sent + vec_len outs < 2 ^ 64 }
-        ensures letters { self.new.letters ≡ self.old.letters ++ numbered from (self.old.sent + 1) outs.items }
-        ensures sent { self.new.sent ≡ self.old.sent + vec_len outs }
+    /// Sends letters that wait, where there is room for them.
+    pub(crate) fn send(&mut self, slots: Vec<Slot<P>>)
+        requires room { vec_len slots ≤ self.old.room }
+        requires numbers { self.old.sent + vec_len slots < 2 ^ 64 }
+        requires wait { AllWait slots.items }
+        ensures letters { self.new.letters ≡ self.old.letters ++ standing (counted (self.old.sent + 1) slots.items) }
+        ensures sent { self.new.sent ≡ self.old.sent + vec_len slots }
     {
-        for (to, load) in outs {
-            self.push(Letter {
-                from,
-                to,
-                held: false,
-                load,
-            });
+        for slot in slots {
+            self.push(slot);
         }
     }
 
-    /// Sends a letter, where there is room for it.
-    pub(crate) fn push(&mut self, letter: Letter<P>)
+    /// Sends a letter that waits, where there is room for it.
+    pub(crate) fn push(&mut self, slot: Slot<P>)
         requires room { 0 < self.old.room }
         requires numbers { self.old.sent + 1 < 2 ^ 64 }
-        requires waits { letter.held ≡ false }
-        ensures letters { self.new.letters ≡ self.old.letters ++ (self.old.sent + 1, letter) ∷ [] }
+        requires waits { does_wait slot ≡ true }
+        ensures letters { self.new.letters ≡ self.old.letters ++ standing ((self.old.sent + 1, slot) ∷ []) }
         ensures sent { self.new.sent ≡ self.old.sent + 1 }
         ensures room { self.old.room ≤ self.new.room + 1 }
     {
         self.sent += 1;
         self.waits += 1;
-        let _ = self.letters.insert(self.sent, Some(letter)).unwrap();
+        let _ = self.letters.insert(self.sent, slot).unwrap();
         self.last = self.letters.len();
     }
 
@@ -277,7 +255,7 @@ impl<P: Drop> LetterTable<P> {
     {
         let at = place_of(&self.letters, number).unwrap();
         let (_, slot) = self.letters.pair_mut(at);
-        *slot = None;
+        slot.empty();
         self.holes += 1;
         self.pop_holes();
         self.drop_holes();
@@ -305,9 +283,9 @@ impl<P: Drop> LetterTable<P> {
     {
         if self.holes > self.letters.len() - self.holes {
             self.letters.retain(
-                |_number: &u64, slot: &mut Option<Letter<P>>| -> bool
+                |_number: &u64, slot: &mut Slot<P>| -> bool
                     ensures { (result ≡ is_some slot.old) × (slot.new ≡ slot.old) }
-                { slot.is_some() },
+                { !slot.is_hole() },
             );
             self.holes = 0;
             self.first = 0;

@@ -11,6 +11,7 @@ mod letter_tables;
 mod letters;
 mod parents;
 mod signals;
+mod slots;
 #[cfg(test)]
 mod tests;
 

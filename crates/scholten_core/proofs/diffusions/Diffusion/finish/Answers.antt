@@ -1,14 +1,25 @@
-use Rattle.std.proofs.Common.{ℕ, ◌+◌, ◌++◌, ◌==◌, not, filter, option_to_list, refl, sym, ap, subst, ◌∙◌, arith}
+use Rattle.std.proofs.Common.{ℕ, ◌+◌, ◌++◌, ◌==◌, not, filter, length, option_to_list, refl, sym, ap, subst, ◌∙◌, arith}
+use Rattle.std.proofs.lemmas.List.{length-map}
 use Rattle.scholten_core.specs.declared.parents.Parent.TheVariants.{Node}
 use Rattle.scholten_core.specs.Kept.{Receives, held_in}
+use Rattle.scholten_core.specs.LetterTable.{counted, standing, written}
+use Rattle.scholten_core.specs.Sound.{IsSound}
 use Rattle.scholten_core.specs.Step.{numbered}
 use Rattle.scholten_core.proofs.Complete.{sound}
 use Rattle.scholten_core.proofs.Fields.{unchanged_kept}
 use Rattle.scholten_core.proofs.Finished.{IsFinishedIn, finished_fields}
+use Rattle.scholten_core.proofs.Sent.{all_wait, standing-written}
 use Rattle.scholten_core.proofs.Steps.{deficit-le-outstanding}
 use Rattle.scholten_core.proofs.diffusions.Diffusion.finish.Given.{Over}
 use Rattle.scholten_core.proofs.diffusions.Diffusion.finish.Goals as goal
 use Rattle.scholten_core.proofs.diffusions.Diffusion.finish.Goals.{After-send}
+
+pub returns-in_err-slots-clause-sound : goal.returns-in_err-slots-clause-sound
+returns-in_err-slots-clause-sound g c = subst IsSound c.self.view_is (sound _ c.self.invariant.settled)
+
+pub send-requires-clause-wait : goal.send-requires-clause-wait
+send-requires-clause-wait g c =
+    rw c.in_ok-slots.ensures (all_wait (Node c.unwrap-letter.result.now.to) c.args.outs.items)
 
 pub returns-in_err-reserve-clause-sound : goal.returns-in_err-reserve-clause-sound
 returns-in_err-reserve-clause-sound g c =
@@ -23,7 +34,8 @@ receive-requires g c =
     let keeps = c.self.invariant in
     let to = Node c.unwrap-letter.result.now.to in
     let room = rw (← c.self.view_is) at c.requires.room in
-    omega (arith, room, keeps.counts to, deficit-le-outstanding (held_in c.self.inside.letters c.self.inside.signals.items c.self.inside.nodes) to, keeps.settled.one_each, c.len-2.ensures)
+    let many = c.in_ok-slots.slots.ok.0 ∙ ap length c.in_ok-slots.ensures ∙ length-map c.args.outs.items (written to) in
+    omega (arith, room, keeps.counts to, deficit-le-outstanding (held_in c.self.inside.letters c.self.inside.signals.items c.self.inside.nodes) to, keeps.settled.one_each, c.len-2.ensures, many, c.args.outs.ok.0)
 
 pub invariant_of-self-in_err-by : goal.invariant_of-self-in_err-by
 invariant_of-self-in_err-by g c =
@@ -37,10 +49,14 @@ done : (g : Over) (c : After-send g) → IsFinishedIn (held_in c.self.inside.let
 done g c =
     let l = c.unwrap-letter.result.now in
     let found = sym (rw c.unwrap-letter.ensures at c.get.ensures) in
-    let receives = subst (λ (n : ℕ). Receives c.self.inside.nodes c.receive.new.nodes l.from l.to n c.in_ok-by.by) (c.len-2.ensures ∙ c.args.outs.ok.0) c.in_ok-by.ensures.received in
+    let to = Node l.to in
+    let many = c.in_ok-slots.slots.ok.0 ∙ ap length c.in_ok-slots.ensures ∙ length-map c.args.outs.items (written to) in
+    let receives = subst (λ (n : ℕ). Receives c.self.inside.nodes c.receive.new.nodes l.from l.to n c.in_ok-by.by) (c.len-2.ensures ∙ many) c.in_ok-by.ensures.received in
     let left = c.finish.ensures.letters ∙ ap (filter (λ x. not (x.0 == c.args.number))) c.reserve.ensures.letters in
     let sent = c.finish.ensures.sent ∙ c.reserve.ensures.sent in
-    finished_fields c.self.inside.letters c.self.inside.signals.items c.self.inside.environment c.self.inside.nodes c.self.invariant c.args.number l found c.args.outs.items c.receive.new.nodes c.in_ok-by.by receives c.send.new.self (c.send.ensures.letters ∙ (λ i. left i ++ numbered (Node l.to) (sent i + 1) c.args.outs.items)) (c.send.ensures.sent ∙ (λ i. sent i + c.args.outs.ok.0 i)) c.put.new.signals.items (c.put.ensures ∙ ap (λ s. s ++ option_to_list c.in_ok-by.by) c.reserve-2.ensures.items)
+    let added = ap (λ slots. standing (counted (c.finish.new.self.sent + 1) slots)) c.in_ok-slots.ensures ∙ standing-written to (c.finish.new.self.sent + 1) c.args.outs.items in
+    let letters = c.send.ensures.letters ∙ ap (λ ls. c.finish.new.self.letters ++ ls) added ∙ (λ i. left i ++ numbered to (sent i + 1) c.args.outs.items) in
+    finished_fields c.self.inside.letters c.self.inside.signals.items c.self.inside.environment c.self.inside.nodes c.self.invariant c.args.number l found c.args.outs.items c.receive.new.nodes c.in_ok-by.by receives c.send.new.self letters (c.send.ensures.sent ∙ (λ i. sent i + many i)) c.put.new.signals.items (c.put.ensures ∙ ap (λ s. s ++ option_to_list c.in_ok-by.by) c.reserve-2.ensures.items)
 
 pub invariant_of-self-2 : goal.invariant_of-self-2
 invariant_of-self-2 g c = (done g (goal.at.invariant_of-self-2 g c).After-send).kept

@@ -1,4 +1,6 @@
-use Rattle.std.proofs.Common.{sym, ◌∙◌, arith}
+use Rattle.std.proofs.Common.{ap, sym, ◌∙◌, arith}
+use Rattle.indexmap.specs.IndexMap.{set_value_at}
+use Rattle.scholten_core.specs.LetterTable.{standing}
 use Rattle.scholten_core.proofs.Standing.{HoldsAt, holds_at, number_found, standing-hole}
 use Rattle.scholten_core.proofs.Tables.{holes-le-sent, left_hole}
 use Rattle.scholten_core.proofs.letter_tables.LetterTable.finish.Given.{Over}
@@ -24,9 +26,9 @@ overflow_add-self g c =
 pub invariant_of-self : goal.invariant_of-self
 invariant_of-self g c =
     let one = slot g (goal.at.invariant_of-self g c).After-pair_mut-slot in
-    left_hole _ _ _ _ _ _ c.self.invariant c.unwrap-at.result c.args.number one.letter one.there one.held
+    rw c.empty.ensures (left_hole _ _ _ _ _ _ c.self.invariant c.unwrap-at.result c.args.number one.letter one.there one.held)
 
 pub returns-clause-letters : goal.returns-clause-letters
 returns-clause-letters g c =
     let one = slot g (goal.at.returns-clause-letters g c).After-pair_mut-slot in
-    rw (← c.self.view_is) (c.drop_holes.ensures.letters ∙ c.pop_holes.ensures.letters ∙ standing-hole 0 c.self.inside.letters.entries c.self.inside.sent c.unwrap-at.result c.args.number one.letter c.self.invariant.numbers one.there)
+    rw (← c.self.view_is) (c.drop_holes.ensures.letters ∙ c.pop_holes.ensures.letters ∙ ap (λ w. standing (set_value_at c.self.inside.letters.entries c.unwrap-at.result w)) c.empty.ensures ∙ standing-hole 0 c.self.inside.letters.entries c.self.inside.sent c.unwrap-at.result c.args.number one.letter c.self.invariant.numbers one.there)

@@ -8,4 +8,4 @@ returns-in_err-at g c =
 
 pub returns : goal.returns
 returns g c =
-    rw (← c.self.view_is) (c.as_ref.ensures.value ∙ letter_there c.self.inside.sent c.args.number c.in_ok-at.at c.self.inside.letters.entries c.index.result.now c.self.invariant.numbers c.in_ok-at.ensures.place c.index.ensures)
+    rw (← c.self.view_is) (c.letter.ensures ∙ letter_there c.self.inside.sent c.args.number c.in_ok-at.at c.self.inside.letters.entries c.index.result.now c.self.invariant.numbers c.in_ok-at.ensures.place c.index.ensures)

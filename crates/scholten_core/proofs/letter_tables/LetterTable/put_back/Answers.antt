@@ -25,7 +25,7 @@ slot g c =
     holds_at c.self.inside.sent c.self.inside.letters.entries c.self.invariant.numbers c.args.number c.unwrap-at.result c.pair_mut-slot.result.0.now c.pair_mut-slot.result.1.now held (rw c.unwrap-at.ensures at c.place_of.ensures.place) c.pair_mut-slot.ensures.value
 
 -- what is written there
-written : (g : Over) (c : After-hold g) → c.hold.new.slot ≡ Some (record (slot g c).letter { held = false })
+written : (g : Over) (c : After-hold g) → c.hold.new.self ≡ Some (record (slot g c).letter { held = false })
 unfolding slot
 written g c =
     let held = rw (← c.self.view_is) at c.requires in

@@ -35,7 +35,7 @@ slot g c =
     letter_waiting c.self.inside.letters.entries c.args.place c.seek-at.result c.pair_mut-slot.result.0.now c.pair_mut-slot.result.1.now c.seek-at.ensures c.pair_mut-slot.ensures.value
 
 -- what is written there
-written : (g : Over) (c : After-hold g) → c.hold.new.slot ≡ Some (record (slot g c).letter { held = true })
+written : (g : Over) (c : After-hold g) → c.hold.new.self ≡ Some (record (slot g c).letter { held = true })
 written g c = c.hold.ensures ∙ ap (held_as true) (slot g c).value
 
 low : (g : Over) (c : After-hold g) → (c.if-place-eq0.self ≡ c.self.inside.first) ⊎ ((c.if-place-eq0.self ≡ c.seek-at.result) × (c.args.place ≡ 0))
@@ -57,4 +57,4 @@ pub returns : goal.returns
 returns g c =
     let after = (goal.at.returns g c).After-hold in
     let one = slot g after in
-    takes_out c.self.inside.sent c.args.place c.seek-at.result c.pair_mut-slot.result.0.now (spare c.self.inside.letters) c.self.inside.letters.entries c.args.self.now c.self.view_is one.letter c.self.invariant.numbers c.seek-at.ensures.place_is one.there one.waits c.hold.new.slot (written g after)
+    takes_out c.self.inside.sent c.args.place c.seek-at.result c.pair_mut-slot.result.0.now (spare c.self.inside.letters) c.self.inside.letters.entries c.args.self.now c.self.view_is one.letter c.self.invariant.numbers c.seek-at.ensures.place_is one.there one.waits c.hold.new.self (written g after)
