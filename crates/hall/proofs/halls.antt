@@ -9,5 +9,6 @@ pub mod Named
 pub mod Sound
 pub mod Serving
 pub mod Runs
+pub mod Served
 pub mod Openings
 pub mod TrueAnswers

@@ -1,7 +1,6 @@
 -- What an event does to the account of its tenant, and to those of the others.
 use Rattle.std.proofs.Common.{ℕ, Bool, true, false, cond, List, [], ◌∷◌, ◌++◌, length, ◌≡◌, ◌∙◌, inl, sym, ap, refl, subst, subst₂, map, take, Option, Some, None, option_map, le_refl, append-nil}
 use Rattle.std.specs.List.{AllByRecursion}
-use Rattle.std.proofs.lemmas.Bool.{false_from_ne_true, both_ways}
 use Rattle.std.proofs.lemmas.List.{take-append-le, take_all}
 use Rattle.names.specs.Name.{is_same}
 use Rattle.names.proofs.SameNames.{same_from_is_same, is_same_itself}
@@ -9,7 +8,7 @@ use Rattle.vaults.specs.declared.changes.Entry.{Entry}
 use Rattle.vaults.specs.Journal.{entries_of, view, credentials, Vault}
 use Rattle.vaults.proofs.LastEntries.{entries_push}
 use Rattle.search.specs.declared.queries.Query.{Query}
-use Rattle.search.specs.Ending.{Settled, Nothing, MaySettle}
+use Rattle.search.specs.Ending.{Nothing, MaySettle}
 use Rattle.search.specs.Search.{SearchState}
 use Rattle.hall.specs.declared.faults.Fault.TheVariants.{NoTenant}
 use Rattle.hall.specs.declared.calls.requests.Request.{Request}

@@ -1,10 +1,10 @@
 -- Each answer to a poll is the truth of the query that opened the search.
-use Rattle.std.proofs.Common.{ℕ, List, [], ◌∷◌, ◌++◌, ◌≡◌, ◌≢◌, ◌∙◌, ◌⊎◌, inl, inr, sym, ap, refl, subst, subst₂, take, Option, Some, None, option_map, append-nil, append_assoc}
+use Rattle.std.proofs.Common.{ℕ, List, [], ◌∷◌, ◌++◌, ◌≡◌, ◌≢◌, ◌∙◌, inl, inr, sym, ap, refl, subst, subst₂, Option, Some, None, option_map, append-nil, append_assoc}
 use Rattle.credential_text.specs.declared.credentials.Credential.{Credential}
 use Rattle.vaults.specs.declared.changes.Entry.{Entry}
 use Rattle.vaults.specs.Journal.{Vault, view, credentials}
 use Rattle.search.specs.declared.queries.Query.{Query}
-use Rattle.search.specs.Ending.{Settled, Nothing, Yes, No, Members, Spent, Broken, IsTruth, IsEnding, answers, spends, breaks, MaySettle}
+use Rattle.search.specs.Ending.{Settled, Nothing, Yes, No, Members, Spent, Broken, IsTruth, answers, spends, breaks, MaySettle}
 use Rattle.hall.specs.declared.faults.Fault.{Fault}
 use Rattle.hall.specs.declared.faults.Fault.TheVariants.{NoSuchSearch, NoTenant, Memory}
 use Rattle.hall.specs.declared.calls.answers.Answer.{Answer}
@@ -13,11 +13,10 @@ use Rattle.hall.specs.declared.calls.requests.Request.TheVariants as request
 use Rattle.hall.specs.declared.calls.replies.Reply.{Reply}
 use Rattle.hall.specs.declared.calls.replies.Reply.TheVariants.{Answered, Refused}
 use Rattle.hall.specs.declared.calls.events.Event.{Event}
-use Rattle.hall.specs.declared.calls.events.Event.TheVariants as event
 use Rattle.hall.specs.halls.Searches.{settled_of}
-use Rattle.hall.specs.halls.Holder.{search_in, map_holder}
+use Rattle.hall.specs.halls.Holder.{search_in}
 use Rattle.hall.specs.halls.Account.{answer_of, IsAnswer, polled}
-use Rattle.hall.specs.halls.State.{Running, Tenant, HallState, tenant_named, seen, account, account_of, running_of, search_at, IsSound, IsSoundSearch, new_hall}
+use Rattle.hall.specs.halls.State.{Running, Tenant, HallState, tenant_named, seen, account, running_of, search_at, IsSound}
 use Rattle.hall.specs.halls.Run.{IsServed, MayReplyTo, Happens, Run}
 use Rattle.hall.specs.halls.Answers.{Told, told_of, polls_search, IsTrueOf, AnswersAreTrue}
 use Rattle.hall.proofs.halls.Holders.{search_mapped}
