@@ -12,3 +12,5 @@ pub mod Runs
 pub mod Served
 pub mod Openings
 pub mod TrueAnswers
+pub mod Driving
+pub mod Deeds

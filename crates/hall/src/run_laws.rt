@@ -1,6 +1,7 @@
 //! What holds of a hall that runs searches.
 ghost use Rattle.hall.specs.halls.Agree.{TwoWorlds, TwoHalls};
 ghost use Rattle.hall.specs.halls.Answers.{AnswersAreTrue};
+ghost use Rattle.hall.specs.halls.Deeds.{DeedsAreAllowed, DeedAnswersAreTrue};
 ghost use Rattle.hall.specs.halls.Laws.{NewHallsAreSound, EventsKeepSoundness, RunsAreAllowed};
 
 /// Whatever else happens in two worlds: two allowed runs from one account over one trace give a tenant equal answers,
@@ -26,4 +27,11 @@ pub fn two_halls()
 /// the search, over what its asker could read then.
 pub fn answers_are_true()
     ensures { AnswersAreTrue }
+{}
+
+/// What tenants are told one after another is allowed to each of them over its own trace, a wait counting as a poll, and
+/// its answers are true.
+pub fn deeds_are_allowed()
+    ensures allowed { DeedsAreAllowed }
+    ensures truth { DeedAnswersAreTrue }
 {}

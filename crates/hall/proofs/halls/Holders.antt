@@ -1,5 +1,5 @@
 -- What is done to what a tenant holds of searches: seen otherwise, and beside another's.
-use Rattle.std.proofs.Common.{ℕ, ◌+◌, ◌≤◌, ◌<◌, ◌==◌, nat_le, Bool, true, false, cond, not, List, [], ◌∷◌, ◌++◌, length, ◌≡◌, ◌∙◌, sym, ap, refl, subst, filter, find, Option, Some, None, option_map, arith, ne_eqb, eqb-true}
+use Rattle.std.proofs.Common.{ℕ, ◌+◌, ◌≤◌, ◌<◌, ◌==◌, nat_le, Bool, true, false, cond, not, List, [], ◌∷◌, ◌++◌, length, ◌≡◌, ◌∙◌, sym, ap, refl, subst, filter, find, map, Option, Some, None, option_map, arith, ne_eqb, eqb-true}
 use Rattle.std.specs.List.{AllZip, AllByRecursion}
 use Rattle.std.proofs.lemmas.List.{map-append, length-map}
 use Rattle.std.proofs.lemmas.Slice.Zip.{all_zipped_more, AllZip-long}
@@ -184,3 +184,14 @@ found_in {S} P k of h at all = by (find (is_number k) h.searches) refl at
     by (Some s) found e =
         subst P (sym (found_one k of s h at found))
         (All-contains (λ (s : Numbered S). P s.of) h.searches s (All-from_recursion (λ (s : Numbered S). P s.of) h.searches all) (find-Some (is_number k) h.searches s found).0)
+
+-- the same numbers, where searches are seen otherwise
+pub numbered_mapped : {S T : Type 0} (f : S → T) (h : Holder S) → AreNumbered h.opens h.searches → AreNumbered h.opens (map_holder f h).searches
+numbered_mapped {S} {T} f h numbers = numbered_zipped Any h.opens h.searches (map (map_numbered f) h.searches) (each h.searches) numbers
+  where
+    Any : S → T → Type 0
+    Any s t = Unit {0}
+
+    each : (ss : List (Numbered S)) → AllZip (SameNumber Any) ss (map (map_numbered f) ss)
+    each [] = tt
+    each (s ∷ ss) = (record { number = refl; related = tt }, each ss)

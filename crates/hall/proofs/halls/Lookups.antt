@@ -4,11 +4,12 @@ use Rattle.std.specs.Option.{option_or}
 use Rattle.std.proofs.lemmas.Bool.{false≢true}
 use Rattle.std.proofs.lemmas.Bool.Decides.{Decides-eqb}
 use Rattle.std.proofs.lemmas.List.Folds.{find-append}
-use Rattle.std.proofs.lemmas.List.Elements.{filter_passes, All-contains}
+use Rattle.std.proofs.lemmas.List.Elements.{filter_passes, All-contains, same_from_all_zip}
 use Rattle.rt0_rules.proofs.Elements.{find-Some}
 use Rattle.hall.specs.halls.Holder.{Numbered, Holder, is_number, search_in, opening, ending, going_on, at_number, AreNumbered, map_numbered, map_holder}
-use Rattle.hall.proofs.Elements.{find-map}
+use Rattle.hall.proofs.Elements.{find-map, zip_changed}
 use Rattle.hall.proofs.Named.{find-filter}
+use Rattle.hall.proofs.halls.Holders.{found_one, once_numbered}
 
 given_among : {S : Type 0} (k opens : ℕ) (of : S) (ss : List (Numbered S)) → AreNumbered opens ss → option_map (λ (s : Numbered S). s.of) (find (is_number k) ss) ≡ Some of → (1 ≤ k) × (k ≤ opens)
 given_among k opens of [] numbers at = cc
@@ -136,3 +137,12 @@ going_mapped {S} {T} f k new h = ap (λ (l : List (Numbered T)). record (map_hol
     each : (ss : List (Numbered S)) → map (map_numbered f) (map (at_number k new) ss) ≡ map (at_number k (f new)) (map (map_numbered f) ss)
     each [] = refl
     each (s ∷ ss) = λ i. one s (is_number k s) i ∷ each ss i
+
+-- a search that goes on as it is
+pub going_nowhere : {S : Type 0} (k : ℕ) (of : S) (h : Holder S) → AreNumbered h.opens h.searches → search_in k h ≡ Some of → going_on k of h ≡ h
+going_nowhere {S} k of h numbers at =
+    ap (λ (l : List (Numbered S)). record h { searches = l })
+    (same_from_all_zip (λ (x y : Numbered S). y ≡ x) h.searches (map (at_number k of) h.searches)
+    (zip_changed (λ (x y : Numbered S). y ≡ x) (is_number k) (λ s. record { number = s.number; of = of }) (λ s. refl) h.searches (once_numbered k h.opens h.searches numbers)
+    (λ s found i. record { number = s.number; of = found_one k of s h at found i }))
+    (λ x y same. same))

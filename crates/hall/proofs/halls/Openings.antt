@@ -99,6 +99,25 @@ pub record Keeps (old new : HallState) : Type 0 where
 pub keeps_itself : (h : HallState) → Keeps h h
 keeps_itself h = record { journal = refl; opens = λ tenant. refl; searches = λ tenant k r at. (r, at, stays_itself r) }
 
+pub keeps_twice : (a b c : HallState) → Keeps a b → Keeps b c → Keeps a c
+keeps_twice a b c first second = record {
+  journal = second.journal ∙ first.journal;
+  opens = λ tenant. second.opens tenant ∙ first.opens tenant;
+  searches = λ tenant k r at. by tenant k r (second.searches tenant k r at);
+}
+  where
+    joined : (was between now : Running) → Stays was between → Stays between now → Stays was now
+    joined was between now one two = record {
+      since = two.since ∙ one.since;
+      query = two.query ∙ one.query;
+      settled = λ some. two.settled (λ nothing. some (sym (one.settled some) ∙ nothing)) ∙ one.settled some;
+    }
+
+    by : (tenant : List ℕ) (k : ℕ) (r : Running) → (between : Running) × (search_at b tenant k ≡ Some between) × Stays between r → (was : Running) × (search_at a tenant k ≡ Some was) × Stays was r
+    by tenant k r (between, there, later) =
+        let was = first.searches tenant k between there in
+        (was.0, was.1, joined was.0 between r was.2 later)
+
 pub keeps_knowing : (before : List Told) (old new : HallState) → Keeps old new → KnowsOpenings before old → KnowsOpenings before new
 keeps_knowing before old new keeps known = record {
   journal = known.journal ∙ sym keeps.journal;
@@ -186,9 +205,9 @@ knows_opened before h name query n t sound found next known = record {
     each tenant k r (inl at) =
         opened_stays before (opens_search name n query) tenant k r.search.query (take r.opened_at h.journal)
         (λ other e.
-          let same = same_opening name tenant n k query other e in
-          let given : k ≤ opens_at h name = subst (λ (m : List ℕ). k ≤ opens_at h m) (sym same.0) (given_at h tenant k r sound at) in
-          omega (arith, given, before_is, same.1, next))
+        let same = same_opening name tenant n k query other e in
+        let given : k ≤ opens_at h name = subst (λ (m : List ℕ). k ≤ opens_at h m) (sym same.0) (given_at h tenant k r sound at) in
+        omega (arith, given, before_is, same.1, next))
         (known.opened tenant k r at)
     each tenant k r (inr is) =
         subst (λ (x : Running). WasOpened (before ++ opens_search name n query ∷ []) tenant k x.search.query (take x.opened_at h.journal)) (sym is.2)

@@ -35,7 +35,7 @@ goes_twice limit s t u first second = record {
       (subst₂ (λ (v : List Vault) (q : Query). MaySettle limit (credentials v) q t.settled u.settled) first.view first.query second.settled);
 }
 
-waits_twice : (a b c : Account) → Waits a b → Waits b c → Waits a c
+pub waits_twice : (a b c : Account) → Waits a b → Waits b c → Waits a c
 waits_twice a b c first second = record {
   entries = second.entries ∙ first.entries;
   holder = beside_joined (GoesOn a.holder.limits.work) (GoesOn a.holder.limits.work) (GoesOn a.holder.limits.work) (goes_twice a.holder.limits.work) a.holder b.holder c.holder first.holder
@@ -49,14 +49,14 @@ run_on tenant a b c [] (told ∷ replies) waits run = absurd run
 run_on tenant a b c (m ∷ moments) [] waits run = absurd run
 run_on tenant a b c (m ∷ moments) (told ∷ replies) waits run = (run.0, run.1, waits_twice a b run.0 waits run.2, run.3, run.4)
 
-allowed_on : (tenant : List ℕ) (o p : Option Account) (moments : List Moment) (replies : List Reply) (end : Option Account) → Both Waits o p →
+pub allowed_on : (tenant : List ℕ) (o p : Option Account) (moments : List Moment) (replies : List Reply) (end : Option Account) → Both Waits o p →
     IsAllowedRun tenant p moments replies end → IsAllowedRun tenant o moments replies end
 allowed_on tenant None None moments replies end waits run = run
 allowed_on tenant None (Some b) moments replies end waits run = absurd waits
 allowed_on tenant (Some a) None moments replies end waits run = absurd waits
 allowed_on tenant (Some a) (Some b) moments replies end waits run = (run.0, run.1, run_on tenant a b run.0 moments replies waits run.2)
 
-allowed_end : (tenant : List ℕ) (o : Option Account) → IsAllowedRun tenant o [] [] o
+pub allowed_end : (tenant : List ℕ) (o : Option Account) → IsAllowedRun tenant o [] [] o
 allowed_end tenant None = (tt, refl)
 allowed_end tenant (Some a) = (a, refl, waits_itself a)
 
@@ -99,7 +99,7 @@ request_first tenant old after new name q told moments replies sound served rest
     (ap (λ (h : HallState). account_of h tenant) served.after ∙ other_after old name tenant q told sound apart) rest
 
 -- one event more at the start of a run
-event_first : (tenant : List ℕ) (old after new : HallState) (e : Event) (told : Reply) (events : List Event) (replies : List Reply) → IsSound old → Happens old e told after →
+pub event_first : (tenant : List ℕ) (old after new : HallState) (e : Event) (told : Reply) (events : List Event) (replies : List Reply) → IsSound old → Happens old e told after →
     IsAllowedRun tenant (account_of after tenant) (trace tenant (journal_after old.journal e told) events replies) (replies_to tenant events replies) (account_of new tenant) →
     IsAllowedRun tenant (account_of old tenant) (trace tenant old.journal (e ∷ events) (told ∷ replies)) (replies_to tenant (e ∷ events) (told ∷ replies)) (account_of new tenant)
 event_first tenant old after new (event.Request name q) told events replies sound served rest =

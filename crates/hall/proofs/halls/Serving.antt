@@ -28,12 +28,12 @@ use Rattle.hall.proofs.halls.Stepping.{SearchGoesOn, step_goes_on, nothing_yet}
 use Rattle.hall.proofs.halls.Named.{named_changed, named_here, named_other, found_tenant, running_at}
 
 -- a tenant's account where what it holds was changed
-own_changed : (h : HallState) (name : List ℕ) (change : Holder Running → Holder Running) (t : Tenant) → tenant_named name h.tenants ≡ Some t →
+pub own_changed : (h : HallState) (name : List ℕ) (change : Holder Running → Holder Running) (t : Tenant) → tenant_named name h.tenants ≡ Some t →
     account_of (with_holder h name change) name ≡ Some (account h.journal (record { name = t.name; holder = change t.holder }))
 own_changed h name change t found = ap (option_map (account h.journal)) (named_here name change h.tenants t found)
 
 -- and that of another name
-other_changed : (h : HallState) (name other : List ℕ) (change : Holder Running → Holder Running) → is_same name other ≡ false → account_of (with_holder h name change) other ≡ account_of h other
+pub other_changed : (h : HallState) (name other : List ℕ) (change : Holder Running → Holder Running) → is_same name other ≡ false → account_of (with_holder h name change) other ≡ account_of h other
 other_changed h name other change apart = ap (option_map (account h.journal)) (named_other name other change h.tenants apart)
 
 -- a journal that has grown says the same of a search that was opened before
@@ -178,7 +178,7 @@ pub waits_itself : (a : Account) → Waits a a
 waits_itself a = record { entries = refl; holder = beside_itself (GoesOn a.holder.limits.work) (λ s. record { query = refl; view = refl; settled = inl refl }) a.holder }
 
 -- a search that goes on, as its asker knows it
-seen_goes_on : (journal : List Entry) (name : List ℕ) (limit : ℕ) (r : Running) (s : SearchState) → IsSoundSearch journal name limit r → SearchGoesOn r.search s →
+pub seen_goes_on : (journal : List Entry) (name : List ℕ) (limit : ℕ) (r : Running) (s : SearchState) → IsSoundSearch journal name limit r → SearchGoesOn r.search s →
     GoesOn limit (seen journal name r) (seen journal name (record { opened_at = r.opened_at; search = s }))
 seen_goes_on journal name limit r s sound goes = record {
   query = goes.question.query;
