@@ -14,3 +14,6 @@ pub mod Openings
 pub mod TrueAnswers
 pub mod Driving
 pub mod Deeds
+pub mod Timely
+pub mod Exact
+pub mod Fixed

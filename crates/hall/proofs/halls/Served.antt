@@ -1,14 +1,20 @@
 -- Which searches there are after a request, and how many were opened.
-use Rattle.std.proofs.Common.{ℕ, ◌+◌, ◌≤◌, Bool, true, false, cond, List, ◌∷◌, [], ◌≡◌, ◌∙◌, ◌⊎◌, inl, inr, sym, ap, refl, subst, map, Option, Some, None, option_map, arith}
+use Rattle.std.proofs.Common.{◌<◌, le_refl, subst₂, ℕ, ◌+◌, ◌≤◌, Bool, true, false, cond, List, ◌∷◌, [], ◌≡◌, ◌∙◌, ◌⊎◌, inl, inr, sym, ap, refl, subst, map, Option, Some, None, option_map, arith}
 use Rattle.names.specs.Name.{is_same}
 use Rattle.names.proofs.SameNames.{same_from_is_same}
 use Rattle.quotas.specs.Quota.{Quota}
 use Rattle.search.specs.declared.queries.Query.{Query}
+use Rattle.hall.specs.declared.calls.requests.Request.{Request}
 use Rattle.hall.specs.declared.calls.requests.Request.TheVariants as request
-use Rattle.hall.specs.declared.calls.replies.Reply.TheVariants.{Opened}
+use Rattle.hall.specs.declared.calls.replies.Reply.{Reply}
+use Rattle.hall.specs.declared.calls.replies.Reply.TheVariants.{Counted, Opened, Closed}
+use Rattle.vaults.specs.Journal.{view}
+use Rattle.search.specs.Ending.{Nothing}
+use Rattle.hall.specs.halls.Searches.{settled_of, NoneHeld}
 use Rattle.hall.specs.halls.Holder.{search_in, ending}
 use Rattle.hall.specs.halls.State.{Running, Tenant, HallState, tenant_named, account, account_of, at_name, with_holder, running_of, search_at, IsSound, IsSoundTenant, new_tenant}
-use Rattle.hall.specs.halls.Run.{beginning, starting, MayReplyTo}
+use Rattle.hall.specs.halls.Run.{beginning, starting, hall_after, MayReplyTo, IsServed}
+use Rattle.hall.proofs.halls.Stepping.{nothing_yet, none_held_yet}
 use Rattle.hall.proofs.halls.Lookups.{number_given, search_opening, search_was}
 use Rattle.hall.proofs.halls.Named.{named_changed, named_here, named_other, found_tenant}
 use Rattle.hall.proofs.halls.Sound.{told_next}
@@ -102,6 +108,62 @@ opener h name query n may = by (tenant_named name h.tenants) refl may
         (t : Tenant) × (tenant_named name h.tenants ≡ Some t) × (n ≡ t.holder.opens + 1)
     by None is may = cc
     by (Some t) is may = (t, is, told_next h name query (Opened n) (Some (account h.journal t)) (ap (option_map (account h.journal)) is) may n t refl is)
+
+-- a search that was opened now
+pub record IsOpenedNow (old : HallState) (name : List ℕ) (k : ℕ) (r : Running) : Type 0 where
+  pub fresh : opens_at old name < k
+  pub nothing : settled_of r.search ≡ Nothing
+  pub free : NoneHeld r.search
+
+-- each search is the one that was there, or was opened now
+pub record ServesOn (old new : HallState) : Type 0 where
+  pub opens : (name : List ℕ) → opens_at old name ≤ opens_at new name
+  pub searches : (name : List ℕ) (k : ℕ) (r : Running) → search_at new name k ≡ Some r → (search_at old name k ≡ Some r) ⊎ IsOpenedNow old name k r
+
+serves_itself : (h : HallState) → ServesOn h h
+serves_itself h = record { opens = λ name. le_refl (opens_at h name); searches = λ name k r at. inl at }
+
+serves_opened : (h : HallState) (name : List ℕ) (query : Query) (n : ℕ) → (t : Tenant) × (tenant_named name h.tenants ≡ Some t) × (n ≡ t.holder.opens + 1) →
+    ServesOn h (with_holder h name (starting h.journal name query n))
+serves_opened h name query n (t, found, next) = record {
+  opens = λ tenant. open_grows h name query n tenant t found next;
+  searches = λ tenant k r at. by tenant k r (open_searches h name query n t found tenant k r at);
+}
+  where
+    fresh : opens_at h name < n
+    fresh = let before_is : opens_at h name ≡ t.holder.opens = ap opens_of found in omega (arith, before_is, next)
+
+    now : IsOpenedNow h name n (beginning h.journal name query t.holder.limits.work)
+    now = record {
+      fresh = fresh;
+      nothing = nothing_yet name (view h.journal name) query t.holder.limits.work;
+      free = none_held_yet name (view h.journal name) query t.holder.limits.work;
+    }
+
+    by : (tenant : List ℕ) (k : ℕ) (r : Running) → (search_at h tenant k ≡ Some r) ⊎ ((name ≡ tenant) × (n ≡ k) × (r ≡ beginning h.journal name query t.holder.limits.work)) →
+        (search_at h tenant k ≡ Some r) ⊎ IsOpenedNow h tenant k r
+    by tenant k r (inl at) = inl at
+    by tenant k r (inr is) =
+        inr (subst₂ (λ (m : List ℕ) (j : ℕ). IsOpenedNow h m j r) is.0 is.1 (subst (IsOpenedNow h name n) (sym is.2) now))
+
+-- a request leaves each search as it was, but for one that it opens or ends
+serves_after : (h : HallState) (name : List ℕ) (q : Request) (told : Reply) → MayReplyTo h name (account_of h name) q told → ServesOn h (hall_after h name q told)
+serves_after h name (request.Alter change) (Counted n) may = record { opens = λ tenant. le_refl (opens_at h tenant); searches = λ tenant k r at. inl at }
+serves_after h name (request.Alter change) told may = serves_itself h
+serves_after h name (request.Seek query) (Opened n) may = serves_opened h name query n (opener h name query n may)
+serves_after h name (request.Seek query) told may = serves_itself h
+serves_after h name (request.Poll k) told may = serves_itself h
+serves_after h name (request.Close gone) Closed may = record {
+  opens = λ tenant. subst (λ (n : ℕ). opens_at h tenant ≤ n) (sym (close_opens h name tenant gone)) (le_refl (opens_at h tenant));
+  searches = λ tenant k r at. inl (close_searches h name tenant gone k r at);
+}
+serves_after h name (request.Close gone) told may = serves_itself h
+serves_after h name request.Vault told may = serves_itself h
+serves_after h name request.Sees told may = serves_itself h
+serves_after h name (request.Proof k who) told may = serves_itself h
+
+pub serves_on : (old new : HallState) (name : List ℕ) (q : Request) (told : Reply) → IsServed old name q told new → ServesOn old new
+serves_on old new name q told served = subst (ServesOn old) (sym served.after) (serves_after old name q told served.may_reply)
 
 -- nobody has a search in a new hall
 pub none_running : (name : List ℕ) (k : ℕ) (roster : List (List ℕ × Quota)) → running_of k (tenant_named name (map new_tenant roster)) ≡ None

@@ -156,7 +156,7 @@ stepped_sound old new made answer (Some r) is sound (s, steps, after) =
     let at = running_at (step_search made) (step_name made) old t r is found in
     record {
       numbers = numbered_going_on (step_search made) r (record { opened_at = r.opened_at; search = s }) t.holder sound_here.numbers at;
-      searches = all_going_on (IsSoundSearch old.journal t.name t.holder.limits.work) (step_search made) r (record { opened_at = r.opened_at; search = s }) t.holder sound_here.numbers at
+      searches = all_going_on (IsSoundSearch old.journal t.name t.holder.limits.work) (step_search made) r (record { opened_at = r.opened_at; search = s }) t.holder at
           (search_steps old.journal t.name t.holder.limits.work r s (step_goes_on r.search s made answer steps)) sound_here.searches;
     }))
 

@@ -60,6 +60,22 @@ polled_at h new name k told served answered = by (tenant_named name h.tenants) s
     by (Some t) (inl is) = found t (search_in k t.holder) refl (is ∙ ap polled (search_mapped (seen h.journal t.name) k t.holder))
     by (Some t) (inr lacks) = absurd (answered Memory lacks.0)
 
+-- a poll that is refused for want of a search finds none
+pub polled_none : (h new : HallState) (name : List ℕ) (k : ℕ) → IsServed h name (request.Poll k) (Refused NoSuchSearch) new → search_at h name k ≡ None
+polled_none h new name k served = by (tenant_named name h.tenants) served.may_reply
+  where
+    found : (t : Tenant) (o : Option Running) → search_in k t.holder ≡ o → Refused NoSuchSearch ≡ polled (option_map (seen h.journal t.name) o) → search_in k t.holder ≡ None
+    found t None none is = none
+    found t (Some r) at is = cc
+
+    by : (o : Option Tenant) → MayReplyTo h name (option_map (account h.journal) o) (request.Poll k) (Refused NoSuchSearch) → running_of k o ≡ None
+    by None may = cc
+    by (Some t) (inl is) = found t (search_in k t.holder) refl (is ∙ ap polled (search_mapped (seen h.journal t.name) k t.holder))
+    by (Some t) (inr lacks) = absurd (apart lacks.0)
+      where
+        apart : Refused NoSuchSearch ≡ Refused Memory → ⊥
+        apart e = cc
+
 -- an answer is the truth
 answered_truth : (limit : ℕ) (C : List Credential) (q : Query) (s : Settled) → MaySettle limit C q Nothing s → IsAnswer s → IsTruth C q s
 answered_truth limit C q s (inl nothing) answered = absurd (subst IsAnswer nothing answered)

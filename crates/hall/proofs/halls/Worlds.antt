@@ -103,7 +103,7 @@ replies_agree limit tenant view a b (request.Proof k who) told other alike e f w
     (proves_agree limit (search_in k a.holder) (search_in k b.holder) who told other (beside_search (Alike limit) k a.holder b.holder alike.holder) e f, alike)
 
 -- where memory did not lack, the reply is the account's
-told_by : (tenant : List ℕ) (view : List Vault) (a : Account) (q : Request) (told : Reply) → MayReply tenant view a q told → told ≢ Refused Memory → IsReply tenant view a q told
+pub told_by : (tenant : List ℕ) (view : List Vault) (a : Account) (q : Request) (told : Reply) → MayReply tenant view a q told → told ≢ Refused Memory → IsReply tenant view a q told
 told_by tenant view a q told (inl is) memory = is
 told_by tenant view a q told (inr lacks) memory = absurd (memory lacks.0)
 
