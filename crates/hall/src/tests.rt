@@ -1,4 +1,6 @@
-use crate::{Fault, Names, Rows, deeds_are_allowed, run_laws, runs_are_allowed, two_halls, two_worlds};
+use crate::{
+    Fault, Names, Rows, deeds_are_allowed, run_laws, runs_are_allowed, two_halls, two_worlds,
+};
 use credential_text::{Credential, Expr};
 use names::{Entity, Role};
 use quotas::QuotaFault;
