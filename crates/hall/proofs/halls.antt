@@ -9,7 +9,7 @@ pub mod Named
 pub mod Sound
 pub mod Serving
 pub mod Runs
-pub mod Served
+pub mod Remaining
 pub mod Openings
 pub mod TrueAnswers
 pub mod Driving

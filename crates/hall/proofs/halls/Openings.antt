@@ -26,7 +26,7 @@ use Rattle.hall.proofs.halls.Lists.{both_there}
 use Rattle.hall.proofs.halls.Holders.{beside_search}
 use Rattle.hall.proofs.halls.Truths.{settled_stays}
 use Rattle.hall.proofs.halls.Sound.{sound_at}
-use Rattle.hall.proofs.halls.Served.{opens_of, opens_at, given_at, close_opens, close_searches, open_counts, open_grows, open_searches, opener, none_running}
+use Rattle.hall.proofs.halls.Remaining.{opens_of, opens_at, given_at, close_opens, close_searches, open_counts, open_grows, open_searches, opener, none_running}
 use Rattle.hall.proofs.halls.Serving.{TenantGoesOn, RunsOn, stepped_tenants, stepped_journal}
 use Rattle.hall.proofs.Elements.{Both}
 

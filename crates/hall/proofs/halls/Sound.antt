@@ -148,7 +148,7 @@ sound_at h name k r sound at = by (tenant_named name h.tenants) refl at
         let this : IsSoundTenant h.journal t × (t.name ≡ name) = found_tenant (IsSoundTenant h.journal) name h.tenants sound.tenants t is in
         (t, is, subst (λ (n : List ℕ). IsSoundSearch h.journal n t.holder.limits.work r) this.1 (found_in (IsSoundSearch h.journal t.name t.holder.limits.work) k r t.holder found this.0.searches))
 
-stepped_sound : (old new : HallState) (made : Step) (answer : Stepped) (o : Option Running) → search_at old (step_name made) (step_search made) ≡ o → IsSound old →
+pub stepped_sound : (old new : HallState) (made : Step) (answer : Stepped) (o : Option Running) → search_at old (step_name made) (step_search made) ≡ o → IsSound old →
     StepsRunning old o made answer new → IsSound new
 stepped_sound old new made answer None is sound steps = subst IsSound (sym steps.1) sound
 stepped_sound old new made answer (Some r) is sound (s, steps, after) =

@@ -26,7 +26,7 @@ use Rattle.hall.specs.halls.Calls.{NoneHeldOf, IfRunning}
 use Rattle.hall.specs.halls.Deeds.{Deed, asks, waits, Done, IsDriven, CarriesOut, AreDone, Waited, NeverWaited, IsTimely, IsTimelyPoll, AreTimely, DeedsAreTimely, IsEarly, no_tenant, no_search, no_memory, not_done as early}
 use Rattle.hall.proofs.halls.Holders.{search_mapped}
 use Rattle.hall.proofs.halls.Sound.{events_keep, new_sound}
-use Rattle.hall.proofs.halls.Served.{opens_at, given_at, ServesOn, IsOpenedNow, serves_on, none_running}
+use Rattle.hall.proofs.halls.Remaining.{opens_at, given_at, ServesOn, IsOpenedNow, serves_on, none_running}
 use Rattle.hall.proofs.halls.Openings.{Stays}
 use Rattle.hall.proofs.halls.TrueAnswers.{same_answer, polled_at, polled_none}
 use Rattle.hall.proofs.halls.Driving.{DrivesOn, driven_drives}
