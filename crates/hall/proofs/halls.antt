@@ -9,5 +9,11 @@ pub mod Named
 pub mod Sound
 pub mod Serving
 pub mod Runs
+pub mod Remaining
 pub mod Openings
 pub mod TrueAnswers
+pub mod Driving
+pub mod Deeds
+pub mod Timely
+pub mod Exact
+pub mod Fixed

@@ -7,4 +7,5 @@ pub mod Agree
 pub mod Calls
 pub mod Answers
 pub mod Deeds
+pub mod Turns
 pub mod Laws

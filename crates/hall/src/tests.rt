@@ -1,4 +1,6 @@
-use crate::{Fault, Names, Rows, deeds_are_allowed, runs_are_allowed, two_halls, two_worlds};
+use crate::{
+    Fault, Names, Rows, deeds_are_allowed, run_laws, runs_are_allowed, two_halls, two_worlds,
+};
 use credential_text::{Credential, Expr};
 use names::{Entity, Role};
 use quotas::QuotaFault;
@@ -113,4 +115,10 @@ fn each_law_once(_rt: HostRuntime) {
     runs_are_allowed();
     two_halls();
     deeds_are_allowed();
+    run_laws::two_worlds();
+    run_laws::runs_are_allowed();
+    run_laws::two_halls();
+    run_laws::answers_are_true();
+    run_laws::deeds_are_allowed();
+    run_laws::deeds_are_fixed();
 }

@@ -8,8 +8,8 @@ use Rattle.rt0_rules.proofs.Elements.{find-Some}
 use Rattle.quotas.specs.Quota.{Quota}
 use Rattle.hall.specs.declared.faults.Fault.{Fault}
 use Rattle.hall.specs.declared.faults.Fault.TheVariants as fault
-use Rattle.hall.specs.halls.Holder.{Numbered, Holder, is_number, search_in, opening, ending, going_on, seek_refusal, AreNumbered, map_numbered, map_holder, SameNumber, Beside}
-use Rattle.hall.proofs.Elements.{IsOnce, Both, all_changed, find-map, filter-map, find_both, both_mapped, filter_zip, zip_same, zip_changed, zip_mapped, zip_turned, zip_joined, all_over, all_pushed, all_filtered}
+use Rattle.hall.specs.halls.Holder.{Numbered, Holder, is_number, search_in, opening, ending, going_on, seek_refusal, AreNumbered, map_numbered, map_holder, SameNumber, Beside, at_number}
+use Rattle.hall.proofs.Elements.{IsOnce, Both, find-map, filter-map, find_both, both_mapped, filter_zip, zip_same, zip_changed, zip_mapped, zip_turned, zip_joined, all_over, all_pushed, all_filtered}
 use Rattle.hall.proofs.halls.Lists.{zip_weaker}
 
 -- the search of a number, seen otherwise
@@ -161,20 +161,6 @@ numbered_zipped R opens (s ∷ ss) (t ∷ ts) zip numbers = (
 pub numbered_beside : {S T : Type 0} (R : S → T → Type 0) (a : Holder S) (b : Holder T) → Beside R a b → AreNumbered a.opens a.searches → AreNumbered b.opens b.searches
 numbered_beside R a b beside numbers = subst (λ (n : ℕ). AreNumbered n b.searches) (sym beside.opens) (numbered_zipped R a.opens a.searches b.searches beside.searches numbers)
 
--- where one search goes on, what holds of each still does
-pub all_going_on : {S : Type 0} (P : S → Type 0) (k : ℕ) (old new : S) (h : Holder S) → AreNumbered h.opens h.searches → search_in k h ≡ Some old → (P old → P new) →
-    AllByRecursion (λ (s : Numbered S). P s.of) h.searches → AllByRecursion (λ (s : Numbered S). P s.of) (going_on k new h).searches
-all_going_on {S} P k old new h numbers found over all =
-    all_changed (λ (s : Numbered S). P s.of) (is_number k) (λ s. record { number = s.number; of = new }) h.searches (once_numbered k h.opens h.searches numbers) all
-    (λ s at here. over (subst P (sym (found_one k old s h found at)) here))
-
-pub numbered_going_on : {S : Type 0} (k : ℕ) (old new : S) (h : Holder S) → AreNumbered h.opens h.searches → search_in k h ≡ Some old → AreNumbered h.opens (going_on k new h).searches
-numbered_going_on {S} k old new h numbers found =
-    numbered_beside Any h (going_on k new h) (beside_going_on Any (λ s. tt) k old new h numbers found tt) numbers
-  where
-    Any : S → S → Type 0
-    Any r s = Unit {0}
-
 -- the search of a number is one of the searches
 pub found_in : {S : Type 0} (P : S → Type 0) (k : ℕ) (of : S) (h : Holder S) → search_in k h ≡ Some of → AllByRecursion (λ (s : Numbered S). P s.of) h.searches → P of
 found_in {S} P k of h at all = by (find (is_number k) h.searches) refl at
@@ -184,3 +170,34 @@ found_in {S} P k of h at all = by (find (is_number k) h.searches) refl at
     by (Some s) found e =
         subst P (sym (found_one k of s h at found))
         (All-contains (λ (s : Numbered S). P s.of) h.searches s (All-from_recursion (λ (s : Numbered S). P s.of) h.searches all) (find-Some (is_number k) h.searches s found).0)
+
+all_replaced : {S : Type 0} (P : S → Type 0) (k : ℕ) (new : S) (ss : List (Numbered S)) → P new → AllByRecursion (λ (s : Numbered S). P s.of) ss → AllByRecursion (λ (s : Numbered S). P s.of) (map (at_number k new) ss)
+all_replaced P k new [] here all = tt
+all_replaced {S} P k new (s ∷ ss) here all = (by (is_number k s), all_replaced P k new ss here all.1)
+  where
+    by : (b : Bool) → P (cond b (record { number = s.number; of = new }) s).of
+    by true = here
+    by false = all.0
+
+-- where one search goes on, what holds of each still does
+pub all_going_on : {S : Type 0} (P : S → Type 0) (k : ℕ) (old new : S) (h : Holder S) → search_in k h ≡ Some old → (P old → P new) →
+    AllByRecursion (λ (s : Numbered S). P s.of) h.searches → AllByRecursion (λ (s : Numbered S). P s.of) (going_on k new h).searches
+all_going_on P k old new h found over all = all_replaced P k new h.searches (over (found_in P k old h found all)) all
+
+pub numbered_going_on : {S : Type 0} (k : ℕ) (old new : S) (h : Holder S) → AreNumbered h.opens h.searches → search_in k h ≡ Some old → AreNumbered h.opens (going_on k new h).searches
+numbered_going_on {S} k old new h numbers found =
+    numbered_beside Any h (going_on k new h) (beside_going_on Any (λ s. tt) k old new h numbers found tt) numbers
+  where
+    Any : S → S → Type 0
+    Any r s = Unit {0}
+
+-- the same numbers, where searches are seen otherwise
+pub numbered_mapped : {S T : Type 0} (f : S → T) (h : Holder S) → AreNumbered h.opens h.searches → AreNumbered h.opens (map_holder f h).searches
+numbered_mapped {S} {T} f h numbers = numbered_zipped Any h.opens h.searches (map (map_numbered f) h.searches) (each h.searches) numbers
+  where
+    Any : S → T → Type 0
+    Any s t = Unit {0}
+
+    each : (ss : List (Numbered S)) → AllZip (SameNumber Any) ss (map (map_numbered f) ss)
+    each [] = tt
+    each (s ∷ ss) = (record { number = refl; related = tt }, each ss)

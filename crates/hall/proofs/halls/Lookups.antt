@@ -1,16 +1,15 @@
 -- Searches found by their number after one more was opened, one was ended, or one went on.
-use Rattle.std.proofs.Common.{ℕ, ◌+◌, ◌≤◌, ◌==◌, Bool, true, false, cond, not, List, [], ◌∷◌, ◌++◌, ◌≡◌, ◌∙◌, ◌⊎◌, inl, inr, sym, ap, refl, subst, filter, find, map, Option, Some, None, option_map, arith}
-use Rattle.std.specs.List.{AllByRecursion}
+use Rattle.std.proofs.Common.{ℕ, ◌≤◌, ◌==◌, Bool, true, false, cond, not, List, [], ◌∷◌, ◌≡◌, ◌∙◌, ◌⊎◌, inl, inr, sym, ap, refl, subst, filter, find, map, Option, Some, None, option_map}
 use Rattle.std.specs.Option.{option_or}
 use Rattle.std.proofs.lemmas.Bool.{false≢true}
 use Rattle.std.proofs.lemmas.Bool.Decides.{Decides-eqb}
 use Rattle.std.proofs.lemmas.List.Folds.{find-append}
-use Rattle.std.proofs.lemmas.List.Elements.{filter_passes, All-contains}
+use Rattle.std.proofs.lemmas.List.Elements.{filter_passes, All-contains, same_from_all_zip}
 use Rattle.rt0_rules.proofs.Elements.{find-Some}
-use Rattle.hall.specs.halls.Holder.{Numbered, Holder, is_number, search_in, opening, ending, going_on, at_number, AreNumbered}
-use Rattle.hall.proofs.Elements.{find-map}
+use Rattle.hall.specs.halls.Holder.{Numbered, Holder, is_number, search_in, opening, ending, going_on, at_number, AreNumbered, map_numbered, map_holder}
+use Rattle.hall.proofs.Elements.{find-map, zip_changed}
 use Rattle.hall.proofs.Named.{find-filter}
-use Rattle.hall.proofs.halls.Holders.{found_one}
+use Rattle.hall.proofs.halls.Holders.{found_one, once_numbered}
 
 given_among : {S : Type 0} (k opens : ℕ) (of : S) (ss : List (Numbered S)) → AreNumbered opens ss → option_map (λ (s : Numbered S). s.of) (find (is_number k) ss) ≡ Some of → (1 ≤ k) × (k ≤ opens)
 given_among k opens of [] numbers at = cc
@@ -81,10 +80,9 @@ search_was {S} k gone of h at = by (gone == k) refl
     by true same = absurd (search_ending k of h (subst (λ (n : ℕ). search_in k (ending n h) ≡ Some of) ((Decides-eqb gone k).0 same) at))
     by false apart = sym (search_ended k gone h (λ same. false≢true (sym apart ∙ (Decides-eqb gone k).1 same))) ∙ at
 
--- the searches of other numbers stay where one goes on
-pub search_passed : {S : Type 0} (k at : ℕ) (new : S) (h : Holder S) → (at ≡ k → ⊥) → search_in k (going_on at new h) ≡ search_in k h
-search_passed {S} k at new h other =
-    ap (option_map (λ (s : Numbered S). s.of)) (find-map (is_number k) (is_number k) (at_number at new) same h.searches) ∙ by (find (is_number k) h.searches) refl
+-- what is found after one search went on
+found_passing : {S : Type 0} (k at : ℕ) (new : S) (ss : List (Numbered S)) → find (is_number k) (map (at_number at new) ss) ≡ option_map (at_number at new) (find (is_number k) ss)
+found_passing {S} k at new ss = find-map (is_number k) (is_number k) (at_number at new) same ss
   where
     same : (s : Numbered S) → is_number k (at_number at new s) ≡ is_number k s
     same s = one (is_number at s)
@@ -93,6 +91,10 @@ search_passed {S} k at new h other =
         one true = refl
         one false = refl
 
+-- the searches of other numbers stay where one goes on
+pub search_passed : {S : Type 0} (k at : ℕ) (new : S) (h : Holder S) → (at ≡ k → ⊥) → search_in k (going_on at new h) ≡ search_in k h
+search_passed {S} k at new h other = ap (option_map (λ (s : Numbered S). s.of)) (found_passing k at new h.searches) ∙ by (find (is_number k) h.searches) refl
+  where
     by : (o : Option (Numbered S)) → find (is_number k) h.searches ≡ o → option_map (λ (s : Numbered S). s.of) (option_map (at_number at new) o) ≡ option_map (λ (s : Numbered S). s.of) o
     by None none = refl
     by (Some s) found = one (is_number at s) refl
@@ -100,3 +102,47 @@ search_passed {S} k at new h other =
         one : (b : Bool) → is_number at s ≡ b → Some (cond b (record { number = s.number; of = new }) s).of ≡ Some s.of
         one false is = refl
         one true is = absurd (other (sym ((Decides-eqb s.number at).0 is) ∙ (Decides-eqb s.number k).0 (find-Some (is_number k) h.searches s found).1))
+
+-- and under its number there is what it has become
+pub search_gone : {S : Type 0} (k : ℕ) (old new : S) (h : Holder S) → search_in k h ≡ Some old → search_in k (going_on k new h) ≡ Some new
+search_gone {S} k old new h at = ap (option_map (λ (s : Numbered S). s.of)) (found_passing k k new h.searches) ∙ by (find (is_number k) h.searches) refl at
+  where
+    by : (o : Option (Numbered S)) → find (is_number k) h.searches ≡ o → option_map (λ (s : Numbered S). s.of) o ≡ Some old →
+        option_map (λ (s : Numbered S). s.of) (option_map (at_number k new) o) ≡ Some new
+    by None none is = cc
+    by (Some s) found is = ap (λ (b : Bool). Some (cond b (record { number = s.number; of = new }) s).of) (find-Some (is_number k) h.searches s found).1
+
+-- a search that goes on twice
+pub going_twice : {S : Type 0} (k : ℕ) (first second : S) (h : Holder S) → going_on k second (going_on k first h) ≡ going_on k second h
+going_twice {S} k first second h = ap (λ (l : List (Numbered S)). record h { searches = l }) (each h.searches)
+  where
+    one : (s : Numbered S) (b : Bool) → is_number k s ≡ b → at_number k second (cond b (record { number = s.number; of = first }) s) ≡ at_number k second s
+    one s true is =
+        ap (λ (b : Bool). cond b (record { number = s.number; of = second }) (record { number = s.number; of = first })) is
+        ∙ sym (ap (λ (b : Bool). cond b (record { number = s.number; of = second }) s) is)
+    one s false is = refl
+
+    each : (ss : List (Numbered S)) → map (at_number k second) (map (at_number k first) ss) ≡ map (at_number k second) ss
+    each [] = refl
+    each (s ∷ ss) = λ i. one s (is_number k s) refl i ∷ each ss i
+
+-- the same, seen otherwise
+pub going_mapped : {S T : Type 0} (f : S → T) (k : ℕ) (new : S) (h : Holder S) → map_holder f (going_on k new h) ≡ going_on k (f new) (map_holder f h)
+going_mapped {S} {T} f k new h = ap (λ (l : List (Numbered T)). record (map_holder f h) { searches = l }) (each h.searches)
+  where
+    one : (s : Numbered S) (b : Bool) → map_numbered f (cond b (record { number = s.number; of = new }) s) ≡ cond b (record { number = s.number; of = f new }) (map_numbered f s)
+    one s true = refl
+    one s false = refl
+
+    each : (ss : List (Numbered S)) → map (map_numbered f) (map (at_number k new) ss) ≡ map (at_number k (f new)) (map (map_numbered f) ss)
+    each [] = refl
+    each (s ∷ ss) = λ i. one s (is_number k s) i ∷ each ss i
+
+-- a search that goes on as it is
+pub going_nowhere : {S : Type 0} (k : ℕ) (of : S) (h : Holder S) → AreNumbered h.opens h.searches → search_in k h ≡ Some of → going_on k of h ≡ h
+going_nowhere {S} k of h numbers at =
+    ap (λ (l : List (Numbered S)). record h { searches = l })
+    (same_from_all_zip (λ (x y : Numbered S). y ≡ x) h.searches (map (at_number k of) h.searches)
+    (zip_changed (λ (x y : Numbered S). y ≡ x) (is_number k) (λ s. record { number = s.number; of = of }) (λ s. refl) h.searches (once_numbered k h.opens h.searches numbers)
+    (λ s found i. record { number = s.number; of = found_one k of s h at found i }))
+    (λ x y same. same))

@@ -1,16 +1,14 @@
 -- Of each search that has not ended it is known by which request it was opened.
-use Rattle.std.proofs.Common.{ℕ, ◌+◌, ◌≤◌, Bool, true, false, cond, List, [], ◌∷◌, ◌++◌, length, ◌≡◌, ◌∙◌, ◌⊎◌, inl, inr, sym, ap, refl, subst, map, take, Option, Some, None, option_map, arith, le_refl, append_assoc}
+use Rattle.std.proofs.Common.{ℕ, ◌+◌, ◌≤◌, List, [], ◌∷◌, ◌++◌, length, ◌≡◌, ◌≢◌, ◌∙◌, ◌⊎◌, inl, inr, sym, ap, refl, subst, subst₂, take, Option, Some, None, arith, le_refl, append_assoc}
 use Rattle.std.specs.List.{Contains}
-use Rattle.std.proofs.lemmas.Bool.{false≢true}
 use Rattle.std.proofs.lemmas.List.{take-append-le, take_all}
 use Rattle.std.proofs.lemmas.List.Elements.{Contains-push_cases}
-use Rattle.names.specs.Name.{is_same}
-use Rattle.names.proofs.SameNames.{same_from_is_same, is_same_itself}
 use Rattle.rt0_rules.proofs.Elements.{Contains-none}
 use Rattle.vaults.specs.declared.changes.Change.{Change}
 use Rattle.vaults.specs.declared.changes.Entry.{Entry}
 use Rattle.quotas.specs.Quota.{Quota}
 use Rattle.search.specs.declared.queries.Query.{Query}
+use Rattle.search.specs.Ending.{Nothing}
 use Rattle.hall.specs.declared.calls.requests.Request.{Request}
 use Rattle.hall.specs.declared.calls.requests.Request.TheVariants as request
 use Rattle.hall.specs.declared.calls.replies.Reply.{Reply}
@@ -19,23 +17,18 @@ use Rattle.hall.specs.declared.calls.steps.Step.{Step}
 use Rattle.hall.specs.declared.calls.steps.Stepped.{Stepped}
 use Rattle.hall.specs.declared.calls.events.Event.{Event}
 use Rattle.hall.specs.declared.calls.events.Event.TheVariants as event
-use Rattle.hall.specs.halls.Searches.{just_opened}
-use Rattle.hall.specs.halls.Holder.{Holder, search_in, opening, ending}
-use Rattle.hall.specs.halls.State.{Running, Tenant, HallState, tenant_named, account, account_of, at_name, with_holder, running_of, search_at, IsSound, IsSoundTenant, new_tenant, new_hall}
-use Rattle.hall.specs.halls.Run.{beginning, starting, closed, hall_after, MayReplyTo, IsServed, IsStepped, Happens, journal_after}
+use Rattle.hall.specs.halls.Searches.{settled_of, just_opened}
+use Rattle.hall.specs.halls.Holder.{search_in, ending}
+use Rattle.hall.specs.halls.State.{Running, Tenant, HallState, tenant_named, account_of, with_holder, running_of, search_at, IsSound, new_hall}
+use Rattle.hall.specs.halls.Run.{beginning, starting, hall_after, MayReplyTo, IsStepped, Happens, journal_after}
 use Rattle.hall.specs.halls.Answers.{Told, journal_by, opens_search, NeverOpened}
 use Rattle.hall.proofs.halls.Lists.{both_there}
 use Rattle.hall.proofs.halls.Holders.{beside_search}
-use Rattle.hall.proofs.halls.Lookups.{number_given, search_opening, search_was}
-use Rattle.hall.proofs.halls.Named.{named_changed, named_here, named_other, found_tenant}
-use Rattle.hall.proofs.halls.Sound.{told_next, sound_at}
+use Rattle.hall.proofs.halls.Truths.{settled_stays}
+use Rattle.hall.proofs.halls.Sound.{sound_at}
+use Rattle.hall.proofs.halls.Remaining.{opens_of, opens_at, given_at, close_opens, close_searches, open_counts, open_grows, open_searches, opener, none_running}
 use Rattle.hall.proofs.halls.Serving.{TenantGoesOn, RunsOn, stepped_tenants, stepped_journal}
 use Rattle.hall.proofs.Elements.{Both}
-
--- how many searches were opened, where there is a tenant
-abbrev pub opens_of : Option Tenant → ℕ
-opens_of None = 0
-opens_of (Some t) = t.holder.opens
 
 -- among these the tenant got the number once, for this query and over this journal
 pub record WasOpened (before : List Told) (tenant : List ℕ) (k : ℕ) (query : Query) (journal : List Entry) : Type 0 where
@@ -49,7 +42,7 @@ pub record WasOpened (before : List Told) (tenant : List ℕ) (k : ℕ) (query :
 -- what is known after these events
 pub record KnowsOpenings (before : List Told) (h : HallState) : Type 0 where
   pub journal : journal_by [] before ≡ h.journal
-  pub given : (tenant : List ℕ) (k : ℕ) (query : Query) → Contains before (opens_search tenant k query) → k ≤ opens_of (tenant_named tenant h.tenants)
+  pub given : (tenant : List ℕ) (k : ℕ) (query : Query) → Contains before (opens_search tenant k query) → k ≤ opens_at h tenant
   pub opened : (tenant : List ℕ) (k : ℕ) (r : Running) → search_at h tenant k ≡ Some r → WasOpened before tenant k r.search.query (take r.opened_at h.journal)
 
 journal_push : (journal : List Entry) (before : List Told) (x : Told) → journal_by journal (before ++ x ∷ []) ≡ journal_after (journal_by journal before) x.event x.reply
@@ -84,16 +77,46 @@ knows_quiet before x h another same known = record {
   opened = λ tenant k r at. opened_stays before x tenant k r.search.query (take r.opened_at h.journal) (another tenant k) (known.opened tenant k r at);
 }
   where
-    by : (tenant : List ℕ) (k : ℕ) (query : Query) → Contains before (opens_search tenant k query) ⊎ (x ≡ opens_search tenant k query) → k ≤ opens_of (tenant_named tenant h.tenants)
+    by : (tenant : List ℕ) (k : ℕ) (query : Query) → Contains before (opens_search tenant k query) ⊎ (x ≡ opens_search tenant k query) → k ≤ opens_at h tenant
     by tenant k query (inl there) = known.given tenant k query there
     by tenant k query (inr is) = absurd (another tenant k query is)
+
+-- the same search later: what it has come to stays
+pub record Stays (was now : Running) : Type 0 where
+  pub since : now.opened_at ≡ was.opened_at
+  pub query : now.search.query ≡ was.search.query
+  pub settled : settled_of was.search ≢ Nothing → settled_of now.search ≡ settled_of was.search
+
+pub stays_itself : (r : Running) → Stays r r
+stays_itself r = record { since = refl; query = refl; settled = λ some. refl }
 
 -- each search is one that was there
 pub record Keeps (old new : HallState) : Type 0 where
   pub journal : new.journal ≡ old.journal
-  pub opens : (tenant : List ℕ) → opens_of (tenant_named tenant new.tenants) ≡ opens_of (tenant_named tenant old.tenants)
-  pub searches : (tenant : List ℕ) (k : ℕ) (r : Running) → search_at new tenant k ≡ Some r →
-      (was : Running) × (search_at old tenant k ≡ Some was) × (r.opened_at ≡ was.opened_at) × (r.search.query ≡ was.search.query)
+  pub opens : (tenant : List ℕ) → opens_at new tenant ≡ opens_at old tenant
+  pub searches : (tenant : List ℕ) (k : ℕ) (r : Running) → search_at new tenant k ≡ Some r → (was : Running) × (search_at old tenant k ≡ Some was) × Stays was r
+
+pub keeps_itself : (h : HallState) → Keeps h h
+keeps_itself h = record { journal = refl; opens = λ tenant. refl; searches = λ tenant k r at. (r, at, stays_itself r) }
+
+pub keeps_twice : (a b c : HallState) → Keeps a b → Keeps b c → Keeps a c
+keeps_twice a b c first second = record {
+  journal = second.journal ∙ first.journal;
+  opens = λ tenant. second.opens tenant ∙ first.opens tenant;
+  searches = λ tenant k r at. by tenant k r (second.searches tenant k r at);
+}
+  where
+    joined : (was between now : Running) → Stays was between → Stays between now → Stays was now
+    joined was between now one two = record {
+      since = two.since ∙ one.since;
+      query = two.query ∙ one.query;
+      settled = λ some. two.settled (λ nothing. some (sym (one.settled some) ∙ nothing)) ∙ one.settled some;
+    }
+
+    by : (tenant : List ℕ) (k : ℕ) (r : Running) → (between : Running) × (search_at b tenant k ≡ Some between) × Stays between r → (was : Running) × (search_at a tenant k ≡ Some was) × Stays was r
+    by tenant k r (between, there, later) =
+        let was = first.searches tenant k between there in
+        (was.0, was.1, joined was.0 between r was.2 later)
 
 pub keeps_knowing : (before : List Told) (old new : HallState) → Keeps old new → KnowsOpenings before old → KnowsOpenings before new
 keeps_knowing before old new keeps known = record {
@@ -102,11 +125,10 @@ keeps_knowing before old new keeps known = record {
   opened = λ tenant k r at. by tenant k r (keeps.searches tenant k r at);
 }
   where
-    by : (tenant : List ℕ) (k : ℕ) (r : Running) → (was : Running) × (search_at old tenant k ≡ Some was) × (r.opened_at ≡ was.opened_at) × (r.search.query ≡ was.search.query) →
-        WasOpened before tenant k r.search.query (take r.opened_at new.journal)
-    by tenant k r (was, at, since, asked) =
-        subst (λ (q : Query). WasOpened before tenant k q (take r.opened_at new.journal)) (sym asked)
-        (subst (WasOpened before tenant k was.search.query) (λ i. take (sym since i) (sym keeps.journal i)) (known.opened tenant k was at))
+    by : (tenant : List ℕ) (k : ℕ) (r : Running) → (was : Running) × (search_at old tenant k ≡ Some was) × Stays was r → WasOpened before tenant k r.search.query (take r.opened_at new.journal)
+    by tenant k r (was, at, stays) =
+        subst (λ (q : Query). WasOpened before tenant k q (take r.opened_at new.journal)) (sym stays.query)
+        (subst (WasOpened before tenant k was.search.query) (λ i. take (sym stays.since i) (sym keeps.journal i)) (known.opened tenant k was at))
 
 -- a step keeps the searches
 pub step_keeps : (old new : HallState) (made : Step) (answer : Stepped) → IsSound old → IsStepped old made answer new → Keeps old new
@@ -123,38 +145,22 @@ step_keeps old new made answer sound stepped = record {
     same (Some t) (Some u) both = both.holder.opens
 
     by : (k : ℕ) (r : Running) (o p : Option Tenant) → Both (TenantGoesOn old.journal) o p → running_of k p ≡ Some r →
-        (was : Running) × (running_of k o ≡ Some was) × (r.opened_at ≡ was.opened_at) × (r.search.query ≡ was.search.query)
+        (was : Running) × (running_of k o ≡ Some was) × Stays was r
     by k r None None both at = cc
     by k r None (Some u) both at = absurd both
     by k r (Some t) None both at = absurd both
     by k r (Some t) (Some u) both at =
         let there = both_there (RunsOn old.journal t.name t.holder.limits.work) (search_in k t.holder) (search_in k u.holder) r
         (beside_search (RunsOn old.journal t.name t.holder.limits.work) k t.holder u.holder both.holder) at in
-        (there.0, there.1, there.2.opened_at, there.2.goes_on.query)
+        (there.0, there.1, record { since = there.2.opened_at; query = there.2.goes_on.query; settled = settled_stays there.2.goes_on.settled })
 
 -- and so does an ending
 close_keeps : (h : HallState) (name : List ℕ) (gone : ℕ) → Keeps h (with_holder h name (ending gone))
 close_keeps h name gone = record {
   journal = refl;
-  opens = λ tenant. ap opens_of (named_changed name tenant (ending gone) h.tenants) ∙ same (tenant_named tenant h.tenants);
-  searches = λ tenant k r at. (r, was k r (tenant_named tenant h.tenants) (sym (ap (running_of k) (named_changed name tenant (ending gone) h.tenants)) ∙ at), refl, refl);
+  opens = λ tenant. close_opens h name tenant gone;
+  searches = λ tenant k r at. (r, close_searches h name tenant gone k r at, stays_itself r);
 }
-  where
-    same_if : (t : Tenant) (b : Bool) → opens_of (Some (cond b (record { name = t.name; holder = ending gone t.holder }) t)) ≡ t.holder.opens
-    same_if t true = refl
-    same_if t false = refl
-
-    same : (o : Option Tenant) → opens_of (option_map (at_name name (ending gone)) o) ≡ opens_of o
-    same None = refl
-    same (Some t) = same_if t (is_same t.name name)
-
-    was_if : (k : ℕ) (r : Running) (t : Tenant) (b : Bool) → search_in k (cond b (record { name = t.name; holder = ending gone t.holder }) t).holder ≡ Some r → search_in k t.holder ≡ Some r
-    was_if k r t true at = search_was k gone r t.holder at
-    was_if k r t false at = at
-
-    was : (k : ℕ) (r : Running) (o : Option Tenant) → running_of k (option_map (at_name name (ending gone)) o) ≡ Some r → running_of k o ≡ Some r
-    was k r None at = at
-    was k r (Some t) at = was_if k r t (is_same t.name name) at
 
 same_opening : (name tenant : List ℕ) (n k : ℕ) (query other : Query) → opens_search name n query ≡ opens_search tenant k other → (name ≡ tenant) × (n ≡ k)
 same_opening name tenant n k query other e =
@@ -169,70 +175,43 @@ unfolding just_opened
 knows_opened before h name query n t sound found next known = record {
   journal = journal_push [] before (opens_search name n query) ∙ known.journal;
   given = λ tenant k other among. counted tenant k other (Contains-push_cases before (opens_search name n query) (opens_search tenant k other) among);
-  opened = λ tenant k r at. each tenant k r (is_same name tenant) refl at;
+  opened = λ tenant k r at. each tenant k r (open_searches h name query n t found tenant k r at);
 }
   where
     new : HallState
     new = with_holder h name (starting h.journal name query n)
 
-    now : tenant_named name new.tenants ≡ Some (record { name = t.name; holder = starting h.journal name query n t.holder })
-    now = named_here name (starting h.journal name query n) h.tenants t found
+    before_is : opens_at h name ≡ t.holder.opens
+    before_is = ap opens_of found
 
-    grows : (tenant : List ℕ) (b : Bool) → is_same name tenant ≡ b → opens_of (tenant_named tenant h.tenants) ≤ opens_of (tenant_named tenant new.tenants)
-    grows tenant true here =
-        subst (λ (m : List ℕ). opens_of (tenant_named m h.tenants) ≤ opens_of (tenant_named m new.tenants)) (same_from_is_same name tenant here)
-        (let before_is : opens_of (tenant_named name h.tenants) ≡ t.holder.opens = ap opens_of found in
-        let after_is : opens_of (tenant_named name new.tenants) ≡ n = ap opens_of now in
-        omega (arith, before_is, after_is, next))
-    grows tenant false apart =
-        let after_is : opens_of (tenant_named tenant new.tenants) ≡ opens_of (tenant_named tenant h.tenants) = ap opens_of (named_other name tenant (starting h.journal name query n) h.tenants apart) in
-        omega (arith, after_is)
-
-    counted : (tenant : List ℕ) (k : ℕ) (other : Query) → Contains before (opens_search tenant k other) ⊎ (opens_search name n query ≡ opens_search tenant k other) →
-        k ≤ opens_of (tenant_named tenant new.tenants)
-    counted tenant k other (inl there) = let given = known.given tenant k other there in let more = grows tenant (is_same name tenant) refl in omega (arith, given, more)
+    counted : (tenant : List ℕ) (k : ℕ) (other : Query) → Contains before (opens_search tenant k other) ⊎ (opens_search name n query ≡ opens_search tenant k other) → k ≤ opens_at new tenant
+    counted tenant k other (inl there) = let given = known.given tenant k other there in let more = open_grows h name query n tenant t found next in omega (arith, given, more)
     counted tenant k other (inr is) =
         let same = same_opening name tenant n k query other is in
-        subst (λ (m : List ℕ). k ≤ opens_of (tenant_named m new.tenants)) same.0
-        (let after_is : opens_of (tenant_named name new.tenants) ≡ n = ap opens_of now in omega (arith, after_is, same.1))
+        subst (λ (m : List ℕ). k ≤ opens_at new m) same.0 (let after_is : opens_at new name ≡ n = open_counts h name query n t found in omega (arith, after_is, same.1))
 
     fresh : WasOpened (before ++ opens_search name n query ∷ []) name n query (take (length h.journal) h.journal)
     fresh = record {
       earlier = before;
       later = [];
       opened = refl;
-      first = λ other among.
-          let given = known.given name n other among in
-          let before_is : opens_of (tenant_named name h.tenants) ≡ t.holder.opens = ap opens_of found in
-          omega (arith, given, before_is, next);
+      first = λ other among. let given = known.given name n other among in omega (arith, given, before_is, next);
       last = λ other among. Contains-none (opens_search name n other) among;
       over = known.journal ∙ sym (take_all (length h.journal) h.journal (le_refl (length h.journal)));
     }
 
-    own : (k : ℕ) (r : Running) → (search_in k t.holder ≡ Some r) ⊎ ((n ≡ k) × (r ≡ beginning h.journal name query t.holder.limits.work)) →
-        WasOpened (before ++ opens_search name n query ∷ []) name k r.search.query (take r.opened_at h.journal)
-    own k r (inl at) =
-        opened_stays before (opens_search name n query) name k r.search.query (take r.opened_at h.journal)
-        (λ other e.
-        let given = number_given k r t.holder (found_tenant (IsSoundTenant h.journal) name h.tenants sound.tenants t found).0.numbers at in
-        let same = (same_opening name name n k query other e).1 in
-        omega (arith, given.1, same, next))
-        (known.opened name k r (ap (running_of k) found ∙ at))
-    own k r (inr is) =
-        subst (λ (x : Running). WasOpened (before ++ opens_search name n query ∷ []) name k x.search.query (take x.opened_at h.journal)) (sym is.1)
-        (subst (λ (m : ℕ). WasOpened (before ++ opens_search name n query ∷ []) name m query (take (length h.journal) h.journal)) is.0 fresh)
-
-    each : (tenant : List ℕ) (k : ℕ) (r : Running) (b : Bool) → is_same name tenant ≡ b → search_at new tenant k ≡ Some r →
+    each : (tenant : List ℕ) (k : ℕ) (r : Running) → (search_at h tenant k ≡ Some r) ⊎ ((name ≡ tenant) × (n ≡ k) × (r ≡ beginning h.journal name query t.holder.limits.work)) →
         WasOpened (before ++ opens_search name n query ∷ []) tenant k r.search.query (take r.opened_at h.journal)
-    each tenant k r false apart at =
+    each tenant k r (inl at) =
         opened_stays before (opens_search name n query) tenant k r.search.query (take r.opened_at h.journal)
-        (λ other e. false≢true (sym apart ∙ is_same_itself name tenant (same_opening name tenant n k query other e).0))
-        (known.opened tenant k r (sym (ap (running_of k) (named_other name tenant (starting h.journal name query n) h.tenants apart)) ∙ at))
-    each tenant k r true here at =
-        let is : name ≡ tenant = same_from_is_same name tenant here in
-        subst (λ (m : List ℕ). WasOpened (before ++ opens_search name n query ∷ []) m k r.search.query (take r.opened_at h.journal)) is
-        (own k r (search_opening k n (beginning h.journal name query t.holder.limits.work) r t.holder
-        (sym (ap (running_of k) now) ∙ ap (λ (m : List ℕ). running_of k (tenant_named m new.tenants)) is ∙ at)))
+        (λ other e.
+        let same = same_opening name tenant n k query other e in
+        let given : k ≤ opens_at h name = subst (λ (m : List ℕ). k ≤ opens_at h m) (sym same.0) (given_at h tenant k r sound at) in
+        omega (arith, given, before_is, same.1, next))
+        (known.opened tenant k r at)
+    each tenant k r (inr is) =
+        subst (λ (x : Running). WasOpened (before ++ opens_search name n query ∷ []) tenant k x.search.query (take x.opened_at h.journal)) (sym is.2)
+        (subst₂ (λ (m : List ℕ) (j : ℕ). WasOpened (before ++ opens_search name n query ∷ []) m j query (take (length h.journal) h.journal)) is.0 is.1 fresh)
 
 -- another request opens nothing, and neither does another reply
 no_opening : (name : List ℕ) (q : Request) (told : Reply) → ((query : Query) → q ≡ request.Seek query → ⊥) → (tenant : List ℕ) (k : ℕ) → OpensAnother tenant k (record { event = event.Request name q; reply = told })
@@ -242,16 +221,6 @@ no_opening name q told apart tenant k query e =
 
 not_opened : (name : List ℕ) (q : Request) (told : Reply) → ((n : ℕ) → told ≡ Opened n → ⊥) → (tenant : List ℕ) (k : ℕ) → OpensAnother tenant k (record { event = event.Request name q; reply = told })
 not_opened name q told apart tenant k query e = apart k (ap (λ (x : Told). x.reply) e)
-
--- who opened a search
-opener : (h : HallState) (name : List ℕ) (query : Query) (n : ℕ) → MayReplyTo h name (account_of h name) (request.Seek query) (Opened n) →
-    (t : Tenant) × (tenant_named name h.tenants ≡ Some t) × (n ≡ t.holder.opens + 1)
-opener h name query n may = by (tenant_named name h.tenants) refl may
-  where
-    by : (o : Option Tenant) → tenant_named name h.tenants ≡ o → MayReplyTo h name (option_map (account h.journal) o) (request.Seek query) (Opened n) →
-        (t : Tenant) × (tenant_named name h.tenants ≡ Some t) × (n ≡ t.holder.opens + 1)
-    by None is may = cc
-    by (Some t) is may = (t, is, told_next h name query (Opened n) (Some (account h.journal t)) (ap (option_map (account h.journal)) is) may n t refl is)
 
 -- a change that was counted
 knows_entered : (before : List Told) (h : HallState) (name : List ℕ) (change : Change) (n : ℕ) → IsSound h → KnowsOpenings before h →
@@ -270,7 +239,7 @@ knows_entered before h name change n sound known = record {
     another : (tenant : List ℕ) (k : ℕ) → OpensAnother tenant k x
     another = no_opening name (request.Alter change) (Counted n) (λ query e. cc)
 
-    by : (tenant : List ℕ) (k : ℕ) (query : Query) → Contains before (opens_search tenant k query) ⊎ (x ≡ opens_search tenant k query) → k ≤ opens_of (tenant_named tenant h.tenants)
+    by : (tenant : List ℕ) (k : ℕ) (query : Query) → Contains before (opens_search tenant k query) ⊎ (x ≡ opens_search tenant k query) → k ≤ opens_at h tenant
     by tenant k query (inl there) = known.given tenant k query there
     by tenant k query (inr is) = absurd (another tenant k query is)
 
@@ -302,15 +271,7 @@ knows_event before old new (event.Step made) told sound (answer, is, stepped) kn
     apart : (tenant : List ℕ) (k : ℕ) → OpensAnother tenant k (record { event = event.Step made; reply = told })
     apart tenant k query e = let asked : event.Step made ≡ event.Request tenant (request.Seek query) = ap (λ (x : Told). x.event) e in cc
 
--- nobody has a search in a new hall
-pub none_running : (name : List ℕ) (k : ℕ) (roster : List (List ℕ × Quota)) → running_of k (tenant_named name (map new_tenant roster)) ≡ None
-none_running name k [] = refl
-none_running name k (row ∷ rows) = by (is_same row.0 name) (none_running name k rows)
-  where
-    by : (b : Bool) → running_of k (tenant_named name (map new_tenant rows)) ≡ None → running_of k (cond b (Some (new_tenant row)) (tenant_named name (map new_tenant rows))) ≡ None
-    by true rest = refl
-    by false rest = rest
-
+-- nothing is known of a new hall
 pub knows_nothing : (roster : List (List ℕ × Quota)) → KnowsOpenings [] (new_hall roster)
 knows_nothing roster = record {
   journal = refl;

@@ -1,6 +1,6 @@
 -- To each tenant a run is an allowed run over its own trace, so two halls that agree for it give it equal answers.
 use Rattle.std.proofs.Common.{ℕ, Bool, true, false, cond, List, [], ◌∷◌, ◌++◌, ◌≡◌, ◌∙◌, sym, ap, refl, subst, subst₂, Option, Some, None}
-use Rattle.std.specs.List.{AllZip, AllByRecursion}
+use Rattle.std.specs.List.{AllZip}
 use Rattle.names.specs.Name.{is_same}
 use Rattle.names.proofs.SameNames.{same_from_is_same}
 use Rattle.quotas.specs.Quota.{Quota}
@@ -12,14 +12,12 @@ use Rattle.hall.specs.declared.calls.requests.Request.{Request}
 use Rattle.hall.specs.declared.calls.requests.Request.TheVariants as request
 use Rattle.hall.specs.declared.calls.replies.Reply.{Reply}
 use Rattle.hall.specs.declared.calls.replies.Reply.TheVariants.{Counted, Opened, Closed}
-use Rattle.hall.specs.declared.calls.steps.Step.{Step}
-use Rattle.hall.specs.declared.calls.steps.Stepped.{Stepped}
 use Rattle.hall.specs.declared.calls.events.Event.{Event}
 use Rattle.hall.specs.declared.calls.events.Event.TheVariants as event
 use Rattle.hall.specs.halls.Holder.{Beside}
 use Rattle.hall.specs.halls.Account.{Asked, Account, account_after, sight, GoesOn, Waits, Moment, AllowedRun}
-use Rattle.hall.specs.halls.State.{HallState, Running, account_of, search_at, IsSound}
-use Rattle.hall.specs.halls.Run.{hall_after, IsServed, Happens, IsStepped, StepsRunning, step_name, step_search, Run, journal_after, trace, replies_to, IsAllowedRun, IsAllowedToEach}
+use Rattle.hall.specs.halls.State.{HallState, account_of, IsSound}
+use Rattle.hall.specs.halls.Run.{hall_after, IsServed, Happens, journal_after, trace, replies_to, IsAllowedRun, IsAllowedToEach}
 use Rattle.hall.specs.halls.Agree.{Agree, HasMemory, TwoHalls}
 use Rattle.hall.specs.halls.Laws.{RunsAreAllowed}
 use Rattle.hall.proofs.Elements.{Both}
@@ -37,7 +35,7 @@ goes_twice limit s t u first second = record {
       (subst₂ (λ (v : List Vault) (q : Query). MaySettle limit (credentials v) q t.settled u.settled) first.view first.query second.settled);
 }
 
-waits_twice : (a b c : Account) → Waits a b → Waits b c → Waits a c
+pub waits_twice : (a b c : Account) → Waits a b → Waits b c → Waits a c
 waits_twice a b c first second = record {
   entries = second.entries ∙ first.entries;
   holder = beside_joined (GoesOn a.holder.limits.work) (GoesOn a.holder.limits.work) (GoesOn a.holder.limits.work) (goes_twice a.holder.limits.work) a.holder b.holder c.holder first.holder
@@ -51,14 +49,14 @@ run_on tenant a b c [] (told ∷ replies) waits run = absurd run
 run_on tenant a b c (m ∷ moments) [] waits run = absurd run
 run_on tenant a b c (m ∷ moments) (told ∷ replies) waits run = (run.0, run.1, waits_twice a b run.0 waits run.2, run.3, run.4)
 
-allowed_on : (tenant : List ℕ) (o p : Option Account) (moments : List Moment) (replies : List Reply) (end : Option Account) → Both Waits o p →
+pub allowed_on : (tenant : List ℕ) (o p : Option Account) (moments : List Moment) (replies : List Reply) (end : Option Account) → Both Waits o p →
     IsAllowedRun tenant p moments replies end → IsAllowedRun tenant o moments replies end
 allowed_on tenant None None moments replies end waits run = run
 allowed_on tenant None (Some b) moments replies end waits run = absurd waits
 allowed_on tenant (Some a) None moments replies end waits run = absurd waits
 allowed_on tenant (Some a) (Some b) moments replies end waits run = (run.0, run.1, run_on tenant a b run.0 moments replies waits run.2)
 
-allowed_end : (tenant : List ℕ) (o : Option Account) → IsAllowedRun tenant o [] [] o
+pub allowed_end : (tenant : List ℕ) (o : Option Account) → IsAllowedRun tenant o [] [] o
 allowed_end tenant None = (tt, refl)
 allowed_end tenant (Some a) = (a, refl, waits_itself a)
 
@@ -101,7 +99,7 @@ request_first tenant old after new name q told moments replies sound served rest
     (ap (λ (h : HallState). account_of h tenant) served.after ∙ other_after old name tenant q told sound apart) rest
 
 -- one event more at the start of a run
-event_first : (tenant : List ℕ) (old after new : HallState) (e : Event) (told : Reply) (events : List Event) (replies : List Reply) → IsSound old → Happens old e told after →
+pub event_first : (tenant : List ℕ) (old after new : HallState) (e : Event) (told : Reply) (events : List Event) (replies : List Reply) → IsSound old → Happens old e told after →
     IsAllowedRun tenant (account_of after tenant) (trace tenant (journal_after old.journal e told) events replies) (replies_to tenant events replies) (account_of new tenant) →
     IsAllowedRun tenant (account_of old tenant) (trace tenant old.journal (e ∷ events) (told ∷ replies)) (replies_to tenant (e ∷ events) (told ∷ replies)) (account_of new tenant)
 event_first tenant old after new (event.Request name q) told events replies sound served rest =

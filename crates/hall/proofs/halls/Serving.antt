@@ -1,7 +1,6 @@
 -- What an event does to the account of its tenant, and to those of the others.
 use Rattle.std.proofs.Common.{ℕ, Bool, true, false, cond, List, [], ◌∷◌, ◌++◌, length, ◌≡◌, ◌∙◌, inl, sym, ap, refl, subst, subst₂, map, take, Option, Some, None, option_map, le_refl, append-nil}
 use Rattle.std.specs.List.{AllByRecursion}
-use Rattle.std.proofs.lemmas.Bool.{false_from_ne_true, both_ways}
 use Rattle.std.proofs.lemmas.List.{take-append-le, take_all}
 use Rattle.names.specs.Name.{is_same}
 use Rattle.names.proofs.SameNames.{same_from_is_same, is_same_itself}
@@ -9,7 +8,7 @@ use Rattle.vaults.specs.declared.changes.Entry.{Entry}
 use Rattle.vaults.specs.Journal.{entries_of, view, credentials, Vault}
 use Rattle.vaults.proofs.LastEntries.{entries_push}
 use Rattle.search.specs.declared.queries.Query.{Query}
-use Rattle.search.specs.Ending.{Settled, Nothing, MaySettle}
+use Rattle.search.specs.Ending.{Nothing, MaySettle}
 use Rattle.search.specs.Search.{SearchState}
 use Rattle.hall.specs.declared.faults.Fault.TheVariants.{NoTenant}
 use Rattle.hall.specs.declared.calls.requests.Request.{Request}
@@ -29,12 +28,12 @@ use Rattle.hall.proofs.halls.Stepping.{SearchGoesOn, step_goes_on, nothing_yet}
 use Rattle.hall.proofs.halls.Named.{named_changed, named_here, named_other, found_tenant, running_at}
 
 -- a tenant's account where what it holds was changed
-own_changed : (h : HallState) (name : List ℕ) (change : Holder Running → Holder Running) (t : Tenant) → tenant_named name h.tenants ≡ Some t →
+pub own_changed : (h : HallState) (name : List ℕ) (change : Holder Running → Holder Running) (t : Tenant) → tenant_named name h.tenants ≡ Some t →
     account_of (with_holder h name change) name ≡ Some (account h.journal (record { name = t.name; holder = change t.holder }))
 own_changed h name change t found = ap (option_map (account h.journal)) (named_here name change h.tenants t found)
 
 -- and that of another name
-other_changed : (h : HallState) (name other : List ℕ) (change : Holder Running → Holder Running) → is_same name other ≡ false → account_of (with_holder h name change) other ≡ account_of h other
+pub other_changed : (h : HallState) (name other : List ℕ) (change : Holder Running → Holder Running) → is_same name other ≡ false → account_of (with_holder h name change) other ≡ account_of h other
 other_changed h name other change apart = ap (option_map (account h.journal)) (named_other name other change h.tenants apart)
 
 -- a journal that has grown says the same of a search that was opened before
@@ -179,7 +178,7 @@ pub waits_itself : (a : Account) → Waits a a
 waits_itself a = record { entries = refl; holder = beside_itself (GoesOn a.holder.limits.work) (λ s. record { query = refl; view = refl; settled = inl refl }) a.holder }
 
 -- a search that goes on, as its asker knows it
-seen_goes_on : (journal : List Entry) (name : List ℕ) (limit : ℕ) (r : Running) (s : SearchState) → IsSoundSearch journal name limit r → SearchGoesOn r.search s →
+pub seen_goes_on : (journal : List Entry) (name : List ℕ) (limit : ℕ) (r : Running) (s : SearchState) → IsSoundSearch journal name limit r → SearchGoesOn r.search s →
     GoesOn limit (seen journal name r) (seen journal name (record { opened_at = r.opened_at; search = s }))
 seen_goes_on journal name limit r s sound goes = record {
   query = goes.question.query;

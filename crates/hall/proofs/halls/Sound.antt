@@ -1,15 +1,12 @@
 -- Each event keeps what holds of every hall.
-use Rattle.std.proofs.Common.{ℕ, Bool, true, false, cond, not, List, [], ◌∷◌, ◌++◌, length, ◌≡◌, ◌∙◌, ◌+◌, ◌≤◌, inl, inr, sym, ap, refl, subst, subst₂, map, take, Option, Some, None, option_map, arith, length-append, le_refl}
-use Rattle.std.specs.List.{AllByRecursion, Contains}
+use Rattle.std.proofs.Common.{ℕ, not, List, [], ◌∷◌, ◌++◌, length, ◌≡◌, ◌∙◌, ◌+◌, inl, inr, sym, ap, refl, subst, subst₂, map, Option, Some, None, option_map, arith, length-append, le_refl}
+use Rattle.std.specs.List.{AllByRecursion}
 use Rattle.std.proofs.lemmas.List.{take-append-le, take_all}
-use Rattle.std.proofs.lemmas.List.Elements.{All-from_recursion, All-contains}
 use Rattle.names.specs.Name.{is_same}
-use Rattle.names.proofs.SameNames.{same_from_is_same}
-use Rattle.rt0_rules.proofs.Elements.{find-Some}
 use Rattle.quotas.specs.Quota.{Quota}
 use Rattle.vaults.specs.declared.changes.Change.{Change}
 use Rattle.vaults.specs.declared.changes.Entry.{Entry}
-use Rattle.vaults.specs.Journal.{view, credentials, Vault}
+use Rattle.vaults.specs.Journal.{view, credentials}
 use Rattle.snapshots.specs.Snapshot.{SnapshotState}
 use Rattle.search.specs.declared.queries.Query.{Query}
 use Rattle.search.specs.Ending.{Nothing, MaySettle}
@@ -23,12 +20,12 @@ use Rattle.hall.specs.declared.calls.steps.Step.{Step}
 use Rattle.hall.specs.declared.calls.steps.Stepped.{Stepped}
 use Rattle.hall.specs.declared.calls.events.Event.TheVariants as event
 use Rattle.hall.specs.halls.Searches.{settled_of, just_opened}
-use Rattle.hall.specs.halls.Holder.{Holder, Numbered, is_number, search_in, opening, ending, going_on, seek_refusal, map_holder}
+use Rattle.hall.specs.halls.Holder.{Holder, Numbered, is_number, ending, seek_refusal}
 use Rattle.hall.specs.halls.Account.{Account, unless_refused}
-use Rattle.hall.specs.halls.State.{Running, Tenant, HallState, tenant_named, seen, account, account_of, at_name, with_holder, running_of, search_at, AreDistinct, IsSoundSearch, IsSoundTenant, IsSound, new_tenant, IsNewHall}
-use Rattle.hall.specs.halls.Run.{entered, beginning, starting, opened, closed, MayReplyTo, IsServed, IsStepped, StepsRunning, step_name, step_search, stepping}
+use Rattle.hall.specs.halls.State.{Running, Tenant, HallState, tenant_named, account, account_of, with_holder, running_of, search_at, IsSoundSearch, IsSoundTenant, IsSound, new_tenant}
+use Rattle.hall.specs.halls.Run.{entered, beginning, starting, opened, closed, MayReplyTo, IsServed, StepsRunning, step_name, step_search, stepping}
 use Rattle.hall.specs.halls.Laws.{NewHallsAreSound, EventsKeepSoundness}
-use Rattle.hall.proofs.Elements.{IsOnce, all_changed, all_weaker, all_filtered, all_pushed, find-map}
+use Rattle.hall.proofs.Elements.{all_changed, all_weaker, all_filtered, all_pushed}
 use Rattle.hall.proofs.halls.Named.{distinct_kept, once_named, found_tenant, running_at}
 use Rattle.hall.proofs.halls.Holders.{found_in, numbered_pushed, numbered_filtered, all_going_on, numbered_going_on}
 use Rattle.hall.proofs.halls.Truths.{settles_twice}
@@ -151,7 +148,7 @@ sound_at h name k r sound at = by (tenant_named name h.tenants) refl at
         let this : IsSoundTenant h.journal t × (t.name ≡ name) = found_tenant (IsSoundTenant h.journal) name h.tenants sound.tenants t is in
         (t, is, subst (λ (n : List ℕ). IsSoundSearch h.journal n t.holder.limits.work r) this.1 (found_in (IsSoundSearch h.journal t.name t.holder.limits.work) k r t.holder found this.0.searches))
 
-stepped_sound : (old new : HallState) (made : Step) (answer : Stepped) (o : Option Running) → search_at old (step_name made) (step_search made) ≡ o → IsSound old →
+pub stepped_sound : (old new : HallState) (made : Step) (answer : Stepped) (o : Option Running) → search_at old (step_name made) (step_search made) ≡ o → IsSound old →
     StepsRunning old o made answer new → IsSound new
 stepped_sound old new made answer None is sound steps = subst IsSound (sym steps.1) sound
 stepped_sound old new made answer (Some r) is sound (s, steps, after) =
@@ -159,7 +156,7 @@ stepped_sound old new made answer (Some r) is sound (s, steps, after) =
     let at = running_at (step_search made) (step_name made) old t r is found in
     record {
       numbers = numbered_going_on (step_search made) r (record { opened_at = r.opened_at; search = s }) t.holder sound_here.numbers at;
-      searches = all_going_on (IsSoundSearch old.journal t.name t.holder.limits.work) (step_search made) r (record { opened_at = r.opened_at; search = s }) t.holder sound_here.numbers at
+      searches = all_going_on (IsSoundSearch old.journal t.name t.holder.limits.work) (step_search made) r (record { opened_at = r.opened_at; search = s }) t.holder at
           (search_steps old.journal t.name t.holder.limits.work r s (step_goes_on r.search s made answer steps)) sound_here.searches;
     }))
 

@@ -1,5 +1,5 @@
 -- A step of a search goes on with one question, and what is known of a search just opened.
-use Rattle.std.proofs.Common.{ℕ, suc, ◌+◌, ◌==◌, Bool, true, false, cond, List, [], ◌∷◌, ◌≡◌, ◌∙◌, inl, refl, ap, subst, sym, Option, Some, None, ne_eqb, arith}
+use Rattle.std.proofs.Common.{refl, ◌+◌, ◌==◌, ℕ, Bool, true, false, cond, List, [], ◌∷◌, ◌≡◌, ap, Option, Some, None, ne_eqb, arith}
 use Rattle.vaults.specs.Journal.{Vault, credentials}
 use Rattle.search.specs.declared.queries.Query.{Query}
 use Rattle.search.specs.declared.queries.Hint.{Hint}
@@ -14,10 +14,12 @@ use Rattle.search.specs.declared.stages.Stage.{Stage}
 use Rattle.search.specs.Ending.{Settled, Nothing, MaySettle, asked_role}
 use Rattle.search.specs.Search.{SearchState, SameQuestion}
 use Rattle.search.specs.Finish.{Finishes}
+use Rattle.search.specs.Stage.{if_held}
+use Rattle.scholten_core.specs.declared.parents.Parent.TheVariants.{Environment}
 use Rattle.hall.specs.declared.calls.steps.Step.{Step}
 use Rattle.hall.specs.declared.calls.steps.Step.TheVariants as step
 use Rattle.hall.specs.declared.calls.steps.Stepped.{Stepped}
-use Rattle.hall.specs.halls.Searches.{settled_of, just_opened, TakesAt, PutsBack, IsMade, StepsSearch, found}
+use Rattle.hall.specs.halls.Searches.{settled_of, just_opened, TakesAt, PutsBack, IsMade, StepsSearch, NoneHeld, found}
 
 -- the search goes on with its question, and may settle
 pub record SearchGoesOn (old new : SearchState) : Type 0 where
@@ -67,3 +69,12 @@ nothing_yet asker v q work = ap (λ (b : Bool). cond b (come q) Nothing) (ne_eqb
   where
     come : Query → Settled
     come q = found (record { nodes = Rol (asked_role q) ∷ []; listeners = [] ∷ []; solutions = [] }) q
+
+-- and none of its letters is held
+pub none_held_yet : (asker : List ℕ) (v : List Vault) (q : Query) (work : ℕ) → NoneHeld (just_opened asker v q work)
+unfolding just_opened
+none_held_yet asker v q work number = by (0 + 1 == number)
+  where
+    by : (b : Bool) → if_held (cond b (Some (record { from = Environment; to = 0; held = false; load = load.Start })) None) ≡ None
+    by true = refl
+    by false = refl

@@ -1,10 +1,10 @@
 -- Each answer to a poll is the truth of the query that opened the search.
-use Rattle.std.proofs.Common.{ℕ, List, [], ◌∷◌, ◌++◌, ◌≡◌, ◌≢◌, ◌∙◌, ◌⊎◌, inl, inr, sym, ap, refl, subst, subst₂, take, Option, Some, None, option_map, append-nil, append_assoc}
+use Rattle.std.proofs.Common.{ℕ, List, [], ◌∷◌, ◌++◌, ◌≡◌, ◌≢◌, ◌∙◌, inl, inr, sym, ap, refl, subst, subst₂, Option, Some, None, option_map, append-nil, append_assoc}
 use Rattle.credential_text.specs.declared.credentials.Credential.{Credential}
 use Rattle.vaults.specs.declared.changes.Entry.{Entry}
 use Rattle.vaults.specs.Journal.{Vault, view, credentials}
 use Rattle.search.specs.declared.queries.Query.{Query}
-use Rattle.search.specs.Ending.{Settled, Nothing, Yes, No, Members, Spent, Broken, IsTruth, IsEnding, answers, spends, breaks, MaySettle}
+use Rattle.search.specs.Ending.{Settled, Nothing, Yes, No, Members, Spent, Broken, IsTruth, answers, spends, breaks, MaySettle}
 use Rattle.hall.specs.declared.faults.Fault.{Fault}
 use Rattle.hall.specs.declared.faults.Fault.TheVariants.{NoSuchSearch, NoTenant, Memory}
 use Rattle.hall.specs.declared.calls.answers.Answer.{Answer}
@@ -13,16 +13,15 @@ use Rattle.hall.specs.declared.calls.requests.Request.TheVariants as request
 use Rattle.hall.specs.declared.calls.replies.Reply.{Reply}
 use Rattle.hall.specs.declared.calls.replies.Reply.TheVariants.{Answered, Refused}
 use Rattle.hall.specs.declared.calls.events.Event.{Event}
-use Rattle.hall.specs.declared.calls.events.Event.TheVariants as event
 use Rattle.hall.specs.halls.Searches.{settled_of}
-use Rattle.hall.specs.halls.Holder.{search_in, map_holder}
+use Rattle.hall.specs.halls.Holder.{search_in}
 use Rattle.hall.specs.halls.Account.{answer_of, IsAnswer, polled}
-use Rattle.hall.specs.halls.State.{Running, Tenant, HallState, tenant_named, seen, account, account_of, running_of, search_at, IsSound, IsSoundSearch, new_hall}
+use Rattle.hall.specs.halls.State.{Running, Tenant, HallState, tenant_named, seen, account, running_of, search_at, IsSound}
 use Rattle.hall.specs.halls.Run.{IsServed, MayReplyTo, Happens, Run}
 use Rattle.hall.specs.halls.Answers.{Told, told_of, polls_search, IsTrueOf, AnswersAreTrue}
 use Rattle.hall.proofs.halls.Holders.{search_mapped}
 use Rattle.hall.proofs.halls.Sound.{events_keep, new_sound, sound_at}
-use Rattle.hall.proofs.halls.Openings.{KnowsOpenings, knows_event, knows_nothing}
+use Rattle.hall.proofs.halls.Openings.{Keeps, keeps_itself, KnowsOpenings, keeps_knowing, knows_event, knows_nothing}
 
 -- what was told says what the search has come to
 settled_by : Answer → Settled
@@ -61,6 +60,22 @@ polled_at h new name k told served answered = by (tenant_named name h.tenants) s
     by (Some t) (inl is) = found t (search_in k t.holder) refl (is ∙ ap polled (search_mapped (seen h.journal t.name) k t.holder))
     by (Some t) (inr lacks) = absurd (answered Memory lacks.0)
 
+-- a poll that is refused for want of a search finds none
+pub polled_none : (h new : HallState) (name : List ℕ) (k : ℕ) → IsServed h name (request.Poll k) (Refused NoSuchSearch) new → search_at h name k ≡ None
+polled_none h new name k served = by (tenant_named name h.tenants) served.may_reply
+  where
+    found : (t : Tenant) (o : Option Running) → search_in k t.holder ≡ o → Refused NoSuchSearch ≡ polled (option_map (seen h.journal t.name) o) → search_in k t.holder ≡ None
+    found t None none is = none
+    found t (Some r) at is = cc
+
+    by : (o : Option Tenant) → MayReplyTo h name (option_map (account h.journal) o) (request.Poll k) (Refused NoSuchSearch) → running_of k o ≡ None
+    by None may = cc
+    by (Some t) (inl is) = found t (search_in k t.holder) refl (is ∙ ap polled (search_mapped (seen h.journal t.name) k t.holder))
+    by (Some t) (inr lacks) = absurd (apart lacks.0)
+      where
+        apart : Refused NoSuchSearch ≡ Refused Memory → ⊥
+        apart e = cc
+
 -- an answer is the truth
 answered_truth : (limit : ℕ) (C : List Credential) (q : Query) (s : Settled) → MaySettle limit C q Nothing s → IsAnswer s → IsTruth C q s
 answered_truth limit C q s (inl nothing) answered = absurd (subst IsAnswer nothing answered)
@@ -69,7 +84,7 @@ answered_truth limit C q s (inr (was, spends is exceeds)) answered = absurd (sub
 answered_truth limit C q s (inr (was, breaks is)) answered = absurd (subst IsAnswer is answered)
 
 -- a poll that is answered tells the truth
-pub poll_true : (before : List Told) (h new : HallState) (tenant : List ℕ) (k : ℕ) (s : Settled) → IsSound h → KnowsOpenings before h →
+poll_true : (before : List Told) (h new : HallState) (tenant : List ℕ) (k : ℕ) (s : Settled) → IsSound h → KnowsOpenings before h →
     IsServed h tenant (request.Poll k) (Answered (answer_of s)) new → IsAnswer s → IsTrueOf before tenant k s
 poll_true before h new tenant k s sound known served answered =
     let at = polled_at h new tenant k (Answered (answer_of s)) served (λ f e. cc) in
@@ -90,30 +105,29 @@ poll_true before h new tenant k s sound known served answered =
     same : (r : Running) → Answered (answer_of s) ≡ Answered (answer_of (settled_of r.search)) → answer_of s ≡ answer_of (settled_of r.search)
     same r e = cc
 
--- one event after another, each with its reply
-RunsTold : HallState → List Told → HallState → Type 0
+-- one event after another, each with its reply; before each, searches may go on
+abbrev pub RunsTold : HallState → List Told → HallState → Type 0
 RunsTold old [] new = new ≡ old
-RunsTold old (x ∷ xs) new = (middle : HallState) × Happens old x.event x.reply middle × RunsTold middle xs new
+RunsTold old (x ∷ xs) new =
+    (before : HallState) × (after : HallState) × Keeps old before × IsSound before × Happens before x.event x.reply after × RunsTold after xs new
 
-told_run : (old new : HallState) (events : List Event) (replies : List Reply) → Run old events replies new → RunsTold old (told_of events replies) new
-unfolding RunsTold
-told_run old new [] [] run = run
-told_run old new [] (told ∷ replies) run = absurd run
-told_run old new (e ∷ events) [] run = absurd run
-told_run old new (e ∷ events) (told ∷ replies) (middle, happens, run) = (middle, happens, told_run middle new events replies run)
+told_run : (old new : HallState) (events : List Event) (replies : List Reply) → IsSound old → Run old events replies new → RunsTold old (told_of events replies) new
+told_run old new [] [] sound run = run
+told_run old new [] (told ∷ replies) sound run = absurd run
+told_run old new (e ∷ events) [] sound run = absurd run
+told_run old new (e ∷ events) (told ∷ replies) sound (middle, happens, run) =
+    (old, middle, keeps_itself old, sound, happens, told_run middle new events replies (events_keep old middle e told sound happens) run)
 
 -- what is known just before an event
-run_true : (past before after : List Told) (old new : HallState) (tenant : List ℕ) (k : ℕ) (s : Settled) → IsSound old → KnowsOpenings past old →
+pub run_true : (past before after : List Told) (old new : HallState) (tenant : List ℕ) (k : ℕ) (s : Settled) → KnowsOpenings past old →
     RunsTold old (before ++ polls_search tenant k s ∷ after) new → IsAnswer s → IsTrueOf (past ++ before) tenant k s
-unfolding RunsTold
-run_true past [] after old new tenant k s sound known (middle, served, run) answered =
-    subst (λ (l : List Told). IsTrueOf l tenant k s) (sym (append-nil past)) (poll_true past old middle tenant k s sound known served answered)
-run_true past (x ∷ before) after old new tenant k s sound known (middle, happens, run) answered =
+run_true past [] after old new tenant k s known (now, middle, keeps, sound, served, run) answered =
+    subst (λ (l : List Told). IsTrueOf l tenant k s) (sym (append-nil past)) (poll_true past now middle tenant k s sound (keeps_knowing past old now keeps known) served answered)
+run_true past (x ∷ before) after old new tenant k s known (now, middle, keeps, sound, happens, run) answered =
     subst (λ (l : List Told). IsTrueOf l tenant k s) (append_assoc past (x ∷ []) before)
-    (run_true (past ++ x ∷ []) before after middle new tenant k s (events_keep old middle x.event x.reply sound happens)
-    (knows_event past old middle x.event x.reply sound happens known) run answered)
+    (run_true (past ++ x ∷ []) before after middle new tenant k s (knows_event past now middle x.event x.reply sound happens (keeps_knowing past old now keeps known)) run answered)
 
 pub answers_true : AnswersAreTrue
 answers_true start new events replies (roster, distinct, is) run tenant k s before after told answered =
-    run_true [] before after start new tenant k s (new_sound start (roster, distinct, is)) (subst (KnowsOpenings []) (sym is) (knows_nothing roster))
-    (subst (λ (l : List Told). RunsTold start l new) told (told_run start new events replies run)) answered
+    run_true [] before after start new tenant k s (subst (KnowsOpenings []) (sym is) (knows_nothing roster))
+    (subst (λ (l : List Told). RunsTold start l new) told (told_run start new events replies (new_sound start (roster, distinct, is)) run)) answered

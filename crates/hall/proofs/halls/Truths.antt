@@ -1,5 +1,5 @@
 -- What a search comes to, once and again, and what two searches of one query and view may come to.
-use Rattle.std.proofs.Common.{ℕ, ◌≤◌, List, ◌≡◌, ◌≢◌, ◌∙◌, ◌⊎◌, inl, inr, sym, ap, refl, subst}
+use Rattle.std.proofs.Common.{ℕ, List, ◌≡◌, ◌≢◌, ◌∙◌, ◌⊎◌, inl, inr, sym, ap, refl, subst}
 use Rattle.credential_text.specs.declared.credentials.Credential.{Credential}
 use Rattle.rt0_rules.proofs.LawLemmas.{members_are_one}
 use Rattle.rt0_rules.proofs.WorkLaws.{within_does_not_exceed}
@@ -13,6 +13,11 @@ settles_twice limit C q a b c (inl e) (inl f) = inl (f ∙ e)
 settles_twice limit C q a b c (inl e) (inr f) = inr (sym e ∙ f.0, f.1)
 settles_twice limit C q a b c (inr e) (inl f) = inr (e.0, subst (IsEnding limit C q) (sym f) e.1)
 settles_twice limit C q a b c (inr e) (inr f) = inr (e.0, f.1)
+
+-- what was come to stays
+pub settled_stays : {limit : ℕ} {C : List Credential} {q : Query} {a b : Settled} → MaySettle limit C q a b → a ≢ Nothing → b ≡ a
+settled_stays (inl same) some = same
+settled_stays (inr was) some = absurd (some was.0)
 
 -- a query has one truth over some credentials
 pub truth_unique : (C : List Credential) (q : Query) (a b : Settled) → IsTruth C q a → IsTruth C q b → a ≡ b

@@ -7,7 +7,6 @@ use Rattle.vaults.specs.Journal.{Vault, credentials}
 use Rattle.search.specs.declared.queries.Query.{Query}
 use Rattle.search.specs.Ending.{Settled, Nothing, Broken, MaySettle, asked_role}
 use Rattle.proof_trees.proofs.Soundness.{sound as proved_member}
-use Rattle.hall.specs.declared.faults.Fault.{Fault}
 use Rattle.hall.specs.declared.faults.Fault.TheVariants.{Memory}
 use Rattle.hall.specs.declared.calls.answers.Answer.TheVariants as answer
 use Rattle.hall.specs.declared.calls.requests.Request.{Request}
@@ -104,7 +103,7 @@ replies_agree limit tenant view a b (request.Proof k who) told other alike e f w
     (proves_agree limit (search_in k a.holder) (search_in k b.holder) who told other (beside_search (Alike limit) k a.holder b.holder alike.holder) e f, alike)
 
 -- where memory did not lack, the reply is the account's
-told_by : (tenant : List ℕ) (view : List Vault) (a : Account) (q : Request) (told : Reply) → MayReply tenant view a q told → told ≢ Refused Memory → IsReply tenant view a q told
+pub told_by : (tenant : List ℕ) (view : List Vault) (a : Account) (q : Request) (told : Reply) → MayReply tenant view a q told → told ≢ Refused Memory → IsReply tenant view a q told
 told_by tenant view a q told (inl is) memory = is
 told_by tenant view a q told (inr lacks) memory = absurd (memory lacks.0)
 

@@ -1,11 +1,6 @@
 -- What tenants do one after another where a tenant may also wait for a search, and what they are told in time.
-use Rattle.std.specs.Prelude.{◌≡◌, ◌≢◌, ℕ, List, [], ◌∷◌, ◌++◌, map, Some, if◌then◌else◌}
-use Rattle.std.specs.List.{AllZip, AllByRecursion, Contains}
-use Rattle.quotas.specs.Quota.{Quota}
-use Rattle.names.specs.Name.{is_same}
-use Rattle.vaults.specs.declared.changes.Entry.{Entry}
-use Rattle.vaults.specs.Journal.{Vault, view}
-use Rattle.proof_trees.specs.declared.steps.Step.{Step as ProofStep}
+use Rattle.std.specs.Prelude.{◌≡◌, ◌≢◌, ℕ, List, [], ◌∷◌, ◌++◌, map}
+use Rattle.std.specs.List.{AllByRecursion, Contains}
 use Rattle.hall.specs.declared.faults.Fault.{Fault}
 use Rattle.hall.specs.declared.faults.Fault.TheVariants.{NoSuchSearch, NotDone, NoTenant, Memory}
 use Rattle.hall.specs.declared.calls.requests.Request.{Request}
@@ -14,15 +9,12 @@ use Rattle.hall.specs.declared.calls.requests.Request.TheVariants as request
 use Rattle.hall.specs.declared.calls.answers.Answer.TheVariants.{Working}
 use Rattle.hall.specs.declared.calls.replies.Reply.{Reply}
 use Rattle.hall.specs.declared.calls.replies.Reply.TheVariants.{Answered, Refused}
-use Rattle.hall.specs.declared.calls.replies.Reply.TheVariants as reply
 use Rattle.hall.specs.declared.calls.steps.Step.{Step}
 use Rattle.hall.specs.declared.calls.events.Event.{Event}
 use Rattle.hall.specs.declared.calls.events.Event.TheVariants as event
-use Rattle.hall.specs.halls.Account.{Account, sight}
-use Rattle.hall.specs.halls.State.{HallState, IsSound, IsNewHall, AreDistinct, account_of, new_hall}
-use Rattle.hall.specs.halls.Run.{IsServed, RefusedLast, Run, IsAllowedToEach, step_name, step_search, journal_after}
+use Rattle.hall.specs.halls.State.{HallState, IsSound, IsNewHall}
+use Rattle.hall.specs.halls.Run.{IsServed, RefusedLast, Run, IsAllowedToEach, step_name, step_search}
 use Rattle.hall.specs.halls.Calls.{NoneHeldOf}
-use Rattle.hall.specs.halls.Agree.{HasMemory}
 use Rattle.hall.specs.halls.Answers.{told_of, AreTrue}
 
 -- the step is one of this search
@@ -135,42 +127,3 @@ abbrev pub DeedAnswersAreTrue : Type 0
 DeedAnswersAreTrue =
     (start new : HallState) (deeds : List Done)
     → IsNewHall start → AreDone start deeds new → AreTrue (told_of (events_of deeds) (replies_of deeds))
-
--- a deed, with what it looks at
-pub record Turn : Type 0 where
-  pub view : List Vault
-  pub deed : Deed
-
-abbrev pub turns_of : List ℕ → List Entry → Done → List Turn
-turns_of tenant journal d =
-    if is_same d.tenant tenant then record { view = sight (view journal tenant) (request_of d.deed); deed = d.deed } ∷ [] else []
-
--- the tenant's own deeds, each with what it looks at
-abbrev pub turns : List ℕ → List Entry → List Done → List Turn
-turns tenant journal [] = []
-turns tenant journal (d ∷ more) = turns_of tenant journal d ++ turns tenant (journal_after journal (event_of d) d.reply) more
-
-abbrev pub own_reply : List ℕ → Done → List Reply
-own_reply tenant d = if is_same d.tenant tenant then d.reply ∷ [] else []
-
--- what the tenant was told
-abbrev pub own_replies : List ℕ → List Done → List Reply
-own_replies tenant [] = []
-own_replies tenant (d ∷ more) = own_reply tenant d ++ own_replies tenant more
-
--- equal, or two proofs
-pub data IsSameTold : Reply → Reply → Type 0 where
-  same : {r : Reply} → IsSameTold r r
-  proofs : {p q : List ProofStep} → IsSameTold (reply.Proof p) (reply.Proof q)
-
--- in two halls that were new, what a tenant is told is fixed by its own account at the start and its own deeds, with what
--- these look at
-abbrev pub DeedsAreFixed : Type 0
-DeedsAreFixed =
-    (tenant : List ℕ) (start : Account) (roster others : List (List ℕ × Quota)) (one_end other_end : HallState) (deeds more : List Done)
-    → AreDistinct (new_hall roster).tenants → AreDistinct (new_hall others).tenants
-    → account_of (new_hall roster) tenant ≡ Some start → account_of (new_hall others) tenant ≡ Some start
-    → AreDone (new_hall roster) deeds one_end → AreDone (new_hall others) more other_end
-    → turns tenant [] deeds ≡ turns tenant [] more
-    → HasMemory (own_replies tenant deeds) → HasMemory (own_replies tenant more)
-    → AllZip IsSameTold (own_replies tenant deeds) (own_replies tenant more)
