@@ -3,7 +3,7 @@ ghost use Rattle.std.specs.Io.KnownBytes.{Appends};
 ghost use Rattle.service.specs.Line.{commands_of};
 ghost use Rattle.service.specs.Written.{ScriptWrote};
 ghost use Rattle.service.specs.declared.script_faults.ScriptFault.{ScriptFault};
-ghost use Rattle.rtsearch.specs.CommandLine.{AsksForScript};
+ghost use Rattle.rtsearch.specs.CommandLine.{AsksForScript, IsCommandLine};
 
 use crate::command_line::read_words;
 use clap::error::ErrorKind;
@@ -27,6 +27,8 @@ pub fn run_words<R: Read + Drop, W: Write>(
         (λ input. (fault : ScriptFault) × ScriptWrote (commands_of input) (Err fault)
         (Appends (W.contents writer.old) (W.contents writer.new))) }
     ensures script { AsksForScript (map (λ w. w.now) words.now) → result ≤ 1 }
+    ensures accepted { result ≡ 0 → IsCommandLine (map (λ w. w.now) words.now) }
+    ensures refused { (IsCommandLine (map (λ w. w.now) words.now) → ⊥) → R.remaining reader.new ≡ R.remaining reader.old }
     ensures unread { result ≡ 2 → R.remaining reader.new ≡ R.remaining reader.old }
     ensures status { result ≤ 2 }
 {
