@@ -1,12 +1,9 @@
 -- What a draft claims, and what one step more keeps.
-use Rattle.std.proofs.Common.{ℕ, ◌==◌, ◌+◌, ◌<◌, ◌≡◌, ◌∙◌, inl, inr, ap, sym, subst, refl, arith, List, [], ◌∷◌, ◌++◌, Some, Contains, length, take, slice_get}
+use Rattle.std.proofs.Common.{ℕ, ◌==◌, ◌<◌, ◌≡◌, ◌∙◌, inl, inr, ap, sym, subst, refl, arith, List, [], ◌∷◌, ◌++◌, Some, Contains, length, take, slice_get}
 use Rattle.std.proofs.lemmas.List.{take-append-le}
 use Rattle.std.proofs.lemmas.Option.{same_Some, slice_get_within}
 use Rattle.std.proofs.Math.Seq.{take-append_seam}
-use Rattle.std.specs.List.{AllZip}
-use Rattle.names.specs.declared.roles.Role.{Role}
 use Rattle.credential_text.specs.declared.credentials.Credential.{Credential}
-use Rattle.credential_text.specs.declared.intersections.Part.{Part}
 use Rattle.credential_text.specs.declared.exprs.Expr.{Expr}
 use Rattle.credential_text.specs.declared.exprs.Expr.TheVariants as expr
 use Rattle.credential_text.specs.Expr.{part_expr}
@@ -23,7 +20,7 @@ use Rattle.proof_trees.specs.declared.findings.Finding.{Finding}
 use Rattle.proof_trees.specs.declared.steps.Step.{Step}
 use Rattle.proof_trees.specs.declared.steps.Rule.{Rule}
 use Rattle.proof_trees.specs.declared.steps.Rule.TheVariants as rule
-use Rattle.proof_trees.specs.Proof.{Claims, IsBy, AreByRules}
+use Rattle.proof_trees.specs.Proof.{Claims, IsBy}
 use Rattle.proof_trees.specs.Lean.{AreApart, cited}
 use Rattle.proof_trees.specs.Finding.{Stands, AreByRows, IsPremiseOf}
 use Rattle.proof_trees.specs.Draft.{DraftState, IsStepOf, IsDraft, IsByReason, IsStepped}

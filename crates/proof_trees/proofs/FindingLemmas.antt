@@ -1,14 +1,12 @@
 -- A solution stands once, and its premises were found before it.
-use Rattle.std.proofs.Common.{ℕ, ◌<◌, ◌≡◌, ◌∙◌, inl, inr, ap, sym, subst, List, Some, Contains, take, slice_get}
+use Rattle.std.proofs.Common.{ℕ, ◌<◌, ◌≡◌, ◌∙◌, inl, inr, ap, sym, subst, List, Contains, take}
 use Rattle.std.proofs.lemmas.List.Elements.{All-contains, All-weaker}
-use Rattle.names.specs.declared.roles.Role.{Role}
 use Rattle.credential_text.specs.declared.intersections.Part.{Part}
 use Rattle.credential_text.specs.declared.exprs.Expr.{Expr}
 use Rattle.credential_text.specs.declared.exprs.Expr.TheVariants.{Rol}
 use Rattle.credential_text.specs.Expr.{part_expr}
 use Rattle.cred_graph.specs.declared.solutions.Reason.{Reason}
 use Rattle.cred_graph.specs.declared.solutions.Reason.TheVariants as reason
-use Rattle.cred_graph.specs.declared.solutions.Solution.{Solution}
 use Rattle.cred_graph.specs.GraphState.{GraphState, IsNode, HasSolution, Known, before}
 use Rattle.cred_graph.specs.Reason.{Fits}
 use Rattle.cred_graph.specs.Graph.{IsGraph}

@@ -1,6 +1,5 @@
 -- A table of numbers without repeats, and where each stands.
-use Rattle.std.proofs.Common.{ℕ, zero, suc, ◌<◌, ◌≤◌, ◌==◌, ◌≡◌, ◌∙◌, inl, inr, ap, sym, subst, refl, arith, false, List, [], ◌∷◌, ◌++◌, Some, Contains, length, slice_get, position}
-use Rattle.std.specs.List.{list_any}
+use Rattle.std.proofs.Common.{ℕ, zero, suc, ◌<◌, ◌≤◌, ◌==◌, ◌≡◌, ◌∙◌, inl, inr, ap, sym, subst, refl, arith, List, [], ◌∷◌, ◌++◌, Some, Contains, length, slice_get, position}
 use Rattle.std.proofs.lemmas.Bool.{cases_lt}
 use Rattle.std.proofs.lemmas.Bool.Decides.{Decides-eqb}
 use Rattle.std.proofs.lemmas.List.Quantifiers.{position-Some}
@@ -11,16 +10,13 @@ use Rattle.rt0_rules.proofs.Counting.{distinct-le}
 use Rattle.rt0_rules.proofs.Elements.{Contains-none, Contains-first, Contains-later, Contains-cons_cases}
 use Rattle.rt0_rules.proofs.Distinct.{AreDistinct-append}
 use Rattle.cred_graph.proofs.Lists.{Contains-at_place}
-use Rattle.cred_graph.proofs.Tables.{not_found, insert_key-absent}
+use Rattle.cred_graph.proofs.Tables.{insert_key-absent}
 
 -- the place that a look-up finds
 pub at_position : (ks : List ℕ) (k i : ℕ) → Some i ≡ position (λ x. k == x) ks → slice_get ks i ≡ Some k
 at_position ks k i found =
     let there = position-Some (λ x. k == x) ks i 0 (sym found) in
     slice_get-get_or ks i 0 there.0 ∙ ap Some (sym ((Decides-eqb k _).0 there.1))
-
-pub absent_key : (ks : List ℕ) (k : ℕ) → false ≡ list_any (λ x. k == x) ks → Contains ks k → ⊥
-absent_key ks k = not_found (λ x y. x == y) Decides-eqb ks k
 
 pub pushed_key : (ks after : List ℕ) (k : ℕ) → (Contains ks k → ⊥) → after ≡ insert_key (λ x y. x == y) ks k → after ≡ ks ++ k ∷ []
 pushed_key ks after k absent is = is ∙ insert_key-absent (λ x y. x == y) Decides-eqb ks k absent

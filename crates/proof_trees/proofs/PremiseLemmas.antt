@@ -1,12 +1,10 @@
 -- The premises of a solution: one that no step claims yet, or a rule from the steps of all.
-use Rattle.std.proofs.Common.{ℕ, ◌≡◌, inl, inr, sym, subst, refl, List, Contains, Result, Err, IfErr}
+use Rattle.std.proofs.Common.{ℕ, ◌≡◌, inl, inr, sym, subst, refl, List, Result, Err, IfErr}
 use Rattle.names.specs.declared.roles.Role.{Role}
 use Rattle.credential_text.specs.declared.intersections.Part.{Part}
-use Rattle.credential_text.specs.declared.exprs.Expr.{Expr}
 use Rattle.credential_text.specs.declared.exprs.Expr.TheVariants.{Rol, Link, Meet}
 use Rattle.credential_text.specs.Expr.{part_expr}
 use Rattle.cred_graph.specs.declared.solutions.Reason.TheVariants as reason
-use Rattle.cred_graph.specs.declared.solutions.Solution.{Solution}
 use Rattle.cred_graph.specs.GraphState.{GraphState, IsNode}
 use Rattle.proof_trees.specs.declared.findings.Finding.{Finding}
 use Rattle.proof_trees.specs.Draft.{DraftState, IsMissing, IsMissingPart, IsMissingPremise}

@@ -1,5 +1,5 @@
 -- What a completed search found of the asked role.
-use Rattle.std.proofs.Common.{ℕ, ◌≡◌, ◌∙◌, sym, subst, refl, List, Option, Some, None, MatchOption}
+use Rattle.std.proofs.Common.{ℕ, ◌≡◌, sym, subst, refl, List, Option, Some, None, MatchOption}
 use Rattle.credential_text.specs.declared.exprs.Expr.TheVariants.{Rol}
 use Rattle.rt0_rules.specs.Asks.{asked_role as asked_itself}
 use Rattle.rt0_rules.specs.FixedPoint.{IsExact}

@@ -1,28 +1,25 @@
 -- A walk goes on by a premise or by a step, and ends in a proof.
-use Rattle.std.proofs.Common.{ℕ, zero, suc, ◌+◌, ◌-◌, ◌*◌, ◌<◌, ◌≤◌, ◌≡◌, ◌∙◌, inl, inr, ap, sym, subst, refl, arith, List, [], ◌∷◌, ◌++◌, Some, Contains, length, slice_get}
+use Rattle.std.proofs.Common.{ℕ, suc, ◌+◌, ◌-◌, ◌*◌, ◌<◌, ◌≤◌, ◌≡◌, ◌∙◌, inl, inr, ap, sym, subst, refl, arith, List, [], ◌∷◌, ◌++◌, Some, Contains, length, slice_get}
 use Rattle.std.proofs.lemmas.List.{length_push}
 use Rattle.std.proofs.lemmas.List.Elements.{Contains-push, Contains-push_cases, Contains-append_left}
 use Rattle.std.proofs.lemmas.Option.{same_Some, slice_get_within}
-use Rattle.credential_text.specs.declared.credentials.Credential.{Credential}
 use Rattle.credential_text.specs.declared.exprs.Expr.{Expr}
 use Rattle.rt0_rules.proofs.Elements.{Contains-none, Contains-first, Contains-later, Contains-cons_cases}
-use Rattle.rt0_rules.proofs.Counting.{distinct-le}
 use Rattle.cred_graph.specs.GraphState.{GraphState, IsNode}
-use Rattle.cred_graph.specs.Graph.{IsGraph}
 use Rattle.cred_graph.proofs.Lists.{place_of_Contains, slice_get_stays, slice_get_push_cases, slice_get_pushed}
 use Rattle.search.proofs.Grow.{zip_right}
 use Rattle.proof_trees.specs.declared.findings.Finding.{Finding}
 use Rattle.proof_trees.specs.declared.steps.Step.{Step}
 use Rattle.proof_trees.specs.declared.steps.Rule.{Rule}
-use Rattle.proof_trees.specs.Proof.{Claims, Concludes}
-use Rattle.proof_trees.specs.Lean.{IsLean, IsCitedLater, cited}
+use Rattle.proof_trees.specs.Proof.{Concludes}
+use Rattle.proof_trees.specs.Lean.{IsLean}
 use Rattle.proof_trees.specs.Finding.{Stands, Supports, IsPremise}
 use Rattle.proof_trees.specs.Draft.{DraftState, IsStepOf, IsDraft, IsMissingPremise, IsByReason, IsStepped}
 use Rattle.proof_trees.proofs.FindingLemmas.{premise_earlier}
 use Rattle.proof_trees.proofs.DraftLemmas.{claims_found, are_apart, cites_premise, draft_stepped}
 use Rattle.proof_trees.proofs.Numbered.{element_at, bounded-le}
 use Rattle.proof_trees.proofs.Zipped.{zip_length}
-use Rattle.proof_trees.proofs.Walk.{IsPath, IsNeeded, IsAwaited, IsOfUse, IsWalk, first_need, walk_left}
+use Rattle.proof_trees.proofs.Walk.{IsPath, IsNeeded, IsOfUse, IsWalk, first_need, walk_left}
 
 -- the one that the last of a path is a premise of
 pub record HasCause (g : GraphState) (fs : List Finding) (p : Finding) : Type 0 where

@@ -2,7 +2,7 @@
 use crate::{Proof, ProofFault, check_proof, proof_of, write_proof};
 use credential_text::{Credential, read_credential};
 use names::{Entity, Role};
-use search::{Hint, Need, Query, Search, Status};
+use search::{Query, Search, Status};
 use snapshots::Snapshot;
 use std::alloc::Global;
 use std::sync::Arc;
@@ -48,37 +48,9 @@ fn opened(alloc: Global, texts: &[&[u8]], role: &[u8]) -> Result<Search, Fail> {
     opened_over(alloc, &book, role)
 }
 
-fn look_up(search: &Search, need: Need) -> Hint {
-    match need {
-        Need::Rows(role) => Hint::Rows(search.snapshot().find(&role)),
-        Need::Nothing => Hint::Nothing,
-    }
-}
-
-// A step of the search, and whether there was one to make.
-fn step(search: &mut Search) -> bool {
-    if search.signal(0) {
-        return true;
-    }
-    let Some((letter, need)) = search.take_letter(0) else {
-        return false;
-    };
-    let hint = look_up(search, need);
-    let _finished = search.finish(letter, hint);
-    true
-}
-
-fn complete(search: &mut Search) {
-    for _turn in 0..1000000 {
-        if !step(search) {
-            break;
-        }
-    }
-}
-
-fn completed(alloc: Global, texts: &[&[u8]], role: &[u8]) -> Result<Search, Fail> {
+fn driven(alloc: Global, texts: &[&[u8]], role: &[u8]) -> Result<Search, Fail> {
     let mut search = opened(alloc, texts, role)?;
-    complete(&mut search);
+    search.drive();
     Ok(search)
 }
 
@@ -95,7 +67,7 @@ fn no_proof_before_the_end_and_none_of_others(rt: HostRuntime) -> Result<(), Fai
     let other = Entity::read(b"E")?;
     let mut search = opened(alloc, &[b"A.r <- D"], b"A.r")?;
     assert!(rt; matches!(proof_of(alloc, &search, &member), Err(ProofFault::NotDone)));
-    complete(&mut search);
+    search.drive();
     assert_eq!(rt; search.status(), Status::Members);
     assert!(rt; proof_of(alloc, &search, &member).is_ok());
     assert!(rt; matches!(proof_of(alloc, &search, &other), Err(ProofFault::NoProof)));
@@ -138,7 +110,7 @@ fn premises_from_left_to_right_each_once(rt: HostRuntime) -> Result<(), Fail> {
         ),
     ];
     for (texts, lines) in table {
-        let search = completed(alloc, texts, b"A.r")?;
+        let search = driven(alloc, texts, b"A.r")?;
         let proof = proof_of(alloc, &search, &who)?;
         assert_eq!(rt; text_of(alloc, &proof)?.as_slice(), lines);
     }
@@ -152,7 +124,7 @@ fn linked_role_over_its_own_head(rt: HostRuntime) -> Result<(), Fail> {
     let texts: [&[u8]; 3] = [b"A.r <- A", b"A.r <- D", b"A.r <- A.r.r"];
     let all = credentials(alloc, &texts)?;
     let fewer = credentials(alloc, &[b"A.r <- A", b"A.r <- A.r.r"])?;
-    let search = completed(alloc, &texts, b"A.r")?;
+    let search = driven(alloc, &texts, b"A.r")?;
     for (name, needs_all) in [(b"A", false), (b"D", true)] {
         let who = Entity::read(name)?;
         let proof = proof_of(alloc, &search, &who)?;
@@ -186,7 +158,7 @@ fn an_intersection_of_eight_linked_roles(rt: HostRuntime) -> Result<(), Fail> {
         b"O.b <- D",
         b"P.a <- D",
     ];
-    let search = completed(alloc, &texts, b"A.r")?;
+    let search = driven(alloc, &texts, b"A.r")?;
     let proof = proof_of(alloc, &search, &who)?;
     // For each part: its member in itself and in the base, D in the member's role and in the part.
     assert_eq!(rt; proof.steps().len(), 1 + 8 * 4 + 2);
@@ -210,7 +182,7 @@ fn a_chain_of_inclusions(rt: HostRuntime) -> Result<(), Fail> {
     }
     upload(alloc, &mut book, b"A.r10000 <- D")?;
     let mut search = opened_over(alloc, &book, b"A.r00000")?;
-    complete(&mut search);
+    search.drive();
     let proof = proof_of(alloc, &search, &who)?;
     assert_eq!(rt; proof.steps().len(), 10002);
     assert_eq!(rt;

@@ -1,4 +1,4 @@
-use Rattle.std.proofs.Common.{◌≡◌, List, sym, subst}
+use Rattle.std.proofs.Common.{sym, subst}
 use Rattle.credential_text.specs.declared.exprs.Expr.TheVariants.{Rol}
 use Rattle.cred_graph.specs.GraphState.{GraphState, IsNode}
 use Rattle.search.specs.Search.{rows_of, asked_role}

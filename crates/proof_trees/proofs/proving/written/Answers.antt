@@ -1,9 +1,8 @@
 use Rattle.std.proofs.Common.{◌≡◌, ◌∙◌, ◌++◌, ◌∷◌, [], List, sym, ap, subst}
 use Rattle.std.proofs.lemmas.List.{nil_from_length}
 use Rattle.proof_trees.specs.declared.findings.Finding.{Finding}
-use Rattle.proof_trees.specs.Draft.{DraftState}
 use Rattle.proof_trees.proofs.FindingLemmas.{finding_fits}
-use Rattle.proof_trees.proofs.Walk.{IsWalk, walk_left}
+use Rattle.proof_trees.proofs.Walk.{IsWalk}
 use Rattle.proof_trees.proofs.WalkLemmas.{popped, found_stands, found_absent, walk_waits, walk_stepped, walk_concludes, walk_lean, nearer_by_premise, nearer_by_step}
 use Rattle.proof_trees.proofs.proving.written.Goals as goal
 

@@ -1,5 +1,4 @@
 use Rattle.proof_trees.proofs.Walk.{IsWalk, walk_left}
-use Rattle.proof_trees.proofs.WalkLemmas.{needed_stands}
 use Rattle.proof_trees.proofs.proving.written.Given as goal
 
 abbrev pub invariant-loop-found : goal.invariant-loop-found

@@ -1,9 +1,6 @@
-use Rattle.std.proofs.Common.{◌≡◌, Result, Err, IfErr, sym, subst}
+use Rattle.std.proofs.Common.{subst}
 use Rattle.std.proofs.lemmas.Result.{err_from_is_err_and}
 use Rattle.cred_graph.specs.GraphState.{IsNode}
-use Rattle.proof_trees.specs.declared.findings.Finding.{Finding}
-use Rattle.proof_trees.specs.declared.steps.Rule.{Rule}
-use Rattle.proof_trees.specs.Draft.{IsMissingPremise}
 use Rattle.proof_trees.proofs.PremiseLemmas.{base_missing, role_missing, missing_err}
 use Rattle.proof_trees.proofs.rules.link_rule.Goals as goal
 
