@@ -86,7 +86,8 @@ SearchIsQuiet h name k = IfRunning IsQuiet (search_at h name k)
 
 -- nothing of any search waits or is under way
 abbrev pub NothingToDo : HallState → Type 0
-NothingToDo h = AllByRecursion (λ (t : Tenant). AllByRecursion (λ (s : Numbered Running). IsQuiet s.of.search.stage) t.holder.searches) h.tenants
+NothingToDo h =
+    AllByRecursion (λ (t : Tenant). AllByRecursion (λ (s : Numbered Running). IsQuiet s.of.search.stage) t.holder.searches) h.tenants
 
 -- a letter was taken, or a signal delivered
 abbrev pub MadeProgress : Stepped → Type 0
