@@ -2,7 +2,8 @@
 use Rattle.std.specs.Prelude.{ℕ}
 use Rattle.hall.specs.declared.faults.Fault.{Fault}
 use Rattle.hall.specs.declared.faults.Fault.TheVariants.{NotIssuer, AlreadyHeld, NotHeld, AlreadyGranted, NotGranted, GrantSelf}
-use Rattle.hall.specs.declared.faults.Fault.TheVariants.{Creds, Grants, Searches, Changes, Opens, NoSuchSearch, NotDone, NoProof, NoTenant, Memory}
+use Rattle.hall.specs.declared.faults.Fault.TheVariants.{Creds, Grants, Searches, Changes, Opens}
+use Rattle.hall.specs.declared.faults.Fault.TheVariants.{NoSuchSearch, NotDone, NoProof, NoTenant, Memory}
 use Rattle.vaults.specs.declared.faults.VaultFault.{VaultFault}
 use Rattle.vaults.specs.declared.faults.VaultFault.TheVariants as vault
 use Rattle.quotas.specs.declared.faults.QuotaFault.{QuotaFault}

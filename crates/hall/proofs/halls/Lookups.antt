@@ -37,17 +37,6 @@ search_opening {S} k n new of h at = by (find (is_number k) h.searches) refl (sy
         last true same is = inr ((Decides-eqb n k).0 same, cc)
         last false apart is = cc
 
--- what was there is there after an opening of another number
-pub search_opened : {S : Type 0} (k n : ℕ) (new : S) (h : Holder S) → (n ≡ k → ⊥) → search_in k (opening n new h) ≡ search_in k h
-search_opened {S} k n new h apart =
-    ap (option_map (λ (s : Numbered S). s.of)) (find-append (is_number k) h.searches (record { number = n; of = new } ∷ [])) ∙ by (find (is_number k) h.searches) (n == k) refl
-  where
-    by : (o : Option (Numbered S)) (b : Bool) → (n == k) ≡ b →
-        option_map (λ (s : Numbered S). s.of) (option_or o (cond b (Some (record { number = n; of = new })) None)) ≡ option_map (λ (s : Numbered S). s.of) o
-    by (Some s) b is = refl
-    by None true is = absurd (apart ((Decides-eqb n k).0 is))
-    by None false is = refl
-
 -- no search of the number is left, and the others are
 none_left : {S : Type 0} (k : ℕ) (ss : List (Numbered S)) (s : Numbered S) → find (is_number k) (filter (λ s. not (is_number k s)) ss) ≡ Some s → ⊥
 none_left {S} k ss s at =

@@ -10,7 +10,8 @@ use Rattle.hall.specs.declared.calls.replies.Reply.{Reply}
 use Rattle.hall.specs.declared.calls.replies.Reply.TheVariants.{Counted, Opened, Closed}
 use Rattle.vaults.specs.Journal.{view}
 use Rattle.search.specs.Ending.{Nothing}
-use Rattle.hall.specs.halls.Searches.{settled_of, NoneHeld}
+use Rattle.search.specs.Search.{settled_of}
+use Rattle.search.specs.Quiet.{NoneHeld}
 use Rattle.hall.specs.halls.Holder.{search_in, ending}
 use Rattle.hall.specs.halls.State.{Running, Tenant, HallState, tenant_named, account, account_of, at_name, with_holder, running_of, search_at, IsSound, IsSoundTenant, new_tenant}
 use Rattle.hall.specs.halls.Run.{beginning, starting, hall_after, MayReplyTo, IsServed}
@@ -113,7 +114,7 @@ opener h name query n may = by (tenant_named name h.tenants) refl may
 pub record IsOpenedNow (old : HallState) (name : List ℕ) (k : ℕ) (r : Running) : Type 0 where
   pub fresh : opens_at old name < k
   pub nothing : settled_of r.search ≡ Nothing
-  pub free : NoneHeld r.search
+  pub free : NoneHeld r.search.stage
 
 -- each search is the one that was there, or was opened now
 pub record ServesOn (old new : HallState) : Type 0 where

@@ -11,15 +11,16 @@ use Rattle.scholten_core.specs.Step.{started}
 use Rattle.credential_text.specs.declared.exprs.Expr.TheVariants.{Rol}
 use Rattle.search.specs.declared.letters.Load.TheVariants as load
 use Rattle.search.specs.declared.stages.Stage.{Stage}
-use Rattle.search.specs.Ending.{Settled, Nothing, MaySettle, asked_role}
-use Rattle.search.specs.Search.{SearchState, SameQuestion}
+use Rattle.search.specs.Ending.{Settled, Nothing, MaySettle, asked_role, found}
+use Rattle.search.specs.Search.{SearchState, SameQuestion, settled_of}
+use Rattle.search.specs.Quiet.{NoneHeld}
 use Rattle.search.specs.Finish.{Finishes}
 use Rattle.search.specs.Stage.{if_held}
 use Rattle.scholten_core.specs.declared.parents.Parent.TheVariants.{Environment}
 use Rattle.hall.specs.declared.calls.steps.Step.{Step}
 use Rattle.hall.specs.declared.calls.steps.Step.TheVariants as step
 use Rattle.hall.specs.declared.calls.steps.Stepped.{Stepped}
-use Rattle.hall.specs.halls.Searches.{settled_of, just_opened, TakesAt, PutsBack, IsMade, StepsSearch, NoneHeld, found}
+use Rattle.hall.specs.halls.Searches.{just_opened, TakesAt, PutsBack, IsMade, StepsSearch}
 
 -- the search goes on with its question, and may settle
 pub record SearchGoesOn (old new : SearchState) : Type 0 where
@@ -71,7 +72,7 @@ nothing_yet asker v q work = ap (λ (b : Bool). cond b (come q) Nothing) (ne_eqb
     come q = found (record { nodes = Rol (asked_role q) ∷ []; listeners = [] ∷ []; solutions = [] }) q
 
 -- and none of its letters is held
-pub none_held_yet : (asker : List ℕ) (v : List Vault) (q : Query) (work : ℕ) → NoneHeld (just_opened asker v q work)
+pub none_held_yet : (asker : List ℕ) (v : List Vault) (q : Query) (work : ℕ) → NoneHeld (just_opened asker v q work).stage
 unfolding just_opened
 none_held_yet asker v q work number = by (0 + 1 == number)
   where

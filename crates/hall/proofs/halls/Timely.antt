@@ -9,7 +9,8 @@ use Rattle.names.proofs.SameNames.{same_from_is_same, is_same_itself}
 use Rattle.rt0_rules.proofs.Elements.{Contains-none}
 use Rattle.quotas.specs.Quota.{Quota}
 use Rattle.search.specs.Ending.{Settled, Nothing}
-use Rattle.search.specs.Search.{SearchState}
+use Rattle.search.specs.declared.stages.Stage.{Stage}
+use Rattle.search.specs.Quiet.{NoneHeld}
 use Rattle.hall.specs.declared.faults.Fault.{Fault}
 use Rattle.hall.specs.declared.faults.Fault.TheVariants.{NoSuchSearch}
 use Rattle.hall.specs.declared.calls.requests.Request.{Request}
@@ -17,7 +18,7 @@ use Rattle.hall.specs.declared.calls.requests.Request.TheVariants as request
 use Rattle.hall.specs.declared.calls.replies.Reply.{Reply}
 use Rattle.hall.specs.declared.calls.replies.Reply.TheVariants.{Answered, Refused}
 use Rattle.hall.specs.declared.calls.events.Event.TheVariants as event
-use Rattle.hall.specs.halls.Searches.{settled_of, NoneHeld}
+use Rattle.search.specs.Search.{settled_of}
 use Rattle.hall.specs.halls.Holder.{search_in}
 use Rattle.hall.specs.halls.Account.{Asked, IsAnswer, answer_of, MayProve, not_done, no_proof, proof, MayProveOf}
 use Rattle.hall.specs.halls.State.{Running, Tenant, HallState, tenant_named, seen, account, running_of, search_at, IsSound, new_hall}
@@ -71,13 +72,13 @@ same_waited tenant name j k told other e =
     (ap (λ (d : Done). d.tenant) e, (cc), ap (λ (d : Done). d.reply) e)
 
 -- a fact of a search where it is there
-if_running : (P : SearchState → Type 0) (o : Option Running) → ((r : Running) → o ≡ Some r → P r.search) → IfRunning P o
+if_running : (P : Stage → Type 0) (o : Option Running) → ((r : Running) → o ≡ Some r → P r.search.stage) → IfRunning P o
 if_running P None each = tt
 if_running P (Some r) each = each r refl
 
-of_running : (P : SearchState → Type 0) (o : Option Running) (r : Running) → IfRunning P o → o ≡ Some r → P r.search
+of_running : (P : Stage → Type 0) (o : Option Running) (r : Running) → IfRunning P o → o ≡ Some r → P r.search.stage
 of_running P None r holds is = cc
-of_running P (Some x) r holds is = subst (λ (y : Running). P y.search) same holds
+of_running P (Some x) r holds is = subst (λ (y : Running). P y.search.stage) same holds
   where
     same : x ≡ r
     same = cc
@@ -97,7 +98,7 @@ knows_asked before old new name q told served knows = record {
     serves : ServesOn old new
     serves = serves_on old new name q told served
 
-    free_by : (tenant : List ℕ) (k : ℕ) (r : Running) → (search_at old tenant k ≡ Some r) ⊎ IsOpenedNow old tenant k r → NoneHeld r.search
+    free_by : (tenant : List ℕ) (k : ℕ) (r : Running) → (search_at old tenant k ≡ Some r) ⊎ IsOpenedNow old tenant k r → NoneHeld r.search.stage
     free_by tenant k r (inl was) = of_running NoneHeld (search_at old tenant k) r (knows.free tenant k) was
     free_by tenant k r (inr now) = now.free
 

@@ -4,7 +4,8 @@ use Rattle.std.specs.List.{AllByRecursion}
 use Rattle.credential_text.specs.declared.credentials.Credential.{Credential}
 use Rattle.snapshots.specs.Snapshot.{SnapshotState}
 use Rattle.search.specs.declared.queries.Need.{Need}
-use Rattle.search.specs.Search.{SearchState}
+use Rattle.search.specs.declared.stages.Stage.{Stage}
+use Rattle.search.specs.Quiet.{NoneHeld, IsQuiet}
 use Rattle.proof_trees.specs.declared.steps.Step.{Step as ProofStep}
 use Rattle.hall.specs.declared.faults.Fault.{Fault}
 use Rattle.hall.specs.declared.calls.answers.Answer.{Answer}
@@ -14,7 +15,6 @@ use Rattle.hall.specs.declared.calls.steps.Step.{Step}
 use Rattle.hall.specs.declared.calls.steps.Step.TheVariants.{Take}
 use Rattle.hall.specs.declared.calls.steps.Stepped.{Stepped}
 use Rattle.hall.specs.declared.calls.steps.Stepped.TheVariants as stepped
-use Rattle.hall.specs.halls.Searches.{NoneHeld, IsQuiet}
 use Rattle.hall.specs.halls.Holder.{Numbered}
 use Rattle.hall.specs.halls.State.{Running, Tenant, HallState, search_at}
 use Rattle.hall.specs.halls.Run.{IsStepped}
@@ -71,10 +71,10 @@ abbrev pub IsTaken : HallState → List ℕ → ℕ → ℕ → Option TakenLett
 IsTaken old who number place job new =
     (answer : Stepped) × IsStepped old (Take who number place) answer new × IsJobOrNone old who number answer job
 
--- where there is a search, this holds of it
-abbrev pub IfRunning : (SearchState → Type 0) → Option Running → Type 0
+-- where there is a search, this holds of where it stands
+abbrev pub IfRunning : (Stage → Type 0) → Option Running → Type 0
 IfRunning holds None = Unit {0}
-IfRunning holds (Some r) = holds r.search
+IfRunning holds (Some r) = holds r.search.stage
 
 -- no letter of that search is held
 abbrev pub NoneHeldOf : HallState → List ℕ → ℕ → Type 0
@@ -86,7 +86,8 @@ SearchIsQuiet h name k = IfRunning IsQuiet (search_at h name k)
 
 -- nothing of any search waits or is under way
 abbrev pub NothingToDo : HallState → Type 0
-NothingToDo h = AllByRecursion (λ (t : Tenant). AllByRecursion (λ (s : Numbered Running). IsQuiet s.of.search) t.holder.searches) h.tenants
+NothingToDo h =
+    AllByRecursion (λ (t : Tenant). AllByRecursion (λ (s : Numbered Running). IsQuiet s.of.search.stage) t.holder.searches) h.tenants
 
 -- a letter was taken, or a signal delivered
 abbrev pub MadeProgress : Stepped → Type 0
