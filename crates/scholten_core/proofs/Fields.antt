@@ -1,5 +1,5 @@
 -- The fields as a computation
-use Rattle.std.proofs.Common.{◌≡◌, ℕ, ◌+◌, ◌==◌, Bool, true, false, cond, not, List, [], ◌∷◌, Option, Some, None, map, IsSomeAnd, IsTrue, option_map, unwrap_or, refl, sym, ap, ◌∙◌, subst, arith}
+use Rattle.std.proofs.Common.{◌≡◌, ℕ, ◌==◌, Bool, true, false, cond, not, List, [], ◌∷◌, Option, Some, map, IsSomeAnd, IsTrue, option_map, unwrap_or, refl, sym, ap, ◌∙◌, subst, arith}
 use Rattle.std.specs.Ordering.{nat_cmp}
 use Rattle.std.specs.Cmp.{nat_cmp_total}
 use Rattle.std.specs.FinMap as fin
@@ -10,7 +10,7 @@ use Rattle.scholten_core.specs.declared.parents.Parent.{Parent}
 use Rattle.scholten_core.specs.declared.parents.Parent.TheVariants.{Neutral, Environment, Node}
 use Rattle.scholten_core.specs.declared.letters.Letter.{Letter}
 use Rattle.scholten_core.specs.declared.engagement.Engagement.{Engagement}
-use Rattle.scholten_core.specs.Computation.{Computation, deficit, same_parent}
+use Rattle.scholten_core.specs.Computation.{deficit, same_parent}
 use Rattle.scholten_core.specs.Step.{mark, marked, started}
 use Rattle.scholten_core.specs.Kept.{IsKept, engagements, held_in, kept, parent_kept}
 use Rattle.scholten_core.specs.LetterTable.{LetterTableState, TakesOut}

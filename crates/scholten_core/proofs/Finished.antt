@@ -1,29 +1,24 @@
 -- A finished letter, by the fields
-use Rattle.std.proofs.Common.{◌≡◌, ◌≢◌, ℕ, zero, suc, ◌+◌, ◌<◌, ◌==◌, true, cond, not, List, [], ◌∷◌, ◌++◌, Option, Some, None, filter, length, remove, is_some, option_map, option_to_list, refl, sym, ap, ◌∙◌, subst, arith, zero-add, eq-eqb, ne_eqb}
+use Rattle.std.proofs.Common.{◌≡◌, ◌≢◌, ℕ, zero, suc, ◌+◌, ◌<◌, ◌==◌, true, cond, List, [], ◌∷◌, ◌++◌, Option, Some, None, length, is_some, option_map, option_to_list, refl, sym, ap, ◌∙◌, subst, arith, zero-add, eq-eqb, ne_eqb}
 use Rattle.std.specs.Ordering.{nat_cmp}
 use Rattle.std.specs.FinMap as fin
 use Rattle.std.specs.FinMap.{FinMap}
 use Rattle.std.specs.BTreeMap.{BTreeMap, get}
 use Rattle.std.specs.Map.{lookup}
 use Rattle.std.proofs.lemmas.List.{append-nil}
-use Rattle.std.proofs.lemmas.List.Edits.{remove-append_left}
-use Rattle.std.proofs.lemmas.List.Sums.{length-filter, sum_by-append}
-use Rattle.std.proofs.lemmas.Option.{slice_get_within}
 use Rattle.scholten_core.specs.declared.parents.Parent.{Parent}
 use Rattle.scholten_core.specs.declared.parents.Parent.TheVariants.{Neutral, Environment, Node}
 use Rattle.scholten_core.specs.declared.letters.Letter.{Letter}
 use Rattle.scholten_core.specs.declared.engagement.Engagement.{Engagement}
-use Rattle.scholten_core.specs.Computation.{Computation, deficit, is_engaged, outstanding, waiting}
-use Rattle.scholten_core.specs.Step.{answers, finished, finished_as, finishes, letters_after, numbered, receives, sends, settles, settles_under}
+use Rattle.scholten_core.specs.Computation.{Computation, deficit, is_engaged, outstanding}
+use Rattle.scholten_core.specs.Step.{answers, finished_as, finishes, numbered, receives, sends, settles, settles_under}
 use Rattle.scholten_core.specs.Kept.{IsKept, Receives, deficit_kept, engagements, held_in, kept, parent_kept}
 use Rattle.scholten_core.specs.LetterTable.{LetterTableState}
 use Rattle.scholten_core.specs.Call.{FinishesLetter}
 use Rattle.scholten_core.proofs.Engaged.{get-insert_same, get-insert_other, one_or_other, remove-insert}
 use Rattle.scholten_core.proofs.Fields.{engagements_are, get-engagements}
-use Rattle.scholten_core.proofs.Lists.{filter-remove, sum_by-filter_number}
 use Rattle.scholten_core.proofs.Paid.{count_of}
 use Rattle.scholten_core.proofs.Same.{same_parent-self}
-use Rattle.scholten_core.proofs.Sent.{length-numbered}
 use Rattle.scholten_core.proofs.Steps.{IsReceived, acknowledged, deficit-sends, engages, received, rest}
 use Rattle.scholten_core.proofs.Whole.{is_finished}
 

@@ -1,10 +1,9 @@
 -- Lists of letters, whose numbers rise
-use Rattle.std.proofs.Common.{◌≡◌, ℕ, zero, suc, ◌+◌, ◌<◌, ◌≤◌, ◌==◌, Bool, true, false, cond, not, List, [], ◌∷◌, ◌++◌, Contains, Some, None, map, option_map, filter, length, set, remove, sum_by, get_or, drop, drop-cons, refl, sym, ap, ◌∙◌, arith, lt-ltb, eq-eqb, ne_eqb}
+use Rattle.std.proofs.Common.{◌≡◌, ℕ, zero, suc, ◌+◌, ◌<◌, ◌≤◌, ◌==◌, Bool, true, false, cond, not, List, [], ◌∷◌, ◌++◌, Contains, Some, None, map, option_map, filter, length, set, remove, sum_by, refl, sym, ap, ◌∙◌, arith, lt-ltb, eq-eqb, ne_eqb}
 use Rattle.std.specs.List.{find, slice_get, position, position_or_len}
 use Rattle.std.specs.Map.{lookup}
-use Rattle.std.proofs.lemmas.Option.{same_Some, none-some, slice_get_read, slice_get_within, slice_get-get_or, get_or_from_slice_get}
+use Rattle.std.proofs.lemmas.Option.{same_Some, none-some, slice_get_within, slice_get-get_or, get_or_from_slice_get}
 use Rattle.std.proofs.lemmas.List.Folds.{find_at}
-use Rattle.std.proofs.lemmas.List.Quantifiers.{position-Some}
 use Rattle.std.proofs.lemmas.List.Edits.{length-remove}
 use Rattle.std.proofs.lemmas.List.Sums.{sum_by-cons, sum_by-remove}
 use Rattle.std.proofs.lemmas.Map.Views.{exact_unsigned_eq}

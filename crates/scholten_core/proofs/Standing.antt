@@ -1,5 +1,5 @@
 -- The letters that stand in the table, whose numbers rise
-use Rattle.std.proofs.Common.{◌≡◌, ℕ, zero, suc, ◌+◌, ◌<◌, ◌≤◌, ◌==◌, Bool, true, false, cond, not, List, [], ◌∷◌, ◌++◌, Option, Some, None, map, option_map, filter, length, is_some, IsSomeAnd, IsTrue, subst, refl, sym, ap, ◌∙◌, arith, eq-eqb, ne_eqb, nat_eq, get_or, true≢false, IfSome}
+use Rattle.std.proofs.Common.{◌≡◌, ℕ, zero, suc, ◌+◌, ◌<◌, ◌≤◌, ◌==◌, true, false, cond, not, List, [], ◌∷◌, ◌++◌, Option, Some, None, map, option_map, filter, length, is_some, IsSomeAnd, IsTrue, subst, refl, sym, ap, ◌∙◌, arith, eq-eqb, ne_eqb, nat_eq, true≢false, IfSome}
 use Rattle.std.specs.List.{slice_get, position}
 use Rattle.std.specs.Map.{lookup, keys_of, values_of}
 use Rattle.std.proofs.lemmas.Option.{same_Some, none-some, slice_get-get_or, slice_get_within}

@@ -1,5 +1,5 @@
 -- What the fields of a `Diffusion` keep
-use Rattle.std.specs.Prelude.{◌≡◌, ℕ, ◌+◌, ◌-◌, ◌<◌, ◌==◌, ◌&&◌, List, Option, None, Some, map, length, is_some, option_map}
+use Rattle.std.specs.Prelude.{◌≡◌, ℕ, ◌+◌, ◌-◌, ◌<◌, ◌==◌, ◌&&◌, List, Option, None, Some, map, is_some, option_map}
 use Rattle.std.specs.Prelude.{unwrap_or, if◌then◌else◌}
 use Rattle.std.specs.Ordering.{nat_cmp}
 use Rattle.std.specs.FinMap as fin
@@ -7,9 +7,8 @@ use Rattle.std.specs.FinMap.{FinMap}
 use Rattle.std.specs.BTreeMap.{BTreeMap, get}
 use Rattle.scholten_core.specs.declared.parents.Parent.{Parent}
 use Rattle.scholten_core.specs.declared.parents.Parent.TheVariants.{Neutral, Environment, Node}
-use Rattle.scholten_core.specs.declared.letters.Letter.{Letter}
 use Rattle.scholten_core.specs.declared.engagement.Engagement.{Engagement}
-use Rattle.scholten_core.specs.Computation.{Computation, deficit, same_parent, waiting}
+use Rattle.scholten_core.specs.Computation.{Computation, deficit, same_parent}
 use Rattle.scholten_core.specs.LetterTable.{LetterTableState}
 use Rattle.scholten_core.specs.Settled.{IsSettledBut}
 

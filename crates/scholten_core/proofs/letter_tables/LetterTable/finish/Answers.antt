@@ -1,4 +1,4 @@
-use Rattle.std.proofs.Common.{ap, sym, ◌∙◌, arith}
+use Rattle.std.proofs.Common.{ap, ◌∙◌, arith}
 use Rattle.indexmap.specs.IndexMap.{set_value_at}
 use Rattle.scholten_core.specs.LetterTable.{standing}
 use Rattle.scholten_core.proofs.Standing.{HoldsAt, holds_at, number_found, standing-hole}

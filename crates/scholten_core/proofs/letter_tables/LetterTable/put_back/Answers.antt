@@ -1,4 +1,4 @@
-use Rattle.std.proofs.Common.{◌≡◌, Some, false, map, ap, sym, ◌∙◌, arith}
+use Rattle.std.proofs.Common.{◌≡◌, Some, false, map, ap, ◌∙◌, arith}
 use Rattle.scholten_core.specs.LetterTable.{held_as, standing}
 use Rattle.scholten_core.specs.Step.{mark}
 use Rattle.indexmap.specs.IndexMap.{set_value_at}
