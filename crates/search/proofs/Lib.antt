@@ -23,3 +23,7 @@ pub mod Counted
 pub mod CountedReceipt
 pub mod CountedSteps
 pub mod WorkOf
+pub mod ByNumber
+pub mod InHand
+pub mod StepsLeft
+pub mod Driven

@@ -51,12 +51,14 @@ StatusIs stage.Broken g q result = result ≡ status.Broken
 abbrev pub Needs : SearchState → Letter Load → Need → Type 0
 Needs s l need = (e : Expr) × IsNode s.graph l.to e × (need ≡ need_of e l.load)
 
--- the waiting letter at a place has this number, is held from now on, and needs this; nothing else changes
+-- the waiting letter at a place has this number, is the held letter of it from now on, and needs this; nothing else changes
 pub record Takes (s t : SearchState) (place number : ℕ) (need : Need) : Type 0 where
   pub letter : Letter Load
   pub waited : slice_get (waiting_in s.stage) place ≡ Some (number, letter)
   pub needs : Needs s letter need
   pub after : t ≡ record s { stage = stage_marked number true s.stage }
+  pub free : held_in s.stage number ≡ None
+  pub held : held_in t.stage number ≡ Some (record letter { held = true })
 
 -- a letter was received: it is gone, and its receiver's answers wait
 pub record Received (s t : SearchState) (number : ℕ) (l : Letter Load) : Type 0 where

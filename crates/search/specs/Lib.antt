@@ -9,3 +9,5 @@ pub mod Finish
 pub mod Ending
 pub mod Counted
 pub mod Laws
+pub mod Quiet
+pub mod Driven

@@ -5,6 +5,7 @@
 #![tactic(auto)]
 
 mod asking;
+mod driving;
 mod findings;
 mod hearing;
 mod hints;

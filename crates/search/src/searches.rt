@@ -18,7 +18,8 @@ use crate::outcomes::{Finished, Status};
 use crate::queries::{Hint, Need, Query, Task};
 use crate::receiving::receive;
 use crate::stages::{
-    Stage, deliver, held_letter, hold, send, signals_under_way, wait_again, waiting_letters,
+    Stage, deliver, held_letter, hold, nothing_moves, send, signals_under_way, wait_again,
+    waiting_letters,
 };
 use cred_graph::{Graph, Port};
 use names::Entity;
@@ -73,6 +74,7 @@ impl Search {
     ghost use Rattle.search.specs.Search.{SearchState, IsNew, IsOutstanding, IsCompleted, rows_of, asked_role, net_of, SameQuestion};
     ghost use Rattle.search.specs.Stage.{waiting_in, signals_in, held_in, stage_marked, Delivers};
     ghost use Rattle.search.specs.Finish.{IsRightStatus, Takes, Finishes};
+    ghost use Rattle.search.specs.Quiet.{IsQuiet, NoneHeld};
 
     /// A search over the snapshot that may send so many letters. One letter, to the asked role, waits.
     pub fn open(
@@ -201,6 +203,15 @@ impl Search {
         ensures question { SameQuestion self.old self.new }
     {
         deliver(&mut self.stage, place)
+    }
+
+    /// Whether nothing of the search can be carried on before a letter that is held comes back. Where none is held, the
+    /// search has then settled.
+    pub fn is_quiet(&self) -> bool
+        ensures quiet { IsTrue result ↔ IsQuiet self.now.stage }
+        ensures settled { IsQuiet self.now.stage → NoneHeld self.now.stage → IsOutstanding self.now.stage → ⊥ }
+    {
+        nothing_moves(&self.stage)
     }
 
     /// What the search is for.

@@ -1,7 +1,9 @@
 //! Where a search stands, and the steps of its computation.
-ghost use Rattle.std.specs.Prelude.{◌≡◌, ◌<◌, ◌≤◌, ℕ, false, None, length, slice_get, MatchOption};
+ghost use Rattle.std.specs.Prelude.{◌≡◌, ◌<◌, ◌≤◌, ◌↔◌, ℕ, false, None, length, slice_get, IsTrue, MatchOption};
 ghost use Rattle.scholten_core.specs.Computation.{Computation, IsHeld};
 ghost use Rattle.search.specs.Stage.{waiting_in, signals_in, held_in, HoldsLetter, Holds, stage_marked, Sends, Delivers};
+ghost use Rattle.search.specs.Quiet.{IsQuiet, NoneHeld};
+ghost use Rattle.search.specs.Search.{IsOutstanding};
 
 use crate::letters::{Held, Load};
 use crate::outcomes::Finished;
@@ -122,4 +124,18 @@ pub(crate) fn deliver(stage: &mut Stage, place: u64) -> bool
     }
     running.signal(place);
     true
+}
+
+// Whether nothing moves before a held letter comes back: no letter waits and no signal is under way.
+pub(crate) fn nothing_moves(stage: &Stage) -> bool
+    ensures quiet { IsTrue result ↔ IsQuiet stage.now }
+    ensures settled { IsQuiet stage.now → NoneHeld stage.now → IsOutstanding stage.now → ⊥ }
+{
+    match stage {
+        Stage::Running(running) => {
+            running.is_complete() || (running.waiting() == 0 && running.signals() == 0)
+        }
+        Stage::Spent => true,
+        Stage::Broken => true,
+    }
 }

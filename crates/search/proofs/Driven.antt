@@ -1,0 +1,203 @@
+-- What each step of a drive does, and what a drive leaves.
+use Rattle.std.proofs.Common.{ℕ, ◌<◌, ◌≤◌, ◌==◌, ◌≡◌, ◌∙◌, inl, inr, refl, sym, subst, ap, true, List, [], ◌∷◌, ◌++◌, Some, None, length, slice_get, arith}
+use Rattle.std.proofs.lemmas.Bool.{cases_Bool}
+use Rattle.std.proofs.lemmas.Map.Views.{exact_unsigned_eq}
+use Rattle.credential_text.specs.declared.exprs.Expr.{Expr}
+use Rattle.cred_graph.specs.GraphState.{IsNode}
+use Rattle.scholten_core.specs.declared.letters.Letter.{Letter}
+use Rattle.scholten_core.specs.Computation.{Computation}
+use Rattle.search.specs.declared.letters.Load.{Load}
+use Rattle.snapshots.specs.Snapshot.{SnapshotState}
+use Rattle.search.specs.declared.queries.Need.{Need}
+use Rattle.search.specs.declared.queries.Hint.{Hint}
+use Rattle.search.specs.declared.outcomes.Finished.{Finished}
+use Rattle.search.specs.declared.outcomes.Finished.TheVariants as finished
+use Rattle.search.specs.declared.stages.Stage.{Stage}
+use Rattle.search.specs.declared.stages.Stage.TheVariants as stage
+use Rattle.search.specs.Need.{need_of, right_hint}
+use Rattle.search.specs.Stage.{waiting_in, signals_in, held_in}
+use Rattle.search.specs.Search.{SearchState, SameQuestion}
+use Rattle.search.specs.Finish.{Needs, Takes, Received, Finishes}
+use Rattle.search.specs.Quiet.{IsQuiet, NoneHeld, HoldsAsBefore}
+use Rattle.search.specs.Driven.{DriveStep, a_signal, a_letter, Makes, MakesEach, IsDriven}
+use Rattle.search.proofs.Grow.{one_expr}
+use Rattle.search.proofs.InHand.{finished_gone, finished_other, marked_other, signalled_holds}
+use Rattle.search.proofs.StepsLeft.{steps_left, marked_left, held_left, finished_left, signalled_left}
+
+-- the letter that was taken was received, or the search has ended with it
+data IsReceipt (held t : SearchState) (number : ℕ) : Type 0 where
+  goes_on : (l : Letter Load) → held_in held.stage number ≡ Some l → Received held t number l → SameQuestion held t → IsReceipt held t number
+  ends : (l : Letter Load) → held_in held.stage number ≡ Some l → ((c : Computation Load) → t.stage ≡ stage.Running c → ⊥) → steps_left t.work t.stage ≡ 0 → SameQuestion held t → IsReceipt held t number
+
+module _ (s held t : SearchState) (number : ℕ) (need : Need) (takes : Takes s held 0 number need) where
+  -- the letter that was taken needs what it was taken for
+  same_need : (l : Letter Load) (other : Need) → held_in held.stage number ≡ Some l → Needs held l other → other ≡ need
+  same_need l other is (f, there, so) =
+      let both : Some l ≡ Some (record takes.letter { held = true }) = sym is ∙ takes.held in
+      let same : l ≡ record takes.letter { held = true } = cc in
+      let e : Expr = takes.needs.0 in
+      let at : IsNode s.graph l.to e = subst (λ (x : Letter Load). IsNode s.graph x.to e) (sym same) takes.needs.1 in
+      let at' : IsNode s.graph l.to f = subst (λ (x : SearchState). IsNode x.graph l.to f) takes.after there in
+      so ∙ ap (λ (x : Expr). need_of x l.load) (one_expr s.graph l.to f e at' at) ∙ ap (λ (x : Letter Load). need_of e x.load) same ∙ sym takes.needs.2
+
+  -- so its finish with what the snapshot says is never refused
+  receipt_of : (told : Finished) → Finishes held t number (right_hint s.snapshot.vaults need) told → IsReceipt held t number
+  receipt_of finished.Done (l, rightly, received, same) = goes_on l rightly.held received same
+  receipt_of finished.Spent (l, rightly, exceeds, is, same) =
+      ends l rightly.held (λ c runs. let clash : stage.Spent ≡ stage.Running c = sym is ∙ runs in cc) (ap (steps_left t.work) is) same
+  receipt_of finished.Broken (l, rightly, is, same) =
+      ends l rightly.held (λ c runs. let clash : stage.Broken ≡ stage.Running c = sym is ∙ runs in cc) (ap (steps_left t.work) is) same
+  receipt_of finished.NotHeld (none, same) = let clash = sym none ∙ takes.held in cc
+  receipt_of finished.BadHint (l, other, is, needs, wrong, after) =
+      absurd (wrong (ap (λ (x : SearchState). right_hint x.snapshot.vaults need) (sym takes.after) ∙ ap (right_hint held.snapshot.vaults) (sym (same_need l other is needs))))
+
+  taken_question : SameQuestion s held
+  taken_question = record {
+    query = ap (λ (x : SearchState). x.query) takes.after;
+    work = ap (λ (x : SearchState). x.work) takes.after;
+    snapshot = ap (λ (x : SearchState). x.snapshot) takes.after;
+  }
+
+  taken_left : steps_left held.work held.stage ≡ steps_left s.work s.stage
+  taken_left = ap (λ (x : SearchState). steps_left x.work x.stage) takes.after ∙ marked_left s.work number true s.stage
+
+  receipt_left : IsReceipt held t number → steps_left t.work t.stage < steps_left s.work s.stage
+  receipt_left (goes_on l is received same) =
+      let is' = subst (λ (x : Stage). held_in x number ≡ Some l) received.ran is in
+      let less = finished_left held.work received.before received.after number received.outs l received.finishes is' received.within in
+      let after = ap (λ n. steps_left n t.stage) same.work ∙ ap (steps_left held.work) received.runs in
+      let before = ap (steps_left held.work) received.ran in
+      omega (arith, less, after, before, taken_left)
+  receipt_left (ends l is stops none same) = omega (arith, none, held_left held.work number l held.stage is, taken_left)
+
+  receipt_holds : IsReceipt held t number → HoldsAsBefore s.stage t.stage
+  receipt_holds (goes_on l is received same) c now n =
+      elim (cases_Bool (number == n)) [
+        | inl one ↦ subst (λ m. held_in t.stage m ≡ held_in s.stage m) (exact_unsigned_eq number n one)
+            (ap (λ (x : Stage). held_in x number) received.runs ∙ finished_gone received.before received.after number received.outs received.finishes ∙ sym takes.free)
+        | inr other ↦ ap (λ (x : Stage). held_in x n) received.runs ∙ finished_other received.before received.after number received.outs received.finishes n other
+            ∙ ap (λ (x : Stage). held_in x n) (sym received.ran) ∙ ap (λ (x : SearchState). held_in x.stage n) takes.after ∙ marked_other number n true s.stage other
+      ]
+  receipt_holds (ends l is stops none same) c now n = absurd (stops c now)
+
+  receipt_question : IsReceipt held t number → SameQuestion held t
+  receipt_question (goes_on l is received same) = same
+  receipt_question (ends l is stops none same) = same
+
+question_on : (s m t : SearchState) → SameQuestion s m → SameQuestion m t → SameQuestion s t
+question_on s m t one other = record {
+  query = other.query ∙ one.query;
+  work = other.work ∙ one.work;
+  snapshot = other.snapshot ∙ one.snapshot;
+}
+
+waiting_runs : (st : Stage) (x : ℕ × Letter Load) → slice_get (waiting_in st) 0 ≡ Some x → (c : Computation Load) × (st ≡ stage.Running c)
+waiting_runs (stage.Running c) x at = (c, refl)
+waiting_runs stage.Spent x at = cc
+waiting_runs stage.Broken x at = cc
+
+-- a search that makes a step runs
+makes_runs : (s : SearchState) (x : DriveStep) (t : SearchState) → Makes s x t → (c : Computation Load) × (s.stage ≡ stage.Running c)
+makes_runs s a_signal t made = (made.delivered.0, made.delivered.2)
+makes_runs s (a_letter number need told) t made = waiting_runs s.stage (number, made.takes.letter) made.takes.waited
+
+makes_question : (s : SearchState) (x : DriveStep) (t : SearchState) → Makes s x t → SameQuestion s t
+makes_question s a_signal t made = made.question
+makes_question s (a_letter number need told) t made =
+    question_on s made.held t (taken_question s made.held t number need made.takes)
+    (receipt_question s made.held t number need made.takes (receipt_of s made.held t number need made.takes told made.finishes))
+
+makes_holds : (s : SearchState) (x : DriveStep) (t : SearchState) → Makes s x t → HoldsAsBefore s.stage t.stage
+makes_holds s a_signal t made c now n =
+    let d = made.delivered in signalled_holds s.stage t.stage d.0 d.1 0 n d.2 d.3 d.5
+makes_holds s (a_letter number need told) t made c now n =
+    receipt_holds s made.held t number need made.takes (receipt_of s made.held t number need made.takes told made.finishes) c now n
+
+-- fewer steps are left after each
+pub makes_left : (s : SearchState) (x : DriveStep) (t : SearchState) → Makes s x t → steps_left t.work t.stage < steps_left s.work s.stage
+makes_left s a_signal t made =
+    let d = made.delivered in
+    let less = signalled_left s.work d.0 d.1 0 d.5 in
+    let after = ap (λ n. steps_left n t.stage) made.question.work ∙ ap (steps_left s.work) d.3 in
+    let before = ap (steps_left s.work) d.2 in
+    omega (arith, less, after, before)
+makes_left s (a_letter number need told) t made =
+    receipt_left s made.held t number need made.takes (receipt_of s made.held t number need made.takes told made.finishes)
+
+each_runs : (xs : List DriveStep) (s t : SearchState) → MakesEach s xs t → (c : Computation Load) → t.stage ≡ stage.Running c → (b : Computation Load) × (s.stage ≡ stage.Running b)
+each_runs [] s t same c now = (c, ap (λ (x : SearchState). x.stage) (sym same) ∙ now)
+each_runs (x ∷ xs) s t (mid, one, rest) c now = makes_runs s x mid one
+
+-- one step more
+each_more : (xs : List DriveStep) (x : DriveStep) (s m t : SearchState) → MakesEach s xs m → Makes m x t → MakesEach s (xs ++ x ∷ []) t
+each_more [] x s m t same one = (t, subst (λ (z : SearchState). Makes z x t) same one, refl)
+each_more (y ∷ ys) x s m t (mid, first, rest) one = (mid, first, each_more ys x mid m t rest one)
+
+pub driven_more : (s m t : SearchState) → IsDriven s m → (x : DriveStep) × Makes m x t → IsDriven s t
+driven_more s m t driven one = (driven.0 ++ one.0 ∷ [], each_more driven.0 one.0 s m t driven.1 one.1)
+
+each_holds : (xs : List DriveStep) (s t : SearchState) → MakesEach s xs t → HoldsAsBefore s.stage t.stage
+each_holds [] s t same c now n = ap (λ (x : SearchState). held_in x.stage n) same
+each_holds (x ∷ xs) s t (mid, one, rest) c now n =
+    let runs = each_runs xs mid t rest c now in
+    each_holds xs mid t rest c now n ∙ makes_holds s x mid one runs.0 runs.1 n
+
+each_question : (xs : List DriveStep) (s t : SearchState) → MakesEach s xs t → SameQuestion s t
+each_question [] s t same = record {
+  query = ap (λ (x : SearchState). x.query) same;
+  work = ap (λ (x : SearchState). x.work) same;
+  snapshot = ap (λ (x : SearchState). x.snapshot) same;
+}
+each_question (x ∷ xs) s t (mid, one, rest) = question_on s mid t (makes_question s x mid one) (each_question xs mid t rest)
+
+-- a drive leaves held letters where they are
+pub driven_holds : (s t : SearchState) → IsDriven s t → HoldsAsBefore s.stage t.stage
+driven_holds s t driven = each_holds driven.0 s t driven.1
+
+pub driven_question : (s t : SearchState) → IsDriven s t → SameQuestion s t
+driven_question s t driven = each_question driven.0 s t driven.1
+
+pub none_held_on : (old new : Stage) → HoldsAsBefore old new → NoneHeld old → NoneHeld new
+none_held_on old (stage.Running c) holds none n = holds c refl n ∙ none n
+none_held_on old stage.Spent holds none n = refl
+none_held_on old stage.Broken holds none n = refl
+
+-- where there is neither a first signal nor a first letter nothing moves
+no_first : {X : Type 0} (xs : List X) → slice_get xs 0 ≡ None → xs ≡ []
+no_first [] none = refl
+no_first (x ∷ xs) none = cc
+
+no_element : {X : Type 0} (xs : List X) → length xs ≤ 0 → xs ≡ []
+no_element [] none = refl
+no_element (x ∷ xs) none = absurd (omega arith)
+
+pub nothing_first : (old new : Stage) → length (signals_in old) ≤ 0 → new ≡ old → slice_get (waiting_in new) 0 ≡ None → IsQuiet old
+nothing_first old new few same none =
+    (no_first (waiting_in old) (subst (λ (x : Stage). slice_get (waiting_in x) 0 ≡ None) same none), no_element (signals_in old) few)
+
+-- a search whose parts are all the same is the same
+pub same_search : (s t : SearchState) → t.stage ≡ s.stage → t.graph ≡ s.graph → t.monitors ≡ s.monitors → SameQuestion s t → t ≡ s
+same_search s t st g ms q = λ i. record {
+  query = q.query i;
+  work = q.work i;
+  snapshot = q.snapshot i;
+  graph = g i;
+  monitors = ms i;
+  stage = st i;
+}
+
+-- the first letter is taken, and finished with what the snapshot says of its need
+pub finishes_first : (s same held t : SearchState) (number : ℕ) (need : Need) (hint : Hint) (view : SnapshotState) (told : Finished) → length (signals_in s.stage) ≤ 0 → same ≡ s →
+    Takes same held 0 number need → hint ≡ right_hint view.vaults need → view ≡ held.snapshot → Finishes held t number hint told → (x : DriveStep) × Makes s x t
+finishes_first s same held t number need hint view told few is takes hint_is view_is finishes =
+    let takes' = subst (λ (x : SearchState). Takes x held 0 number need) is takes in
+    let right : hint ≡ right_hint s.snapshot.vaults need =
+    hint_is ∙ ap (λ (x : SnapshotState). right_hint x.vaults need) (view_is ∙ ap (λ (x : SearchState). x.snapshot) takes'.after) in (
+      a_letter number need told,
+      record {
+        held = held;
+        no_signal = no_element (signals_in s.stage) few;
+        takes = takes';
+        finishes = subst (λ (h : Hint). Finishes held t number h told) right finishes;
+      },
+    )
