@@ -3,3 +3,7 @@ pub mod Holders
 pub mod Truths
 pub mod Alike
 pub mod Worlds
+pub mod Stepping
+pub mod Sound
+pub mod Serving
+pub mod Runs

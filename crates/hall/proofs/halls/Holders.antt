@@ -3,11 +3,13 @@ use Rattle.std.proofs.Common.{ℕ, ◌+◌, ◌≤◌, ◌<◌, ◌==◌, nat_le
 use Rattle.std.specs.List.{AllZip, AllByRecursion}
 use Rattle.std.proofs.lemmas.List.{map-append, length-map}
 use Rattle.std.proofs.lemmas.Slice.Zip.{all_zipped_more, AllZip-long}
+use Rattle.std.proofs.lemmas.List.Elements.{All-from_recursion, All-contains}
+use Rattle.rt0_rules.proofs.Elements.{find-Some}
 use Rattle.quotas.specs.Quota.{Quota}
 use Rattle.hall.specs.declared.faults.Fault.{Fault}
 use Rattle.hall.specs.declared.faults.Fault.TheVariants as fault
 use Rattle.hall.specs.halls.Holder.{Numbered, Holder, is_number, search_in, opening, ending, going_on, seek_refusal, AreNumbered, map_numbered, map_holder, SameNumber, Beside}
-use Rattle.hall.proofs.Elements.{IsOnce, Both, find-map, filter-map, find_both, both_mapped, filter_zip, zip_same, zip_changed, zip_mapped, zip_turned, zip_joined, all_over, all_pushed, all_filtered}
+use Rattle.hall.proofs.Elements.{IsOnce, Both, all_changed, find-map, filter-map, find_both, both_mapped, filter_zip, zip_same, zip_changed, zip_mapped, zip_turned, zip_joined, all_over, all_pushed, all_filtered}
 use Rattle.hall.proofs.halls.Lists.{zip_weaker}
 
 -- the search of a number, seen otherwise
@@ -109,6 +111,13 @@ pub once_numbered : {S : Type 0} (k opens : ℕ) (ss : List (Numbered S)) → Ar
 once_numbered k opens [] numbers = tt
 once_numbered k opens (s ∷ ss) numbers = (λ same. none_later k s.number ss (eqb-true s.number k same) numbers.2, once_numbered k opens ss numbers.3)
 
+-- the search of a number is the one that is found under it
+pub found_one : {S : Type 0} (k : ℕ) (old : S) (s : Numbered S) (h : Holder S) → search_in k h ≡ Some old → find (is_number k) h.searches ≡ Some s → old ≡ s.of
+found_one {S} k old s h found at = by (sym found ∙ ap (option_map (λ (x : Numbered S). x.of)) at)
+  where
+    by : Some old ≡ Some s.of → old ≡ s.of
+    by e = cc
+
 -- where one search goes on, the holder is beside what it was
 pub beside_going_on : {S : Type 0} (R : S → S → Type 0) → ((s : S) → R s s) → (k : ℕ) (old new : S) (h : Holder S) → AreNumbered h.opens h.searches →
     search_in k h ≡ Some old → R old new → Beside R h (going_on k new h)
@@ -116,14 +125,8 @@ beside_going_on {S} R itself k old new h numbers found related = record {
   limits = refl;
   opens = refl;
   searches = zip_changed (SameNumber R) (is_number k) (λ s. record { number = s.number; of = new }) (λ s. record { number = refl; related = itself s.of }) h.searches
-      (once_numbered k h.opens h.searches numbers) (λ s at. record { number = refl; related = subst (λ (x : S). R x new) (same s at) related });
+      (once_numbered k h.opens h.searches numbers) (λ s at. record { number = refl; related = subst (λ (x : S). R x new) (found_one k old s h found at) related });
 }
-  where
-    same : (s : Numbered S) → find (is_number k) h.searches ≡ Some s → old ≡ s.of
-    same s at = by (sym found ∙ ap (option_map (λ (x : Numbered S). x.of)) at)
-      where
-        by : Some old ≡ Some s.of → old ≡ s.of
-        by e = cc
 
 -- one more number, the next
 pub numbered_pushed : {S : Type 0} (opens n : ℕ) (ss : List (Numbered S)) (s : S) → AreNumbered opens ss → n ≡ opens + 1 → AreNumbered n (ss ++ record { number = n; of = s } ∷ [])
@@ -157,3 +160,27 @@ numbered_zipped R opens (s ∷ ss) (t ∷ ts) zip numbers = (
 
 pub numbered_beside : {S T : Type 0} (R : S → T → Type 0) (a : Holder S) (b : Holder T) → Beside R a b → AreNumbered a.opens a.searches → AreNumbered b.opens b.searches
 numbered_beside R a b beside numbers = subst (λ (n : ℕ). AreNumbered n b.searches) (sym beside.opens) (numbered_zipped R a.opens a.searches b.searches beside.searches numbers)
+
+-- where one search goes on, what holds of each still does
+pub all_going_on : {S : Type 0} (P : S → Type 0) (k : ℕ) (old new : S) (h : Holder S) → AreNumbered h.opens h.searches → search_in k h ≡ Some old → (P old → P new) →
+    AllByRecursion (λ (s : Numbered S). P s.of) h.searches → AllByRecursion (λ (s : Numbered S). P s.of) (going_on k new h).searches
+all_going_on {S} P k old new h numbers found over all =
+    all_changed (λ (s : Numbered S). P s.of) (is_number k) (λ s. record { number = s.number; of = new }) h.searches (once_numbered k h.opens h.searches numbers) all
+    (λ s at here. over (subst P (sym (found_one k old s h found at)) here))
+
+pub numbered_going_on : {S : Type 0} (k : ℕ) (old new : S) (h : Holder S) → AreNumbered h.opens h.searches → search_in k h ≡ Some old → AreNumbered h.opens (going_on k new h).searches
+numbered_going_on {S} k old new h numbers found =
+    numbered_beside Any h (going_on k new h) (beside_going_on Any (λ s. tt) k old new h numbers found tt) numbers
+  where
+    Any : S → S → Type 0
+    Any r s = Unit {0}
+
+-- the search of a number is one of the searches
+pub found_in : {S : Type 0} (P : S → Type 0) (k : ℕ) (of : S) (h : Holder S) → search_in k h ≡ Some of → AllByRecursion (λ (s : Numbered S). P s.of) h.searches → P of
+found_in {S} P k of h at all = by (find (is_number k) h.searches) refl at
+  where
+    by : (o : Option (Numbered S)) → find (is_number k) h.searches ≡ o → option_map (λ (s : Numbered S). s.of) o ≡ Some of → P of
+    by None none e = cc
+    by (Some s) found e =
+        subst P (sym (found_one k of s h at found))
+        (All-contains (λ (s : Numbered S). P s.of) h.searches s (All-from_recursion (λ (s : Numbered S). P s.of) h.searches all) (find-Some (is_number k) h.searches s found).0)
