@@ -7,3 +7,11 @@ pub mod Stepping
 pub mod Sound
 pub mod Serving
 pub mod Runs
+pub mod Finding
+pub mod Seated
+pub mod Served
+pub mod Changing
+pub mod Viewing
+pub mod Making
+pub mod Opening
+pub mod Closing

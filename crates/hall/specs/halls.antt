@@ -8,3 +8,4 @@ pub mod Calls
 pub mod Answers
 pub mod Deeds
 pub mod Laws
+pub mod Kept

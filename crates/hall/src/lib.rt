@@ -3,13 +3,17 @@
 #![tactic(auto)]
 
 pub mod calls;
+mod copies;
 mod faults;
 mod laws;
 mod lists;
+mod opened;
 mod queries;
+mod registry;
 mod replies;
 mod requests;
 pub mod run_laws;
+mod seats;
 #[cfg(test)]
 mod tests;
 
@@ -17,5 +21,6 @@ pub use faults::Fault;
 pub use laws::{deeds_are_allowed, runs_are_allowed, two_halls, two_worlds};
 pub use lists::{Names, Rows};
 pub use queries::Query;
+pub use registry::Hall;
 pub use replies::{Answer, Reply};
 pub use requests::Request;
