@@ -28,6 +28,7 @@ static long wanted = -1, made = 0;
 __attribute__((constructor)) static void begin(void) { const char *n = getenv("REFUSE"); wanted = n ? atol(n) : 0; made = 0; }
 __attribute__((destructor)) static void end(void) {
     const char *to = getenv("REFUSE_COUNT");
+    wanted = -1;
     if (to) { FILE *f = fopen(to, "w"); if (f) { fprintf(f, "%ld\n", made); fclose(f); } }
 }
 static int refused(void) { if (wanted < 0) return 0; made++; if (made == wanted) { errno = ENOMEM; return 1; } return 0; }
@@ -43,7 +44,7 @@ cc -O1 -shared -fPIC -o "$work/refuse.so" "$work/refuse.c"
 # one TEST N: runs that test with its allocation N refused (0: none), and leaves what it prints and its status.
 one() {
     status=0
-    REFUSE=$2 REFUSE_COUNT="$work/count" LD_PRELOAD="$work/refuse.so" timeout 60 "$tests" "$1" > "$work/out" 2>&1 || status=$?
+    timeout 60 env REFUSE="$2" REFUSE_COUNT="$work/count" LD_PRELOAD="$work/refuse.so" "$tests" "$1" > "$work/out" 2>&1 || status=$?
 }
 
 bad=0

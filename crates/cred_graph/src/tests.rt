@@ -5,6 +5,7 @@ use crate::{Graph, Port, Reason};
 use credential_text::{Expr, Part, Parts};
 use names::{Entity, Role, RoleName};
 use std::alloc::{AllocError, Global};
+use std::process::Abort;
 use std::test::Fail;
 
 /// Asks again where memory is refused, so that a test sees that the refusal changed nothing.
@@ -264,5 +265,124 @@ fn an_intersection_is_solved_by_all_its_parts(rt: HostRuntime) -> Result<(), Fai
     assert!(rt; solve_role(&mut graph, role, &Expr::Ent(who), who)? == Some(true));
     assert!(rt; solve_meet(rt.alloc(), &mut graph, one, other, who)? == Some(true));
     assert!(rt; graph.reason(node, &who) == Some((2, Reason::Parts)));
+    Ok(())
+}
+
+fn mix(sum: u64, more: u64) -> u64 {
+    sum.wrapping_mul(31).wrapping_add(more)
+}
+
+fn code(port: Port) -> u64 {
+    match port {
+        Port::Body => 1,
+        Port::Base => 2,
+        Port::Via(_who) => 3,
+        Port::Part(part) => mix(4, part as u64),
+    }
+}
+
+/// A sum over what can be read of the node of an entity.
+fn read_node(graph: &Graph, who: &Entity) -> u64 {
+    let expr = Expr::Ent(*who);
+    let Some(n) = graph.node(&expr) else {
+        return 1;
+    };
+    let mut sum = mix(mix(n, graph.listeners(n)), graph.solutions(n));
+    for i in 0..8 {
+        sum = match listener_of(graph, &expr, i) {
+            Some((asker, port)) => mix(mix(sum, asker), code(port)),
+            None => mix(sum, 1),
+        };
+        sum = mix(sum, (solution_of(graph, &expr, i) == Some(*who)) as u64);
+    }
+    match graph.reason(n, who) {
+        Some((place, reason)) => mix(mix(sum, place), (reason == Reason::Leaf) as u64),
+        None => mix(sum, 1),
+    }
+}
+
+/// The same over the nodes of all these.
+fn read_all(graph: &Graph, all: &[Entity]) -> u64 {
+    let mut sum = 0;
+    for who in all {
+        sum = mix(sum, read_node(graph, who));
+    }
+    sum
+}
+
+/// Adds the entity's node. Where memory is refused all is as before, and the same call is made again.
+fn add_node(
+    rt: &impl Abort,
+    graph: &mut Graph,
+    all: &[Entity],
+    who: Entity,
+) -> Result<(), AllocError> {
+    let before = read_all(graph, all);
+    if graph.node_of(&Expr::Ent(who)).is_err() {
+        assert_eq!(rt; read_all(graph, all), before);
+        let _given = graph.node_of(&Expr::Ent(who))?;
+    }
+    Ok(())
+}
+
+/// The same for one entity that listens to another.
+fn add_listener(
+    rt: &impl Abort,
+    graph: &mut Graph,
+    all: &[Entity],
+    asked: Entity,
+    asker: Entity,
+) -> Result<(), AllocError> {
+    let before = read_all(graph, all);
+    let (Some(n), Some(m)) = (graph.node(&Expr::Ent(asked)), graph.node(&Expr::Ent(asker))) else {
+        return Ok(());
+    };
+    if graph.add_listener(n, m, Port::Body).is_err() {
+        assert_eq!(rt; read_all(graph, all), before);
+        let _is_new = graph.add_listener(n, m, Port::Body)?;
+    }
+    Ok(())
+}
+
+/// The same for the entity as its own solution.
+fn add_leaf(
+    rt: &impl Abort,
+    graph: &mut Graph,
+    all: &[Entity],
+    who: Entity,
+) -> Result<(), AllocError> {
+    let before = read_all(graph, all);
+    let Some(n) = graph.node(&Expr::Ent(who)) else {
+        return Ok(());
+    };
+    if graph.add_solution(n, who, Reason::Leaf).is_err() {
+        assert_eq!(rt; read_all(graph, all), before);
+        let _is_new = graph.add_solution(n, who, Reason::Leaf)?;
+    }
+    Ok(())
+}
+
+#[test]
+fn a_refused_addition_changes_nothing(rt: HostRuntime) -> Result<(), Fail> {
+    let first = Entity::read(b"A")?;
+    let all = [
+        first,
+        Entity::read(b"B")?,
+        Entity::read(b"C")?,
+        Entity::read(b"D")?,
+        Entity::read(b"E")?,
+        Entity::read(b"F")?,
+    ];
+    let mut graph = Graph::new(rt.alloc());
+    for who in all {
+        add_node(&rt, &mut graph, &all, who)?;
+        add_listener(&rt, &mut graph, &all, first, who)?;
+        add_leaf(&rt, &mut graph, &all, who)?;
+    }
+    let Some(n) = graph.node(&Expr::Ent(first)) else {
+        return Err(Fail::from("the first node is gone"));
+    };
+    assert_eq!(rt; graph.listeners(n), 6);
+    assert_eq!(rt; graph.solutions(n), 1);
     Ok(())
 }

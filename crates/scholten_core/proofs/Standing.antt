@@ -1,14 +1,16 @@
 -- The letters that stand in the table, whose numbers rise
-use Rattle.std.proofs.Common.{◌≡◌, ℕ, zero, suc, ◌+◌, ◌<◌, ◌≤◌, ◌==◌, Bool, true, false, cond, not, List, [], ◌∷◌, ◌++◌, Option, Some, None, map, option_map, filter, length, is_some, IsSomeAnd, IsTrue, subst, refl, sym, ap, ◌∙◌, arith, eq-eqb, ne_eqb, nat_eq}
+use Rattle.std.proofs.Common.{◌≡◌, ℕ, zero, suc, ◌+◌, ◌<◌, ◌≤◌, ◌==◌, Bool, true, false, cond, not, List, [], ◌∷◌, ◌++◌, Option, Some, None, map, option_map, filter, length, is_some, IsSomeAnd, IsTrue, subst, refl, sym, ap, ◌∙◌, arith, eq-eqb, ne_eqb, nat_eq, get_or, true≢false, IfSome}
 use Rattle.std.specs.List.{slice_get, position}
-use Rattle.std.specs.Map.{lookup, keys_of}
-use Rattle.std.proofs.lemmas.Option.{same_Some, none-some, get_or_from_slice_get}
+use Rattle.std.specs.Map.{lookup, keys_of, values_of}
+use Rattle.std.proofs.lemmas.Option.{same_Some, none-some, slice_get-get_or, slice_get_within}
 use Rattle.std.proofs.lemmas.List.Quantifiers.{position-Some}
+use Rattle.std.proofs.lemmas.Map.Entries.{length-keys_of}
 use Rattle.std.proofs.lemmas.Map.Views.{exact_unsigned_eq}
 use Rattle.indexmap.specs.IndexMap.{set_value_at}
 use Rattle.scholten_core.specs.declared.letters.Letter.{Letter}
-use Rattle.scholten_core.specs.LetterTable.{IsHeldIn, standing}
+use Rattle.scholten_core.specs.LetterTable.{IsHeldIn, is_of, standing}
 use Rattle.scholten_core.specs.Sound.{IsNumbered}
+use Rattle.scholten_core.proofs.Counts.{entry_of}
 use Rattle.scholten_core.proofs.Engaged.{one_or_other}
 use Rattle.scholten_core.proofs.Lists.{changed, changed_past, filter_past, lookup_at, number_at, numbered_above}
 
@@ -62,11 +64,28 @@ module _ {X : Type 0} where
   key_get (l ∷ ls) zero m x at = ap (λ o. option_map (λ (e : ℕ × X). e.0) o) at
   key_get (l ∷ ls) (suc i) m x at = key_get ls i m x at
 
-  -- the key at the place where a number is found
-  pub key_at : (test : ℕ → Bool) (ls : List (ℕ × X)) (i m : ℕ) (x : X) → position test (keys_of ls) ≡ Some i → slice_get ls i ≡ Some (m, x) → test m ≡ true
-  key_at test ls i m x found at =
-      let passes = position-Some test (keys_of ls) i m found in
-      ap test (sym (get_or_from_slice_get (keys_of ls) i m m (key_get ls i m x at))) ∙ passes.1
+  -- the number that is found at a place stands there
+  pub key_there : (k : ℕ) (ls : List (ℕ × X)) → IfSome (position (nat_eq k) (keys_of ls)) (λ i. slice_get (keys_of ls) i ≡ Some k)
+  key_there k ls =
+      elim (position (nat_eq k) (keys_of ls)) as (λ o. position (nat_eq k) (keys_of ls) ≡ o → IfSome o (λ i. slice_get (keys_of ls) i ≡ Some k)) [
+        | None ↦ λ _. tt
+        | Some i ↦ λ found. let passes = position-Some (nat_eq k) (keys_of ls) i k found in
+            slice_get-get_or (keys_of ls) i k passes.0 ∙ ap Some (exact_unsigned_eq _ k (sym (flipped k _) ∙ passes.1))
+      ] refl
+
+  pub key_within : (k : ℕ) (ls : List (ℕ × X)) (i : ℕ) → slice_get (keys_of ls) i ≡ Some k → i < length ls
+  key_within k ls i at = omega (arith, slice_get_within (keys_of ls) i k at, length-keys_of ls)
+
+  -- where a number stands it is found
+  pub found_at : (k : ℕ) (ls : List (ℕ × X)) (i : ℕ) → slice_get (keys_of ls) i ≡ Some k → is_some (lookup (nat_eq k) ls) ≡ true
+  found_at k [] i at = absurd (none-some _ at)
+  found_at k (l ∷ ls) zero at =
+      ap (λ b. is_some (cond b (Some l.1) (lookup (nat_eq k) ls))) (ap (nat_eq k) (same_Some _ _ at) ∙ flipped k k ∙ eq-eqb k k refl)
+  found_at k (l ∷ ls) (suc i) at =
+      elim (nat_eq k l.0) as (λ b. is_some (cond b (Some l.1) (lookup (nat_eq k) ls)) ≡ true) [
+        | true ↦ refl
+        | false ↦ found_at k ls i at
+      ]
 
 module _ {P : Type 0} where
   pub standing-append : (xs ys : List (ℕ × Option (Letter P))) → standing (xs ++ ys) ≡ standing xs ++ standing ys
@@ -98,6 +117,20 @@ module _ {P : Type 0} where
         | true ↦ refl
         | false ↦ lookup-standing k m es high rising.1
       ]
+
+  -- the letter of a number is what stands at the number's place
+  pub letter_there : (sent k i : ℕ) (es : List (ℕ × Option (Letter P))) (v : Option (Letter P)) → IsNumbered 0 es sent → slice_get (keys_of es) i ≡ Some k → slice_get (values_of es) i ≡ Some v → v ≡ lookup (λ n. n == k) (standing es)
+  letter_there sent k i es v rising key value =
+      let entry = entry_of es i v value in
+      let same : entry.0 ≡ k = same_Some _ _ (sym (key_get es i entry.0 v entry.1) ∙ key) in
+      let there : slice_get es i ≡ Some (k, v) = entry.1 ∙ ap (λ n. Some (n, v)) same in
+      sym (lookup-standing k 0 es sent rising ∙ ap letter_in (lookup_at 0 es sent i k v rising there))
+
+  -- no letter has a number that isn't found
+  pub letter_absent : (sent k : ℕ) (es : List (ℕ × Option (Letter P))) → IsNumbered 0 es sent → is_some (lookup (nat_eq k) es) ≡ false → None ≡ lookup (λ n. n == k) (standing es)
+  letter_absent sent k es rising absent =
+      let none : lookup (nat_eq k) es ≡ None = elim (lookup (nat_eq k) es) as (λ o. is_some o ≡ false → o ≡ None) [ None ↦ λ _. refl | Some v ↦ λ e. absurd (true≢false e) ] absent in
+      sym (lookup-standing k 0 es sent rising ∙ ap letter_in (sym (lookup-keys k es) ∙ none))
 
   -- to write a letter at its place is to change the letter of its number
   pub standing-change : (f : Letter P → Letter P) (low : ℕ) (es : List (ℕ × Option (Letter P))) (high i k : ℕ) (l : Letter P) → IsNumbered low es high → slice_get es i ≡ Some (k, Some l) → standing (set_value_at es i (Some (f l))) ≡ map (changed k f) (standing es)
@@ -138,12 +171,16 @@ module _ {P : Type 0} where
     pub there : slice_get es i ≡ Some (k, Some letter)
     pub held : letter.held ≡ true
 
+  -- the number of the entry at a place stands there among the numbers
+  pub number_there : (k : ℕ) (es : List (ℕ × Option (Letter P))) (i : ℕ) → is_of k (slice_get es i) ≡ true → slice_get (keys_of es) i ≡ Some k
+  number_there k [] i is = absurd (true≢false (sym is))
+  number_there k (e ∷ es) zero is = ap Some (exact_unsigned_eq e.0 k is)
+  number_there k (e ∷ es) (suc i) is = number_there k es i is
+
   -- the held letter of a number stands where the number is found
-  module _ (sent : ℕ) (es : List (ℕ × Option (Letter P))) (rising : IsNumbered 0 es sent) (k i m : ℕ) (v : Option (Letter P)) (is_held : IsHeldIn (standing es) k) (found : position (nat_eq k) (keys_of es) ≡ Some i) (at : slice_get es i ≡ Some (m, v)) where
+  module _ (sent : ℕ) (es : List (ℕ × Option (Letter P))) (rising : IsNumbered 0 es sent) (k i m : ℕ) (v : Option (Letter P)) (is_held : IsHeldIn (standing es) k) (found : slice_get (keys_of es) i ≡ Some k) (at : slice_get es i ≡ Some (m, v)) where
     slot_is : slice_get es i ≡ Some (k, v)
-    slot_is =
-        let one : m ≡ k = exact_unsigned_eq m k (sym (flipped k m) ∙ key_at (nat_eq k) es i m v found at) in
-        at ∙ ap (λ n. Some (n, v)) one
+    slot_is = at ∙ ap (λ n. Some (n, v)) (same_Some _ _ (sym (key_get es i m v at) ∙ found))
 
     slot_held : IsSomeAnd v (λ l. IsTrue l.held)
     slot_held =

@@ -56,6 +56,11 @@ module _ {P : Type 0} where
   abbrev pub is_hole : Option (Letter P) → Bool
   is_hole o = not (is_some o)
 
+  -- whether an entry is that number's
+  abbrev pub is_of : ℕ → Option (ℕ × Option (Letter P)) → Bool
+  is_of number None = false
+  is_of number (Some e) = e.0 == number
+
   abbrev pub last_hole : Option (ℕ × Option (Letter P)) → Bool
   last_hole None = false
   last_hole (Some e) = is_hole e.1

@@ -72,6 +72,7 @@ impl<P: Drop> Diffusion<P> {
     pub fn letter(&self, number: u64) -> Option<&Letter<P>>
         ensures letter { option_copied result ≡ letter_of self.now number }
         ensures by_number { StandByNumber self.now }
+        ensures sound { IsSound self.now }
     {
         self.letters.get(number)
     }

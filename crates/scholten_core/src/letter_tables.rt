@@ -1,7 +1,8 @@
 //! The table of the letters that wait or are held.
-ghost use Rattle.std.specs.Prelude.{◌≡◌, ◌+◌, ◌-◌, ◌<◌, ◌≤◌, slice_get, take};
+ghost use Rattle.std.specs.Prelude.{◌≡◌, ◌+◌, ◌-◌, ◌<◌, ◌≤◌, Some, IfSome, is_some, nat_eq, slice_get, take};
+ghost use Rattle.std.specs.Map.{keys_of, lookup};
 ghost use Rattle.indexmap.specs.IndexMap.{index_map_len};
-ghost use Rattle.scholten_core.specs.LetterTable.{count, does_wait, held_as, last_hole, WaitsAt};
+ghost use Rattle.scholten_core.specs.LetterTable.{count, does_wait, held_as, is_of, last_hole, WaitsAt};
 
 use crate::letters::Letter;
 use crate::parents::Parent;
@@ -49,6 +50,36 @@ fn ends_in_hole<P>(letters: &IndexMap<u64, Option<Letter<P>>>) -> bool
         Some((_, slot)) => slot.is_none(),
         None => false,
     }
+}
+
+fn stands_at<P>(letters: &IndexMap<u64, Option<Letter<P>>>, at: usize, number: u64) -> bool
+    ensures { result ≡ is_of number (slice_get letters.now.entries at) }
+{
+    match letters.get_index(at) {
+        Some((found, _)) => *found == number,
+        None => false,
+    }
+}
+
+// Where the number's entry stands. Numbers rise, so two places are tried before the table's index: where it stands if
+// no number lacks between the first and it, and if none lacks between it and the last.
+fn place_of<P>(letters: &IndexMap<u64, Option<Letter<P>>>, number: u64) -> Option<usize>
+    ensures found { is_some result ≡ is_some (lookup (nat_eq number) letters.now.entries) }
+    ensures place { IfSome result (λ at. slice_get (keys_of letters.now.entries) at ≡ Some number) }
+    ensures within { IfSome result (λ at. at < index_map_len letters.now) }
+{
+    if let (Some((first, _)), Some((last, _))) = (letters.first(), letters.last()) {
+        let at = number.saturating_sub(*first) as usize;
+        if stands_at(letters, at, number) {
+            return Some(at);
+        }
+        let behind = last.saturating_sub(number) as usize;
+        let at = (letters.len() - 1).saturating_sub(behind);
+        if stands_at(letters, at, number) {
+            return Some(at);
+        }
+    }
+    letters.get_index_of(&number)
 }
 
 // Where the waiting letter at that place stands, sought from a place on before which none waits.
@@ -163,7 +194,8 @@ impl<P: Drop> LetterTable<P> {
     pub(crate) fn get(&self, number: u64) -> Option<&Letter<P>>
         ensures { option_copied result ≡ lookup (λ n. n == number) self.now.letters }
     {
-        self.letters.get(&number)?.as_ref()
+        let at = place_of(&self.letters, number)?;
+        self.letters[at].as_ref()
     }
 
     /// Takes the waiting letter at that place, in order of number, and answers its number.
@@ -187,7 +219,7 @@ impl<P: Drop> LetterTable<P> {
         ensures letters { self.new.letters ≡ map (mark number false) self.old.letters }
         ensures sent { self.new.sent ≡ self.old.sent }
     {
-        let at = self.letters.get_index_of(&number).unwrap();
+        let at = place_of(&self.letters, number).unwrap();
         let (_, slot) = self.letters.pair_mut(at);
         hold(slot, false);
         self.waits += 1;
@@ -243,7 +275,7 @@ impl<P: Drop> LetterTable<P> {
         ensures sent { self.new.sent ≡ self.old.sent }
         ensures room { self.old.room ≤ self.new.room }
     {
-        let at = self.letters.get_index_of(&number).unwrap();
+        let at = place_of(&self.letters, number).unwrap();
         let (_, slot) = self.letters.pair_mut(at);
         *slot = None;
         self.holes += 1;

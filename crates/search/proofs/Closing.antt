@@ -20,11 +20,12 @@ use Rattle.scholten_core.specs.Call.{FinishesLetter, DeliversSignal}
 use Rattle.search.specs.declared.letters.Load.{Load}
 use Rattle.search.specs.declared.letters.Load.TheVariants as load
 use Rattle.search.specs.declared.findings.Monitor.{Monitor}
-use Rattle.search.specs.Net.{Sent, plain, sent_of, sent_by}
+use Rattle.search.specs.Net.{Sent, IsPendingStart, plain, sent_of, sent_by}
 use Rattle.search.specs.Steady.{IsSteady}
 use Rattle.search.specs.Receipt.{Awaits}
-use Rattle.search.specs.Answers.{Progress}
-use Rattle.search.specs.Search.{StartsAlone, KeptBy}
+use Rattle.search.specs.Answers.{Progress, progress, net_at}
+use Rattle.search.specs.Counted.{IsCounted}
+use Rattle.search.specs.Search.{StartsAlone, KeptBy, IsTallied, net_of}
 use Rattle.search.proofs.Settled.{TakesOut, settled}
 use Rattle.search.proofs.Receive.{Receipt}
 
@@ -72,21 +73,13 @@ awaits_letter {rows} {asked} {work} {g} {ms} {c} kept by number l is =
       steady = subst (λ (pending : List Sent). IsSteady rows asked (record { graph = g; monitors = ms; pending = pending })) (sym (append-nil (sent_of c.letters))) kept.steady;
     }
 
-module _ (view : List Vault) (asked : Role) (work : ℕ) (g : GraphState) (ms : List Monitor) (c d : Computation Load) (number : ℕ) (l : Letter Load) (t : Progress) (ordered : IsOrdered view)
-    (kept : KeptBy (credentials view) asked work g ms c) (by : StandByNumber c) (is : letter_of c number ≡ Some l) (finishes : FinishesLetter c number t.outs d) where
+module _ (view : List Vault) (asked : Role) (work : ℕ) (g : GraphState) (ms : List Monitor) (c : Computation Load) (number : ℕ) (l : Letter Load) (t : Progress) (ordered : IsOrdered view)
+    (kept : KeptBy (credentials view) asked work g ms c) (by : StandByNumber c) (is : letter_of c number ≡ Some l) where
   abbrev other : ℕ × Letter Load → Bool
   other x = not (x.0 == number)
 
-  abbrev left : List (ℕ × Letter Load)
+  abbrev pub left : List (ℕ × Letter Load)
   left = filter other c.letters
-
-  letters_are : d.letters ≡ left ++ numbered (Node l.to) (c.sent + 1) t.outs
-  letters_are = finishes.letters ∙ ap (λ o. left ++ answers (c.sent + 1) o t.outs) is
-
-  after_is : sent_of d.letters ≡ sent_of left ++ sent_by l.to t.outs
-  after_is =
-      ap sent_of letters_are ∙ map-append (λ (x : ℕ × Letter Load). plain x.1) left (numbered (Node l.to) (c.sent + 1) t.outs)
-      ∙ ap (λ (xs : List Sent). sent_of left ++ xs) (sent_numbered l.to (c.sent + 1) t.outs)
 
   there : Contains c.letters (number, l)
   there = there_of c number l by is
@@ -132,6 +125,11 @@ module _ (view : List Vault) (asked : Role) (work : ℕ) (g : GraphState) (ms : 
           by_cases true e = absurd (different (eqb-true k number e))
           by_cases false e = refl
 
+  -- once the letter is received, the environment's isn't there
+  pub started_before : IsPendingStart (net_at t (sent_of left) l.to) → ⊥
+  started_before (n, among) =
+      elim (Contains-append_cases (sent_of left) (sent_by l.to t.outs) (start_to n) among) [ inl here ↦ left_no_start n here | inr sent ↦ sent_no_start t.outs n sent ]
+
   takes_out : TakesOut (sent_of c.letters ++ sent_by l.to t.outs) (sent_of left ++ sent_by l.to t.outs) (plain l)
   takes_out = record {
     was = λ y among. elim (Contains-append_cases (sent_of left) (sent_by l.to t.outs) y among) [
@@ -142,23 +140,29 @@ module _ (view : List Vault) (asked : Role) (work : ℕ) (g : GraphState) (ms : 
       | inl here ↦ elim (remains_left y here) [ inl still ↦ inl (Contains-append_left (sent_of left) (sent_by l.to t.outs) y still) | inr same ↦ inr same ]
       | inr sent ↦ inl (Contains-append_right (sent_of left) (sent_by l.to t.outs) y sent)
     ];
-    start = λ _ n among. no_start n among;
+    start = λ _ n among. started_before (n, among);
   }
-    where
-      no_start : (n : ℕ) → Contains (sent_of left ++ sent_by l.to t.outs) (start_to n) → ⊥
-      no_start n among = elim (Contains-append_cases (sent_of left) (sent_by l.to t.outs) (start_to n) among) [ inl here ↦ left_no_start n here | inr sent ↦ sent_no_start t.outs n sent ]
 
-  pub done_kept : Receipt view asked (sent_of c.letters) ordered t l.from l.to l.load → c.sent + length t.outs ≤ work → KeptBy (credentials view) asked work t.graph t.monitors d
-  done_kept receipt within = record {
-    steady = subst (λ (pending : List Sent). IsSteady (credentials view) asked (record { graph = t.graph; monitors = t.monitors; pending = pending })) (sym after_is)
-        (settled (credentials view) asked t.graph t.monitors (sent_of c.letters ++ sent_by l.to t.outs) (sent_of left ++ sent_by l.to t.outs) (plain l) takes_out receipt.received receipt.steady);
-    starts = λ n among.
-        elim (Contains-append_cases (sent_of left) (sent_by l.to t.outs) (start_to n) (subst (λ (xs : List Sent). Contains xs (start_to n)) after_is among)) [
-          | inl here ↦ absurd (left_no_start n here)
-          | inr sent ↦ absurd (sent_no_start t.outs n sent)
-        ];
-    within = subst (λ (k : ℕ). k ≤ work) (sym finishes.sent) within;
-  }
+  module _ (receipt : Receipt view asked (sent_of c.letters) ordered (progress g ms []) t l.from l.to l.load) where
+    pub steady_after : IsSteady (credentials view) asked (net_at t (sent_of left) l.to)
+    steady_after =
+        settled (credentials view) asked t.graph t.monitors (sent_of c.letters ++ sent_by l.to t.outs) (sent_of left ++ sent_by l.to t.outs) (plain l) takes_out receipt.received receipt.steady
+
+    module _ (d : Computation Load) (finishes : FinishesLetter c number t.outs d) where
+      letters_are : d.letters ≡ left ++ numbered (Node l.to) (c.sent + 1) t.outs
+      letters_are = finishes.letters ∙ ap (λ o. left ++ answers (c.sent + 1) o t.outs) is
+
+      pub after_is : sent_of d.letters ≡ sent_of left ++ sent_by l.to t.outs
+      after_is =
+          ap sent_of letters_are ∙ map-append (λ (x : ℕ × Letter Load). plain x.1) left (numbered (Node l.to) (c.sent + 1) t.outs)
+          ∙ ap (λ (xs : List Sent). sent_of left ++ xs) (sent_numbered l.to (c.sent + 1) t.outs)
+
+      pub done_kept : c.sent + length t.outs ≤ work → KeptBy (credentials view) asked work t.graph t.monitors d
+      done_kept within = record {
+        steady = subst (λ (pending : List Sent). IsSteady (credentials view) asked (record { graph = t.graph; monitors = t.monitors; pending = pending })) (sym after_is) steady_after;
+        starts = λ n among. absurd (started_before (n, subst (λ (xs : List Sent). Contains xs (start_to n)) after_is among));
+        within = subst (λ (k : ℕ). k ≤ work) (sym finishes.sent) within;
+      }
 
 -- a letter that is held or waits again says what it said
 sent_marked : (number : ℕ) (held : Bool) (letters : List (ℕ × Letter Load)) → sent_of (map (λ l. cond (l.0 == number) (l.0, record l.1 { held = held }) l) letters) ≡ sent_of letters
@@ -188,3 +192,17 @@ marked_kept {c = c} kept number held = kept_as kept (sent_marked number held c.l
 
 pub signalled_kept : {rows : List Credential} {asked : Role} {work : ℕ} {g : GraphState} {ms : List Monitor} {c d : Computation Load} → KeptBy rows asked work g ms c → (place : ℕ) → DeliversSignal c place d → KeptBy rows asked work g ms d
 signalled_kept kept place delivers = kept_as kept (ap sent_of delivers.letters) (ap length delivers.letters) delivers.sent
+
+-- and so is the count
+tallied_as : {g : GraphState} {ms : List Monitor} {c d : Computation Load} → IsTallied g ms c → sent_of d.letters ≡ sent_of c.letters → d.sent ≡ c.sent → IsTallied g ms d
+tallied_as {g} {ms} {c} {d} tallied sent number = record {
+  first = λ start. number ∙ tallied.first (start.0, subst (λ (xs : List Sent). Contains xs (start_to start.0)) sent start.1);
+  counted = subst (λ (n : ℕ). IsCounted (net_of g ms d) n) (sym number)
+      (subst (λ (pending : List Sent). IsCounted (record { graph = g; monitors = ms; pending = pending }) c.sent) (sym sent) tallied.counted);
+}
+
+pub marked_tallied : {g : GraphState} {ms : List Monitor} {c : Computation Load} → IsTallied g ms c → (number : ℕ) (held : Bool) → IsTallied g ms (marked c number held)
+marked_tallied {c = c} tallied number held = tallied_as tallied (sent_marked number held c.letters) refl
+
+pub signalled_tallied : {g : GraphState} {ms : List Monitor} {c d : Computation Load} → IsTallied g ms c → (place : ℕ) → DeliversSignal c place d → IsTallied g ms d
+signalled_tallied tallied place delivers = tallied_as tallied (ap sent_of delivers.letters) delivers.sent

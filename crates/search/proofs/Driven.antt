@@ -51,7 +51,7 @@ module _ (s held t : SearchState) (number : ℕ) (need : Need) (takes : Takes s 
   receipt_of finished.BadHint (l, other, is, needs, wrong, after) =
       absurd (wrong (ap (λ (x : SearchState). right_hint x.snapshot.vaults need) (sym takes.after) ∙ ap (right_hint held.snapshot.vaults) (sym (same_need l other is needs))))
 
-  taken_question : SameQuestion s held
+  pub taken_question : SameQuestion s held
   taken_question = record {
     query = ap (λ (x : SearchState). x.query) takes.after;
     work = ap (λ (x : SearchState). x.work) takes.after;

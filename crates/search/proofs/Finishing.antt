@@ -1,5 +1,7 @@
 -- The finish of a letter does to a search what its result says, and keeps what a search keeps.
 use Rattle.std.proofs.Common.{ℕ, ◌+◌, ◌<◌, ◌≤◌, ◌≡◌, ◌∙◌, refl, sym, subst, ap, false, List, [], Some, length, get_or}
+use Rattle.names.specs.declared.roles.Role.{Role}
+use Rattle.rt0_rules.specs.Work.{WorkExceeds}
 use Rattle.snapshots.specs.Snapshot.{SnapshotState, IsOrdered}
 use Rattle.cred_graph.specs.GraphState.{GraphState, IsNode}
 use Rattle.credential_text.specs.declared.exprs.Expr.{Expr}
@@ -19,13 +21,15 @@ use Rattle.search.specs.Net.{sent_of}
 use Rattle.search.specs.Answers.{progress, Answers}
 use Rattle.search.specs.Need.{need_of, right_hint}
 use Rattle.search.specs.Stage.{HoldsLetter, letter_in, held_in, if_held, stage_marked, Sends}
-use Rattle.search.specs.Search.{SearchState, SameQuestion, KeptBy, IsKept, asked_role, rows_of}
+use Rattle.search.specs.Search.{SearchState, KeptBy, IsTallied, IsKept, asked_role, rows_of}
 use Rattle.search.specs.Finish.{IsRightly, Finishes}
 use Rattle.search.proofs.Grow.{one_expr}
 use Rattle.search.proofs.Receive.{receipt}
 use Rattle.search.proofs.Closing.{done_kept}
+use Rattle.search.proofs.TalliedFinish.{done_tallied, work_exceeds}
 use Rattle.search.proofs.Searching.{held_awaits}
 use Rattle.search.proofs.Holding.{same_running}
+use Rattle.search.proofs.Ended.{same_question}
 
 -- the letter in hand is the held letter of its number
 pub held_letter_is : (st : Stage) (number : ℕ) (h : Held) → HoldsLetter st number h → held_in st number ≡ Some (letter_in h)
@@ -56,37 +60,61 @@ sent_from old new work number outs finished.Broken (c, ran, within, is) e now = 
 sent_from old new work number outs finished.BadHint sent e now = absurd sent
 sent_from old new work number outs finished.NotHeld sent e now = absurd sent
 
+-- where a search is spent after a letter was finished, what was sent with the answers is above the limit
+spent_from : (old new : Stage) (work number : ℕ) (outs : List (ℕ × Load)) (result : Finished) → Sends old new work number outs result → new ≡ stage.Spent → (c : Computation Load) × (old ≡ stage.Running c) × (work < c.sent + length outs)
+spent_from old new work number outs finished.Done (c, d, ran, runs, within, finishes) now = let clash : stage.Running d ≡ stage.Spent = sym runs ∙ now in cc
+spent_from old new work number outs finished.Spent (c, ran, over, is) now = (c, ran, over)
+spent_from old new work number outs finished.Broken (c, ran, within, is) now = let clash : stage.Broken ≡ stage.Spent = sym is ∙ now in cc
+spent_from old new work number outs finished.BadHint sent now = absurd sent
+spent_from old new work number outs finished.NotHeld sent now = absurd sent
+
 module _ (s : SearchState) (number : ℕ) (hint : Hint) (h : Held) (held : HoldsLetter s.stage number h) (right : IsRightly s number hint (letter_in h))
     (g : GraphState) (ms : List Monitor) (outs : List (ℕ × Load)) (row : Answers s.snapshot.vaults (progress s.graph s.monitors []) (progress g ms outs) h.from h.to h.load) where
   abbrev after : Stage → SearchState
   after st = record s { graph = g; monitors = ms; stage = st }
 
-  same_question : (st : Stage) → SameQuestion s (after st)
-  same_question st = record { query = refl; work = refl; snapshot = refl }
-
   pub sent_finishes : (st : Stage) (result : Finished) → Sends s.stage st s.work number outs result → Finishes s (after st) number hint result
   sent_finishes st finished.Done (c, d, ran, runs, within, finishes) =
-      (letter_in h, right, record { before = c; after = d; outs = outs; ran = ran; runs = runs; finishes = finishes; within = within; row = row }, same_question st)
+      (letter_in h, right, record { before = c; after = d; outs = outs; ran = ran; runs = runs; finishes = finishes; within = within; row = row }, same_question s g ms st)
   sent_finishes st finished.Spent (c, ran, over, is) =
-      (letter_in h, right, record { before = c; reached = progress g ms outs; ran = ran; row = row; over = over }, is, same_question st)
-  sent_finishes st finished.Broken (c, ran, within, is) = (letter_in h, right, is, same_question st)
+      (letter_in h, right, record { before = c; reached = progress g ms outs; ran = ran; row = row; over = over }, is, same_question s g ms st)
+  sent_finishes st finished.Broken (c, ran, within, is) = (letter_in h, right, is, same_question s g ms st)
   sent_finishes st finished.BadHint sent = absurd sent
   sent_finishes st finished.NotHeld sent = absurd sent
 
   module _ (kept : IsKept s) (ordered : IsOrdered s.snapshot.vaults) where
-    kept_done : (c d : Computation Load) → s.stage ≡ stage.Running c → c.sent + length outs ≤ s.work → FinishesLetter c number outs d → KeptBy (rows_of s) (asked_role s.query) s.work g ms d
-    kept_done c d ran within finishes =
-        let same : held.running ≡ c = same_running held.running c (sym held.runs ∙ ran) in
-        let finishes' : FinishesLetter held.running number outs d = subst (λ (x : Computation Load). FinishesLetter x number outs d) (sym same) finishes in
-        let within' : held.running.sent + length outs ≤ s.work = subst (λ (x : Computation Load). x.sent + length outs ≤ s.work) (sym same) within in
-        let kept_now = kept held.running held.runs in
-        let paid = receipt s.snapshot.vaults (asked_role s.query) (sent_of held.running.letters) ordered s.graph s.monitors (progress g ms outs) h.from h.to h.load (held_awaits s kept number h held) row in
-        done_kept s.snapshot.vaults (asked_role s.query) s.work s.graph s.monitors held.running d number (letter_in h) (progress g ms outs) ordered kept_now held.by_number held.letter finishes' paid within'
+    abbrev asked : Role
+    asked = asked_role s.query
+
+    abbrev kept_now : KeptBy (rows_of s) asked s.work s.graph s.monitors held.running
+    kept_now = kept.rules held.running held.runs
+
+    as_held : (c : Computation Load) → s.stage ≡ stage.Running c → c ≡ held.running
+    as_held c ran = sym (same_running held.running c (sym held.runs ∙ ran))
+
+    done_rules : (c d : Computation Load) → s.stage ≡ stage.Running c → c.sent + length outs ≤ s.work → FinishesLetter c number outs d → KeptBy (rows_of s) asked s.work g ms d
+    done_rules c d ran within finishes =
+        let finishes' : FinishesLetter held.running number outs d = subst (λ (x : Computation Load). FinishesLetter x number outs d) (as_held c ran) finishes in
+        let within' : held.running.sent + length outs ≤ s.work = subst (λ (x : Computation Load). x.sent + length outs ≤ s.work) (as_held c ran) within in
+        let paid = receipt s.snapshot.vaults asked (sent_of held.running.letters) ordered s.graph s.monitors (progress g ms outs) h.from h.to h.load (held_awaits s kept.rules number h held) row in
+        done_kept s.snapshot.vaults asked s.work s.graph s.monitors held.running number (letter_in h) (progress g ms outs) ordered kept_now held.by_number held.letter paid d finishes' within'
+
+    done_count : (c d : Computation Load) → s.stage ≡ stage.Running c → FinishesLetter c number outs d → IsTallied g ms d
+    done_count c d ran finishes =
+        let finishes' : FinishesLetter held.running number outs d = subst (λ (x : Computation Load). FinishesLetter x number outs d) (as_held c ran) finishes in
+        done_tallied s.snapshot.vaults asked s.work s.graph s.monitors held.running number (letter_in h) (progress g ms outs) ordered kept_now held.by_number held.letter held.numbers (kept.count held.running held.runs) row d finishes'
+
+    spent_limit : (c : Computation Load) → s.stage ≡ stage.Running c → s.work < c.sent + length outs → WorkExceeds (rows_of s) asked s.work
+    spent_limit c ran over =
+        let over' : s.work < held.running.sent + length outs = subst (λ (x : Computation Load). s.work < x.sent + length outs) (as_held c ran) over in
+        work_exceeds s.snapshot.vaults asked s.work s.graph s.monitors held.running number (letter_in h) (progress g ms outs) ordered kept_now held.by_number held.letter held.numbers (kept.count held.running held.runs) row over'
 
     pub sent_kept : (st : Stage) (result : Finished) → Sends s.stage st s.work number outs result → IsKept (after st)
-    sent_kept st result sends e now =
-        let ran = sent_from s.stage st s.work number outs result sends e now in
-        kept_done ran.before e ran.ran ran.within ran.finishes
+    sent_kept st result sends = record {
+      rules = λ e now. let ran = sent_from s.stage st s.work number outs result sends e now in done_rules ran.before e ran.ran ran.within ran.finishes;
+      count = λ e now. let ran = sent_from s.stage st s.work number outs result sends e now in done_count ran.before e ran.ran ran.finishes;
+      limit = λ now. let ran = spent_from s.stage st s.work number outs result sends now in spent_limit ran.0 ran.1 ran.2;
+    }
 
 -- a hint that isn't right for the need of the letter
 pub wrongly : (s : SearchState) (number : ℕ) (hint : Hint) (h : Held) (view : SnapshotState) (st : Stage) → view ≡ s.snapshot → HoldsLetter s.stage number h → h.to < length s.graph.nodes →

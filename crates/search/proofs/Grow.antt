@@ -63,13 +63,13 @@ letter_fits_stays rows grows (Node m) to (load.Ask p) fits = ask_fits_stays grow
 letter_fits_stays rows grows (Node m) to (load.Tell p who) (listens, solution) =
     (grows.listeners m (record { asker = to; port = p }) listens, solution_stays grows m who solution)
 
-pub by_row_stays : (rows : List Credential) {old new : Net} → Grows old new → (n : ℕ) (why : Reason) → ByRow rows old n why → ByRow rows new n why
+pub by_row_stays : (rows : List Credential) {old new : Net} → Grows old new → (n : ℕ) (why : Reason) → ByRow rows old.graph n why → ByRow rows new.graph n why
 by_row_stays rows grows n reason.Leaf h = h
 by_row_stays rows grows n (reason.Body m) (c, among, head, body) = (c, among, grows.nodes n _ head, grows.nodes m _ body)
 by_row_stays rows grows n (reason.Via b) h = h
 by_row_stays rows grows n reason.Parts h = h
 
-pub solution_fits_stays : {rows : List Credential} {old new : Net} → Grows old new → (s : Solution) → SolutionFits rows old s → SolutionFits rows new s
+pub solution_fits_stays : {rows : List Credential} {old new : Net} → Grows old new → (s : Solution) → SolutionFits rows old.graph s → SolutionFits rows new.graph s
 solution_fits_stays {rows = rows} grows s fits =
     record { expr = fits.expr; node = grows.nodes s.node fits.expr fits.node; derives = fits.derives; by_row = by_row_stays rows grows s.node s.reason fits.by_row }
 
@@ -139,7 +139,7 @@ pub record AddsRightly (rows : List Credential) (asked : Role) (old new : Net) :
   pub fit : MonitorsFit new.graph new.monitors
   pub nodes : (n : ℕ) (e : Expr) → IsNode new.graph n e → IsNode old.graph n e ⊎ Demanded rows asked e
   pub listeners : (n m : ℕ) (p : Port) → HasListener new n m p → HasListener old n m p ⊎ AskFits rows new m p n
-  pub solutions : (s : Solution) → Contains new.graph.solutions s → Contains old.graph.solutions s ⊎ SolutionFits rows new s
+  pub solutions : (s : Solution) → Contains new.graph.solutions s → Contains old.graph.solutions s ⊎ SolutionFits rows new.graph s
   pub letters : (x : Sent) → Contains new.pending x → Contains old.pending x ⊎ LetterFits rows new x.from x.to x.load
   pub parts : (m i : ℕ) (who : List ℕ) → IsPartTold new m i who → IsPartTold old m i who ⊎ PartFits new m i who
 

@@ -3,14 +3,15 @@ use Rattle.std.proofs.Common.{ℕ, ◌≡◌, refl, sym, subst, ap, ◌∙◌, B
 use Rattle.std.specs.Option.{IsSomeAnd}
 use Rattle.scholten_core.specs.declared.letters.Letter.{Letter}
 use Rattle.scholten_core.specs.Computation.{Computation, StandByNumber, letter_of}
+use Rattle.scholten_core.specs.Sound.{IsNumbered}
 use Rattle.search.specs.declared.letters.Load.{Load}
 use Rattle.search.specs.declared.stages.Stage.{Stage}
 use Rattle.search.specs.declared.stages.Stage.TheVariants as stage
 use Rattle.search.specs.Stage.{HoldsLetter}
 
-pub holds_letter : (old : Stage) (c : Computation Load) (number : ℕ) (l : Letter Load) → old ≡ stage.Running c → Some l ≡ letter_of c number → l.held ≡ true → StandByNumber c →
+pub holds_letter : (old : Stage) (c : Computation Load) (number : ℕ) (l : Letter Load) → old ≡ stage.Running c → Some l ≡ letter_of c number → l.held ≡ true → StandByNumber c → IsNumbered 0 c.letters c.sent →
     HoldsLetter old number (record { from = l.from; to = l.to; load = l.load })
-holds_letter old c number l runs is held by =
+holds_letter old c number l runs is held by numbers =
     let as_held : l ≡ record l { held = true } = subst (λ (b : Bool). l ≡ record l { held = b }) held refl in
     record {
       running = c;
@@ -18,6 +19,7 @@ holds_letter old c number l runs is held by =
       letter = sym is ∙ ap Some as_held;
       held = subst (λ (o : Option (Letter Load)). IsSomeAnd o (λ k. IsTrue k.held)) is held;
       by_number = by;
+      numbers = numbers;
     }
 
 pub same_running : (c d : Computation Load) → stage.Running c ≡ stage.Running d → c ≡ d

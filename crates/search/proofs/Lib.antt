@@ -23,6 +23,10 @@ pub mod Counted
 pub mod CountedReceipt
 pub mod CountedSteps
 pub mod WorkOf
+pub mod Tallied
+pub mod TalliedFinish
+pub mod Answered
+pub mod Ended
 pub mod ByNumber
 pub mod InHand
 pub mod StepsLeft

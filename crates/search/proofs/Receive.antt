@@ -20,8 +20,8 @@ use Rattle.search.specs.Net.{Net, Sent, LetterFits, OpenedPaid}
 use Rattle.search.specs.Steady.{IsRight, IsSteady}
 use Rattle.search.specs.Receipt.{Awaits, IsReceived}
 use Rattle.search.specs.Answers.{Progress, progress, net_at, HearsAsk, TakesIn, Opens, IsOpenAt, own_rows, AnswersAsk, Answers}
-use Rattle.search.proofs.Grow.{one_expr, ask_fits_stays}
-use Rattle.search.proofs.Steps.{RowsFor, opens, hears}
+use Rattle.search.proofs.Grow.{Grows, one_expr, ask_fits_stays}
+use Rattle.search.proofs.Steps.{RowsFor, grows_on, opens, hears}
 use Rattle.search.proofs.Taken.{IsTold, takes_in}
 use Rattle.search.proofs.Rows.{role_rows_are}
 
@@ -59,17 +59,19 @@ told_by_letter rows asked g ms rest m to p who awaits =
 
 module _ (view : List Vault) (asked : Role) (rest : List Sent) (ordered : IsOrdered view) where
   -- what was received is paid, and the search is steady
-  pub record Receipt (t : Progress) (from : Parent) (to : ℕ) (l : Load) : Type 0 where
+  pub record Receipt (s t : Progress) (from : Parent) (to : ℕ) (l : Load) : Type 0 where
+    pub grows : Grows (net_at s rest to) (net_at t rest to)
     pub steady : IsSteady (credentials view) asked (net_at t rest to)
     pub received : IsReceived (credentials view) (net_at t rest to) from to l
 
   opens_start : (g : GraphState) (ms : List Monitor) (t : Progress) (to : ℕ) → Awaits (credentials view) asked g ms rest Environment to load.Start →
-      ((e : Expr) → IsNode g to e → Opens (own_rows view e) (progress g ms []) t to e) → Receipt t Environment to load.Start
+      ((e : Expr) → IsNode g to e → Opens (own_rows view e) (progress g ms []) t to e) → Receipt (progress g ms []) t Environment to load.Start
   opens_start g ms t to awaits answers =
       let root : to ≡ 0 = awaited_fits awaits in
       let at : IsNode g to (Rol asked) = subst (λ (n : ℕ). IsNode g n (Rol asked)) (sym root) awaits.steady.right.root_node in
       let done = opens (credentials view) asked rest to (own_rows view (Rol asked)) (progress g ms []) t (Rol asked) at (answers (Rol asked) at) (own_rows_are view (Rol asked) ordered) awaits.steady in
       record {
+        grows = done.moves.grows;
         steady = done.moves.steady;
         received = λ e there.
             let now : IsNode t.graph to (Rol asked) = done.moves.grows.nodes to (Rol asked) at in
@@ -89,26 +91,26 @@ module _ (view : List Vault) (asked : Role) (rest : List Sent) (ordered : IsOrde
       awaits.steady.paid.opened to e at (inl (first.asker, first.port, Contains-get_or (listeners_of g to) 0 (record { asker = 0; port = p }) some))
 
   hears_letter : (g : GraphState) (ms : List Monitor) (t : Progress) (m to : ℕ) (p : Port) → Awaits (credentials view) asked g ms rest (Node m) to (load.Ask p) →
-      AnswersAsk view (progress g ms []) t to m p → Receipt t (Node m) to (load.Ask p)
+      AnswersAsk view (progress g ms []) t to m p → Receipt (progress g ms []) t (Node m) to (load.Ask p)
   hears_letter g ms t m to p awaits (mid, inl (opened, same), heard) =
       let fits = awaited_fits awaits in
       let hears_mid = subst (λ (u : Progress). HearsAsk u t to m p) same heard in
       let done = hears (credentials view) asked rest to (progress g ms []) t m p hears_mid awaits.steady fits (paid_before g ms m to p awaits opened) in
-      record { steady = done.moves.steady; received = done.listener }
+      record { grows = done.moves.grows; steady = done.moves.steady; received = done.listener }
   hears_letter g ms t m to p awaits (mid, inr (closed, opening), heard) =
       let fits = awaited_fits awaits in
       let first = opens (credentials view) asked rest to (own_rows view fits.1) (progress g ms []) mid fits.1 fits.3 (opening fits.1 fits.3) (own_rows_are view fits.1 ordered) awaits.steady in
       let done = hears (credentials view) asked rest to mid t m p heard first.moves.steady (ask_fits_stays first.moves.grows m p to fits)
       (λ e at. subst (OpenedPaid (credentials view) (net_at mid rest to) to) (one_expr mid.graph to fits.1 e (first.moves.grows.nodes to fits.1 fits.3) at) first.paid) in
-      record { steady = done.moves.steady; received = done.listener }
+      record { grows = grows_on first.moves.grows done.moves.grows; steady = done.moves.steady; received = done.listener }
 
   takes_letter : (g : GraphState) (ms : List Monitor) (t : Progress) (m to : ℕ) (p : Port) (who : List ℕ) → (awaits : Awaits (credentials view) asked g ms rest (Node m) to (load.Tell p who)) →
-      TakesIn (progress g ms []) t to m p who → Receipt t (Node m) to (load.Tell p who)
+      TakesIn (progress g ms []) t to m p who → Receipt (progress g ms []) t (Node m) to (load.Tell p who)
   takes_letter g ms t m to p who awaits answers =
       let done = takes_in (credentials view) asked rest to m (progress g ms []) awaits.steady p who t (told_by_letter (credentials view) asked g ms rest m to p who awaits) answers in
-      record { steady = done.moves.steady; received = done.taken }
+      record { grows = done.moves.grows; steady = done.moves.steady; received = done.taken }
 
-  pub receipt : (g : GraphState) (ms : List Monitor) (t : Progress) (from : Parent) (to : ℕ) (l : Load) → Awaits (credentials view) asked g ms rest from to l → Answers view (progress g ms []) t from to l → Receipt t from to l
+  pub receipt : (g : GraphState) (ms : List Monitor) (t : Progress) (from : Parent) (to : ℕ) (l : Load) → Awaits (credentials view) asked g ms rest from to l → Answers view (progress g ms []) t from to l → Receipt (progress g ms []) t from to l
   receipt g ms t Neutral to load.Start awaits answers = absurd answers
   receipt g ms t Neutral to (load.Ask p) awaits answers = absurd answers
   receipt g ms t Neutral to (load.Tell p who) awaits answers = absurd answers

@@ -3,16 +3,23 @@ use Rattle.std.proofs.Common.{◌+◌, ◌≡◌, ◌∙◌, ◌⊎◌, inl, inr
 use Rattle.std.specs.declared.cmp.Ordering.{Ordering}
 use Rattle.std.specs.declared.cmp.Ordering.TheVariants.{Less, Equal, Greater}
 use Rattle.std.specs.Ordering.{is_eq, is_lt, is_le}
-use Rattle.std.proofs.lemmas.List.Elements.{All-contains, Contains-append_left, Contains-append_right, Contains-append_cases}
+use Rattle.std.specs.List.Sorted.{IsStrictlySortedBy}
+use Rattle.std.proofs.lemmas.Map.Keys.{sorted_head, sorted_tail}
+use Rattle.std.proofs.lemmas.List.Elements.{All-contains, All-from_recursion, Contains-append_left, Contains-append_right, Contains-append_cases}
 use Rattle.names.specs.declared.roles.Role.{Role}
 use Rattle.names.specs.Role.{role_order}
 use Rattle.names.proofs.OrderLemmas.{names_in_order, roles_in_order}
 use Rattle.credential_text.specs.declared.credentials.Credential.{Credential}
+use Rattle.credential_text.specs.Credential.{credential_order}
+use Rattle.credential_text.proofs.OrderLemmas.{credentials_in_order}
+use Rattle.rt0_rules.specs.Work.{AreDistinct}
 use Rattle.rt0_rules.proofs.Elements.{Contains-none, Contains-first, Contains-later, Contains-cons_cases}
-use Rattle.rt0_rules.proofs.Distinct.{filtered, kept_by}
+use Rattle.rt0_rules.proofs.Distinct.{filtered, kept_by, AreDistinct-filter}
 use Rattle.vaults.specs.Journal.{Vault, credentials}
 use Rattle.snapshots.specs.Snapshot.{IsOrdered}
 use Rattle.snapshots.specs.Span.{is_owned, is_row, is_before, is_through, rows_of, role_rows, span_of}
+use Rattle.snapshots.proofs.Views.{sorted_rows_of}
+use Rattle.search.specs.Laws.{AreRowsOfOne}
 use Rattle.search.proofs.Steps.{AreRowsOf}
 
 is_eq_Equal : (o : Ordering) → is_eq o ≡ true → o ≡ Equal
@@ -62,6 +69,26 @@ role_rows_are view r ordered c = (from, to)
         let owned : is_owned r.owner held.vault ≡ true = ap is_eq ((names_in_order.tied held.vault.owner r.owner).1 owner) in
         let row : is_row r c ≡ true = ap is_eq ((roles_in_order.tied c.head r).1 head) in
         kept_by (is_row r) (rows_of view r.owner) c (in_credentials (filter (is_owned r.owner) view) held.vault c (kept_by (is_owned r.owner) view held.vault held.there owned) held.among) row
+
+-- what stands in order stands once
+once_in_order : (cs : List Credential) → IsStrictlySortedBy credential_order cs → AreDistinct cs
+once_in_order [] sorted = tt
+once_in_order (c ∷ cs) sorted = (
+  λ has.
+      let later : Less ≡ credential_order c c =
+      sym (All-contains (λ d. credential_order c d ≡ Less) cs c (All-from_recursion (λ d. credential_order c d ≡ Less) cs (sorted_head credential_order c cs sorted)) has) in
+      let itself : credential_order c c ≡ Equal = (credentials_in_order.tied c c).1 refl in
+      let clash : Less ≡ Equal = later ∙ itself in
+      cc,
+  once_in_order cs (sorted_tail credential_order c cs sorted),
+)
+
+-- the rows of a role stand once each
+pub role_rows_once : (view : List Vault) (r : Role) → IsOrdered view → AreRowsOfOne (role_rows view r)
+role_rows_once view r ordered = (
+  AreDistinct-filter (is_row r) (rows_of view r.owner) (once_in_order (rows_of view r.owner) (sorted_rows_of r.owner view ordered)),
+  λ c d has_c has_d. ((role_rows_are view r ordered c).0 has_c).1 ∙ sym ((role_rows_are view r ordered d).0 has_d).1,
+)
 
 -- a role's rows are those through the last of them, less those before the first
 row_cases : (o : Ordering) → ((is_lt o ≡ true) × ((is_eq o ≡ false) × (is_le o ≡ true))) ⊎ (((is_lt o ≡ false) × ((is_eq o ≡ true) × (is_le o ≡ true))) ⊎ ((is_lt o ≡ false) × ((is_eq o ≡ false) × (is_le o ≡ false))))

@@ -25,21 +25,18 @@ use Rattle.search.specs.declared.letters.Load.TheVariants as load
 use Rattle.search.specs.declared.letters.Held.{Held}
 use Rattle.search.specs.declared.findings.Monitor.{Monitor}
 use Rattle.search.specs.declared.findings.Monitor.TheVariants as monitor
-use Rattle.search.specs.declared.queries.Query.{Query}
-use Rattle.search.specs.declared.queries.Query.TheVariants as query
-use Rattle.search.specs.declared.outcomes.Status.{Status}
-use Rattle.search.specs.declared.outcomes.Status.TheVariants as status
 use Rattle.search.specs.declared.stages.Stage.{Stage}
 use Rattle.search.specs.declared.stages.Stage.TheVariants as stage
 use Rattle.search.specs.Net.{Net, Sent, plain, sent_of, IsPendingBetween, IsOpen, LetterFits}
-use Rattle.search.specs.Steady.{IsRight, IsPaid, OwesRules}
+use Rattle.search.specs.Steady.{IsRight, IsPaid, IsJustified, OwesRules}
 use Rattle.search.specs.Receipt.{Awaits}
 use Rattle.search.specs.Stage.{HoldsLetter, Holds, letter_in, stage_marked, waiting_in, Delivers}
-use Rattle.search.specs.Search.{SearchState, KeptBy, IsKept, IsCompleted, asked_role, rows_of, net_of}
-use Rattle.search.specs.Finish.{AnswerIs, StatusIs, IsRightStatus}
+use Rattle.search.specs.Counted.{MayAsk}
+use Rattle.search.specs.Search.{SearchState, KeptBy, IsTallied, KeepsRules, KeepsCount, KeepsLimit, IsKept, IsCompleted, asked_role, rows_of, net_of}
 use Rattle.search.proofs.Owed.{owes_rules}
 use Rattle.search.proofs.Solve.{solution_of_member, member_of_solution}
-use Rattle.search.proofs.Closing.{awaits_letter, marked_kept, signalled_kept}
+use Rattle.search.proofs.Closing.{awaits_letter, marked_kept, signalled_kept, marked_tallied, signalled_tallied}
+use Rattle.search.proofs.WorkOf.{opened_counted}
 use Rattle.search.proofs.Receive.{receiver_in}
 use Rattle.search.proofs.Holding.{same_running}
 
@@ -105,23 +102,62 @@ module _ (rows : List Credential) (role : Role) where
     within = omega arith;
   }
 
-pub opened_kept : (s : SearchState) → s.graph ≡ first_graph (asked_role s.query) → s.monitors ≡ monitor.Plain ∷ [] → s.stage ≡ stage.Running (started 0 load.Start) → 0 < s.work → IsGraph s.graph → IsKept s
-opened_kept s g_is ms_is stage_is some graph c runs =
+opened_rules : (s : SearchState) → s.graph ≡ first_graph (asked_role s.query) → s.monitors ≡ monitor.Plain ∷ [] → s.stage ≡ stage.Running (started 0 load.Start) → 0 < s.work → IsGraph s.graph → KeepsRules s
+opened_rules s g_is ms_is stage_is some graph c runs =
     let c_is : started 0 load.Start ≡ c = same_running (started 0 load.Start) c (sym stage_is ∙ runs) in
     let kept = first_kept (rows_of s) (asked_role s.query) s.work some (subst IsGraph g_is graph) in
     subst (KeptBy (rows_of s) (asked_role s.query) s.work s.graph s.monitors) c_is
     (subst (λ (ms : List Monitor). KeptBy (rows_of s) (asked_role s.query) s.work s.graph ms (started 0 load.Start)) (sym ms_is)
     (subst (λ (g : GraphState). KeptBy (rows_of s) (asked_role s.query) s.work g (monitor.Plain ∷ []) (started 0 load.Start)) (sym g_is) kept))
 
+-- one letter was sent
+opened_count : (s : SearchState) → s.graph ≡ first_graph (asked_role s.query) → s.stage ≡ stage.Running (started 0 load.Start) → KeepsCount s
+opened_count s g_is stage_is c runs =
+    subst (IsTallied s.graph s.monitors) (same_running (started 0 load.Start) c (sym stage_is ∙ runs)) (record {
+      first = λ start. refl;
+      counted = opened_counted (MayAsk (net_of s.graph s.monitors (started 0 load.Start))) s.graph (record { from = Environment; to = 0; load = load.Start }) (ap (λ (g : GraphState). g.listeners) g_is) refl;
+    })
+
+-- a search that runs or is broken isn't spent
+runs_unspent : (st : Stage) (c : Computation Load) → st ≡ stage.Running c → st ≡ stage.Spent → ⊥
+runs_unspent st c runs spent = let clash : stage.Running c ≡ stage.Spent = sym runs ∙ spent in cc
+
+pub opened_kept : (s : SearchState) → s.graph ≡ first_graph (asked_role s.query) → s.monitors ≡ monitor.Plain ∷ [] → s.stage ≡ stage.Running (started 0 load.Start) → 0 < s.work → IsGraph s.graph → IsKept s
+opened_kept s g_is ms_is stage_is some graph = record {
+  rules = opened_rules s g_is ms_is stage_is some graph;
+  count = opened_count s g_is stage_is;
+  limit = λ spent. absurd (runs_unspent s.stage (started 0 load.Start) stage_is spent);
+}
+
+pub broken_kept : (s : SearchState) → s.stage ≡ stage.Broken → IsKept s
+broken_kept s broken = record {
+  rules = λ c runs. absurd (apart c (sym broken ∙ runs));
+  count = λ c runs. absurd (apart c (sym broken ∙ runs));
+  limit = λ spent. absurd (other (sym broken ∙ spent));
+}
+  where
+    apart : (c : Computation Load) → stage.Broken ≡ stage.Running c → ⊥
+    apart c e = cc
+
+    other : stage.Broken ≡ stage.Spent → ⊥
+    other e = cc
+
 -- a held letter is awaited
-pub held_awaits : (s : SearchState) → IsKept s → (number : ℕ) (h : Held) → (held : HoldsLetter s.stage number h) → Awaits (rows_of s) (asked_role s.query) s.graph s.monitors (sent_of held.running.letters) h.from h.to h.load
+pub held_awaits : (s : SearchState) → KeepsRules s → (number : ℕ) (h : Held) → (held : HoldsLetter s.stage number h) → Awaits (rows_of s) (asked_role s.query) s.graph s.monitors (sent_of held.running.letters) h.from h.to h.load
 held_awaits s kept number h held = awaits_letter (kept held.running held.runs) held.by_number number (letter_in h) held.letter
 
 module _ (rows : List Credential) (role : Role) (work : ℕ) (g : GraphState) (ms : List Monitor) (c : Computation Load) (kept : KeptBy rows role work g ms c) where
   pub rules_owed : OwesRules rows role (net_of g ms c)
   rules_owed = owes_rules rows role (net_of g ms c) kept.steady.right kept.steady.paid
 
-  no_letters : outstanding c ≡ 0 → sent_of c.letters ≡ []
+  pub justified : IsJustified rows role g
+  justified = record {
+    graph = kept.steady.right.graph;
+    root_node = kept.steady.right.root_node;
+    solutions_fit = kept.steady.right.solutions_fit;
+  }
+
+  pub no_letters : outstanding c ≡ 0 → sent_of c.letters ≡ []
   no_letters none = none_sent c.letters (omega arith)
     where
       none_sent : (letters : List (ℕ × Letter Load)) → length letters ≡ 0 → sent_of letters ≡ []
@@ -138,36 +174,15 @@ module _ (rows : List Credential) (role : Role) (work : ℕ) (g : GraphState) (m
       nothing_between e f (m, n, node_e, node_f, (l, inl there)) = no_letter none _ there
       nothing_between e f (m, n, node_e, node_f, (l, inr back)) = no_letter none _ back
 
-  member_found : (who : List ℕ) → outstanding c ≡ 0 → IsMember rows who role → IsSolution g 0 who
+  pub member_found : (who : List ℕ) → outstanding c ≡ 0 → IsMember rows who role → IsSolution g 0 who
   member_found who none member =
       let known = (completed_exact none who (Rol role) asked_itself).1 member in
       subst (λ (n : ℕ). IsSolution g n who) (kept.steady.right.graph.one_node known.0 0 (Rol role) known.1 kept.steady.right.root_node) known.2
 
-  found_member : (who : List ℕ) → outstanding c ≡ 0 → IsSolution g 0 who → IsMember rows who role
+  pub found_member : (who : List ℕ) → outstanding c ≡ 0 → IsSolution g 0 who → IsMember rows who role
   found_member who none found = (completed_exact none who (Rol role) asked_itself).0 (0, kept.steady.right.root_node, found)
 
-  pub answer_true : outstanding c ≡ 0 → (q : Query) (result : Status) → asked_role q ≡ role → AnswerIs g q result → IsRightStatus rows q result
-  answer_true none (query.Ask asked who) status.Yes same is = subst (λ (r : Role). IsMember rows who r) (sym same) (found_member who none is)
-  answer_true none (query.Ask asked who) status.No same is = λ member. is (member_found who none (subst (λ (r : Role). IsMember rows who r) same member))
-  answer_true none (query.Ask asked who) status.Working same is = absurd is
-  answer_true none (query.Ask asked who) status.Members same is = absurd is
-  answer_true none (query.Ask asked who) status.Spent same is = absurd is
-  answer_true none (query.Ask asked who) status.Broken same is = absurd is
-  answer_true none (query.Who asked) status.Members same is = tt
-  answer_true none (query.Who asked) status.Yes same is = absurd is
-  answer_true none (query.Who asked) status.No same is = absurd is
-  answer_true none (query.Who asked) status.Working same is = absurd is
-  answer_true none (query.Who asked) status.Spent same is = absurd is
-  answer_true none (query.Who asked) status.Broken same is = absurd is
-
-pub status_true : (s : SearchState) (st : Stage) (result : Status) → s.stage ≡ st → IsKept s → StatusIs st s.graph s.query result → IsCompleted st → IsRightStatus (rows_of s) s.query result
-status_true s (stage.Running c) result runs kept (inl (done, sound, is)) completed =
-    answer_true (rows_of s) (asked_role s.query) s.work s.graph s.monitors c (kept c runs) done s.query result refl is
-status_true s (stage.Running c) result runs kept (inr (busy, is)) completed = absurd (busy completed)
-status_true s stage.Spent result runs kept is completed = absurd completed
-status_true s stage.Broken result runs kept is completed = absurd completed
-
-pub status_exact : (s : SearchState) (st : Stage) → s.stage ≡ st → IsKept s → IsCompleted st → IsExact (rows_of s) (asked_role s.query) (Known s.graph)
+pub status_exact : (s : SearchState) (st : Stage) → s.stage ≡ st → KeepsRules s → IsCompleted st → IsExact (rows_of s) (asked_role s.query) (Known s.graph)
 status_exact s (stage.Running c) runs kept completed = completed_exact (rows_of s) (asked_role s.query) s.work s.graph s.monitors c (kept c runs) completed
 status_exact s stage.Spent runs kept completed = absurd completed
 status_exact s stage.Broken runs kept completed = absurd completed
@@ -178,22 +193,55 @@ marked_from number held (stage.Running c) d e = (c, refl, same_running (marked c
 marked_from number held stage.Spent d e = cc
 marked_from number held stage.Broken d e = cc
 
-pub marked_stage_kept : (s : SearchState) (st : Stage) (number : ℕ) (held : Bool) → IsKept s → st ≡ stage_marked number held s.stage → IsKept (record s { stage = st })
-marked_stage_kept s st number held kept is d now =
+marked_rules : (s : SearchState) (st : Stage) (number : ℕ) (held : Bool) → KeepsRules s → st ≡ stage_marked number held s.stage → KeepsRules (record s { stage = st })
+marked_rules s st number held kept is d now =
     let from = marked_from number held s.stage d (sym is ∙ now) in
     subst (KeptBy (rows_of s) (asked_role s.query) s.work s.graph s.monitors) from.2 (marked_kept (kept from.0 from.1) number held)
+
+marked_count : (s : SearchState) (st : Stage) (number : ℕ) (held : Bool) → KeepsCount s → st ≡ stage_marked number held s.stage → KeepsCount (record s { stage = st })
+marked_count s st number held count is d now =
+    let from = marked_from number held s.stage d (sym is ∙ now) in
+    subst (IsTallied s.graph s.monitors) from.2 (marked_tallied (count from.0 from.1) number held)
+
+spent_before : (number : ℕ) (held : Bool) (st : Stage) → stage_marked number held st ≡ stage.Spent → st ≡ stage.Spent
+spent_before number held (stage.Running c) e = cc
+spent_before number held stage.Spent e = refl
+spent_before number held stage.Broken e = cc
+
+pub marked_stage_kept : (s : SearchState) (st : Stage) (number : ℕ) (held : Bool) → IsKept s → st ≡ stage_marked number held s.stage → IsKept (record s { stage = st })
+marked_stage_kept s st number held kept is = record {
+  rules = marked_rules s st number held kept.rules is;
+  count = marked_count s st number held kept.count is;
+  limit = λ spent. kept.limit (spent_before number held s.stage (sym is ∙ spent));
+}
 
 pub marked_view : (s t : SearchState) (st : Stage) (number : ℕ) (held : Bool) → s ≡ t → st ≡ stage_marked number held s.stage → record s { stage = st } ≡ record t { stage = stage_marked number held t.stage }
 marked_view s t st number held same is =
     subst (λ (x : SearchState). record s { stage = st } ≡ record x { stage = stage_marked number held x.stage }) same (ap (λ (y : Stage). record s { stage = y }) is)
 
-pub delivered_kept : (s : SearchState) (st : Stage) (place : ℕ) (b : Bool) → IsKept s → Delivers s.stage st place b → IsKept (record s { stage = st })
-delivered_kept s st place true kept (c, d, ran, runs, below, delivers) e now =
+delivered_rules : (s : SearchState) (st : Stage) (place : ℕ) (b : Bool) → KeepsRules s → Delivers s.stage st place b → KeepsRules (record s { stage = st })
+delivered_rules s st place true kept (c, d, ran, runs, below, delivers) e now =
     subst (KeptBy (rows_of s) (asked_role s.query) s.work s.graph s.monitors) (same_running d e (sym runs ∙ now)) (signalled_kept (kept c ran) place delivers)
-delivered_kept s st place false kept (past, same) e now = kept e (sym same ∙ now)
+delivered_rules s st place false kept (past, same) e now = kept e (sym same ∙ now)
+
+delivered_count : (s : SearchState) (st : Stage) (place : ℕ) (b : Bool) → KeepsCount s → Delivers s.stage st place b → KeepsCount (record s { stage = st })
+delivered_count s st place true count (c, d, ran, runs, below, delivers) e now =
+    subst (IsTallied s.graph s.monitors) (same_running d e (sym runs ∙ now)) (signalled_tallied (count c ran) place delivers)
+delivered_count s st place false count (past, same) e now = count e (sym same ∙ now)
+
+delivered_limit : (s : SearchState) (st : Stage) (place : ℕ) (b : Bool) → KeepsLimit s → Delivers s.stage st place b → KeepsLimit (record s { stage = st })
+delivered_limit s st place true limit (c, d, ran, runs, below, delivers) spent = absurd (runs_unspent st d runs spent)
+delivered_limit s st place false limit (past, same) spent = limit (sym same ∙ spent)
+
+pub delivered_kept : (s : SearchState) (st : Stage) (place : ℕ) (b : Bool) → IsKept s → Delivers s.stage st place b → IsKept (record s { stage = st })
+delivered_kept s st place b kept delivers = record {
+  rules = delivered_rules s st place b kept.rules delivers;
+  count = delivered_count s st place b kept.count delivers;
+  limit = delivered_limit s st place b kept.limit delivers;
+}
 
 -- a letter that waits goes to a node
-waiting_to : (s : SearchState) (st : Stage) (place number : ℕ) (l : Letter Load) → IsKept s → s.stage ≡ st → slice_get (waiting_in st) place ≡ Some (number, l) → l.to < length s.graph.nodes
+waiting_to : (s : SearchState) (st : Stage) (place number : ℕ) (l : Letter Load) → KeepsRules s → s.stage ≡ st → slice_get (waiting_in st) place ≡ Some (number, l) → l.to < length s.graph.nodes
 waiting_to s (stage.Running c) place number l kept runs at =
     let kept_now = kept c runs in
     let among = (filtered (λ (x : ℕ × Letter Load). not x.1.held) c.letters (number, l) (Contains-at_place (waiting c) place (number, l) at)).0 in
@@ -202,17 +250,17 @@ waiting_to s (stage.Running c) place number l kept runs at =
 waiting_to s stage.Spent place number l kept runs at = cc
 waiting_to s stage.Broken place number l kept runs at = cc
 
-pub taken_to : (s : SearchState) (st : Stage) (place number : ℕ) (h : Held) → IsKept s → Holds s.stage st place number h → h.to < length s.graph.nodes
+pub taken_to : (s : SearchState) (st : Stage) (place number : ℕ) (h : Held) → KeepsRules s → Holds s.stage st place number h → h.to < length s.graph.nodes
 taken_to s st place number h kept holds =
     subst (λ (n : ℕ). n < length s.graph.nodes) (ap (λ (l : Letter Load). l.to) holds.taken) (waiting_to s s.stage place number holds.letter kept refl holds.waited)
 
 -- a completed search has a node for its role, whose solutions are its members
-pub completed_root : (s : SearchState) (st : Stage) → s.stage ≡ st → IsKept s → IsCompleted st → 0 < length s.graph.nodes
+pub completed_root : (s : SearchState) (st : Stage) → s.stage ≡ st → KeepsRules s → IsCompleted st → 0 < length s.graph.nodes
 completed_root s (stage.Running c) runs kept completed = slice_get_within s.graph.nodes 0 (Rol (asked_role s.query)) (kept c runs).steady.right.root_node
 completed_root s stage.Spent runs kept completed = absurd completed
 completed_root s stage.Broken runs kept completed = absurd completed
 
-pub completed_members : (s : SearchState) (st : Stage) → s.stage ≡ st → IsKept s → IsCompleted st → (d : List ℕ) → Contains (members_of s.graph 0) d ↔ IsMember (rows_of s) d (asked_role s.query)
+pub completed_members : (s : SearchState) (st : Stage) → s.stage ≡ st → KeepsRules s → IsCompleted st → (d : List ℕ) → Contains (members_of s.graph 0) d ↔ IsMember (rows_of s) d (asked_role s.query)
 completed_members s (stage.Running c) runs kept completed d = (
   λ among. found_member (rows_of s) (asked_role s.query) s.work s.graph s.monitors c (kept c runs) d completed (solution_of_member s.graph 0 d among),
   λ member. member_of_solution s.graph 0 d (member_found (rows_of s) (asked_role s.query) s.work s.graph s.monitors c (kept c runs) d completed member),

@@ -99,8 +99,7 @@ module _ (rows : List Credential) (asked : Role) (g : GraphState) (ms : List Mon
       root_node = steady.right.root_node;
       demanded = steady.right.demanded;
       listeners_fit = steady.right.listeners_fit;
-      solutions_fit = λ s stands. let fits = steady.right.solutions_fit s stands in
-          record { expr = fits.expr; node = fits.node; derives = fits.derives; by_row = fits.by_row };
+      solutions_fit = steady.right.solutions_fit;
       letters_fit = λ y stands. steady.right.letters_fit y (takes.was y stands);
       parts_fit = λ m i who told. let fits = steady.right.parts_fit m i who told in
           record { parts = fits.parts; part = fits.part; node = fits.node; at = fits.at; known = fits.known };

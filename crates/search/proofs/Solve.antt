@@ -79,7 +79,7 @@ module _ (rows : List Credential) (asked : Role) (g : GraphState) (ms : List Mon
         pending_new rest node outs (new_tells g node who) (record { from = Node node; to = m; load = load.Tell p who })
         (Contains-map out_sent (new_tells g node who) (m, load.Tell p who) (Contains-map tell_of (listeners_of g node) (record { asker = m; port = p }) listens))
 
-    pub solve_steady : IsSteady rows asked old → (IsSolution g node who → ⊥) → Fits g node who why → SolutionFits rows old solution → IsSteady rows asked solved
+    pub solve_steady : IsSteady rows asked old → (IsSolution g node who → ⊥) → Fits g node who why → SolutionFits rows g solution → IsSteady rows asked solved
     solve_steady steady absent fits right =
         steady_grown solve_grows steady (record {
           graph = graph_with_solution g solution steady.right.graph absent fits;
@@ -88,7 +88,7 @@ module _ (rows : List Credential) (asked : Role) (g : GraphState) (ms : List Mon
           listeners = λ n m p listens. inl listens;
           solutions = λ s stands. elim (Contains-push_cases g.solutions solution s stands) [
             | inl before ↦ inl before
-            | inr same ↦ inr (subst (SolutionFits rows solved) same (solution_fits_stays solve_grows solution right))
+            | inr same ↦ inr (subst (SolutionFits rows solved.graph) same (solution_fits_stays solve_grows solution right))
           ];
           letters = λ x stands. elim (pending_cases rest node outs (new_tells g node who) x stands) [
             | inl before ↦ inl before

@@ -204,7 +204,7 @@ module _ (rows : List Credential) (asked : Role) (rest : List Sent) (node : ℕ)
     pub solution : IsSolution t.graph node who
 
   pub solves : (s t : Progress) (who : List ℕ) (why : Reason) → Solves s t node who why → IsSteady rows asked (net_at s rest node) → Fits s.graph node who why →
-      SolutionFits rows (net_at s rest node) (record { node = node; who = who; reason = why }) → Solved s t who
+      SolutionFits rows s.graph (record { node = node; who = who; reason = why }) → Solved s t who
   solves s t who why (monitors, inl (there, graph, outs)) steady fits right =
       let same = progress_is t s.graph s.monitors s.outs graph monitors outs in
       record { moves = stays s t steady same; solution = subst (λ (g : GraphState). IsSolution g node who) (sym graph) there }

@@ -91,7 +91,7 @@ module _ (rows : List Credential) (asked : Role) (rest : List Sent) (node m : �
   -- told on a body
   pub record BodyTold (who : List ℕ) : Type 0 where
     pub fits : Fits s.graph node who (reason.Body m)
-    pub right : SolutionFits rows net (record { node = node; who = who; reason = reason.Body m })
+    pub right : SolutionFits rows s.graph (record { node = node; who = who; reason = reason.Body m })
 
   pub body_told : (who : List ℕ) → IsTold port.Body who → BodyTold who
   body_told who told = by told.asks.0 told.asks.1 told.asks.2 told.asks.3 (why_ask told.asks.4)
@@ -110,7 +110,7 @@ module _ (rows : List Credential) (asked : Role) (rest : List Sent) (node m : �
   -- told by way of a member of the base
   pub record ViaTold (b who : List ℕ) : Type 0 where
     pub fits : Fits s.graph node who (reason.Via b)
-    pub right : SolutionFits rows net (record { node = node; who = who; reason = reason.Via b })
+    pub right : SolutionFits rows s.graph (record { node = node; who = who; reason = reason.Via b })
 
   pub via_told : (b who : List ℕ) → IsTold (port.Via b) who → ViaTold b who
   via_told b who told = by b told.asks.0 told.asks.1 told.asks.2 told.asks.3 (why_ask told.asks.4)

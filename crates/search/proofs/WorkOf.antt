@@ -98,7 +98,7 @@ solution_is g n d (why, stands) =
 module _ {rows : List Credential} {asked : Role} {net : Net} (right : IsRight rows asked net) where
   known_derives : (d : List ℕ) (r : Expr) → Known net.graph d r → Derives rows d r
   known_derives d r (n, node, (why, stands)) =
-      let fits : SolutionFits rows net (record { node = n; who = d; reason = why }) = right.solutions_fit (record { node = n; who = d; reason = why }) stands in
+      let fits : SolutionFits rows net.graph (record { node = n; who = d; reason = why }) = right.solutions_fit (record { node = n; who = d; reason = why }) stands in
       let same : fits.expr ≡ r = cc in
       subst (Derives rows d) same fits.derives
 
@@ -132,7 +132,7 @@ module _ {rows : List Credential} {asked : Role} {net : Net} (right : IsRight ro
     members_distinct = λ n. members_apart net.graph.solutions n right.graph.one_solution;
     members_right = λ n d has.
         let (s, stands, node, who) = member_is net.graph n d has in
-        let fits : SolutionFits rows net s = right.solutions_fit s stands in
+        let fits : SolutionFits rows net.graph s = right.solutions_fit s stands in
         (fits.expr, subst (λ k. IsNode net.graph k fits.expr) node fits.node, subst (λ w. Derives rows w fits.expr) who fits.derives);
   }
 

@@ -1,51 +1,20 @@
 -- What the calls of a search do to it.
-use Rattle.std.specs.Prelude.{ℕ, ◌+◌, ◌<◌, ◌≤◌, true, false, List, [], ◌≡◌, ◌⊎◌, Some, None, length, slice_get}
+use Rattle.std.specs.Prelude.{ℕ, ◌+◌, ◌<◌, ◌≤◌, true, false, List, [], ◌≡◌, Some, None, length, slice_get}
 use Rattle.credential_text.specs.declared.exprs.Expr.{Expr}
-use Rattle.rt0_rules.specs.Membership.{IsMember}
-use Rattle.credential_text.specs.declared.credentials.Credential.{Credential}
-use Rattle.cred_graph.specs.GraphState.{GraphState, IsNode, IsSolution}
+use Rattle.cred_graph.specs.GraphState.{IsNode}
 use Rattle.scholten_core.specs.declared.letters.Letter.{Letter}
-use Rattle.scholten_core.specs.Computation.{Computation, outstanding}
-use Rattle.scholten_core.specs.Sound.{IsSound}
+use Rattle.scholten_core.specs.Computation.{Computation}
 use Rattle.scholten_core.specs.Call.{FinishesLetter}
 use Rattle.search.specs.declared.letters.Load.{Load}
-use Rattle.search.specs.declared.queries.Query.{Query}
-use Rattle.search.specs.declared.queries.Query.TheVariants as query
 use Rattle.search.specs.declared.queries.Need.{Need}
 use Rattle.search.specs.declared.queries.Hint.{Hint}
-use Rattle.search.specs.declared.outcomes.Status.{Status}
-use Rattle.search.specs.declared.outcomes.Status.TheVariants as status
 use Rattle.search.specs.declared.outcomes.Finished.{Finished}
 use Rattle.search.specs.declared.outcomes.Finished.TheVariants as finished
-use Rattle.search.specs.declared.stages.Stage.{Stage}
 use Rattle.search.specs.declared.stages.Stage.TheVariants as stage
 use Rattle.search.specs.Answers.{Progress, progress, Answers}
 use Rattle.search.specs.Need.{need_of, right_hint}
 use Rattle.search.specs.Stage.{waiting_in, held_in, stage_marked}
 use Rattle.search.specs.Search.{SearchState, SameQuestion}
-
--- the answer that the rules give
-abbrev pub IsRightStatus : List Credential → Query → Status → Type 0
-IsRightStatus C (query.Ask role who) status.Yes = IsMember C who role
-IsRightStatus C (query.Ask role who) status.No = IsMember C who role → ⊥
-IsRightStatus C (query.Ask role who) _ = ⊥
-IsRightStatus C (query.Who role) status.Members = Unit {0}
-IsRightStatus C (query.Who role) _ = ⊥
-
--- the answer of a completed search, by what it found of the asked role's node
-abbrev pub AnswerIs : GraphState → Query → Status → Type 0
-AnswerIs g (query.Ask role who) status.Yes = IsSolution g 0 who
-AnswerIs g (query.Ask role who) status.No = IsSolution g 0 who → ⊥
-AnswerIs g (query.Ask role who) _ = ⊥
-AnswerIs g (query.Who role) status.Members = Unit {0}
-AnswerIs g (query.Who role) _ = ⊥
-
--- what a search has come to, by where it stands
-abbrev pub StatusIs : Stage → GraphState → Query → Status → Type 0
-StatusIs (stage.Running c) g q result =
-    ((outstanding c ≡ 0) × IsSound c × AnswerIs g q result) ⊎ ((outstanding c ≡ 0 → ⊥) × (result ≡ status.Working))
-StatusIs stage.Spent g q result = result ≡ status.Spent
-StatusIs stage.Broken g q result = result ≡ status.Broken
 
 -- the letter needs this to be finished
 abbrev pub Needs : SearchState → Letter Load → Need → Type 0

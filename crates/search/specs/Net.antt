@@ -103,18 +103,18 @@ LetterFits rows net (Node n) to (load.Tell p who) = HasListener net n to p × Is
 LetterFits rows net _ to _ = ⊥
 
 -- a role's solution by the body at m is by a credential with that body
-abbrev pub ByRow : List Credential → Net → ℕ → Reason → Type 0
-ByRow rows net n reason.Leaf = Unit {0}
-ByRow rows net n (reason.Body m) = (c : Credential) × Contains rows c × IsNode net.graph n (Rol c.head) × IsNode net.graph m c.body
-ByRow rows net n (reason.Via b) = Unit {0}
-ByRow rows net n reason.Parts = Unit {0}
+abbrev pub ByRow : List Credential → GraphState → ℕ → Reason → Type 0
+ByRow rows g n reason.Leaf = Unit {0}
+ByRow rows g n (reason.Body m) = (c : Credential) × Contains rows c × IsNode g n (Rol c.head) × IsNode g m c.body
+ByRow rows g n (reason.Via b) = Unit {0}
+ByRow rows g n reason.Parts = Unit {0}
 
 -- a solution is derivable, and by a row where a body gave it
-pub record SolutionFits (rows : List Credential) (net : Net) (s : Solution) : Type 0 where
+pub record SolutionFits (rows : List Credential) (g : GraphState) (s : Solution) : Type 0 where
   pub expr : Expr
-  pub node : IsNode net.graph s.node expr
+  pub node : IsNode g s.node expr
   pub derives : Derives rows s.who expr
-  pub by_row : ByRow rows net s.node s.reason
+  pub by_row : ByRow rows g s.node s.reason
 
 -- what a part told is a solution of that part
 pub record PartFits (net : Net) (m i : ℕ) (who : List ℕ) : Type 0 where

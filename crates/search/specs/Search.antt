@@ -3,6 +3,7 @@ use Rattle.std.specs.Prelude.{ℕ, ◌≤◌, List, [], ◌∷◌, ◌≡◌, Co
 use Rattle.names.specs.declared.roles.Role.{Role}
 use Rattle.credential_text.specs.declared.credentials.Credential.{Credential}
 use Rattle.credential_text.specs.declared.exprs.Expr.TheVariants.{Rol}
+use Rattle.rt0_rules.specs.Work.{WorkExceeds}
 use Rattle.vaults.specs.Journal.{credentials}
 use Rattle.snapshots.specs.Snapshot.{SnapshotState}
 use Rattle.cred_graph.specs.GraphState.{GraphState}
@@ -17,9 +18,11 @@ use Rattle.search.specs.declared.findings.Monitor.TheVariants as monitor
 use Rattle.search.specs.declared.queries.Query.{Query}
 use Rattle.search.specs.declared.stages.Stage.{Stage}
 use Rattle.search.specs.declared.stages.Stage.TheVariants as stage
+use Rattle.search.specs.Ending.{Settled, MaySettle, come_to}
 pub use Rattle.search.specs.Ending.{asked_role}
-use Rattle.search.specs.Net.{Net, sent_of}
+use Rattle.search.specs.Net.{Net, IsPendingStart, sent_of}
 use Rattle.search.specs.Steady.{IsSteady}
+use Rattle.search.specs.Counted.{IsCounted}
 
 pub record SearchState : Type 0 where
   pub query : Query
@@ -32,6 +35,10 @@ pub record SearchState : Type 0 where
 -- the credentials that the search reads
 abbrev pub rows_of : SearchState → List Credential
 rows_of s = credentials s.snapshot.vaults
+
+-- what the search has come to
+unfoldable pub settled_of : SearchState → Settled
+settled_of s = come_to s.stage s.graph s.query
 
 -- something of the search is outstanding
 abbrev pub IsOutstanding : Stage → Type 0
@@ -65,14 +72,36 @@ pub record KeptBy (rows : List Credential) (asked : Role) (work : ℕ) (g : Grap
   pub starts : StartsAlone c.letters
   pub within : c.sent ≤ work
 
-abbrev pub IsKept : SearchState → Type 0
-IsKept s = (c : Computation Load) → s.stage ≡ stage.Running c → KeptBy (rows_of s) (asked_role s.query) s.work s.graph s.monitors c
-
 abbrev pub net_of : GraphState → List Monitor → Computation Load → Net
 net_of g ms c = record { graph = g; monitors = ms; pending = sent_of c.letters }
+
+-- its letters are counted by what was asked and found, and while the environment's letter is there it was the only one
+pub record IsTallied (g : GraphState) (ms : List Monitor) (c : Computation Load) : Type 0 where
+  pub first : IsPendingStart (net_of g ms c) → c.sent ≡ 1
+  pub counted : IsCounted (net_of g ms c) c.sent
+
+abbrev pub KeepsRules : SearchState → Type 0
+KeepsRules s = (c : Computation Load) → s.stage ≡ stage.Running c → KeptBy (rows_of s) (asked_role s.query) s.work s.graph s.monitors c
+
+abbrev pub KeepsCount : SearchState → Type 0
+KeepsCount s = (c : Computation Load) → s.stage ≡ stage.Running c → IsTallied s.graph s.monitors c
+
+-- where a search is spent its work is greater than its limit
+abbrev pub KeepsLimit : SearchState → Type 0
+KeepsLimit s = s.stage ≡ stage.Spent → WorkExceeds (rows_of s) (asked_role s.query) s.work
+
+-- what a search keeps
+pub record IsKept (s : SearchState) : Type 0 where
+  pub rules : KeepsRules s
+  pub count : KeepsCount s
+  pub limit : KeepsLimit s
 
 -- one question
 pub record SameQuestion (s t : SearchState) : Type 0 where
   pub query : t.query ≡ s.query
   pub work : t.work ≡ s.work
   pub snapshot : t.snapshot ≡ s.snapshot
+
+-- a search settles once, and with what it may come to
+abbrev pub Settles : SearchState → SearchState → Type 0
+Settles s t = MaySettle s.work (rows_of s) s.query (settled_of s) (settled_of t)

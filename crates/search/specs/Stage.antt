@@ -3,6 +3,7 @@ use Rattle.std.specs.Prelude.{ℕ, ◌+◌, ◌<◌, ◌≤◌, Bool, true, fals
 use Rattle.scholten_core.specs.declared.parents.Parent.{Parent}
 use Rattle.scholten_core.specs.declared.letters.Letter.{Letter}
 use Rattle.scholten_core.specs.Computation.{Computation, IsHeld, StandByNumber, letter_of, waiting}
+use Rattle.scholten_core.specs.Sound.{IsNumbered}
 use Rattle.scholten_core.specs.Call.{FinishesLetter, DeliversSignal}
 use Rattle.scholten_core.specs.Step.{marked}
 use Rattle.search.specs.declared.letters.Load.{Load}
@@ -45,6 +46,7 @@ pub record HoldsLetter (old : Stage) (number : ℕ) (h : Held) : Type 0 where
   pub letter : letter_of running number ≡ Some (letter_in h)
   pub held : IsHeld running number
   pub by_number : StandByNumber running
+  pub numbers : IsNumbered 0 running.letters running.sent
 
 -- the same, with the letter of a number held or waiting
 abbrev pub stage_marked : ℕ → Bool → Stage → Stage

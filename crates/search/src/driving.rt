@@ -17,14 +17,15 @@ fn look_up(snapshot: &Snapshot, need: &Need) -> Hint
 }
 
 impl Search {
-    ghost use Rattle.search.specs.Search.{IsOutstanding, SameQuestion};
+    ghost use Rattle.search.specs.Search.{IsOutstanding, SameQuestion, Settles};
     ghost use Rattle.search.specs.Quiet.{IsQuiet, NoneHeld, HoldsAsBefore};
     ghost use Rattle.search.specs.Driven.{DriveStep, Makes, IsDriven};
 
     // Makes the next step: the oldest signal, else the first waiting letter.
     fn make_step(&mut self)
         requires { IsQuiet self.old.stage → ⊥ }
-        ensures { (step : DriveStep) × Makes self.old step self.new }
+        ensures made { (step : DriveStep) × Makes self.old step self.new }
+        ensures settles { Settles self.old self.new }
     {
         if self.signal(0) {
             return;
@@ -45,6 +46,7 @@ impl Search {
         ensures held { HoldsAsBefore self.old.stage self.new.stage }
         ensures none_held { NoneHeld self.old.stage → NoneHeld self.new.stage }
         ensures question { SameQuestion self.old self.new }
+        ensures settles { Settles self.old self.new }
     {
         while !self.is_quiet() {
             self.make_step();

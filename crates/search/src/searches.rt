@@ -1,5 +1,6 @@
 ghost use Rattle.std.specs.Prelude.{◌≡◌, ◌<◌, ◌↔◌, ℕ, true, false, None, Some, length, slice_get, IsTrue, IfOk, IfSome, OnErr, MatchOption};
 ghost use Rattle.std.specs.Arc.{arc_value};
+ghost use Rattle.names.specs.declared.roles.Role.{Role};
 ghost use Rattle.credential_text.specs.declared.exprs.Expr.{Expr};
 ghost use Rattle.rt0_rules.specs.Membership.{AreMembers};
 ghost use Rattle.rt0_rules.specs.FixedPoint.{IsExact};
@@ -7,8 +8,8 @@ ghost use Rattle.cred_graph.specs.GraphState.{GraphState, IsNode, Known};
 ghost use Rattle.scholten_core.specs.declared.letters.Letter.{Letter};
 ghost use Rattle.scholten_core.specs.Computation.{Computation};
 ghost use Rattle.search.specs.declared.letters.Load.{Load};
-ghost use Rattle.search.specs.Steady.{OwesRules};
-ghost use Rattle.search.specs.Finish.{StatusIs, AnswerIs};
+ghost use Rattle.search.specs.Steady.{OwesRules, IsJustified};
+ghost use Rattle.search.specs.Ending.{MaySettle, Nothing, Members, status_of, found, come_to};
 
 use crate::findings::{Findings, first_findings};
 use crate::hints::{hint_is_right, needed};
@@ -71,9 +72,10 @@ impl Model for Search {
 }
 
 impl Search {
-    ghost use Rattle.search.specs.Search.{SearchState, IsNew, IsOutstanding, IsCompleted, rows_of, asked_role, net_of, SameQuestion};
+    ghost use Rattle.search.specs.Search.{SearchState, IsNew, IsOutstanding, IsCompleted, rows_of, asked_role, net_of};
+    ghost use Rattle.search.specs.Search.{SameQuestion, Settles, settled_of};
     ghost use Rattle.search.specs.Stage.{waiting_in, signals_in, held_in, stage_marked, Delivers};
-    ghost use Rattle.search.specs.Finish.{IsRightStatus, Takes, Finishes};
+    ghost use Rattle.search.specs.Finish.{Takes, Finishes};
     ghost use Rattle.search.specs.Quiet.{IsQuiet, NoneHeld};
 
     /// A search over the snapshot that may send so many letters. One letter, to the asked role, waits.
@@ -115,23 +117,24 @@ impl Search {
 
     /// What the search has come to.
     pub fn status(&self) -> Status
+        ensures is { result ≡ status_of (settled_of self.now) }
         ensures working { (result ≡ Status.Working) ↔ IsOutstanding self.now.stage }
-        ensures spent { (result ≡ Status.Spent) ↔ (self.now.stage ≡ Stage.Spent) }
-        ensures broken { (result ≡ Status.Broken) ↔ (self.now.stage ≡ Stage.Broken) }
-        ensures truth { IsCompleted self.now.stage → IsRightStatus (rows_of self.now) self.now.query result }
+        ensures ending { MaySettle self.now.work (rows_of self.now) self.now.query Nothing (settled_of self.now) }
         ensures exact { IsCompleted self.now.stage → IsExact (rows_of self.now) (asked_role self.now.query) (Known self.now.graph) }
         ensures rules { (c : Computation Load) → self.now.stage ≡ Stage.Running c
             → OwesRules (rows_of self.now)
             (asked_role self.now.query) (net_of self.now.graph self.now.monitors c) }
     {
         let _work = self.work;
-        status_of(&self.stage, &self.found.graph, &self.query)
+        status_at(&self.stage, &self.found.graph, &self.query)
     }
 
     /// The members of the asked role, in order, each once. A completed search has them.
     pub fn members(&self) -> Result<Vec<Entity>, AllocError>
         requires { IsCompleted self.now.stage }
-        ensures { IfOk result (λ members. AreMembers (rows_of self.now) (asked_role self.now.query) members.items) }
+        ensures members { IfOk result (λ members. AreMembers (rows_of self.now) (asked_role self.now.query) members.items) }
+        ensures settled { IfOk result (λ members.
+            (role : Role) → self.now.query ≡ Query.Who role → settled_of self.now ≡ Members members.items) }
     {
         solutions_in_order(self.alloc, &self.found.graph, 0)
     }
@@ -139,8 +142,9 @@ impl Search {
     /// Takes the waiting letter at that place, in order of sending, without the snapshot: its number, and what it
     /// needs.
     pub fn take_letter(&mut self, place: u64) -> Option<(u64, Need)>
-        ensures { MatchOption result ((slice_get (waiting_in self.old.stage) place ≡ None) × (self.new ≡ self.old))
+        ensures taken { MatchOption result ((slice_get (waiting_in self.old.stage) place ≡ None) × (self.new ≡ self.old))
             (λ r. Takes self.old self.new place r.0 r.1) }
+        ensures settles { Settles self.old self.new }
     {
         let Some((number, held)) = hold(&mut self.stage, place) else {
             return None;
@@ -153,6 +157,7 @@ impl Search {
         ensures none { IfOk result (λ r. r ≡ None → (slice_get (waiting_in self.old.stage) place ≡ None) × (self.new ≡ self.old)) }
         ensures task { IfOk result (λ r. IfSome r (λ t. Takes self.old self.new place t.letter t.need)) }
         ensures snapshot { IfOk result (λ r. IfSome r (λ t. arc_value t.snap ≡ self.old.snapshot)) }
+        ensures settles { Settles self.old self.new }
         ensures unchanged { OnErr result (self.new ≡ self.old) }
     {
         let snap = self.snapshot.clone()?;
@@ -168,6 +173,7 @@ impl Search {
         ensures unchanged { result ≡ false → self.new ≡ self.old }
         ensures waits { result ≡ true → ((l : Letter Load) × (held_in self.old.stage letter ≡ Some l))
             × (self.new ≡ record self.old { stage = stage_marked letter false self.old.stage }) }
+        ensures settles { Settles self.old self.new }
     {
         let Some(_held) = held_letter(&self.stage, letter) else {
             return false;
@@ -178,7 +184,8 @@ impl Search {
 
     /// Finishes the held letter of that number with what was looked up. Where a growth is refused the search is broken.
     pub fn finish(&mut self, letter: u64, hint: Hint) -> Finished
-        ensures { Finishes self.old self.new letter hint result }
+        ensures finishes { Finishes self.old self.new letter hint result }
+        ensures settles { Settles self.old self.new }
     {
         let Some(held) = held_letter(&self.stage, letter) else {
             return Finished::NotHeld;
@@ -201,6 +208,7 @@ impl Search {
         ensures delivered { Delivers self.old.stage self.new.stage place result }
         ensures findings { (self.new.graph ≡ self.old.graph) × (self.new.monitors ≡ self.old.monitors) }
         ensures question { SameQuestion self.old self.new }
+        ensures settles { Settles self.old self.new }
     {
         deliver(&mut self.stage, place)
     }
@@ -230,15 +238,17 @@ impl Search {
 
     /// What the search has found.
     pub fn graph(&self) -> &Graph
-        ensures { result.now ≡ self.now.graph }
+        ensures graph { result.now ≡ self.now.graph }
+        ensures reasons { (c : Computation Load) → self.now.stage ≡ Stage.Running c
+            → IsJustified (rows_of self.now) (asked_role self.now.query) self.now.graph }
     {
         &self.found.graph
     }
 }
 
 // What a search of this stage has come to, whose graph is this.
-fn status_of(stage: &Stage, graph: &Graph, query: &Query) -> Status
-    ensures { StatusIs stage.now graph.now query.now result }
+fn status_at(stage: &Stage, graph: &Graph, query: &Query) -> Status
+    ensures { result ≡ status_of (come_to stage.now graph.now query.now) }
 {
     match stage {
         Stage::Spent => Status::Spent,
@@ -255,7 +265,7 @@ fn status_of(stage: &Stage, graph: &Graph, query: &Query) -> Status
 
 // The answer of a completed search.
 fn answer(graph: &Graph, query: &Query) -> Status
-    ensures { AnswerIs graph.now query.now result }
+    ensures { result ≡ status_of (found graph.now query.now) }
 {
     match query {
         Query::Who(_role) => Status::Members,

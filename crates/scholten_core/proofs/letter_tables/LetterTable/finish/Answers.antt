@@ -8,13 +8,13 @@ use Rattle.scholten_core.proofs.letter_tables.LetterTable.finish.Goals.{After-pa
 pub unwrap-at-requires : goal.unwrap-at-requires
 unwrap-at-requires g c =
     let held = rw (← c.self.view_is) at c.requires in
-    c.get_index_of.ensures.found ∙ number_found c.self.inside.sent c.self.inside.letters.entries c.self.invariant.numbers c.args.number held
+    c.place_of.ensures.found ∙ number_found c.self.inside.sent c.self.inside.letters.entries c.self.invariant.numbers c.args.number held
 
 -- the held letter of the number
 slot : (g : Over) (c : After-pair_mut-slot g) → HoldsAt c.self.inside.letters.entries c.args.number c.unwrap-at.result
 slot g c =
     let held = rw (← c.self.view_is) at c.requires in
-    holds_at c.self.inside.sent c.self.inside.letters.entries c.self.invariant.numbers c.args.number c.unwrap-at.result c.pair_mut-slot.result.0.now c.pair_mut-slot.result.1.now held (sym c.get_index_of.ensures.index ∙ c.unwrap-at.ensures) c.pair_mut-slot.ensures.value
+    holds_at c.self.inside.sent c.self.inside.letters.entries c.self.invariant.numbers c.args.number c.unwrap-at.result c.pair_mut-slot.result.0.now c.pair_mut-slot.result.1.now held (rw c.unwrap-at.ensures at c.place_of.ensures.place) c.pair_mut-slot.ensures.value
 
 pub overflow_add-self : goal.overflow_add-self
 overflow_add-self g c =

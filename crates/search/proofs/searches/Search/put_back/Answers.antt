@@ -5,6 +5,8 @@ use Rattle.search.specs.Search.{SearchState}
 use Rattle.search.specs.contracts.searches.Search.{the_view}
 use Rattle.search.proofs.Searching.{marked_stage_kept, marked_view}
 use Rattle.search.proofs.Finishing.{held_letter_is}
+use Rattle.search.proofs.Answered.{held_outstanding}
+use Rattle.search.proofs.Ended.{same_question, settles}
 use Rattle.search.proofs.searches.Search.put_back.Goals as goal
 
 pub invariant_of-self : goal.invariant_of-self
@@ -16,3 +18,10 @@ returns-clause-waits c =
       (letter_in c.in-Some._held, subst (λ (s : SearchState). held_in s.stage c.args.letter ≡ Some (letter_in c.in-Some._held)) c.self.view_is (held_letter_is c.self.inside.stage c.args.letter c.in-Some._held c.in-Some.ensures)),
       marked_view (the_view c.self.inside) c.args.self.now c.wait_again.new.stage c.args.letter false c.self.view_is c.wait_again.ensures,
     )
+
+pub returns-clause-settles : goal.returns-clause-settles
+returns-clause-settles c =
+    let s = the_view c.self.inside in
+    settles c.self.view_is (same_question s s.graph s.monitors c.wait_again.new.stage)
+    (marked_stage_kept s c.wait_again.new.stage c.args.letter false c.self.invariant c.wait_again.ensures)
+    (held_outstanding s.stage c.args.letter (letter_in c.in-Some._held) (held_letter_is s.stage c.args.letter c.in-Some._held c.in-Some.ensures))
