@@ -1,16 +1,16 @@
 -- Searches and accounts that are alike in two worlds.
-use Rattle.std.proofs.Common.{ℕ, List, ◌∷◌, [], ◌++◌, ◌≡◌, ◌∙◌, inl, sym, ap, refl, subst, subst₂}
+use Rattle.std.proofs.Common.{ℕ, List, ◌∷◌, [], ◌++◌, ◌≡◌, ◌∙◌, inl, inr, sym, ap, refl, subst, subst₂}
 use Rattle.vaults.specs.declared.changes.Change.{Change}
 use Rattle.vaults.specs.declared.changes.Entry.{Entry}
 use Rattle.vaults.specs.Journal.{Vault, credentials}
 use Rattle.quotas.specs.Quota.{Quota}
 use Rattle.search.specs.declared.queries.Query.{Query}
-use Rattle.search.specs.Ending.{Nothing, MaySettle}
+use Rattle.search.specs.Ending.{Settled, Nothing, MaySettle}
 use Rattle.hall.specs.declared.calls.requests.Request.{Request}
 use Rattle.hall.specs.declared.calls.requests.Request.TheVariants as request
 use Rattle.hall.specs.declared.calls.replies.Reply.{Reply}
 use Rattle.hall.specs.declared.calls.replies.Reply.TheVariants.{Counted, Opened, Closed}
-use Rattle.hall.specs.halls.Holder.{Beside}
+use Rattle.hall.specs.halls.Holder.{Holder, Beside}
 use Rattle.hall.specs.halls.Account.{Asked, Account, account_after, altered, sought, ended, GoesOn, Waits}
 use Rattle.hall.proofs.halls.Holders.{beside_itself, beside_opening, beside_ending, beside_turned, beside_joined}
 use Rattle.hall.proofs.halls.Truths.{AreLike, like_settles}

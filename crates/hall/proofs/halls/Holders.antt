@@ -1,5 +1,5 @@
 -- What is done to what a tenant holds of searches: seen otherwise, and beside another's.
-use Rattle.std.proofs.Common.{ℕ, ◌+◌, ◌≤◌, ◌<◌, ◌==◌, nat_le, Bool, true, false, cond, not, List, [], ◌∷◌, ◌++◌, length, ◌≡◌, ◌∙◌, sym, ap, refl, subst, filter, find, Option, Some, None, option_map, arith, ne_eqb, eqb-true}
+use Rattle.std.proofs.Common.{ℕ, ◌+◌, ◌≤◌, ◌<◌, ◌==◌, nat_le, Bool, true, false, cond, not, List, [], ◌∷◌, ◌++◌, length, ◌≡◌, ◌∙◌, sym, ap, refl, subst, filter, find, map, Option, Some, None, option_map, arith, ne_eqb, eqb-true}
 use Rattle.std.specs.List.{AllZip, AllByRecursion}
 use Rattle.std.proofs.lemmas.List.{map-append, length-map}
 use Rattle.std.proofs.lemmas.Slice.Zip.{all_zipped_more, AllZip-long}

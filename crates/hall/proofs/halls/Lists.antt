@@ -1,6 +1,7 @@
 -- Lists that are related place by place.
-use Rattle.std.proofs.Common.{List, [], ◌∷◌}
-use Rattle.std.specs.List.{AllZip}
+use Rattle.std.proofs.Common.{List, [], ◌∷◌, Option, Some, None}
+use Rattle.std.specs.List.{AllZip, AllByRecursion}
+use Rattle.hall.proofs.Elements.{Both}
 
 pub zip_weaker : {X Y : Type 0} (R S : X → Y → Type 0) → ((x : X) (y : Y) → R x y → S x y) → (xs : List X) (ys : List Y) → AllZip R xs ys → AllZip S xs ys
 zip_weaker R S follows [] [] zip = tt

@@ -1,6 +1,6 @@
 -- To each tenant a run is an allowed run over its own trace, so two halls that agree for it give it equal answers.
 use Rattle.std.proofs.Common.{ℕ, Bool, true, false, cond, List, [], ◌∷◌, ◌++◌, ◌≡◌, ◌∙◌, sym, ap, refl, subst, subst₂, Option, Some, None}
-use Rattle.std.specs.List.{AllZip}
+use Rattle.std.specs.List.{AllZip, AllByRecursion}
 use Rattle.names.specs.Name.{is_same}
 use Rattle.names.proofs.SameNames.{same_from_is_same}
 use Rattle.quotas.specs.Quota.{Quota}
@@ -19,14 +19,14 @@ use Rattle.hall.specs.declared.calls.events.Event.TheVariants as event
 use Rattle.hall.specs.halls.Holder.{Beside}
 use Rattle.hall.specs.halls.Account.{Asked, Account, account_after, sight, GoesOn, Waits, Moment, AllowedRun}
 use Rattle.hall.specs.halls.State.{HallState, Running, account_of, search_at, IsSound}
-use Rattle.hall.specs.halls.Run.{hall_after, IsServed, Happens, StepsRunning, step_name, step_search, journal_after, trace, replies_to, IsAllowedRun, IsAllowedToEach}
+use Rattle.hall.specs.halls.Run.{hall_after, IsServed, Happens, IsStepped, StepsRunning, step_name, step_search, Run, journal_after, trace, replies_to, IsAllowedRun, IsAllowedToEach}
 use Rattle.hall.specs.halls.Agree.{Agree, HasMemory, TwoHalls}
 use Rattle.hall.specs.halls.Laws.{RunsAreAllowed}
 use Rattle.hall.proofs.Elements.{Both}
 use Rattle.hall.proofs.halls.Holders.{beside_joined}
 use Rattle.hall.proofs.halls.Truths.{settles_twice}
 use Rattle.hall.proofs.halls.Sound.{events_keep}
-use Rattle.hall.proofs.halls.Serving.{ServesTo, serves_own, other_after, waits_itself, stepped_waits}
+use Rattle.hall.proofs.halls.Serving.{ServesTo, serves_own, other_after, waits_itself, both_itself, stepped_waits}
 use Rattle.hall.proofs.halls.Worlds.{worlds_agree}
 
 goes_twice : (limit : ℕ) (s t u : Asked) → GoesOn limit s t → GoesOn limit t u → GoesOn limit s u

@@ -9,7 +9,7 @@ use Rattle.vaults.specs.declared.changes.Entry.{Entry}
 use Rattle.vaults.specs.Journal.{entries_of, view, credentials, Vault}
 use Rattle.vaults.proofs.LastEntries.{entries_push}
 use Rattle.search.specs.declared.queries.Query.{Query}
-use Rattle.search.specs.Ending.{Nothing, MaySettle}
+use Rattle.search.specs.Ending.{Settled, Nothing, MaySettle}
 use Rattle.search.specs.Search.{SearchState}
 use Rattle.hall.specs.declared.faults.Fault.TheVariants.{NoTenant}
 use Rattle.hall.specs.declared.calls.requests.Request.{Request}

@@ -1,5 +1,5 @@
 -- Each event keeps what holds of every hall.
-use Rattle.std.proofs.Common.{ℕ, Bool, true, false, cond, not, List, [], ◌∷◌, ◌++◌, length, ◌≡◌, ◌∙◌, ◌+◌, inl, inr, sym, ap, refl, subst, subst₂, map, Option, Some, None, option_map, arith, length-append, le_refl}
+use Rattle.std.proofs.Common.{ℕ, Bool, true, false, cond, not, List, [], ◌∷◌, ◌++◌, length, ◌≡◌, ◌∙◌, ◌+◌, ◌≤◌, inl, inr, sym, ap, refl, subst, subst₂, map, take, Option, Some, None, option_map, arith, length-append, le_refl}
 use Rattle.std.specs.List.{AllByRecursion, Contains}
 use Rattle.std.proofs.lemmas.List.{take-append-le, take_all}
 use Rattle.std.proofs.lemmas.List.Elements.{All-from_recursion, All-contains}
@@ -9,7 +9,7 @@ use Rattle.rt0_rules.proofs.Elements.{find-Some}
 use Rattle.quotas.specs.Quota.{Quota}
 use Rattle.vaults.specs.declared.changes.Change.{Change}
 use Rattle.vaults.specs.declared.changes.Entry.{Entry}
-use Rattle.vaults.specs.Journal.{view, credentials}
+use Rattle.vaults.specs.Journal.{view, credentials, Vault}
 use Rattle.snapshots.specs.Snapshot.{SnapshotState}
 use Rattle.search.specs.declared.queries.Query.{Query}
 use Rattle.search.specs.Ending.{Nothing, MaySettle}
@@ -23,10 +23,10 @@ use Rattle.hall.specs.declared.calls.steps.Step.{Step}
 use Rattle.hall.specs.declared.calls.steps.Stepped.{Stepped}
 use Rattle.hall.specs.declared.calls.events.Event.TheVariants as event
 use Rattle.hall.specs.halls.Searches.{settled_of, just_opened}
-use Rattle.hall.specs.halls.Holder.{Holder, Numbered, is_number, search_in, ending, seek_refusal}
+use Rattle.hall.specs.halls.Holder.{Holder, Numbered, is_number, search_in, opening, ending, going_on, seek_refusal, map_holder}
 use Rattle.hall.specs.halls.Account.{Account, unless_refused}
-use Rattle.hall.specs.halls.State.{Running, Tenant, HallState, tenant_named, account, account_of, at_name, with_holder, running_of, search_at, AreDistinct, IsSoundSearch, IsSoundTenant, IsSound, new_tenant}
-use Rattle.hall.specs.halls.Run.{entered, beginning, starting, opened, closed, MayReplyTo, IsServed, StepsRunning, step_name, step_search, stepping}
+use Rattle.hall.specs.halls.State.{Running, Tenant, HallState, tenant_named, seen, account, account_of, at_name, with_holder, running_of, search_at, AreDistinct, IsSoundSearch, IsSoundTenant, IsSound, new_tenant, IsNewHall}
+use Rattle.hall.specs.halls.Run.{entered, beginning, starting, opened, closed, MayReplyTo, IsServed, IsStepped, StepsRunning, step_name, step_search, stepping}
 use Rattle.hall.specs.halls.Laws.{NewHallsAreSound, EventsKeepSoundness}
 use Rattle.hall.proofs.Elements.{IsOnce, all_changed, all_weaker, all_filtered, all_pushed, find-map}
 use Rattle.hall.proofs.halls.Holders.{numbered_pushed, numbered_filtered, all_going_on, numbered_going_on}

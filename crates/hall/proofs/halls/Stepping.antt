@@ -1,5 +1,5 @@
 -- A step of a search goes on with one question, and what is known of a search just opened.
-use Rattle.std.proofs.Common.{ℕ, Bool, true, false, cond, List, [], ◌∷◌, ◌≡◌, ap, Option, Some, None, ne_eqb, arith}
+use Rattle.std.proofs.Common.{ℕ, suc, ◌+◌, ◌==◌, Bool, true, false, cond, List, [], ◌∷◌, ◌≡◌, ◌∙◌, inl, refl, ap, subst, sym, Option, Some, None, ne_eqb, arith}
 use Rattle.vaults.specs.Journal.{Vault, credentials}
 use Rattle.search.specs.declared.queries.Query.{Query}
 use Rattle.search.specs.declared.queries.Hint.{Hint}

@@ -1,5 +1,5 @@
 -- What a search comes to, once and again, and what two searches of one query and view may come to.
-use Rattle.std.proofs.Common.{ℕ, List, ◌≡◌, ◌≢◌, ◌∙◌, ◌⊎◌, inl, inr, sym, ap, refl, subst}
+use Rattle.std.proofs.Common.{ℕ, ◌≤◌, List, ◌≡◌, ◌≢◌, ◌∙◌, ◌⊎◌, inl, inr, sym, ap, refl, subst}
 use Rattle.credential_text.specs.declared.credentials.Credential.{Credential}
 use Rattle.rt0_rules.proofs.LawLemmas.{members_are_one}
 use Rattle.rt0_rules.proofs.WorkLaws.{within_does_not_exceed}

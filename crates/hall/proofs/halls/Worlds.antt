@@ -7,6 +7,7 @@ use Rattle.vaults.specs.Journal.{Vault, credentials}
 use Rattle.search.specs.declared.queries.Query.{Query}
 use Rattle.search.specs.Ending.{Settled, Nothing, Broken, MaySettle, asked_role}
 use Rattle.proof_trees.proofs.Soundness.{sound as proved_member}
+use Rattle.hall.specs.declared.faults.Fault.{Fault}
 use Rattle.hall.specs.declared.faults.Fault.TheVariants.{Memory}
 use Rattle.hall.specs.declared.calls.answers.Answer.TheVariants as answer
 use Rattle.hall.specs.declared.calls.requests.Request.{Request}

@@ -1,46 +1,27 @@
 -- A search as a hall sees it: what it has come to, and what a step does to it.
-use Rattle.std.specs.Prelude.{◌≡◌, ℕ, ◌==◌, Bool, true, false, List, [], ◌∷◌, Option, None, Some, if◌then◌else◌, slice_get}
-use Rattle.std.specs.List.{list_any}
-use Rattle.names.specs.Name.{is_same, name_order}
+use Rattle.std.specs.Prelude.{◌≡◌, ℕ, Bool, true, false, List, [], ◌∷◌, Option, None, Some, slice_get}
 use Rattle.credential_text.specs.declared.exprs.Expr.TheVariants.{Rol}
-use Rattle.vaults.specs.InOrder.{in_order}
-use Rattle.vaults.specs.Journal.{Vault, credentials}
-use Rattle.cred_graph.specs.GraphState.{GraphState, members_of}
+use Rattle.vaults.specs.Journal.{Vault}
 use Rattle.scholten_core.specs.declared.letters.Letter.{Letter}
-use Rattle.scholten_core.specs.Computation.{outstanding}
 use Rattle.scholten_core.specs.Step.{started}
 use Rattle.search.specs.declared.letters.Load.{Load}
 use Rattle.search.specs.declared.letters.Load.TheVariants as load
 use Rattle.search.specs.declared.findings.Monitor.TheVariants as monitor
 use Rattle.search.specs.declared.queries.Query.{Query}
-use Rattle.search.specs.declared.queries.Query.TheVariants.{Ask, Who}
 use Rattle.search.specs.declared.queries.Need.{Need}
 use Rattle.search.specs.declared.outcomes.Finished.{Finished}
 use Rattle.search.specs.declared.outcomes.Finished.TheVariants as finished
-use Rattle.search.specs.declared.stages.Stage.{Stage}
 use Rattle.search.specs.declared.stages.Stage.TheVariants as stage
-use Rattle.search.specs.Ending.{Settled, Nothing, Yes, No, Members, Spent, Broken, MaySettle, asked_role}
-use Rattle.search.specs.Search.{SearchState, SameQuestion}
+pub use Rattle.search.specs.Ending.{found}
+use Rattle.search.specs.Ending.{asked_role}
+pub use Rattle.search.specs.Search.{settled_of}
+use Rattle.search.specs.Search.{SearchState, SameQuestion, Settles}
 use Rattle.search.specs.Stage.{waiting_in, signals_in, held_in, stage_marked, Delivers}
 use Rattle.search.specs.Finish.{Takes, Finishes}
 use Rattle.hall.specs.declared.calls.steps.Step.{Step}
 use Rattle.hall.specs.declared.calls.steps.Step.TheVariants as step
 use Rattle.hall.specs.declared.calls.steps.Stepped.{Stepped}
 use Rattle.hall.specs.declared.calls.steps.Stepped.TheVariants as stepped
-
--- the answer of a completed search, by what it found of the asked role's node
-abbrev pub found : GraphState → Query → Settled
-found g (Ask role who) = if list_any (is_same who) (members_of g 0) then Yes else No
-found g (Who role) = Members (in_order name_order (members_of g 0))
-
--- what a search has come to, by where it stands
-abbrev pub come_to : Stage → GraphState → Query → Settled
-come_to (stage.Running c) g q = if outstanding c == 0 then found g q else Nothing
-come_to stage.Spent g q = Spent
-come_to stage.Broken g q = Broken
-
-unfoldable pub settled_of : SearchState → Settled
-settled_of s = come_to s.stage s.graph s.query
 
 -- a search of the asker over its view, which may send so many letters: one letter, to the asked role, waits
 unfoldable pub just_opened : List ℕ → List Vault → Query → ℕ → SearchState
@@ -100,7 +81,7 @@ IsMade old (step.Signal name k place) answer new = (delivered : Bool) × Signals
 -- a step of a search; where it comes to an end by that, it is the right one
 pub record StepsSearch (old : SearchState) (made : Step) (answer : Stepped) (new : SearchState) : Type 0 where
   pub is_made : IsMade old made answer new
-  pub settles : MaySettle old.work (credentials old.snapshot.vaults) old.query (settled_of old) (settled_of new)
+  pub settles : Settles old new
 
 -- no letter of the search is held
 abbrev pub NoneHeld : SearchState → Type 0
