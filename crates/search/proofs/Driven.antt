@@ -16,11 +16,12 @@ use Rattle.search.specs.declared.stages.Stage.{Stage}
 use Rattle.search.specs.declared.stages.Stage.TheVariants as stage
 use Rattle.search.specs.Need.{need_of, right_hint}
 use Rattle.search.specs.Stage.{waiting_in, signals_in, held_in}
-use Rattle.search.specs.Search.{SearchState, SameQuestion}
+use Rattle.search.specs.Search.{SearchState, SameQuestion, Settles, settled_of}
 use Rattle.search.specs.Finish.{Needs, Takes, Received, Finishes}
 use Rattle.search.specs.Quiet.{IsQuiet, NoneHeld, HoldsAsBefore}
 use Rattle.search.specs.Driven.{DriveStep, a_signal, a_letter, Makes, MakesEach, IsDriven}
 use Rattle.search.proofs.Grow.{one_expr}
+use Rattle.search.proofs.Ended.{settles_on}
 use Rattle.search.proofs.InHand.{finished_gone, finished_other, marked_other, signalled_holds}
 use Rattle.search.proofs.StepsLeft.{steps_left, marked_left, held_left, finished_left, signalled_left}
 
@@ -51,7 +52,7 @@ module _ (s held t : SearchState) (number : ℕ) (need : Need) (takes : Takes s 
   receipt_of finished.BadHint (l, other, is, needs, wrong, after) =
       absurd (wrong (ap (λ (x : SearchState). right_hint x.snapshot.vaults need) (sym takes.after) ∙ ap (right_hint held.snapshot.vaults) (sym (same_need l other is needs))))
 
-  pub taken_question : SameQuestion s held
+  taken_question : SameQuestion s held
   taken_question = record {
     query = ap (λ (x : SearchState). x.query) takes.after;
     work = ap (λ (x : SearchState). x.work) takes.after;
@@ -150,9 +151,21 @@ each_question [] s t same = record {
 }
 each_question (x ∷ xs) s t (mid, one, rest) = question_on s mid t (makes_question s x mid one) (each_question xs mid t rest)
 
+makes_settles : (s : SearchState) (x : DriveStep) (t : SearchState) → Makes s x t → Settles s t
+makes_settles s a_signal t made = made.settles
+makes_settles s (a_letter number need told) t made =
+    settles_on s made.held t (taken_question s made.held t number need made.takes) made.takes_settles made.finish_settles
+
+each_settles : (xs : List DriveStep) (s t : SearchState) → MakesEach s xs t → Settles s t
+each_settles [] s t same = inl (ap settled_of same)
+each_settles (x ∷ xs) s t (mid, one, rest) = settles_on s mid t (makes_question s x mid one) (makes_settles s x mid one) (each_settles xs mid t rest)
+
 -- a drive leaves held letters where they are
 pub driven_holds : (s t : SearchState) → IsDriven s t → HoldsAsBefore s.stage t.stage
 driven_holds s t driven = each_holds driven.0 s t driven.1
+
+pub driven_settles : (s t : SearchState) → IsDriven s t → Settles s t
+driven_settles s t driven = each_settles driven.0 s t driven.1
 
 pub driven_question : (s t : SearchState) → IsDriven s t → SameQuestion s t
 driven_question s t driven = each_question driven.0 s t driven.1
@@ -188,8 +201,8 @@ same_search s t st g ms q = λ i. record {
 
 -- the first letter is taken, and finished with what the snapshot says of its need
 pub finishes_first : (s same held t : SearchState) (number : ℕ) (need : Need) (hint : Hint) (view : SnapshotState) (told : Finished) → length (signals_in s.stage) ≤ 0 → same ≡ s →
-    Takes same held 0 number need → hint ≡ right_hint view.vaults need → view ≡ held.snapshot → Finishes held t number hint told → (x : DriveStep) × Makes s x t
-finishes_first s same held t number need hint view told few is takes hint_is view_is finishes =
+    Takes same held 0 number need → Settles same held → hint ≡ right_hint view.vaults need → view ≡ held.snapshot → Finishes held t number hint told → Settles held t → (x : DriveStep) × Makes s x t
+finishes_first s same held t number need hint view told few is takes takes_settles hint_is view_is finishes finish_settles =
     let takes' = subst (λ (x : SearchState). Takes x held 0 number need) is takes in
     let right : hint ≡ right_hint s.snapshot.vaults need =
     hint_is ∙ ap (λ (x : SnapshotState). right_hint x.vaults need) (view_is ∙ ap (λ (x : SearchState). x.snapshot) takes'.after) in (
@@ -198,6 +211,8 @@ finishes_first s same held t number need hint view told few is takes hint_is vie
         held = held;
         no_signal = no_element (signals_in s.stage) few;
         takes = takes';
+        takes_settles = subst (λ (x : SearchState). Settles x held) is takes_settles;
         finishes = subst (λ (h : Hint). Finishes held t number h told) right finishes;
+        finish_settles = finish_settles;
       },
     )

@@ -4,7 +4,7 @@ use Rattle.search.specs.declared.queries.Need.{Need}
 use Rattle.search.specs.declared.outcomes.Finished.{Finished}
 use Rattle.search.specs.Need.{right_hint}
 use Rattle.search.specs.Stage.{signals_in, Delivers}
-use Rattle.search.specs.Search.{SearchState, SameQuestion}
+use Rattle.search.specs.Search.{SearchState, SameQuestion, Settles}
 use Rattle.search.specs.Finish.{Takes, Finishes}
 
 -- the oldest signal is delivered; or the letter of a number is taken, which needs this, and its finish goes so
@@ -18,13 +18,16 @@ pub record SignalsFirst (s t : SearchState) : Type 0 where
   pub graph : t.graph ≡ s.graph
   pub monitors : t.monitors ≡ s.monitors
   pub question : SameQuestion s t
+  pub settles : Settles s t
 
 -- with no signal under way, the first waiting letter is taken, and finished with the hint that it needs
 pub record FinishesFirst (s t : SearchState) (number : ℕ) (need : Need) (told : Finished) : Type 0 where
   pub held : SearchState
   pub no_signal : signals_in s.stage ≡ []
   pub takes : Takes s held 0 number need
+  pub takes_settles : Settles s held
   pub finishes : Finishes held t number (right_hint s.snapshot.vaults need) told
+  pub finish_settles : Settles held t
 
 -- the search makes a step
 abbrev pub Makes : SearchState → DriveStep → SearchState → Type 0

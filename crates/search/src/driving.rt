@@ -24,8 +24,7 @@ impl Search {
     // Makes the next step: the oldest signal, else the first waiting letter.
     fn make_step(&mut self)
         requires { IsQuiet self.old.stage → ⊥ }
-        ensures made { (step : DriveStep) × Makes self.old step self.new }
-        ensures settles { Settles self.old self.new }
+        ensures { (step : DriveStep) × Makes self.old step self.new }
     {
         if self.signal(0) {
             return;

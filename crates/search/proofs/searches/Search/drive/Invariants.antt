@@ -1,11 +1,10 @@
--- What was made so far are steps of a drive that settle the search at most once, and fewer are left after each.
-use Rattle.search.specs.Search.{Settles}
+-- What was made so far are steps of a drive, and fewer are left after each.
 use Rattle.search.specs.Driven.{IsDriven}
 use Rattle.search.proofs.StepsLeft.{steps_left}
 use Rattle.search.proofs.searches.Search.drive.Given as goal
 
 abbrev pub invariant-loop-self : goal.invariant-loop-self
-invariant-loop-self l = IsDriven l.initial.self l.self × Settles l.initial.self l.self
+invariant-loop-self l = IsDriven l.initial.self l.self
 
 abbrev pub decreases-loop-self : goal.decreases-loop-self
 decreases-loop-self l = steps_left l.self.work l.self.stage

@@ -1,26 +1,16 @@
 -- A search that isn't quiet has a first signal or a first letter.
 use Rattle.std.proofs.Common.{◌∙◌}
-use Rattle.search.proofs.Driven.{nothing_first, same_search, finishes_first, taken_question}
-use Rattle.search.proofs.Ended.{settles_on}
+use Rattle.search.proofs.Driven.{nothing_first, same_search, finishes_first}
 use Rattle.search.proofs.searches.Search.make_step.Goals as goal
 
 pub unreachable-requires : goal.unreachable-requires
 unreachable-requires c =
     c.requires (nothing_first c.args.self.now.stage c.signal.new.self.stage c.if-signal.ensures.delivered.0 c.if-signal.ensures.delivered.1 c.in_default.ensures.taken.0)
 
-pub returns-clause-made : goal.returns-clause-made
-returns-clause-made c =
+pub returns : goal.returns
+returns c =
     let s = c.args.self.now in
     finishes_first s c.signal.new.self c.take_letter.new.self c.finish-finished.new.self c.in-Some.letter c.in-Some.need c.look_up-hint.result c.deref.result.now c.finish-finished.result
     c.if-signal.ensures.delivered.0
     (same_search s c.signal.new.self c.if-signal.ensures.delivered.1 c.if-signal.ensures.findings.0 c.if-signal.ensures.findings.1 c.if-signal.ensures.question)
-    c.in-Some.ensures.taken c.look_up-hint.ensures (c.deref.ensures ∙ c.snapshot.ensures) c.finish-finished.ensures.finishes
-
-pub returns-clause-settles : goal.returns-clause-settles
-returns-clause-settles c =
-    let s = c.args.self.now in
-    let first = c.signal.new.self in
-    let held = c.take_letter.new.self in
-    let last = c.finish-finished.new.self in
-    settles_on s first last c.if-signal.ensures.question c.if-signal.ensures.settles
-    (settles_on first held last (taken_question first held held c.in-Some.letter c.in-Some.need c.in-Some.ensures.taken) c.in-Some.ensures.settles c.finish-finished.ensures.settles)
+    c.in-Some.ensures.taken c.in-Some.ensures.settles c.look_up-hint.ensures (c.deref.ensures ∙ c.snapshot.ensures) c.finish-finished.ensures.finishes c.finish-finished.ensures.settles
