@@ -15,3 +15,7 @@ pub mod Viewing
 pub mod Making
 pub mod Opening
 pub mod Closing
+pub mod Telling
+pub mod Going
+pub mod Polling
+pub mod Driving

@@ -1,11 +1,15 @@
 //! The searches that a tenant has opened and not ended.
-ghost use Rattle.std.specs.Prelude.{◌≡◌, IfOk};
-ghost use Rattle.hall.specs.halls.Account.{answer_of};
-ghost use Rattle.hall.specs.halls.Searches.{settled_of};
+ghost use Rattle.std.specs.Prelude.{◌≡◌};
+ghost use Rattle.search.specs.Search.{SearchState};
+ghost use Rattle.hall.specs.halls.Searches.{StepsSearch};
+ghost use Rattle.hall.specs.halls.Kept.{with_search, DrivesTo, TakesJob};
 
-use crate::calls::Answer;
-use crate::lists::Names;
-use search::{Search, Status};
+use crate::calls::{Answer, Step, Stepped};
+use crate::faults::Fault;
+use crate::jobs::Job;
+use crate::stepping::{make, told_of};
+use names::Entity;
+use search::Search;
 use std::alloc::AllocError;
 use std::marker::Model;
 
@@ -64,5 +68,30 @@ impl Opened {
         ensures { result.now ≡ self.now.of.search }
     {
         &self.search
+    }
+
+    /// Makes the step.
+    pub(crate) fn step(&mut self, step: &Step) -> Stepped
+        ensures { (s : SearchState) × StepsSearch self.old.of.search step.now result s × (self.new ≡ with_search s self.old) }
+    {
+        make(&mut self.search, step)
+    }
+
+    /// Carries the search on until nothing more of it can be, and tells what it has come to.
+    pub(crate) fn drive(&mut self) -> Result<Answer, Fault>
+        ensures { (s : SearchState) × DrivesTo self.old.of.search result s × (self.new ≡ with_search s self.old) }
+    {
+        self.search.drive();
+        Ok(told_of(&self.search)?)
+    }
+
+    /// Takes the waiting letter at a place, for this tenant.
+    pub(crate) fn take(&mut self, who: Entity, place: u64) -> Result<Option<Job>, AllocError>
+        ensures { (s : SearchState) × TakesJob who self.old.number place self.old.of.search result s × (self.new ≡ with_search s self.old) }
+    {
+        let Some(task) = self.search.take(place)? else {
+            return Ok(None);
+        };
+        Ok(Some(Job::new(who, self.number, task)))
     }
 }

@@ -1,19 +1,21 @@
 //! The hall of all tenants.
-ghost use Rattle.std.specs.Prelude.{◌≡◌, IfOk, IfErr, OnErr, option_copied, position, map, length};
+ghost use Rattle.std.specs.Prelude.{◌≡◌, IfOk, IfErr, OnErr, option_copied, option_map, position, map, length};
 ghost use Rattle.names.specs.Name.{is_same};
 ghost use Rattle.hall.specs.declared.calls.requests.Request.TheVariants as request;
 ghost use Rattle.hall.specs.halls.Calls.{counted, opened_number, answered, closing, rows_seen, names_seen};
-ghost use Rattle.hall.specs.halls.State.{AreDistinct, IsSound, is_tenant, new_tenant, new_hall};
+ghost use Rattle.hall.specs.halls.State.{AreDistinct, IsSound, is_tenant, new_tenant, new_hall, search_at};
 ghost use Rattle.hall.specs.halls.Run.{IsServed, RefusedLast};
 
+use crate::calls::{Answer, Step, Stepped};
 use crate::copies::copy_of;
 use crate::faults::Fault;
+use crate::jobs::Job;
 use crate::lists::{Names, Rows};
 use crate::seats::Seat;
 use indexmap::IndexSet;
 use names::Entity;
 use quotas::Limits;
-use search::Query;
+use search::{Hint, Query, Search};
 use std::alloc::{AllocError, Global};
 use std::marker::Model;
 use vaults::{Book, Change};
@@ -105,6 +107,17 @@ impl Hall {
         seat.open(self.alloc, &self.book, query)
     }
 
+    /// What the tenant's search of the number has come to.
+    pub fn poll(&self, who: Entity, number: u64) -> Result<Answer, Fault>
+        ensures served { IsServed self.now who (request.Poll number) (answered result) self.now }
+        ensures memory_last { RefusedLast self.now who (request.Poll number) (answered result) }
+    {
+        let Some(place) = place_of(&self.names, &who) else {
+            return Err(Fault::NoTenant);
+        };
+        self.seats[place].poll(number)
+    }
+
     /// Ends the tenant's search of the number. It takes no memory.
     pub fn end(&mut self, who: Entity, number: u64) -> Result<(), Fault>
         ensures served { IsServed self.old who (request.Close number) (closing result) self.new }
@@ -139,6 +152,83 @@ impl Hall {
         }
         let names = self.book.owners_read_by(who)?;
         Ok(Names::new(names))
+    }
+}
+
+impl Hall {
+    ghost use Rattle.hall.specs.declared.calls.steps.Step.TheVariants as step;
+    ghost use Rattle.hall.specs.halls.Run.{IsStepped};
+    ghost use Rattle.hall.specs.halls.Calls.{IsTaken};
+    ghost use Rattle.hall.specs.halls.Deeds.{IsDriven};
+    ghost use Rattle.hall.specs.halls.Calls.{SearchIsQuiet};
+
+    /// Makes the step of the search that it names. It takes no memory that it couldn't do without: where a search lacks
+    /// it, that search alone is broken.
+    pub fn step(&mut self, step: Step) -> Stepped
+        ensures { IsStepped self.old step result self.new }
+    {
+        let who = step.who();
+        let Some(place) = place_of(&self.names, &who) else {
+            return Stepped::Gone;
+        };
+        let seat = &mut self.seats[place];
+        seat.step(step.number(), &step)
+    }
+
+    /// Takes the waiting letter at a place of the tenant's search of the number, with what it is to be looked up in.
+    pub fn take(&mut self, who: Entity, number: u64, place: u64) -> Result<Option<Job>, Fault>
+        ensures taken { IfOk result (λ job. IsTaken self.old who number place job self.new) }
+        ensures only_memory { IfErr result (λ f. f ≡ Fault.Memory) }
+        ensures unchanged { OnErr result (self.new ≡ self.old) }
+    {
+        let Some(at) = place_of(&self.names, &who) else {
+            return Ok(None);
+        };
+        let seat = &mut self.seats[at];
+        Ok(seat.take(who, number, place)?)
+    }
+
+    /// Finishes the letter of the job with what was looked up.
+    pub fn finish(&mut self, job: Job, hint: Hint) -> Stepped
+        ensures { IsStepped self.old (step.Finish job.who job.number job.letter hint) result self.new }
+    {
+        let (who, number, letter) = job.into_letter();
+        self.step(Step::Finish(who, number, letter, hint))
+    }
+
+    /// Lets the letter of the job wait again.
+    pub fn give_back(&mut self, job: Job) -> Stepped
+        ensures { IsStepped self.old (step.GiveBack job.who job.number job.letter) result self.new }
+    {
+        let (who, number, letter) = job.into_letter();
+        self.step(Step::GiveBack(who, number, letter))
+    }
+
+    /// Carries the tenant's search of the number on until nothing more of it can be, and tells what it has come to. The
+    /// order of refusals: 62, 51, and want of memory, for which the answer alone can lack.
+    pub fn drive(&mut self, who: Entity, number: u64) -> Result<Answer, Fault>
+        ensures driven { IsDriven self.old who number (answered result) self.new }
+        ensures quiet { SearchIsQuiet self.new who number }
+        ensures memory_last { RefusedLast self.old who (request.Poll number) (answered result) }
+    {
+        let Some(place) = place_of(&self.names, &who) else {
+            return Err(Fault::NoTenant);
+        };
+        let seat = &mut self.seats[place];
+        seat.drive(number)
+    }
+
+    /// The tenant's search of the number, if it has not ended.
+    pub fn search(&self, who: Entity, number: u64) -> Option<&Search>
+        ensures { option_copied result ≡ option_map (λ r. r.search) (search_at self.now who number) }
+    {
+        let Some(place) = place_of(&self.names, &who) else {
+            return None;
+        };
+        match self.seats[place].opened(number) {
+            Some(opened) => Some(opened.search()),
+            None => None,
+        }
     }
 }
 

@@ -1,21 +1,25 @@
 //! The tenants, each with its limits and its searches.
-ghost use Rattle.std.specs.Prelude.{◌≡◌, ◌+◌, ◌<◌, [], None, Some, length, unwrap_or, IfOk, IfErr, OnOk, OnErr, option_copied};
+ghost use Rattle.std.specs.Prelude.{◌≡◌, ◌+◌, ◌<◌, [], None, Some, length, unwrap_or, IfOk, IfErr, OnOk, OnErr, option_copied, Ok, Err, MatchOption};
 ghost use Rattle.std.specs.Prelude.{option_map, position, filter, find, not, is_none};
 ghost use Rattle.vaults.specs.Journal.{entries_of, vault, readers, view};
 ghost use Rattle.hall.specs.declared.faults.Fault.TheVariants as faults;
-ghost use Rattle.hall.specs.halls.Searches.{just_opened};
+ghost use Rattle.hall.specs.halls.Searches.{just_opened, settled_of, StepsSearch};
 ghost use Rattle.hall.specs.halls.Holder.{Numbered, is_number, seek_refusal, ending};
 ghost use Rattle.hall.specs.halls.Account.{limit_refusal};
 ghost use Rattle.hall.specs.halls.State.{new_tenant, Running};
 ghost use Rattle.hall.specs.halls.Run.{starting};
+ghost use Rattle.hall.specs.halls.Kept.{GoesAt, IsToldOf, DrivesTo, TakesJob};
 
+use crate::calls::{Answer, Step, Stepped};
 use crate::faults::Fault;
+use crate::jobs::Job;
 use crate::opened::Opened;
+use crate::stepping::told_of;
 use names::Entity;
 use quotas::{Limits, Used};
 use search::{Query, Search};
 use snapshots::Snapshot;
-use std::alloc::Global;
+use std::alloc::{AllocError, Global};
 use std::marker::Model;
 use std::sync::Arc;
 use vaults::{Book, Change};
@@ -95,6 +99,17 @@ impl Seat {
         Ok(number)
     }
 
+    /// What the search of the number has come to.
+    pub(crate) fn poll(&self, number: u64) -> Result<Answer, Fault>
+        ensures { MatchOption (find (is_number number) self.now.holder.searches) (result ≡ Err faults.NoSuchSearch)
+            (λ s. IsToldOf (settled_of s.of.search) result) }
+    {
+        match self.opened(number) {
+            Some(opened) => Ok(told_of(opened.search())?),
+            None => Err(Fault::NoSuchSearch),
+        }
+    }
+
     /// Ends the search of the number.
     pub(crate) fn end(&mut self, number: u64) -> Result<(), Fault>
         ensures found { OnOk result (find (is_number number) self.old.holder.searches ≡ None → ⊥) }
@@ -107,6 +122,48 @@ impl Seat {
         }
         remove(&mut self.searches, number);
         Ok(())
+    }
+
+    /// Makes the step of the search of the number.
+    pub(crate) fn step(&mut self, number: u64, step: &Step) -> Stepped
+        ensures { MatchOption (position (is_number number) self.old.holder.searches) ((result ≡ Stepped.Gone) × (self.new ≡ self.old))
+            (λ i. GoesAt (λ s t. StepsSearch s step.now result t) i self.old self.new) }
+    {
+        let Some(place) = place_of(&self.searches, number) else {
+            return Stepped::Gone;
+        };
+        let opened = &mut self.searches[place];
+        opened.step(step)
+    }
+
+    /// Carries the search of the number on until nothing more of it can be, and tells what it has come to.
+    pub(crate) fn drive(&mut self, number: u64) -> Result<Answer, Fault>
+        ensures { MatchOption (position (is_number number) self.old.holder.searches)
+            ((result ≡ Err faults.NoSuchSearch) × (self.new ≡ self.old))
+            (λ i. GoesAt (λ s t. DrivesTo s result t) i self.old self.new) }
+    {
+        let Some(place) = place_of(&self.searches, number) else {
+            return Err(Fault::NoSuchSearch);
+        };
+        let opened = &mut self.searches[place];
+        opened.drive()
+    }
+
+    /// Takes the waiting letter at a place of the search of the number, for this tenant.
+    pub(crate) fn take(
+        &mut self,
+        who: Entity,
+        number: u64,
+        place: u64,
+    ) -> Result<Option<Job>, AllocError>
+        ensures { MatchOption (position (is_number number) self.old.holder.searches) ((result ≡ Ok None) × (self.new ≡ self.old))
+            (λ i. GoesAt (λ s t. TakesJob who number place s result t) i self.old self.new) }
+    {
+        let Some(at) = place_of(&self.searches, number) else {
+            return Ok(None);
+        };
+        let opened = &mut self.searches[at];
+        opened.take(who, place)
     }
 
     /// The search of the number.
@@ -156,6 +213,13 @@ fn begin(alloc: Global, book: &Book, who: Entity, query: Query, work: u64) -> Re
 {
     let snapshot = Arc::new(alloc, Snapshot::take(alloc, book, who)?)?;
     Ok(Search::open(alloc, snapshot, query, work)?)
+}
+
+/// Where the search of the number stands.
+fn place_of(searches: &[Opened], number: u64) -> Option<usize>
+    ensures { result ≡ position (is_number number) searches.now }
+{
+    searches.iter().position(|opened| opened.number() == number)
 }
 
 /// Takes the search of the number away.

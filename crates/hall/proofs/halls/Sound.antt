@@ -175,7 +175,7 @@ search_steps journal name limit r s goes sound = record {
 pub running_at : (k : ℕ) (name : List ℕ) (h : HallState) (t : Tenant) (r : Running) → search_at h name k ≡ Some r → tenant_named name h.tenants ≡ Some t → search_in k t.holder ≡ Some r
 running_at k name h t r at found = sym (ap (running_of k) found) ∙ at
 
-stepped_sound : (old new : HallState) (made : Step) (answer : Stepped) (o : Option Running) → search_at old (step_name made) (step_search made) ≡ o → IsSound old →
+pub stepped_sound : (old new : HallState) (made : Step) (answer : Stepped) (o : Option Running) → search_at old (step_name made) (step_search made) ≡ o → IsSound old →
     StepsRunning old o made answer new → IsSound new
 stepped_sound old new made answer None is sound steps = subst IsSound (sym steps.1) sound
 stepped_sound old new made answer (Some r) is sound (s, steps, after) =

@@ -14,7 +14,7 @@ use Rattle.search.specs.declared.outcomes.Finished.TheVariants as finished
 use Rattle.search.specs.declared.stages.Stage.TheVariants as stage
 pub use Rattle.search.specs.Ending.{found}
 use Rattle.search.specs.Ending.{asked_role}
-pub use Rattle.search.specs.Search.{settled_of}
+unfoldable pub use Rattle.search.specs.Search.{settled_of}
 use Rattle.search.specs.Search.{SearchState, SameQuestion, Settles}
 use Rattle.search.specs.Stage.{waiting_in, signals_in, held_in, stage_marked, Delivers}
 use Rattle.search.specs.Finish.{Takes, Finishes}
