@@ -17,3 +17,15 @@ pub mod Deeds
 pub mod Timely
 pub mod Exact
 pub mod Fixed
+pub mod Finding
+pub mod Seated
+pub mod Served
+pub mod Changing
+pub mod Viewing
+pub mod Making
+pub mod Opening
+pub mod Closing
+pub mod Telling
+pub mod Going
+pub mod Polling
+pub mod Carrying

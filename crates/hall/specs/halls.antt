@@ -9,3 +9,4 @@ pub mod Answers
 pub mod Deeds
 pub mod Turns
 pub mod Laws
+pub mod Kept

@@ -12,8 +12,9 @@ use Rattle.search.specs.declared.queries.Need.{Need}
 use Rattle.search.specs.declared.outcomes.Finished.{Finished}
 use Rattle.search.specs.declared.outcomes.Finished.TheVariants as finished
 use Rattle.search.specs.declared.stages.Stage.TheVariants as stage
+pub use Rattle.search.specs.Ending.{found}
 use Rattle.search.specs.Ending.{asked_role}
-pub use Rattle.search.specs.Search.{settled_of}
+unfoldable pub use Rattle.search.specs.Search.{settled_of}
 use Rattle.search.specs.Search.{SearchState, SameQuestion, Settles}
 use Rattle.search.specs.Stage.{waiting_in, held_in, stage_marked, Delivers}
 use Rattle.search.specs.Finish.{Takes, Finishes}

@@ -15,6 +15,35 @@ pub enum Step {
     Signal(Entity, u64, u64),
 }
 
+impl Step {
+    ghost use Rattle.std.specs.Prelude.{◌≡◌};
+    ghost use Rattle.hall.specs.halls.Run.{step_name, step_search};
+
+    /// Whose search it is made of.
+    pub(crate) fn who(&self) -> Entity
+        ensures { result ≡ step_name self.now }
+    {
+        match *self {
+            Step::Take(who, _, _)
+            | Step::GiveBack(who, _, _)
+            | Step::Finish(who, _, _, _)
+            | Step::Signal(who, _, _) => who,
+        }
+    }
+
+    /// The number of the search.
+    pub(crate) fn number(&self) -> u64
+        ensures { result ≡ step_search self.now }
+    {
+        match *self {
+            Step::Take(_, number, _)
+            | Step::GiveBack(_, number, _)
+            | Step::Finish(_, number, _, _)
+            | Step::Signal(_, number, _) => number,
+        }
+    }
+}
+
 /// How a step went.
 #[derive(Clone, Copy)]
 pub enum Stepped {

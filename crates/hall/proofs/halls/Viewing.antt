@@ -1,0 +1,59 @@
+-- What a tenant is told of its view.
+use Rattle.std.proofs.Common.{◌≡◌, ◌∙◌, ◌||◌, ℕ, Bool, true, false, List, find, is_some, position, map, ap, sym, refl, Option, Some, None, option_map}
+use Rattle.std.proofs.lemmas.List.Elements.{All-contains}
+use Rattle.rt0_rules.proofs.Elements.{find-Some, find-None}
+use Rattle.credential_text.specs.declared.credentials.Credential.{Credential}
+use Rattle.vaults.specs.declared.changes.Entry.{Entry}
+use Rattle.names.specs.Name.{is_same}
+use Rattle.vaults.specs.Journal.{reads, granted, vault, names_read, vault_record, view}
+use Rattle.vaults.proofs.Exactness.{names_read_exact, views_of_names_read}
+use Rattle.names.proofs.SameNames.{same_from_is_same, is_same_itself}
+use Rattle.hall.specs.declared.calls.requests.Request.TheVariants as request
+use Rattle.hall.specs.declared.calls.replies.Reply.TheVariants as reply
+use Rattle.hall.specs.halls.Account.{Account, rows_in, rows_of}
+use Rattle.hall.specs.halls.State.{Tenant, HallState, is_tenant, tenant_named, account, account_of}
+use Rattle.hall.specs.halls.Run.{IsServed}
+use Rattle.hall.proofs.Elements.{find-map}
+use Rattle.hall.proofs.halls.Seated.{is_called, place_is}
+use Rattle.hall.proofs.halls.Finding.{placed}
+use Rattle.hall.proofs.halls.Served.{told_served}
+
+-- a name has a place exactly where it is a tenant's
+pub tenant_is_found : (h : HallState) (names : List (List ℕ)) (who : List ℕ) → names ≡ map (λ t. t.name) h.tenants → is_some (position (is_same who) names) ≡ is_tenant h who
+tenant_is_found h names who in_place = ap is_some (place_is who names h.tenants in_place) ∙ placed (is_called who) h.tenants
+
+-- the reader itself is found among the names read
+own_name : (journal : List Entry) (who : List ℕ) → find (λ o. is_same o who) (names_read journal who) ≡ Some who
+own_name journal who = by (find (λ o. is_same o who) (names_read journal who)) refl
+  where
+    reads_own : reads journal who who ≡ true
+    reads_own = ap (λ (b : Bool). b || granted journal who who) (is_same_itself who who refl)
+
+    by : (o : Option (List ℕ)) → find (λ o. is_same o who) (names_read journal who) ≡ o → o ≡ Some who
+    by None none = cc (
+      All-contains (λ (o : List ℕ). is_same o who ≡ false) (names_read journal who) who (find-None (λ (o : List ℕ). is_same o who) (names_read journal who) none)
+          (((names_read_exact journal who).exact who).1 reads_own),
+      is_same_itself who who refl,
+    )
+    by (Some owner) found = ap Some (same_from_is_same owner who (find-Some (λ (o : List ℕ). is_same o who) (names_read journal who) owner found).1)
+
+-- the view lists the reader's own vault
+own_rows : (journal : List Entry) (who : List ℕ) → rows_of who (view journal who) ≡ vault journal who
+unfolding view
+own_rows journal who =
+    ap rows_in (find-map (λ v. is_same v.owner who) (λ o. is_same o who) (vault_record journal) (λ o. refl) (names_read journal who)
+    ∙ ap (option_map (vault_record journal)) (own_name journal who))
+
+module _ (h : HallState) (who : List ℕ) where
+  known : is_tenant h who ≡ true → (a : Account) × (account_of h who ≡ Some a)
+  known is = by (tenant_named who h.tenants) refl is
+    where
+      by : (o : Option Tenant) → tenant_named who h.tenants ≡ o → is_some o ≡ true → (a : Account) × (account_of h who ≡ Some a)
+      by None found is = cc
+      by (Some t) found is = (account h.journal t, ap (option_map (account h.journal)) found)
+
+  pub vault_served : (rows : List Credential) → is_tenant h who ≡ true → rows ≡ vault h.journal who → IsServed h who request.Vault (reply.Vault rows) h
+  vault_served rows is own = told_served h who request.Vault (known is).0 (known is).1 (reply.Vault rows) h (ap reply.Vault (own ∙ sym (own_rows h.journal who))) refl
+
+  pub sees_served : (names : List (List ℕ)) → is_tenant h who ≡ true → names ≡ names_read h.journal who → IsServed h who request.Sees (reply.Sees names) h
+  sees_served names is read = told_served h who request.Sees (known is).0 (known is).1 (reply.Sees names) h (ap reply.Sees (read ∙ sym (views_of_names_read h.journal who).0)) refl

@@ -1,0 +1,11 @@
+use Rattle.std.proofs.Common.{◌∙◌, List, ap, sym}
+use Rattle.vaults.specs.declared.changes.Entry.{Entry}
+use Rattle.vaults.specs.Journal.{vault}
+use Rattle.hall.specs.halls.State.{HallState}
+use Rattle.hall.proofs.halls.Viewing.{vault_served}
+use Rattle.hall.proofs.registry.Hall.vault.Goals as goal
+
+pub returns-clause-served : goal.returns-clause-served
+returns-clause-served c =
+    vault_served c.args.self.now c.args.who c.new.result (sym c.has.ensures ∙ c.if-not-has.false)
+    (c.new.ensures ∙ c.in_ok-rows.ensures ∙ c.vault_of.ensures ∙ ap (λ (j : List Entry). vault j c.args.who) (ap (λ (h : HallState). h.journal) c.self.view_is))

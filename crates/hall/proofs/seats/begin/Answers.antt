@@ -1,0 +1,6 @@
+use Rattle.std.specs.Arc.{arc_value}
+use Rattle.hall.proofs.halls.Opening.{begun}
+use Rattle.hall.proofs.seats.begin.Goals as goal
+
+pub returns-clause-begun : goal.returns-clause-begun
+returns-clause-begun c = begun c.args.book.now c.args.who c.args.query c.args.work c.in_ok-take.field-0 (arc_value c.in_ok-snapshot.snapshot) c.in_ok-open.field-0 c.in_ok-take.ensures.view c.in_ok-snapshot.ensures.ok c.in_ok-open.ensures

@@ -1,0 +1,18 @@
+use Rattle.std.proofs.Common.{◌≡◌, Bool, true, sym, subst, refl, ap}
+use Rattle.hall.specs.halls.Searches.{StepsSearch}
+use Rattle.hall.specs.declared.calls.steps.Step.{Step}
+use Rattle.search.specs.Stage.{Delivers}
+use Rattle.hall.proofs.stepping.make.Goals as goal
+
+pub returns-then-signal : goal.returns-then-signal
+returns-then-signal c =
+    subst (λ (made : Step). StepsSearch c.args.search.now made _ c.signal.new.self) (sym c.in-Signal.is)
+    (record {
+      is_made = (true, record {
+        delivers = subst (Delivers c.args.search.now.stage c.signal.new.self.stage c.in-Signal.place) c.if-signal.true c.signal.ensures.delivered;
+        graph = c.signal.ensures.findings.0;
+        monitors = c.signal.ensures.findings.1;
+        question = c.signal.ensures.question;
+      }, refl);
+      settles = c.signal.ensures.settles;
+    })

@@ -1,0 +1,6 @@
+use Rattle.std.proofs.Common.{◌∙◌, sym}
+use Rattle.hall.proofs.halls.Telling.{completed, members_told}
+use Rattle.hall.proofs.stepping.told_of.Goals as goal
+
+pub members-requires : goal.members-requires
+members-requires c = completed c.args.search.now (sym c.in-Members.is ∙ c.status.ensures.is)

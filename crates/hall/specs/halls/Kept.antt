@@ -1,0 +1,58 @@
+-- What a hall keeps beside what it is seen as, and what its calls do to one of its searches.
+use Rattle.std.specs.Prelude.{◌≡◌, ℕ, List, [], map, Option, None, Some, Result, Ok, Err, slice_set, slice_get}
+use Rattle.search.specs.Ending.{Settled}
+use Rattle.search.specs.Search.{SearchState, Settles, IsOutstanding, settled_of}
+use Rattle.search.specs.Stage.{waiting_in, signals_in}
+use Rattle.search.specs.Finish.{Takes}
+use Rattle.search.specs.Quiet.{IsQuiet, NoneHeld}
+use Rattle.search.specs.Driven.{IsDriven}
+use Rattle.hall.specs.declared.faults.Fault.{Fault}
+use Rattle.hall.specs.declared.faults.Fault.TheVariants.{Memory}
+use Rattle.hall.specs.declared.calls.answers.Answer.{Answer}
+use Rattle.hall.specs.declared.calls.steps.Step.{Step}
+use Rattle.hall.specs.declared.calls.steps.Step.TheVariants.{Take, Signal}
+use Rattle.hall.specs.halls.Holder.{Numbered}
+use Rattle.hall.specs.halls.Account.{answer_of}
+use Rattle.hall.specs.halls.State.{Running, Tenant, HallState, IsSound}
+use Rattle.hall.specs.halls.Calls.{TakenLetter}
+
+-- the tenants' names stand as the tenants do, and the hall is sound
+pub record IsKept (names : List (List ℕ)) (h : HallState) : Type 0 where
+  pub in_place : names ≡ map (λ t. t.name) h.tenants
+  pub sound : IsSound h
+
+-- what it has come to is told, where there is memory to tell it
+abbrev pub IsToldOf : Settled → Result Answer Fault → Type 0
+IsToldOf s (Ok told) = told ≡ answer_of s
+IsToldOf s (Err f) = f ≡ Memory
+
+-- the same, with this search in its place
+abbrev pub with_search : SearchState → Numbered Running → Numbered Running
+with_search s o = record { number = o.number; of = record { opened_at = o.of.opened_at; search = s } }
+
+-- the search that stands at the place goes on so, and nothing else of the tenant changes
+abbrev pub GoesAt : (SearchState → SearchState → Type 0) → ℕ → Tenant → Tenant → Type 0
+GoesAt goes place old new =
+    (before : Numbered Running) × (s : SearchState) × (slice_get old.holder.searches place ≡ Some before) × goes before.of.search s
+    × (new ≡ record { name = old.name; holder = record old.holder { searches = slice_set old.holder.searches place (with_search s before) } })
+
+-- a search was driven, and what it has come to is told, where there is memory to tell it
+pub record DrivesTo (s : SearchState) (told : Result Answer Fault) (t : SearchState) : Type 0 where
+  pub driven : IsDriven s t
+  pub tells : IsToldOf (settled_of t) told
+  pub quiet : IsQuiet t.stage
+  pub settled : NoneHeld s.stage → IsOutstanding t.stage → ⊥
+  pub none_held : NoneHeld s.stage → NoneHeld t.stage
+
+-- the waiting letter at a place was taken as a job of this tenant's search, where there is one and memory to hold it
+abbrev pub TakesJob : {E : Type 0} → List ℕ → ℕ → ℕ → SearchState → Result (Option TakenLetter) E → SearchState → Type 0
+TakesJob who k place s (Ok None) t = (slice_get (waiting_in s.stage) place ≡ None) × (t ≡ s)
+TakesJob who k place s (Ok (Some job)) t =
+    Takes s t place job.letter job.need × (job.who ≡ who) × (job.number ≡ k) × (job.snapshot ≡ s.snapshot) × Settles s t
+TakesJob who k place s (Err f) t = t ≡ s
+
+-- the step goes on with a search where something waits or is under way
+abbrev pub IsNext : List ℕ → Numbered Running → Step → Type 0
+IsNext who o (Take name k place) = (name ≡ who) × (k ≡ o.number) × (place ≡ 0) × (waiting_in o.of.search.stage ≡ [] → ⊥)
+IsNext who o (Signal name k place) = (name ≡ who) × (k ≡ o.number) × (place ≡ 0) × (signals_in o.of.search.stage ≡ [] → ⊥)
+IsNext who o _ = ⊥

@@ -1,0 +1,89 @@
+ghost use Rattle.std.specs.Prelude.{◌≡◌};
+ghost use Rattle.std.specs.Arc.{arc_value};
+ghost use Rattle.search.specs.Need.{right_hint};
+
+use names::Entity;
+use search::{Hint, Need, Task};
+use snapshots::Snapshot;
+use std::marker::Model;
+use std::sync::Arc;
+
+/// A letter that was taken from a tenant's search, with what it is to be looked up in. It is spent by finishing it or
+/// giving it back.
+pub struct Job {
+    who: Entity,
+    number: u64,
+    letter: u64,
+    need: Need,
+    snapshot: Arc<Snapshot>,
+}
+
+impl Model for Job {
+    ghost use Rattle.std.specs.Arc.{arc_value};
+    ghost use Rattle.hall.specs.halls.Calls.{TakenLetter};
+
+    ghost Value = { TakenLetter };
+
+    ghost view = { λ j. record { who = j.who; number = j.number; letter = j.letter; need = j.need; snapshot = arc_value j.snapshot } };
+}
+
+impl Job {
+    /// The job of the task, which stems from this search.
+    pub(crate) fn new(who: Entity, number: u64, task: Task) -> Job
+        ensures { result ≡ record { who = who; number = number; letter = task.letter; need = task.need; snapshot = arc_value task.snap } }
+    {
+        let Task { letter, need, snap } = task;
+        Job {
+            who,
+            number,
+            letter,
+            need,
+            snapshot: snap,
+        }
+    }
+
+    /// Whose search it is.
+    pub fn who(&self) -> &Entity
+        ensures { result.now ≡ self.now.who }
+    {
+        &self.who
+    }
+
+    /// The number of the search.
+    pub fn number(&self) -> u64
+        ensures { result ≡ self.now.number }
+    {
+        self.number
+    }
+
+    /// The number of the letter.
+    pub fn letter(&self) -> u64
+        ensures { result ≡ self.now.letter }
+    {
+        self.letter
+    }
+
+    /// What the letter needs, by the snapshot of its search.
+    pub fn look_up(&self) -> Hint
+        ensures { result ≡ right_hint self.now.snapshot.vaults self.now.need }
+    {
+        match self.need {
+            Need::Rows(role) => Hint::Rows(self.snapshot.find(&role)),
+            Need::Nothing => Hint::Nothing,
+        }
+    }
+
+    /// The letter alone.
+    pub(crate) fn into_letter(self) -> (Entity, u64, u64)
+        ensures { result ≡ (self.who, self.number, self.letter) }
+    {
+        let Job {
+            who,
+            number,
+            letter,
+            need: _need,
+            snapshot: _snapshot,
+        } = self;
+        (who, number, letter)
+    }
+}

@@ -1,0 +1,262 @@
+//! The hall of all tenants.
+ghost use Rattle.std.specs.Prelude.{◌≡◌, IfOk, IfErr, OnErr, option_copied, option_map, position, map, length};
+ghost use Rattle.names.specs.Name.{is_same};
+ghost use Rattle.hall.specs.declared.calls.requests.Request.TheVariants as request;
+ghost use Rattle.hall.specs.halls.Calls.{counted, opened_number, answered, closing, rows_seen, names_seen};
+ghost use Rattle.hall.specs.halls.State.{AreDistinct, IsSound, is_tenant, new_tenant, new_hall, search_at};
+ghost use Rattle.hall.specs.halls.Run.{IsServed, RefusedLast};
+
+use crate::calls::{Answer, Step, Stepped};
+use crate::copies::copy_of;
+use crate::faults::Fault;
+use crate::jobs::Job;
+use crate::lists::{Names, Rows};
+use crate::seats::Seat;
+use indexmap::IndexSet;
+use names::Entity;
+use quotas::Limits;
+use search::{Hint, Query, Search};
+use std::alloc::{AllocError, Global};
+use std::marker::Model;
+use vaults::{Book, Change};
+
+/// The journal of all tenants, and the tenants with what each has opened. A tenant's place among the names is its seat's
+/// place, so that no call walks over all tenants.
+#[derive(Drop)]
+pub struct Hall {
+    alloc: Global,
+    book: Book,
+    names: IndexSet<Entity>,
+    seats: Vec<Seat>,
+}
+
+impl Model for Hall {
+    ghost use Rattle.std.specs.Coded.{codes};
+    ghost use Rattle.search.specs.contracts.stages.Stage as running;
+    ghost use Rattle.search.specs.contracts.findings.Monitor as memory;
+    ghost use Rattle.hall.specs.halls.State.{HallState};
+    ghost use Rattle.hall.specs.halls.Kept.{IsKept};
+
+    ghost Value = { HallState };
+
+    ghost coded = { Prim.hlevel (codes, running.the_row.coded, memory.the_row.coded) };
+
+    ghost view = { λ h. record { journal = h.book; tenants = h.seats.items } };
+
+    ghost invariant = { λ h. IsKept h.names.keys (record { journal = h.book; tenants = h.seats.items }) };
+}
+
+impl Hall {
+    /// The hall of these tenants, where nothing was done yet.
+    pub fn make(alloc: Global, roster: Vec<(Entity, Limits)>) -> Result<Hall, Fault>
+        requires { AreDistinct (new_hall roster.items).tenants }
+        ensures hall { IfOk result (λ h. h ≡ new_hall roster.items) }
+        ensures only_memory { IfErr result (λ f. f ≡ Fault.Memory) }
+    {
+        let book = Book::new(alloc);
+        let names = names_of(alloc, &roster)?;
+        let seats = seats_of(alloc, roster)?;
+        Ok(Hall {
+            alloc,
+            book,
+            names,
+            seats,
+        })
+    }
+
+    /// Whether the name stands in the roster.
+    pub fn has(&self, who: Entity) -> bool
+        ensures { result ≡ is_tenant self.now who }
+    {
+        let _ = &self.seats;
+        place_of(&self.names, &who).is_some()
+    }
+
+    /// How many changes were accepted in all.
+    pub fn journal_len(&self) -> u64
+        ensures length { result ≡ length self.now.journal }
+        ensures sound { IsSound self.now }
+    {
+        let _ = &self.seats;
+        self.book.journal_len()
+    }
+
+    /// Enters the tenant's change, and answers how many of its changes were accepted so far. The order of refusals: 62,
+    /// then 44 of all changes, 41 of an upload and 42 of a grant, then the journal's own (31 to 36), and want of memory.
+    pub fn change(&mut self, who: Entity, change: Change) -> Result<u64, Fault>
+        ensures served { IsServed self.old who (request.Alter change) (counted result) self.new }
+        ensures memory_last { RefusedLast self.old who (request.Alter change) (counted result) }
+    {
+        let Some(place) = place_of(&self.names, &who) else {
+            return Err(Fault::NoTenant);
+        };
+        self.seats[place].may_alter(&self.book, &change)?;
+        Ok(self.book.change(who, change)?)
+    }
+
+    /// Opens a search over what the tenant sees now, and answers its number. The order of refusals: 62, 43, 45, and want
+    /// of memory.
+    pub fn open(&mut self, who: Entity, query: Query) -> Result<u64, Fault>
+        ensures served { IsServed self.old who (request.Seek query) (opened_number result) self.new }
+        ensures memory_last { RefusedLast self.old who (request.Seek query) (opened_number result) }
+    {
+        let Some(place) = place_of(&self.names, &who) else {
+            return Err(Fault::NoTenant);
+        };
+        let seat = &mut self.seats[place];
+        seat.open(self.alloc, &self.book, query)
+    }
+
+    /// What the tenant's search of the number has come to.
+    pub fn poll(&self, who: Entity, number: u64) -> Result<Answer, Fault>
+        ensures served { IsServed self.now who (request.Poll number) (answered result) self.now }
+        ensures memory_last { RefusedLast self.now who (request.Poll number) (answered result) }
+    {
+        let Some(place) = place_of(&self.names, &who) else {
+            return Err(Fault::NoTenant);
+        };
+        self.seats[place].poll(number)
+    }
+
+    /// Ends the tenant's search of the number. It takes no memory.
+    pub fn end(&mut self, who: Entity, number: u64) -> Result<(), Fault>
+        ensures served { IsServed self.old who (request.Close number) (closing result) self.new }
+        ensures memory_last { RefusedLast self.old who (request.Close number) (closing result) }
+    {
+        let Some(place) = place_of(&self.names, &who) else {
+            return Err(Fault::NoTenant);
+        };
+        let seat = &mut self.seats[place];
+        seat.end(number)
+    }
+
+    /// The credentials that the tenant issues and holds, in order.
+    pub fn vault(&self, who: Entity) -> Result<Rows, Fault>
+        ensures served { IsServed self.now who request.Vault (rows_seen result) self.now }
+        ensures memory_last { RefusedLast self.now who request.Vault (rows_seen result) }
+    {
+        if !self.has(who) {
+            return Err(Fault::NoTenant);
+        }
+        let rows = copy_of(self.alloc, self.book.vault_of(who))?;
+        Ok(Rows::new(rows))
+    }
+
+    /// The names whose vaults the tenant reads, in order, its own among them.
+    pub fn sees(&self, who: Entity) -> Result<Names, Fault>
+        ensures served { IsServed self.now who request.Sees (names_seen result) self.now }
+        ensures memory_last { RefusedLast self.now who request.Sees (names_seen result) }
+    {
+        if !self.has(who) {
+            return Err(Fault::NoTenant);
+        }
+        let names = self.book.owners_read_by(who)?;
+        Ok(Names::new(names))
+    }
+}
+
+impl Hall {
+    ghost use Rattle.hall.specs.declared.calls.steps.Step.TheVariants as step;
+    ghost use Rattle.hall.specs.halls.Run.{IsStepped};
+    ghost use Rattle.hall.specs.halls.Calls.{IsTaken};
+    ghost use Rattle.hall.specs.halls.Deeds.{IsDriven};
+    ghost use Rattle.hall.specs.halls.Calls.{SearchIsQuiet};
+
+    /// Makes the step of the search that it names. It takes no memory that it couldn't do without: where a search lacks
+    /// it, that search alone is broken.
+    pub fn step(&mut self, step: Step) -> Stepped
+        ensures { IsStepped self.old step result self.new }
+    {
+        let who = step.who();
+        let Some(place) = place_of(&self.names, &who) else {
+            return Stepped::Gone;
+        };
+        let seat = &mut self.seats[place];
+        seat.step(step.number(), &step)
+    }
+
+    /// Takes the waiting letter at a place of the tenant's search of the number, with what it is to be looked up in.
+    pub fn take(&mut self, who: Entity, number: u64, place: u64) -> Result<Option<Job>, Fault>
+        ensures taken { IfOk result (λ job. IsTaken self.old who number place job self.new) }
+        ensures only_memory { IfErr result (λ f. f ≡ Fault.Memory) }
+        ensures unchanged { OnErr result (self.new ≡ self.old) }
+    {
+        let Some(at) = place_of(&self.names, &who) else {
+            return Ok(None);
+        };
+        let seat = &mut self.seats[at];
+        Ok(seat.take(who, number, place)?)
+    }
+
+    /// Finishes the letter of the job with what was looked up.
+    pub fn finish(&mut self, job: Job, hint: Hint) -> Stepped
+        ensures { IsStepped self.old (step.Finish job.who job.number job.letter hint) result self.new }
+    {
+        let (who, number, letter) = job.into_letter();
+        self.step(Step::Finish(who, number, letter, hint))
+    }
+
+    /// Lets the letter of the job wait again.
+    pub fn give_back(&mut self, job: Job) -> Stepped
+        ensures { IsStepped self.old (step.GiveBack job.who job.number job.letter) result self.new }
+    {
+        let (who, number, letter) = job.into_letter();
+        self.step(Step::GiveBack(who, number, letter))
+    }
+
+    /// Carries the tenant's search of the number on until nothing more of it can be, and tells what it has come to. The
+    /// order of refusals: 62, 51, and want of memory, for which the answer alone can lack.
+    pub fn drive(&mut self, who: Entity, number: u64) -> Result<Answer, Fault>
+        ensures driven { IsDriven self.old who number (answered result) self.new }
+        ensures quiet { SearchIsQuiet self.new who number }
+        ensures memory_last { RefusedLast self.old who (request.Poll number) (answered result) }
+    {
+        let Some(place) = place_of(&self.names, &who) else {
+            return Err(Fault::NoTenant);
+        };
+        let seat = &mut self.seats[place];
+        seat.drive(number)
+    }
+
+    /// The tenant's search of the number, if it has not ended.
+    pub fn search(&self, who: Entity, number: u64) -> Option<&Search>
+        ensures { option_copied result ≡ option_map (λ r. r.search) (search_at self.now who number) }
+    {
+        let Some(place) = place_of(&self.names, &who) else {
+            return None;
+        };
+        match self.seats[place].opened(number) {
+            Some(opened) => Some(opened.search()),
+            None => None,
+        }
+    }
+}
+
+/// The place of the name.
+fn place_of(names: &IndexSet<Entity>, who: &Entity) -> Option<usize>
+    ensures { result ≡ position (is_same who.now) names.now.keys }
+{
+    names.get_index_of(who)
+}
+
+/// The names of the roster.
+fn names_of(alloc: Global, roster: &[(Entity, Limits)]) -> Result<IndexSet<Entity>, AllocError>
+    requires { AreDistinct (new_hall roster.now).tenants }
+    ensures { IfOk result (λ names. names.keys ≡ map (λ row. row.0) roster.now) }
+{
+    let mut names = IndexSet::new(alloc);
+    for (name, _limits) in roster {
+        let _is_new = names.insert(*name)?;
+    }
+    Ok(names)
+}
+
+/// A seat for each tenant of the roster.
+fn seats_of(alloc: Global, roster: Vec<(Entity, Limits)>) -> Result<Vec<Seat>, AllocError>
+    ensures { IfOk result (λ seats. seats.items ≡ map new_tenant roster.items) }
+{
+    roster
+        .into_iter()
+        .map(|(name, limits)| Seat::new(alloc, name, limits))
+        .collect(alloc)
+}

@@ -1,0 +1,62 @@
+//! The steps of one search, and what is told of it.
+ghost use Rattle.std.specs.Prelude.{◌≡◌, ◌⊎◌, IfOk};
+ghost use Rattle.hall.specs.halls.Account.{answer_of};
+ghost use Rattle.hall.specs.halls.Searches.{settled_of, StepsSearch, finish_answer};
+
+use crate::calls::{Answer, Step, Stepped};
+use crate::lists::Names;
+use search::{Finished, Search, Status};
+use std::alloc::AllocError;
+
+/// What is told of the search.
+pub(crate) fn told_of(search: &Search) -> Result<Answer, AllocError>
+    ensures { IfOk result (λ told. told ≡ answer_of (settled_of search.now)) }
+{
+    match search.status() {
+        Status::Working => Ok(Answer::Working),
+        Status::Yes => Ok(Answer::Yes),
+        Status::No => Ok(Answer::No),
+        Status::Members => Ok(Answer::Members(Names::new(search.members()?))),
+        Status::Spent => Ok(Answer::Spent),
+        Status::Broken => Ok(Answer::Broken),
+    }
+}
+
+/// Makes the step of the search.
+pub(crate) fn make(search: &mut Search, step: &Step) -> Stepped
+    ensures { StepsSearch search.old step.now result search.new }
+{
+    match *step {
+        Step::Take(_who, _number, place) => match search.take_letter(place) {
+            Some((letter, need)) => Stepped::Took(letter, need),
+            None => Stepped::Nothing,
+        },
+        Step::GiveBack(_who, _number, letter) => {
+            if search.put_back(letter) {
+                Stepped::Back
+            } else {
+                Stepped::NotHeld
+            }
+        }
+        Step::Finish(_who, _number, letter, hint) => answer(search.finish(letter, hint)),
+        Step::Signal(_who, _number, place) => {
+            if search.signal(place) {
+                Stepped::Signalled
+            } else {
+                Stepped::Nothing
+            }
+        }
+    }
+}
+
+fn answer(finished: Finished) -> Stepped
+    ensures { result ≡ finish_answer finished }
+{
+    match finished {
+        Finished::Done => Stepped::Done,
+        Finished::BadHint => Stepped::BadHint,
+        Finished::Spent => Stepped::Spent,
+        Finished::Broken => Stepped::Broken,
+        Finished::NotHeld => Stepped::NotHeld,
+    }
+}
