@@ -1,7 +1,7 @@
 -- The letters that a search has sent are its work.
 use Rattle.std.proofs.Common.{ℕ, zero, suc, ◌+◌, ◌<◌, ◌≡◌, ◌==◌, ◌∙◌, inl, inr, sym, subst, ap, refl, true, List, [], ◌∷◌, ◌++◌, Some, map, slice_get, arith}
 use Rattle.std.specs.List.{Contains, filter}
-use Rattle.std.proofs.lemmas.Bool.{cases_Bool, eqb-true, eq-eqb}
+use Rattle.std.proofs.lemmas.Bool.{cases_Bool, eqb-true}
 use Rattle.std.proofs.lemmas.List.Elements.{Contains-append_cases}
 use Rattle.names.specs.declared.roles.Role.{Role}
 use Rattle.credential_text.specs.declared.credentials.Credential.{Credential}
@@ -12,8 +12,7 @@ use Rattle.rt0_rules.specs.Work.{AreDistinct, Ask, IsAsk, WorkIs, WorkExceeds}
 use Rattle.rt0_rules.specs.Letters.{NodeAsk, letters_sent, IsAskBetween, AreRight, AreAll}
 use Rattle.rt0_rules.specs.FixedPoint.{IsExact}
 use Rattle.rt0_rules.proofs.Elements.{Contains-none, Contains-cons_cases}
-use Rattle.rt0_rules.proofs.Unknown.{Contains-map}
-use Rattle.rt0_rules.proofs.Distinct.{IsMapped, mapped, IsJoined, joined, filtered, kept_by}
+use Rattle.rt0_rules.proofs.Distinct.{IsMapped, mapped, IsJoined, joined, filtered}
 use Rattle.rt0_rules.proofs.FixedPoint.{asks_kept, all_heard, exact}
 use Rattle.rt0_rules.proofs.Letters.{letters_exceed, letters_are_work}
 use Rattle.cred_graph.specs.declared.listeners.Listening.{Listening}
@@ -29,6 +28,7 @@ use Rattle.search.specs.Steady.{IsRight, IsSteady, OwesRules}
 use Rattle.search.specs.Counted.{heard_of, heard_from, heard, ask_from, asks_in, IsCountedBy, IsCounted}
 use Rattle.search.proofs.CountedGraph.{heard_has}
 use Rattle.search.proofs.Owed.{owes_rules}
+use Rattle.search.proofs.Solve.{member_of_solution}
 
 -- an ask that was heard is of a listener
 pub record IsHeard (k : ℕ) (lists : List (List Listening)) (a : NodeAsk) : Type 0 where
@@ -89,11 +89,6 @@ member_is g n d has =
     let from : IsMapped (λ (t : Solution). t.who) (filter (λ t. t.node == n) g.solutions) d = mapped (λ (t : Solution). t.who) (filter (λ t. t.node == n) g.solutions) d has in
     let kept : Contains g.solutions from.from × ((from.from.node == n) ≡ true) = filtered (λ (t : Solution). t.node == n) g.solutions from.from from.among in
     (from.from, kept.0, eqb-true from.from.node n kept.1, from.is)
-
-solution_is : (g : GraphState) (n : ℕ) (d : List ℕ) → IsSolution g n d → Contains (members_of g n) d
-solution_is g n d (why, stands) =
-    Contains-map (λ (s : Solution). s.who) (filter (λ t. t.node == n) g.solutions) (record { node = n; who = d; reason = why })
-    (kept_by (λ (t : Solution). t.node == n) g.solutions (record { node = n; who = d; reason = why }) stands (eq-eqb n n refl))
 
 module _ {rows : List Credential} {asked : Role} {net : Net} (right : IsRight rows asked net) where
   known_derives : (d : List ℕ) (r : Expr) → Known net.graph d r → Derives rows d r
@@ -167,7 +162,7 @@ module _ {rows : List Credential} {asked : Role} {net : Net} (steady : IsSteady 
     members_known = λ n e d node demanded derives.
         let (k, at, solution) = (settled_exact d e demanded).1 derives in
         let same : k ≡ n = steady.right.graph.one_node k n e at node in
-        solution_is net.graph n d (subst (λ j. IsSolution net.graph j d) same solution);
+        member_of_solution net.graph n d (subst (λ j. IsSolution net.graph j d) same solution);
   }
 
   -- a search with nothing under way has sent its work
