@@ -1,6 +1,7 @@
 -- Lists of which at most one element is changed, and lists that are related place by place.
 use Rattle.std.proofs.Common.{Bool, true, false, cond, List, [], ◌∷◌, ◌++◌, ◌≡◌, ◌∙◌, sym, ap, refl, subst, filter, find, map, Option, Some, None, option_map}
 use Rattle.std.specs.List.{AllByRecursion, AllZip}
+use Rattle.std.proofs.lemmas.Bool.{false≢true}
 use Rattle.std.proofs.lemmas.List.Elements.{All-from_recursion, recursion_from_All, All-filter, All-push, All-weaker}
 
 -- at most one element passes the test
@@ -139,3 +140,14 @@ both_mapped R S f g over None None both = tt
 both_mapped R S f g over None (Some y) both = absurd both
 both_mapped R S f g over (Some x) None both = absurd both
 both_mapped R S f g over (Some x) (Some y) both = over x y both
+
+-- what a filter keeps of what is found
+pub find-filter : {X : Type 0} (p keep : X → Bool) (xs : List X) → ((y : X) → p y ≡ true → keep y ≡ true) → find p (filter keep xs) ≡ find p xs
+find-filter p keep [] kept = refl
+find-filter {X} p keep (y ∷ ys) kept = by (keep y) (p y) refl refl (find-filter p keep ys kept)
+  where
+    by : (k b : Bool) → keep y ≡ k → p y ≡ b → find p (filter keep ys) ≡ find p ys → find p (cond k (y ∷ filter keep ys) (filter keep ys)) ≡ cond b (Some y) (find p ys)
+    by true true k e rest = ap (λ (b : Bool). cond b (Some y) (find p (filter keep ys))) e
+    by true false k e rest = ap (λ (b : Bool). cond b (Some y) (find p (filter keep ys))) e ∙ rest
+    by false false k e rest = rest
+    by false true k e rest = absurd (false≢true (sym k ∙ kept y e))

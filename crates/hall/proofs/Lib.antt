@@ -1,12 +1,2 @@
 pub mod Elements
-pub mod Settling
-pub mod Sound
-pub mod Alike
-pub mod Worlds
-pub mod Serving
-pub mod Runs
-pub mod Named
-pub mod Timely
-pub mod Timeliness
-pub mod Deeds
 pub mod halls

@@ -1,10 +1,3 @@
 pub mod Fault
-pub mod Truth
-pub mod Account
-pub mod Agree
-pub mod State
-pub mod Run
-pub mod Laws
-pub mod Calls
-pub mod Deeds
+pub mod Query
 pub mod halls

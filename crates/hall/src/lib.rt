@@ -1,29 +1,26 @@
-//! What one tenant may be told: requests and replies, a tenant's account, the runs that are allowed, and the laws that
-//! hold of them. Definitions of a whole hall of tenants stand beside them.
+//! The hall of all tenants: what one may ask of it, what each tenant may be told, and the laws that hold of all of its
+//! runs.
 #![tactic(auto)]
 
-pub mod calls;
+mod calls;
 mod copies;
 mod faults;
 mod jobs;
-mod laws;
 mod lists;
 mod opened;
-mod queries;
 mod registry;
-mod replies;
-mod requests;
-pub mod run_laws;
+mod run_laws;
 mod seats;
 mod stepping;
 #[cfg(test)]
 mod tests;
 
+pub use calls::{Answer, Event, Reply, Request, Step, Stepped};
 pub use faults::Fault;
 pub use jobs::Job;
-pub use laws::{deeds_are_allowed, runs_are_allowed, two_halls, two_worlds};
 pub use lists::{Names, Rows};
-pub use queries::Query;
 pub use registry::Hall;
-pub use replies::{Answer, Reply};
-pub use requests::Request;
+pub use run_laws::{
+    answers_are_true, deeds_are_allowed, deeds_are_fixed, runs_are_allowed, two_halls, two_worlds,
+};
+pub use search::Query;

@@ -1,5 +1,6 @@
 use crate::{
-    Fault, Names, Rows, deeds_are_allowed, run_laws, runs_are_allowed, two_halls, two_worlds,
+    Fault, Names, Rows, answers_are_true, deeds_are_allowed, deeds_are_fixed, runs_are_allowed,
+    two_halls, two_worlds,
 };
 use credential_text::{Credential, Expr};
 use names::{Entity, Role};
@@ -114,11 +115,7 @@ fn each_law_once(_rt: HostRuntime) {
     two_worlds();
     runs_are_allowed();
     two_halls();
+    answers_are_true();
     deeds_are_allowed();
-    run_laws::two_worlds();
-    run_laws::runs_are_allowed();
-    run_laws::two_halls();
-    run_laws::answers_are_true();
-    run_laws::deeds_are_allowed();
-    run_laws::deeds_are_fixed();
+    deeds_are_fixed();
 }

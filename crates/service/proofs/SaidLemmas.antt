@@ -1,9 +1,9 @@
 -- Lemmas on what a tenant said.
 use Rattle.std.proofs.Common.{◌≡◌, ℕ, List, refl, sym, Ok, Err}
-use Rattle.hall.specs.declared.replies.Reply.{Reply}
-use Rattle.hall.specs.State.{HallState}
-use Rattle.hall.specs.Run.{RefusedLast}
-use Rattle.hall.specs.Deeds.{CarriesOut, request_of}
+use Rattle.hall.specs.declared.calls.replies.Reply.{Reply}
+use Rattle.hall.specs.halls.State.{HallState, IsSound}
+use Rattle.hall.specs.halls.Run.{RefusedLast}
+use Rattle.hall.specs.halls.Deeds.{CarriesOut, request_of}
 use Rattle.service.specs.declared.commands.Command.{Command}
 use Rattle.service.specs.declared.refusals.Refusal.{Refusal}
 use Rattle.service.specs.Command.{Form, Reads}
@@ -13,12 +13,12 @@ use Rattle.service.specs.Turn.{Says}
 use Rattle.service.proofs.PrintedLemmas.{printed_done}
 
 -- a command that was read and carried out
-pub Says-served : (old new : HallState) (who : List ℕ) (form : Form) (command : Command) (told : Reply) (bytes : List ℕ) → Reads form (Ok command) →
+pub Says-served : (old new : HallState) (who : List ℕ) (form : Form) (command : Command) (told : Reply) (bytes : List ℕ) → IsSound old → Reads form (Ok command) →
     CarriesOut old who (deed_of command) told new → RefusedLast old who (request_of (deed_of command)) told → IsFilled who told bytes → Says old who form bytes new
-Says-served old new who form command told bytes read carried last filled = record {
+Says-served old new who form command told bytes sound read carried last filled = record {
   outcome = served who command filled.told;
   allowed = (refl, read);
-  carried = (new, printed_done old new who (deed_of command) told filled.told carried last filled.printed, refl);
+  carried = (new, printed_done old new who (deed_of command) told filled.told sound carried last filled.printed, refl);
   text = sym filled.lines;
 }
 

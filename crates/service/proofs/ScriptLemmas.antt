@@ -4,8 +4,8 @@ use Rattle.std.proofs.Common.{Result, Ok, Err}
 use Rattle.std.specs.Prelude.{IfSome}
 use Rattle.std.specs.Io.KnownBytes.{Appends}
 use Rattle.std.proofs.lemmas.List.{append-nil}
-use Rattle.hall.specs.State.{HallState}
-use Rattle.hall.specs.Calls.{new_hall, IsNewHall}
+use Rattle.hall.specs.halls.State.{HallState}
+use Rattle.hall.specs.halls.State.{new_hall, IsNewHall}
 use Rattle.service.specs.declared.script_faults.ScriptFault.{ScriptFault}
 use Rattle.service.specs.declared.script_faults.ScriptFault.TheVariants.{Roster, Read, Write, Memory}
 use Rattle.service.specs.declared.scripts.Turn.TheVariants.{Blank, Replied, End}

@@ -4,8 +4,8 @@ use Rattle.std.specs.List.{AllByRecursion, IsDistinct}
 use Rattle.std.proofs.lemmas.Cmp.{nat_list_eq_equiv}
 use Rattle.std.proofs.lemmas.Map.Keys.{IsDistinct-head, IsDistinct-tail}
 use Rattle.names.specs.Name.{is_same}
-use Rattle.hall.specs.Calls.{new_tenant}
-use Rattle.hall.specs.State.{AreDistinct, tenant_named}
+use Rattle.hall.specs.halls.State.{new_tenant}
+use Rattle.hall.specs.halls.State.{AreDistinct, tenant_named}
 use Rattle.service.specs.Roster.{Row, names_of, tenant_of}
 
 -- no tenant has a name that no row has

@@ -7,13 +7,13 @@ use Rattle.names.specs.Role.{SpellsRole}
 use Rattle.credential_text.specs.Spelling.{Spells}
 use Rattle.credential_text.specs.Refusal as credential
 use Rattle.vaults.specs.declared.changes.Change.TheVariants as change
-use Rattle.hall.specs.declared.queries.Query.TheVariants as query
+use Rattle.hall.specs.Query as query
 use Rattle.service.specs.declared.commands.Command.{Command}
 use Rattle.service.specs.declared.commands.Command.TheVariants as command
 use Rattle.service.specs.declared.refusals.Refusal.{Refusal}
 use Rattle.service.specs.declared.refusals.Refusal.TheVariants as refusal
 use Rattle.service.specs.declared.verbs.Verb.{Verb}
-use Rattle.service.specs.declared.verbs.Verb.TheVariants.{Put, Drop, Grant, Revoke, Ask, Poll, Wait, End, Vault, Sees}
+use Rattle.service.specs.declared.verbs.Verb.TheVariants.{Put, Drop, Grant, Revoke, Ask, Who, Poll, Wait, End, Vault, Sees}
 use Rattle.service.specs.Words.{words, after_word, IsNumber}
 
 -- the form of a command, by its words
@@ -23,6 +23,7 @@ pub data Form : Type 0 where
   grant : List ℕ → Form
   revoke : List ℕ → Form
   ask : List ℕ → List ℕ → Form
+  who : List ℕ → Form
   poll : List ℕ → Form
   wait : List ℕ → Form
   end : List ℕ → Form
@@ -51,12 +52,13 @@ verb_of word =
     else (if bytes_eq word (codes "grant") then Some Grant
     else (if bytes_eq word (codes "revoke") then Some Revoke
     else (if bytes_eq word (codes "ask") then Some Ask
+    else (if bytes_eq word (codes "who") then Some Who
     else (if bytes_eq word (codes "poll") then Some Poll
     else (if bytes_eq word (codes "wait") then Some Wait
     else (if bytes_eq word (codes "end") then Some End
     else (if bytes_eq word (codes "vault") then Some Vault
     else (if bytes_eq word (codes "sees") then Some Sees
-    else None)))))))))
+    else None))))))))))
 
 -- `put` and `drop` take the rest of the line, each other verb so many words
 abbrev pub form_by_verb : Option Verb → List (List ℕ) → List ℕ → Form
@@ -66,6 +68,7 @@ form_by_verb (Some Drop) args rest = drop rest
 form_by_verb (Some Grant) args rest = with_one grant args
 form_by_verb (Some Revoke) args rest = with_one revoke args
 form_by_verb (Some Ask) args rest = with_two ask args
+form_by_verb (Some Who) args rest = with_one who args
 form_by_verb (Some Poll) args rest = with_one poll args
 form_by_verb (Some Wait) args rest = with_one wait args
 form_by_verb (Some End) args rest = with_one end args
@@ -93,8 +96,13 @@ RefusesName text _ = ⊥
 
 -- why two texts are no role and name: the first of their faults
 abbrev pub RefusesQuestion : List ℕ → List ℕ → Refusal → Type 0
-RefusesQuestion role who (refusal.Name fault) = or_then (role_fault role) (name_fault who) ≡ Some fault
-RefusesQuestion role who _ = ⊥
+RefusesQuestion role name (refusal.Name fault) = or_then (role_fault role) (name_fault name) ≡ Some fault
+RefusesQuestion role name _ = ⊥
+
+-- why a text is no role
+abbrev pub RefusesRole : List ℕ → Refusal → Type 0
+RefusesRole text (refusal.Name fault) = role_fault text ≡ Some fault
+RefusesRole text _ = ⊥
 
 -- a text that is no number makes no command
 abbrev pub RefusesNumber : List ℕ → Refusal → Type 0
@@ -111,8 +119,10 @@ Reads (grant name) (Ok (command.Alter (change.Grant reader))) = IsName name × (
 Reads (grant name) (Err why) = RefusesName name why
 Reads (revoke name) (Ok (command.Alter (change.Revoke reader))) = IsName name × (reader ≡ name)
 Reads (revoke name) (Err why) = RefusesName name why
-Reads (ask role who) (Ok (command.Seek (query.Ask r d))) = SpellsRole role r × IsName who × (d ≡ who)
-Reads (ask role who) (Err why) = RefusesQuestion role who why
+Reads (ask role name) (Ok (command.Seek (query.Ask r d))) = SpellsRole role r × IsName name × (d ≡ name)
+Reads (ask role name) (Err why) = RefusesQuestion role name why
+Reads (who role) (Ok (command.Seek (query.Who r))) = SpellsRole role r
+Reads (who role) (Err why) = RefusesRole role why
 Reads (poll number) (Ok (command.Poll n)) = IsNumber number n
 Reads (poll number) (Err why) = RefusesNumber number why
 Reads (wait number) (Ok (command.Wait n)) = IsNumber number n

@@ -4,12 +4,12 @@ use Rattle.service.specs.Line.{Line}
 use Rattle.service.specs.Roster.{Row, HasRoster}
 use Rattle.std.specs.List.{AllZip}
 use Rattle.vaults.specs.declared.changes.Entry.{Entry}
-use Rattle.hall.specs.declared.replies.Reply.{Reply}
-use Rattle.hall.specs.Account.{Account, Moment}
-use Rattle.hall.specs.State.{HallState, account_of}
-use Rattle.hall.specs.Run.{trace, replies_to}
-use Rattle.hall.specs.Deeds.{calls_of, replies_of}
-use Rattle.hall.specs.Agree.{Agree, HasMemory}
+use Rattle.hall.specs.declared.calls.replies.Reply.{Reply}
+use Rattle.hall.specs.halls.Account.{Account, Moment}
+use Rattle.hall.specs.halls.State.{HallState, account_of}
+use Rattle.hall.specs.halls.Run.{trace, replies_to}
+use Rattle.hall.specs.halls.Deeds.{events_of, replies_of}
+use Rattle.hall.specs.halls.Agree.{Agree, HasMemory}
 use Rattle.service.specs.Outcome.{Outcome, deeds_in}
 use Rattle.service.specs.Transcript.{IsTranscript}
 
@@ -21,11 +21,11 @@ OneReading =
 
 -- the tenant's requests among the outcomes, each with its view just before it
 abbrev pub trace_in : List ℕ → List Entry → List Outcome → List Moment
-trace_in tenant journal outcomes = trace tenant journal (calls_of (deeds_in outcomes)) (replies_of (deeds_in outcomes))
+trace_in tenant journal outcomes = trace tenant journal (events_of (deeds_in outcomes)) (replies_of (deeds_in outcomes))
 
 -- the replies to the tenant's requests among the outcomes
 abbrev pub replies_in : List ℕ → List Outcome → List Reply
-replies_in tenant outcomes = replies_to tenant (calls_of (deeds_in outcomes)) (replies_of (deeds_in outcomes))
+replies_in tenant outcomes = replies_to tenant (events_of (deeds_in outcomes)) (replies_of (deeds_in outcomes))
 
 -- from one account, over one trace, the replies of two scripts agree place by place
 abbrev pub TwoScripts : Type 0

@@ -5,8 +5,6 @@ pub mod Written
 pub mod Refusal
 pub mod Reply
 pub mod Command
-pub mod Seats
-pub mod Settling
 pub mod Outcome
 pub mod Transcript
 pub mod Roster

@@ -1,12 +1,13 @@
 -- What a line of a script is answered, by its text alone.
-use Rattle.std.specs.Prelude.{◌≡◌, ℕ, List, [], ◌∷◌, Result, Ok, Err, MatchBool, codes}
+use Rattle.std.specs.Prelude.{◌≡◌, ℕ, Bool, ◌&&◌, List, [], ◌∷◌, Result, Ok, Err, MatchBool, codes}
 use Rattle.std.specs.List.{list_any, before_first, after_first, flat_map}
-use Rattle.hall.specs.declared.requests.Request.TheVariants as request
+use Rattle.names.specs.Name.{is_name}
+use Rattle.hall.specs.declared.calls.requests.Request.TheVariants as request
 use Rattle.hall.specs.declared.faults.Fault.{Fault}
-use Rattle.hall.specs.declared.replies.Reply.{Reply}
-use Rattle.hall.specs.declared.replies.Reply.TheVariants.{Refused}
-use Rattle.hall.specs.State.{HallState, is_tenant}
-use Rattle.hall.specs.Deeds.{Deed, asks, waits, Told}
+use Rattle.hall.specs.declared.calls.replies.Reply.{Reply}
+use Rattle.hall.specs.declared.calls.replies.Reply.TheVariants.{Refused}
+use Rattle.hall.specs.halls.State.{HallState, is_tenant}
+use Rattle.hall.specs.halls.Deeds.{Deed, asks, waits, Done}
 use Rattle.service.specs.declared.commands.Command.{Command}
 use Rattle.service.specs.declared.commands.Command.TheVariants.{Alter, Seek, Poll, Wait, End, Vault, Sees}
 use Rattle.service.specs.declared.refusals.Refusal.{Refusal}
@@ -34,9 +35,13 @@ IsSaid name form (nobody why) = ⊥
 IsSaid name form (refused who why) = (who ≡ name) × Reads form (Err why)
 IsSaid name form (served who command reply) = (who ≡ name) × Reads form (Ok command)
 
+-- whether a tenant speaks: the text is a name, and stands in the roster
+abbrev pub is_speaker : HallState → List ℕ → Bool
+is_speaker hall who = is_name who && is_tenant hall who
+
 -- what a command may become, by the name before it
 abbrev pub IsNamed : HallState → List ℕ → List ℕ → Outcome → Type 0
-IsNamed hall who said outcome = MatchBool (is_tenant hall who) (IsSaid who (form_of said) outcome) (outcome ≡ nobody refusal.BadHello)
+IsNamed hall who said outcome = MatchBool (is_speaker hall who) (IsSaid who (form_of said) outcome) (outcome ≡ nobody refusal.BadHello)
 
 -- what a line `NAME: COMMAND`, without the spaces in front, may become
 abbrev pub IsSpoken : HallState → List ℕ → Outcome → Type 0
@@ -66,11 +71,11 @@ told_by (Ok reply) = reply
 told_by (Err fault) = Refused fault
 
 -- what was carried out
-abbrev pub deed_in : Outcome → List Told
+abbrev pub deed_in : Outcome → List Done
 deed_in (nobody why) = []
 deed_in (refused who why) = []
 deed_in (served who command reply) = record { tenant = who; deed = deed_of command; reply = reply } ∷ []
 
 -- the deeds of these outcomes, in order: what was refused by its text alone is none
-abbrev pub deeds_in : List Outcome → List Told
+abbrev pub deeds_in : List Outcome → List Done
 deeds_in outcomes = flat_map deed_in outcomes

@@ -4,10 +4,10 @@ use Rattle.std.specs.List.{flat_map}
 use Rattle.std.specs.Fmt.{decimal}
 use Rattle.credential_text.specs.Spelling.{canonical}
 use Rattle.hall.specs.declared.faults.Fault.TheVariants.{Memory}
-use Rattle.hall.specs.declared.replies.Answer.{Answer}
-use Rattle.hall.specs.declared.replies.Answer.TheVariants.{Working, Yes, No}
-use Rattle.hall.specs.declared.replies.Reply.{Reply}
-use Rattle.hall.specs.declared.replies.Reply.TheVariants.{Counted, Opened, Answered, Closed, Vault, Sees, Refused}
+use Rattle.hall.specs.declared.calls.answers.Answer.{Answer}
+use Rattle.hall.specs.declared.calls.answers.Answer.TheVariants.{Working, Yes, No, Members, Spent, Broken}
+use Rattle.hall.specs.declared.calls.replies.Reply.{Reply}
+use Rattle.hall.specs.declared.calls.replies.Reply.TheVariants.{Counted, Opened, Answered, Closed, Vault, Sees, Proof, Refused, Stepped}
 use Rattle.hall.specs.Fault.{fault_number}
 use Rattle.service.specs.declared.refusals.Refusal.{Refusal}
 use Rattle.service.specs.declared.speakers.Speaker.{Speaker}
@@ -31,16 +31,20 @@ error_text number = codes "error " ++ decimal number ++ codes " " ++ text_of num
 abbrev pub refusal_line : List ℕ → Refusal → List ℕ
 refusal_line who why = line_to who (error_text (refusal_number why))
 
-abbrev pub answer_text : Answer → List ℕ
-answer_text Working = codes "working"
-answer_text Yes = codes "yes"
-answer_text No = codes "no"
-
 -- each name with a space before it
 abbrev pub listed : List (List ℕ) → List ℕ
 listed names = flat_map (λ name. 32 ∷ name) names
 
--- the texts of a reply, each of which is a line: a vault has one line for each credential, after their number
+abbrev pub answer_text : Answer → List ℕ
+answer_text Working = codes "working"
+answer_text Yes = codes "yes"
+answer_text No = codes "no"
+answer_text (Members names) = codes "members" ++ listed names
+answer_text Spent = codes "spent"
+answer_text Broken = codes "broken"
+
+-- the texts of a reply, each of which is a line: a vault has one line for each credential, after their number. No command
+-- asks for a proof or for a step, and these have no text
 abbrev pub reply_texts : Reply → List (List ℕ)
 reply_texts (Counted n) = (codes "ok " ++ decimal n) ∷ []
 reply_texts (Opened n) = (codes "search " ++ decimal n) ∷ []
@@ -48,7 +52,9 @@ reply_texts (Answered answer) = answer_text answer ∷ []
 reply_texts Closed = codes "ended" ∷ []
 reply_texts (Vault rows) = (codes "vault " ++ decimal (length rows)) ∷ map canonical rows
 reply_texts (Sees names) = (codes "sees" ++ listed names) ∷ []
+reply_texts (Proof steps) = []
 reply_texts (Refused fault) = error_text (fault_number fault) ∷ []
+reply_texts (Stepped answer) = []
 
 -- the lines of a reply, one after another
 abbrev pub reply_lines : List ℕ → Reply → List ℕ
@@ -58,6 +64,7 @@ reply_lines who reply = flat_map (line_to who) (reply_texts reply)
 abbrev pub IsLong : Reply → Type 0
 IsLong (Vault rows) = Unit {0}
 IsLong (Sees names) = Unit {0}
+IsLong (Answered (Members names)) = Unit {0}
 IsLong _ = ⊥
 
 -- the reply that was printed: this one, or that memory lacked for a long one

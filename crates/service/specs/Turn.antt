@@ -1,7 +1,7 @@
 -- What one line of a script does.
 use Rattle.std.specs.Prelude.{◌≡◌, ℕ, List, []}
-use Rattle.hall.specs.State.{HallState}
-use Rattle.hall.specs.Deeds.{AreDone}
+use Rattle.hall.specs.halls.State.{HallState}
+use Rattle.hall.specs.halls.Deeds.{AreDone}
 use Rattle.service.specs.declared.scripts.Turn.{Turn}
 use Rattle.service.specs.declared.scripts.Turn.TheVariants.{Blank, Replied, End, Fault}
 use Rattle.service.specs.Line.{Line}

@@ -1,8 +1,8 @@
 -- What went out of a script's replies.
 use Rattle.std.specs.Prelude.{◌≡◌, ℕ, ◌<◌, List, ◌++◌, length, Option, ◌⊎◌, [], ◌∷◌, map, Result, Ok, Err, codes}
 use Rattle.std.specs.Io.KnownBytes.{Appends}
-use Rattle.hall.specs.State.{HallState}
-use Rattle.hall.specs.Calls.{new_hall}
+use Rattle.hall.specs.halls.State.{HallState}
+use Rattle.hall.specs.halls.State.{new_hall}
 use Rattle.service.specs.declared.script_faults.ScriptFault.{ScriptFault}
 use Rattle.service.specs.declared.script_faults.ScriptFault.TheVariants.{Roster, Read, Write, Memory}
 use Rattle.service.specs.Line.{Line}

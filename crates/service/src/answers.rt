@@ -1,44 +1,59 @@
 //! What a command line is answered.
-ghost use Rattle.std.specs.Prelude.{◌≡◌};
-ghost use Rattle.hall.specs.Run.{RefusedLast};
-ghost use Rattle.hall.specs.Deeds.{CarriesOut, request_of};
+ghost use Rattle.std.specs.Prelude.{◌≡◌, true, false, MatchOption};
+ghost use Rattle.hall.specs.halls.State.{IsSound};
+ghost use Rattle.hall.specs.halls.Run.{RefusedLast};
+ghost use Rattle.hall.specs.halls.Deeds.{CarriesOut, request_of};
 ghost use Rattle.service.specs.Line.{text};
 ghost use Rattle.service.specs.Command.{form_of};
-ghost use Rattle.service.specs.Outcome.{deed_of, told_by};
+ghost use Rattle.service.specs.Outcome.{is_speaker, deed_of, told_by};
 ghost use Rattle.service.specs.Turn.{Says, Answered};
 
 use crate::commands::{Command, read_command};
 use crate::refusals::Refusal;
-use crate::registry::Registry;
 use crate::reply_lines::{fill_refusal, fill_reply};
 use crate::rooms::Room;
 use crate::speakers::Speaker;
 use crate::words::split_at_colon;
-use hall::{Fault, Reply};
+use hall::{Fault, Hall, Reply};
 use names::Entity;
 use names::texts::trim_start;
 use std::alloc::Global;
 
 /// Answers a line that isn't blank.
-pub(crate) fn answer_line(alloc: Global, line: &[u8], registry: &mut Registry, reply: &mut Room)
-    ensures { Answered registry.old (text line.now) reply.new registry.new }
+pub(crate) fn answer_line(alloc: Global, line: &[u8], hall: &mut Hall, reply: &mut Room)
+    ensures { Answered hall.old (text line.now) reply.new hall.new }
 {
     let Some((before, said)) = split_at_colon(trim_start(line)) else {
         return fill_refusal(reply, &Speaker::Nobody, Refusal::Command);
     };
-    match registry.called(before) {
-        Some(who) => answer_tenant(alloc, who, said, registry, reply),
+    match speaker(hall, before) {
+        Some(who) => answer_tenant(alloc, who, said, hall, reply),
         None => fill_refusal(reply, &Speaker::Nobody, Refusal::BadHello),
     }
 }
 
+/// The tenant of this name, if there is one.
+fn speaker(hall: &Hall, name: &[u8]) -> Option<Entity>
+    ensures tenant { MatchOption result
+        (is_speaker hall.now name.now ≡ false)
+        (λ who. (who ≡ name.now) × (is_speaker hall.now name.now ≡ true)) }
+    ensures sound { IsSound hall.now }
+{
+    let _ = hall.journal_len();
+    match Entity::read(name) {
+        Ok(who) if hall.has(who) => Some(who),
+        _ => None,
+    }
+}
+
 /// Answers what a tenant said.
-fn answer_tenant(alloc: Global, who: Entity, said: &[u8], registry: &mut Registry, reply: &mut Room)
-    ensures { Says registry.old who (form_of said.now) reply.new registry.new }
+fn answer_tenant(alloc: Global, who: Entity, said: &[u8], hall: &mut Hall, reply: &mut Room)
+    requires { IsSound hall.old }
+    ensures { Says hall.old who (form_of said.now) reply.new hall.new }
 {
     match read_command(alloc, said) {
         Ok(command) => {
-            let told = serve(registry, who, command);
+            let told = serve(hall, who, command);
             fill_reply(reply, &Speaker::Tenant(who), &told);
         }
         Err(refusal) => fill_refusal(reply, &Speaker::Tenant(who), refusal),
@@ -46,31 +61,31 @@ fn answer_tenant(alloc: Global, who: Entity, said: &[u8], registry: &mut Registr
 }
 
 /// Carries a tenant's command out, and answers its reply.
-fn serve(registry: &mut Registry, who: Entity, command: Command) -> Reply
-    ensures carried { CarriesOut registry.old who (deed_of command) result registry.new }
-    ensures memory_last { RefusedLast registry.old who (request_of (deed_of command)) result }
+fn serve(hall: &mut Hall, who: Entity, command: Command) -> Reply
+    ensures carried { CarriesOut hall.old who (deed_of command) result hall.new }
+    ensures memory_last { RefusedLast hall.old who (request_of (deed_of command)) result }
 {
-    match carry_out(registry, who, command) {
+    match carry_out(hall, who, command) {
         Ok(reply) => reply,
         Err(fault) => Reply::Refused(fault),
     }
 }
 
 /// Carries a tenant's command out, unless it is refused.
-fn carry_out(registry: &mut Registry, who: Entity, command: Command) -> Result<Reply, Fault>
-    ensures carried { CarriesOut registry.old who (deed_of command) (told_by result) registry.new }
-    ensures memory_last { RefusedLast registry.old who (request_of (deed_of command)) (told_by result) }
+fn carry_out(hall: &mut Hall, who: Entity, command: Command) -> Result<Reply, Fault>
+    ensures carried { CarriesOut hall.old who (deed_of command) (told_by result) hall.new }
+    ensures memory_last { RefusedLast hall.old who (request_of (deed_of command)) (told_by result) }
 {
     Ok(match command {
-        Command::Alter(change) => Reply::Counted(registry.change(who, change)?),
-        Command::Seek(query) => Reply::Opened(registry.open(who, query)?),
-        Command::Poll(number) => Reply::Answered(registry.poll(who, number)?),
-        Command::Wait(number) => Reply::Answered(registry.drive(who, number)?),
+        Command::Alter(change) => Reply::Counted(hall.change(who, change)?),
+        Command::Seek(query) => Reply::Opened(hall.open(who, query)?),
+        Command::Poll(number) => Reply::Answered(hall.poll(who, number)?),
+        Command::Wait(number) => Reply::Answered(hall.drive(who, number)?),
         Command::End(number) => {
-            registry.end(who, number)?;
+            hall.end(who, number)?;
             Reply::Closed
         }
-        Command::Vault => Reply::Vault(registry.vault(who)?),
-        Command::Sees => Reply::Sees(registry.sees(who)?),
+        Command::Vault => Reply::Vault(hall.vault(who)?),
+        Command::Sees => Reply::Sees(hall.sees(who)?),
     })
 }

@@ -65,6 +65,7 @@ fn read_rest(alloc: Global, verb: Verb, text: &[u8]) -> Result<Command, Refusal>
             let role = Role::read(role)?;
             Ok(Command::Seek(Query::Ask(role, Entity::read(who)?)))
         }
+        (Verb::Who, Arguments::One(role)) => Ok(Command::Seek(Query::Who(Role::read(role)?))),
         (Verb::Poll, Arguments::One(search)) => Ok(Command::Poll(number_of(search)?)),
         (Verb::Wait, Arguments::One(search)) => Ok(Command::Wait(number_of(search)?)),
         (Verb::End, Arguments::One(search)) => Ok(Command::End(number_of(search)?)),

@@ -11,18 +11,14 @@ mod fault_texts;
 mod laws;
 mod lines;
 mod refusals;
-mod registry;
 mod reply_lines;
 mod rooms;
 mod roster_lines;
 mod rosters;
 mod script_faults;
 mod scripts;
-mod searches;
-mod seats;
 mod speakers;
 mod verbs;
-mod views;
 mod words;
 mod writing;
 

@@ -1,10 +1,11 @@
-//! The lines of the replies. Only a vault and a list of names may take memory.
+//! The lines of the replies. Only a vault and lists of names may take memory.
 ghost use Rattle.std.specs.Prelude.{◌≡◌, ◌≤◌, ◌++◌, ◌∷◌, length, codes, OnOk};
 ghost use Rattle.std.specs.Fmt.{decimal};
 ghost use Rattle.credential_text.specs.Spelling.{canonical};
-ghost use Rattle.hall.specs.declared.replies.Reply.TheVariants as reply;
+ghost use Rattle.hall.specs.declared.calls.answers.Answer.TheVariants as answer;
+ghost use Rattle.hall.specs.declared.calls.replies.Reply.TheVariants as reply;
 ghost use Rattle.service.specs.Refusal.{text_of};
-ghost use Rattle.service.specs.Reply.{speaker_name, line_to, error_text, refusal_line, answer_text, reply_lines, IsFilled};
+ghost use Rattle.service.specs.Reply.{speaker_name, line_to, error_text, refusal_line, listed, reply_lines, IsFilled};
 
 use crate::fault_texts::fault_text;
 use crate::refusals::Refusal;
@@ -23,29 +24,34 @@ pub(crate) fn fill_refusal(room: &mut Room, who: &Speaker, refusal: Refusal)
 }
 
 /// Fills the room with the lines of a reply. Only a vault and a list of names take memory, and without it the one line
-/// says so.
+/// says so. A proof and a step's outcome, which no command asks for, have no line.
 pub(crate) fn fill_reply(room: &mut Room, who: &Speaker, reply: &Reply)
     ensures { IsFilled (speaker_name who.now) reply.now room.new }
 {
     match reply {
         Reply::Counted(count) => fill_counted(room, who, b"ok ", *count),
         Reply::Opened(number) => fill_counted(room, who, b"search ", *number),
-        Reply::Answered(answer) => fill_answer(room, who, *answer),
+        Reply::Answered(answer) => fill_answer(room, who, answer),
         Reply::Closed => fill_text(room, who, b"ended"),
         Reply::Vault(rows) => fill_vault(room, who, rows.as_slice()),
         Reply::Sees(names) => fill_sees(room, who, names.as_slice()),
         Reply::Refused(fault) => fill_error(room, who, fault.number()),
+        Reply::Proof(_proof) => room.clear(),
+        Reply::Stepped(_outcome) => room.clear(),
     }
 }
 
 /// What a search has come to.
-fn fill_answer(room: &mut Room, who: &Speaker, answer: Answer)
-    ensures { room.new ≡ line_to (speaker_name who.now) (answer_text answer) }
+fn fill_answer(room: &mut Room, who: &Speaker, answer: &Answer)
+    ensures { IsFilled (speaker_name who.now) (reply.Answered answer.now) room.new }
 {
     match answer {
         Answer::Working => fill_text(room, who, b"working"),
         Answer::Yes => fill_text(room, who, b"yes"),
         Answer::No => fill_text(room, who, b"no"),
+        Answer::Members(names) => fill_members(room, who, names.as_slice()),
+        Answer::Spent => fill_text(room, who, b"spent"),
+        Answer::Broken => fill_text(room, who, b"broken"),
     }
 }
 
@@ -103,7 +109,16 @@ fn fill_vault(room: &mut Room, who: &Speaker, rows: &[Credential])
 fn fill_sees(room: &mut Room, who: &Speaker, names: &[Entity])
     ensures { IsFilled (speaker_name who.now) (reply.Sees names.now) room.new }
 {
-    if write_sees(room, who, names).is_err() {
+    if write_names(room, who, b"sees", names).is_err() {
+        fill_error(room, who, Fault::Memory.number());
+    }
+}
+
+/// The members of a role, or that memory lacked.
+fn fill_members(room: &mut Room, who: &Speaker, names: &[Entity])
+    ensures { IsFilled (speaker_name who.now) (reply.Answered (answer.Members names.now)) room.new }
+{
+    if write_names(room, who, b"members", names).is_err() {
         fill_error(room, who, Fault::Memory.number());
     }
 }
@@ -129,12 +144,18 @@ fn write_row(room: &mut Room, who: &Speaker, row: &Credential) -> Result<(), All
     room.extend(b"\n")
 }
 
-/// The names in one line.
-fn write_sees(room: &mut Room, who: &Speaker, names: &[Entity]) -> Result<(), AllocError>
-    ensures { OnOk result (room.new ≡ reply_lines (speaker_name who.now) (reply.Sees names.now)) }
+/// A word and the names in one line.
+fn write_names(
+    room: &mut Room,
+    who: &Speaker,
+    word: &[u8],
+    names: &[Entity],
+) -> Result<(), AllocError>
+    requires word { length word.now ≤ 8 }
+    ensures { OnOk result (room.new ≡ line_to (speaker_name who.now) (word.now ++ listed names.now)) }
 {
     room.begin(who);
-    room.append(b"sees");
+    room.append(word);
     for name in names {
         write_name(room, name)?;
     }

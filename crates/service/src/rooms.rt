@@ -45,6 +45,13 @@ impl Room {
         self.bytes.as_slice()
     }
 
+    /// Empties it.
+    pub(crate) fn clear(&mut self)
+        ensures { self.new ≡ [] }
+    {
+        self.bytes.clear();
+    }
+
     /// Empties it, and says who is answered.
     pub(crate) fn begin(&mut self, who: &Speaker)
         ensures items { self.new ≡ speaker_name who.now ++ codes ": " }

@@ -2,8 +2,7 @@
 ghost use Rattle.std.specs.Prelude.{◌≡◌, ◌≢◌, ◌↔◌, map, true, IsTrue, IfOk, IfErr};
 ghost use Rattle.std.specs.List.{list_any};
 ghost use Rattle.names.specs.Name.{is_same};
-ghost use Rattle.hall.specs.Calls.{new_hall};
-ghost use Rattle.hall.specs.State.{AreDistinct};
+ghost use Rattle.hall.specs.halls.State.{new_hall, AreDistinct};
 ghost use Rattle.service.specs.declared.script_faults.ScriptFault.TheVariants as fault;
 ghost use Rattle.service.specs.Roster.{IsTenant, IsRoster, tenant_of};
 ghost use Rattle.service.specs.RosterReading.{FindsLine, AddsRow, ReadsRoster};
@@ -12,6 +11,7 @@ ghost use Rattle.service.specs.LineReader.{IfKnown};
 use crate::lines::{LineReader, NextLine};
 use crate::roster_lines::{RosterLine, Row, roster_line};
 use crate::script_faults::ScriptFault;
+use hall::{Fault, Hall};
 use names::Entity;
 use quotas::Limits;
 use std::alloc::{AllocError, Global};
@@ -67,8 +67,17 @@ impl Roster {
         self.rows.iter().any(|row| row.name.bytes() == name && row.word.as_slice() == word)
     }
 
+    /// The hall of the roster's tenants, who have done nothing.
+    pub fn hall(&self, alloc: Global) -> Result<Hall, Fault>
+        ensures hall { IfOk result (λ h. h ≡ new_hall (map tenant_of self.now)) }
+        ensures only_memory { IfErr result (λ f. f ≡ Fault.Memory) }
+    {
+        let tenants = self.tenants(alloc)?;
+        Hall::make(alloc, tenants)
+    }
+
     /// The tenants' names and limits, in order.
-    pub fn tenants(&self, alloc: Global) -> Result<Vec<(Entity, Limits)>, AllocError>
+    fn tenants(&self, alloc: Global) -> Result<Vec<(Entity, Limits)>, AllocError>
         ensures items { IfOk result (λ tenants. tenants.items ≡ map tenant_of self.now) }
         ensures distinct { AreDistinct (new_hall (map tenant_of self.now)).tenants }
     {

@@ -3,20 +3,20 @@ ghost use Rattle.std.specs.Prelude.{IfSome};
 ghost use Rattle.std.specs.Io.KnownBytes.{Appends};
 ghost use Rattle.service.specs.Line.{commands_of};
 ghost use Rattle.service.specs.LineReader.{IfKnown};
-ghost use Rattle.hall.specs.Calls.{IsNewHall};
+ghost use Rattle.hall.specs.halls.State.{IsNewHall};
 ghost use Rattle.service.specs.Written.{Wrote, ScriptWrote};
 ghost use Rattle.service.specs.Turn.{Takes};
 
 use crate::answers::answer_line;
 use crate::lines::{LineReader, NextLine};
 use crate::refusals::Refusal;
-use crate::registry::Registry;
 use crate::reply_lines::fill_refusal;
 use crate::rooms::Room;
 use crate::rosters::Roster;
 use crate::script_faults::ScriptFault;
 use crate::speakers::Speaker;
 use crate::writing::write_reply;
+use hall::Hall;
 use names::texts::is_blank;
 use std::alloc::Global;
 use std::io::{Read, Write};
@@ -52,26 +52,26 @@ pub fn run_script<R: Read + Drop, W: Write>(
         }
         Err(fault) => return Err(fault),
     };
-    let Ok(mut registry) = Registry::make(alloc, roster.tenants(alloc)?) else {
+    let Ok(mut hall) = roster.hall(alloc) else {
         return Err(ScriptFault::Memory);
     };
-    run_commands(alloc, &mut lines, &mut registry, &mut reply, writer)
+    run_commands(alloc, &mut lines, &mut hall, &mut reply, writer)
 }
 
 /// Answers each command that is left.
 fn run_commands<R: Read + Drop, W: Write>(
     alloc: Global,
     lines: &mut LineReader<R>,
-    registry: &mut Registry,
+    hall: &mut Hall,
     reply: &mut Room,
     writer: &mut W,
 ) -> Result<(), ScriptFault>
-    requires { IsNewHall registry.old }
+    requires { IsNewHall hall.old }
     ensures { IfKnown lines.old
-        (λ commands. Wrote registry.old commands result (Appends (W.contents writer.old) (W.contents writer.new))) }
+        (λ commands. Wrote hall.old commands result (Appends (W.contents writer.old) (W.contents writer.new))) }
 {
     for _ in 0..u64::MAX {
-        match take_turn(alloc, lines, registry, reply) {
+        match take_turn(alloc, lines, hall, reply) {
             Turn::Blank => {}
             Turn::Replied => write_reply(writer, reply.as_slice())?,
             Turn::End => return Ok(()),
@@ -85,17 +85,17 @@ fn run_commands<R: Read + Drop, W: Write>(
 fn take_turn<R: Read + Drop>(
     alloc: Global,
     lines: &mut LineReader<R>,
-    registry: &mut Registry,
+    hall: &mut Hall,
     reply: &mut Room,
 ) -> Turn
-    ensures { IfKnown lines.old (λ commands. Takes commands registry.old result lines.new registry.new reply.new) }
+    ensures { IfKnown lines.old (λ commands. Takes commands hall.old result lines.new hall.new reply.new) }
 {
     match lines.next() {
         NextLine::Text(line) => {
             if is_blank(line) {
                 return Turn::Blank;
             }
-            answer_line(alloc, line, registry, reply);
+            answer_line(alloc, line, hall, reply);
             Turn::Replied
         }
         NextLine::Long => {

@@ -74,9 +74,9 @@ module _ (h : HallState) (who : List ℕ) (k : ℕ) (place : ℕ) (t : Tenant) (
     went_on goes i new at (before, s, there, does, is) =
         let found : find (is_number k) t.holder.searches ≡ Some before = find-position (is_number k) t.holder.searches i at ∙ there in
         let changed : map (λ (x : Numbered Running). if is_number k x then record { number = x.number; of = record { opened_at = before.of.opened_at; search = s } } else x) t.holder.searches
-            ≡ set t.holder.searches i (with_search s before) =
-            changed_in_place (is_number k) (λ (x : Numbered Running). record { number = x.number; of = record { opened_at = before.of.opened_at; search = s } }) t.holder.searches i before
-            (once_numbered k t.holder.opens t.holder.searches (sound_there h who place t sound here).numbers) there (find-Some (is_number k) t.holder.searches before found).1 in (
+        ≡ set t.holder.searches i (with_search s before) =
+        changed_in_place (is_number k) (λ (x : Numbered Running). record { number = x.number; of = record { opened_at = before.of.opened_at; search = s } }) t.holder.searches i before
+        (once_numbered k t.holder.opens t.holder.searches (sound_there h who place t sound here).numbers) there (find-Some (is_number k) t.holder.searches before found).1 in (
           before.of,
           s,
           search_there i before at there,

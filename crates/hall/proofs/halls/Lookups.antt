@@ -7,8 +7,7 @@ use Rattle.std.proofs.lemmas.List.Folds.{find-append}
 use Rattle.std.proofs.lemmas.List.Elements.{filter_passes, All-contains, same_from_all_zip}
 use Rattle.rt0_rules.proofs.Elements.{find-Some}
 use Rattle.hall.specs.halls.Holder.{Numbered, Holder, is_number, search_in, opening, ending, going_on, at_number, AreNumbered, map_numbered, map_holder}
-use Rattle.hall.proofs.Elements.{find-map, zip_changed}
-use Rattle.hall.proofs.Named.{find-filter}
+use Rattle.hall.proofs.Elements.{find-map, zip_changed, find-filter}
 use Rattle.hall.proofs.halls.Holders.{found_one, once_numbered}
 
 given_among : {S : Type 0} (k opens : ℕ) (of : S) (ss : List (Numbered S)) → AreNumbered opens ss → option_map (λ (s : Numbered S). s.of) (find (is_number k) ss) ≡ Some of → (1 ≤ k) × (k ≤ opens)

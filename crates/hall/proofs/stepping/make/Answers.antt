@@ -8,11 +8,15 @@ pub returns-then-signal : goal.returns-then-signal
 returns-then-signal c =
     subst (λ (made : Step). StepsSearch c.args.search.now made _ c.signal.new.self) (sym c.in-Signal.is)
     (record {
-      is_made = (true, record {
-        delivers = subst (Delivers c.args.search.now.stage c.signal.new.self.stage c.in-Signal.place) c.if-signal.true c.signal.ensures.delivered;
-        graph = c.signal.ensures.findings.0;
-        monitors = c.signal.ensures.findings.1;
-        question = c.signal.ensures.question;
-      }, refl);
+      is_made = (
+        true,
+        record {
+          delivers = subst (Delivers c.args.search.now.stage c.signal.new.self.stage c.in-Signal.place) c.if-signal.true c.signal.ensures.delivered;
+          graph = c.signal.ensures.findings.0;
+          monitors = c.signal.ensures.findings.1;
+          question = c.signal.ensures.question;
+        },
+        refl,
+      );
       settles = c.signal.ensures.settles;
     })

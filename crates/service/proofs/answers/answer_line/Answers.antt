@@ -8,18 +8,18 @@ use Rattle.service.proofs.answers.answer_line.Goals as goal
 pub returns-in_default : goal.returns-in_default
 returns-in_default c = record {
   outcome = nobody refusal.Command;
-  allowed = IsOutcome-no_colon c.args.registry.now c.args.line.now (rw c.trim_start.ensures at c.in_default.ensures.found);
+  allowed = IsOutcome-no_colon c.args.hall.now c.args.line.now (rw c.trim_start.ensures at c.in_default.ensures.found);
   carried = refl;
   text = sym c.fill_refusal.ensures;
 }
 
-pub returns-in-Some-called : goal.returns-in-Some-called
-returns-in-Some-called c =
+pub returns-in-Some-speaker : goal.returns-in-Some-speaker
+returns-in-Some-speaker c =
     let said = c.answer_tenant.ensures in
     record {
       outcome = said.outcome;
-      allowed = IsOutcome-tenant c.args.registry.now c.args.line.now c.in-Some.before.now c.in-Some.said.now c.in-Some-called.who said.outcome (rw c.trim_start.ensures at c.in-Some.ensures.found)
-          (rw c.trim_start.ensures at c.in-Some.ensures.before) (rw c.trim_start.ensures at c.in-Some.ensures.after) c.in-Some-called.ensures said.allowed;
+      allowed = IsOutcome-tenant c.args.hall.now c.args.line.now c.in-Some.before.now c.in-Some.said.now c.in-Some-speaker.who said.outcome (rw c.trim_start.ensures at c.in-Some.ensures.found)
+          (rw c.trim_start.ensures at c.in-Some.ensures.before) (rw c.trim_start.ensures at c.in-Some.ensures.after) c.in-Some-speaker.ensures.tenant said.allowed;
       carried = said.carried;
       text = said.text;
     }
@@ -27,8 +27,8 @@ returns-in-Some-called c =
 pub returns-in-None : goal.returns-in-None
 returns-in-None c = record {
   outcome = nobody refusal.BadHello;
-  allowed = IsOutcome-stranger c.args.registry.now c.args.line.now c.in-Some.before.now (rw c.trim_start.ensures at c.in-Some.ensures.found)
-      (rw c.trim_start.ensures at c.in-Some.ensures.before) c.in-None.ensures;
+  allowed = IsOutcome-stranger c.args.hall.now c.args.line.now c.in-Some.before.now (rw c.trim_start.ensures at c.in-Some.ensures.found)
+      (rw c.trim_start.ensures at c.in-Some.ensures.before) c.in-None.ensures.tenant;
   carried = refl;
   text = sym c.fill_refusal-in-None.ensures;
 }

@@ -1,10 +1,10 @@
--- A short reply is one line.
+-- A short reply is one line, and what no command asks for is none.
 use Rattle.std.proofs.Common.{◌++◌, codes, refl}
 use Rattle.std.specs.Fmt.{decimal}
-use Rattle.hall.specs.declared.replies.Reply.TheVariants.{Counted, Opened, Answered, Closed, Refused}
+use Rattle.hall.specs.declared.calls.replies.Reply.TheVariants.{Counted, Opened, Closed, Proof, Refused, Stepped}
 use Rattle.hall.specs.Fault.{fault_number}
-use Rattle.service.specs.Reply.{speaker_name, answer_text, error_text}
-use Rattle.service.proofs.ReplyLemmas.{IsFilled-one}
+use Rattle.service.specs.Reply.{speaker_name, error_text}
+use Rattle.service.proofs.ReplyLemmas.{IsFilled-one, IsFilled-silent}
 use Rattle.service.proofs.reply_lines.fill_reply.Goals as goal
 
 pub returns-in-Counted : goal.returns-in-Counted
@@ -15,10 +15,6 @@ pub returns-in-Opened : goal.returns-in-Opened
 returns-in-Opened c =
     rw c.in-Opened.is (IsFilled-one (speaker_name c.args.who.now) (codes "search " ++ decimal c.in-Opened.number) c.fill_counted-in-Opened.new.room (Opened c.in-Opened.number) refl c.fill_counted-in-Opened.ensures)
 
-pub returns-in-Answered : goal.returns-in-Answered
-returns-in-Answered c =
-    rw c.in-Answered.is (IsFilled-one (speaker_name c.args.who.now) (answer_text c.in-Answered.answer) c.fill_answer.new.room (Answered c.in-Answered.answer) refl c.fill_answer.ensures)
-
 pub returns-in-Closed : goal.returns-in-Closed
 returns-in-Closed c =
     rw c.in-Closed.is (IsFilled-one (speaker_name c.args.who.now) (codes "ended") c.fill_text.new.room Closed refl c.fill_text.ensures)
@@ -26,3 +22,9 @@ returns-in-Closed c =
 pub returns-in-Refused : goal.returns-in-Refused
 returns-in-Refused c =
     rw c.in-Refused.is (IsFilled-one (speaker_name c.args.who.now) (error_text (fault_number c.in-Refused.fault)) c.fill_error.new.room (Refused c.in-Refused.fault) refl (rw c.number.ensures at c.fill_error.ensures))
+
+pub returns-in-Proof : goal.returns-in-Proof
+returns-in-Proof c = rw c.in-Proof.is (IsFilled-silent (speaker_name c.args.who.now) c.clear.new.self (Proof _) refl c.clear.ensures)
+
+pub returns-in-Stepped : goal.returns-in-Stepped
+returns-in-Stepped c = rw c.in-Stepped.is (IsFilled-silent (speaker_name c.args.who.now) c.clear-in-Stepped.new.self (Stepped _) refl c.clear-in-Stepped.ensures)

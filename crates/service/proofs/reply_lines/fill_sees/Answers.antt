@@ -1,8 +1,8 @@
 -- The names were written, or a refusal in its place.
-use Rattle.std.proofs.Common.{sym}
-use Rattle.hall.specs.declared.replies.Reply.TheVariants.{Sees}
-use Rattle.service.specs.Reply.{speaker_name}
-use Rattle.service.proofs.ReplyLemmas.{IsFilled-whole, IsFilled-lacking}
+use Rattle.std.proofs.Common.{◌++◌, codes, refl, sym}
+use Rattle.hall.specs.declared.calls.replies.Reply.TheVariants.{Sees}
+use Rattle.service.specs.Reply.{speaker_name, listed}
+use Rattle.service.proofs.ReplyLemmas.{IsFilled-whole_line, IsFilled-lacking}
 use Rattle.service.proofs.reply_lines.fill_sees.Goals as goal
 
 pub returns-then-is_err : goal.returns-then-is_err
@@ -11,4 +11,5 @@ returns-then-is_err c =
 
 pub returns-else-is_err : goal.returns-else-is_err
 returns-else-is_err c =
-    IsFilled-whole c.write_sees.result (speaker_name c.args.who.now) c.write_sees.new.room (Sees c.args.names.now) (sym c.if-is_err.ensures.value) c.write_sees.ensures
+    IsFilled-whole_line c.write_names.result (speaker_name c.args.who.now) (codes "sees" ++ listed c.args.names.now) c.write_names.new.room (Sees c.args.names.now) refl
+    (sym c.if-is_err.ensures.value) c.write_names.ensures

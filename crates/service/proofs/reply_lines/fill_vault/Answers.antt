@@ -1,6 +1,6 @@
 -- The vault was written, or a refusal in its place.
 use Rattle.std.proofs.Common.{sym}
-use Rattle.hall.specs.declared.replies.Reply.TheVariants.{Vault}
+use Rattle.hall.specs.declared.calls.replies.Reply.TheVariants.{Vault}
 use Rattle.service.specs.Reply.{speaker_name}
 use Rattle.service.proofs.ReplyLemmas.{IsFilled-whole, IsFilled-lacking}
 use Rattle.service.proofs.reply_lines.fill_vault.Goals as goal

@@ -5,22 +5,22 @@ use Rattle.service.proofs.scripts.run_commands.Goals as goal
 use Rattle.service.proofs.scripts.run_commands.Goals.{in-Blank, in-Replied+in_ok-write_reply-in-Replied}
 
 pub loop-init : goal.loop-init
-loop-init g c = SoFar-start c.args.lines.now c.args.registry.now (g.W.Write.contents c.args.writer.now)
+loop-init g c = SoFar-start c.args.lines.now c.args.hall.now (g.W.Write.contents c.args.writer.now)
 
 pub returns-in_err-write_reply-in-Replied : goal.returns-in_err-write_reply-in-Replied
 returns-in_err-write_reply-in-Replied g c =
     let p = err_from_is_err_and c.from_residual.result c.from_residual.ensures.1 in
     let written = rw c.as_slice.ensures at c.in_err-write_reply-in-Replied.ensures.err in
     rw (p.1, p.2)
-    (Wrote-part c.args.lines.now c.loop.lines c.take_turn.new.lines c.args.registry.now c.loop.registry c.take_turn.new.registry c.take_turn.new.reply _ _ _
+    (Wrote-part c.args.lines.now c.loop.lines c.take_turn.new.lines c.args.hall.now c.loop.hall c.take_turn.new.hall c.take_turn.new.reply _ _ _
     c.requires c.loop.invariant c.in-Replied.ensures written)
 
 pub returns-in-Fault : goal.returns-in-Fault
-returns-in-Fault g c = Wrote-some c.args.lines.now c.loop.lines c.args.registry.now c.loop.registry _ c.requires c.loop.invariant
+returns-in-Fault g c = Wrote-some c.args.lines.now c.loop.lines c.args.hall.now c.loop.hall _ c.requires c.loop.invariant
 
 pub returns-in-End : goal.returns-in-End
 returns-in-End g c =
-    Wrote-all c.args.lines.now c.loop.lines c.take_turn.new.lines c.args.registry.now c.loop.registry c.take_turn.new.registry c.take_turn.new.reply _
+    Wrote-all c.args.lines.now c.loop.lines c.take_turn.new.lines c.args.hall.now c.loop.hall c.take_turn.new.hall c.take_turn.new.reply _
     c.requires c.loop.invariant c.in-End.ensures
 
 pub loop-preserved : goal.loop-preserved
@@ -28,9 +28,9 @@ loop-preserved g c =
     let old = c.args.lines.now in
     let mid = c.loop.lines in
     let new = c.take_turn.new.lines in
-    let start = c.args.registry.now in
-    let before = c.loop.registry in
-    let after = c.take_turn.new.registry in
+    let start = c.args.hall.now in
+    let before = c.loop.hall in
+    let after = c.take_turn.new.hall in
     let reply = c.take_turn.new.reply in
     elim c.match-take_turn.branch [
       | in-Blank w ↦ rw w.writer-is (SoFar-blank old mid new start before after reply _ c.loop.invariant w.in-Blank.ensures)
@@ -40,4 +40,4 @@ loop-preserved g c =
     ]
 
 pub returns : goal.returns
-returns g c = Wrote-some c.args.lines.now c.loop.lines c.args.registry.now c.loop.registry _ c.requires c.loop.invariant
+returns g c = Wrote-some c.args.lines.now c.loop.lines c.args.hall.now c.loop.hall _ c.requires c.loop.invariant

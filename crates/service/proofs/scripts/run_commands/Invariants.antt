@@ -5,4 +5,4 @@ use Rattle.service.proofs.scripts.run_commands.Given as goal
 
 -- the lines so far are answered, and their replies went out
 abbrev pub invariant-loop : goal.invariant-loop
-invariant-loop g l = IfKnown l.initial.lines (λ lines. SoFar lines l.initial.registry l.lines l.registry (Appends (g.W.Write.contents l.initial.writer) (g.W.Write.contents l.writer)))
+invariant-loop g l = IfKnown l.initial.lines (λ lines. SoFar lines l.initial.hall l.lines l.hall (Appends (g.W.Write.contents l.initial.writer) (g.W.Write.contents l.writer)))

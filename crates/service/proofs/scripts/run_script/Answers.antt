@@ -1,8 +1,7 @@
 -- The roster, and then its commands, or the refusal of the roster.
-use Rattle.std.proofs.Common.{List, ℕ, Err, ap, ◌∙◌}
+use Rattle.std.proofs.Common.{List, ℕ, Err}
 use Rattle.std.specs.Io.KnownBytes.{Appends}
 use Rattle.std.proofs.lemmas.Result.{err_from_is_err_and}
-use Rattle.hall.specs.Calls.{new_hall}
 use Rattle.service.specs.declared.script_faults.ScriptFault.TheVariants.{Roster, Write}
 use Rattle.service.proofs.ScriptLemmas.{ScriptWrote-after_roster, ScriptWrote-wrong, ScriptWrote-wrong_part, ScriptWrote-known}
 use Rattle.service.proofs.scripts.run_script.Goals as goal
@@ -28,7 +27,6 @@ pub returns : goal.returns
 returns g c =
     let source = c.in_ok-lines.lines in
     let out : List ℕ → Type 0 = Appends (g.W.Write.contents c.args.writer.now) (g.W.Write.contents c.run_commands.new.writer) in
-    let hall = c.in-Ok-make.ensures.hall ∙ ap new_hall c.in_ok-tenants.ensures.items in
-    let wrote = rw hall at c.run_commands.ensures in
+    let wrote = rw c.in-Ok-hall.ensures.hall at c.run_commands.ensures in
     ScriptWrote-known (g.R.Read.remaining c.args.reader) source c.run_commands.result out c.in_ok-lines.ensures.source
     (ScriptWrote-after_roster source c.read.new.lines c.in-Ok.roster c.run_commands.result out c.in-Ok.ensures.roster wrote)
