@@ -1,3 +1,6 @@
+//! Faults, lists, the laws, and one search of a hall.
+mod steps;
+
 use crate::{
     Fault, Names, Rows, answers_are_true, deeds_are_allowed, deeds_are_fixed, runs_are_allowed,
     two_halls, two_worlds,
