@@ -29,3 +29,4 @@ pub mod Telling
 pub mod Going
 pub mod Polling
 pub mod Carrying
+pub mod Picking

@@ -8,6 +8,7 @@ mod faults;
 mod jobs;
 mod lists;
 mod opened;
+mod picking;
 mod registry;
 mod run_laws;
 mod seats;

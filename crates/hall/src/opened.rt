@@ -1,8 +1,9 @@
 //! The searches that a tenant has opened and not ended.
-ghost use Rattle.std.specs.Prelude.{◌≡◌};
+ghost use Rattle.std.specs.Prelude.{◌≡◌, MatchOption};
 ghost use Rattle.search.specs.Search.{SearchState};
 ghost use Rattle.hall.specs.halls.Searches.{StepsSearch};
-ghost use Rattle.hall.specs.halls.Kept.{with_search, DrivesTo, TakesJob};
+ghost use Rattle.hall.specs.halls.Calls.{IsStill};
+ghost use Rattle.hall.specs.halls.Kept.{with_search, DrivesTo, TakesJob, IsNext};
 
 use crate::calls::{Answer, Step, Stepped};
 use crate::faults::Fault;
@@ -93,5 +94,18 @@ impl Opened {
             return Ok(None);
         };
         Ok(Some(Job::new(who, self.number, task)))
+    }
+
+    /// The step of this tenant that goes on with it, if anything of it waits or is under way: the oldest signal first.
+    pub(crate) fn next(&self, who: Entity) -> Option<Step>
+        ensures { MatchOption result (IsStill self.now) (IsNext who self.now) }
+    {
+        if self.search.signals() > 0 {
+            return Some(Step::Signal(who, self.number, 0));
+        }
+        if self.search.waiting() > 0 {
+            return Some(Step::Take(who, self.number, 0));
+        }
+        None
     }
 }

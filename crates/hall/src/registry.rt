@@ -1,5 +1,5 @@
 //! The hall of all tenants.
-ghost use Rattle.std.specs.Prelude.{◌≡◌, IfOk, IfErr, OnErr, option_copied, option_map, position, map, length};
+ghost use Rattle.std.specs.Prelude.{◌≡◌, ◌↔◌, None, IfSome, IfOk, IfErr, OnErr, option_copied, option_map, position, map, length};
 ghost use Rattle.names.specs.Name.{is_same};
 ghost use Rattle.hall.specs.declared.calls.requests.Request.TheVariants as request;
 ghost use Rattle.hall.specs.halls.Calls.{counted, opened_number, answered, closing, rows_seen, names_seen};
@@ -11,6 +11,7 @@ use crate::copies::copy_of;
 use crate::faults::Fault;
 use crate::jobs::Job;
 use crate::lists::{Names, Rows};
+use crate::picking::pick_seat;
 use crate::seats::Seat;
 use indexmap::IndexSet;
 use names::Entity;
@@ -160,7 +161,7 @@ impl Hall {
     ghost use Rattle.hall.specs.halls.Run.{IsStepped};
     ghost use Rattle.hall.specs.halls.Calls.{IsTaken};
     ghost use Rattle.hall.specs.halls.Deeds.{IsDriven};
-    ghost use Rattle.hall.specs.halls.Calls.{SearchIsQuiet};
+    ghost use Rattle.hall.specs.halls.Calls.{SearchIsQuiet, CanBeMade, NothingToDo};
 
     /// Makes the step of the search that it names. It takes no memory that it couldn't do without: where a search lacks
     /// it, that search alone is broken.
@@ -216,6 +217,16 @@ impl Hall {
         };
         let seat = &mut self.seats[place];
         seat.drive(number)
+    }
+
+    /// A step that goes on with a search, if anything waits or is under way. It begins at the tenant and the search that
+    /// the turn picks, and goes round.
+    pub fn pick(&self, turn: u64) -> Option<Step>
+        ensures progress { IfSome result (λ step. CanBeMade self.now step) }
+        ensures none { (result ≡ None) ↔ NothingToDo self.now }
+    {
+        let _names = &self.names;
+        pick_seat(&self.seats, turn)
     }
 
     /// The tenant's search of the number, if it has not ended.

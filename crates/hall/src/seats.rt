@@ -8,12 +8,14 @@ ghost use Rattle.hall.specs.halls.Holder.{Numbered, is_number, seek_refusal, end
 ghost use Rattle.hall.specs.halls.Account.{limit_refusal};
 ghost use Rattle.hall.specs.halls.State.{new_tenant, Running};
 ghost use Rattle.hall.specs.halls.Run.{starting};
-ghost use Rattle.hall.specs.halls.Kept.{GoesAt, IsToldOf, DrivesTo, TakesJob};
+ghost use Rattle.hall.specs.halls.Calls.{IsIdle};
+ghost use Rattle.hall.specs.halls.Kept.{GoesAt, IsToldOf, DrivesTo, TakesJob, IsNextOf};
 
 use crate::calls::{Answer, Step, Stepped};
 use crate::faults::Fault;
 use crate::jobs::Job;
 use crate::opened::Opened;
+use crate::picking::pick_search;
 use crate::stepping::told_of;
 use names::Entity;
 use quotas::{Limits, Used};
@@ -164,6 +166,13 @@ impl Seat {
         };
         let opened = &mut self.searches[at];
         opened.take(who, place)
+    }
+
+    /// The step that goes on with one of the searches. It begins at the search that the turn picks, and goes round.
+    pub(crate) fn next(&self, turn: u64) -> Option<Step>
+        ensures { MatchOption result (IsIdle self.now) (IsNextOf self.now.name self.now.holder.searches) }
+    {
+        pick_search(self.name, &self.searches, turn)
     }
 
     /// The search of the number.

@@ -84,10 +84,17 @@ NoneHeldOf h name k = IfRunning NoneHeld (search_at h name k)
 abbrev pub SearchIsQuiet : HallState → List ℕ → ℕ → Type 0
 SearchIsQuiet h name k = IfRunning IsQuiet (search_at h name k)
 
+-- nothing of the search waits or is under way
+abbrev pub IsStill : Numbered Running → Type 0
+IsStill s = IsQuiet s.of.search.stage
+
+-- nothing of any of the tenant's searches waits or is under way
+abbrev pub IsIdle : Tenant → Type 0
+IsIdle t = AllByRecursion IsStill t.holder.searches
+
 -- nothing of any search waits or is under way
 abbrev pub NothingToDo : HallState → Type 0
-NothingToDo h =
-    AllByRecursion (λ (t : Tenant). AllByRecursion (λ (s : Numbered Running). IsQuiet s.of.search.stage) t.holder.searches) h.tenants
+NothingToDo h = AllByRecursion IsIdle h.tenants
 
 -- a letter was taken, or a signal delivered
 abbrev pub MadeProgress : Stepped → Type 0

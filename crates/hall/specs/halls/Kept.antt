@@ -1,5 +1,6 @@
 -- What a hall keeps beside what it is seen as, and what its calls do to one of its searches.
 use Rattle.std.specs.Prelude.{◌≡◌, ℕ, List, [], map, Option, None, Some, Result, Ok, Err, slice_set, slice_get}
+use Rattle.std.specs.List.{Contains}
 use Rattle.search.specs.Ending.{Settled}
 use Rattle.search.specs.Search.{SearchState, Settles, IsOutstanding, settled_of}
 use Rattle.search.specs.Stage.{waiting_in, signals_in}
@@ -56,3 +57,11 @@ abbrev pub IsNext : List ℕ → Numbered Running → Step → Type 0
 IsNext who o (Take name k place) = (name ≡ who) × (k ≡ o.number) × (place ≡ 0) × (waiting_in o.of.search.stage ≡ [] → ⊥)
 IsNext who o (Signal name k place) = (name ≡ who) × (k ≡ o.number) × (place ≡ 0) × (signals_in o.of.search.stage ≡ [] → ⊥)
 IsNext who o _ = ⊥
+
+-- the step goes on with one of the searches
+abbrev pub IsNextOf : List ℕ → List (Numbered Running) → Step → Type 0
+IsNextOf who ss made = (s : Numbered Running) × Contains ss s × IsNext who s made
+
+-- the step goes on with a search of one of the tenants
+abbrev pub IsNextOfAny : List Tenant → Step → Type 0
+IsNextOfAny ts made = (t : Tenant) × Contains ts t × IsNextOf t.name t.holder.searches made

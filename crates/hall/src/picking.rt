@@ -1,0 +1,69 @@
+//! Which step goes on with the searches of a hall, each in its turn.
+ghost use Rattle.std.specs.Prelude.{◌≤◌, MatchOption};
+ghost use Rattle.std.specs.List.{AllByRecursion};
+ghost use Rattle.hall.specs.halls.Calls.{IsStill, IsIdle};
+ghost use Rattle.hall.specs.halls.Kept.{IsNextOf, IsNextOfAny};
+
+use crate::calls::Step;
+use crate::opened::Opened;
+use crate::seats::Seat;
+use names::Entity;
+
+/// The step that goes on with a tenant's search. It begins at the tenant that the turn picks, and goes round.
+pub(crate) fn pick_seat(seats: &[Seat], turn: u64) -> Option<Step>
+    ensures { MatchOption result (AllByRecursion IsIdle seats.now) (IsNextOfAny seats.now) }
+{
+    let (place, round) = begin_at(seats.len(), turn);
+    let (before, from_there) = seats.split_at(place);
+    if let Some(step) = first_seat(from_there, round) {
+        return Some(step);
+    }
+    first_seat(before, round)
+}
+
+/// The step that goes on with a search of this tenant. It begins at the search that the turn picks, and goes round.
+pub(crate) fn pick_search(who: Entity, searches: &[Opened], turn: u64) -> Option<Step>
+    ensures { MatchOption result (AllByRecursion IsStill searches.now) (IsNextOf who searches.now) }
+{
+    let (place, _round) = begin_at(searches.len(), turn);
+    let (before, from_there) = searches.split_at(place);
+    if let Some(step) = first_search(who, from_there) {
+        return Some(step);
+    }
+    first_search(who, before)
+}
+
+/// The place among so many that the turn picks, and how often all of them had their turn before.
+fn begin_at(count: usize, turn: u64) -> (usize, u64)
+    ensures { result.0 ≤ count }
+{
+    if count == 0 {
+        return (0, turn);
+    }
+    let each = count as u64;
+    ((turn % each) as usize, turn / each)
+}
+
+/// The step of the first tenant that has one.
+fn first_seat(seats: &[Seat], turn: u64) -> Option<Step>
+    ensures { MatchOption result (AllByRecursion IsIdle seats.now) (IsNextOfAny seats.now) }
+{
+    for seat in seats {
+        if let Some(step) = seat.next(turn) {
+            return Some(step);
+        }
+    }
+    None
+}
+
+/// The step of the first search that has one.
+fn first_search(who: Entity, searches: &[Opened]) -> Option<Step>
+    ensures { MatchOption result (AllByRecursion IsStill searches.now) (IsNextOf who searches.now) }
+{
+    for opened in searches {
+        if let Some(step) = opened.next(who) {
+            return Some(step);
+        }
+    }
+    None
+}
