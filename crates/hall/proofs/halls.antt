@@ -30,3 +30,5 @@ pub mod Going
 pub mod Polling
 pub mod Carrying
 pub mod Picking
+pub mod Explaining
+pub mod Running

@@ -8,6 +8,8 @@ use Rattle.vaults.specs.declared.faults.VaultFault.{VaultFault}
 use Rattle.vaults.specs.declared.faults.VaultFault.TheVariants as vault
 use Rattle.quotas.specs.declared.faults.QuotaFault.{QuotaFault}
 use Rattle.quotas.specs.declared.faults.QuotaFault.TheVariants as quota
+use Rattle.proof_trees.specs.declared.faults.ProofFault.{ProofFault}
+use Rattle.proof_trees.specs.declared.faults.ProofFault.TheVariants as proof
 
 abbrev pub fault_number : Fault → ℕ
 fault_number NotIssuer = 31
@@ -44,3 +46,9 @@ quota_fault quota.Grants = Grants
 quota_fault quota.Searches = Searches
 quota_fault quota.Changes = Changes
 quota_fault quota.Opens = Opens
+
+-- a search that gives no proof
+abbrev pub proof_fault : ProofFault → Fault
+proof_fault proof.NotDone = NotDone
+proof_fault proof.NoProof = NoProof
+proof_fault proof.Memory = Memory

@@ -1,5 +1,6 @@
 ghost use Rattle.std.specs.Prelude.{◌≡◌};
 
+use proof_trees::ProofFault;
 use quotas::QuotaFault;
 use std::alloc::{AllocError, AllocFailed};
 use thiserror::Error;
@@ -116,6 +117,20 @@ impl From<QuotaFault> for Fault {
             QuotaFault::Searches => Fault::Searches,
             QuotaFault::Changes => Fault::Changes,
             QuotaFault::Opens => Fault::Opens,
+        }
+    }
+}
+
+impl From<ProofFault> for Fault {
+    ghost use Rattle.hall.specs.Fault.{proof_fault};
+
+    ghost from_gives = { λ f fault. fault ≡ proof_fault f };
+
+    fn from(fault: ProofFault) -> Fault {
+        match fault {
+            ProofFault::NotDone => Fault::NotDone,
+            ProofFault::NoProof => Fault::NoProof,
+            ProofFault::Memory => Fault::Memory,
         }
     }
 }

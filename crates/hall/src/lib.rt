@@ -11,6 +11,7 @@ mod opened;
 mod picking;
 mod registry;
 mod run_laws;
+mod running;
 mod seats;
 mod stepping;
 #[cfg(test)]

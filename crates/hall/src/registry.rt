@@ -82,6 +82,14 @@ impl Hall {
         self.book.journal_len()
     }
 
+    /// Where the hall takes its memory from.
+    pub(crate) fn alloc(&self) -> Global
+        ensures sound { IsSound self.now }
+    {
+        let _ = &self.seats;
+        self.alloc
+    }
+
     /// Enters the tenant's change, and answers how many of its changes were accepted so far. The order of refusals: 62,
     /// then 44 of all changes, 41 of an upload and 42 of a grant, then the journal's own (31 to 36), and want of memory.
     pub fn change(&mut self, who: Entity, change: Change) -> Result<u64, Fault>
