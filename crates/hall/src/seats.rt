@@ -1,5 +1,6 @@
 //! The tenants, each with its limits and its searches.
-ghost use Rattle.std.specs.Prelude.{◌≡◌, ◌+◌, ◌<◌, [], None, Some, length, unwrap_or, IfOk, IfErr, OnOk, OnErr, option_copied, Ok, Err, MatchOption};
+ghost use Rattle.std.specs.Prelude.{◌≡◌, ◌+◌, ◌<◌, [], None, Some, length, unwrap_or};
+ghost use Rattle.std.specs.Prelude.{IfOk, IfErr, OnOk, OnErr, option_copied, Ok, Err, MatchOption};
 ghost use Rattle.std.specs.Prelude.{option_map, position, filter, find, not, is_none};
 ghost use Rattle.vaults.specs.Journal.{entries_of, vault, readers, view};
 ghost use Rattle.hall.specs.declared.faults.Fault.TheVariants as faults;
@@ -68,7 +69,8 @@ impl Seat {
     /// grant.
     #[tactic(auto, using(vaults::proofs::Exactness::vaults_own, vaults::proofs::Exactness::readers_own))]
     pub(crate) fn may_alter(&self, book: &Book, change: &Change) -> Result<(), Fault>
-        ensures allowed { OnOk result (limit_refusal self.now.holder.limits (entries_of self.now.name book.now) self.now.name change.now ≡ None) }
+        ensures allowed { OnOk result
+            (limit_refusal self.now.holder.limits (entries_of self.now.name book.now) self.now.name change.now ≡ None) }
         ensures refused { IfErr result
             (λ f. limit_refusal self.now.holder.limits (entries_of self.now.name book.now) self.now.name change.now ≡ Some f) }
     {

@@ -35,7 +35,12 @@ with_search s o = record { number = o.number; of = record { opened_at = o.of.ope
 abbrev pub GoesAt : (SearchState → SearchState → Type 0) → ℕ → Tenant → Tenant → Type 0
 GoesAt goes place old new =
     (before : Numbered Running) × (s : SearchState) × (slice_get old.holder.searches place ≡ Some before) × goes before.of.search s
-    × (new ≡ record { name = old.name; holder = record old.holder { searches = slice_set old.holder.searches place (with_search s before) } })
+    × (new ≡ record {
+      name = old.name;
+      holder = record old.holder {
+        searches = slice_set old.holder.searches place (with_search s before);
+      };
+    })
 
 -- a search was driven, and what it has come to is told, where there is memory to tell it
 pub record DrivesTo (s : SearchState) (told : Result Answer Fault) (t : SearchState) : Type 0 where
