@@ -1,4 +1,5 @@
 //! Faults, lists, the laws, and one search of a hall.
+mod runs;
 mod steps;
 
 use crate::{
