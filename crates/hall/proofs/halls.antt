@@ -32,3 +32,4 @@ pub mod Carrying
 pub mod Picking
 pub mod Explaining
 pub mod Running
+pub mod Proving

@@ -1,3 +1,4 @@
 pub mod Fault
 pub mod Query
+pub mod Text
 pub mod halls

@@ -21,6 +21,7 @@ pub use calls::{Answer, Event, Reply, Request, Step, Stepped};
 pub use faults::Fault;
 pub use jobs::Job;
 pub use lists::{Names, Rows};
+pub use proof_trees::{Proof, write_proof};
 pub use registry::Hall;
 pub use run_laws::{
     answers_are_true, deeds_are_allowed, deeds_are_fixed, runs_are_allowed, two_halls, two_worlds,

@@ -17,12 +17,14 @@ use Rattle.hall.specs.halls.Deeds.{Deed, asks, waits, CarriesOut, IsDone, IsDriv
 use Rattle.hall.specs.halls.Turns.{SettlesAs, SettlesAt}
 use Rattle.hall.proofs.Elements.{Both}
 use Rattle.hall.proofs.halls.Driving.{driven_drives}
+use Rattle.hall.proofs.halls.Proving.{proof_alone}
 use Rattle.service.specs.Reply.{IsLong, IsPrinted}
 
 -- whether a reply may need more room than there is
 abbrev is_long : Reply → Bool
 is_long (reply.Vault rows) = true
 is_long (reply.Sees names) = true
+is_long (reply.Proof steps) = true
 is_long (reply.Answered (answer.Members names)) = true
 is_long _ = false
 
@@ -38,7 +40,7 @@ long_is (reply.Answered answer.No) long = absurd long
 long_is (reply.Answered answer.Spent) long = absurd long
 long_is (reply.Answered answer.Broken) long = absurd long
 long_is reply.Closed long = absurd long
-long_is (reply.Proof steps) long = absurd long
+long_is (reply.Proof steps) long = refl
 long_is (reply.Refused f) long = absurd long
 long_is (reply.Stepped a) long = absurd long
 
@@ -47,6 +49,7 @@ abbrev IsShort : Request → Type 0
 IsShort (request.Poll k) = ⊥
 IsShort request.Vault = ⊥
 IsShort request.Sees = ⊥
+IsShort (request.Proof k who) = ⊥
 IsShort _ = Unit {0}
 
 unless-short : (f : Option Fault) (told : Reply) → is_long told ≡ false → is_long (unless_refused f told) ≡ false
@@ -57,15 +60,6 @@ closed-short : (o : Option Asked) → is_long (told_closed o) ≡ false
 closed-short None = refl
 closed-short (Some s) = refl
 
-proof-short : (s : Asked) (who : List ℕ) (told : Reply) → MayProve s who told → is_long told ≡ false
-proof-short s who told (MayProve.not_done working) = refl
-proof-short s who told (MayProve.no_proof done none) = refl
-proof-short s who told (MayProve.proof steps done is) = refl
-
-proofs-short : (o : Option Asked) (who : List ℕ) (told : Reply) → MayProveOf o who told → is_long told ≡ false
-proofs-short None who told is = ap is_long is
-proofs-short (Some s) who told may = proof-short s who told may
-
 reply-short : (name : List ℕ) (seen : List Vault) (a : Account) (q : Request) (told : Reply) → IsShort q → IsReply name seen a q told → is_long told ≡ false
 reply-short name seen a (request.Alter change) told short is =
     ap is_long is ∙ unless-short (alter_refusal a.holder.limits a.entries name change) (reply.Counted (length a.entries + 1)) refl
@@ -74,7 +68,7 @@ reply-short name seen a (request.Poll k) told short is = absurd short
 reply-short name seen a (request.Close k) told short is = ap is_long is ∙ closed-short (search_in k a.holder)
 reply-short name seen a request.Vault told short is = absurd short
 reply-short name seen a request.Sees told short is = absurd short
-reply-short name seen a (request.Proof k who) told short may = proofs-short (search_in k a.holder) who told may
+reply-short name seen a (request.Proof k who) told short is = absurd short
 
 -- so such a request isn't answered by a long one
 none_long : (h : HallState) (name : List ℕ) (o : Option Account) (q : Request) (told : Reply) → IsShort q → IsLong told → MayReplyTo h name o q told → ⊥
@@ -87,30 +81,43 @@ lacks_may : (h : HallState) (name : List ℕ) (o : Option Account) (q : Request)
 lacks_may h name None q told lacks long may = absurd (false≢true (ap is_long (sym may) ∙ long_is told long))
 lacks_may h name (Some a) q told lacks long may = inr (refl, lacks)
 
--- and no other refusal is due, where the account gives one reply alone
+-- and no other refusal is due, where none may be given beside it
 none_due : (h : HallState) (name : List ℕ) (o : Option Account) (q : Request) (told : Reply) →
-    ((a : Account) (r : Reply) → IsReply name (view h.journal name) a q told → IsReply name (view h.journal name) a q r → r ≡ told) → IsLong told →
+    ((a : Account) (f : Fault) → IsReply name (view h.journal name) a q told → IsReply name (view h.journal name) a q (reply.Refused f) → ⊥) → IsLong told →
     MayReplyTo h name o q told → (f : Fault) → IsDue h name o q f → ⊥
-none_due h name None q told one long may f due = false≢true (ap is_long (sym may) ∙ long_is told long)
-none_due h name (Some a) q told one long (inl given) f due = false≢true (ap is_long (one a (reply.Refused f) given due) ∙ long_is told long)
-none_due h name (Some a) q told one long (inr lacks) f due = false≢true (ap is_long (sym lacks.0) ∙ long_is told long)
+none_due h name None q told never long may f due = false≢true (ap is_long (sym may) ∙ long_is told long)
+none_due h name (Some a) q told never long (inl given) f due = never a f given due
+none_due h name (Some a) q told never long (inr lacks) f due = false≢true (ap is_long (sym lacks.0) ∙ long_is told long)
+
+one_reply : (told : Reply) (f : Fault) (r : Reply) → IsLong told → told ≡ r → reply.Refused f ≡ r → ⊥
+one_reply told f r long given due = false≢true (ap is_long (due ∙ sym given) ∙ long_is told long)
+
+-- a proof, and no refusal beside it
+proof_reply : (o : Option Asked) (member : List ℕ) (told : Reply) (f : Fault) → IsLong told → MayProveOf o member told → MayProveOf o member (reply.Refused f) → ⊥
+proof_reply None member told f long given due = false≢true (ap is_long (sym given) ∙ long_is told long)
+proof_reply (Some s) member told f long (MayProve.not_done working) due = absurd long
+proof_reply (Some s) member told f long (MayProve.no_proof done none) due = absurd long
+proof_reply (Some s) member told f long (MayProve.proof steps done is) due = proof_alone s member steps f (MayProve.proof steps done is) due
 
 served_long : (old new : HallState) (who : List ℕ) (q : Request) (told : Reply) → IsLong told → IsServed old who q told new → IsDone old who (asks q) (reply.Refused Memory) new
 served_long old new who (request.Alter change) told long served = absurd (none_long old who (account_of old who) (request.Alter change) told tt long served.may_reply)
 served_long old new who (request.Seek query) told long served = absurd (none_long old who (account_of old who) (request.Seek query) told tt long served.may_reply)
 served_long old new who (request.Close k) told long served = absurd (none_long old who (account_of old who) (request.Close k) told tt long served.may_reply)
-served_long old new who (request.Proof k member) told long served = absurd (none_long old who (account_of old who) (request.Proof k member) told tt long served.may_reply)
+served_long old new who (request.Proof k member) told long served = record {
+  carried = record { may_reply = lacks_may old who (account_of old who) (request.Proof k member) told tt long served.may_reply; after = served.after };
+  memory_last = λ is. none_due old who (account_of old who) (request.Proof k member) told (λ a f given due. proof_reply (search_in k a.holder) member told f long given due) long served.may_reply;
+}
 served_long old new who (request.Poll k) told long served = record {
   carried = record { may_reply = lacks_may old who (account_of old who) (request.Poll k) told tt long served.may_reply; after = served.after };
-  memory_last = λ is. none_due old who (account_of old who) (request.Poll k) told (λ a r given other. other ∙ sym given) long served.may_reply;
+  memory_last = λ is. none_due old who (account_of old who) (request.Poll k) told (λ a f given due. one_reply told f _ long given due) long served.may_reply;
 }
 served_long old new who request.Vault told long served = record {
   carried = record { may_reply = lacks_may old who (account_of old who) request.Vault told tt long served.may_reply; after = served.after };
-  memory_last = λ is. none_due old who (account_of old who) request.Vault told (λ a r given other. other ∙ sym given) long served.may_reply;
+  memory_last = λ is. none_due old who (account_of old who) request.Vault told (λ a f given due. one_reply told f _ long given due) long served.may_reply;
 }
 served_long old new who request.Sees told long served = record {
   carried = record { may_reply = lacks_may old who (account_of old who) request.Sees told tt long served.may_reply; after = served.after };
-  memory_last = λ is. none_due old who (account_of old who) request.Sees told (λ a r given other. other ∙ sym given) long served.may_reply;
+  memory_last = λ is. none_due old who (account_of old who) request.Sees told (λ a f given due. one_reply told f _ long given due) long served.may_reply;
 }
 
 -- a search that has come to something by a wait was there before it

@@ -1,5 +1,5 @@
 -- The commands of a script, as their lines write them.
-use Rattle.std.specs.Prelude.{◌≡◌, ℕ, List, [], ◌∷◌, Option, Some, None, Result, Ok, Err, codes, if◌then◌else◌}
+use Rattle.std.specs.Prelude.{◌≡◌, ◌⊎◌, ℕ, List, [], ◌∷◌, Option, Some, None, Result, Ok, Err, codes, if◌then◌else◌}
 use Rattle.std.specs.Str.{bytes_eq}
 use Rattle.names.specs.Name.{IsName}
 use Rattle.names.specs.Fault.{name_fault, role_fault, or_then}
@@ -8,12 +8,13 @@ use Rattle.credential_text.specs.Spelling.{Spells}
 use Rattle.credential_text.specs.Refusal as credential
 use Rattle.vaults.specs.declared.changes.Change.TheVariants as change
 use Rattle.hall.specs.Query as query
+use Rattle.hall.specs.declared.calls.requests.Request.TheVariants as request
 use Rattle.service.specs.declared.commands.Command.{Command}
 use Rattle.service.specs.declared.commands.Command.TheVariants as command
 use Rattle.service.specs.declared.refusals.Refusal.{Refusal}
 use Rattle.service.specs.declared.refusals.Refusal.TheVariants as refusal
 use Rattle.service.specs.declared.verbs.Verb.{Verb}
-use Rattle.service.specs.declared.verbs.Verb.TheVariants.{Put, Drop, Grant, Revoke, Ask, Who, Poll, Wait, End, Vault, Sees}
+use Rattle.service.specs.declared.verbs.Verb.TheVariants.{Put, Drop, Grant, Revoke, Ask, Who, Poll, Wait, Proof, End, Vault, Sees}
 use Rattle.service.specs.Words.{words, after_word, IsNumber}
 
 -- the form of a command, by its words
@@ -26,6 +27,7 @@ pub data Form : Type 0 where
   who : List ℕ → Form
   poll : List ℕ → Form
   wait : List ℕ → Form
+  proof : List ℕ → List ℕ → Form
   end : List ℕ → Form
   vault : Form
   sees : Form
@@ -55,10 +57,11 @@ verb_of word =
     else (if bytes_eq word (codes "who") then Some Who
     else (if bytes_eq word (codes "poll") then Some Poll
     else (if bytes_eq word (codes "wait") then Some Wait
+    else (if bytes_eq word (codes "proof") then Some Proof
     else (if bytes_eq word (codes "end") then Some End
     else (if bytes_eq word (codes "vault") then Some Vault
     else (if bytes_eq word (codes "sees") then Some Sees
-    else None))))))))))
+    else None)))))))))))
 
 -- `put` and `drop` take the rest of the line, each other verb so many words
 abbrev pub form_by_verb : Option Verb → List (List ℕ) → List ℕ → Form
@@ -71,6 +74,7 @@ form_by_verb (Some Ask) args rest = with_two ask args
 form_by_verb (Some Who) args rest = with_one who args
 form_by_verb (Some Poll) args rest = with_one poll args
 form_by_verb (Some Wait) args rest = with_one wait args
+form_by_verb (Some Proof) args rest = with_two proof args
 form_by_verb (Some End) args rest = with_one end args
 form_by_verb (Some Vault) args rest = with_none vault args
 form_by_verb (Some Sees) args rest = with_none sees args
@@ -109,27 +113,33 @@ abbrev pub RefusesNumber : List ℕ → Refusal → Type 0
 RefusesNumber text refusal.Command = (n : ℕ) → IsNumber text n → ⊥
 RefusesNumber text _ = ⊥
 
+-- why two texts are no number and name: the first of their faults
+abbrev pub RefusesProof : List ℕ → List ℕ → Refusal → Type 0
+RefusesProof number name why = RefusesNumber number why ⊎ (((n : ℕ) × IsNumber number n) × RefusesName name why)
+
 -- the command that this form writes, or the first refusal from left to right; want of memory comes last
 abbrev pub Reads : Form → Result Command Refusal → Type 0
-Reads (put text) (Ok (command.Alter (change.Upload c))) = Spells text c
+Reads (put text) (Ok (command.Request (request.Alter (change.Upload c)))) = Spells text c
 Reads (put text) (Err why) = RefusesCredential text why
-Reads (drop text) (Ok (command.Alter (change.Withdraw c))) = Spells text c
+Reads (drop text) (Ok (command.Request (request.Alter (change.Withdraw c)))) = Spells text c
 Reads (drop text) (Err why) = RefusesCredential text why
-Reads (grant name) (Ok (command.Alter (change.Grant reader))) = IsName name × (reader ≡ name)
+Reads (grant name) (Ok (command.Request (request.Alter (change.Grant reader)))) = IsName name × (reader ≡ name)
 Reads (grant name) (Err why) = RefusesName name why
-Reads (revoke name) (Ok (command.Alter (change.Revoke reader))) = IsName name × (reader ≡ name)
+Reads (revoke name) (Ok (command.Request (request.Alter (change.Revoke reader)))) = IsName name × (reader ≡ name)
 Reads (revoke name) (Err why) = RefusesName name why
-Reads (ask role name) (Ok (command.Seek (query.Ask r d))) = SpellsRole role r × IsName name × (d ≡ name)
+Reads (ask role name) (Ok (command.Request (request.Seek (query.Ask r d)))) = SpellsRole role r × IsName name × (d ≡ name)
 Reads (ask role name) (Err why) = RefusesQuestion role name why
-Reads (who role) (Ok (command.Seek (query.Who r))) = SpellsRole role r
+Reads (who role) (Ok (command.Request (request.Seek (query.Who r)))) = SpellsRole role r
 Reads (who role) (Err why) = RefusesRole role why
-Reads (poll number) (Ok (command.Poll n)) = IsNumber number n
+Reads (poll number) (Ok (command.Request (request.Poll n))) = IsNumber number n
 Reads (poll number) (Err why) = RefusesNumber number why
 Reads (wait number) (Ok (command.Wait n)) = IsNumber number n
 Reads (wait number) (Err why) = RefusesNumber number why
-Reads (end number) (Ok (command.End n)) = IsNumber number n
+Reads (proof number name) (Ok (command.Request (request.Proof n d))) = IsNumber number n × IsName name × (d ≡ name)
+Reads (proof number name) (Err why) = RefusesProof number name why
+Reads (end number) (Ok (command.Request (request.Close n))) = IsNumber number n
 Reads (end number) (Err why) = RefusesNumber number why
-Reads vault (Ok command.Vault) = Unit {0}
-Reads sees (Ok command.Sees) = Unit {0}
+Reads vault (Ok (command.Request request.Vault)) = Unit {0}
+Reads sees (Ok (command.Request request.Sees)) = Unit {0}
 Reads unknown (Err refusal.Command) = Unit {0}
 Reads _ _ = ⊥

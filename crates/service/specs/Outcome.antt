@@ -2,14 +2,13 @@
 use Rattle.std.specs.Prelude.{◌≡◌, ℕ, Bool, ◌&&◌, List, [], ◌∷◌, Result, Ok, Err, MatchBool, codes}
 use Rattle.std.specs.List.{list_any, before_first, after_first, flat_map}
 use Rattle.names.specs.Name.{is_name}
-use Rattle.hall.specs.declared.calls.requests.Request.TheVariants as request
 use Rattle.hall.specs.declared.faults.Fault.{Fault}
 use Rattle.hall.specs.declared.calls.replies.Reply.{Reply}
 use Rattle.hall.specs.declared.calls.replies.Reply.TheVariants.{Refused}
 use Rattle.hall.specs.halls.State.{HallState, is_tenant}
 use Rattle.hall.specs.halls.Deeds.{Deed, asks, waits, Done}
 use Rattle.service.specs.declared.commands.Command.{Command}
-use Rattle.service.specs.declared.commands.Command.TheVariants.{Alter, Seek, Poll, Wait, End, Vault, Sees}
+use Rattle.service.specs.declared.commands.Command.TheVariants.{Request, Wait}
 use Rattle.service.specs.declared.refusals.Refusal.{Refusal}
 use Rattle.service.specs.declared.refusals.Refusal.TheVariants as refusal
 use Rattle.service.specs.Line.{Line, text, too_long, not_ascii}
@@ -57,13 +56,8 @@ IsOutcome hall (text t) outcome = IsSpoken hall (trim_start t) outcome
 
 -- what a command asks of the hall
 abbrev pub deed_of : Command → Deed
-deed_of (Alter change) = asks (request.Alter change)
-deed_of (Seek query) = asks (request.Seek query)
-deed_of (Poll number) = asks (request.Poll number)
+deed_of (Request q) = asks q
 deed_of (Wait number) = waits number
-deed_of (End number) = asks (request.Close number)
-deed_of Vault = asks request.Vault
-deed_of Sees = asks request.Sees
 
 -- the reply by what carrying it out came to
 abbrev pub told_by : Result Reply Fault → Reply

@@ -1,7 +1,8 @@
 -- The lines of the replies.
-use Rattle.std.specs.Prelude.{◌≡◌, ◌⊎◌, ℕ, List, [], ◌∷◌, ◌++◌, length, map, codes}
+use Rattle.std.specs.Prelude.{◌≡◌, ◌⊎◌, ℕ, List, [], ◌∷◌, ◌++◌, length, map, codes, filter, nat_lt}
 use Rattle.std.specs.List.{flat_map}
 use Rattle.std.specs.Fmt.{decimal}
+use Rattle.names.specs.Texts.{pieces}
 use Rattle.credential_text.specs.Spelling.{canonical}
 use Rattle.hall.specs.declared.faults.Fault.TheVariants.{Memory}
 use Rattle.hall.specs.declared.calls.answers.Answer.{Answer}
@@ -9,6 +10,7 @@ use Rattle.hall.specs.declared.calls.answers.Answer.TheVariants.{Working, Yes, N
 use Rattle.hall.specs.declared.calls.replies.Reply.{Reply}
 use Rattle.hall.specs.declared.calls.replies.Reply.TheVariants.{Counted, Opened, Answered, Closed, Vault, Sees, Proof, Refused, Stepped}
 use Rattle.hall.specs.Fault.{fault_number}
+use Rattle.hall.specs.Text.{proof_text}
 use Rattle.service.specs.declared.refusals.Refusal.{Refusal}
 use Rattle.service.specs.declared.speakers.Speaker.{Speaker}
 use Rattle.service.specs.declared.speakers.Speaker.TheVariants.{Nobody, Tenant}
@@ -43,8 +45,12 @@ answer_text (Members names) = codes "members" ++ listed names
 answer_text Spent = codes "spent"
 answer_text Broken = codes "broken"
 
--- the texts of a reply, each of which is a line: a vault has one line for each credential, after their number. No command
--- asks for a proof or for a step, and these have no text
+-- the lines of a text, each of which has something in it
+abbrev pub text_lines : List ℕ → List (List ℕ)
+text_lines text = filter (λ line. nat_lt 0 (length line)) (pieces 10 text)
+
+-- the texts of a reply, each of which is a line: a vault has one line for each credential, after their number, and a proof
+-- one for each step. No command asks for a step of a search, and how it went has no text
 abbrev pub reply_texts : Reply → List (List ℕ)
 reply_texts (Counted n) = (codes "ok " ++ decimal n) ∷ []
 reply_texts (Opened n) = (codes "search " ++ decimal n) ∷ []
@@ -52,7 +58,7 @@ reply_texts (Answered answer) = answer_text answer ∷ []
 reply_texts Closed = codes "ended" ∷ []
 reply_texts (Vault rows) = (codes "vault " ++ decimal (length rows)) ∷ map canonical rows
 reply_texts (Sees names) = (codes "sees" ++ listed names) ∷ []
-reply_texts (Proof steps) = []
+reply_texts (Proof steps) = (codes "proof " ++ decimal (length steps)) ∷ text_lines (proof_text steps)
 reply_texts (Refused fault) = error_text (fault_number fault) ∷ []
 reply_texts (Stepped answer) = []
 
@@ -64,6 +70,7 @@ reply_lines who reply = flat_map (line_to who) (reply_texts reply)
 abbrev pub IsLong : Reply → Type 0
 IsLong (Vault rows) = Unit {0}
 IsLong (Sees names) = Unit {0}
+IsLong (Proof steps) = Unit {0}
 IsLong (Answered (Members names)) = Unit {0}
 IsLong _ = ⊥
 

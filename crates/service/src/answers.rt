@@ -1,7 +1,7 @@
 //! What a command line is answered.
 ghost use Rattle.std.specs.Prelude.{◌≡◌, true, false, MatchOption};
 ghost use Rattle.hall.specs.halls.State.{IsSound};
-ghost use Rattle.hall.specs.halls.Run.{RefusedLast};
+ghost use Rattle.hall.specs.halls.Run.{IsServed, RefusedLast};
 ghost use Rattle.hall.specs.halls.Deeds.{CarriesOut, request_of};
 ghost use Rattle.service.specs.Line.{text};
 ghost use Rattle.service.specs.Command.{form_of};
@@ -14,7 +14,7 @@ use crate::reply_lines::{fill_refusal, fill_reply};
 use crate::rooms::Room;
 use crate::speakers::Speaker;
 use crate::words::split_at_colon;
-use hall::{Fault, Hall, Reply};
+use hall::{Fault, Hall, Reply, Request};
 use names::Entity;
 use names::texts::trim_start;
 use std::alloc::Global;
@@ -76,16 +76,27 @@ fn carry_out(hall: &mut Hall, who: Entity, command: Command) -> Result<Reply, Fa
     ensures carried { CarriesOut hall.old who (deed_of command) (told_by result) hall.new }
     ensures memory_last { RefusedLast hall.old who (request_of (deed_of command)) (told_by result) }
 {
-    Ok(match command {
-        Command::Alter(change) => Reply::Counted(hall.change(who, change)?),
-        Command::Seek(query) => Reply::Opened(hall.open(who, query)?),
-        Command::Poll(number) => Reply::Answered(hall.poll(who, number)?),
-        Command::Wait(number) => Reply::Answered(hall.drive(who, number)?),
-        Command::End(number) => {
+    match command {
+        Command::Request(request) => ask(hall, who, request),
+        Command::Wait(number) => Ok(Reply::Answered(hall.drive(who, number)?)),
+    }
+}
+
+/// Asks the hall for what the tenant wants, unless it is refused.
+fn ask(hall: &mut Hall, who: Entity, request: Request) -> Result<Reply, Fault>
+    ensures served { IsServed hall.old who request (told_by result) hall.new }
+    ensures memory_last { RefusedLast hall.old who request (told_by result) }
+{
+    Ok(match request {
+        Request::Alter(change) => Reply::Counted(hall.change(who, change)?),
+        Request::Seek(query) => Reply::Opened(hall.open(who, query)?),
+        Request::Poll(number) => Reply::Answered(hall.poll(who, number)?),
+        Request::Close(number) => {
             hall.end(who, number)?;
             Reply::Closed
         }
-        Command::Vault => Reply::Vault(hall.vault(who)?),
-        Command::Sees => Reply::Sees(hall.sees(who)?),
+        Request::Vault => Reply::Vault(hall.vault(who)?),
+        Request::Sees => Reply::Sees(hall.sees(who)?),
+        Request::Proof(number, member) => Reply::Proof(hall.proof(who, number, member)?),
     })
 }

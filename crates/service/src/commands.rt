@@ -2,6 +2,7 @@
 ghost use Rattle.std.specs.Prelude.{◌≡◌, Some, IfOk, IfErr};
 ghost use Rattle.names.specs.Name.{IsName};
 ghost use Rattle.credential_text.specs.Spelling.{Spells};
+ghost use Rattle.hall.specs.declared.calls.requests.Request.TheVariants as request;
 ghost use Rattle.service.specs.Words.{words, IsNumber};
 ghost use Rattle.service.specs.Command.{form_of, form_by_verb, RefusesCredential, RefusesName, RefusesNumber, Reads};
 
@@ -10,7 +11,7 @@ use crate::refusals::Refusal;
 use crate::verbs::Verb;
 use crate::words::{next_word, number};
 use credential_text::{Credential, read_credential};
-use hall::Query;
+use hall::{Query, Request};
 use names::{Entity, Role};
 use std::alloc::Global;
 use vaults::Change;
@@ -18,20 +19,10 @@ use vaults::Change;
 /// What a tenant may say.
 #[derive(Drop)]
 pub(crate) enum Command {
-    /// Change the own vault, or who may read it.
-    Alter(Change),
-    /// Open a search.
-    Seek(Query),
-    /// Say what the search with this number has come to.
-    Poll(u64),
+    /// Ask the hall.
+    Request(Request),
     /// Wait for the answer of the search with this number.
     Wait(u64),
-    /// End the search with this number.
-    End(u64),
-    /// Show the credentials that the tenant holds.
-    Vault,
-    /// Show whose vaults the tenant reads.
-    Sees,
 }
 
 /// The command that the text writes, or why it writes none: the first refusal from left to right, and want of
@@ -53,26 +44,44 @@ fn read_rest(alloc: Global, verb: Verb, text: &[u8]) -> Result<Command, Refusal>
     ensures { Reads (form_by_verb (Some verb) (words text.now) text.now) result }
 {
     match (verb, split_words(text)) {
-        (Verb::Put, _) => Ok(Command::Alter(Change::Upload(credential_of(alloc, text)?))),
-        (Verb::Drop, _) => Ok(Command::Alter(Change::Withdraw(credential_of(alloc, text)?))),
-        (Verb::Grant, Arguments::One(reader)) => {
-            Ok(Command::Alter(Change::Grant(entity_of(reader)?)))
-        }
-        (Verb::Revoke, Arguments::One(reader)) => {
-            Ok(Command::Alter(Change::Revoke(entity_of(reader)?)))
-        }
+        (Verb::Put, _) => Ok(alter(Change::Upload(credential_of(alloc, text)?))),
+        (Verb::Drop, _) => Ok(alter(Change::Withdraw(credential_of(alloc, text)?))),
+        (Verb::Grant, Arguments::One(reader)) => Ok(alter(Change::Grant(entity_of(reader)?))),
+        (Verb::Revoke, Arguments::One(reader)) => Ok(alter(Change::Revoke(entity_of(reader)?))),
         (Verb::Ask, Arguments::Two(role, who)) => {
             let role = Role::read(role)?;
-            Ok(Command::Seek(Query::Ask(role, Entity::read(who)?)))
+            Ok(seek(Query::Ask(role, Entity::read(who)?)))
         }
-        (Verb::Who, Arguments::One(role)) => Ok(Command::Seek(Query::Who(Role::read(role)?))),
-        (Verb::Poll, Arguments::One(search)) => Ok(Command::Poll(number_of(search)?)),
+        (Verb::Who, Arguments::One(role)) => Ok(seek(Query::Who(Role::read(role)?))),
+        (Verb::Poll, Arguments::One(search)) => {
+            Ok(Command::Request(Request::Poll(number_of(search)?)))
+        }
         (Verb::Wait, Arguments::One(search)) => Ok(Command::Wait(number_of(search)?)),
-        (Verb::End, Arguments::One(search)) => Ok(Command::End(number_of(search)?)),
-        (Verb::Vault, Arguments::Nothing) => Ok(Command::Vault),
-        (Verb::Sees, Arguments::Nothing) => Ok(Command::Sees),
+        (Verb::Proof, Arguments::Two(search, member)) => {
+            let number = number_of(search)?;
+            Ok(Command::Request(Request::Proof(number, entity_of(member)?)))
+        }
+        (Verb::End, Arguments::One(search)) => {
+            Ok(Command::Request(Request::Close(number_of(search)?)))
+        }
+        (Verb::Vault, Arguments::Nothing) => Ok(Command::Request(Request::Vault)),
+        (Verb::Sees, Arguments::Nothing) => Ok(Command::Request(Request::Sees)),
         _ => Err(Refusal::Command),
     }
+}
+
+/// The command to make a change.
+fn alter(change: Change) -> Command
+    ensures { result ≡ Command.Request (request.Alter change) }
+{
+    Command::Request(Request::Alter(change))
+}
+
+/// The command to open a search.
+fn seek(query: Query) -> Command
+    ensures { result ≡ Command.Request (request.Seek query) }
+{
+    Command::Request(Request::Seek(query))
 }
 
 /// The credential that the text spells.

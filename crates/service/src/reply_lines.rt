@@ -1,19 +1,21 @@
 //! The lines of the replies. Only a vault and lists of names may take memory.
 ghost use Rattle.std.specs.Prelude.{◌≡◌, ◌≤◌, ◌++◌, ◌∷◌, length, codes, OnOk};
+ghost use Rattle.std.specs.List.{flat_map};
 ghost use Rattle.std.specs.Fmt.{decimal};
 ghost use Rattle.credential_text.specs.Spelling.{canonical};
 ghost use Rattle.hall.specs.declared.calls.answers.Answer.TheVariants as answer;
 ghost use Rattle.hall.specs.declared.calls.replies.Reply.TheVariants as reply;
 ghost use Rattle.service.specs.Refusal.{text_of};
-ghost use Rattle.service.specs.Reply.{speaker_name, line_to, error_text, refusal_line, listed, reply_lines, IsFilled};
+ghost use Rattle.service.specs.Reply.{speaker_name, line_to, error_text, refusal_line, listed, text_lines, reply_lines, IsFilled};
 
 use crate::fault_texts::fault_text;
 use crate::refusals::Refusal;
 use crate::rooms::Room;
 use crate::speakers::Speaker;
 use credential_text::Credential;
-use hall::{Answer, Fault, Reply};
+use hall::{Answer, Fault, Proof, Reply, write_proof};
 use names::Entity;
+use names::texts::cut;
 use std::alloc::AllocError;
 
 /// Fills the room with the line that refuses a text. It takes no memory.
@@ -23,8 +25,8 @@ pub(crate) fn fill_refusal(room: &mut Room, who: &Speaker, refusal: Refusal)
     fill_error(room, who, refusal.number());
 }
 
-/// Fills the room with the lines of a reply. Only a vault and a list of names take memory, and without it the one line
-/// says so. A proof and a step's outcome, which no command asks for, have no line.
+/// Fills the room with the lines of a reply. A vault, a list of names and a proof take memory, and without it the one line
+/// says so. How a step of a search went, for which no command asks, has no line.
 pub(crate) fn fill_reply(room: &mut Room, who: &Speaker, reply: &Reply)
     ensures { IsFilled (speaker_name who.now) reply.now room.new }
 {
@@ -36,7 +38,7 @@ pub(crate) fn fill_reply(room: &mut Room, who: &Speaker, reply: &Reply)
         Reply::Vault(rows) => fill_vault(room, who, rows.as_slice()),
         Reply::Sees(names) => fill_sees(room, who, names.as_slice()),
         Reply::Refused(fault) => fill_error(room, who, fault.number()),
-        Reply::Proof(_proof) => room.clear(),
+        Reply::Proof(proof) => fill_proof(room, who, proof),
         Reply::Stepped(_outcome) => room.clear(),
     }
 }
@@ -121,6 +123,49 @@ fn fill_members(room: &mut Room, who: &Speaker, names: &[Entity])
     if write_names(room, who, b"members", names).is_err() {
         fill_error(room, who, Fault::Memory.number());
     }
+}
+
+/// A proof, or that memory lacked.
+fn fill_proof(room: &mut Room, who: &Speaker, proof: &Proof)
+    ensures { IsFilled (speaker_name who.now) (reply.Proof proof.now) room.new }
+{
+    if write_steps(room, who, proof).is_err() {
+        fill_error(room, who, Fault::Memory.number());
+    }
+}
+
+/// How many steps there are, and a line for each.
+fn write_steps(room: &mut Room, who: &Speaker, proof: &Proof) -> Result<(), AllocError>
+    ensures { OnOk result (room.new ≡ reply_lines (speaker_name who.now) (reply.Proof proof.now)) }
+{
+    let mut text = Vec::new(room.alloc());
+    write_proof(proof, &mut text)?;
+    fill_counted(room, who, b"proof ", proof.steps().len() as u64);
+    write_lines(room, who, &text)
+}
+
+/// Appends the lines of a text.
+fn write_lines(room: &mut Room, who: &Speaker, text: &[u8]) -> Result<(), AllocError>
+    ensures { OnOk result (room.new ≡ room.old ++ flat_map (line_to (speaker_name who.now)) (text_lines text.now)) }
+{
+    let (line, rest) = cut(text, b'\n');
+    if !line.is_empty() {
+        write_line(room, who, line)?;
+    }
+    match rest {
+        Some(rest) => write_lines(room, who, rest),
+        None => Ok(()),
+    }
+}
+
+/// Appends one line.
+fn write_line(room: &mut Room, who: &Speaker, text: &[u8]) -> Result<(), AllocError>
+    ensures { OnOk result (room.new ≡ room.old ++ line_to (speaker_name who.now) text.now) }
+{
+    room.extend(who.name())?;
+    room.extend(b": ")?;
+    room.extend(text)?;
+    room.extend(b"\n")
 }
 
 /// How many credentials there are, and a line for each.

@@ -38,6 +38,11 @@ impl Room {
         Ok(Room { bytes })
     }
 
+    /// Where it takes its memory from.
+    pub(crate) fn alloc(&self) -> Global {
+        *self.bytes.allocator()
+    }
+
     /// What stands in it.
     pub(crate) fn as_slice(&self) -> &[u8]
         ensures { result.now ≡ self.now }

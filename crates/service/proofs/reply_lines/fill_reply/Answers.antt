@@ -1,7 +1,7 @@
 -- A short reply is one line, and what no command asks for is none.
 use Rattle.std.proofs.Common.{◌++◌, codes, refl}
 use Rattle.std.specs.Fmt.{decimal}
-use Rattle.hall.specs.declared.calls.replies.Reply.TheVariants.{Counted, Opened, Closed, Proof, Refused, Stepped}
+use Rattle.hall.specs.declared.calls.replies.Reply.TheVariants.{Counted, Opened, Closed, Refused, Stepped}
 use Rattle.hall.specs.Fault.{fault_number}
 use Rattle.service.specs.Reply.{speaker_name, error_text}
 use Rattle.service.proofs.ReplyLemmas.{IsFilled-one, IsFilled-silent}
@@ -23,8 +23,5 @@ pub returns-in-Refused : goal.returns-in-Refused
 returns-in-Refused c =
     rw c.in-Refused.is (IsFilled-one (speaker_name c.args.who.now) (error_text (fault_number c.in-Refused.fault)) c.fill_error.new.room (Refused c.in-Refused.fault) refl (rw c.number.ensures at c.fill_error.ensures))
 
-pub returns-in-Proof : goal.returns-in-Proof
-returns-in-Proof c = rw c.in-Proof.is (IsFilled-silent (speaker_name c.args.who.now) c.clear.new.self (Proof _) refl c.clear.ensures)
-
 pub returns-in-Stepped : goal.returns-in-Stepped
-returns-in-Stepped c = rw c.in-Stepped.is (IsFilled-silent (speaker_name c.args.who.now) c.clear-in-Stepped.new.self (Stepped _) refl c.clear-in-Stepped.ensures)
+returns-in-Stepped c = rw c.in-Stepped.is (IsFilled-silent (speaker_name c.args.who.now) c.clear.new.self (Stepped _) refl c.clear.ensures)
