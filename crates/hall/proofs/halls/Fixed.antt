@@ -99,7 +99,8 @@ proved_same s who _ _ (no_proof done nobody) (no_proof also neither) = same
 proved_same s who _ _ (no_proof done nobody) (proof steps also is) = absurd (nobody (proved_member (credentials s.view) (asked_role s.query) who steps is))
 proved_same s who _ _ (proof steps done is) (not_done early) = absurd (early done)
 proved_same s who _ _ (proof steps done is) (no_proof also nobody) = absurd (nobody (proved_member (credentials s.view) (asked_role s.query) who steps is))
-proved_same s who _ _ (proof steps done is) (proof more also are) = proofs
+proved_same s who _ _ (proof steps done is) (proof more also are) =
+    proofs record { credentials = credentials s.view; role = asked_role s.query; who = who; one = is; other = are }
 
 same_told : (told other : Reply) → told ≡ other → IsSameTold told other
 same_told told other e = subst (IsSameTold told) e same

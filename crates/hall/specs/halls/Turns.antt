@@ -2,11 +2,14 @@
 use Rattle.std.specs.Prelude.{◌≡◌, ◌≢◌, ℕ, List, [], ◌∷◌, ◌++◌, Option, None, Some, if◌then◌else◌}
 use Rattle.std.specs.List.{AllZip, AllByRecursion}
 use Rattle.quotas.specs.Quota.{Quota}
+use Rattle.names.specs.declared.roles.Role.{Role}
 use Rattle.names.specs.Name.{is_same}
+use Rattle.credential_text.specs.declared.credentials.Credential.{Credential}
 use Rattle.vaults.specs.declared.changes.Entry.{Entry}
 use Rattle.vaults.specs.Journal.{Vault, view, credentials}
 use Rattle.search.specs.Ending.{Settled, MaySettle}
 use Rattle.proof_trees.specs.declared.steps.Step.{Step as ProofStep}
+use Rattle.proof_trees.specs.Proof.{IsProof}
 use Rattle.hall.specs.declared.faults.Fault.TheVariants.{NoTenant}
 use Rattle.hall.specs.declared.calls.requests.Request.TheVariants.{Poll}
 use Rattle.hall.specs.declared.calls.answers.Answer.TheVariants.{Working}
@@ -75,10 +78,18 @@ DeedsAreExact =
     → (tenant : List ℕ)
     → IsExactRun tenant (account_of start tenant) (turns tenant start.journal deeds) (own_replies tenant deeds) (account_of new tenant)
 
--- equal, or two proofs
+-- two proofs that one entity is a member of one role, both from the same credentials
+pub record ProveTheSame (first second : List ProofStep) : Type 0 where
+  pub credentials : List Credential
+  pub role : Role
+  pub who : List ℕ
+  pub one : IsProof credentials role who first
+  pub other : IsProof credentials role who second
+
+-- equal, or two proofs of the same
 pub data IsSameTold : Reply → Reply → Type 0 where
   same : {r : Reply} → IsSameTold r r
-  proofs : {p q : List ProofStep} → IsSameTold (Proof p) (Proof q)
+  proofs : {p q : List ProofStep} → ProveTheSame p q → IsSameTold (Proof p) (Proof q)
 
 -- in two halls that were new, what a tenant is told is fixed by its own account at the start and its own deeds, with what
 -- these look at
