@@ -14,3 +14,8 @@ pub mod PrintedLemmas
 pub mod SaidLemmas
 pub mod TranscriptLemmas
 pub mod ScriptLemmas
+pub mod CommandLemmas
+pub mod OwnLemmas
+pub mod ShortLemmas
+pub mod AlikeLemmas
+pub mod IsolationLemmas

@@ -9,5 +9,6 @@ pub mod Outcome
 pub mod Transcript
 pub mod Roster
 pub mod RosterReading
+pub mod Isolation
 pub mod Laws
 pub mod Turn

@@ -23,7 +23,7 @@ mod words;
 mod writing;
 
 pub use fault_texts::fault_text;
-pub use laws::{rosters_have_one_reading, two_scripts};
+pub use laws::{rosters_have_one_reading, scripts_are_isolated, two_scripts};
 pub use lines::limit::MOST_READS;
 pub use lines::{LINE_ROOM, LineReader, NextLine};
 pub use rosters::Roster;

@@ -4,4 +4,5 @@ use super::*;
 fn each_law_once(_rt: HostRuntime) {
     rosters_have_one_reading();
     two_scripts();
+    scripts_are_isolated();
 }

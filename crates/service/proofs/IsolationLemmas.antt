@@ -1,0 +1,175 @@
+-- Other tenants change nothing of what is printed for a tenant.
+use Rattle.std.proofs.Common.{◌≡◌, ℕ, Bool, true, false, cond, List, [], ◌∷◌, ◌++◌, map, refl, sym, ap, ap₂, ◌∙◌, subst, subst₂, append_assoc, Option, Some, None, Ok, Err, inl, inr}
+use Rattle.std.specs.Prelude.{◌&&◌, find, option_map, is_some}
+use Rattle.std.specs.List.{AllZip, AllByRecursion, flat_map}
+use Rattle.std.specs.Io.KnownBytes.{Appends}
+use Rattle.std.proofs.lemmas.Bool.{false≢true}
+use Rattle.std.proofs.lemmas.List.{append-nil}
+use Rattle.quotas.specs.Quota.{Quota}
+use Rattle.names.specs.Name.{is_name, is_same}
+use Rattle.hall.specs.declared.calls.replies.Reply.{Reply}
+use Rattle.hall.specs.declared.calls.replies.Reply.TheVariants.{Proof}
+use Rattle.hall.specs.halls.Account.{Account}
+use Rattle.hall.specs.halls.State.{HallState, Tenant, account, account_of, is_tenant, tenant_named, new_hall, new_tenant, AreDistinct}
+use Rattle.hall.specs.halls.Agree.{HasMemory}
+use Rattle.hall.specs.halls.Turns.{own_replies, IsSameTold}
+use Rattle.hall.proofs.halls.Fixed.{deeds_fixed}
+use Rattle.service.specs.Command.{form_of}
+use Rattle.service.specs.Roster.{Row, tenant_of}
+use Rattle.service.specs.declared.script_faults.ScriptFault.TheVariants.{Roster, Read, Write, Memory}
+use Rattle.service.specs.Line.{Line, commands_of}
+use Rattle.service.specs.Roster.{HasRoster}
+use Rattle.service.specs.Outcome.{Outcome, served, outcome_text, is_speaker, IsSaid, deeds_in}
+use Rattle.service.specs.Written.{Answers}
+use Rattle.service.specs.Isolation.{ScriptRun, IsSameFor, limits_of, own_lines, own_outcomes, AreProofs, ArePrintedAlike, IsNoProof}
+use Rattle.service.specs.Laws.{ScriptsAreIsolated, SameIsPrinted, ScriptsAreRuns}
+use Rattle.service.proofs.TenantLemmas.{AreDistinct-rows}
+use Rattle.service.proofs.OwnLemmas.{own_said, own_none}
+use Rattle.service.proofs.ShortLemmas.{roster-short, own-short}
+use Rattle.service.proofs.AlikeLemmas.{AreOneLine, one_lines, own_replies-in, own_memory, own_turns, printed_alike}
+
+-- the account of a tenant with these limits that has done nothing
+abbrev fresh : Quota → Account
+fresh limits = record { entries = []; holder = record { limits = limits; opens = 0; searches = [] } }
+
+-- the hall of a roster
+abbrev hall_of : List Row → HallState
+hall_of rows = new_hall (map tenant_of rows)
+
+-- a tenant's account at the start is that of its limits
+start_account : (tenant : List ℕ) (rows : List Row) → account_of (hall_of rows) tenant ≡ option_map fresh (limits_of tenant rows)
+start_account tenant [] = refl
+start_account tenant (row ∷ rows) = by (is_same row.name tenant) (start_account tenant rows)
+  where
+    by : (own : Bool) → account_of (hall_of rows) tenant ≡ option_map fresh (limits_of tenant rows) →
+        option_map (account []) (cond own (Some (new_tenant (tenant_of row))) (tenant_named tenant (map new_tenant (map tenant_of rows))))
+        ≡ option_map fresh (option_map (λ r. r.limits) (cond own (Some row) (find (λ r. is_same r.name tenant) rows)))
+    by true rest = refl
+    by false rest = rest
+
+tenant_account : (h : HallState) (tenant : List ℕ) → is_tenant h tenant ≡ is_some (account_of h tenant)
+tenant_account h tenant = by (tenant_named tenant h.tenants)
+  where
+    by : (o : Option Tenant) → is_some o ≡ is_some (option_map (account h.journal) o)
+    by None = refl
+    by (Some t) = refl
+
+second_true : (a b : Bool) → (a && b) ≡ true → b ≡ true
+second_true true b e = e
+second_true false b e = absurd (false≢true e)
+
+module _ (tenant input other : List ℕ) (one : ScriptRun input) (two : ScriptRun other) (same : IsSameFor tenant one two) where
+  accounts : account_of (hall_of one.rows) tenant ≡ account_of (hall_of two.rows) tenant
+  accounts = start_account tenant one.rows ∙ ap (option_map fresh) same.limits ∙ sym (start_account tenant two.rows)
+
+  speakers : is_speaker (hall_of one.rows) tenant ≡ is_speaker (hall_of two.rows) tenant
+  speakers = ap (λ (b : Bool). is_name tenant && b) (tenant_account (hall_of one.rows) tenant ∙ ap is_some accounts ∙ sym (tenant_account (hall_of two.rows) tenant))
+
+  -- where the tenant speaks its lines are answered the same but for the replies
+  lines_alike : is_speaker (hall_of one.rows) tenant ≡ true → AllZip AreOneLine (own_outcomes tenant one.outcomes) (own_outcomes tenant two.outcomes)
+  lines_alike speaks =
+      one_lines tenant (own_lines tenant one.lines) (own_outcomes tenant one.outcomes) (own_outcomes tenant two.outcomes)
+      (own-short tenant one.lines (roster-short input one.rows one.lines one.rest one.roster.one_each))
+      (own_said (hall_of one.rows) tenant speaks one.lines one.outcomes one.transcript.answered.one_each)
+      (subst (λ (texts : List (List ℕ)). AllZip (λ said outcome. IsSaid tenant (form_of said) outcome) texts (own_outcomes tenant two.outcomes)) (sym same.says)
+      (own_said (hall_of two.rows) tenant (sym speakers ∙ speaks) two.lines two.outcomes two.transcript.answered.one_each))
+      same.memory same.other_memory
+
+  -- and with an account so are these
+  replies_alike : (start : Account) → account_of (hall_of one.rows) tenant ≡ Some start → AllZip AreOneLine (own_outcomes tenant one.outcomes) (own_outcomes tenant two.outcomes) →
+      AllZip IsSameTold (own_replies tenant (deeds_in one.outcomes)) (own_replies tenant (deeds_in two.outcomes))
+  replies_alike start is alike =
+      deeds_fixed tenant start (map tenant_of one.rows) (map tenant_of two.rows) one.new two.new (deeds_in one.outcomes) (deeds_in two.outcomes)
+      (AreDistinct-rows one.rows one.roster.roster.distinct) (AreDistinct-rows two.rows two.roster.roster.distinct) is (sym accounts ∙ is)
+      one.transcript.answered.carried two.transcript.answered.carried (own_turns tenant one.outcomes two.outcomes alike same.sees)
+      (subst HasMemory (sym (own_replies-in tenant one.outcomes)) (own_memory (own_outcomes tenant one.outcomes) same.memory))
+      (subst HasMemory (sym (own_replies-in tenant two.outcomes)) (own_memory (own_outcomes tenant two.outcomes) same.other_memory))
+
+  spoken_alike : is_speaker (hall_of one.rows) tenant ≡ true → (o : Option Account) → account_of (hall_of one.rows) tenant ≡ o → AllZip ArePrintedAlike (own_outcomes tenant one.outcomes) (own_outcomes tenant two.outcomes)
+  spoken_alike speaks None none =
+      absurd (false≢true (sym (tenant_account (hall_of one.rows) tenant ∙ ap is_some none) ∙ second_true (is_name tenant) (is_tenant (hall_of one.rows) tenant) speaks))
+  spoken_alike speaks (Some start) is =
+      let alike = lines_alike speaks in
+      printed_alike (own_outcomes tenant one.outcomes) (own_outcomes tenant two.outcomes) alike
+      (subst₂ (AllZip IsSameTold) (own_replies-in tenant one.outcomes) (own_replies-in tenant two.outcomes) (replies_alike start is alike))
+
+  silent_alike : is_speaker (hall_of one.rows) tenant ≡ false → AllZip ArePrintedAlike (own_outcomes tenant one.outcomes) (own_outcomes tenant two.outcomes)
+  silent_alike stranger =
+      subst₂ (AllZip ArePrintedAlike) (sym (own_none (hall_of one.rows) tenant stranger one.lines one.outcomes one.transcript.answered.one_each))
+      (sym (own_none (hall_of two.rows) tenant (sym speakers ∙ stranger) two.lines two.outcomes two.transcript.answered.one_each)) tt
+
+  isolated_by : (speaks : Bool) → is_speaker (hall_of one.rows) tenant ≡ speaks → AllZip ArePrintedAlike (own_outcomes tenant one.outcomes) (own_outcomes tenant two.outcomes)
+  isolated_by true speaks = spoken_alike speaks (account_of (hall_of one.rows) tenant) refl
+  isolated_by false stranger = silent_alike stranger
+
+pub scripts_isolated : ScriptsAreIsolated
+scripts_isolated tenant input other one two same = isolated_by tenant input other one two same (is_speaker (hall_of one.rows) tenant) refl
+
+not_proofs : (one two : Outcome) → IsNoProof one → AreProofs one two → ⊥
+not_proofs (served who command (Proof steps)) two none are = none
+not_proofs _ _ none are = are
+
+texts_same : (first second : List Outcome) → AllZip ArePrintedAlike first second → AllByRecursion IsNoProof first → flat_map outcome_text first ≡ flat_map outcome_text second
+texts_same [] [] alike none = refl
+texts_same [] (two ∷ second) alike none = absurd alike
+texts_same (one ∷ first) [] alike none = absurd alike
+texts_same (one ∷ first) (two ∷ second) alike none = ap₂ (λ (a b : List ℕ). a ++ b) (by alike.0) (texts_same first second alike.1 none.1)
+  where
+    by : ArePrintedAlike one two → outcome_text one ≡ outcome_text two
+    by (inl bytes) = bytes
+    by (inr are) = absurd (not_proofs one two none.0 are)
+
+pub same_is_printed : SameIsPrinted
+same_is_printed tenant input other one two same none =
+    texts_same (own_outcomes tenant one.outcomes) (own_outcomes tenant two.outcomes) (scripts_isolated tenant input other one two same) none
+
+pub scripts_are_runs : ScriptsAreRuns
+scripts_are_runs input (Ok u) old new answers = (
+  record {
+    rows = answers.rows;
+    lines = answers.commands;
+    rest = [];
+    outcomes = answers.wrote.outcomes;
+    output = answers.wrote.output;
+    new = answers.wrote.new;
+    roster = subst (HasRoster (commands_of input) answers.rows) (sym (append-nil answers.commands)) answers.roster;
+    transcript = answers.wrote.transcript;
+  },
+  (refl, answers.wrote.out),
+)
+scripts_are_runs input (Err Read) old new answers =
+    let some = answers.wrote in (
+      record {
+        rows = answers.rows;
+        lines = some.done;
+        rest = some.rest;
+        outcomes = some.all.outcomes;
+        output = some.all.output;
+        new = some.all.new;
+        roster = subst (HasRoster (commands_of input) answers.rows) some.split answers.roster;
+        transcript = some.all.transcript;
+      },
+      some.all.out,
+    )
+scripts_are_runs input (Err Write) old new answers =
+    let part = answers.wrote in (
+      record {
+        rows = answers.rows;
+        lines = part.done ++ part.line ∷ [];
+        rest = part.rest;
+        outcomes = part.outcomes ++ part.outcome ∷ [];
+        output = part.output ++ outcome_text part.outcome;
+        new = part.new;
+        roster = subst (HasRoster (commands_of input) answers.rows) (part.split ∙ sym (append_assoc part.done (part.line ∷ []) part.rest)) answers.roster;
+        transcript = part.transcript;
+      },
+      (
+        part.output ++ part.front.front,
+        part.front.back,
+        ap (λ (reply : List ℕ). part.output ++ reply) part.front.parts ∙ sym (append_assoc part.output part.front.front part.front.back),
+        part.front.missing,
+        part.front.out,
+      ),
+    )
+scripts_are_runs input (Err Roster) old new answers = absurd answers.wrote
+scripts_are_runs input (Err Memory) old new answers = absurd answers.wrote
