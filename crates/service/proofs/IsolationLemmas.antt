@@ -6,7 +6,8 @@ use Rattle.std.specs.Io.KnownBytes.{Appends}
 use Rattle.std.proofs.lemmas.Bool.{false≢true}
 use Rattle.std.proofs.lemmas.List.{append-nil}
 use Rattle.quotas.specs.Quota.{Quota}
-use Rattle.names.specs.Name.{is_name, is_same}
+use Rattle.names.specs.Name.{is_name, IsName, is_same}
+use Rattle.names.proofs.SameNames.{same_from_is_same}
 use Rattle.hall.specs.declared.calls.replies.Reply.{Reply}
 use Rattle.hall.specs.declared.calls.replies.Reply.TheVariants.{Proof}
 use Rattle.hall.specs.halls.Account.{Account}
@@ -17,12 +18,12 @@ use Rattle.hall.proofs.halls.Fixed.{deeds_fixed}
 use Rattle.service.specs.Command.{form_of}
 use Rattle.service.specs.Roster.{Row, tenant_of}
 use Rattle.service.specs.declared.script_faults.ScriptFault.TheVariants.{Roster, Read, Write, Memory}
-use Rattle.service.specs.Line.{Line, commands_of}
-use Rattle.service.specs.Roster.{HasRoster}
+use Rattle.service.specs.Line.{Line, text, too_long, not_ascii, commands_of}
+use Rattle.service.specs.Roster.{HasRows, HasRoster}
 use Rattle.service.specs.Outcome.{Outcome, served, outcome_text, is_speaker, IsSaid, deeds_in}
 use Rattle.service.specs.Written.{Answers}
 use Rattle.service.specs.Isolation.{ScriptRun, IsSameFor, limits_of, own_lines, own_outcomes, AreProofs, ArePrintedAlike, IsNoProof}
-use Rattle.service.specs.Laws.{ScriptsAreIsolated, SameIsPrinted, ScriptsAreRuns}
+use Rattle.service.specs.Laws.{OwnLinesAreAnswered, ScriptsAreIsolated, SameIsPrinted, ScriptsAreRuns}
 use Rattle.service.proofs.TenantLemmas.{AreDistinct-rows}
 use Rattle.service.proofs.OwnLemmas.{own_said, own_none}
 use Rattle.service.proofs.ShortLemmas.{roster-short, own-short}
@@ -104,6 +105,37 @@ module _ (tenant input other : List ℕ) (one : ScriptRun input) (two : ScriptRu
 
 pub scripts_isolated : ScriptsAreIsolated
 scripts_isolated tenant input other one two same = isolated_by tenant input other one two same (is_speaker (hall_of one.rows) tenant) refl
+
+-- each row of a roster has a name
+rows_named : (ls : List Line) (rows : List Row) (rest : List Line) → HasRows ls rows rest → AllByRecursion (λ row. IsName row.name) rows
+rows_named [] rows rest has = absurd has
+rows_named (too_long ∷ ls) rows rest has = absurd has
+rows_named (not_ascii ∷ ls) rows rest has = absurd has
+rows_named (text line ∷ ls) [] rest has = tt
+rows_named (text line ∷ ls) (row ∷ rows) rest has = (has.0.is_row.is_name, rows_named ls rows rest has.1)
+
+-- so a tenant with limits does
+limited_named : (tenant : List ℕ) (rows : List Row) (limits : Quota) → AllByRecursion (λ row. IsName row.name) rows → limits_of tenant rows ≡ Some limits → IsName tenant
+limited_named tenant [] limits named is = cc
+limited_named tenant (row ∷ rows) limits named is = by (is_same row.name tenant) refl is (limited_named tenant rows limits named.1)
+  where
+    by : (own : Bool) → is_same row.name tenant ≡ own → option_map (λ r. r.limits) (cond own (Some row) (find (λ r. is_same r.name tenant) rows)) ≡ Some limits →
+        (limits_of tenant rows ≡ Some limits → IsName tenant) → IsName tenant
+    by true same there rest = subst IsName (same_from_is_same row.name tenant same) named.0
+    by false other there rest = rest there
+
+-- and speaks
+limited_speaks : (tenant : List ℕ) (rows : List Row) (limits : Quota) → IsName tenant → limits_of tenant rows ≡ Some limits → is_speaker (hall_of rows) tenant ≡ true
+limited_speaks tenant rows limits named is =
+    rw (tenant_account (hall_of rows) tenant ∙ ap is_some (start_account tenant rows ∙ ap (option_map fresh) is)) (both_true (is_name tenant) named)
+  where
+    both_true : (b : Bool) → b ≡ true → (b && true) ≡ true
+    both_true b e = ap (λ (c : Bool). c && true) e
+
+pub own_lines_answered : OwnLinesAreAnswered
+own_lines_answered tenant input run limits is =
+    let named = limited_named tenant run.rows limits (rows_named (commands_of input) run.rows (run.lines ++ run.rest) run.roster.one_each) is in
+    own_said (hall_of run.rows) tenant (limited_speaks tenant run.rows limits named is) run.lines run.outcomes run.transcript.answered.one_each
 
 not_proofs : (one two : Outcome) → IsNoProof one → AreProofs one two → ⊥
 not_proofs (served who command (Proof steps)) two none are = none

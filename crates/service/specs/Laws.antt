@@ -3,6 +3,7 @@ use Rattle.std.specs.Prelude.{◌≡◌, List, [], ℕ, Option, Some, Result}
 use Rattle.std.specs.List.{AllZip, AllByRecursion}
 use Rattle.std.specs.Io.KnownBytes.{Appends}
 use Rattle.service.specs.declared.script_faults.ScriptFault.{ScriptFault}
+use Rattle.quotas.specs.Quota.{Quota}
 use Rattle.service.specs.Line.{Line, commands_of}
 use Rattle.service.specs.Roster.{Row, HasRoster}
 use Rattle.hall.specs.declared.calls.replies.Reply.{Reply}
@@ -11,10 +12,12 @@ use Rattle.hall.specs.halls.State.{HallState, account_of}
 use Rattle.hall.specs.halls.Run.{replies_to}
 use Rattle.hall.specs.halls.Deeds.{events_of, replies_of}
 use Rattle.hall.specs.halls.Agree.{Agree, HasMemory}
-use Rattle.service.specs.Outcome.{Outcome, deeds_in}
+use Rattle.service.specs.Command.{form_of}
+use Rattle.service.specs.Outcome.{Outcome, IsSaid, deeds_in}
 use Rattle.service.specs.Transcript.{IsTranscript}
 use Rattle.service.specs.Written.{Answers}
-use Rattle.service.specs.Isolation.{ScriptRun, ShowsRun, IsSameFor, own_outcomes, printed_for, trace_in, ArePrintedAlike, IsNoProof}
+use Rattle.service.specs.Isolation.{ScriptRun, ShowsRun, IsSameFor, limits_of, own_lines, own_outcomes}
+use Rattle.service.specs.Isolation.{printed_for, trace_in, ArePrintedAlike, IsNoProof}
 
 -- lines that begin with a roster begin with one, and one list of lines follows it
 abbrev pub OneReading : Type 0
@@ -36,6 +39,12 @@ TwoScripts =
     → trace_in tenant one.journal first ≡ trace_in tenant other.journal second
     → HasMemory (replies_in tenant first) → HasMemory (replies_in tenant second)
     → AllZip Agree (replies_in tenant first) (replies_in tenant second)
+
+-- to each line of a tenant of the roster stands one outcome, in order, and that is one that its text may have
+abbrev pub OwnLinesAreAnswered : Type 0
+OwnLinesAreAnswered =
+    (tenant input : List ℕ) (run : ScriptRun input) (limits : Quota) → limits_of tenant run.rows ≡ Some limits
+    → AllZip (λ said outcome. IsSaid tenant (form_of said) outcome) (own_lines tenant run.lines) (own_outcomes tenant run.outcomes)
 
 -- In two scripts that are the same for a tenant, whatever other tenants say in them, each of its lines is answered by the
 -- same bytes; but two proofs of the same may differ.
