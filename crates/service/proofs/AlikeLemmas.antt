@@ -1,7 +1,7 @@
 -- What became of the same lines is the same but for the replies, and so by its replies.
-use Rattle.std.proofs.Common.{◌≡◌, ℕ, Bool, true, false, cond, List, [], ◌∷◌, ◌++◌, map, refl, sym, ap, ◌∙◌, subst, inl, inr}
+use Rattle.std.proofs.Common.{◌≡◌, ℕ, Bool, true, false, cond, List, [], ◌∷◌, ◌++◌, map, refl, sym, ap, ◌∙◌, inl, inr}
 use Rattle.std.specs.Prelude.{filter}
-use Rattle.std.specs.List.{AllZip, AllByRecursion, flat_map}
+use Rattle.std.specs.List.{AllZip, AllByRecursion}
 use Rattle.names.specs.Name.{is_same}
 use Rattle.vaults.specs.declared.changes.Entry.{Entry}
 use Rattle.vaults.specs.Journal.{Vault, view}
@@ -14,9 +14,9 @@ use Rattle.hall.specs.halls.Turns.{Turn, turns, own_replies, IsSameTold, same, p
 use Rattle.service.specs.declared.commands.Command.{Command}
 use Rattle.service.specs.declared.refusals.Refusal.{Refusal}
 use Rattle.service.specs.Command.{form_of}
-use Rattle.service.specs.Outcome.{Outcome, nobody, refused, served, IsSaid, deed_of, deed_in, deeds_in}
+use Rattle.service.specs.Outcome.{Outcome, nobody, refused, served, IsSaid, deed_of, deeds_in}
 use Rattle.service.specs.Reply.{refusal_line, reply_lines}
-use Rattle.service.specs.Isolation.{is_to, own_outcomes, trace_in, FoundMemory, ArePrintedAlike}
+use Rattle.service.specs.Isolation.{own_outcomes, trace_in, FoundMemory, ArePrintedAlike}
 use Rattle.service.proofs.CommandLemmas.{one_command, one_refusal, read_kept}
 use Rattle.service.proofs.ShortLemmas.{IsShort, form-short}
 

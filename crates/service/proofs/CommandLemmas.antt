@@ -1,5 +1,5 @@
 -- A short command is read in one way, but for want of memory.
-use Rattle.std.proofs.Common.{◌≡◌, ◌≢◌, ℕ, ◌≤◌, List, length, refl, sym, ap, ◌∙◌, subst, Option, Some, None, Ok, Err, inl, inr}
+use Rattle.std.proofs.Common.{◌≡◌, ◌≢◌, ℕ, ◌≤◌, List, length, refl, sym, ap, ◌∙◌, Option, Some, None, Ok, Err, inl, inr}
 use Rattle.names.specs.declared.roles.Role.{Role}
 use Rattle.names.specs.declared.faults.NameFault.{NameFault}
 use Rattle.names.specs.Name.{IsName}

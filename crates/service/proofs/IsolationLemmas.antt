@@ -2,16 +2,14 @@
 use Rattle.std.proofs.Common.{◌≡◌, ℕ, Bool, true, false, cond, List, [], ◌∷◌, ◌++◌, map, refl, sym, ap, ap₂, ◌∙◌, subst, subst₂, append_assoc, Option, Some, None, Ok, Err, inl, inr}
 use Rattle.std.specs.Prelude.{◌&&◌, find, option_map, is_some}
 use Rattle.std.specs.List.{AllZip, AllByRecursion, flat_map}
-use Rattle.std.specs.Io.KnownBytes.{Appends}
 use Rattle.std.proofs.lemmas.Bool.{false≢true}
 use Rattle.std.proofs.lemmas.List.{append-nil}
 use Rattle.quotas.specs.Quota.{Quota}
 use Rattle.names.specs.Name.{is_name, IsName, is_same}
 use Rattle.names.proofs.SameNames.{same_from_is_same}
-use Rattle.hall.specs.declared.calls.replies.Reply.{Reply}
 use Rattle.hall.specs.declared.calls.replies.Reply.TheVariants.{Proof}
 use Rattle.hall.specs.halls.Account.{Account}
-use Rattle.hall.specs.halls.State.{HallState, Tenant, account, account_of, is_tenant, tenant_named, new_hall, new_tenant, AreDistinct}
+use Rattle.hall.specs.halls.State.{HallState, Tenant, account, account_of, is_tenant, tenant_named, new_hall, new_tenant}
 use Rattle.hall.specs.halls.Agree.{HasMemory}
 use Rattle.hall.specs.halls.Turns.{own_replies, IsSameTold}
 use Rattle.hall.proofs.halls.Fixed.{deeds_fixed}
@@ -21,7 +19,6 @@ use Rattle.service.specs.declared.script_faults.ScriptFault.TheVariants.{Roster,
 use Rattle.service.specs.Line.{Line, text, too_long, not_ascii, commands_of}
 use Rattle.service.specs.Roster.{HasRows, HasRoster}
 use Rattle.service.specs.Outcome.{Outcome, served, outcome_text, is_speaker, IsSaid, deeds_in}
-use Rattle.service.specs.Written.{Answers}
 use Rattle.service.specs.Isolation.{ScriptRun, IsSameFor, limits_of, own_lines, own_outcomes, AreProofs, ArePrintedAlike, IsNoProof}
 use Rattle.service.specs.Laws.{OwnLinesAreAnswered, ScriptsAreIsolated, SameIsPrinted, ScriptsAreRuns}
 use Rattle.service.proofs.TenantLemmas.{AreDistinct-rows}

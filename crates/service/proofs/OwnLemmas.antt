@@ -1,23 +1,19 @@
 -- What became of a tenant's own lines, line after line.
-use Rattle.std.proofs.Common.{◌≡◌, ℕ, ◌≤◌, Bool, true, false, cond, List, [], ◌∷◌, ◌++◌, length, map, refl, sym, ap, ◌∙◌, subst, arith, Option, Some, None, length-drop}
-use Rattle.std.specs.Prelude.{◌&&◌, MatchBool, filter, option_map, is_some, find}
-use Rattle.std.specs.List.{AllZip, AllByRecursion, list_any, list_all, position_or_len, before_first, after_first, flat_map}
+use Rattle.std.proofs.Common.{◌≡◌, ℕ, Bool, true, false, cond, List, [], ◌∷◌, ◌++◌, refl, sym, ap, ◌∙◌, subst}
+use Rattle.std.specs.Prelude.{◌&&◌, MatchBool}
+use Rattle.std.specs.List.{AllZip, list_any, before_first, after_first}
 use Rattle.std.specs.Str.Lines.{lines}
 use Rattle.std.proofs.lemmas.Bool.{false≢true}
-use Rattle.quotas.specs.Quota.{Quota}
 use Rattle.names.specs.Name.{is_same}
 use Rattle.names.proofs.SameNames.{same_from_is_same}
-use Rattle.hall.specs.halls.Account.{Account}
-use Rattle.hall.specs.halls.State.{HallState, Tenant, account, account_of, tenant_named, new_hall, new_tenant}
+use Rattle.hall.specs.halls.State.{HallState}
 use Rattle.service.specs.declared.refusals.Refusal.{Refusal}
 use Rattle.service.specs.declared.refusals.Refusal.TheVariants as refusal
-use Rattle.service.specs.Line.{Line, text, too_long, not_ascii, is_printable, line_of, is_blank, commands_of}
-use Rattle.service.specs.Words.{is_space, is_colon, trim_start, after_word, words}
-use Rattle.service.specs.Command.{Form, form_of, form_by_words, Reads}
-use Rattle.service.specs.Roster.{Row, tenant_of, HasRows}
+use Rattle.service.specs.Line.{Line, text, too_long, not_ascii}
+use Rattle.service.specs.Words.{is_colon, trim_start}
+use Rattle.service.specs.Command.{Form, form_of}
 use Rattle.service.specs.Outcome.{Outcome, nobody, refused, served, is_speaker, IsSaid, IsNamed, IsOutcome}
-use Rattle.service.specs.Isolation.{limits_of, said_behind, said_in, own_lines, is_to, own_outcomes, FoundMemory}
-use Rattle.service.proofs.CommandLemmas.{IsShortForm, one_command, one_refusal, read_kept}
+use Rattle.service.specs.Isolation.{said_in, own_lines, is_to, own_outcomes}
 
 -- what a tenant said is told to it
 to_speaker : (tenant who : List ℕ) (form : Form) (outcome : Outcome) → IsSaid who form outcome → is_to tenant outcome ≡ is_same who tenant

@@ -1,7 +1,7 @@
 -- What a tenant says in a line has at most 4,096 bytes.
-use Rattle.std.proofs.Common.{◌≡◌, ℕ, ◌≤◌, ◌+◌, leb, Bool, true, false, cond, List, [], ◌∷◌, ◌++◌, length, map, subst, arith, Option, Some, None, length-drop, inl, inr}
-use Rattle.std.specs.Prelude.{◌&&◌, not, filter}
-use Rattle.std.specs.List.{AllByRecursion, list_any, list_all, position_or_len, before_first, after_first, flat_map}
+use Rattle.std.proofs.Common.{ℕ, ◌≤◌, ◌+◌, leb, Bool, true, false, cond, List, [], ◌∷◌, ◌++◌, length, map, subst, arith, Option, Some, None, length-drop, inl, inr}
+use Rattle.std.specs.Prelude.{◌&&◌, not}
+use Rattle.std.specs.List.{AllByRecursion, list_any, list_all, position_or_len, before_first, after_first}
 use Rattle.std.specs.Str.Lines.{lines}
 use Rattle.std.proofs.lemmas.Bool.{cases_lt, lt-leb}
 use Rattle.names.specs.Name.{is_same}
@@ -10,7 +10,7 @@ use Rattle.service.specs.declared.verbs.Verb.{Verb}
 use Rattle.service.specs.declared.verbs.Verb.TheVariants as verb
 use Rattle.service.specs.Line.{Line, text, too_long, not_ascii, is_printable, line_of, is_blank, commands_of}
 use Rattle.service.specs.Words.{is_space, is_colon, trim_start, after_word, words}
-use Rattle.service.specs.Command.{Form, put, drop, grant, revoke, ask, who, poll, wait, proof, end, vault, sees, unknown}
+use Rattle.service.specs.Command.{Form, grant, revoke, ask, who, poll, wait, proof, end, vault, sees}
 use Rattle.service.specs.Command.{form_of, form_by_words, form_by_verb, verb_of, with_none, with_one, with_two}
 use Rattle.service.specs.Roster.{Row, HasRows}
 use Rattle.service.specs.Isolation.{said_in, own_lines}

@@ -1,5 +1,5 @@
 -- What holds of rosters and scripts by their definitions alone.
-use Rattle.std.specs.Prelude.{◌≡◌, List, [], ℕ, Option, Some, Result}
+use Rattle.std.specs.Prelude.{◌≡◌, List, ℕ, Option, Some, Result}
 use Rattle.std.specs.List.{AllZip, AllByRecursion}
 use Rattle.std.specs.Io.KnownBytes.{Appends}
 use Rattle.service.specs.declared.script_faults.ScriptFault.{ScriptFault}
