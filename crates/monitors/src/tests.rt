@@ -2,8 +2,7 @@ ghost use Rattle.std.specs.Prelude.{◌≡◌, ◌<◌, OnOk, Contains};
 
 use crate::{LinkMonitor, MeetMonitor};
 use names::Entity;
-use std::alloc::AllocError;
-use std::process::Abort;
+use std::alloc::{AllocError, Global};
 use std::test::Fail;
 
 /// Tells it again where memory is refused, so that a test sees that the refusal changed nothing.
@@ -74,85 +73,133 @@ fn each_entity_needs_every_part(rt: HostRuntime) -> Result<(), Fail> {
     Ok(())
 }
 
-/// Tells a base where `known` are told. A refused telling leaves these told and the new one untold.
-fn tell_new_base(
-    rt: &impl Abort,
+/// Tells a base after these. Whether the base is new, and a refused telling left these told and the base untold.
+fn hears_new_base(
     monitor: &mut LinkMonitor,
-    known: &[Entity],
+    earlier: &[Entity],
     base: Entity,
-) -> Result<(), AllocError> {
+) -> Result<bool, AllocError> {
     if let Ok(is_new) = monitor.base_told(base) {
-        assert_eq!(rt; is_new, true);
-        return Ok(());
+        return Ok(is_new);
     }
-    for earlier in known {
-        assert_eq!(rt; monitor.base_told(*earlier)?, false);
+    for known in earlier {
+        if monitor.base_told(*known)? {
+            return Ok(false);
+        }
     }
-    assert_eq!(rt; monitor.base_told(base)?, true);
-    Ok(())
+    monitor.base_told(base)
 }
 
-/// The same for the entities that came by way of this base.
-fn tell_new_member(
-    rt: &impl Abort,
+/// The same for an entity that came by way of a base.
+fn hears_new_member(
     monitor: &mut LinkMonitor,
-    known: &[Entity],
+    earlier: &[Entity],
     base: Entity,
     who: Entity,
-) -> Result<(), AllocError> {
-    assert_eq!(rt; monitor.base_told(base)?, false);
+) -> Result<bool, AllocError>
+    requires { Contains monitor.old.bases base }
+{
     if let Ok(is_new) = monitor.via_told(base, who) {
-        assert_eq!(rt; is_new, true);
-        return Ok(());
+        return Ok(is_new);
     }
-    for earlier in known {
-        assert_eq!(rt; monitor.base_told(base)?, false);
-        assert_eq!(rt; monitor.via_told(base, *earlier)?, false);
+    for known in earlier {
+        if monitor.base_told(base)? || monitor.via_told(base, *known)? {
+            return Ok(false);
+        }
     }
-    assert_eq!(rt; monitor.base_told(base)?, false);
-    assert_eq!(rt; monitor.via_told(base, who)?, true);
-    Ok(())
+    Ok(!monitor.base_told(base)? && monitor.via_told(base, who)?)
 }
 
-/// The same for the first of two parts: an entity that it has told completes with the second, once.
-fn tell_new_part(
-    rt: &impl Abort,
+/// The same for an entity that the first of two parts tells: none of them completes.
+fn hears_first_part(
     monitor: &mut MeetMonitor,
-    known: &[Entity],
+    earlier: &[Entity],
     who: Entity,
-) -> Result<(), AllocError>
+) -> Result<bool, AllocError>
     requires { monitor.old.parts ≡ 2 }
     ensures { monitor.new.parts ≡ 2 }
 {
     if let Ok(is_last) = monitor.part_told(0, who) {
-        assert_eq!(rt; is_last, false);
-        return Ok(());
+        return Ok(!is_last);
     }
-    for earlier in known {
-        assert_eq!(rt; monitor.part_told(0, *earlier)?, false);
+    for known in earlier {
+        if monitor.part_told(0, *known)? {
+            return Ok(false);
+        }
     }
-    assert_eq!(rt; monitor.part_told(0, who)?, false);
+    Ok(!monitor.part_told(0, who)?)
+}
+
+/// Tells each of the entities as a base, and by way of itself. The place of the first that isn't heard as new.
+fn first_unheard(
+    monitor: &mut LinkMonitor,
+    entities: &[Entity],
+) -> Result<Option<usize>, AllocError> {
+    for (place, who) in entities.iter().enumerate() {
+        let earlier = &entities[..place];
+        if !hears_new_base(monitor, earlier, *who)? || monitor.base_told(*who)? {
+            return Ok(Some(place));
+        }
+        if !hears_new_member(monitor, earlier, *who, *who)? {
+            return Ok(Some(place));
+        }
+    }
+    Ok(None)
+}
+
+/// Tells each of the entities by the first of two parts. The place of the first that completes by it.
+fn first_complete(
+    monitor: &mut MeetMonitor,
+    entities: &[Entity],
+) -> Result<Option<usize>, AllocError>
+    requires { monitor.old.parts ≡ 2 }
+    ensures { monitor.new.parts ≡ 2 }
+{
+    for (place, who) in entities.iter().enumerate() {
+        if !hears_first_part(monitor, &entities[..place], *who)? {
+            return Ok(Some(place));
+        }
+    }
+    Ok(None)
+}
+
+/// Tells each of the entities by the second of two parts. The place of the first that doesn't complete by it, once.
+fn first_incomplete(
+    monitor: &mut MeetMonitor,
+    entities: &[Entity],
+) -> Result<Option<usize>, AllocError>
+    requires { monitor.old.parts ≡ 2 }
+{
+    for (place, who) in entities.iter().enumerate() {
+        if !monitor.part_told(1, *who)? || monitor.part_told(1, *who)? {
+            return Ok(Some(place));
+        }
+    }
+    Ok(None)
+}
+
+/// Nine entities.
+fn nine(alloc: Global) -> Result<Vec<Entity>, Fail> {
+    let mut entities = Vec::with_capacity(alloc, 9)?;
+    for name in ["B", "C", "D", "E", "F", "G", "H", "I", "J"] {
+        entities.push(Entity::read(name.as_bytes())?)?;
+    }
+    Ok(entities)
+}
+
+#[test]
+fn a_refused_telling_changes_no_linked_role(rt: HostRuntime) -> Result<(), Fail> {
+    let entities = nine(rt.alloc())?;
+    let mut monitor = LinkMonitor::new(rt.alloc());
+    assert_eq!(rt; first_unheard(&mut monitor, &entities)?, None);
     Ok(())
 }
 
 #[test]
-fn a_refused_telling_changes_nothing(rt: HostRuntime) -> Result<(), Fail> {
-    let names = ["B", "C", "D", "E", "F", "G", "H", "I", "J"];
-    let mut known = Vec::new(rt.alloc());
-    let mut link = LinkMonitor::new(rt.alloc());
-    let mut meet = MeetMonitor::make(rt.alloc(), 2);
-    for name in names {
-        let who = Entity::read(name.as_bytes())?;
-        tell_new_base(&rt, &mut link, &known, who)?;
-        tell_new_member(&rt, &mut link, &known, who, who)?;
-        tell_new_part(&rt, &mut meet, &known, who)?;
-        if known.push(who).is_err() {
-            known.push(who)?;
-        }
-    }
-    for who in &known {
-        assert_eq!(rt; meet.part_told(1, *who)?, true);
-        assert_eq!(rt; meet.part_told(1, *who)?, false);
-    }
+fn a_refused_telling_changes_no_intersection(rt: HostRuntime) -> Result<(), Fail> {
+    let entities = nine(rt.alloc())?;
+    let mut monitor = MeetMonitor::make(rt.alloc(), 2);
+    assert_eq!(rt; first_complete(&mut monitor, &entities)?, None);
+    assert_eq!(rt; first_incomplete(&mut monitor, &entities)?, None);
     Ok(())
 }
