@@ -1,6 +1,7 @@
-//! Faults, lists, the laws, and one search of a hall.
+//! Faults, lists, the laws, jobs, and whole runs of events.
+mod acts;
+mod jobs;
 mod runs;
-mod steps;
 
 use crate::{
     Fault, Names, Rows, answers_are_true, deeds_are_allowed, deeds_are_fixed, runs_are_allowed,

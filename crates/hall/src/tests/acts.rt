@@ -1,0 +1,190 @@
+//! Events as a table writes them, and what a table wants each to be answered.
+use super::entity;
+use crate::{Answer, Event, Fault, Hall, Names, Query, Reply, Request, Step, Stepped};
+use credential_text::read_credential;
+use names::Role;
+use search::{Hint, Need};
+use std::alloc::{AllocError, Global};
+use std::test::Fail;
+use vaults::Change;
+
+/// What is asked of a hall, or done for it. The first field is whose request or search it is; a step names the number of
+/// its search next.
+#[derive(Clone, Copy)]
+pub(super) enum Act {
+    /// The credential that this text spells is uploaded.
+    Put(&'static str, &'static str),
+    /// It is withdrawn.
+    Drop(&'static str, &'static str),
+    /// The reader is granted the vault.
+    Grant(&'static str, &'static str),
+    /// Is the entity a member of the role?
+    Ask(&'static str, &'static str, &'static str),
+    /// Who is a member of the role?
+    Who(&'static str, &'static str),
+    Poll(&'static str, u64),
+    Close(&'static str, u64),
+    Sees(&'static str),
+    /// The waiting letter at this place is taken.
+    Take(&'static str, u64, u64),
+    /// The letter of this number is given back.
+    GiveBack(&'static str, u64, u64),
+    /// The letter of this number is finished.
+    Finish(&'static str, u64, u64, Hint),
+    /// The signal at this place is delivered.
+    Signal(&'static str, u64, u64),
+}
+
+/// What is wanted for an answer.
+#[derive(Clone, Copy)]
+pub(super) enum Told {
+    Counted(u64),
+    Opened(u64),
+    Working,
+    Yes,
+    No,
+    Members(&'static [&'static str]),
+    Closed,
+    /// Refused by the fault of this number.
+    Refused(u64),
+    /// The letter of this number was taken, which needs the rows of this role.
+    TookFor(u64, &'static str),
+    /// The letter of this number was taken, which needs nothing.
+    Took(u64),
+    Nothing,
+    Back,
+    Signalled,
+    Done,
+    BadHint,
+    NotHeld,
+    Gone,
+}
+
+/// The event that the act stands for.
+fn event(alloc: Global, act: &Act) -> Result<Event, Fail> {
+    Ok(match act {
+        Act::Put(who, text) => {
+            let credential = read_credential(alloc, text.as_bytes())?;
+            Event::Request(entity(who)?, Request::Alter(Change::Upload(credential)))
+        }
+        Act::Drop(who, text) => {
+            let credential = read_credential(alloc, text.as_bytes())?;
+            Event::Request(entity(who)?, Request::Alter(Change::Withdraw(credential)))
+        }
+        Act::Grant(who, reader) => {
+            let reader = entity(reader)?;
+            Event::Request(entity(who)?, Request::Alter(Change::Grant(reader)))
+        }
+        Act::Ask(who, role, member) => {
+            let query = Query::Ask(Role::read(role.as_bytes())?, entity(member)?);
+            Event::Request(entity(who)?, Request::Seek(query))
+        }
+        Act::Who(who, role) => {
+            let query = Query::Who(Role::read(role.as_bytes())?);
+            Event::Request(entity(who)?, Request::Seek(query))
+        }
+        Act::Poll(who, number) => Event::Request(entity(who)?, Request::Poll(*number)),
+        Act::Close(who, number) => Event::Request(entity(who)?, Request::Close(*number)),
+        Act::Sees(who) => Event::Request(entity(who)?, Request::Sees),
+        Act::Take(who, number, place) => Event::Step(Step::Take(entity(who)?, *number, *place)),
+        Act::GiveBack(who, number, letter) => {
+            Event::Step(Step::GiveBack(entity(who)?, *number, *letter))
+        }
+        Act::Finish(who, number, letter, hint) => {
+            Event::Step(Step::Finish(entity(who)?, *number, *letter, *hint))
+        }
+        Act::Signal(who, number, place) => {
+            Event::Step(Step::Signal(entity(who)?, *number, *place))
+        }
+    })
+}
+
+/// Whether the letter needs the rows of this role.
+fn is_for(need: &Need, role: &str) -> Result<bool, Fail> {
+    Ok(match need {
+        Need::Rows(needed) => *needed == Role::read(role.as_bytes())?,
+        Need::Nothing => false,
+    })
+}
+
+/// Whether these are the names, in this order.
+fn are_named(names: &Names, wanted: &[&str]) -> bool {
+    let names = names.as_slice();
+    names.len() == wanted.len()
+        && names
+            .iter()
+            .zip(wanted)
+            .all(|(name, text)| name.bytes() == text.as_bytes())
+}
+
+/// Whether the step went as is wanted.
+fn went(stepped: &Stepped, wanted: &Told) -> Result<bool, Fail> {
+    Ok(match (stepped, wanted) {
+        (Stepped::Broken, _) => Err(AllocError)?,
+        (Stepped::Took(letter, need), Told::TookFor(number, role)) => {
+            letter == number && is_for(need, role)?
+        }
+        (Stepped::Took(letter, Need::Nothing), Told::Took(number)) => letter == number,
+        (Stepped::Nothing, Told::Nothing) => true,
+        (Stepped::Back, Told::Back) => true,
+        (Stepped::Signalled, Told::Signalled) => true,
+        (Stepped::Done, Told::Done) => true,
+        (Stepped::BadHint, Told::BadHint) => true,
+        (Stepped::NotHeld, Told::NotHeld) => true,
+        (Stepped::Gone, Told::Gone) => true,
+        _ => false,
+    })
+}
+
+/// Whether the search has come to what is wanted.
+fn came_to(answer: &Answer, wanted: &Told) -> Result<bool, Fail> {
+    Ok(match (answer, wanted) {
+        (Answer::Broken, _) => Err(AllocError)?,
+        (Answer::Working, Told::Working) => true,
+        (Answer::Yes, Told::Yes) => true,
+        (Answer::No, Told::No) => true,
+        (Answer::Members(names), Told::Members(wanted)) => are_named(names, wanted),
+        _ => false,
+    })
+}
+
+/// Whether the reply is the one that is wanted. Where memory was refused, that is the fault.
+fn is_told(reply: &Reply, wanted: &Told) -> Result<bool, Fail> {
+    Ok(match (reply, wanted) {
+        (Reply::Refused(Fault::Memory), _) => Err(AllocError)?,
+        (Reply::Refused(fault), Told::Refused(number)) => fault.number() == *number,
+        (Reply::Counted(count), Told::Counted(wanted)) => count == wanted,
+        (Reply::Opened(number), Told::Opened(wanted)) => number == wanted,
+        (Reply::Closed, Told::Closed) => true,
+        (Reply::Answered(answer), _) => came_to(answer, wanted)?,
+        (Reply::Stepped(stepped), _) => went(stepped, wanted)?,
+        _ => false,
+    })
+}
+
+/// Runs the acts of the parts, one part after another, and answers the place of the first reply that isn't the one that
+/// is wanted; where all are, none.
+pub(super) fn first_wrong(
+    alloc: Global,
+    hall: &mut Hall,
+    parts: &[&[(Act, Told)]],
+) -> Result<Option<usize>, Fail> {
+    let mut events = Vec::new(alloc);
+    let mut wanted = Vec::new(alloc);
+    for part in parts {
+        for (act, told) in *part {
+            events.push(event(alloc, act)?)?;
+            wanted.push(*told)?;
+        }
+    }
+    let replies = hall.run(&events)?;
+    if replies.len() != wanted.len() {
+        return Err("one reply for each event")?;
+    }
+    for (place, (reply, told)) in replies.iter().zip(&wanted).enumerate() {
+        if !is_told(reply, told)? {
+            return Ok(Some(place));
+        }
+    }
+    Ok(None)
+}
