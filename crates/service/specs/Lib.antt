@@ -8,6 +8,7 @@ pub mod Command
 pub mod Outcome
 pub mod Transcript
 pub mod Roster
+pub mod Talk
 pub mod RosterReading
 pub mod Isolation
 pub mod Laws

@@ -5,11 +5,12 @@ use Rattle.credential_text.specs.Fault.{cred_fault_number}
 use Rattle.credential_text.specs.declared.faults.CredFault.{CredFault}
 use Rattle.credential_text.specs.declared.faults.CredFault.TheVariants as cred
 use Rattle.service.specs.declared.refusals.Refusal.{Refusal}
-use Rattle.service.specs.declared.refusals.Refusal.TheVariants.{Name, Credential, BadHello, Command, LineLong, NotAscii, Memory}
+use Rattle.service.specs.declared.refusals.Refusal.TheVariants.{Name, Credential, NoHello, BadHello, Command, LineLong, NotAscii, Memory}
 
 abbrev pub refusal_number : Refusal → ℕ
 refusal_number (Name fault) = name_fault_number fault
 refusal_number (Credential fault) = cred_fault_number fault
+refusal_number NoHello = 61
 refusal_number BadHello = 62
 refusal_number Command = 64
 refusal_number LineLong = 65

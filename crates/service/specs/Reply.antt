@@ -13,17 +13,32 @@ use Rattle.hall.specs.Fault.{fault_number}
 use Rattle.hall.specs.Text.{proof_text}
 use Rattle.service.specs.declared.refusals.Refusal.{Refusal}
 use Rattle.service.specs.declared.speakers.Speaker.{Speaker}
-use Rattle.service.specs.declared.speakers.Speaker.TheVariants.{Nobody, Tenant}
+use Rattle.service.specs.declared.speakers.Speaker.TheVariants.{Nobody, Tenant, Peer}
 use Rattle.service.specs.Refusal.{text_of, refusal_number}
 
--- what stands before the colon of a line to nobody, or to a tenant
+-- what stands before the colon of a line to nobody, or to a tenant; a session's peer gets no name
 abbrev pub speaker_name : Speaker → List ℕ
 speaker_name Nobody = codes "?"
 speaker_name (Tenant who) = who
+speaker_name Peer = []
+
+-- what parts the name from the text
+abbrev pub colon_after : Speaker → List ℕ
+colon_after Nobody = codes ": "
+colon_after (Tenant who) = codes ": "
+colon_after Peer = []
+
+-- what stands in front of each line of a reply
+abbrev pub front_of : Speaker → List ℕ
+front_of who = speaker_name who ++ colon_after who
+
+-- a line: what stands in front, the text, and a newline
+abbrev pub line_after : List ℕ → List ℕ → List ℕ
+line_after front text = front ++ text ++ 10 ∷ []
 
 -- a line to somebody: the name, a colon, a space, the text, and a newline
 abbrev pub line_to : List ℕ → List ℕ → List ℕ
-line_to who text = who ++ codes ": " ++ text ++ 10 ∷ []
+line_to who text = line_after (who ++ codes ": ") text
 
 -- a refusal shows its number and the text of that
 abbrev pub error_text : ℕ → List ℕ
@@ -66,6 +81,10 @@ reply_texts (Stepped answer) = []
 abbrev pub reply_lines : List ℕ → Reply → List ℕ
 reply_lines who reply = flat_map (line_to who) (reply_texts reply)
 
+-- the same with this in front of each
+abbrev pub lines_after : List ℕ → Reply → List ℕ
+lines_after front reply = flat_map (line_after front) (reply_texts reply)
+
 -- a reply that may need more room than there is
 abbrev pub IsLong : Reply → Type 0
 IsLong (Vault rows) = Unit {0}
@@ -78,8 +97,8 @@ IsLong _ = ⊥
 abbrev pub IsPrinted : Reply → Reply → Type 0
 IsPrinted reply told = (told ≡ reply) ⊎ (IsLong reply × (told ≡ Refused Memory))
 
--- the bytes are the lines of the reply that was printed
-pub record IsFilled (who : List ℕ) (reply : Reply) (bytes : List ℕ) : Type 0 where
+-- the bytes are the lines of the reply that was printed, each with this in front
+pub record IsFilled (front : List ℕ) (reply : Reply) (bytes : List ℕ) : Type 0 where
   pub told : Reply
   pub printed : IsPrinted reply told
-  pub lines : bytes ≡ reply_lines who told
+  pub lines : bytes ≡ lines_after front told

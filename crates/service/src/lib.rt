@@ -17,6 +17,7 @@ mod roster_lines;
 mod rosters;
 mod script_faults;
 mod scripts;
+mod session_lines;
 mod speakers;
 mod verbs;
 mod words;

@@ -12,7 +12,9 @@ pub(crate) enum Refusal {
     Name(NameFault),
     /// An argument spells no credential.
     Credential(CredFault),
-    /// What stands before the colon is no tenant's name.
+    /// A session's line comes before a good hello.
+    NoHello,
+    /// What stands before the colon is no tenant's name, or a hello has no tenant's name and word.
     BadHello,
     /// There is no such command, or its arguments are of another kind or number.
     Command,
@@ -32,6 +34,7 @@ impl Refusal {
         match self {
             Refusal::Name(fault) => fault.number(),
             Refusal::Credential(fault) => fault.number(),
+            Refusal::NoHello => 61,
             Refusal::BadHello => 62,
             Refusal::Command => 64,
             Refusal::LineLong => 65,

@@ -5,8 +5,8 @@ ghost use Rattle.std.specs.Fmt.{decimal};
 ghost use Rattle.credential_text.specs.Spelling.{canonical};
 ghost use Rattle.hall.specs.declared.calls.answers.Answer.TheVariants as answer;
 ghost use Rattle.hall.specs.declared.calls.replies.Reply.TheVariants as reply;
-ghost use Rattle.service.specs.Refusal.{text_of};
-ghost use Rattle.service.specs.Reply.{speaker_name, line_to, error_text, refusal_line, listed, text_lines, reply_lines, IsFilled};
+ghost use Rattle.service.specs.Refusal.{text_of, refusal_number};
+ghost use Rattle.service.specs.Reply.{front_of, line_after, error_text, listed, text_lines, lines_after, IsFilled};
 
 use crate::fault_texts::fault_text;
 use crate::refusals::Refusal;
@@ -20,7 +20,7 @@ use std::alloc::AllocError;
 
 /// Fills the room with the line that refuses a text. It takes no memory.
 pub(crate) fn fill_refusal(room: &mut Room, who: &Speaker, refusal: Refusal)
-    ensures { room.new ≡ refusal_line (speaker_name who.now) refusal }
+    ensures { room.new ≡ line_after (front_of who.now) (error_text (refusal_number refusal)) }
 {
     fill_error(room, who, refusal.number());
 }
@@ -28,7 +28,7 @@ pub(crate) fn fill_refusal(room: &mut Room, who: &Speaker, refusal: Refusal)
 /// Fills the room with the lines of a reply. A vault, a list of names and a proof take memory, and without it the one line
 /// says so. How a step of a search went, for which no command asks, has no line.
 pub(crate) fn fill_reply(room: &mut Room, who: &Speaker, reply: &Reply)
-    ensures { IsFilled (speaker_name who.now) reply.now room.new }
+    ensures { IsFilled (front_of who.now) reply.now room.new }
 {
     match reply {
         Reply::Counted(count) => fill_counted(room, who, b"ok ", *count),
@@ -45,7 +45,7 @@ pub(crate) fn fill_reply(room: &mut Room, who: &Speaker, reply: &Reply)
 
 /// What a search has come to.
 fn fill_answer(room: &mut Room, who: &Speaker, answer: &Answer)
-    ensures { IsFilled (speaker_name who.now) (reply.Answered answer.now) room.new }
+    ensures { IsFilled (front_of who.now) (reply.Answered answer.now) room.new }
 {
     match answer {
         Answer::Working => fill_text(room, who, b"working"),
@@ -60,7 +60,7 @@ fn fill_answer(room: &mut Room, who: &Speaker, answer: &Answer)
 /// A word.
 fn fill_text(room: &mut Room, who: &Speaker, text: &[u8])
     requires word { length text.now ≤ 8 }
-    ensures { room.new ≡ line_to (speaker_name who.now) text.now }
+    ensures { room.new ≡ line_after (front_of who.now) text.now }
 {
     room.begin(who);
     room.append(text);
@@ -70,7 +70,7 @@ fn fill_text(room: &mut Room, who: &Speaker, text: &[u8])
 /// A word and a number.
 fn fill_counted(room: &mut Room, who: &Speaker, word: &[u8], number: u64)
     requires word { length word.now ≤ 8 }
-    ensures { room.new ≡ line_to (speaker_name who.now) (word.now ++ decimal number) }
+    ensures { room.new ≡ line_after (front_of who.now) (word.now ++ decimal number) }
 {
     room.begin(who);
     room.append(word);
@@ -78,9 +78,9 @@ fn fill_counted(room: &mut Room, who: &Speaker, word: &[u8], number: u64)
     room.append(b"\n");
 }
 
-/// A refusal's number and text.
-fn fill_error(room: &mut Room, who: &Speaker, number: u64)
-    ensures { room.new ≡ line_to (speaker_name who.now) (error_text number) }
+/// Fills the room with a refusal's number and text. It takes no memory.
+pub(crate) fn fill_error(room: &mut Room, who: &Speaker, number: u64)
+    ensures { room.new ≡ line_after (front_of who.now) (error_text number) }
 {
     room.begin(who);
     room.append(b"error ");
@@ -100,7 +100,7 @@ fn text_after(number: u64) -> &'static str
 
 /// The credentials of a vault, or that memory lacked.
 fn fill_vault(room: &mut Room, who: &Speaker, rows: &[Credential])
-    ensures { IsFilled (speaker_name who.now) (reply.Vault rows.now) room.new }
+    ensures { IsFilled (front_of who.now) (reply.Vault rows.now) room.new }
 {
     if write_vault(room, who, rows).is_err() {
         fill_error(room, who, Fault::Memory.number());
@@ -109,7 +109,7 @@ fn fill_vault(room: &mut Room, who: &Speaker, rows: &[Credential])
 
 /// The names that are seen, or that memory lacked.
 fn fill_sees(room: &mut Room, who: &Speaker, names: &[Entity])
-    ensures { IsFilled (speaker_name who.now) (reply.Sees names.now) room.new }
+    ensures { IsFilled (front_of who.now) (reply.Sees names.now) room.new }
 {
     if write_names(room, who, b"sees", names).is_err() {
         fill_error(room, who, Fault::Memory.number());
@@ -118,7 +118,7 @@ fn fill_sees(room: &mut Room, who: &Speaker, names: &[Entity])
 
 /// The members of a role, or that memory lacked.
 fn fill_members(room: &mut Room, who: &Speaker, names: &[Entity])
-    ensures { IsFilled (speaker_name who.now) (reply.Answered (answer.Members names.now)) room.new }
+    ensures { IsFilled (front_of who.now) (reply.Answered (answer.Members names.now)) room.new }
 {
     if write_names(room, who, b"members", names).is_err() {
         fill_error(room, who, Fault::Memory.number());
@@ -127,7 +127,7 @@ fn fill_members(room: &mut Room, who: &Speaker, names: &[Entity])
 
 /// A proof, or that memory lacked.
 fn fill_proof(room: &mut Room, who: &Speaker, proof: &Proof)
-    ensures { IsFilled (speaker_name who.now) (reply.Proof proof.now) room.new }
+    ensures { IsFilled (front_of who.now) (reply.Proof proof.now) room.new }
 {
     if write_steps(room, who, proof).is_err() {
         fill_error(room, who, Fault::Memory.number());
@@ -136,7 +136,7 @@ fn fill_proof(room: &mut Room, who: &Speaker, proof: &Proof)
 
 /// How many steps there are, and a line for each.
 fn write_steps(room: &mut Room, who: &Speaker, proof: &Proof) -> Result<(), AllocError>
-    ensures { OnOk result (room.new ≡ reply_lines (speaker_name who.now) (reply.Proof proof.now)) }
+    ensures { OnOk result (room.new ≡ lines_after (front_of who.now) (reply.Proof proof.now)) }
 {
     let mut text = Vec::new(room.alloc());
     write_proof(proof, &mut text)?;
@@ -146,7 +146,7 @@ fn write_steps(room: &mut Room, who: &Speaker, proof: &Proof) -> Result<(), Allo
 
 /// Appends the lines of a text.
 fn write_lines(room: &mut Room, who: &Speaker, text: &[u8]) -> Result<(), AllocError>
-    ensures { OnOk result (room.new ≡ room.old ++ flat_map (line_to (speaker_name who.now)) (text_lines text.now)) }
+    ensures { OnOk result (room.new ≡ room.old ++ flat_map (line_after (front_of who.now)) (text_lines text.now)) }
 {
     let (line, rest) = cut(text, b'\n');
     if !line.is_empty() {
@@ -160,17 +160,16 @@ fn write_lines(room: &mut Room, who: &Speaker, text: &[u8]) -> Result<(), AllocE
 
 /// Appends one line.
 fn write_line(room: &mut Room, who: &Speaker, text: &[u8]) -> Result<(), AllocError>
-    ensures { OnOk result (room.new ≡ room.old ++ line_to (speaker_name who.now) text.now) }
+    ensures { OnOk result (room.new ≡ room.old ++ line_after (front_of who.now) text.now) }
 {
-    room.extend(who.name())?;
-    room.extend(b": ")?;
+    room.extend_front(who)?;
     room.extend(text)?;
     room.extend(b"\n")
 }
 
 /// How many credentials there are, and a line for each.
 fn write_vault(room: &mut Room, who: &Speaker, rows: &[Credential]) -> Result<(), AllocError>
-    ensures { OnOk result (room.new ≡ reply_lines (speaker_name who.now) (reply.Vault rows.now)) }
+    ensures { OnOk result (room.new ≡ lines_after (front_of who.now) (reply.Vault rows.now)) }
 {
     fill_counted(room, who, b"vault ", rows.len() as u64);
     for row in rows {
@@ -181,10 +180,9 @@ fn write_vault(room: &mut Room, who: &Speaker, rows: &[Credential]) -> Result<()
 
 /// Appends the line of one credential.
 fn write_row(room: &mut Room, who: &Speaker, row: &Credential) -> Result<(), AllocError>
-    ensures { OnOk result (room.new ≡ room.old ++ line_to (speaker_name who.now) (canonical row.now)) }
+    ensures { OnOk result (room.new ≡ room.old ++ line_after (front_of who.now) (canonical row.now)) }
 {
-    room.extend(who.name())?;
-    room.extend(b": ")?;
+    room.extend_front(who)?;
     room.extend_by(row)?;
     room.extend(b"\n")
 }
@@ -197,7 +195,7 @@ fn write_names(
     names: &[Entity],
 ) -> Result<(), AllocError>
     requires word { length word.now ≤ 8 }
-    ensures { OnOk result (room.new ≡ line_to (speaker_name who.now) (word.now ++ listed names.now)) }
+    ensures { OnOk result (room.new ≡ line_after (front_of who.now) (word.now ++ listed names.now)) }
 {
     room.begin(who);
     room.append(word);

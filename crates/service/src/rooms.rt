@@ -1,8 +1,8 @@
 //! The room in which the lines of a reply are put together.
-ghost use Rattle.std.specs.Prelude.{◌≡◌, ◌≤◌, ◌+◌, ◌++◌, [], length, codes, IfOk, OnOk};
+ghost use Rattle.std.specs.Prelude.{◌≡◌, ◌≤◌, ◌+◌, ◌++◌, [], length, IfOk, OnOk};
 ghost use Rattle.std.specs.Fmt.{decimal};
 ghost use Rattle.credential_text.specs.Spelling.{canonical};
-ghost use Rattle.service.specs.Reply.{speaker_name};
+ghost use Rattle.service.specs.Reply.{front_of};
 
 use crate::digits::{append, append_number};
 use crate::speakers::Speaker;
@@ -57,14 +57,14 @@ impl Room {
         self.bytes.clear();
     }
 
-    /// Empties it, and says who is answered.
+    /// Empties it, and begins a line to this one.
     pub(crate) fn begin(&mut self, who: &Speaker)
-        ensures items { self.new ≡ speaker_name who.now ++ codes ": " }
+        ensures items { self.new ≡ front_of who.now }
         ensures short { length self.new ≤ 66 }
     {
         self.bytes.clear();
         append(&mut self.bytes, who.name());
-        append(&mut self.bytes, b": ");
+        append(&mut self.bytes, who.colon());
     }
 
     /// Appends a text of a short reply.
@@ -82,6 +82,14 @@ impl Room {
         ensures short { length (decimal number) ≤ 20 }
     {
         append_number(&mut self.bytes, number);
+    }
+
+    /// Begins a further line to this one.
+    pub(crate) fn extend_front(&mut self, who: &Speaker) -> Result<(), AllocError>
+        ensures { OnOk result (self.new ≡ self.old ++ front_of who.now) }
+    {
+        self.extend(who.name())?;
+        self.extend(who.colon())
     }
 
     /// Appends a text of a long reply.

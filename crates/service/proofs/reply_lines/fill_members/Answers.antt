@@ -2,15 +2,15 @@
 use Rattle.std.proofs.Common.{◌++◌, codes, refl, sym}
 use Rattle.hall.specs.declared.calls.answers.Answer.TheVariants.{Members}
 use Rattle.hall.specs.declared.calls.replies.Reply.TheVariants.{Answered}
-use Rattle.service.specs.Reply.{speaker_name, listed}
+use Rattle.service.specs.Reply.{front_of, listed}
 use Rattle.service.proofs.ReplyLemmas.{IsFilled-whole_line, IsFilled-lacking}
 use Rattle.service.proofs.reply_lines.fill_members.Goals as goal
 
 pub returns-then-is_err : goal.returns-then-is_err
 returns-then-is_err c =
-    IsFilled-lacking (speaker_name c.args.who.now) c.fill_error.new.room (Answered (Members c.args.names.now)) tt (rw c.number.ensures at c.fill_error.ensures)
+    IsFilled-lacking (front_of c.args.who.now) c.fill_error.new.room (Answered (Members c.args.names.now)) tt (rw c.number.ensures at c.fill_error.ensures)
 
 pub returns-else-is_err : goal.returns-else-is_err
 returns-else-is_err c =
-    IsFilled-whole_line c.write_names.result (speaker_name c.args.who.now) (codes "members" ++ listed c.args.names.now) c.write_names.new.room (Answered (Members c.args.names.now)) refl
+    IsFilled-whole_line c.write_names.result (front_of c.args.who.now) (codes "members" ++ listed c.args.names.now) c.write_names.new.room (Answered (Members c.args.names.now)) refl
     (sym c.if-is_err.ensures.value) c.write_names.ensures
