@@ -2,7 +2,7 @@
 use Rattle.std.proofs.Common.{◌≡◌, ℕ, Bool, true, false, cond, List, [], ◌∷◌, ◌++◌, map, refl, sym, ap, ap₂, ◌∙◌, subst, subst₂, append_assoc, Option, Some, None, Ok, Err, inl, inr}
 use Rattle.std.specs.Prelude.{◌&&◌, find, option_map, is_some}
 use Rattle.std.specs.List.{AllZip, AllByRecursion, flat_map}
-use Rattle.std.proofs.lemmas.Bool.{false≢true}
+use Rattle.std.proofs.lemmas.Bool.{false≢true, and_parts, and_from}
 use Rattle.std.proofs.lemmas.List.{append-nil}
 use Rattle.quotas.specs.Quota.{Quota}
 use Rattle.names.specs.Name.{is_name, IsName, is_same}
@@ -52,10 +52,6 @@ tenant_account h tenant = by (tenant_named tenant h.tenants)
     by None = refl
     by (Some t) = refl
 
-second_true : (a b : Bool) → (a && b) ≡ true → b ≡ true
-second_true true b e = e
-second_true false b e = absurd (false≢true e)
-
 module _ (tenant input other : List ℕ) (one : ScriptRun input) (two : ScriptRun other) (same : IsSameFor tenant one two) where
   accounts : account_of (hall_of one.rows) tenant ≡ account_of (hall_of two.rows) tenant
   accounts = start_account tenant one.rows ∙ ap (option_map fresh) same.limits ∙ sym (start_account tenant two.rows)
@@ -85,7 +81,7 @@ module _ (tenant input other : List ℕ) (one : ScriptRun input) (two : ScriptRu
 
   spoken_alike : is_speaker (hall_of one.rows) tenant ≡ true → (o : Option Account) → account_of (hall_of one.rows) tenant ≡ o → AllZip ArePrintedAlike (own_outcomes tenant one.outcomes) (own_outcomes tenant two.outcomes)
   spoken_alike speaks None none =
-      absurd (false≢true (sym (tenant_account (hall_of one.rows) tenant ∙ ap is_some none) ∙ second_true (is_name tenant) (is_tenant (hall_of one.rows) tenant) speaks))
+      absurd (false≢true (sym (tenant_account (hall_of one.rows) tenant ∙ ap is_some none) ∙ (and_parts (is_name tenant) (is_tenant (hall_of one.rows) tenant) speaks).1))
   spoken_alike speaks (Some start) is =
       let alike = lines_alike speaks in
       printed_alike (own_outcomes tenant one.outcomes) (own_outcomes tenant two.outcomes) alike
@@ -124,10 +120,8 @@ limited_named tenant (row ∷ rows) limits named is = by (is_same row.name tenan
 -- and speaks
 limited_speaks : (tenant : List ℕ) (rows : List Row) (limits : Quota) → IsName tenant → limits_of tenant rows ≡ Some limits → is_speaker (hall_of rows) tenant ≡ true
 limited_speaks tenant rows limits named is =
-    rw (tenant_account (hall_of rows) tenant ∙ ap is_some (start_account tenant rows ∙ ap (option_map fresh) is)) (both_true (is_name tenant) named)
-  where
-    both_true : (b : Bool) → b ≡ true → (b && true) ≡ true
-    both_true b e = ap (λ (c : Bool). c && true) e
+    and_from (is_name tenant) (is_tenant (hall_of rows) tenant) named
+    (tenant_account (hall_of rows) tenant ∙ ap is_some (start_account tenant rows ∙ ap (option_map fresh) is))
 
 pub own_lines_answered : OwnLinesAreAnswered
 own_lines_answered tenant input run limits is =
