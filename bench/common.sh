@@ -35,17 +35,29 @@ build() {
     rt run > "$work/log" 2>&1 || { cat "$work/log"; exit 1; }
 }
 
-# medians RUNS COMMAND..: runs the command so often, and prints the median of each figure that it prints. Memory that the
-# command gives back stays with it, so that what it times after a first round takes no new page from the system.
+# built_program: builds `rtsearch` where it isn't built as its sources stand, and says where it is.
+built_program() {
+    "$root/rtsearch" --version > "$work/log" 2>&1 < /dev/null || true
+    [ -x "$root/crates/rtsearch/out/rtsearch" ] || { cat "$work/log" >&2; exit 1; }
+    echo "$root/crates/rtsearch/out/rtsearch"
+}
+
+# medians RUNS COMMAND..: runs the command so often, and prints the median of each figure that it prints.
 medians() {
     runs=$1
     shift
     for _ in $(seq "$runs"); do
-        MALLOC_MMAP_THRESHOLD_=4294967296 MALLOC_TRIM_THRESHOLD_=17179869184 MALLOC_TOP_PAD_=268435456 "$@"
+        "$@"
     done > "$work/figures"
     column=1
     for _ in $(head -n 1 "$work/figures"); do
         cut -d ' ' -f "$column" "$work/figures" | sort -n | sed -n "$(((runs + 1) / 2))p"
         column=$((column + 1))
     done
+}
+
+# keeping COMMAND..: runs the command so that memory which it gives back stays with it; what it times after a first round
+# takes no new page from the system.
+keeping() {
+    MALLOC_MMAP_THRESHOLD_=4294967296 MALLOC_TRIM_THRESHOLD_=17179869184 MALLOC_TOP_PAD_=268435456 "$@"
 }

@@ -14,6 +14,6 @@ printf "$row" shape each 'nodes added' 'read' 'listeners added' 'read' 'solution
 for shape in wide many; do
     for count in 1000 10000 100000; do
         # shellcheck disable=SC2046,SC2059
-        printf "$row" "$shape" "$count" $(medians "$runs" "out/$program" "$shape" "$count")
+        printf "$row" "$shape" "$count" $(medians "$runs" keeping "out/$program" "$shape" "$count")
     done
 done

@@ -12,6 +12,6 @@ printf '%-12s %-6s %14s %14s\n' outstanding taken 'one answer' 'no answer'
 for outstanding in 1000 10000 100000; do
     for order in first last; do
         # shellcheck disable=SC2046
-        printf '%-12s %-6s %14s %14s\n' "$outstanding" "$order" $(medians "$runs" "out/$program" "$outstanding" "$order")
+        printf '%-12s %-6s %14s %14s\n' "$outstanding" "$order" $(medians "$runs" keeping "out/$program" "$outstanding" "$order")
     done
 done

@@ -17,6 +17,6 @@ printf "$row" family letters 'ns a letter' 'ns inserting' times bytes
 for family in chain wide linked met mixed; do
     for letters in 1000 10000 100000; do
         # shellcheck disable=SC2046,SC2059
-        printf "$row" "$family" $(medians "$runs" "out/$program" "$family" "$letters")
+        printf "$row" "$family" $(medians "$runs" keeping "out/$program" "$family" "$letters")
     done
 done
