@@ -2,10 +2,13 @@
 //! and why.
 #![tactic(auto)]
 
+mod edges;
 mod graphs;
+mod interned;
 mod listeners;
 mod nodes;
 mod places;
+mod reasons;
 mod solutions;
 #[cfg(test)]
 mod tests;
