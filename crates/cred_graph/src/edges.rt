@@ -2,8 +2,9 @@ ghost use Rattle.std.specs.Prelude.{◌≡◌, ◌<◌, IfOk, MatchOption};
 ghost use Rattle.cred_graph.specs.Interned.{IsOnce, Stay};
 ghost use Rattle.cred_graph.specs.NumberedEdges.{port_of, edge_of, IsPortIn, IsEdgeIn};
 
-use crate::interned::{Interned, short};
+use crate::interned::Interned;
 use crate::listeners::{Edge, Listening, Port};
+use crate::numbers::short;
 use std::alloc::AllocError;
 
 /// A port with the number of its name.

@@ -1,17 +1,10 @@
-ghost use Rattle.std.specs.Prelude.{◌≡◌, ◌<◌, ◌≤◌, ◌^◌, [], Some, IfOk, MatchOption, Contains, length, slice_get};
+ghost use Rattle.std.specs.Prelude.{◌≡◌, ◌<◌, [], Some, IfOk, MatchOption, Contains, length, slice_get};
 
+use crate::numbers::short;
 use indexmap::IndexSet;
 use names::Entity;
 use std::alloc::{AllocError, Global};
 use std::marker::Model;
-
-/// The number as one of 32 bits, if it is that small.
-pub fn short(n: u64) -> Option<u32>
-    ensures same { MatchOption result (2 ^ 32 ≤ n) (λ k. k ≡ n) }
-    ensures small { MatchOption result (2 ^ 32 ≤ n) (λ k. n < 2 ^ 32) }
-{
-    if n < 1 << 32 { Some(n as u32) } else { None }
-}
 
 /// Names, each kept once and spoken of by its number, counted from 0.
 #[derive(Drop)]

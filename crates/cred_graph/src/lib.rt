@@ -7,6 +7,7 @@ mod graphs;
 mod interned;
 mod listeners;
 mod nodes;
+mod numbers;
 mod places;
 mod reasons;
 mod solutions;

@@ -2,7 +2,8 @@ ghost use Rattle.std.specs.Prelude.{◌≡◌, IfOk};
 ghost use Rattle.cred_graph.specs.Interned.{Stay};
 ghost use Rattle.cred_graph.specs.Solved.{reason_of, IsReasonIn};
 
-use crate::interned::{Interned, short};
+use crate::interned::Interned;
+use crate::numbers::short;
 use crate::solutions::Reason;
 use std::alloc::AllocError;
 
