@@ -30,7 +30,7 @@ pub struct Listening {
 }
 
 /// That a listener listens to the node `asked`.
-#[derive(Clone, Copy, PartialEq, Eq, Hash)]
+#[derive(Clone, Copy)]
 pub struct Edge {
     pub asked: u64,
     pub listening: Listening,
