@@ -3,7 +3,9 @@ pub mod Found
 pub mod Growth
 pub mod Keys
 pub mod Tables
+pub mod InternedLemmas
 pub mod PlaceLemmas
+pub mod RowLemmas
 pub mod EdgeLemmas
 pub mod SolutionLemmas
 pub mod StoredLemmas

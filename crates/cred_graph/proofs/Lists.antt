@@ -1,8 +1,9 @@
 -- Elements of a list by their places, where the list grows at its end.
-use Rattle.std.proofs.Common.{ℕ, zero, suc, ◌<◌, ◌≡◌, ◌∙◌, ◌⊎◌, inl, inr, ap, sym, subst, refl, List, [], ◌∷◌, ◌++◌, Some, Contains, length, get_or, set, map, slice_get, Result, Ok, Err, OnErr}
+use Rattle.std.proofs.Common.{ℕ, zero, suc, ◌<◌, ◌≡◌, ◌∙◌, ◌⊎◌, inl, inr, ap, sym, subst, refl, Bool, true, false, cond, List, [], ◌∷◌, ◌++◌, Option, Some, None, Contains, length, filter, get_or, set, map, slice_get, Result, Ok, Err, OnErr}
+use Rattle.std.specs.Option.{option_map}
 use Rattle.std.proofs.lemmas.List.Elements.{Contains-push}
 use Rattle.std.proofs.lemmas.List.{map-set, get_or-map}
-use Rattle.std.proofs.lemmas.Option.{same_Some, slice_get_within, slice_get-get_or, get_or_from_slice_get}
+use Rattle.std.proofs.lemmas.Option.{none-some, same_Some, slice_get-map, slice_get_within, slice_get-get_or, get_or_from_slice_get}
 
 pub Contains-at_place : {X : Type 0} (xs : List X) (k : ℕ) (x : X) → slice_get xs k ≡ Some x → Contains xs x
 Contains-at_place xs k x e = (k, slice_get_within xs k x e, get_or_from_slice_get xs k x x e)
@@ -42,6 +43,36 @@ at_seen f xs n x within at = get_or-map f xs n x [] within ∙ ap f (sym at)
 -- an element that was added is there
 pub pushed_there : {X : Type 0} (xs after : List X) (x : X) → after ≡ xs ++ x ∷ [] → Contains after x
 pushed_there xs after x is = subst (λ l. Contains l x) (sym is) (Contains-push xs x)
+
+-- two functions that agree at each element
+pub map_same : {X Y : Type 0} (f g : X → Y) (xs : List X) → ((j : ℕ) (x : X) → slice_get xs j ≡ Some x → f x ≡ g x) → map f xs ≡ map g xs
+map_same f g [] agree = refl
+map_same f g (x ∷ xs) agree = ap (λ y. y ∷ map f xs) (agree 0 x refl) ∙ ap (λ l. g x ∷ l) (map_same f g xs (λ j. agree (suc j)))
+
+from_map : {X Y : Type 0} (f : X → Y) (o : Option X) (y : Y) → option_map f o ≡ Some y → (x : X) × (o ≡ Some x) × (f x ≡ y)
+from_map f None y is = absurd (none-some y is)
+from_map f (Some x) y is = (x, refl, same_Some (f x) y is)
+
+-- the element that is seen as this one
+pub behind_map : {X Y : Type 0} (f : X → Y) (xs : List X) (y : Y) → Contains (map f xs) y → (j : ℕ) × (x : X) × (slice_get xs j ≡ Some x) × (f x ≡ y)
+behind_map f xs y stands =
+    let at = place_of_Contains (map f xs) y stands in
+    let found = from_map f (slice_get xs at.0) y (sym (slice_get-map f xs at.0) ∙ at.1) in
+    (at.0, found.0, found.1, found.2)
+
+-- an element is seen where it stands
+pub seen_at : {X Y : Type 0} (f : X → Y) (xs : List X) (j : ℕ) (x : X) → slice_get xs j ≡ Some x → slice_get (map f xs) j ≡ Some (f x)
+seen_at f xs j x at = slice_get-map f xs j ∙ ap (option_map f) at
+
+-- of the elements as they are seen, those that pass
+pub filter_mapped : {X Y : Type 0} (p : Y → Bool) (f : X → Y) (xs : List X) → filter p (map f xs) ≡ map f (filter (λ x. p (f x)) xs)
+filter_mapped p f [] = refl
+filter_mapped p f (x ∷ xs) =
+    let rest = filter_mapped p f xs in
+    elim (p (f x)) as (λ b. cond b (f x ∷ filter p (map f xs)) (filter p (map f xs)) ≡ map f (cond b (x ∷ filter (λ y. p (f y)) xs) (filter (λ y. p (f y)) xs))) [
+      | true ↦ ap (λ l. f x ∷ l) rest
+      | false ↦ rest
+    ]
 
 -- what holds holds where a call failed
 pub on_err : {T E P : Type 0} (r : Result T E) → P → OnErr r P

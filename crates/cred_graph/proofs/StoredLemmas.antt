@@ -15,8 +15,6 @@ use Rattle.cred_graph.specs.Reason.{Fits}
 use Rattle.cred_graph.specs.Edges.{lists_from}
 use Rattle.cred_graph.specs.Stored.{IsStored}
 use Rattle.cred_graph.proofs.Growth.{node_added, listener_added, solution_added}
-use Rattle.cred_graph.specs.contracts.listeners.EdgePartialEq.TheImpl as edge
-use Rattle.cred_graph.proofs.Keys.{edges_decided}
 use Rattle.cred_graph.proofs.Tables.{insert_key-absent}
 use Rattle.cred_graph.proofs.EdgeLemmas.{lists_from-node, lists_from-edge, listens_exactly, edge_to}
 
@@ -26,10 +24,6 @@ graph_of nodes edges solutions = record { nodes = nodes; listeners = lists_from 
 -- an expression that isn't there goes last
 pub added_node : (nodes after : List Expr) (copy e : Expr) → (Contains nodes e → ⊥) → copy ≡ e → after ≡ insert_key expr.ghosts.eq nodes copy → after ≡ nodes ++ e ∷ []
 added_node nodes after copy e absent same is = is ∙ ap (insert_key expr.ghosts.eq nodes) same ∙ insert_key-absent expr.ghosts.eq exprs_decided nodes e absent
-
--- a listener that isn't there goes last
-pub added_edge : (edges mid after : List Edge) (e : Edge) → (Contains edges e → ⊥) → mid ≡ edges → after ≡ insert_key edge.ghosts.eq mid e → after ≡ edges ++ e ∷ []
-added_edge edges mid after e absent same is = is ∙ ap (λ es. insert_key edge.ghosts.eq es e) same ∙ insert_key-absent edge.ghosts.eq edges_decided edges e absent
 
 pub lists-node : (nodes after : List Expr) (edges : List Edge) (solutions : List Solution) (e : Expr) → IsStored nodes edges solutions → after ≡ nodes ++ e ∷ [] →
     lists_from 0 (length after) edges ≡ lists_from 0 (length nodes) edges ++ [] ∷ []

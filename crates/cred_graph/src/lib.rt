@@ -2,10 +2,14 @@
 //! and why.
 #![tactic(auto)]
 
+mod edges;
 mod graphs;
+mod interned;
 mod listeners;
 mod nodes;
+mod numbers;
 mod places;
+mod reasons;
 mod solutions;
 #[cfg(test)]
 mod tests;

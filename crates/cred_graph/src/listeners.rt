@@ -1,5 +1,7 @@
 ghost use Rattle.std.specs.Prelude.{◌≡◌, ◌<◌, ◌∷◌, [], ◌++◌, ◌↔◌, IsTrue, Some, OnOk, OnErr, Contains, length, slice_get};
 
+use crate::edges::{NumberedEdge, edge_found, edge_kept, edge_read};
+use crate::interned::Interned;
 use crate::places::Places;
 use indexmap::IndexSet;
 use names::Entity;
@@ -28,29 +30,31 @@ pub struct Listening {
 }
 
 /// That a listener listens to the node `asked`.
-#[derive(Clone, Copy, PartialEq, Eq, Hash)]
+#[derive(Clone, Copy)]
 pub struct Edge {
     pub asked: u64,
     pub listening: Listening,
 }
 
-/// The listeners of all nodes, each once, in order of adding, with the places of each node's.
+/// The listeners of all nodes, each once, in order of adding, with the places of each node's. Names in their ports are
+/// kept once, and the rows have their numbers.
 #[derive(Drop)]
 pub struct Listeners {
-    edges: IndexSet<Edge>,
+    names: Interned,
+    rows: IndexSet<NumberedEdge>,
     places: Places,
 }
 
 impl Model for Listeners {
-    ghost use Rattle.std.specs.Prelude.{List};
+    ghost use Rattle.std.specs.Prelude.{List, map};
     ghost use Rattle.cred_graph.specs.declared.listeners.Edge.{Edge};
-    ghost use Rattle.cred_graph.specs.Places.{ArePlaces};
+    ghost use Rattle.cred_graph.specs.NumberedEdges.{edge_of, AreKept};
 
     ghost Value = { List Edge };
 
-    ghost view = { λ l. l.edges.keys };
+    ghost view = { λ l. map (edge_of l.names) l.rows.keys };
 
-    ghost invariant = { λ l. ArePlaces (λ (e : Edge). e.asked) l.edges.keys l.places };
+    ghost invariant = { λ l. AreKept l.names l.rows.keys l.places };
 }
 
 impl Listeners {
@@ -61,7 +65,8 @@ impl Listeners {
         ensures { result ≡ [] }
     {
         Listeners {
-            edges: IndexSet::new(alloc),
+            names: Interned::new(alloc),
+            rows: IndexSet::new(alloc),
             places: Places::new(alloc),
         }
     }
@@ -70,7 +75,10 @@ impl Listeners {
     pub fn contains(&self, edge: &Edge) -> bool
         ensures { IsTrue result ↔ Contains self.now edge.now }
     {
-        self.edges.contains(edge)
+        match edge_found(&self.names, edge) {
+            Some(row) => self.rows.contains(&row),
+            None => false,
+        }
     }
 
     /// Adds a listener that isn't there.
@@ -79,14 +87,10 @@ impl Listeners {
         ensures added { OnOk result (self.new ≡ self.old ++ edge ∷ []) }
         ensures unchanged { OnErr result (self.new ≡ self.old) }
     {
-        let Edge {
-            asked,
-            listening: Listening { asker, port },
-        } = edge;
-        self.edges.reserve(1)?;
-        self.places.add(asked, self.edges.len() as u64)?;
-        let listening = Listening { asker, port };
-        let _is_new = self.edges.insert(Edge { asked, listening }).unwrap();
+        let row = edge_kept(&mut self.names, &edge)?;
+        self.rows.reserve(1)?;
+        self.places.add(edge.asked, self.rows.len() as u64)?;
+        let _is_new = self.rows.insert(row).unwrap();
         Ok(())
     }
 
@@ -103,8 +107,8 @@ impl Listeners {
         ensures { slice_get (edges_to n self.now) i ≡ Some result }
     {
         let place = self.places.get(n, i);
-        match self.edges.get_index(place as usize) {
-            Some(edge) => *edge,
+        match self.rows.get_index(place as usize) {
+            Some(row) => edge_read(&self.names, row),
             None => unreachable!(),
         }
     }

@@ -1,6 +1,7 @@
 ghost use Rattle.std.specs.Prelude.{◌≡◌, ℕ, ◌<◌, ◌∷◌, [], ◌++◌, Some, OnOk, OnErr, length, map, slice_get, slice_set};
 ghost use Rattle.cred_graph.specs.Places.{list_at};
 
+use crate::numbers::short;
 use smallvec::SmallVec;
 use std::alloc::{AllocError, Global};
 use std::marker::Model;
@@ -8,7 +9,7 @@ use std::marker::Model;
 /// The places of a node's rows in a table, in order of adding, for each node. Four of them stand in the list itself.
 #[derive(Drop)]
 pub struct Places {
-    lists: Vec<SmallVec<u64, 4>>,
+    lists: Vec<SmallVec<u32, 4>>,
 }
 
 impl Model for Places {
@@ -48,21 +49,24 @@ impl Places {
         requires { i < length (list_at self.now n) }
         ensures { slice_get (list_at self.now n) i ≡ Some result }
     {
-        self.lists[n as usize].as_slice()[i as usize]
+        self.lists[n as usize].as_slice()[i as usize] as u64
     }
 
-    /// Adds a place behind those of the node.
+    /// Adds a place behind those of the node. One that doesn't fit 32 bits is refused.
     pub fn add(&mut self, n: u64, place: u64) -> Result<(), AllocError>
         ensures added { OnOk result (AddsPlace self.old self.new n place) }
         ensures unchanged { OnErr result ((m : ℕ) → list_at self.new m ≡ list_at self.old m) }
     {
+        let Some(place) = short(place) else {
+            return Err(AllocError);
+        };
         reach(&mut self.lists, n as usize)?;
         push_at(&mut self.lists, n as usize, place)
     }
 }
 
 /// Makes lists up to the one of this number.
-fn reach(lists: &mut Vec<SmallVec<u64, 4>>, n: usize) -> Result<(), AllocError>
+fn reach(lists: &mut Vec<SmallVec<u32, 4>>, n: usize) -> Result<(), AllocError>
     ensures same { (m : ℕ) → list_at (map (λ v. v.items) lists.new.items) m ≡ list_at (map (λ v. v.items) lists.old.items) m }
     ensures reached { OnOk result (n < length lists.new.items) }
 {
@@ -74,7 +78,7 @@ fn reach(lists: &mut Vec<SmallVec<u64, 4>>, n: usize) -> Result<(), AllocError>
 }
 
 /// Adds a place at the end of the list of this number.
-fn push_at(lists: &mut Vec<SmallVec<u64, 4>>, n: usize, place: u64) -> Result<(), AllocError>
+fn push_at(lists: &mut Vec<SmallVec<u32, 4>>, n: usize, place: u32) -> Result<(), AllocError>
     requires { n < length lists.old.items }
     ensures added { OnOk result (map (λ v. v.items) lists.new.items ≡
         slice_set (map (λ v. v.items) lists.old.items) n (list_at (map (λ v. v.items) lists.old.items) n ++ place ∷ [])) }

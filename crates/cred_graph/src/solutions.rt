@@ -1,6 +1,8 @@
 ghost use Rattle.std.specs.Prelude.{◌≡◌, ◌<◌, ◌==◌, ◌∷◌, [], ◌++◌, Some, OnOk, OnErr, MatchOption, length, filter, map, slice_get};
 
+use crate::interned::Interned;
 use crate::places::Places;
+use crate::reasons::{NumberedReason, reason_kept, reason_read};
 use indexmap::IndexMap;
 use names::Entity;
 use std::alloc::{AllocError, Global};
@@ -35,24 +37,25 @@ pub struct Solved {
     pub who: Entity,
 }
 
-/// The solutions of all nodes with their reasons, in order of adding, and the places of each node's.
+/// The solutions of all nodes with their reasons, in order of adding, and the places of each node's. Names in the
+/// reasons are kept once, and the rows have their numbers.
 #[derive(Drop)]
 pub struct Solutions {
-    reasons: IndexMap<Solved, Reason>,
+    names: Interned,
+    reasons: IndexMap<Solved, NumberedReason>,
     places: Places,
 }
 
 impl Model for Solutions {
     ghost use Rattle.std.specs.Prelude.{List, map};
     ghost use Rattle.cred_graph.specs.declared.solutions.Solution.{Solution};
-    ghost use Rattle.cred_graph.specs.Solved.{solution_of};
-    ghost use Rattle.cred_graph.specs.Places.{ArePlaces};
+    ghost use Rattle.cred_graph.specs.Solved.{solution_of, AreKept};
 
     ghost Value = { List Solution };
 
-    ghost view = { λ s. map solution_of s.reasons.entries };
+    ghost view = { λ s. map (solution_of s.names) s.reasons.entries };
 
-    ghost invariant = { λ a. ArePlaces (λ (s : Solution). s.node) (map solution_of a.reasons.entries) a.places };
+    ghost invariant = { λ s. AreKept s.names s.reasons.entries s.places };
 }
 
 impl Solutions {
@@ -63,6 +66,7 @@ impl Solutions {
         ensures { result ≡ [] }
     {
         Solutions {
+            names: Interned::new(alloc),
             reasons: IndexMap::new(alloc),
             places: Places::new(alloc),
         }
@@ -75,7 +79,10 @@ impl Solutions {
     {
         let solved = Solved { node: n, who: *who };
         match self.reasons.get_full(&solved) {
-            Some((place, _solved, reason)) => Some((place as u64, *reason)),
+            Some((place, _solved, reason)) => Some((
+                place as u64,
+                reason_read(&self.names, *reason),
+            )),
             None => None,
         }
     }
@@ -87,6 +94,7 @@ impl Solutions {
         ensures unchanged { OnErr result (self.new ≡ self.old) }
     {
         let Solution { node, who, reason } = solution;
+        let reason = reason_kept(&mut self.names, reason)?;
         self.reasons.reserve(1)?;
         self.places.add(node, self.reasons.len() as u64)?;
         let _earlier = self.reasons.insert(Solved { node, who }, reason).unwrap();

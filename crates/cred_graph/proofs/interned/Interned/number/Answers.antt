@@ -1,0 +1,14 @@
+use Rattle.std.proofs.Common.{◌∙◌, ap, sym, Some}
+use Rattle.names.specs.contracts.entities.EntityPartialEq.TheImpl as entity
+use Rattle.cred_graph.proofs.Keys.{entities_decided}
+use Rattle.cred_graph.proofs.Tables.{find_is, not_found}
+use Rattle.cred_graph.proofs.interned.Interned.number.Goals as goal
+
+pub returns-in-Some-clause-number : goal.returns-in-Some-clause-number
+returns-in-Some-clause-number c =
+    rw (← c.self.view_is)
+    (c.in-Some.ensures.stored ∙ ap Some (sym (find_is entity.ghosts.eq entities_decided c.self.inside.names.keys c.args.who.now c.in-Some._name.now (sym c.in-Some.ensures.key))))
+
+pub returns-in-None-clause-number : goal.returns-in-None-clause-number
+returns-in-None-clause-number c =
+    rw (← c.self.view_is) (not_found entity.ghosts.eq entities_decided c.self.inside.names.keys c.args.who.now c.in-None.ensures.found)

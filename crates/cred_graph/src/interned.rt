@@ -1,0 +1,72 @@
+ghost use Rattle.std.specs.Prelude.{◌≡◌, ◌<◌, [], Some, IfOk, MatchOption, Contains, length, slice_get};
+
+use crate::numbers::short;
+use indexmap::IndexSet;
+use names::Entity;
+use std::alloc::{AllocError, Global};
+use std::marker::Model;
+
+/// Names, each kept once and spoken of by its number, counted from 0.
+#[derive(Drop)]
+pub struct Interned {
+    names: IndexSet<Entity>,
+}
+
+impl Model for Interned {
+    ghost use Rattle.std.specs.Prelude.{ℕ, List};
+    ghost use Rattle.cred_graph.specs.Interned.{AreInterned};
+
+    ghost Value = { List (List ℕ) };
+
+    ghost view = { λ n. n.names.keys };
+
+    ghost invariant = { λ n. AreInterned n.names.keys };
+}
+
+impl Interned {
+    ghost use Rattle.cred_graph.specs.Interned.{IsOnce, Stay};
+
+    /// No name.
+    pub fn new(alloc: Global) -> Self
+        ensures { result ≡ [] }
+    {
+        Interned {
+            names: IndexSet::new(alloc),
+        }
+    }
+
+    /// The number of the name, if it is kept.
+    pub fn number(&self, who: &Entity) -> Option<u32>
+        ensures number { MatchOption result (Contains self.now who.now → ⊥) (λ k. slice_get self.now k ≡ Some who.now) }
+        ensures once { IsOnce self.now }
+    {
+        match self.names.get_full(who) {
+            Some((number, _name)) => Some(number as u32),
+            None => None,
+        }
+    }
+
+    /// The number of the name, which is kept from now on.
+    pub fn keep(&mut self, who: Entity) -> Result<u32, AllocError>
+        ensures number { IfOk result (λ k. slice_get self.new k ≡ Some who) }
+        ensures others { Stay self.old self.new }
+        ensures once { IsOnce self.new }
+    {
+        if let Some(number) = self.number(&who) {
+            return Ok(number);
+        }
+        let Some(number) = short(self.names.len() as u64) else {
+            return Err(AllocError);
+        };
+        let _is_new = self.names.insert(who)?;
+        Ok(number)
+    }
+
+    /// The name of this number.
+    pub fn name(&self, number: u32) -> Entity
+        requires { number < length self.now }
+        ensures { slice_get self.now number ≡ Some result }
+    {
+        self.names.as_slice()[number as usize]
+    }
+}
