@@ -3,11 +3,15 @@
 #![tactic(auto)]
 
 mod asking;
+#[cfg(test)]
+mod desk_tests;
 mod desks;
 mod faults;
 mod gates;
 mod passes;
 mod rooms;
+#[cfg(test)]
+mod tests;
 mod verdicts;
 mod visits;
 mod workers;
