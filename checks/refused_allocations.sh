@@ -5,6 +5,7 @@
 #
 #   checks/refused_allocations.sh CRATE..        (each: proves the crate's tests first, where they aren't built yet)
 #
+# A test that makes more than 4,000 allocations, or MOST_RUNS, is run about so often, with allocations at equal distances.
 # Prints for each crate how many allocations its tests make, how many runs ended well though one was refused, how many
 # with want of memory, and every run that ended otherwise. The status is 1 where there was such a run.
 set -eu
@@ -13,33 +14,7 @@ work=$(mktemp -d)
 trap 'rm -rf "$work"' EXIT
 most=${MOST_RUNS:-4000}
 
-cat > "$work/refuse.c" <<'C'
-#include <stddef.h>
-#include <stdlib.h>
-#include <unistd.h>
-#include <stdio.h>
-#include <string.h>
-#include <errno.h>
-extern void *__libc_malloc(size_t);
-extern void *__libc_realloc(void *, size_t);
-extern void *__libc_calloc(size_t, size_t);
-extern void *__libc_memalign(size_t, size_t);
-static long wanted = -1, made = 0;
-__attribute__((constructor)) static void begin(void) { const char *n = getenv("REFUSE"); wanted = n ? atol(n) : 0; made = 0; }
-__attribute__((destructor)) static void end(void) {
-    const char *to = getenv("REFUSE_COUNT");
-    wanted = -1;
-    if (to) { FILE *f = fopen(to, "w"); if (f) { fprintf(f, "%ld\n", made); fclose(f); } }
-}
-static int refused(void) { if (wanted < 0) return 0; made++; if (made == wanted) { errno = ENOMEM; return 1; } return 0; }
-void *malloc(size_t n) { return refused() ? NULL : __libc_malloc(n); }
-void *calloc(size_t n, size_t m) { return refused() ? NULL : __libc_calloc(n, m); }
-void *realloc(void *p, size_t n) { return refused() ? NULL : __libc_realloc(p, n); }
-void *memalign(size_t a, size_t n) { return refused() ? NULL : __libc_memalign(a, n); }
-void *aligned_alloc(size_t a, size_t n) { return refused() ? NULL : __libc_memalign(a, n); }
-int posix_memalign(void **p, size_t a, size_t n) { if (refused()) return ENOMEM; *p = __libc_memalign(a, n); return *p ? 0 : ENOMEM; }
-C
-cc -O1 -shared -fPIC -o "$work/refuse.so" "$work/refuse.c"
+cc -O1 -shared -fPIC -o "$work/refuse.so" "$root/checks/refuse.c"
 
 # one TEST N: runs that test with its allocation N refused (0: none), and leaves what it prints and its status.
 one() {
@@ -57,7 +32,8 @@ for crate in "$@"; do
         [ "$status" -eq 0 ] || { cat "$work/out"; exit 1; }
         count=$(cat "$work/count")
         all=$((all + count))
-        for ((n = 1; n <= count && n <= most; n++)); do
+        apart=$(((count + most - 1) / most))
+        for ((n = 1; n <= count; n += apart)); do
             one "$test" "$n"
             if [ "$status" -eq 0 ]; then
                 well=$((well + 1))

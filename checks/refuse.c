@@ -1,0 +1,26 @@
+// An allocator that is loaded before the C library's own and refuses one allocation: the one whose number, counted from 1,
+// stands in REFUSE. At the end the number of allocations goes to the file that REFUSE_COUNT names.
+#include <stddef.h>
+#include <stdlib.h>
+#include <unistd.h>
+#include <stdio.h>
+#include <string.h>
+#include <errno.h>
+extern void *__libc_malloc(size_t);
+extern void *__libc_realloc(void *, size_t);
+extern void *__libc_calloc(size_t, size_t);
+extern void *__libc_memalign(size_t, size_t);
+static long wanted = -1, made = 0;
+__attribute__((constructor)) static void begin(void) { const char *n = getenv("REFUSE"); wanted = n ? atol(n) : 0; made = 0; }
+__attribute__((destructor)) static void end(void) {
+    const char *to = getenv("REFUSE_COUNT");
+    wanted = -1;
+    if (to) { FILE *f = fopen(to, "w"); if (f) { fprintf(f, "%ld\n", made); fclose(f); } }
+}
+static int refused(void) { if (wanted < 0) return 0; made++; if (made == wanted) { errno = ENOMEM; return 1; } return 0; }
+void *malloc(size_t n) { return refused() ? NULL : __libc_malloc(n); }
+void *calloc(size_t n, size_t m) { return refused() ? NULL : __libc_calloc(n, m); }
+void *realloc(void *p, size_t n) { return refused() ? NULL : __libc_realloc(p, n); }
+void *memalign(size_t a, size_t n) { return refused() ? NULL : __libc_memalign(a, n); }
+void *aligned_alloc(size_t a, size_t n) { return refused() ? NULL : __libc_memalign(a, n); }
+int posix_memalign(void **p, size_t a, size_t n) { if (refused()) return ENOMEM; *p = __libc_memalign(a, n); return *p ? 0 : ENOMEM; }
