@@ -4,7 +4,7 @@ use credential_text::{Credential, read_credential};
 use names::{Entity, Role};
 use search::{Query, Search, Status};
 use snapshots::Snapshot;
-use std::alloc::Global;
+use std::alloc::{AllocError, Global};
 use std::sync::Arc;
 use std::test::Fail;
 use vaults::{Book, Change};
@@ -48,9 +48,18 @@ fn opened(alloc: Global, texts: &[&[u8]], role: &[u8]) -> Result<Search, Fail> {
     opened_over(alloc, &book, role)
 }
 
+// Drives the search to its end; where it is broken then, want of memory.
+fn drive(search: &mut Search) -> Result<(), AllocError> {
+    search.drive();
+    match search.status() {
+        Status::Broken => Err(AllocError),
+        _ => Ok(()),
+    }
+}
+
 fn driven(alloc: Global, texts: &[&[u8]], role: &[u8]) -> Result<Search, Fail> {
     let mut search = opened(alloc, texts, role)?;
-    search.drive();
+    drive(&mut search)?;
     Ok(search)
 }
 
@@ -67,9 +76,9 @@ fn no_proof_before_the_end_and_none_of_others(rt: HostRuntime) -> Result<(), Fai
     let other = Entity::read(b"E")?;
     let mut search = opened(alloc, &[b"A.r <- D"], b"A.r")?;
     assert!(rt; matches!(proof_of(alloc, &search, &member), Err(ProofFault::NotDone)));
-    search.drive();
+    drive(&mut search)?;
     assert_eq!(rt; search.status(), Status::Members);
-    assert!(rt; proof_of(alloc, &search, &member).is_ok());
+    let _proof = proof_of(alloc, &search, &member)?;
     assert!(rt; matches!(proof_of(alloc, &search, &other), Err(ProofFault::NoProof)));
     Ok(())
 }
@@ -182,7 +191,7 @@ fn a_chain_of_inclusions(rt: HostRuntime) -> Result<(), Fail> {
     }
     upload(alloc, &mut book, b"A.r10000 <- D")?;
     let mut search = opened_over(alloc, &book, b"A.r00000")?;
-    search.drive();
+    drive(&mut search)?;
     let proof = proof_of(alloc, &search, &who)?;
     assert_eq!(rt; proof.steps().len(), 10002);
     assert_eq!(rt;
