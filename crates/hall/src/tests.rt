@@ -1,7 +1,8 @@
-//! Faults, lists, the laws, jobs, and whole runs of events.
+//! Faults, lists, the laws, jobs, whole runs of events, and halls compared with the plain program.
 mod acts;
 mod jobs;
 mod runs;
+mod worlds;
 
 use crate::{
     Fault, Names, Rows, answers_are_true, deeds_are_allowed, deeds_are_fixed, runs_are_allowed,
