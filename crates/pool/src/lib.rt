@@ -3,6 +3,8 @@
 #![tactic(auto)]
 
 mod asking;
+#[cfg(test)]
+mod desk_tests;
 mod desks;
 mod faults;
 mod gates;

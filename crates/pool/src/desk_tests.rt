@@ -1,0 +1,11 @@
+//! A desk while workers run: whole searches, a gate, many members, refusals and limits.
+mod lives;
+mod plays;
+mod rows;
+
+use names::Entity;
+use std::test::Fail;
+
+fn entity(name: &str) -> Result<Entity, Fail> {
+    Ok(Entity::read(name.as_bytes())?)
+}
