@@ -1,4 +1,3 @@
-pub mod Seeing
 pub mod Refused
 pub mod Polled
 pub mod Read

@@ -8,17 +8,14 @@ use Rattle.snapshots.specs.Snapshot.{SnapshotState}
 use Rattle.search.specs.declared.queries.Query.{Query}
 use Rattle.search.specs.Ending.{Settled, Nothing, Yes, No, Members, Spent, Broken, IsTruth, answers, spends, breaks, MaySettle}
 use Rattle.search.specs.Search.{SearchState}
-use Rattle.hall.specs.declared.faults.Fault.{Fault}
-use Rattle.hall.specs.declared.faults.Fault.TheVariants.{Memory}
 use Rattle.hall.specs.declared.calls.answers.Answer.{Answer}
 use Rattle.hall.specs.declared.calls.requests.Request.TheVariants as request
 use Rattle.hall.specs.declared.calls.replies.Reply.{Reply}
-use Rattle.hall.specs.declared.calls.replies.Reply.TheVariants.{Answered, Refused}
+use Rattle.hall.specs.declared.calls.replies.Reply.TheVariants.{Answered}
 use Rattle.hall.specs.halls.Searches.{settled_of}
-use Rattle.hall.specs.halls.Account.{Account, answer_of}
-use Rattle.hall.specs.halls.State.{Running, HallState, search_at, account_of, IsSound}
-use Rattle.hall.specs.halls.Run.{IsServed, MayReplyTo, RefusedLast, IsDue}
-use Rattle.hall.proofs.halls.Served.{lacks_served}
+use Rattle.hall.specs.halls.Account.{answer_of}
+use Rattle.hall.specs.halls.State.{Running, HallState, search_at, IsSound}
+use Rattle.hall.specs.halls.Run.{IsServed}
 use Rattle.hall.proofs.halls.TrueAnswers.{polled_at}
 use Rattle.hall.proofs.halls.Sound.{sound_at}
 use Rattle.pool.specs.declared.verdicts.Verdict.{Verdict}
@@ -96,19 +93,3 @@ pub polled_somewhere : (h : HallState) (who : List ℕ) (k : ℕ) (a : Answer) �
 polled_somewhere h who k a sound served is =
     let found = polled_search h who k a sound served in
     let at : None ≡ Some found.0.search = subst (λ (o : Option Running). None ≡ option_map (λ (r : Running). r.search) o) found.1.there is in cc
-
--- where there is an answer, memory to tell it with may lack, and nothing else refuses it
-pub poll_lacks : (h : HallState) (who : List ℕ) (k : ℕ) (a : Answer) → IsServed h who (request.Poll k) (Answered a) h → IsServed h who (request.Poll k) (Refused Memory) h
-poll_lacks h who k a served = by (account_of h who) refl served.may_reply
-  where
-    by : (o : Option Account) → account_of h who ≡ o → MayReplyTo h who o (request.Poll k) (Answered a) → IsServed h who (request.Poll k) (Refused Memory) h
-    by None nobody is = cc
-    by (Some account) known may = lacks_served h who (request.Poll k) account known tt
-
-pub poll_lacks_last : (h : HallState) (who : List ℕ) (k : ℕ) (a : Answer) → IsServed h who (request.Poll k) (Answered a) h → RefusedLast h who (request.Poll k) (Refused Memory)
-poll_lacks_last h who k a served lacked f due = by (account_of h who) served.may_reply due
-  where
-    by : (o : Option Account) → MayReplyTo h who o (request.Poll k) (Answered a) → IsDue h who o (request.Poll k) f → ⊥
-    by None is due = cc
-    by (Some account) (inl is) due = let both : Answered a ≡ Refused f = is ∙ sym due in cc
-    by (Some account) (inr lack) due = let is = lack.0 in cc

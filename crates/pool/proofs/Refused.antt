@@ -1,4 +1,4 @@
--- Which refusals the hall has for each request.
+-- Which refusals the hall has for a change and for an opening.
 use Rattle.std.proofs.Common.{◌≡◌, ◌≢◌, ℕ, ◌+◌, Bool, true, false, cond, nat_le, not, ◌&&◌, List, sym, subst, refl, inl, inr, Option, Some, None, option_map, length}
 use Rattle.std.specs.Option.{IfSome}
 use Rattle.names.specs.Name.{is_same}
@@ -12,16 +12,16 @@ use Rattle.vaults.specs.Journal.{vault, readers, holds, granted, refusal, view}
 use Rattle.search.specs.declared.queries.Query.{Query}
 use Rattle.hall.specs.Fault.{vault_fault}
 use Rattle.hall.specs.declared.faults.Fault.{Fault}
-use Rattle.hall.specs.declared.faults.Fault.TheVariants.{Creds, Grants, Changes, Searches, Opens, NoSuchSearch, NotDone, NoProof, NoTenant, Memory}
+use Rattle.hall.specs.declared.faults.Fault.TheVariants.{Creds, Grants, Changes, Searches, Opens, NoTenant, Memory}
 use Rattle.hall.specs.declared.calls.requests.Request.{Request}
 use Rattle.hall.specs.declared.calls.requests.Request.TheVariants as request
 use Rattle.hall.specs.declared.calls.replies.Reply.{Reply}
 use Rattle.hall.specs.declared.calls.replies.Reply.TheVariants.{Refused, Counted, Opened}
-use Rattle.hall.specs.halls.Holder.{Holder, seek_refusal, search_in}
-use Rattle.hall.specs.halls.Account.{Account, Asked, IsReply, MayLackMemory, MayProve, MayProveOf, alter_refusal, limit_refusal, kind_full, first_of_two, unless_refused, polled, told_closed}
+use Rattle.hall.specs.halls.Holder.{Holder, seek_refusal}
+use Rattle.hall.specs.halls.Account.{Account, Asked, IsReply, MayLackMemory, alter_refusal, limit_refusal, kind_full, first_of_two, unless_refused}
 use Rattle.hall.specs.halls.State.{HallState, account_of}
 use Rattle.hall.specs.halls.Run.{IsServed, MayReplyTo}
-use Rattle.pool.specs.Refusals.{IsChangeRefusal, IsOpenRefusal, IsPollRefusal, IsEndRefusal, IsReadRefusal, IsProofRefusal}
+use Rattle.pool.specs.Refusals.{IsChangeRefusal, IsOpenRefusal}
 
 -- a request is refused by what its account gives, to nobody, or for want of memory
 served_refused : (may : Fault → Type 0) (h new : HallState) (who : List ℕ) (q : Request) (f : Fault) → may NoTenant → (MayLackMemory q → may Memory) →
@@ -95,37 +95,3 @@ module _ (h new : HallState) (who : List ℕ) (f : Fault) where
   pub open_refused : (query : Query) → IsServed h who (request.Seek query) (Refused f) new → IsOpenRefusal f
   open_refused query served = served_refused IsOpenRefusal h new who (request.Seek query) f tt (λ _. tt)
       (λ a told. told_may IsOpenRefusal (seek_refusal a.holder) (Opened (a.holder.opens + 1)) f (seek_may a.holder) (λ is. cc) told) served
-
-  pub poll_refused : (k : ℕ) → IsServed h who (request.Poll k) (Refused f) new → IsPollRefusal f
-  poll_refused k served = served_refused IsPollRefusal h new who (request.Poll k) f tt (λ _. tt) (λ a told. by (search_in k a.holder) told) served
-    where
-      by : (o : Option Asked) → Refused f ≡ polled o → IsPollRefusal f
-      by None is = let here : NoSuchSearch ≡ f = cc in subst IsPollRefusal here tt
-      by (Some s) is = cc
-
-  pub end_refused : (k : ℕ) → IsServed h who (request.Close k) (Refused f) new → IsEndRefusal f
-  end_refused k served = served_refused IsEndRefusal h new who (request.Close k) f tt (λ none. absurd none) (λ a told. by (search_in k a.holder) told) served
-    where
-      by : (o : Option Asked) → Refused f ≡ told_closed o → IsEndRefusal f
-      by None is = let here : NoSuchSearch ≡ f = cc in subst IsEndRefusal here tt
-      by (Some s) is = cc
-
-  pub vault_refused : IsServed h who request.Vault (Refused f) new → IsReadRefusal f
-  vault_refused served = served_refused IsReadRefusal h new who request.Vault f tt (λ _. tt) (λ a told. cc) served
-
-  pub sees_refused : IsServed h who request.Sees (Refused f) new → IsReadRefusal f
-  sees_refused served = served_refused IsReadRefusal h new who request.Sees f tt (λ _. tt) (λ a told. cc) served
-
-  -- by the reply, since a proof's refusals stand in its index
-  prove_may : (s : Asked) (member : List ℕ) (told : Reply) → told ≡ Refused f → MayProve s member told → IsProofRefusal f
-  prove_may s member told is (MayProve.not_done working) = let here : NotDone ≡ f = cc in subst IsProofRefusal here tt
-  prove_may s member told is (MayProve.no_proof answered none) = let here : NoProof ≡ f = cc in subst IsProofRefusal here tt
-  prove_may s member told is (MayProve.proof steps answered by) = cc
-
-  pub proof_refused : (k : ℕ) (member : List ℕ) → IsServed h who (request.Proof k member) (Refused f) new → IsProofRefusal f
-  proof_refused k member served =
-      served_refused IsProofRefusal h new who (request.Proof k member) f tt (λ _. tt) (λ a told. by (search_in k a.holder) told) served
-    where
-      by : (o : Option Asked) → MayProveOf o member (Refused f) → IsProofRefusal f
-      by None is = let here : NoSuchSearch ≡ f = cc in subst IsProofRefusal here tt
-      by (Some s) may = prove_may s member (Refused f) refl may

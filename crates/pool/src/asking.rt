@@ -28,7 +28,8 @@ use std::sync::ledger::Ledger;
 impl<L: Ledger> Room<L> {
     /// Opens a search for the pass's tenant, and answers its number with the length of the journal at its opening.
     pub(crate) fn open(&mut self, pass: &mut Pass<L>, query: Query) -> Result<Ticket, DeskFault>
-        ensures served { IfTold ticket_told (λ told. IsServed self.old.hall pass.old.tenant (request.Seek query) told self.new.hall) result }
+        ensures served { IfTold ticket_told (λ told.
+            IsServed self.old.hall pass.old.tenant (request.Seek query) told self.new.hall) result }
         ensures last { IfTold ticket_told (λ told. RefusedLast self.old.hall pass.old.tenant (request.Seek query) told) result }
         ensures opened_at { IfOk result (λ t. t.opened_at ≡ length self.old.hall.journal) }
         ensures seen { OnOk result (IsSeenAt (length self.old.hall.journal) pass.old pass.new) }
@@ -44,7 +45,8 @@ impl<L: Ledger> Room<L> {
 
     /// What the search of the pass's tenant has come to.
     pub(crate) fn poll(&self, pass: &mut Pass<L>, number: u64) -> Result<Verdict, DeskFault>
-        ensures served { IfTold verdict_told (λ told. IsServed self.now.hall pass.old.tenant (request.Poll number) told self.now.hall) result }
+        ensures served { IfTold verdict_told (λ told.
+            IsServed self.now.hall pass.old.tenant (request.Poll number) told self.now.hall) result }
         ensures last { IfTold verdict_told (λ told. RefusedLast self.now.hall pass.old.tenant (request.Poll number) told) result }
         ensures search { IfOk result (λ v. IsSomeAnd (search_at self.now.hall pass.old.tenant number) (λ r. IsVerdictOf r v)) }
         ensures truth { IfOk result (λ v. IsTrueWhereCompleted (rows_read (arc_value v.snapshot)) v.query v.answer) }
@@ -124,7 +126,8 @@ impl<L: Ledger> Room<L> {
         number: u64,
         member: Entity,
     ) -> Result<Proof, DeskFault>
-        ensures served { IfTold proof_seen (λ told. IsServed self.now.hall pass.old.tenant (request.Proof number member) told self.now.hall) result }
+        ensures served { IfTold proof_seen (λ told.
+            IsServed self.now.hall pass.old.tenant (request.Proof number member) told self.now.hall) result }
         ensures last { IfTold proof_seen (λ told. RefusedLast self.now.hall pass.old.tenant (request.Proof number member) told) result }
         ensures proves { IfOk result (λ steps. IsProofOfSome member steps) }
         ensures seen { OnOk result (IsSeenAt (length self.now.hall.journal) pass.old pass.new) }

@@ -8,6 +8,8 @@ mod faults;
 mod gates;
 mod passes;
 mod rooms;
+#[cfg(test)]
+mod tests;
 mod verdicts;
 mod visits;
 mod workers;
