@@ -66,7 +66,12 @@ impl<L: Ledger> Desk<L> {
 
     /// Makes a change, and answers how many changes of the tenant were accepted. Refused as 91 where the journal is shorter
     /// than the pass has seen, and then as the hall refuses.
-    pub fn change<R: Wait>(&self, rt: &R, pass: &mut Pass<L>, change: Change) -> Result<u64, DeskFault>
+    pub fn change<R: Wait>(
+        &self,
+        rt: &R,
+        pass: &mut Pass<L>,
+        change: Change,
+    ) -> Result<u64, DeskFault>
         ensures told { OnOk result (pass.new.share ≡ pass.old.share + 1) }
         ensures seen { OnOk result (pass.old.front < pass.new.front) }
         ensures tenant { pass.new.tenant ≡ pass.old.tenant }
@@ -78,7 +83,12 @@ impl<L: Ledger> Desk<L> {
     }
 
     /// Opens a search over what the tenant sees now. Refused as 91, and then as the hall refuses.
-    pub fn open<R: Wait>(&self, rt: &R, pass: &mut Pass<L>, query: Query) -> Result<Ticket, DeskFault>
+    pub fn open<R: Wait>(
+        &self,
+        rt: &R,
+        pass: &mut Pass<L>,
+        query: Query,
+    ) -> Result<Ticket, DeskFault>
         ensures opened_at { IfOk result (λ t. t.opened_at ≡ pass.new.front) }
         ensures seen { OnOk result (OnlySees pass.old pass.new) }
         ensures refused { IfErr result (IsRefused IsOpenRefusal pass.old pass.new) }
@@ -89,7 +99,12 @@ impl<L: Ledger> Desk<L> {
     }
 
     /// What the tenant's search of the number has come to. Refused as 91, and then as the hall refuses.
-    pub fn poll<R: Wait>(&self, rt: &R, pass: &mut Pass<L>, number: u64) -> Result<Verdict, DeskFault>
+    pub fn poll<R: Wait>(
+        &self,
+        rt: &R,
+        pass: &mut Pass<L>,
+        number: u64,
+    ) -> Result<Verdict, DeskFault>
         ensures truth { IfOk result (λ v. IsTrueWhereCompleted (rows_read (arc_value v.snapshot)) v.query v.answer) }
         ensures asker { IfOk result (λ v. (arc_value v.snapshot).asker ≡ pass.old.tenant) }
         ensures seen { OnOk result (OnlySees pass.old pass.new) }
@@ -100,7 +115,12 @@ impl<L: Ledger> Desk<L> {
 
     /// Waits until the tenant's search of the number has come to an end, or the desk was stopped, and then answers as `poll`
     /// does. It waits for no search that isn't there.
-    pub fn wait<R: Wait>(&self, rt: &R, pass: &mut Pass<L>, number: u64) -> Result<Verdict, DeskFault>
+    pub fn wait<R: Wait>(
+        &self,
+        rt: &R,
+        pass: &mut Pass<L>,
+        number: u64,
+    ) -> Result<Verdict, DeskFault>
         ensures truth { IfOk result (λ v. IsTrueWhereCompleted (rows_read (arc_value v.snapshot)) v.query v.answer) }
         ensures asker { IfOk result (λ v. (arc_value v.snapshot).asker ≡ pass.old.tenant) }
         ensures seen { OnOk result (OnlySees pass.old pass.new) }
@@ -146,7 +166,13 @@ impl<L: Ledger> Desk<L> {
 
     /// Why the entity is a member of the role that the tenant's search of the number asked about. Refused as 91, and then as
     /// the hall refuses.
-    pub fn proof<R: Wait>(&self, rt: &R, pass: &mut Pass<L>, number: u64, member: Entity) -> Result<Proof, DeskFault>
+    pub fn proof<R: Wait>(
+        &self,
+        rt: &R,
+        pass: &mut Pass<L>,
+        number: u64,
+        member: Entity,
+    ) -> Result<Proof, DeskFault>
         ensures proves { IfOk result (λ steps. IsProofOfSome member steps) }
         ensures seen { OnOk result (OnlySees pass.old pass.new) }
         ensures refused { IfErr result (IsRefused IsProofRefusal pass.old pass.new) }
@@ -162,7 +188,11 @@ impl<L: Ledger> Desk<L> {
     /// Takes back all passes that are out, and tells how many changes were accepted and of how many of them passes had been
     /// told that left before: each change that one of these passes was told counts once. Where another pass is out they
     /// come back, with 92.
-    pub fn gather<R: Wait>(&self, rt: &R, passes: Vec<Pass<L>>) -> Result<Gathered, (DeskFault, Vec<Pass<L>>)>
+    pub fn gather<R: Wait>(
+        &self,
+        rt: &R,
+        passes: Vec<Pass<L>>,
+    ) -> Result<Gathered, (DeskFault, Vec<Pass<L>>)>
         ensures total { IfOk result (λ g. g.length ≡ g.left + shares_of passes.items) }
         ensures out { IfErr result (λ e. (e.0 ≡ DeskFault.PassesOut) × (e.1.items ≡ passes.items)) }
     {

@@ -142,9 +142,9 @@ impl<L: Ledger> Room<L> {
         ensures served { IfTold counted (λ told. IsServed self.old.hall pass.old.tenant (request.Alter change) told self.new.hall) result }
         ensures last { IfTold counted (λ told. RefusedLast self.old.hall pass.old.tenant (request.Alter change) told) result }
         ensures told { OnOk result (pass.new ≡ record {
-            tenant = pass.old.tenant;
-            front = length self.new.hall.journal;
-            share = pass.old.share + 1;
+          tenant = pass.old.tenant;
+          front = length self.new.hall.journal;
+          share = pass.old.share + 1;
         }) }
         ensures seen { OnOk result (pass.old.front < pass.new.front) }
         ensures refused { IfErr result (IsRefusedAt (IsChangeRefusal change) (length self.old.hall.journal) pass.old pass.new) }
@@ -178,7 +178,10 @@ impl<L: Ledger> Room<L> {
 
     /// Takes all passes back that are out, and tells how many changes were accepted and of how many of them passes had been
     /// told that left before.
-    pub(crate) fn gather(&mut self, passes: Vec<Pass<L>>) -> Result<Gathered, (DeskFault, Vec<Pass<L>>)>
+    pub(crate) fn gather(
+        &mut self,
+        passes: Vec<Pass<L>>,
+    ) -> Result<Gathered, (DeskFault, Vec<Pass<L>>)>
         ensures total { IfOk result (λ g. g.length ≡ g.left + shares_of passes.items) }
         ensures found { IfOk result (λ g. (g.length ≡ length self.old.hall.journal) × (g.left ≡ self.old.left)) }
         ensures all_in { OnOk result (vec_len passes ≡ self.old.out) }

@@ -67,16 +67,22 @@ fn asks<L: Ledger, R: Wait>(rt: &R, desk: &Desk<L>, pass: &mut Pass<L>) -> Resul
     let stopped = desk.wait(rt, pass, 1)?;
     desk.end(rt, pass, 1)?;
     let ended = desk.wait(rt, pass, 1);
-    Ok(count == 1
-        && ticket == Ticket { no: 1, opened_at: 1 }
-        && matches!(polled.answer, Answer::Working)
-        && rows.as_slice().len() == 1
-        && names.as_slice().len() == 1
-        && matches!(early, Err(DeskFault::Hall(Fault::NotDone)))
-        && matches!(stopped.answer, Answer::Working)
-        && matches!(ended, Err(DeskFault::Hall(Fault::NoSuchSearch)))
-        && pass.front() == 1
-        && pass.share() == 1)
+    Ok(
+        count == 1
+            && ticket
+                == Ticket {
+                    no: 1,
+                    opened_at: 1,
+                }
+            && matches!(polled.answer, Answer::Working)
+            && rows.as_slice().len() == 1
+            && names.as_slice().len() == 1
+            && matches!(early, Err(DeskFault::Hall(Fault::NotDone)))
+            && matches!(stopped.answer, Answer::Working)
+            && matches!(ended, Err(DeskFault::Hall(Fault::NoSuchSearch)))
+            && pass.front() == 1
+            && pass.share() == 1,
+    )
 }
 
 /// Whether passes are counted: one that left, and one that is out.
@@ -98,10 +104,12 @@ fn counts<L: Ledger, R: Wait>(
     let Ok(gathered) = desk.gather(rt, passes) else {
         return Ok(false);
     };
-    Ok(fault == DeskFault::PassesOut
-        && matches!(stranger, Err(DeskFault::Hall(Fault::NoTenant)))
-        && gathered.length == 1
-        && gathered.left == 1)
+    Ok(
+        fault == DeskFault::PassesOut
+            && matches!(stranger, Err(DeskFault::Hall(Fault::NoTenant)))
+            && gathered.length == 1
+            && gathered.left == 1,
+    )
 }
 
 fn each_call_once<L: Ledger, R: Wait>(
@@ -145,11 +153,13 @@ fn rewinds<L: Ledger, R: Wait>(rt: &R, hall: Hall, blank: Blank) -> Result<bool,
     let changed = desk.change(rt, &mut pass, upload("A.r", "E")?);
     let waited = desk.wait(rt, &mut pass, 1);
     let ended = desk.end(rt, &mut pass, 1);
-    Ok(matches!(changed, Err(fault) if fault == found)
-        && matches!(waited, Err(fault) if fault == found)
-        && matches!(ended, Err(fault) if fault == found)
-        && pass.front() == 3
-        && pass.share() == 1)
+    Ok(
+        matches!(changed, Err(fault) if fault == found)
+            && matches!(waited, Err(fault) if fault == found)
+            && matches!(ended, Err(fault) if fault == found)
+            && pass.front() == 3
+            && pass.share() == 1,
+    )
 }
 
 #[test]

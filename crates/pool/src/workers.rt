@@ -51,7 +51,9 @@ fn work<L: Ledger, G: Gate, R: Wait>(rt: &R, alloc: Global, desk: &Desk<L>, gate
     for _ in rt.forever() {
         let found = desk.visit(rt, &mut held);
         look_up_all(gate, &mut held, &mut looked);
-        worked.finished = worked.finished.saturating_add(desk.hand_in(rt, &mut looked));
+        worked.finished = worked
+            .finished
+            .saturating_add(desk.hand_in(rt, &mut looked));
         if found == Found::NoMemory {
             break;
         }
@@ -98,28 +100,32 @@ pub fn run_workers<L: Ledger + Send + Sync, G: Gate, R: Threads + Wait + Sync>(
     let Ok(mut handles) = Vec::with_capacity(alloc, n as usize) else {
         return Err(DeskFault::Hall(Fault::Memory));
     };
-    thread::scope(thread::scope_env(), rt, |scope| -> Result<u64, DeskFault>
-        requires { (vec_len handles ≡ 0) × (n ≤ vec_capacity handles) }
-        ensures { IfErr result IsWorkRefusal }
-    {
-        let mut refused = false;
-        for _worker in 0..n {
-            match scope.spawn(move || work(rt, alloc, desk, gate)) {
-                Ok(handle) => handles.push_reserved(handle),
-                Err(_) => refused = true,
+    thread::scope(
+        thread::scope_env(),
+        rt,
+        |scope| -> Result<u64, DeskFault>
+            requires { (vec_len handles ≡ 0) × (n ≤ vec_capacity handles) }
+            ensures { IfErr result IsWorkRefusal }
+        {
+            let mut refused = false;
+            for _worker in 0..n {
+                match scope.spawn(move || work(rt, alloc, desk, gate)) {
+                    Ok(handle) => handles.push_reserved(handle),
+                    Err(_) => refused = true,
+                }
+                if refused {
+                    desk.stop(rt);
+                    break;
+                }
             }
+            let all = join_all(rt, handles);
             if refused {
-                desk.stop(rt);
-                break;
+                return Err(DeskFault::NoThread);
             }
-        }
-        let all = join_all(rt, handles);
-        if refused {
-            return Err(DeskFault::NoThread);
-        }
-        if all.no_memory {
-            return Err(DeskFault::Hall(Fault::Memory));
-        }
-        Ok(all.finished)
-    })
+            if all.no_memory {
+                return Err(DeskFault::Hall(Fault::Memory));
+            }
+            Ok(all.finished)
+        },
+    )
 }
