@@ -1,0 +1,6 @@
+pub mod Seeing
+pub mod Refused
+pub mod Polled
+pub mod Read
+pub mod Kept
+pub mod Visiting

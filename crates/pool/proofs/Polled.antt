@@ -1,0 +1,114 @@
+-- What a poll tells of a search is what it has come to, and the truth where it is completed.
+use Rattle.std.specs.Option.{IsSomeAnd}
+use Rattle.std.specs.Arc.{arc_value}
+use Rattle.std.proofs.Common.{◌≡◌, ◌∙◌, ℕ, List, ap, sym, subst, refl, inl, inr, Some, Option, None, option_map}
+use Rattle.credential_text.specs.declared.credentials.Credential.{Credential}
+use Rattle.vaults.specs.Journal.{credentials}
+use Rattle.snapshots.specs.Snapshot.{SnapshotState}
+use Rattle.search.specs.declared.queries.Query.{Query}
+use Rattle.search.specs.Ending.{Settled, Nothing, Yes, No, Members, Spent, Broken, IsTruth, answers, spends, breaks, MaySettle}
+use Rattle.search.specs.Search.{SearchState}
+use Rattle.hall.specs.declared.faults.Fault.{Fault}
+use Rattle.hall.specs.declared.faults.Fault.TheVariants.{Memory}
+use Rattle.hall.specs.declared.calls.answers.Answer.{Answer}
+use Rattle.hall.specs.declared.calls.requests.Request.TheVariants as request
+use Rattle.hall.specs.declared.calls.replies.Reply.{Reply}
+use Rattle.hall.specs.declared.calls.replies.Reply.TheVariants.{Answered, Refused}
+use Rattle.hall.specs.halls.Searches.{settled_of}
+use Rattle.hall.specs.halls.Account.{Account, answer_of}
+use Rattle.hall.specs.halls.State.{Running, HallState, search_at, account_of, IsSound}
+use Rattle.hall.specs.halls.Run.{IsServed, MayReplyTo, RefusedLast, IsDue}
+use Rattle.hall.proofs.halls.Served.{lacks_served}
+use Rattle.hall.proofs.halls.TrueAnswers.{polled_at}
+use Rattle.hall.proofs.halls.Sound.{sound_at}
+use Rattle.pool.specs.declared.verdicts.Verdict.{Verdict}
+use Rattle.pool.specs.Verdicts.{IsTrueWhereCompleted}
+use Rattle.pool.specs.Told.{IsVerdictOf}
+
+truth_told : (C : List Credential) (q : Query) (s : Settled) → IsTruth C q s → IsTrueWhereCompleted C q (answer_of s)
+truth_told C q Nothing is = tt
+truth_told C q Yes is = is
+truth_told C q No is = is
+truth_told C q (Members names) is = is
+truth_told C q Spent is = tt
+truth_told C q Broken is = tt
+
+ending_told : (limit : ℕ) (C : List Credential) (q : Query) (s : Settled) → MaySettle limit C q Nothing s → IsTrueWhereCompleted C q (answer_of s)
+ending_told limit C q s (inl is) = subst (λ (t : Settled). IsTrueWhereCompleted C q (answer_of t)) (sym is) tt
+ending_told limit C q s (inr (none, answers work of within truth)) = truth_told C q s truth
+ending_told limit C q s (inr (none, spends is exceeds)) = subst (λ (t : Settled). IsTrueWhereCompleted C q (answer_of t)) (sym is) tt
+ending_told limit C q s (inr (none, breaks is)) = subst (λ (t : Settled). IsTrueWhereCompleted C q (answer_of t)) (sym is) tt
+
+-- a search of the hall, of which an answer tells
+pub record IsPolled (h : HallState) (who : List ℕ) (k : ℕ) (a : Answer) (r : Running) : Type 0 where
+  pub there : search_at h who k ≡ Some r
+  pub tells : a ≡ answer_of (settled_of r.search)
+  pub asker : r.search.snapshot.asker ≡ who
+  pub truth : IsTrueWhereCompleted (credentials r.search.snapshot.vaults) r.search.query a
+
+pub polled_search : (h : HallState) (who : List ℕ) (k : ℕ) (a : Answer) → IsSound h → IsServed h who (request.Poll k) (Answered a) h → (r : Running) × IsPolled h who k a r
+polled_search h who k a sound served =
+    let found : (r : Running) × (search_at h who k ≡ Some r) × (Answered a ≡ Answered (answer_of (settled_of r.search))) = polled_at h h who k (Answered a) served (λ f is. cc) in
+    let tells : a ≡ answer_of (settled_of found.0.search) = let same = found.2 in cc in
+    let kept = (sound_at h who k found.0 sound found.1).2 in (
+      found.0,
+      record {
+        there = found.1;
+        tells = tells;
+        asker = kept.asker;
+        truth = subst (IsTrueWhereCompleted (credentials found.0.search.snapshot.vaults) found.0.search.query) (sym tells)
+            (ending_told found.0.search.work (credentials found.0.search.snapshot.vaults) found.0.search.query (settled_of found.0.search) kept.settled);
+      },
+    )
+
+-- the search that is found is the one of which the answer tells
+polled_found : (h : HallState) (who : List ℕ) (k : ℕ) (a : Answer) (s : SearchState) → IsSound h → IsServed h who (request.Poll k) (Answered a) h →
+    Some s ≡ option_map (λ (r : Running). r.search) (search_at h who k) → (r : Running) × IsPolled h who k a r × (s ≡ r.search)
+polled_found h who k a s sound served is =
+    let found = polled_search h who k a sound served in
+    let at : Some s ≡ Some found.0.search = subst (λ (o : Option Running). Some s ≡ option_map (λ (r : Running). r.search) o) found.1.there is in
+    (found.0, found.1, cc)
+
+module _ (h : HallState) (who : List ℕ) (k : ℕ) (a : Answer) (s : SearchState) (sound : IsSound h) (served : IsServed h who (request.Poll k) (Answered a) h)
+    (is : Some s ≡ option_map (λ (r : Running). r.search) (search_at h who k)) where
+  pub polled_truth : IsTrueWhereCompleted (credentials s.snapshot.vaults) s.query a
+  polled_truth =
+      let found = polled_found h who k a s sound served is in
+      subst (λ (t : SearchState). IsTrueWhereCompleted (credentials t.snapshot.vaults) t.query a) (sym found.2) found.1.truth
+
+  pub polled_asker : (v : Verdict) → arc_value v.snapshot ≡ s.snapshot → (arc_value v.snapshot).asker ≡ who
+  polled_asker v snapshot =
+      let found = polled_found h who k a s sound served is in
+      ap (λ (t : SnapshotState). t.asker) snapshot ∙ ap (λ (t : SearchState). t.snapshot.asker) found.2 ∙ found.1.asker
+
+  pub polled_verdict : (v : Verdict) → v.query ≡ s.query → arc_value v.snapshot ≡ s.snapshot → v.answer ≡ a → IsSomeAnd (search_at h who k) (λ r. IsVerdictOf r v)
+  polled_verdict v query snapshot answer =
+      let found = polled_found h who k a s sound served is in
+      subst (λ (o : Option Running). IsSomeAnd o (λ r. IsVerdictOf r v)) (sym found.1.there) (
+        query ∙ ap (λ (t : SearchState). t.query) found.2,
+        snapshot ∙ ap (λ (t : SearchState). t.snapshot) found.2,
+        answer ∙ found.1.tells,
+      )
+
+-- and one is found
+pub polled_somewhere : (h : HallState) (who : List ℕ) (k : ℕ) (a : Answer) → IsSound h → IsServed h who (request.Poll k) (Answered a) h →
+    None ≡ option_map (λ (r : Running). r.search) (search_at h who k) → ⊥
+polled_somewhere h who k a sound served is =
+    let found = polled_search h who k a sound served in
+    let at : None ≡ Some found.0.search = subst (λ (o : Option Running). None ≡ option_map (λ (r : Running). r.search) o) found.1.there is in cc
+
+-- where there is an answer, memory to tell it with may lack, and nothing else refuses it
+pub poll_lacks : (h : HallState) (who : List ℕ) (k : ℕ) (a : Answer) → IsServed h who (request.Poll k) (Answered a) h → IsServed h who (request.Poll k) (Refused Memory) h
+poll_lacks h who k a served = by (account_of h who) refl served.may_reply
+  where
+    by : (o : Option Account) → account_of h who ≡ o → MayReplyTo h who o (request.Poll k) (Answered a) → IsServed h who (request.Poll k) (Refused Memory) h
+    by None nobody is = cc
+    by (Some account) known may = lacks_served h who (request.Poll k) account known tt
+
+pub poll_lacks_last : (h : HallState) (who : List ℕ) (k : ℕ) (a : Answer) → IsServed h who (request.Poll k) (Answered a) h → RefusedLast h who (request.Poll k) (Refused Memory)
+poll_lacks_last h who k a served lacked f due = by (account_of h who) served.may_reply due
+  where
+    by : (o : Option Account) → MayReplyTo h who o (request.Poll k) (Answered a) → IsDue h who o (request.Poll k) f → ⊥
+    by None is due = cc
+    by (Some account) (inl is) due = let both : Answered a ≡ Refused f = is ∙ sym due in cc
+    by (Some account) (inr lack) due = let is = lack.0 in cc

@@ -1,0 +1,12 @@
+use Rattle.std.specs.Prelude.{◌≡◌, ◌≤◌, ◌+◌, vec_len, vec_capacity}
+use Rattle.pool.proofs.workers.look_up_all.Given as goal
+
+abbrev pub invariant-loop-job : goal.invariant-loop-job
+invariant-loop-job g l = record {
+  space : vec_len l.looked + vec_len l.held ≤ vec_capacity l.looked;
+  held : vec_capacity l.held ≡ vec_capacity l.initial.held;
+  looked : vec_capacity l.looked ≡ vec_capacity l.initial.looked;
+}
+
+abbrev pub decreases-loop-job : goal.decreases-loop-job
+decreases-loop-job g l = goal.left-loop-job g l

@@ -1,0 +1,207 @@
+ghost use Rattle.std.specs.Prelude.{◌≡◌, ◌+◌, ◌<◌, [], ◌≤◌, length, vec_len, vec_capacity, IfOk, IfErr, OnOk, Contains};
+ghost use Rattle.std.specs.List.{All};
+ghost use Rattle.std.specs.List.Sorted.{IsStrictlySortedBy};
+ghost use Rattle.std.specs.Arc.{arc_value};
+ghost use Rattle.std.specs.Sync.Mutex.{mutex_guard_value};
+ghost use Rattle.names.specs.Name.{name_order};
+ghost use Rattle.hall.specs.halls.State.{IsSound};
+ghost use Rattle.pool.specs.Passes.{OnlySees, shares_of};
+ghost use Rattle.pool.specs.Refusals.{IsRefused, IsChangeRefusal, IsOpenRefusal, IsPollRefusal, IsEndRefusal, IsReadRefusal};
+ghost use Rattle.pool.specs.Refusals.{IsProofRefusal, IsPassRefusal};
+ghost use Rattle.pool.specs.Verdicts.{IsTrueWhereCompleted, rows_read, IsProofOfSome};
+
+use crate::faults::DeskFault;
+use crate::passes::Pass;
+use crate::rooms::{PARTS, Room};
+use crate::verdicts::{Gathered, Ticket, Verdict};
+use crate::visits::{BATCH, Found, Looked};
+use hall::{Hall, Job, Names, Proof, Query, Rows};
+use names::Entity;
+use std::sync::ledger::{Blank, Ledger};
+use std::sync::{Condvar, Mutex, MutexGuard, Wait};
+use vaults::Change;
+
+/// A hall under one lock, with the ledger of the accepted changes of which passes were told. The type `L` names the
+/// ledger, so a pass of another desk fits no call. All calls but `make` may wait for the lock, and what they ensure holds
+/// if they return.
+#[derive(Drop)]
+pub struct Desk<L: Ledger> {
+    room: Mutex<Room<L>>,
+    changed: Condvar,
+}
+
+impl<L: Ledger> Desk<L> {
+    /// A desk over a hall without a journal, where no pass is out.
+    pub fn make(hall: Hall, blank: Blank) -> Desk<L>
+        requires empty { hall.journal ≡ [] }
+        requires name { blank.name ≡ L.name }
+        requires parts { blank.parts ≡ L.parts }
+        requires room { blank.parts ≡ PARTS }
+    {
+        Desk {
+            room: Mutex::new(Room::new(hall, blank)),
+            changed: Condvar::new(),
+        }
+    }
+
+    /// Takes the lock. Each time the ledger's total is the length of the journal, and the hall is sound.
+    fn enter<R: Wait>(&self, rt: &R) -> MutexGuard<'_, Room<L>>
+        ensures counted { (mutex_guard_value result).accepted ≡ length (mutex_guard_value result).hall.journal }
+        ensures hall { IsSound (mutex_guard_value result).hall }
+    {
+        let room = self.room.lock(rt);
+        room.kept();
+        room
+    }
+
+    /// A new pass of a tenant, which was told of no change yet. Refused as 62 to a name outside the roster, and as 90 where
+    /// 2^32 passes are out.
+    pub fn pass<R: Wait>(&self, rt: &R, who: Entity) -> Result<Pass<L>, DeskFault>
+        ensures tenant { IfOk result (λ p. p.tenant ≡ who) }
+        ensures share { IfOk result (λ p. p.share ≡ 0) }
+        ensures refused { IfErr result IsPassRefusal }
+    {
+        self.enter(rt).admit(who)
+    }
+
+    /// Makes a change, and answers how many changes of the tenant were accepted. Refused as 91 where the journal is shorter
+    /// than the pass has seen, and then as the hall refuses.
+    pub fn change<R: Wait>(&self, rt: &R, pass: &mut Pass<L>, change: Change) -> Result<u64, DeskFault>
+        ensures told { OnOk result (pass.new.share ≡ pass.old.share + 1) }
+        ensures seen { OnOk result (pass.old.front < pass.new.front) }
+        ensures tenant { pass.new.tenant ≡ pass.old.tenant }
+        ensures refused { IfErr result (IsRefused (IsChangeRefusal change) pass.old pass.new) }
+    {
+        let count = self.enter(rt).change(pass, change)?;
+        self.changed.notify_all();
+        Ok(count)
+    }
+
+    /// Opens a search over what the tenant sees now. Refused as 91, and then as the hall refuses.
+    pub fn open<R: Wait>(&self, rt: &R, pass: &mut Pass<L>, query: Query) -> Result<Ticket, DeskFault>
+        ensures opened_at { IfOk result (λ t. t.opened_at ≡ pass.new.front) }
+        ensures seen { OnOk result (OnlySees pass.old pass.new) }
+        ensures refused { IfErr result (IsRefused IsOpenRefusal pass.old pass.new) }
+    {
+        let ticket = self.enter(rt).open(pass, query)?;
+        self.changed.notify_all();
+        Ok(ticket)
+    }
+
+    /// What the tenant's search of the number has come to. Refused as 91, and then as the hall refuses.
+    pub fn poll<R: Wait>(&self, rt: &R, pass: &mut Pass<L>, number: u64) -> Result<Verdict, DeskFault>
+        ensures truth { IfOk result (λ v. IsTrueWhereCompleted (rows_read (arc_value v.snapshot)) v.query v.answer) }
+        ensures asker { IfOk result (λ v. (arc_value v.snapshot).asker ≡ pass.old.tenant) }
+        ensures seen { OnOk result (OnlySees pass.old pass.new) }
+        ensures refused { IfErr result (IsRefused IsPollRefusal pass.old pass.new) }
+    {
+        self.enter(rt).poll(pass, number)
+    }
+
+    /// Waits until the tenant's search of the number has come to an end, or the desk was stopped, and then answers as `poll`
+    /// does. It waits for no search that isn't there.
+    pub fn wait<R: Wait>(&self, rt: &R, pass: &mut Pass<L>, number: u64) -> Result<Verdict, DeskFault>
+        ensures truth { IfOk result (λ v. IsTrueWhereCompleted (rows_read (arc_value v.snapshot)) v.query v.answer) }
+        ensures asker { IfOk result (λ v. (arc_value v.snapshot).asker ≡ pass.old.tenant) }
+        ensures seen { OnOk result (OnlySees pass.old pass.new) }
+        ensures refused { IfErr result (IsRefused IsPollRefusal pass.old pass.new) }
+    {
+        let who = pass.tenant();
+        let front = pass.front();
+        let room = self.enter(rt);
+        let room = self
+            .changed
+            .wait_while(rt, room, |room| !room.is_over(who, number, front));
+        room.poll(pass, number)
+    }
+
+    /// Ends the tenant's search of the number. Refused as 91, and then as the hall refuses.
+    pub fn end<R: Wait>(&self, rt: &R, pass: &mut Pass<L>, number: u64) -> Result<(), DeskFault>
+        ensures seen { OnOk result (OnlySees pass.old pass.new) }
+        ensures refused { IfErr result (IsRefused IsEndRefusal pass.old pass.new) }
+    {
+        self.enter(rt).end(pass, number)?;
+        self.changed.notify_all();
+        Ok(())
+    }
+
+    /// The credentials that the tenant issues and holds, in order. Refused as 91, and then as the hall refuses.
+    pub fn vault<R: Wait>(&self, rt: &R, pass: &mut Pass<L>) -> Result<Rows, DeskFault>
+        ensures issued { IfOk result (λ rows. All (λ c. c.head.owner ≡ pass.old.tenant) rows) }
+        ensures seen { OnOk result (OnlySees pass.old pass.new) }
+        ensures refused { IfErr result (IsRefused IsReadRefusal pass.old pass.new) }
+    {
+        self.enter(rt).vault(pass)
+    }
+
+    /// The names whose vaults the tenant reads, in order, its own among them. Refused as 91, and then as the hall refuses.
+    pub fn sees<R: Wait>(&self, rt: &R, pass: &mut Pass<L>) -> Result<Names, DeskFault>
+        ensures own { IfOk result (λ names. Contains names pass.old.tenant) }
+        ensures order { IfOk result (λ names. IsStrictlySortedBy name_order names) }
+        ensures seen { OnOk result (OnlySees pass.old pass.new) }
+        ensures refused { IfErr result (IsRefused IsReadRefusal pass.old pass.new) }
+    {
+        self.enter(rt).sees(pass)
+    }
+
+    /// Why the entity is a member of the role that the tenant's search of the number asked about. Refused as 91, and then as
+    /// the hall refuses.
+    pub fn proof<R: Wait>(&self, rt: &R, pass: &mut Pass<L>, number: u64, member: Entity) -> Result<Proof, DeskFault>
+        ensures proves { IfOk result (λ steps. IsProofOfSome member steps) }
+        ensures seen { OnOk result (OnlySees pass.old pass.new) }
+        ensures refused { IfErr result (IsRefused IsProofRefusal pass.old pass.new) }
+    {
+        self.enter(rt).proof(pass, number, member)
+    }
+
+    /// Takes a pass back. Its share counts as that of a pass that left.
+    pub fn leave<R: Wait>(&self, rt: &R, pass: Pass<L>) {
+        self.enter(rt).leave(pass);
+    }
+
+    /// Takes back all passes that are out, and tells how many changes were accepted and of how many of them passes had been
+    /// told that left before: each change that one of these passes was told counts once. Where another pass is out they
+    /// come back, with 92.
+    pub fn gather<R: Wait>(&self, rt: &R, passes: Vec<Pass<L>>) -> Result<Gathered, (DeskFault, Vec<Pass<L>>)>
+        ensures total { IfOk result (λ g. g.length ≡ g.left + shares_of passes.items) }
+        ensures out { IfErr result (λ e. (e.0 ≡ DeskFault.PassesOut) × (e.1.items ≡ passes.items)) }
+    {
+        self.enter(rt).gather(passes)
+    }
+
+    /// Lets the workers end once they have given back what they hold, and ends each wait.
+    pub fn stop<R: Wait>(&self, rt: &R) {
+        self.enter(rt).stop();
+        self.changed.notify_all();
+    }
+
+    /// For a worker: waits until there is something to do, and does it.
+    pub(crate) fn visit<R: Wait>(&self, rt: &R, held: &mut Vec<Job>) -> Found
+        requires empty { vec_len held.old ≡ 0 }
+        requires space { BATCH ≤ vec_capacity held.old }
+        ensures bound { vec_len held.new ≤ BATCH }
+        ensures capacity { vec_capacity held.new ≡ vec_capacity held.old }
+    {
+        let room = self.enter(rt);
+        let mut room = self.changed.wait_while(rt, room, |room| room.is_idle());
+        let found = room.visit(held);
+        drop(room);
+        if found == Found::Work || found == Found::NoMemory {
+            self.changed.notify_all();
+        }
+        found
+    }
+
+    /// For a worker: hands in all that it holds, and answers how many letters are finished.
+    pub(crate) fn hand_in<R: Wait>(&self, rt: &R, looked: &mut Vec<Looked>) -> u64
+        ensures empty { vec_len looked.new ≡ 0 }
+        ensures capacity { vec_capacity looked.new ≡ vec_capacity looked.old }
+    {
+        if looked.is_empty() {
+            return 0;
+        }
+        let finished = self.enter(rt).hand_in_all(looked);
+        self.changed.notify_all();
+        finished
+    }
+}

@@ -1,0 +1,16 @@
+use names::Entity;
+
+/// Where a worker passes with each letter, after it took it and before it looks up what the letter needs. No lock is held
+/// then.
+pub trait Gate: Sync {
+    /// Passes with the letter of this number, of the tenant's search of that number.
+    fn pass(&self, who: &Entity, search: u64, letter: u64);
+}
+
+/// A gate that lets every letter pass at once.
+#[derive(Clone, Copy, Drop)]
+pub struct NoGate;
+
+impl Gate for NoGate {
+    fn pass(&self, _who: &Entity, _search: u64, _letter: u64) {}
+}

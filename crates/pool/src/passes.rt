@@ -1,0 +1,86 @@
+ghost use Rattle.std.specs.Prelude.{◌≡◌, ◌+◌, ◌<◌};
+
+use names::Entity;
+use std::marker::Model;
+use std::sync::ledger::{Book, Ledger, Share};
+
+/// The right to call a desk for a tenant. It knows how long a journal it has seen, and of how many accepted changes it was
+/// told.
+#[derive(Drop)]
+pub struct Pass<L: Ledger> {
+    pub(crate) tenant: Entity,
+    pub(crate) front: u64,
+    pub(crate) told: u64,
+    pub(crate) share: Share<L>,
+}
+
+impl<L: Ledger> Model for Pass<L> {
+    ghost use Rattle.std.specs.Prelude.{◌≡◌};
+    ghost use Rattle.pool.specs.Passes.{PassState};
+
+    ghost Value = { PassState };
+
+    ghost view = { λ p. record { tenant = p.tenant; front = p.front; share = p.share.amount } };
+
+    ghost invariant = { λ p. (p.share.parts ≡ 1) × (p.told ≡ p.share.amount) };
+}
+
+impl<L: Ledger> Pass<L> {
+    /// A pass of the tenant that has seen a journal of this length, and was told of no change.
+    pub(crate) fn new(tenant: Entity, front: u64, share: Share<L>) -> Pass<L>
+        requires part { share.parts ≡ 1 }
+        requires nothing { share.amount ≡ 0 }
+        ensures { result ≡ record { tenant = tenant; front = front; share = 0 } }
+    {
+        Pass {
+            tenant,
+            front,
+            told: 0,
+            share,
+        }
+    }
+
+    /// For whom the pass calls.
+    pub fn tenant(&self) -> Entity
+        ensures { result ≡ self.now.tenant }
+    {
+        let _ = &self.share;
+        self.tenant
+    }
+
+    /// The length of the longest journal that the pass has seen.
+    pub fn front(&self) -> u64
+        ensures { result ≡ self.now.front }
+    {
+        let _ = &self.share;
+        self.front
+    }
+
+    /// How many accepted changes the pass was told.
+    pub fn share(&self) -> u64
+        ensures { result ≡ self.now.share }
+    {
+        let _ = &self.share;
+        self.told
+    }
+
+    /// The pass has seen a journal of this length.
+    pub(crate) fn see(&mut self, length: u64)
+        ensures { self.new ≡ record self.old { front = length } }
+    {
+        let _ = &self.share;
+        self.front = length;
+    }
+
+    /// The pass is told of one accepted change more, with which the journal has this length.
+    pub(crate) fn count(&mut self, book: &mut Book<L>, length: u64)
+        requires { book.old.total + 1 ≡ length }
+        ensures pass { self.new ≡ record { tenant = self.old.tenant; front = length; share = self.old.share + 1 } }
+        ensures total { book.new.total ≡ length }
+    {
+        book.add(&mut self.share, 1);
+        book.audit(&mut self.share);
+        self.told += 1;
+        self.front = length;
+    }
+}

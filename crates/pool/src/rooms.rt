@@ -1,0 +1,211 @@
+//! What lies under the lock of a desk: the hall, and the count of the changes of which passes were told.
+ghost use Rattle.std.specs.Prelude.{◌≡◌, ◌+◌, ◌<◌, ◌↔◌, true, false, [], length, vec_len, IfOk, IfErr, OnOk, OnErr};
+ghost use Rattle.hall.specs.declared.calls.requests.Request.TheVariants as request;
+ghost use Rattle.hall.specs.halls.State.{IsSound, is_tenant};
+ghost use Rattle.hall.specs.halls.Run.{IsServed, RefusedLast};
+ghost use Rattle.hall.specs.halls.Calls.{counted};
+ghost use Rattle.pool.specs.Passes.{IsSeenAt, shares_of};
+ghost use Rattle.pool.specs.Refusals.{IsRefusedAt, IsChangeRefusal, IsPassRefusal};
+ghost use Rattle.pool.specs.Told.{IfTold};
+
+use crate::faults::DeskFault;
+use crate::passes::Pass;
+use crate::verdicts::Gathered;
+use hall::{Fault, Hall};
+use names::Entity;
+use std::marker::Model;
+use std::sync::ledger::{Blank, Book, Ledger, Share};
+use vaults::Change;
+
+/// How many parts the ledger of a desk has: one for each pass that may be out, and one that stays.
+pub const PARTS: u64 = (1 << 32) + 1;
+
+/// How many passes may be out at once.
+const MOST_OUT: u64 = 1 << 32;
+
+/// The hall, the ledger of accepted changes, and what stands of it with no pass that is out.
+pub(crate) struct Room<L: Ledger> {
+    pub(crate) hall: Hall,
+    book: Book<L>,
+    rest: Share<L>,
+    out: u64,
+    left: u64,
+    pub(crate) stopped: bool,
+    pub(crate) turn: u64,
+}
+
+impl<L: Ledger> Model for Room<L> {
+    ghost use Rattle.std.specs.Prelude.{◌≡◌, ◌+◌, ◌<◌, ◌^◌, length};
+    ghost use Rattle.std.specs.Coded.{codes};
+    ghost use Rattle.search.specs.contracts.stages.Stage as running;
+    ghost use Rattle.search.specs.contracts.findings.Monitor as memory;
+    ghost use Rattle.pool.specs.Rooms.{RoomState};
+
+    ghost Value = { RoomState };
+
+    ghost coded = { Prim.hlevel (codes, running.the_row.coded, memory.the_row.coded) };
+
+    ghost view = { λ r. record { hall = r.hall; accepted = r.book.total; out = r.out; left = r.left; stopped = r.stopped } };
+
+    ghost invariant = { λ r.
+        (r.book.total ≡ length r.hall.journal)
+        × (r.rest.parts + r.out ≡ 2 ^ 32 + 1)
+        × (0 < r.rest.parts)
+        × (r.rest.amount ≡ r.left)
+        × (L.parts ≡ 2 ^ 32 + 1) };
+}
+
+impl<L: Ledger> Drop for Room<L> {
+    fn drop(self) {
+        let Room {
+            hall: _hall,
+            book: _book,
+            rest: _rest,
+            out: _out,
+            left: _left,
+            stopped: _stopped,
+            turn: _turn,
+        } = self;
+    }
+}
+
+impl<L: Ledger> Room<L> {
+    /// The room of a hall without a journal, where no pass is out.
+    pub(crate) fn new(hall: Hall, blank: Blank) -> Room<L>
+        requires empty { hall.journal ≡ [] }
+        requires name { blank.name ≡ L.name }
+        requires parts { blank.parts ≡ L.parts }
+        requires room { blank.parts ≡ PARTS }
+        ensures { result ≡ record { hall = hall; accepted = 0; out = 0; left = 0; stopped = false } }
+    {
+        let (book, rest) = blank.open::<L>();
+        Room {
+            hall,
+            book,
+            rest,
+            out: 0,
+            left: 0,
+            stopped: false,
+            turn: 0,
+        }
+    }
+
+    /// What the lock keeps.
+    pub(crate) fn kept(&self)
+        ensures counted { self.now.accepted ≡ length self.now.hall.journal }
+        ensures hall { IsSound self.now.hall }
+    {
+        let _ = &self.book;
+        let _length = self.hall.journal_len();
+    }
+
+    /// A new pass of a tenant, which has seen the journal as it is and was told of no change.
+    pub(crate) fn admit(&mut self, who: Entity) -> Result<Pass<L>, DeskFault>
+        ensures pass { IfOk result (λ p. p ≡ record { tenant = who; front = length self.old.hall.journal; share = 0 }) }
+        ensures tenant { OnOk result (is_tenant self.old.hall who ≡ true) }
+        ensures ok { OnOk result (self.new ≡ record self.old { out = self.old.out + 1 }) }
+        ensures refused { IfErr result IsPassRefusal }
+        ensures no_tenant { IfErr result (λ f. (f ≡ DeskFault.Hall Fault.NoTenant) ↔ (is_tenant self.old.hall who ≡ false)) }
+        ensures full { IfErr result (λ f. f ≡ DeskFault.Hall Fault.Memory → self.old.out ≡ MOST_OUT) }
+        ensures err { OnErr result (self.new ≡ self.old) }
+    {
+        if !self.hall.has(who) {
+            return Err(DeskFault::Hall(Fault::NoTenant));
+        }
+        if self.out == MOST_OUT {
+            return Err(DeskFault::Hall(Fault::Memory));
+        }
+        let share = self.rest.split_off(1, 0);
+        self.out += 1;
+        Ok(Pass::new(who, self.hall.journal_len(), share))
+    }
+
+    /// Lets the pass see the journal, unless that is shorter than the pass has seen.
+    pub(crate) fn show(&self, pass: &mut Pass<L>) -> Result<(), DeskFault>
+        ensures ok { OnOk result (IsSeenAt (length self.now.hall.journal) pass.old pass.new) }
+        ensures err { IfErr result (λ f. f ≡ DeskFault.Rewound (length self.now.hall.journal)) }
+        ensures short { OnErr result (length self.now.hall.journal < pass.old.front) }
+        ensures same { OnErr result (pass.new ≡ pass.old) }
+        ensures sound { IsSound self.now.hall }
+    {
+        let _ = &self.book;
+        let found = self.hall.journal_len();
+        if found < pass.front() {
+            return Err(DeskFault::Rewound { front: found });
+        }
+        pass.see(found);
+        Ok(())
+    }
+
+    /// Makes a change of the pass's tenant. Where the hall accepts it, the pass is told of one change more.
+    pub(crate) fn change(&mut self, pass: &mut Pass<L>, change: Change) -> Result<u64, DeskFault>
+        ensures served { IfTold counted (λ told. IsServed self.old.hall pass.old.tenant (request.Alter change) told self.new.hall) result }
+        ensures last { IfTold counted (λ told. RefusedLast self.old.hall pass.old.tenant (request.Alter change) told) result }
+        ensures told { OnOk result (pass.new ≡ record {
+            tenant = pass.old.tenant;
+            front = length self.new.hall.journal;
+            share = pass.old.share + 1;
+        }) }
+        ensures seen { OnOk result (pass.old.front < pass.new.front) }
+        ensures refused { IfErr result (IsRefusedAt (IsChangeRefusal change) (length self.old.hall.journal) pass.old pass.new) }
+        ensures err { OnErr result (self.new ≡ self.old) }
+        ensures room { self.new ≡ record self.old { hall = self.new.hall; accepted = self.new.accepted } }
+    {
+        self.show(pass)?;
+        let count = self.hall.change(pass.tenant(), change)?;
+        pass.count(&mut self.book, self.hall.journal_len());
+        Ok(count)
+    }
+
+    /// Takes a pass back, with its share.
+    pub(crate) fn leave(&mut self, pass: Pass<L>)
+        ensures out { self.new.out + 1 ≡ self.old.out }
+        ensures left { self.new.left ≡ self.old.left + pass.share }
+        ensures room { self.new ≡ record self.old { out = self.new.out; left = self.new.left } }
+    {
+        let Pass {
+            tenant: _tenant,
+            front: _front,
+            told,
+            share,
+        } = pass;
+        self.rest.merge(share);
+        self.book.audit(&mut self.rest);
+        let _length = self.hall.journal_len();
+        self.out -= 1;
+        self.left += told;
+    }
+
+    /// Takes all passes back that are out, and tells how many changes were accepted and of how many of them passes had been
+    /// told that left before.
+    pub(crate) fn gather(&mut self, passes: Vec<Pass<L>>) -> Result<Gathered, (DeskFault, Vec<Pass<L>>)>
+        ensures total { IfOk result (λ g. g.length ≡ g.left + shares_of passes.items) }
+        ensures found { IfOk result (λ g. (g.length ≡ length self.old.hall.journal) × (g.left ≡ self.old.left)) }
+        ensures all_in { OnOk result (vec_len passes ≡ self.old.out) }
+        ensures room { OnOk result (self.new ≡ record self.old { out = 0; left = length self.old.hall.journal }) }
+        ensures out { IfErr result (λ e. (e.0 ≡ DeskFault.PassesOut) × (e.1.items ≡ passes.items)) }
+        ensures too_few { OnErr result (vec_len passes < self.old.out) }
+        ensures err { OnErr result (self.new ≡ self.old) }
+    {
+        if (passes.len() as u64) < self.out {
+            return Err((DeskFault::PassesOut, passes));
+        }
+        let left = self.left;
+        for pass in passes {
+            self.leave(pass);
+        }
+        self.book.audit(&mut self.rest);
+        Ok(Gathered {
+            length: self.hall.journal_len(),
+            left,
+        })
+    }
+
+    /// No worker goes on from now on, and no caller waits.
+    pub(crate) fn stop(&mut self)
+        ensures { self.new ≡ record self.old { stopped = true } }
+    {
+        let _ = &self.book;
+        self.stopped = true;
+    }
+}

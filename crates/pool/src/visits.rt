@@ -1,0 +1,163 @@
+//! What a worker does when it has the lock: the steps of one search in a row, and what it hands in.
+ghost use Rattle.std.specs.Prelude.{◌≡◌, ◌+◌, ◌<◌, ◌≤◌, ◌↔◌, true, false, IsTrue, IsSomeAnd, length, vec_len, vec_capacity};
+ghost use Rattle.search.specs.Stage.{signals_in};
+ghost use Rattle.hall.specs.halls.State.{search_at};
+ghost use Rattle.hall.specs.declared.calls.steps.Step.TheVariants as step;
+ghost use Rattle.hall.specs.declared.calls.steps.Stepped.TheVariants as stepped;
+ghost use Rattle.hall.specs.declared.calls.steps.Stepped.{Stepped};
+ghost use Rattle.hall.specs.halls.Run.{IsStepped, step_name, step_search};
+ghost use Rattle.hall.specs.halls.Calls.{NothingToDo};
+ghost use Rattle.search.specs.Need.{right_hint};
+ghost use Rattle.pool.specs.Visits.{MakesFound, IsVisit};
+
+use crate::rooms::Room;
+use hall::{Job, Step, Stepped};
+use names::Entity;
+use search::Hint;
+use std::sync::ledger::Ledger;
+
+/// How many steps a worker makes in one visit, and how many letters it holds, at the most.
+pub(crate) const BATCH: usize = 32;
+
+/// What a worker found when it had the lock.
+#[derive(Clone, Copy, PartialEq, Eq)]
+pub(crate) enum Found {
+    /// There was something to do, and it is done.
+    Work,
+    /// There was nothing to do.
+    Nothing,
+    /// The desk was stopped.
+    Stopped,
+    /// Memory for a letter was refused. Some steps may have been made before.
+    NoMemory,
+}
+
+/// A letter that was taken, with what was looked up for it.
+pub(crate) struct Looked {
+    pub(crate) job: Job,
+    pub(crate) hint: Hint,
+    pub(crate) ghost right: { hint ≡ right_hint job.snapshot.vaults job.need },
+}
+
+/// Whose search the step is made of, and its number.
+fn search_of(step: &Step) -> (Entity, u64)
+    ensures { result ≡ (step_name step.now, step_search step.now) }
+{
+    match *step {
+        Step::Take(who, number, _)
+        | Step::GiveBack(who, number, _)
+        | Step::Finish(who, number, _, _)
+        | Step::Signal(who, number, _) => (who, number),
+    }
+}
+
+impl<L: Ledger> Room<L> {
+    /// Whether a worker has nothing to do, and is not to end.
+    pub(crate) fn is_idle(&self) -> bool
+        ensures { IsTrue result ↔ ((self.now.stopped ≡ false) × NothingToDo self.now.hall) }
+    {
+        !self.stopped && self.hall.pick(self.turn).is_none()
+    }
+
+    /// Whether a signal of the search is under way.
+    fn has_signal(&self, who: Entity, number: u64) -> bool
+        ensures { IsTrue result ↔ IsSomeAnd (search_at self.now.hall who number) (λ r. 0 < length (signals_in r.search.stage)) }
+    {
+        match self.hall.search(who, number) {
+            Some(search) => search.signals() > 0,
+            None => false,
+        }
+    }
+
+    /// Delivers a signal of the search, or takes a letter of it, where there is either.
+    fn step_of(&mut self, who: Entity, number: u64, held: &mut Vec<Job>) -> Found
+        requires { vec_len held.old < vec_capacity held.old }
+        ensures made { MakesFound result who number self.old.hall self.new.hall }
+        ensures journal { self.new.hall.journal ≡ self.old.hall.journal }
+        ensures room { self.new ≡ record self.old { hall = self.new.hall } }
+        ensures bound { vec_len held.new ≤ vec_len held.old + 1 }
+        ensures capacity { vec_capacity held.new ≡ vec_capacity held.old }
+    {
+        if self.has_signal(who, number) {
+            self.hall.step(Step::Signal(who, number, 0));
+            return Found::Work;
+        }
+        match self.hall.take(who, number, 0) {
+            Ok(Some(job)) => {
+                held.push_reserved(job);
+                Found::Work
+            }
+            Ok(None) => Found::Nothing,
+            Err(_) => Found::NoMemory,
+        }
+    }
+
+    /// The steps of one visit of a worker, all of one search: it delivers signals and takes letters as long as there are any,
+    /// and makes no more than 32 steps.
+    pub(crate) fn visit(&mut self, held: &mut Vec<Job>) -> Found
+        requires empty { vec_len held.old ≡ 0 }
+        requires space { BATCH ≤ vec_capacity held.old }
+        ensures visit { IsVisit BATCH self.old.hall self.new.hall }
+        ensures stopped { self.old.stopped ≡ true → (result ≡ Found.Stopped) × (self.new ≡ self.old) }
+        ensures journal { self.new.hall.journal ≡ self.old.hall.journal }
+        ensures room { self.new ≡ record self.old { hall = self.new.hall } }
+        ensures bound { vec_len held.new ≤ BATCH }
+        ensures capacity { vec_capacity held.new ≡ vec_capacity held.old }
+    {
+        if self.stopped {
+            return Found::Stopped;
+        }
+        let Some(first) = self.hall.pick(self.turn) else {
+            return Found::Nothing;
+        };
+        self.turn = self.turn.wrapping_add(1);
+        let (who, number) = search_of(&first);
+        for _step in 0..BATCH {
+            match self.step_of(who, number, held) {
+                Found::Work => {}
+                Found::NoMemory => return Found::NoMemory,
+                _ => break,
+            }
+        }
+        Found::Work
+    }
+
+    /// Finishes the letter with what was looked up for it, and tells whether it is finished. After a stop the letter is given
+    /// back.
+    fn hand_in(&mut self, looked: Looked) -> bool
+        ensures finishes { self.old.stopped ≡ false → ((answer : Stepped)
+            × IsStepped self.old.hall (step.Finish looked.job.who looked.job.number looked.job.letter looked.hint) answer self.new.hall
+            × (IsTrue result ↔ (answer ≡ stepped.Done))) }
+        ensures gives_back { self.old.stopped ≡ true → ((answer : Stepped)
+            × IsStepped self.old.hall (step.GiveBack looked.job.who looked.job.number looked.job.letter) answer self.new.hall
+            × (result ≡ false)) }
+        ensures journal { self.new.hall.journal ≡ self.old.hall.journal }
+        ensures room { self.new ≡ record self.old { hall = self.new.hall } }
+    {
+        let Looked { job, hint } = looked;
+        if self.stopped {
+            self.hall.give_back(job);
+            return false;
+        }
+        let answer = self.hall.finish(job, hint);
+        matches!(answer, Stepped::Done)
+    }
+
+    /// Hands in all that a worker holds, and answers how many letters are finished.
+    pub(crate) fn hand_in_all(&mut self, looked: &mut Vec<Looked>) -> u64
+        ensures journal { self.new.hall.journal ≡ self.old.hall.journal }
+        ensures room { self.new ≡ record self.old { hall = self.new.hall } }
+        ensures stopped { self.old.stopped ≡ true → result ≡ 0 }
+        ensures most { result ≤ vec_len looked.old }
+        ensures empty { vec_len looked.new ≡ 0 }
+        ensures capacity { vec_capacity looked.new ≡ vec_capacity looked.old }
+    {
+        let mut finished = 0;
+        while let Some(one) = looked.pop() {
+            if self.hand_in(one) {
+                finished += 1;
+            }
+        }
+        finished
+    }
+}

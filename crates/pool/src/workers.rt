@@ -1,0 +1,125 @@
+//! Workers: threads that take letters, look up outside the lock, and hand in.
+ghost use Rattle.std.specs.Prelude.{◌≡◌, ◌≤◌, IfErr, vec_len, vec_capacity};
+ghost use Rattle.pool.specs.Refusals.{IsWorkRefusal};
+
+use crate::desks::Desk;
+use crate::faults::DeskFault;
+use crate::gates::Gate;
+use crate::visits::{BATCH, Found, Looked};
+use hall::{Fault, Job};
+use std::alloc::Global;
+use std::sync::Wait;
+use std::sync::ledger::Ledger;
+use std::thread;
+use std::thread::{JoinHandle, Threads};
+
+/// How many letters a worker finished, and whether memory was refused to it.
+#[derive(Clone, Copy)]
+struct Worked {
+    finished: u64,
+    no_memory: bool,
+}
+
+/// Passes the gate with each letter, and looks up what it needs.
+fn look_up_all<G: Gate>(gate: &G, held: &mut Vec<Job>, looked: &mut Vec<Looked>)
+    requires empty { vec_len looked.old ≡ 0 }
+    requires space { vec_len held.old ≤ vec_capacity looked.old }
+    ensures empty { vec_len held.new ≡ 0 }
+    ensures held { vec_capacity held.new ≡ vec_capacity held.old }
+    ensures looked { vec_capacity looked.new ≡ vec_capacity looked.old }
+{
+    while let Some(job) = held.pop() {
+        gate.pass(job.who(), job.number(), job.letter());
+        let hint = job.look_up();
+        looked.push_reserved(Looked { job, hint });
+    }
+}
+
+/// Works until the desk is stopped, or memory is refused. Room for the letters is taken first.
+fn work<L: Ledger, G: Gate, R: Wait>(rt: &R, alloc: Global, desk: &Desk<L>, gate: &G) -> Worked {
+    let mut worked = Worked {
+        finished: 0,
+        no_memory: true,
+    };
+    let Ok(mut held) = Vec::with_capacity(alloc, BATCH) else {
+        return worked;
+    };
+    let Ok(mut looked) = Vec::with_capacity(alloc, BATCH) else {
+        held.destroy_empty();
+        return worked;
+    };
+    for _ in rt.forever() {
+        let found = desk.visit(rt, &mut held);
+        look_up_all(gate, &mut held, &mut looked);
+        worked.finished = worked.finished.saturating_add(desk.hand_in(rt, &mut looked));
+        if found == Found::NoMemory {
+            break;
+        }
+        if found == Found::Stopped {
+            worked.no_memory = false;
+            break;
+        }
+    }
+    held.destroy_empty();
+    looked.destroy_empty();
+    worked
+}
+
+/// Waits for all workers, and adds up what they did.
+fn join_all<R: Threads>(rt: &R, handles: Vec<JoinHandle<Worked>>) -> Worked {
+    let mut all = Worked {
+        finished: 0,
+        no_memory: false,
+    };
+    for handle in handles {
+        let one = handle.join(rt);
+        all.finished = all.finished.saturating_add(one.finished);
+        all.no_memory = all.no_memory || one.no_memory;
+    }
+    all
+}
+
+/// Runs `n` workers until the desk is stopped, and answers how many letters they finished. The gate is passed once with
+/// each letter, outside the lock. A worker to which memory is refused, for its letters or for one of them, hands in what it
+/// holds and ends; the answer is then 90, once the others have ended too. Where all have ended so, nobody goes on with the
+/// searches: a `wait` doesn't return until the desk is stopped, which is the caller's to do when this function returns. 93
+/// where a worker couldn't be started: the desk is then stopped, and those that run end first. Memory for the workers'
+/// handles that is refused is 90 too.
+pub fn run_workers<L: Ledger + Send + Sync, G: Gate, R: Threads + Wait + Sync>(
+    rt: &R,
+    alloc: Global,
+    desk: &Desk<L>,
+    n: u64,
+    gate: &G,
+) -> Result<u64, DeskFault>
+    requires { (1 ≤ n) × (n ≤ 64) }
+    ensures { IfErr result IsWorkRefusal }
+{
+    let Ok(mut handles) = Vec::with_capacity(alloc, n as usize) else {
+        return Err(DeskFault::Hall(Fault::Memory));
+    };
+    thread::scope(thread::scope_env(), rt, |scope| -> Result<u64, DeskFault>
+        requires { (vec_len handles ≡ 0) × (n ≤ vec_capacity handles) }
+        ensures { IfErr result IsWorkRefusal }
+    {
+        let mut refused = false;
+        for _worker in 0..n {
+            match scope.spawn(move || work(rt, alloc, desk, gate)) {
+                Ok(handle) => handles.push_reserved(handle),
+                Err(_) => refused = true,
+            }
+            if refused {
+                desk.stop(rt);
+                break;
+            }
+        }
+        let all = join_all(rt, handles);
+        if refused {
+            return Err(DeskFault::NoThread);
+        }
+        if all.no_memory {
+            return Err(DeskFault::Hall(Fault::Memory));
+        }
+        Ok(all.finished)
+    })
+}
