@@ -14,3 +14,5 @@ pub mod PrintedLemmas
 pub mod SaidLemmas
 pub mod TranscriptLemmas
 pub mod ScriptLemmas
+pub mod TalkLemmas
+pub mod ToldLemmas
