@@ -19,3 +19,5 @@ pub mod OwnLemmas
 pub mod ShortLemmas
 pub mod AlikeLemmas
 pub mod IsolationLemmas
+pub mod TalkLemmas
+pub mod ToldLemmas

@@ -9,6 +9,10 @@ pub mod Outcome
 pub mod Transcript
 pub mod Roster
 pub mod Talk
+pub mod SessionReply
+pub mod Session
+pub mod SessionTurn
+pub mod SessionWritten
 pub mod RosterReading
 pub mod Isolation
 pub mod Laws

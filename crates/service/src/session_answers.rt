@@ -1,0 +1,155 @@
+//! What a session's line is answered.
+ghost use Rattle.std.specs.Prelude.{◌≡◌, ◌⊎◌, IfOk, IfErr, None, Some};
+ghost use Rattle.service.specs.declared.refusals.Refusal.TheVariants as refusal;
+ghost use Rattle.service.specs.Command.{form_of};
+ghost use Rattle.service.specs.Line.{text};
+ghost use Rattle.service.specs.Roster.{IsTenant};
+ghost use Rattle.service.specs.Session.{IsGreeted, of_tenant};
+ghost use Rattle.service.specs.SessionReply.{IsTold};
+ghost use Rattle.service.specs.SessionTurn.{phase_of, TakesLine};
+
+use crate::commands::read_command;
+use crate::hosts::Host;
+use crate::refusals::Refusal;
+use crate::reply_lines::fill_refusal;
+use crate::rooms::Room;
+use crate::session_commands::carry_out;
+use crate::session_lines::{Said, read_said};
+use crate::session_replies::{fill_bye, fill_hello, fill_told};
+use crate::sessions::Turn;
+use crate::speakers::Speaker;
+use hall::Fault;
+use names::Entity;
+use pool::{DeskFault, Pass};
+use std::sync::Wait;
+use std::sync::ledger::Ledger;
+
+/// Answers a line that isn't blank. A session without a pass has no tenant yet.
+pub(crate) fn answer_line<L: Ledger, R: Wait>(
+    host: &Host<'_, L, R>,
+    line: &[u8],
+    pass: &mut Option<Pass<L>>,
+    reply: &mut Room,
+) -> Turn
+    ensures { TakesLine host.now.roster.now (text line.now) (phase_of pass.old) result (phase_of pass.new) reply.new }
+{
+    match pass {
+        Some(pass) => answer_tenant(host, line, pass, reply),
+        None => answer_stranger(host, line, pass, reply),
+    }
+}
+
+/// Answers one who hasn't said who it is.
+fn answer_stranger<L: Ledger, R: Wait>(
+    host: &Host<'_, L, R>,
+    line: &[u8],
+    pass: &mut Option<Pass<L>>,
+    reply: &mut Room,
+) -> Turn
+    requires { pass.old ≡ None }
+    ensures { TakesLine host.now.roster.now (text line.now) (phase_of pass.old) result (phase_of pass.new) reply.new }
+{
+    match read_said(line) {
+        Said::Quit => {
+            fill_bye(reply);
+            Turn::Quit
+        }
+        Said::Hello(name, word) => {
+            *pass = greet(host, name, word, reply);
+            Turn::Replied
+        }
+        Said::WrongHello => {
+            fill_refusal(reply, &Speaker::Peer, Refusal::Command);
+            Turn::Replied
+        }
+        Said::Command => {
+            fill_refusal(reply, &Speaker::Peer, Refusal::NoHello);
+            Turn::Replied
+        }
+    }
+}
+
+/// Answers a hello, and gives a pass where it is good.
+fn greet<L: Ledger, R: Wait>(
+    host: &Host<'_, L, R>,
+    name: &[u8],
+    word: &[u8],
+    reply: &mut Room,
+) -> Option<Pass<L>>
+    ensures { IsGreeted host.now.roster.now name.now word.now reply.new (phase_of result) }
+{
+    match admit(host, name, word) {
+        Ok(pass) => {
+            fill_hello(reply, &pass.tenant());
+            Some(pass)
+        }
+        Err(refusal) => {
+            fill_refusal(reply, &Speaker::Peer, refusal);
+            None
+        }
+    }
+}
+
+/// A pass for the tenant of this name, if that is its word.
+fn admit<L: Ledger, R: Wait>(
+    host: &Host<'_, L, R>,
+    name: &[u8],
+    word: &[u8],
+) -> Result<Pass<L>, Refusal>
+    ensures tenant { IfOk result (λ pass. pass.tenant ≡ name.now) }
+    ensures known { IfOk result (λ pass. IsTenant host.now.roster.now name.now word.now) }
+    ensures refused { IfErr result (λ why. (why ≡ refusal.BadHello)
+        ⊎ ((why ≡ refusal.Memory) × IsTenant host.now.roster.now name.now word.now)) }
+{
+    if !host.roster.check(name, word) {
+        return Err(Refusal::BadHello);
+    }
+    let Ok(who) = Entity::read(name) else {
+        return Err(Refusal::BadHello);
+    };
+    match host.desk.pass(host.rt, who) {
+        Ok(pass) => Ok(pass),
+        Err(DeskFault::Hall(Fault::Memory)) => Err(Refusal::Memory),
+        Err(_fault) => Err(Refusal::BadHello),
+    }
+}
+
+/// Answers a tenant.
+fn answer_tenant<L: Ledger, R: Wait>(
+    host: &Host<'_, L, R>,
+    line: &[u8],
+    pass: &mut Pass<L>,
+    reply: &mut Room,
+) -> Turn
+    ensures { TakesLine host.now.roster.now (text line.now) (of_tenant pass.old.tenant) result (of_tenant pass.new.tenant) reply.new }
+{
+    match read_said(line) {
+        Said::Quit => {
+            fill_bye(reply);
+            Turn::Quit
+        }
+        _ => {
+            tell(host, line, pass, reply);
+            Turn::Replied
+        }
+    }
+}
+
+/// Answers a tenant's command.
+fn tell<L: Ledger, R: Wait>(
+    host: &Host<'_, L, R>,
+    line: &[u8],
+    pass: &mut Pass<L>,
+    reply: &mut Room,
+)
+    ensures told { IsTold pass.old.tenant (form_of line.now) reply.new }
+    ensures tenant { pass.new.tenant ≡ pass.old.tenant }
+{
+    match read_command(host.alloc, line) {
+        Ok(command) => {
+            let told = carry_out(host, pass, command);
+            fill_told(reply, &told);
+        }
+        Err(refusal) => fill_refusal(reply, &Speaker::Peer, refusal),
+    }
+}
