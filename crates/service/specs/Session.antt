@@ -52,7 +52,8 @@ IsAnswer rows ended line reply after = ⊥
 -- each line has one reply, in order, and they lead from one phase to another
 abbrev pub Talks : List Row → Phase → List Line → List (List ℕ) → Phase → Type 0
 Talks rows before [] [] after = after ≡ before
-Talks rows before (line ∷ lines) (reply ∷ replies) after = (mid : Phase) × IsAnswer rows before line reply mid × Talks rows mid lines replies after
+Talks rows before (line ∷ lines) (reply ∷ replies) after =
+    (mid : Phase) × IsAnswer rows before line reply mid × Talks rows mid lines replies after
 Talks rows before [] (reply ∷ replies) after = ⊥
 Talks rows before (line ∷ lines) [] after = ⊥
 

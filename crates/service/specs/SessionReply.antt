@@ -66,4 +66,5 @@ pub data IsToldBy (told : Result Reply DeskFault) (lines : List ℕ) : Type 0 wh
 -- A tenant's command is refused by its text alone, or it is told something of its kind.
 pub data IsTold (who : List ℕ) (form : Form) (reply : List ℕ) : Type 0 where
   refused : (why : Refusal) → Reads form (Err why) → reply ≡ session_refusal (refusal_number why) → IsTold who form reply
-  carried_out : (command : Command) (told : Result Reply DeskFault) → Reads form (Ok command) → MayTell who command told → reply ≡ told_lines told → IsTold who form reply
+  carried_out : (command : Command) (told : Result Reply DeskFault) → Reads form (Ok command) → MayTell who command told →
+      reply ≡ told_lines told → IsTold who form reply
