@@ -29,6 +29,8 @@ pub mod Telling
 pub mod Going
 pub mod Polling
 pub mod Carrying
+pub mod Working
+pub mod Visiting
 pub mod Picking
 pub mod Explaining
 pub mod Running

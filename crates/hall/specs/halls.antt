@@ -9,4 +9,5 @@ pub mod Answers
 pub mod Deeds
 pub mod Turns
 pub mod Laws
+pub mod Visits
 pub mod Kept

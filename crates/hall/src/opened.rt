@@ -1,9 +1,9 @@
 //! The searches that a tenant has opened and not ended.
-ghost use Rattle.std.specs.Prelude.{◌≡◌, MatchOption};
+ghost use Rattle.std.specs.Prelude.{◌≡◌, ◌≤◌, ◌+◌, ◌<◌, MatchOption, vec_len, vec_capacity};
 ghost use Rattle.search.specs.Search.{SearchState};
 ghost use Rattle.hall.specs.halls.Searches.{StepsSearch};
 ghost use Rattle.hall.specs.halls.Calls.{IsStill};
-ghost use Rattle.hall.specs.halls.Kept.{with_search, DrivesTo, TakesJob, IsNext};
+ghost use Rattle.hall.specs.halls.Kept.{with_search, DrivesTo, TakesJob, GoesOn, Visits, IsNext};
 
 use crate::calls::{Answer, Step, Stepped};
 use crate::faults::Fault;
@@ -94,6 +94,46 @@ impl Opened {
             return Ok(None);
         };
         Ok(Some(Job::new(who, self.number, task)))
+    }
+
+    /// Makes up to so many steps for this tenant, one after another: delivers the oldest signal, or else takes the first
+    /// letter that waits, as long as there is either.
+    pub(crate) fn visit(
+        &mut self,
+        who: Entity,
+        most: usize,
+        held: &mut Vec<Job>,
+    ) -> Result<(), AllocError>
+        requires space { vec_len held.old + most ≤ vec_capacity held.old }
+        ensures visited { (s : SearchState) × Visits who self.old.number most held.old.items held.new.items self.old.of.search s
+            × (self.new ≡ with_search s self.old) }
+        ensures bound { vec_len held.new ≤ vec_len held.old + most }
+        ensures capacity { vec_capacity held.new ≡ vec_capacity held.old }
+    {
+        for _step in 0..most {
+            if !self.go_on(who, held)? {
+                break;
+            }
+        }
+        Ok(())
+    }
+
+    /// Makes a step for this tenant, and tells whether there was one to make.
+    fn go_on(&mut self, who: Entity, held: &mut Vec<Job>) -> Result<bool, AllocError>
+        requires space { vec_len held.old < vec_capacity held.old }
+        ensures goes_on { (s : SearchState) × GoesOn who self.old.number held.old.items held.new.items self.old.of.search result s
+            × (self.new ≡ with_search s self.old) }
+        ensures bound { vec_len held.new ≤ vec_len held.old + 1 }
+        ensures capacity { vec_capacity held.new ≡ vec_capacity held.old }
+    {
+        if self.search.signal(0) {
+            return Ok(true);
+        }
+        let Some(job) = self.take(who, 0)? else {
+            return Ok(false);
+        };
+        held.push_reserved(job);
+        Ok(true)
     }
 
     /// The step of this tenant that goes on with it, if anything of it waits or is under way: the oldest signal first.

@@ -168,7 +168,9 @@ impl Hall {
     ghost use Rattle.hall.specs.declared.calls.steps.Step.TheVariants as step;
     ghost use Rattle.hall.specs.halls.Run.{IsStepped};
     ghost use Rattle.hall.specs.halls.Calls.{IsTaken};
+    ghost use Rattle.std.specs.Prelude.{◌+◌, ◌≤◌, vec_len, vec_capacity};
     ghost use Rattle.hall.specs.halls.Deeds.{IsDriven};
+    ghost use Rattle.hall.specs.halls.Visits.{IsVisited};
     ghost use Rattle.hall.specs.halls.Calls.{SearchIsQuiet, CanBeMade, NothingToDo};
 
     /// Makes the step of the search that it names. It takes no memory that it couldn't do without: where a search lacks
@@ -195,6 +197,29 @@ impl Hall {
         };
         let seat = &mut self.seats[at];
         Ok(seat.take(who, number, place)?)
+    }
+
+    /// Makes up to so many steps of the tenant's search of the number, one after another: delivers the oldest signal, or
+    /// else takes the first letter that waits, as long as there is either. The search is looked up once. The letters stand
+    /// behind those that are held already. Where there is no memory to hold a letter, the steps before it are made.
+    pub fn visit(
+        &mut self,
+        who: Entity,
+        number: u64,
+        most: usize,
+        held: &mut Vec<Job>,
+    ) -> Result<(), Fault>
+        requires space { vec_len held.old + most ≤ vec_capacity held.old }
+        ensures visited { IsVisited who number most self.old held.old.items self.new held.new.items }
+        ensures only_memory { IfErr result (λ f. f ≡ Fault.Memory) }
+        ensures bound { vec_len held.new ≤ vec_len held.old + most }
+        ensures capacity { vec_capacity held.new ≡ vec_capacity held.old }
+    {
+        let Some(at) = place_of(&self.names, &who) else {
+            return Ok(());
+        };
+        let seat = &mut self.seats[at];
+        Ok(seat.visit(who, number, most, held)?)
     }
 
     /// Finishes the letter of the job with what was looked up.

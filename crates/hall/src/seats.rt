@@ -1,7 +1,7 @@
 //! The tenants, each with its limits and its searches.
-ghost use Rattle.std.specs.Prelude.{◌≡◌, ◌+◌, ◌<◌, [], None, Some, length, unwrap_or};
+ghost use Rattle.std.specs.Prelude.{◌≡◌, ◌+◌, ◌<◌, ◌≤◌, [], None, Some, length, unwrap_or};
 ghost use Rattle.std.specs.Prelude.{IfOk, IfErr, OnOk, OnErr, option_copied, Ok, Err, MatchOption};
-ghost use Rattle.std.specs.Prelude.{option_map, position, filter, find, not, is_none};
+ghost use Rattle.std.specs.Prelude.{option_map, position, filter, find, not, is_none, vec_len, vec_capacity};
 ghost use Rattle.vaults.specs.Journal.{entries_of, vault, readers, view};
 ghost use Rattle.hall.specs.declared.faults.Fault.TheVariants as faults;
 ghost use Rattle.hall.specs.halls.Searches.{just_opened, settled_of, StepsSearch};
@@ -10,7 +10,7 @@ ghost use Rattle.hall.specs.halls.Account.{limit_refusal};
 ghost use Rattle.hall.specs.halls.State.{new_tenant, Running};
 ghost use Rattle.hall.specs.halls.Run.{starting};
 ghost use Rattle.hall.specs.halls.Calls.{IsIdle};
-ghost use Rattle.hall.specs.halls.Kept.{GoesAt, IsToldOf, DrivesTo, TakesJob, IsNextOf};
+ghost use Rattle.hall.specs.halls.Kept.{GoesAt, IsToldOf, DrivesTo, TakesJob, Visits, IsNextOf};
 
 use crate::calls::{Answer, Step, Stepped};
 use crate::faults::Fault;
@@ -168,6 +168,28 @@ impl Seat {
         };
         let opened = &mut self.searches[at];
         opened.take(who, place)
+    }
+
+    /// Makes up to so many steps of the search of the number for this tenant, one after another.
+    pub(crate) fn visit(
+        &mut self,
+        who: Entity,
+        number: u64,
+        most: usize,
+        held: &mut Vec<Job>,
+    ) -> Result<(), AllocError>
+        requires space { vec_len held.old + most ≤ vec_capacity held.old }
+        ensures visited { MatchOption (position (is_number number) self.old.holder.searches)
+            ((held.new.items ≡ held.old.items) × (self.new ≡ self.old))
+            (λ i. GoesAt (λ s t. Visits who number most held.old.items held.new.items s t) i self.old self.new) }
+        ensures bound { vec_len held.new ≤ vec_len held.old + most }
+        ensures capacity { vec_capacity held.new ≡ vec_capacity held.old }
+    {
+        let Some(at) = place_of(&self.searches, number) else {
+            return Ok(());
+        };
+        let opened = &mut self.searches[at];
+        opened.visit(who, most, held)
     }
 
     /// The step that goes on with one of the searches. It begins at the search that the turn picks, and goes round.

@@ -1,5 +1,5 @@
 -- A search that is driven makes steps of the hall.
-use Rattle.std.proofs.Common.{◌≡◌, ◌∙◌, ◌==◌, ℕ, Bool, true, false, cond, List, [], ◌∷◌, map, set, find, ap, sym, refl, subst, Option, Some, None, option_map, position, slice_get, Result, Ok, Err, is_some, if◌then◌else◌}
+use Rattle.std.proofs.Common.{◌≡◌, ◌∙◌, ℕ, Bool, true, false, cond, List, [], ◌∷◌, map, find, ap, sym, refl, subst, Option, Some, None, option_map, position, Result, Ok, Err, is_some, if◌then◌else◌}
 use Rattle.std.specs.List.{AllByRecursion}
 use Rattle.std.specs.Option.{MatchOption}
 use Rattle.std.proofs.lemmas.Simd.{map-map}
@@ -103,10 +103,10 @@ module _ (h : HallState) (who : List ℕ) (k : ℕ) (r : Running) (t : Tenant) (
       (map-map (at_name who (stepping k (running s) u)) (at_name who (stepping k r s)) h.tenants ∙ ap (λ (f : Tenant → Tenant). map f h.tenants) (λ i v. twice_tenant s u v i))
 
   -- a step of the search is one of the hall
-  steps_signal : (place : ℕ) (answer : Stepped) (s u : SearchState) → StepsSearch s (Signal who k place) answer u → IsStepped (state s) (Signal who k place) answer (state u)
+  pub steps_signal : (place : ℕ) (answer : Stepped) (s u : SearchState) → StepsSearch s (Signal who k place) answer u → IsStepped (state s) (Signal who k place) answer (state u)
   steps_signal place answer s u steps = subst (λ (o : Option Running). StepsRunning (state s) o (Signal who k place) answer (state u)) (sym (found_state s)) (u, steps, sym (twice_state s u))
 
-  steps_take : (place : ℕ) (answer : Stepped) (s u : SearchState) → StepsSearch s (Take who k place) answer u → IsStepped (state s) (Take who k place) answer (state u)
+  pub steps_take : (place : ℕ) (answer : Stepped) (s u : SearchState) → StepsSearch s (Take who k place) answer u → IsStepped (state s) (Take who k place) answer (state u)
   steps_take place answer s u steps = subst (λ (o : Option Running). StepsRunning (state s) o (Take who k place) answer (state u)) (sym (found_state s)) (u, steps, sym (twice_state s u))
 
   steps_finish : (letter : ℕ) (hint : _) (answer : Stepped) (s u : SearchState) → StepsSearch s (Finish who k letter hint) answer u → IsStepped (state s) (Finish who k letter hint) answer (state u)
@@ -142,6 +142,30 @@ module _ (h : HallState) (who : List ℕ) (k : ℕ) (r : Running) (t : Tenant) (
         ),
       )
 
+module _ (h : HallState) (who : List ℕ) (k : ℕ) (place : ℕ) (t : Tenant) (here : Stands who h.tenants place t) (r : Running) (found : search_at h who k ≡ Some r) where
+  pub runs_there : search_in k t.holder ≡ Some r
+  runs_there = sym (ap (running_of k) here.found) ∙ found
+
+  module _ (sound : IsSound h) where
+    same_holder : stepping k r r.search t.holder ≡ t.holder
+    same_holder = by (find (is_number k) t.holder.searches) refl runs_there
+      where
+        by : (o : Option (Numbered Running)) → find (is_number k) t.holder.searches ≡ o → option_map (λ (x : Numbered Running). x.of) o ≡ Some r → stepping k r r.search t.holder ≡ t.holder
+        by None none is = cc
+        by (Some x) found is =
+            let of : x.of ≡ r = cc in
+            ap (λ (ss : List (Numbered Running)). record t.holder { searches = ss })
+            (changed_same (is_number k) (λ (y : Numbered Running). record { number = y.number; of = r }) t.holder.searches x
+            (once_numbered k t.holder.opens t.holder.searches (sound_there h who place t sound here).numbers) found
+            (ap (λ (q : Running). record { number = x.number; of = q }) (sym of)))
+
+    -- a search that is put back as it was changes nothing
+    pub same_state : state h who k r t here.found runs_there r.search ≡ h
+    same_state =
+        ap (λ (ts : List Tenant). record { journal = h.journal; tenants = ts })
+        (changed_same (λ (u : Tenant). is_same u.name who) (λ (u : Tenant). record { name = u.name; holder = stepping k r r.search u.holder }) h.tenants t (once_named who h.tenants sound.names) here.found
+        (ap (λ (o : Holder Running). record { name = t.name; holder = o }) same_holder))
+
 -- what runs keeps a hall sound
 pub run_sound : (old new : HallState) (events : List Event) (replies : List Reply) → IsSound old → Run old events replies new → IsSound new
 run_sound old new [] [] sound run = subst IsSound (sym run) sound
@@ -173,28 +197,7 @@ module _ (h : HallState) (who : List ℕ) (k : ℕ) where
     module _ (r : Running) (s : SearchState) (found : search_at h who k ≡ Some r) (drives : DrivesTo r.search told s)
         (is : after h who place t new here ≡ with_holder h who (stepping k r s)) where
       at : search_in k t.holder ≡ Some r
-      at = sym (ap (running_of k) here.found) ∙ found
-
-      changed_number : (x : Numbered Running) → is_number k x ≡ true → x.of ≡ r → at_number k r x ≡ x
-      changed_number x passes same = ap (λ (b : Bool). cond b (record { number = x.number; of = r }) x) passes ∙ ap (λ (q : Running). record { number = x.number; of = q }) (sym same)
-
-      same_holder : stepping k r r.search t.holder ≡ t.holder
-      same_holder = by (find (is_number k) t.holder.searches) refl at
-        where
-          by : (o : Option (Numbered Running)) → find (is_number k) t.holder.searches ≡ o → option_map (λ (x : Numbered Running). x.of) o ≡ Some r → stepping k r r.search t.holder ≡ t.holder
-          by None none is = cc
-          by (Some x) found is =
-              let of : x.of ≡ r = cc in
-              ap (λ (ss : List (Numbered Running)). record t.holder { searches = ss })
-              (changed_same (is_number k) (λ (y : Numbered Running). record { number = y.number; of = r }) t.holder.searches x
-              (once_numbered k t.holder.opens t.holder.searches (sound_there h who place t sound here).numbers) found
-              (ap (λ (q : Running). record { number = x.number; of = q }) (sym of)))
-
-      same_state : state h who k r t here.found at r.search ≡ h
-      same_state =
-          ap (λ (ts : List Tenant). record { journal = h.journal; tenants = ts })
-          (changed_same (λ (u : Tenant). is_same u.name who) (λ (u : Tenant). record { name = u.name; holder = stepping k r r.search u.holder }) h.tenants t (once_named who h.tenants sound.names) here.found
-          (ap (λ (o : Holder Running). record { name = t.name; holder = o }) same_holder))
+      at = runs_there h who k place t here r found
 
       found_after : search_at (after h who place t new here) who k ≡ Some (record { opened_at = r.opened_at; search = s })
       found_after = ap (λ (g : HallState). search_at g who k) is ∙ found_state h who k r t here.found at s
@@ -206,7 +209,7 @@ module _ (h : HallState) (who : List ℕ) (k : ℕ) where
             steps = made;
             outcomes = outcomes;
             own = own;
-            made = subst (λ (g : HallState). Run h (map event.Step made) outcomes g) (sym is) (subst (λ (g : HallState). Run g (map event.Step made) outcomes (with_holder h who (stepping k r s))) same_state run);
+            made = subst (λ (g : HallState). Run h (map event.Step made) outcomes g) (sym is) (subst (λ (g : HallState). Run g (map event.Step made) outcomes (with_holder h who (stepping k r s))) (same_state h who k place t here r found sound) run);
             polled = told_polled;
             back = λ held. subst (IfRunning NoneHeld) (sym found_after) (drives.none_held (subst (IfRunning NoneHeld) found held));
             answers = λ held e. no_answer told drives.tells (drives.settled (subst (IfRunning NoneHeld) found held)) e;

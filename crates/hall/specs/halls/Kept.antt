@@ -1,12 +1,12 @@
 -- What a hall keeps beside what it is seen as, and what its calls do to one of its searches.
-use Rattle.std.specs.Prelude.{◌≡◌, ℕ, List, [], map, Option, None, Some, Result, Ok, Err, slice_set, slice_get}
+use Rattle.std.specs.Prelude.{◌≡◌, ◌≤◌, ◌+◌, ◌++◌, ◌∷◌, ◌⊎◌, ℕ, Bool, true, List, [], map, Option, None, Some, Result, Ok, Err, slice_set, slice_get}
 use Rattle.std.specs.List.{Contains}
 use Rattle.search.specs.Ending.{Settled}
 use Rattle.search.specs.Search.{SearchState, Settles, IsOutstanding, settled_of}
 use Rattle.search.specs.Stage.{waiting_in, signals_in}
 use Rattle.search.specs.Finish.{Takes}
 use Rattle.search.specs.Quiet.{IsQuiet, NoneHeld}
-use Rattle.search.specs.Driven.{IsDriven}
+use Rattle.search.specs.Driven.{IsDriven, SignalsFirst}
 use Rattle.hall.specs.declared.faults.Fault.{Fault}
 use Rattle.hall.specs.declared.faults.Fault.TheVariants.{Memory}
 use Rattle.hall.specs.declared.calls.answers.Answer.{Answer}
@@ -50,12 +50,36 @@ pub record DrivesTo (s : SearchState) (told : Result Answer Fault) (t : SearchSt
   pub settled : NoneHeld s.stage → IsOutstanding t.stage → ⊥
   pub none_held : NoneHeld s.stage → NoneHeld t.stage
 
+-- the waiting letter at a place was taken as this job of the tenant's search
+abbrev pub TakesAs : List ℕ → ℕ → ℕ → SearchState → TakenLetter → SearchState → Type 0
+TakesAs who k place s job t =
+    Takes s t place job.letter job.need × (job.who ≡ who) × (job.number ≡ k) × (job.snapshot ≡ s.snapshot) × Settles s t
+
 -- the waiting letter at a place was taken as a job of this tenant's search, where there is one and memory to hold it
 abbrev pub TakesJob : {E : Type 0} → List ℕ → ℕ → ℕ → SearchState → Result (Option TakenLetter) E → SearchState → Type 0
 TakesJob who k place s (Ok None) t = (slice_get (waiting_in s.stage) place ≡ None) × (t ≡ s)
-TakesJob who k place s (Ok (Some job)) t =
-    Takes s t place job.letter job.need × (job.who ≡ who) × (job.number ≡ k) × (job.snapshot ≡ s.snapshot) × Settles s t
+TakesJob who k place s (Ok (Some job)) t = TakesAs who k place s job t
 TakesJob who k place s (Err f) t = t ≡ s
+
+-- a step of the search was made: the oldest signal was delivered, or the first letter that waits was taken; or there was
+-- neither, or no memory to hold the letter
+abbrev pub GoesOn : {E : Type 0} → List ℕ → ℕ → List TakenLetter → List TakenLetter → SearchState → Result Bool E → SearchState → Type 0
+GoesOn who k held holds s (Ok true) t =
+    (SignalsFirst s t × (holds ≡ held)) ⊎ ((job : TakenLetter) × TakesAs who k 0 s job t × (holds ≡ held ++ job ∷ []))
+GoesOn who k held holds s _ t = (t ≡ s) × (holds ≡ held)
+
+-- so many steps of the search were made one after another, by which these letters were taken
+pub data WorksOn (who : List ℕ) (k : ℕ) (s : SearchState) : ℕ → List TakenLetter → SearchState → Type 0 where
+  nothing : WorksOn who k s 0 [] s
+  signal : {n : ℕ} {taken : List TakenLetter} {middle t : SearchState} → WorksOn who k s n taken middle → SignalsFirst middle t →
+      WorksOn who k s (n + 1) taken t
+  letter : {n : ℕ} {taken : List TakenLetter} {job : TakenLetter} {middle t : SearchState} → WorksOn who k s n taken middle →
+      TakesAs who k 0 middle job t → WorksOn who k s (n + 1) (taken ++ job ∷ []) t
+
+-- at most so many steps of the search were made, and the letters stand behind those that were held
+abbrev pub Visits : List ℕ → ℕ → ℕ → List TakenLetter → List TakenLetter → SearchState → SearchState → Type 0
+Visits who k most held holds s t =
+    (n : ℕ) × (taken : List TakenLetter) × (n ≤ most) × WorksOn who k s n taken t × (holds ≡ held ++ taken)
 
 -- the step goes on with a search where something waits or is under way
 abbrev pub IsNext : List ℕ → Numbered Running → Step → Type 0
