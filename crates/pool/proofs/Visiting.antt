@@ -1,13 +1,25 @@
--- The steps of one visit, counted.
-use Rattle.std.proofs.Common.{ℕ, ◌+◌, ◌≤◌, List, [], arith}
+-- A visit leaves the journal as it was.
+use Rattle.std.proofs.Common.{◌≡◌, ◌∙◌, ℕ, List, [], refl}
+use Rattle.hall.specs.declared.calls.steps.Step.TheVariants.{Take, Signal}
+use Rattle.hall.specs.declared.calls.steps.Stepped.TheVariants.{Signalled}
 use Rattle.hall.specs.halls.State.{HallState}
-use Rattle.pool.specs.Visits.{MakesStep, MakesSteps, IsVisit}
+use Rattle.hall.specs.halls.Calls.{TakenLetter}
+use Rattle.hall.specs.halls.Visits.{IsWorkedOn, IsVisited}
+use Rattle.hall.proofs.halls.Visiting.{no_visit}
+use Rattle.pool.specs.Visits.{IsVisit}
+use Rattle.pool.proofs.Kept.{stepped_journal}
 
-pub no_steps : (most : ℕ) (h : HallState) → IsVisit most h h
-no_steps most h = let within : 0 ≤ most = omega arith in ([], 0, 0, within, MakesSteps.none)
+-- where nothing is done
+pub no_steps : (most : ℕ) (h : HallState) (held : List TakenLetter) → IsVisit most h held h held
+no_steps most h held = ([], 0, no_visit [] 0 most held h)
 
-pub visited : (most : ℕ) (who : List ℕ) (number n : ℕ) (old new : HallState) → n ≤ most → MakesSteps who number old n new → IsVisit most old new
-visited most who number n old new within made = (who, number, n, within, made)
+worked_journal : (who : List ℕ) (k : ℕ) (old : HallState) (n : ℕ) (taken : List TakenLetter) (new : HallState) → IsWorkedOn who k old n taken new → new.journal ≡ old.journal
+worked_journal who k old n taken new IsWorkedOn.nothing = refl
+worked_journal who k old n taken new (IsWorkedOn.signal {n = m} {taken = before} {middle} works steps) =
+    stepped_journal middle new (Signal who k 0) Signalled steps ∙ worked_journal who k old m before middle works
+worked_journal who k old n taken new (IsWorkedOn.letter {n = m} {taken = before} {job} {middle} works (answer, steps, is)) =
+    stepped_journal middle new (Take who k 0) answer steps ∙ worked_journal who k old m before middle works
 
-pub goes_on : (who : List ℕ) (number n : ℕ) (old middle new : HallState) → MakesSteps who number old n middle → MakesStep who number middle new → MakesSteps who number old (n + 1) new
-goes_on who number n old middle new made step = MakesSteps.more made step
+pub visited_journal : (who : List ℕ) (k most : ℕ) (old : HallState) (held : List TakenLetter) (new : HallState) (holds : List TakenLetter) →
+    IsVisited who k most old held new holds → new.journal ≡ old.journal
+visited_journal who k most old held new holds (n, taken, within, works, is) = worked_journal who k old n taken new works

@@ -27,7 +27,10 @@ use vaults::Change;
 #[derive(Drop)]
 pub struct Desk<L: Ledger> {
     room: Mutex<Room<L>>,
-    changed: Condvar,
+    /// Where callers wait for the end of a search.
+    over: Condvar,
+    /// Where workers wait for something to do.
+    work: Condvar,
 }
 
 impl<L: Ledger> Desk<L> {
@@ -40,7 +43,8 @@ impl<L: Ledger> Desk<L> {
     {
         Desk {
             room: Mutex::new(Room::new(hall, blank)),
-            changed: Condvar::new(),
+            over: Condvar::new(),
+            work: Condvar::new(),
         }
     }
 
@@ -77,9 +81,7 @@ impl<L: Ledger> Desk<L> {
         ensures tenant { pass.new.tenant ≡ pass.old.tenant }
         ensures refused { IfErr result (IsRefused (IsChangeRefusal change) pass.old pass.new) }
     {
-        let count = self.enter(rt).change(pass, change)?;
-        self.changed.notify_all();
-        Ok(count)
+        self.enter(rt).change(pass, change)
     }
 
     /// Opens a search over what the tenant sees now. Refused as 91, and then as the hall refuses.
@@ -94,7 +96,7 @@ impl<L: Ledger> Desk<L> {
         ensures refused { IfErr result (IsRefused IsOpenRefusal pass.old pass.new) }
     {
         let ticket = self.enter(rt).open(pass, query)?;
-        self.changed.notify_all();
+        self.work.notify_one();
         Ok(ticket)
     }
 
@@ -130,7 +132,7 @@ impl<L: Ledger> Desk<L> {
         let front = pass.front();
         let room = self.enter(rt);
         let room = self
-            .changed
+            .over
             .wait_while(rt, room, |room| !room.is_over(who, number, front));
         room.poll(pass, number)
     }
@@ -141,7 +143,7 @@ impl<L: Ledger> Desk<L> {
         ensures refused { IfErr result (IsRefused IsEndRefusal pass.old pass.new) }
     {
         self.enter(rt).end(pass, number)?;
-        self.changed.notify_all();
+        self.over.notify_all();
         Ok(())
     }
 
@@ -202,27 +204,46 @@ impl<L: Ledger> Desk<L> {
     /// Lets the workers end once they have given back what they hold, and ends each wait.
     pub fn stop<R: Wait>(&self, rt: &R) {
         self.enter(rt).stop();
-        self.changed.notify_all();
+        self.over.notify_all();
+        self.work.notify_all();
     }
 
-    /// For a worker: waits until there is something to do, and does it.
-    pub(crate) fn visit<R: Wait>(&self, rt: &R, held: &mut Vec<Job>) -> Found
+    /// For a worker: hands in all that it holds, waits until there is something to do, and does it. Answers what it found,
+    /// and how many letters are finished. One worker more is woken where something is left to do, so that no more of them
+    /// are awake than find something.
+    pub(crate) fn visit<R: Wait>(
+        &self,
+        rt: &R,
+        looked: &mut Vec<Looked>,
+        held: &mut Vec<Job>,
+    ) -> (Found, u64)
         requires empty { vec_len held.old ≡ 0 }
         requires space { BATCH ≤ vec_capacity held.old }
+        ensures handed_in { vec_len looked.new ≡ 0 }
+        ensures looked { vec_capacity looked.new ≡ vec_capacity looked.old }
         ensures bound { vec_len held.new ≤ BATCH }
         ensures capacity { vec_capacity held.new ≡ vec_capacity held.old }
     {
-        let room = self.enter(rt);
-        let mut room = self.changed.wait_while(rt, room, |room| room.is_idle());
-        let found = room.visit(held);
-        drop(room);
-        if found == Found::Work || found == Found::NoMemory {
-            self.changed.notify_all();
+        let mut room = self.enter(rt);
+        let finished = room.hand_in_all(looked);
+        if room.take_ended() {
+            self.over.notify_all();
         }
-        found
+        let mut room = self.work.wait_while(rt, room, |room| room.is_idle());
+        let found = room.visit(held);
+        let ended = room.take_ended();
+        let is_idle = room.is_idle();
+        drop(room);
+        if ended {
+            self.over.notify_all();
+        }
+        if !is_idle {
+            self.work.notify_one();
+        }
+        (found, finished)
     }
 
-    /// For a worker: hands in all that it holds, and answers how many letters are finished.
+    /// For a worker that ends: hands in all that it holds, and answers how many letters are finished.
     pub(crate) fn hand_in<R: Wait>(&self, rt: &R, looked: &mut Vec<Looked>) -> u64
         ensures empty { vec_len looked.new ≡ 0 }
         ensures capacity { vec_capacity looked.new ≡ vec_capacity looked.old }
@@ -231,7 +252,8 @@ impl<L: Ledger> Desk<L> {
             return 0;
         }
         let finished = self.enter(rt).hand_in_all(looked);
-        self.changed.notify_all();
+        self.over.notify_all();
+        self.work.notify_one();
         finished
     }
 }

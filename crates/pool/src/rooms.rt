@@ -32,6 +32,7 @@ pub(crate) struct Room<L: Ledger> {
     left: u64,
     pub(crate) stopped: bool,
     pub(crate) turn: u64,
+    pub(crate) ended: bool,
 }
 
 impl<L: Ledger> Model for Room<L> {
@@ -65,6 +66,7 @@ impl<L: Ledger> Drop for Room<L> {
             left: _left,
             stopped: _stopped,
             turn: _turn,
+            ended: _ended,
         } = self;
     }
 }
@@ -87,6 +89,7 @@ impl<L: Ledger> Room<L> {
             left: 0,
             stopped: false,
             turn: 0,
+            ended: false,
         }
     }
 

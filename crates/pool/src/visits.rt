@@ -1,19 +1,18 @@
 //! What a worker does when it has the lock: the steps of one search in a row, and what it hands in.
-ghost use Rattle.std.specs.Prelude.{◌≡◌, ◌+◌, ◌<◌, ◌≤◌, ◌↔◌, true, false, IsTrue, IsSomeAnd, length, vec_len, vec_capacity};
-ghost use Rattle.search.specs.Stage.{signals_in};
-ghost use Rattle.hall.specs.halls.State.{search_at};
+ghost use Rattle.std.specs.Prelude.{◌≡◌, ◌≤◌, ◌↔◌, true, false, IsTrue, vec_len, vec_capacity};
 ghost use Rattle.hall.specs.declared.calls.steps.Step.TheVariants as step;
 ghost use Rattle.hall.specs.declared.calls.steps.Stepped.TheVariants as stepped;
 ghost use Rattle.hall.specs.declared.calls.steps.Stepped.{Stepped};
 ghost use Rattle.hall.specs.halls.Run.{IsStepped, step_name, step_search};
 ghost use Rattle.hall.specs.halls.Calls.{NothingToDo};
 ghost use Rattle.search.specs.Need.{right_hint};
-ghost use Rattle.pool.specs.Visits.{MakesFound, IsVisit};
+ghost use Rattle.pool.specs.Visits.{IsVisit};
 
 use crate::rooms::Room;
 use hall::{Job, Step, Stepped};
 use names::Entity;
 use search::Hint;
+use std::mem;
 use std::sync::ledger::Ledger;
 
 /// How many steps a worker makes in one visit, and how many letters it holds, at the most.
@@ -59,37 +58,21 @@ impl<L: Ledger> Room<L> {
         !self.stopped && self.hall.pick(self.turn).is_none()
     }
 
-    /// Whether a signal of the search is under way.
-    fn has_signal(&self, who: Entity, number: u64) -> bool
-        ensures { IsTrue result ↔ IsSomeAnd (search_at self.now.hall who number) (λ r. 0 < length (signals_in r.search.stage)) }
+    /// Notes whether the search has come to an end, or is there no longer.
+    fn note(&mut self, who: Entity, number: u64)
+        ensures { self.new ≡ self.old }
     {
-        match self.hall.search(who, number) {
-            Some(search) => search.signals() > 0,
-            None => false,
+        if self.is_over(who, number, 0) {
+            self.ended = true;
         }
     }
 
-    /// Delivers a signal of the search, or takes a letter of it, where there is either.
-    fn step_of(&mut self, who: Entity, number: u64, held: &mut Vec<Job>) -> Found
-        requires { vec_len held.old < vec_capacity held.old }
-        ensures made { MakesFound result who number self.old.hall self.new.hall }
-        ensures journal { self.new.hall.journal ≡ self.old.hall.journal }
-        ensures room { self.new ≡ record self.old { hall = self.new.hall } }
-        ensures bound { vec_len held.new ≤ vec_len held.old + 1 }
-        ensures capacity { vec_capacity held.new ≡ vec_capacity held.old }
+    /// Whether a search came to an end since this was asked last. Those who wait for one are to look then.
+    pub(crate) fn take_ended(&mut self) -> bool
+        ensures { self.new ≡ self.old }
     {
-        if self.has_signal(who, number) {
-            self.hall.step(Step::Signal(who, number, 0));
-            return Found::Work;
-        }
-        match self.hall.take(who, number, 0) {
-            Ok(Some(job)) => {
-                held.push_reserved(job);
-                Found::Work
-            }
-            Ok(None) => Found::Nothing,
-            Err(_) => Found::NoMemory,
-        }
+        let _ = &self.hall;
+        mem::take(&mut self.ended)
     }
 
     /// The steps of one visit of a worker, all of one search: it delivers signals and takes letters as long as there are any,
@@ -97,7 +80,7 @@ impl<L: Ledger> Room<L> {
     pub(crate) fn visit(&mut self, held: &mut Vec<Job>) -> Found
         requires empty { vec_len held.old ≡ 0 }
         requires space { BATCH ≤ vec_capacity held.old }
-        ensures visit { IsVisit BATCH self.old.hall self.new.hall }
+        ensures visit { IsVisit BATCH self.old.hall held.old.items self.new.hall held.new.items }
         ensures stopped { self.old.stopped ≡ true → (result ≡ Found.Stopped) × (self.new ≡ self.old) }
         ensures journal { self.new.hall.journal ≡ self.old.hall.journal }
         ensures room { self.new ≡ record self.old { hall = self.new.hall } }
@@ -112,14 +95,12 @@ impl<L: Ledger> Room<L> {
         };
         self.turn = self.turn.wrapping_add(1);
         let (who, number) = search_of(&first);
-        for _step in 0..BATCH {
-            match self.step_of(who, number, held) {
-                Found::Work => {}
-                Found::NoMemory => return Found::NoMemory,
-                _ => break,
-            }
+        let made = self.hall.visit(who, number, BATCH, held);
+        self.note(who, number);
+        match made {
+            Ok(()) => Found::Work,
+            Err(_) => Found::NoMemory,
         }
-        Found::Work
     }
 
     /// Finishes the letter with what was looked up for it, and tells whether it is finished. After a stop the letter is given
@@ -143,7 +124,7 @@ impl<L: Ledger> Room<L> {
         matches!(answer, Stepped::Done)
     }
 
-    /// Hands in all that a worker holds, and answers how many letters are finished.
+    /// Hands in all that a worker holds, which are letters of one search, and answers how many are finished.
     pub(crate) fn hand_in_all(&mut self, looked: &mut Vec<Looked>) -> u64
         ensures journal { self.new.hall.journal ≡ self.old.hall.journal }
         ensures room { self.new ≡ record self.old { hall = self.new.hall } }
@@ -152,12 +133,17 @@ impl<L: Ledger> Room<L> {
         ensures empty { vec_len looked.new ≡ 0 }
         ensures capacity { vec_capacity looked.new ≡ vec_capacity looked.old }
     {
+        let Some(first) = looked.last() else {
+            return 0;
+        };
+        let (who, number) = (*first.job.who(), first.job.number());
         let mut finished = 0;
         while let Some(one) = looked.pop() {
             if self.hand_in(one) {
                 finished += 1;
             }
         }
+        self.note(who, number);
         finished
     }
 }

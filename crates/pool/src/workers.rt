@@ -49,11 +49,9 @@ fn work<L: Ledger, G: Gate, R: Wait>(rt: &R, alloc: Global, desk: &Desk<L>, gate
         return worked;
     };
     for _ in rt.forever() {
-        let found = desk.visit(rt, &mut held);
+        let (found, finished) = desk.visit(rt, &mut looked, &mut held);
+        worked.finished = worked.finished.saturating_add(finished);
         look_up_all(gate, &mut held, &mut looked);
-        worked.finished = worked
-            .finished
-            .saturating_add(desk.hand_in(rt, &mut looked));
         if found == Found::NoMemory {
             break;
         }
@@ -62,6 +60,9 @@ fn work<L: Ledger, G: Gate, R: Wait>(rt: &R, alloc: Global, desk: &Desk<L>, gate
             break;
         }
     }
+    worked.finished = worked
+        .finished
+        .saturating_add(desk.hand_in(rt, &mut looked));
     held.destroy_empty();
     looked.destroy_empty();
     worked
