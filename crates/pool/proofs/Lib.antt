@@ -3,3 +3,4 @@ pub mod Polled
 pub mod Read
 pub mod Kept
 pub mod Visiting
+pub mod Counted

@@ -1,7 +1,7 @@
 -- What a poll tells of a search is what it has come to, and the truth where it is completed.
 use Rattle.std.specs.Option.{IsSomeAnd}
 use Rattle.std.specs.Arc.{arc_value}
-use Rattle.std.proofs.Common.{◌≡◌, ◌∙◌, ℕ, List, ap, sym, subst, refl, inl, inr, Some, Option, None, option_map}
+use Rattle.std.proofs.Common.{◌≡◌, ◌∙◌, ℕ, List, ap, sym, subst, inl, inr, Some, Option, None, option_map}
 use Rattle.credential_text.specs.declared.credentials.Credential.{Credential}
 use Rattle.vaults.specs.Journal.{credentials}
 use Rattle.snapshots.specs.Snapshot.{SnapshotState}
@@ -10,7 +10,6 @@ use Rattle.search.specs.Ending.{Settled, Nothing, Yes, No, Members, Spent, Broke
 use Rattle.search.specs.Search.{SearchState}
 use Rattle.hall.specs.declared.calls.answers.Answer.{Answer}
 use Rattle.hall.specs.declared.calls.requests.Request.TheVariants as request
-use Rattle.hall.specs.declared.calls.replies.Reply.{Reply}
 use Rattle.hall.specs.declared.calls.replies.Reply.TheVariants.{Answered}
 use Rattle.hall.specs.halls.Searches.{settled_of}
 use Rattle.hall.specs.halls.Account.{answer_of}

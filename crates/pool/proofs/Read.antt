@@ -6,12 +6,12 @@ use Rattle.std.proofs.lemmas.List.Elements.{All-nil}
 use Rattle.names.specs.Name.{is_same, name_order}
 use Rattle.names.proofs.SameNames.{same_from_is_same, is_same_itself}
 use Rattle.credential_text.specs.declared.credentials.Credential.{Credential}
+use Rattle.credential_text.specs.Credential.{credential_order}
 use Rattle.rt0_rules.proofs.Elements.{find-Some}
-use Rattle.vaults.specs.Journal.{reads, granted, names_read, Vault, view}
+use Rattle.vaults.specs.Journal.{reads, granted, Vault, view}
 use Rattle.vaults.proofs.Exactness.{names_read_exact, views_of_names_read}
 use Rattle.snapshots.proofs.Views.{ordered_view}
 use Rattle.hall.specs.declared.calls.requests.Request.TheVariants as request
-use Rattle.hall.specs.declared.calls.replies.Reply.{Reply}
 use Rattle.hall.specs.declared.calls.replies.Reply.TheVariants as reply
 use Rattle.hall.specs.halls.Account.{Account, rows_in, rows_of}
 use Rattle.hall.specs.halls.State.{HallState, account_of}
@@ -26,16 +26,26 @@ module _ (h new : HallState) (who : List ℕ) where
       by (Some a) (inl is) = cc
       by (Some a) (inr lack) = let is = lack.0 in cc
 
-  -- what a vault of the view lists is its owner's
+  -- what the own vault of the view lists is its owner's, and in order
+  listed : (o : Option Vault) → find (λ (v : Vault). is_same v.owner who) (view h.journal who) ≡ o →
+      All (λ (c : Credential). c.head.owner ≡ who) (rows_in o) × IsStrictlySortedBy credential_order (rows_in o)
+  unfolding IsStrictlySortedBy
+  listed None none = (All-nil (λ (c : Credential). c.head.owner ≡ who), tt)
+  listed (Some v) found =
+      let here = find-Some (λ (v : Vault). is_same v.owner who) (view h.journal who) v found in (
+        subst (λ (n : List ℕ). All (λ (c : Credential). c.head.owner ≡ n) v.rows) (same_from_is_same v.owner who here.1) ((ordered_view h.journal who).own v here.0),
+        (ordered_view h.journal who).rows v here.0,
+      )
+
   pub vault_issued : (rows : List Credential) → IsServed h who request.Vault (reply.Vault rows) new → All (λ (c : Credential). c.head.owner ≡ who) rows
   vault_issued rows served =
-      subst (All (λ (c : Credential). c.head.owner ≡ who)) (sym (vault_told rows served)) (by (find (λ (v : Vault). is_same v.owner who) (view h.journal who)) refl)
-    where
-      by : (o : Option Vault) → find (λ (v : Vault). is_same v.owner who) (view h.journal who) ≡ o → All (λ (c : Credential). c.head.owner ≡ who) (rows_in o)
-      by None none = All-nil (λ (c : Credential). c.head.owner ≡ who)
-      by (Some v) found =
-          let here = find-Some (λ (v : Vault). is_same v.owner who) (view h.journal who) v found in
-          subst (λ (n : List ℕ). All (λ (c : Credential). c.head.owner ≡ n) v.rows) (same_from_is_same v.owner who here.1) ((ordered_view h.journal who).own v here.0)
+      subst (All (λ (c : Credential). c.head.owner ≡ who)) (sym (vault_told rows served))
+      (listed (find (λ (v : Vault). is_same v.owner who) (view h.journal who)) refl).0
+
+  pub vault_order : (rows : List Credential) → IsServed h who request.Vault (reply.Vault rows) new → IsStrictlySortedBy credential_order rows
+  vault_order rows served =
+      subst (IsStrictlySortedBy credential_order) (sym (vault_told rows served))
+      (listed (find (λ (v : Vault). is_same v.owner who) (view h.journal who)) refl).1
 
   sees_told : (names : List (List ℕ)) → IsServed h who request.Sees (reply.Sees names) new → names ≡ map (λ v. v.owner) (view h.journal who)
   sees_told names served = by (account_of h who) served.may_reply

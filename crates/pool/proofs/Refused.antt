@@ -1,5 +1,5 @@
 -- Which refusals the hall has for a change and for an opening.
-use Rattle.std.proofs.Common.{◌≡◌, ◌≢◌, ℕ, ◌+◌, Bool, true, false, cond, nat_le, not, ◌&&◌, List, sym, subst, refl, inl, inr, Option, Some, None, option_map, length}
+use Rattle.std.proofs.Common.{◌≡◌, ◌≢◌, ℕ, ◌+◌, Bool, true, false, cond, nat_le, not, ◌&&◌, List, sym, subst, inl, inr, Option, Some, None, option_map, length}
 use Rattle.std.specs.Option.{IfSome}
 use Rattle.names.specs.Name.{is_same}
 use Rattle.quotas.specs.Quota.{Quota}

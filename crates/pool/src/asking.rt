@@ -1,9 +1,10 @@
 //! What callers ask of a room for the tenant of their pass.
-ghost use Rattle.std.specs.Prelude.{◌≡◌, ◌≤◌, ◌↔◌, false, length, IfOk, IfErr, OnOk, OnErr, IsSomeAnd, Contains};
+ghost use Rattle.std.specs.Prelude.{◌≡◌, ◌<◌, ◌≤◌, ◌↔◌, false, length, IfOk, IfErr, OnOk, OnErr, IsSomeAnd, Contains};
 ghost use Rattle.std.specs.List.{All};
 ghost use Rattle.std.specs.List.Sorted.{IsStrictlySortedBy};
 ghost use Rattle.std.specs.Arc.{arc_value};
 ghost use Rattle.names.specs.Name.{name_order};
+ghost use Rattle.credential_text.specs.Credential.{credential_order};
 ghost use Rattle.search.specs.Ending.{status_of};
 ghost use Rattle.search.specs.declared.outcomes.Status.TheVariants.{Working};
 ghost use Rattle.hall.specs.declared.calls.requests.Request.TheVariants as request;
@@ -26,11 +27,13 @@ use search::Status;
 use std::sync::ledger::Ledger;
 
 impl<L: Ledger> Room<L> {
+    #[tactic(auto, using(crate::proofs::Counted::opening_numbered))]
     /// Opens a search for the pass's tenant, and answers its number with the length of the journal at its opening.
     pub(crate) fn open(&mut self, pass: &mut Pass<L>, query: Query) -> Result<Ticket, DeskFault>
         ensures served { IfTold ticket_told (λ told.
             IsServed self.old.hall pass.old.tenant (request.Seek query) told self.new.hall) result }
         ensures last { IfTold ticket_told (λ told. RefusedLast self.old.hall pass.old.tenant (request.Seek query) told) result }
+        ensures number { IfOk result (λ t. 0 < t.no) }
         ensures opened_at { IfOk result (λ t. t.opened_at ≡ length self.old.hall.journal) }
         ensures seen { OnOk result (IsSeenAt (length self.old.hall.journal) pass.old pass.new) }
         ensures refused { IfErr result (IsRefusedAt IsOpenRefusal (length self.old.hall.journal) pass.old pass.new) }
@@ -92,12 +95,13 @@ impl<L: Ledger> Room<L> {
         Ok(self.hall.end(pass.tenant(), number)?)
     }
 
-    #[tactic(auto, using(crate::proofs::Read::vault_issued))]
+    #[tactic(auto, using(crate::proofs::Read::vault_issued, crate::proofs::Read::vault_order))]
     /// The credentials that the pass's tenant issues and holds, in order.
     pub(crate) fn vault(&self, pass: &mut Pass<L>) -> Result<Rows, DeskFault>
         ensures served { IfTold rows_seen (λ told. IsServed self.now.hall pass.old.tenant request.Vault told self.now.hall) result }
         ensures last { IfTold rows_seen (λ told. RefusedLast self.now.hall pass.old.tenant request.Vault told) result }
         ensures issued { IfOk result (λ rows. All (λ c. c.head.owner ≡ pass.old.tenant) rows) }
+        ensures order { IfOk result (λ rows. IsStrictlySortedBy credential_order rows) }
         ensures seen { OnOk result (IsSeenAt (length self.now.hall.journal) pass.old pass.new) }
         ensures refused { IfErr result (IsRefusedAt IsReadRefusal (length self.now.hall.journal) pass.old pass.new) }
     {

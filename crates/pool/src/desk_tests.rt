@@ -1,4 +1,5 @@
-//! A desk while workers run: whole searches, a gate, many members, refusals and limits.
+//! A desk without workers, and while workers run: each call, whole searches, a gate, many members, refusals and limits.
+mod calls;
 mod lives;
 mod plays;
 mod rows;

@@ -4,6 +4,7 @@ ghost use Rattle.std.specs.List.Sorted.{IsStrictlySortedBy};
 ghost use Rattle.std.specs.Arc.{arc_value};
 ghost use Rattle.std.specs.Sync.Mutex.{mutex_guard_value};
 ghost use Rattle.names.specs.Name.{name_order};
+ghost use Rattle.credential_text.specs.Credential.{credential_order};
 ghost use Rattle.hall.specs.halls.State.{IsSound};
 ghost use Rattle.pool.specs.Passes.{OnlySees, shares_of};
 ghost use Rattle.pool.specs.Refusals.{IsRefused, IsChangeRefusal, IsOpenRefusal, IsPollRefusal, IsEndRefusal, IsReadRefusal};
@@ -76,6 +77,7 @@ impl<L: Ledger> Desk<L> {
         pass: &mut Pass<L>,
         change: Change,
     ) -> Result<u64, DeskFault>
+        ensures count { IfOk result (λ n. (0 < n) × (n ≤ pass.new.front)) }
         ensures told { OnOk result (pass.new.share ≡ pass.old.share + 1) }
         ensures seen { OnOk result (pass.old.front < pass.new.front) }
         ensures tenant { pass.new.tenant ≡ pass.old.tenant }
@@ -91,6 +93,7 @@ impl<L: Ledger> Desk<L> {
         pass: &mut Pass<L>,
         query: Query,
     ) -> Result<Ticket, DeskFault>
+        ensures number { IfOk result (λ t. 0 < t.no) }
         ensures opened_at { IfOk result (λ t. t.opened_at ≡ pass.new.front) }
         ensures seen { OnOk result (OnlySees pass.old pass.new) }
         ensures refused { IfErr result (IsRefused IsOpenRefusal pass.old pass.new) }
@@ -150,6 +153,7 @@ impl<L: Ledger> Desk<L> {
     /// The credentials that the tenant issues and holds, in order. Refused as 91, and then as the hall refuses.
     pub fn vault<R: Wait>(&self, rt: &R, pass: &mut Pass<L>) -> Result<Rows, DeskFault>
         ensures issued { IfOk result (λ rows. All (λ c. c.head.owner ≡ pass.old.tenant) rows) }
+        ensures order { IfOk result (λ rows. IsStrictlySortedBy credential_order rows) }
         ensures seen { OnOk result (OnlySees pass.old pass.new) }
         ensures refused { IfErr result (IsRefused IsReadRefusal pass.old pass.new) }
     {

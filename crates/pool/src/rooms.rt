@@ -1,5 +1,5 @@
 //! What lies under the lock of a desk: the hall, and the count of the changes of which passes were told.
-ghost use Rattle.std.specs.Prelude.{◌≡◌, ◌+◌, ◌<◌, ◌↔◌, true, false, [], length, vec_len, IfOk, IfErr, OnOk, OnErr};
+ghost use Rattle.std.specs.Prelude.{◌≡◌, ◌+◌, ◌<◌, ◌≤◌, ◌↔◌, true, false, [], length, vec_len, IfOk, IfErr, OnOk, OnErr};
 ghost use Rattle.hall.specs.declared.calls.requests.Request.TheVariants as request;
 ghost use Rattle.hall.specs.halls.State.{IsSound, is_tenant};
 ghost use Rattle.hall.specs.halls.Run.{IsServed, RefusedLast};
@@ -140,10 +140,12 @@ impl<L: Ledger> Room<L> {
         Ok(())
     }
 
+    #[tactic(auto, using(crate::proofs::Counted::change_counted))]
     /// Makes a change of the pass's tenant. Where the hall accepts it, the pass is told of one change more.
     pub(crate) fn change(&mut self, pass: &mut Pass<L>, change: Change) -> Result<u64, DeskFault>
         ensures served { IfTold counted (λ told. IsServed self.old.hall pass.old.tenant (request.Alter change) told self.new.hall) result }
         ensures last { IfTold counted (λ told. RefusedLast self.old.hall pass.old.tenant (request.Alter change) told) result }
+        ensures count { IfOk result (λ n. (0 < n) × (n ≤ pass.new.front)) }
         ensures told { OnOk result (pass.new ≡ record {
           tenant = pass.old.tenant;
           front = length self.new.hall.journal;

@@ -1,7 +1,7 @@
 //! Searches from their opening to their end, beside workers.
 use super::entity;
 use super::plays::{Act, Extra, Line, Scene, Told, is_query, played};
-use crate::{Desk, Pass, Verdict};
+use crate::{Desk, DeskFault, Pass, Verdict};
 use credential_text::{Credential, read_credential};
 use hall::{Answer, Query};
 use names::{Entity, Role};
@@ -49,19 +49,41 @@ fn is_yes(verdict: &Verdict, query: &Query, row: &Credential) -> Result<bool, Fa
     )
 }
 
+/// Whether the search is answered with Yes to the query, over this row, where it is waited for and then polled.
+fn is_answered<L: Ledger, R: Wait>(
+    rt: &R,
+    desk: &Desk<L>,
+    pass: &mut Pass<L>,
+    row: &Credential,
+) -> Result<bool, Fail> {
+    let query = Query::Ask(row.head, entity("D")?);
+    let waited = desk.wait(rt, pass, 1)?;
+    if matches!(waited.answer, Answer::Working | Answer::Broken) {
+        return Err(AllocError)?;
+    }
+    let polled = desk.poll(rt, pass, 1)?;
+    Ok(is_yes(&waited, &query, row)? && is_yes(&polled, &query, row)?)
+}
+
+/// Whether the tenant reads its own vault alone, with this row alone in it.
+fn reads_alone<L: Ledger, R: Wait>(
+    rt: &R,
+    desk: &Desk<L>,
+    pass: &mut Pass<L>,
+    row: &Credential,
+) -> Result<bool, DeskFault> {
+    let rows = desk.vault(rt, pass)?;
+    let names = desk.sees(rt, pass)?;
+    Ok(
+        matches!(rows.as_slice(), [only] if only.compare(row).is_eq())
+            && matches!(names.as_slice(), [only] if *only == pass.tenant()),
+    )
+}
+
 /// The second pass waits for the search, and asks all that there is to ask.
 struct WholeLife;
 
 impl Extra for WholeLife {
-    fn at_gate<L: Ledger, R: Wait + Clock>(
-        &self,
-        _rt: &R,
-        _desk: &Desk<L>,
-        _who: &Entity,
-        _search: u64,
-        _letter: u64,
-    ) {}
-
     fn look<L: Ledger, R: Wait>(
         &self,
         rt: &R,
@@ -72,23 +94,11 @@ impl Extra for WholeLife {
         let Some(pass) = passes.get_mut(1) else {
             return Ok(false);
         };
-        let d = entity("D")?;
-        let query = Query::Ask(Role::read(b"A.r")?, d);
         let row = read_credential(alloc, b"A.r <- D")?;
-        let waited = desk.wait(rt, pass, 1)?;
-        if matches!(waited.answer, Answer::Working | Answer::Broken) {
-            return Err(AllocError)?;
-        }
-        let polled = desk.poll(rt, pass, 1)?;
-        let rows = desk.vault(rt, pass)?;
-        let names = desk.sees(rt, pass)?;
-        let proof = desk.proof(rt, pass, 1, d)?;
         Ok(
-            is_yes(&waited, &query, &row)?
-                && is_yes(&polled, &query, &row)?
-                && matches!(rows.as_slice(), [only] if only.compare(&row).is_eq())
-                && matches!(names.as_slice(), [only] if *only == pass.tenant())
-                && proof.steps().len() == 2
+            is_answered(rt, desk, pass, &row)?
+                && reads_alone(rt, desk, pass, &row)?
+                && desk.proof(rt, pass, 1, entity("D")?)?.steps().len() == 2
                 && pass.front() == 1
                 && pass.share() == 0,
         )
@@ -162,6 +172,19 @@ impl Extra for Meeting {
     }
 }
 
+/// A credential, and two searches of its one member.
+const OPENED_TWICE: [Line; 3] = [
+    Line(0, Act::Put("A.r <- D"), Told::Counted(1)),
+    Line(0, Act::Ask("A.r", "D"), Told::Opened(1, 1)),
+    Line(0, Act::Ask("A.r", "D"), Told::Opened(2, 1)),
+];
+
+/// Both are waited for.
+const BOTH: [Line; 2] = [
+    Line(0, Act::Wait(1), Told::Yes),
+    Line(0, Act::Wait(2), Told::Yes),
+];
+
 #[test]
 fn two_first_letters_meet_at_the_gate(rt: HostRuntime) -> Result<(), Fail> {
     let meeting = Meeting {
@@ -172,15 +195,8 @@ fn two_first_letters_meet_at_the_gate(rt: HostRuntime) -> Result<(), Fail> {
     let scene = Scene {
         limits: Limits::usual(),
         passes: &["A"],
-        before: &[
-            OPENED[0],
-            OPENED[1],
-            Line(0, Act::Ask("A.r", "D"), Told::Opened(2, 1)),
-        ],
-        beside: &[
-            Line(0, Act::Wait(1), Told::Yes),
-            Line(0, Act::Wait(2), Told::Yes),
-        ],
+        before: &OPENED_TWICE,
+        beside: &BOTH,
         workers: 2,
     };
     let letters = played(&rt, rt.alloc(), &scene, &meeting)?;
@@ -225,6 +241,13 @@ impl Extra for EndsAtTheGate {
     }
 }
 
+/// The first search is gone, and the second one's letters are finished.
+const ENDED: [Line; 3] = [
+    Line(1, Act::Wait(1), Told::Refused(51)),
+    Line(0, Act::Ask("A.r", "D"), Told::Opened(2, 1)),
+    Line(1, Act::Wait(2), Told::Yes),
+];
+
 #[test]
 fn a_gate_that_ends_the_search_of_a_held_letter(rt: HostRuntime) -> Result<(), Fail> {
     let ending = EndsAtTheGate {
@@ -234,11 +257,7 @@ fn a_gate_that_ends_the_search_of_a_held_letter(rt: HostRuntime) -> Result<(), F
         limits: Limits::usual(),
         passes: &["A", "A"],
         before: &OPENED,
-        beside: &[
-            Line(1, Act::Wait(1), Told::Refused(51)),
-            Line(0, Act::Ask("A.r", "D"), Told::Opened(2, 1)),
-            Line(1, Act::Wait(2), Told::Yes),
-        ],
+        beside: &ENDED,
         workers: 2,
     };
     let letters = played(&rt, rt.alloc(), &scene, &ending)?;
@@ -282,16 +301,23 @@ fn are_forty(alloc: Global, names: &[Entity]) -> Result<bool, AllocError> {
     Ok(names.len() == NUMBERS.len())
 }
 
-impl Extra for FortyMembers {
-    fn at_gate<L: Ledger, R: Wait + Clock>(
-        &self,
-        _rt: &R,
-        _desk: &Desk<L>,
-        _who: &Entity,
-        _search: u64,
-        _letter: u64,
-    ) {}
+/// Whether a search of the members of `A.r` comes to the 40.
+fn has_forty<L: Ledger, R: Wait>(
+    rt: &R,
+    alloc: Global,
+    desk: &Desk<L>,
+    pass: &mut Pass<L>,
+) -> Result<bool, Fail> {
+    let ticket = desk.open(rt, pass, Query::Who(Role::read(b"A.r")?))?;
+    let waited = desk.wait(rt, pass, ticket.no)?;
+    match &waited.answer {
+        Answer::Working | Answer::Broken => Err(AllocError)?,
+        Answer::Members(names) => Ok(are_forty(alloc, names.as_slice())?),
+        _ => Ok(false),
+    }
+}
 
+impl Extra for FortyMembers {
     fn look<L: Ledger, R: Wait>(
         &self,
         rt: &R,
@@ -302,14 +328,7 @@ impl Extra for FortyMembers {
         let Some(pass) = passes.get_mut(0) else {
             return Ok(false);
         };
-        let count = upload_forty(rt, alloc, desk, pass)?;
-        let ticket = desk.open(rt, pass, Query::Who(Role::read(b"A.r")?))?;
-        let waited = desk.wait(rt, pass, ticket.no)?;
-        match &waited.answer {
-            Answer::Working | Answer::Broken => Err(AllocError)?,
-            Answer::Members(names) => Ok(count == 40 && are_forty(alloc, names.as_slice())?),
-            _ => Ok(false),
-        }
+        Ok(upload_forty(rt, alloc, desk, pass)? == 40 && has_forty(rt, alloc, desk, pass)?)
     }
 }
 

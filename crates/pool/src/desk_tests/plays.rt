@@ -3,7 +3,7 @@
 ghost use Rattle.std.specs.Prelude.{◌≡◌, [], IfOk};
 
 use super::entity;
-use crate::{Desk, DeskFault, Gate, PARTS, Pass, run_workers};
+use crate::{Desk, DeskFault, Gate, PARTS, Pass, Verdict, run_workers};
 use credential_text::read_credential;
 use hall::{Answer, Fault, Hall, Query};
 use names::{Entity, Role};
@@ -31,8 +31,6 @@ pub(super) enum Act {
     Revoke(&'static str),
     /// Is the entity a member of the role?
     Ask(&'static str, &'static str),
-    /// Who is a member of the role?
-    Who(&'static str),
     /// The search of this number is waited for, and then polled.
     Wait(u64),
     End(u64),
@@ -40,7 +38,7 @@ pub(super) enum Act {
 }
 
 /// What is told, or wanted.
-#[derive(Clone, Copy, Debug, PartialEq, Eq)]
+#[derive(Clone, Copy, PartialEq)]
 pub(super) enum Told {
     Counted(u64),
     /// The number of a search, and the length of the journal at its opening.
@@ -60,8 +58,8 @@ pub(super) enum Told {
 #[derive(Clone, Copy)]
 pub(super) struct Line(pub(super) usize, pub(super) Act, pub(super) Told);
 
-/// Lines by the passes of these tenants: some before the workers start, and some while they run. A, B and C are tenants, and
-/// `A` has these limits.
+/// Lines by the passes of these tenants: some before the workers start, and some while they run. `A`, with these limits,
+/// and `B` are tenants.
 #[derive(Clone, Copy)]
 pub(super) struct Scene<'a> {
     pub(super) limits: Limits,
@@ -76,29 +74,6 @@ pub(super) trait Extra: Sync {
     /// What a worker does at the gate.
     fn at_gate<L: Ledger, R: Wait + Clock>(
         &self,
-        rt: &R,
-        desk: &Desk<L>,
-        who: &Entity,
-        search: u64,
-        letter: u64,
-    );
-
-    /// Whether all is right after the lines, while workers still run.
-    fn look<L: Ledger, R: Wait>(
-        &self,
-        rt: &R,
-        alloc: Global,
-        desk: &Desk<L>,
-        passes: &mut Vec<Pass<L>>,
-    ) -> Result<bool, Fail>;
-}
-
-/// Nothing more.
-pub(super) struct LinesAlone;
-
-impl Extra for LinesAlone {
-    fn at_gate<L: Ledger, R: Wait + Clock>(
-        &self,
         _rt: &R,
         _desk: &Desk<L>,
         _who: &Entity,
@@ -106,6 +81,7 @@ impl Extra for LinesAlone {
         _letter: u64,
     ) {}
 
+    /// Whether all is right after the lines, while workers still run.
     fn look<L: Ledger, R: Wait>(
         &self,
         _rt: &R,
@@ -116,6 +92,11 @@ impl Extra for LinesAlone {
         Ok(true)
     }
 }
+
+/// Nothing more.
+pub(super) struct LinesAlone;
+
+impl Extra for LinesAlone {}
 
 /// The gate of a scene.
 #[derive(Drop)]
@@ -132,25 +113,13 @@ impl<L: Ledger + Send + Sync, E: Extra, R: Wait + Clock + Sync> Gate for Doorway
 }
 
 /// The change that the act stands for.
-fn change_of(alloc: Global, act: &Act) -> Result<Option<Change>, Fail> {
+fn change_of(alloc: Global, act: &Act) -> Result<Change, Fail> {
     Ok(match act {
-        Act::Put(text) => Some(Change::Upload(read_credential(alloc, text.as_bytes())?)),
-        Act::Drop(text) => Some(Change::Withdraw(read_credential(alloc, text.as_bytes())?)),
-        Act::Grant(reader) => Some(Change::Grant(entity(reader)?)),
-        Act::Revoke(reader) => Some(Change::Revoke(entity(reader)?)),
-        _ => None,
-    })
-}
-
-/// The query that the act opens.
-fn query_of(act: &Act) -> Result<Option<Query>, Fail> {
-    Ok(match act {
-        Act::Ask(role, member) => {
-            let role = Role::read(role.as_bytes())?;
-            Some(Query::Ask(role, entity(member)?))
-        }
-        Act::Who(role) => Some(Query::Who(Role::read(role.as_bytes())?)),
-        _ => None,
+        Act::Put(text) => Change::Upload(read_credential(alloc, text.as_bytes())?),
+        Act::Drop(text) => Change::Withdraw(read_credential(alloc, text.as_bytes())?),
+        Act::Grant(reader) => Change::Grant(entity(reader)?),
+        Act::Revoke(reader) => Change::Revoke(entity(reader)?),
+        _ => Err("no change")?,
     })
 }
 
@@ -183,35 +152,46 @@ pub(super) fn is_query(one: &Query, other: &Query) -> bool {
     }
 }
 
-/// What a wait for the search is told, where a poll after it is told the same.
+/// The end that a poll is told after the wait, where it is the wait's.
+fn same_end<L: Ledger, R: Wait>(
+    rt: &R,
+    desk: &Desk<L>,
+    pass: &mut Pass<L>,
+    number: u64,
+    waited: &Verdict,
+) -> Result<Told, Fail> {
+    let polled = desk.poll(rt, pass, number)?;
+    let end = end_of(&polled.answer)?;
+    if end_of(&waited.answer)? != end || !is_query(&polled.query, &waited.query) {
+        return Err("another answer after the wait")?;
+    }
+    Ok(end)
+}
+
+/// What a wait for the search is told, and a poll after it.
 fn waited<L: Ledger, R: Wait>(
     rt: &R,
     desk: &Desk<L>,
     pass: &mut Pass<L>,
     number: u64,
 ) -> Result<Told, Fail> {
-    let waited = match desk.wait(rt, pass, number) {
-        Ok(verdict) => verdict,
-        Err(fault) => return Ok(refused(fault)?),
-    };
-    let end = end_of(&waited.answer)?;
-    let polled = desk.poll(rt, pass, number)?;
-    if end_of(&polled.answer)? != end || !is_query(&polled.query, &waited.query) {
-        return Err("another answer after the wait")?;
+    match desk.wait(rt, pass, number) {
+        Ok(verdict) => same_end(rt, desk, pass, number, &verdict),
+        Err(fault) => Ok(refused(fault)?),
     }
-    Ok(end)
 }
 
 /// What the change is told.
 fn changed<L: Ledger, R: Wait>(
     rt: &R,
+    alloc: Global,
     desk: &Desk<L>,
     pass: &mut Pass<L>,
-    change: Change,
-) -> Result<Told, DeskFault> {
-    match desk.change(rt, pass, change) {
+    act: &Act,
+) -> Result<Told, Fail> {
+    match desk.change(rt, pass, change_of(alloc, act)?) {
         Ok(count) => Ok(Told::Counted(count)),
-        Err(fault) => refused(fault),
+        Err(fault) => Ok(refused(fault)?),
     }
 }
 
@@ -220,10 +200,25 @@ fn opened<L: Ledger, R: Wait>(
     rt: &R,
     desk: &Desk<L>,
     pass: &mut Pass<L>,
-    query: Query,
-) -> Result<Told, DeskFault> {
+    role: &str,
+    member: &str,
+) -> Result<Told, Fail> {
+    let query = Query::Ask(Role::read(role.as_bytes())?, entity(member)?);
     match desk.open(rt, pass, query) {
         Ok(ticket) => Ok(Told::Opened(ticket.no, ticket.opened_at)),
+        Err(fault) => Ok(refused(fault)?),
+    }
+}
+
+/// What the ending is told.
+fn ended<L: Ledger, R: Wait>(
+    rt: &R,
+    desk: &Desk<L>,
+    pass: &mut Pass<L>,
+    number: u64,
+) -> Result<Told, DeskFault> {
+    match desk.end(rt, pass, number) {
+        Ok(()) => Ok(Told::Ended),
         Err(fault) => refused(fault),
     }
 }
@@ -236,19 +231,12 @@ fn answer_to<L: Ledger, R: Wait>(
     pass: &mut Pass<L>,
     act: &Act,
 ) -> Result<Told, Fail> {
-    if let Some(change) = change_of(alloc, act)? {
-        return Ok(changed(rt, desk, pass, change)?);
-    }
-    if let Some(query) = query_of(act)? {
-        return Ok(opened(rt, desk, pass, query)?);
-    }
     match act {
+        Act::Ask(role, member) => opened(rt, desk, pass, role, member),
         Act::Wait(number) => waited(rt, desk, pass, *number),
-        Act::End(number) => match desk.end(rt, pass, *number) {
-            Ok(()) => Ok(Told::Ended),
-            Err(fault) => Ok(refused(fault)?),
-        },
-        _ => Ok(Told::Rows(desk.vault(rt, pass)?.as_slice().len())),
+        Act::End(number) => Ok(ended(rt, desk, pass, *number)?),
+        Act::Vault => Ok(Told::Rows(desk.vault(rt, pass)?.as_slice().len())),
+        _ => changed(rt, alloc, desk, pass, act),
     }
 }
 
@@ -271,32 +259,44 @@ fn are_told<L: Ledger, R: Wait>(
     Ok(true)
 }
 
+/// How many changes the passes were told.
+fn told_to<L: Ledger>(passes: &[Pass<L>]) -> u64 {
+    let mut told = 0u64;
+    for pass in passes {
+        told = told.saturating_add(pass.share());
+    }
+    told
+}
+
+/// The passes, which come back since another is out.
+pub(super) fn come_back<L: Ledger, R: Wait>(
+    rt: &R,
+    desk: &Desk<L>,
+    passes: Vec<Pass<L>>,
+) -> Result<Vec<Pass<L>>, Fail> {
+    let count = passes.len();
+    match desk.gather(rt, passes) {
+        Err((DeskFault::PassesOut, passes)) if passes.len() == count => Ok(passes),
+        _ => Err("gathered while a pass is out")?,
+    }
+}
+
 /// Whether the passes are taken back only where all are there, and were told of each change once.
 fn are_gathered<L: Ledger, R: Wait>(
     rt: &R,
     desk: &Desk<L>,
     mut passes: Vec<Pass<L>>,
 ) -> Result<bool, Fail> {
-    let mut told = 0u64;
-    for pass in &passes {
-        told = told.saturating_add(pass.share());
-    }
+    let told = told_to(&passes);
     let Some(last) = passes.pop() else {
         return Ok(false);
     };
-    let kept = passes.len();
-    let (fault, mut passes) = match desk.gather(rt, passes) {
-        Ok(_) => return Ok(false),
-        Err(refused) => refused,
-    };
-    if fault != DeskFault::PassesOut || passes.len() != kept {
-        return Ok(false);
-    }
+    let mut passes = come_back(rt, desk, passes)?;
     passes.push(last)?;
-    let Ok(gathered) = desk.gather(rt, passes) else {
-        return Ok(false);
-    };
-    Ok(gathered.length == told && gathered.left == 0)
+    match desk.gather(rt, passes) {
+        Ok(gathered) => Ok(gathered.length == told && gathered.left == 0),
+        Err(_) => Ok(false),
+    }
 }
 
 /// A pass for each name.
@@ -377,6 +377,20 @@ fn staged<L: Ledger + Send + Sync, E: Extra, R: Threads + Wait + Clock + Sync>(
     })
 }
 
+/// The passes of the scene, after the lines before the workers.
+fn begun<L: Ledger, R: Wait>(
+    rt: &R,
+    alloc: Global,
+    desk: &Desk<L>,
+    scene: &Scene<'_>,
+) -> Result<Vec<Pass<L>>, Fail> {
+    let mut passes = passes_of(rt, alloc, desk, scene.passes)?;
+    if !are_told(rt, alloc, desk, &mut passes, scene.before)? {
+        return Err("a wrong answer before the workers")?;
+    }
+    Ok(passes)
+}
+
 /// Plays the scene on a desk over the hall, and answers how many letters the workers finished.
 fn on_desk<L: Ledger + Send + Sync, E: Extra, R: Threads + Wait + Clock + Sync>(
     rt: &R,
@@ -392,25 +406,21 @@ fn on_desk<L: Ledger + Send + Sync, E: Extra, R: Threads + Wait + Clock + Sync>(
     requires room { blank.parts ≡ PARTS }
 {
     let desk = Desk::<L>::make(hall, blank);
-    let mut passes = passes_of(rt, alloc, &desk, scene.passes)?;
-    if !are_told(rt, alloc, &desk, &mut passes, scene.before)? {
-        return Err("a wrong answer before the workers")?;
-    }
+    let passes = begun(rt, alloc, &desk, scene)?;
     staged(rt, alloc, &desk, passes, scene.workers, scene.beside, extra)
 }
 
-/// The hall of A, with these limits, B and C.
-fn hall_of_three(alloc: Global, limits: Limits) -> Result<Hall, Fail>
+/// The hall of A, with these limits, and B.
+pub(super) fn hall_of_two(alloc: Global, limits: Limits) -> Result<Hall, Fail>
     ensures { IfOk result (λ h. h.journal ≡ []) }
 {
-    let (a, b, c) = (entity("A")?, entity("B")?, entity("C")?);
-    if a == b || a == c || b == c {
+    let (a, b) = (entity("A")?, entity("B")?);
+    if a == b {
         return Err("two names that are one")?;
     }
     let mut roster = Vec::new(alloc);
     roster.push((a, limits))?;
     roster.push((b, Limits::usual()))?;
-    roster.push((c, Limits::usual()))?;
     Ok(Hall::make(alloc, roster)?)
 }
 
@@ -421,6 +431,6 @@ pub(super) fn played<E: Extra, R: Threads + Wait + Clock + Sync>(
     scene: &Scene<'_>,
     extra: &E,
 ) -> Result<u64, Fail> {
-    let hall = hall_of_three(alloc, scene.limits)?;
+    let hall = hall_of_two(alloc, scene.limits)?;
     on_desk::<Brand, _, _>(rt, alloc, hall, Blank::new(PARTS), scene, extra)
 }
