@@ -143,3 +143,6 @@ fn take_turn<L: Ledger, R: Wait, I: Read + Drop>(
         NextLine::Fault => Turn::Fault,
     }
 }
+
+#[cfg(test)]
+mod tests;
