@@ -9,6 +9,7 @@ pub mod RosterSteps
 pub mod ReplyLemmas
 pub mod WordsLemmas
 pub mod WrittenLemmas
+pub mod ServedLemmas
 pub mod OutcomeLemmas
 pub mod PrintedLemmas
 pub mod SaidLemmas

@@ -13,6 +13,7 @@ pub mod SessionReply
 pub mod Session
 pub mod SessionTurn
 pub mod SessionWritten
+pub mod Served
 pub mod RosterReading
 pub mod Isolation
 pub mod Laws

@@ -3,7 +3,7 @@ use Rattle.std.specs.Prelude.{◌≡◌, ℕ, List, [], Option, None, Some}
 use Rattle.pool.specs.Passes.{PassState}
 use Rattle.service.specs.declared.sessions.Turn.{Turn}
 use Rattle.service.specs.declared.sessions.Turn.TheVariants.{Blank, Replied, Quit, End, Fault}
-use Rattle.service.specs.Line.{Line, text}
+use Rattle.service.specs.Line.{Line}
 use Rattle.service.specs.LineReader.{Source, TakesFirst, TakesBlank}
 use Rattle.service.specs.Roster.{Row}
 use Rattle.service.specs.Session.{Phase, new, of_tenant, ended, IsAnswer}

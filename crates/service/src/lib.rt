@@ -4,6 +4,7 @@
 mod answers;
 mod arguments;
 mod commands;
+mod connections;
 mod digits;
 #[cfg(test)]
 mod fakes;
@@ -18,6 +19,8 @@ mod roster_lines;
 mod rosters;
 mod script_faults;
 mod scripts;
+mod serve_faults;
+mod serving;
 mod session_answers;
 mod session_commands;
 mod session_lines;
@@ -35,4 +38,6 @@ pub use lines::{LINE_ROOM, LineReader, NextLine};
 pub use rosters::Roster;
 pub use script_faults::ScriptFault;
 pub use scripts::run_script;
+pub use serve_faults::ServeFault;
+pub use serving::{ServeOptions, serve};
 pub use sessions::{SessionEnd, serve_session};

@@ -67,9 +67,9 @@ fn fill_text(room: &mut Room, who: &Speaker, text: &[u8])
     room.append(b"\n");
 }
 
-/// A word and a number.
-fn fill_counted(room: &mut Room, who: &Speaker, word: &[u8], number: u64)
-    requires word { length word.now ≤ 8 }
+/// Fills the room with a few words and a number. It takes no memory.
+pub(crate) fn fill_counted(room: &mut Room, who: &Speaker, word: &[u8], number: u64)
+    requires word { length word.now ≤ 20 }
     ensures { room.new ≡ line_after (front_of who.now) (word.now ++ decimal number) }
 {
     room.begin(who);

@@ -1,0 +1,179 @@
+//! The service: connections that are answered, and the workers beside them.
+ghost use Rattle.std.specs.Prelude.{◌≡◌, ◌≢◌, ◌≤◌, ◌<◌, ◌^◌, Some, [], IfOk, IfErr, OnOk, OnErr};
+ghost use Rattle.std.specs.Io.KnownBytes.{Appends};
+ghost use Rattle.service.specs.declared.serve_faults.ServeFault.TheVariants as fault;
+ghost use Rattle.service.specs.Served.{Answered, ServeWrote, listening_line, served_line};
+ghost use Rattle.service.specs.Written.{WritesFront};
+
+use crate::connections::answer_connections;
+use crate::reply_lines::fill_counted;
+use crate::rooms::Room;
+use crate::rosters::Roster;
+use crate::serve_faults::ServeFault;
+use crate::speakers::Speaker;
+use crate::writing::{WriteFault, write_reply};
+use hall::Hall;
+use pool::{Desk, DeskFault, NoGate, PARTS, run_workers};
+use std::alloc::Global;
+use std::io::Write;
+use std::marker::Brand;
+use std::net::TcpListener;
+use std::sync::Wait;
+use std::sync::ledger::{Blank, Ledger};
+use std::thread;
+use std::thread::Threads;
+
+/// How many threads a service has, and when it ends.
+#[derive(Clone, Copy, Debug, PartialEq, Eq)]
+pub struct ServeOptions {
+    /// How many workers go on with the searches, 1 to 64.
+    pub workers: u64,
+    /// How many connections are answered at once, 1 to 64. Further ones wait.
+    pub sessions: u64,
+    /// After how many connections the service ends. Without a number it goes on.
+    pub accept: Option<u64>,
+}
+
+/// Serves the roster's tenants, who have done nothing yet, to the peers that connect to the listener. Once the listener's
+/// port is known a line tells it. After the last connection has been answered another line tells how many there were. On a
+/// fault nothing more is accepted, waits for searches end, and it is told once the sessions that are open have ended. Where
+/// memory was refused to all workers, waits end too and the sessions go on; that is told at the end.
+pub fn serve<R: Threads + Wait + Sync, W: Write>(
+    rt: &R,
+    alloc: Global,
+    roster: &Roster,
+    listener: &TcpListener,
+    options: ServeOptions,
+    writer: &mut W,
+) -> Result<u64, ServeFault>
+    requires workers { (1 ≤ options.workers) × (options.workers ≤ 64) }
+    requires sessions { (1 ≤ options.sessions) × (options.sessions ≤ 64) }
+    ensures count { IfOk result (λ n. options.accept ≡ Some n) }
+    ensures wrote { ServeWrote options.accept result (Appends (W.contents writer.old) (W.contents writer.new)) }
+{
+    let mut line = Room::make(alloc)?;
+    let Ok(hall) = roster.hall(alloc) else {
+        return Err(ServeFault::Memory);
+    };
+    let Ok(address) = listener.local_addr() else {
+        return Err(ServeFault::Socket);
+    };
+    tell_port(writer, &mut line, address.port())?;
+    let count = serve_hall::<Brand, R>(
+        rt,
+        alloc,
+        hall,
+        Blank::new(PARTS),
+        roster,
+        listener,
+        options,
+    )?;
+    tell_count(writer, &mut line, count)?;
+    Ok(count)
+}
+
+/// Writes the line that tells where the service listens.
+fn tell_port<W: Write>(writer: &mut W, line: &mut Room, port: u16) -> Result<(), WriteFault>
+    ensures ok { OnOk result (Appends (W.contents writer.old) (W.contents writer.new) (listening_line port)) }
+    ensures err { OnErr result (WritesFront (W.contents writer.old) (W.contents writer.new) (listening_line port)) }
+    ensures fits { port < 2 ^ 16 }
+{
+    fill_counted(
+        line,
+        &Speaker::Peer,
+        b"listening 127.0.0.1:",
+        u64::from(port),
+    );
+    write_reply(writer, line.as_slice())
+}
+
+/// Writes the line that tells how many connections were answered.
+fn tell_count<W: Write>(writer: &mut W, line: &mut Room, count: u64) -> Result<(), WriteFault>
+    ensures ok { OnOk result (Appends (W.contents writer.old) (W.contents writer.new) (served_line count)) }
+    ensures err { OnErr result (WritesFront (W.contents writer.old) (W.contents writer.new) (served_line count)) }
+{
+    fill_counted(line, &Speaker::Peer, b"served ", count);
+    write_reply(writer, line.as_slice())
+}
+
+/// Serves at a new desk of the hall, whose ledger has this name.
+fn serve_hall<L: Ledger + Send + Sync, R: Threads + Wait + Sync>(
+    rt: &R,
+    alloc: Global,
+    hall: Hall,
+    blank: Blank,
+    roster: &Roster,
+    listener: &TcpListener,
+    options: ServeOptions,
+) -> Result<u64, ServeFault>
+    requires empty { hall.journal ≡ [] }
+    requires name { blank.name ≡ L.name }
+    requires parts { blank.parts ≡ L.parts }
+    requires room { blank.parts ≡ PARTS }
+    requires sessions { (1 ≤ options.sessions) × (options.sessions ≤ 64) }
+    ensures { Answered options.accept result }
+{
+    let desk = Desk::<L>::make(hall, blank);
+    answer_beside_workers(rt, alloc, &desk, roster, listener, options)
+}
+
+/// Runs the workers while the connections are answered.
+fn answer_beside_workers<L: Ledger + Send + Sync, R: Threads + Wait + Sync>(
+    rt: &R,
+    alloc: Global,
+    desk: &Desk<L>,
+    roster: &Roster,
+    listener: &TcpListener,
+    options: ServeOptions,
+) -> Result<u64, ServeFault>
+    requires { (1 ≤ options.sessions) × (options.sessions ≤ 64) }
+    ensures { Answered options.accept result }
+{
+    let ServeOptions {
+        workers,
+        sessions,
+        accept,
+    } = options;
+    thread::scope(
+        thread::scope_env(),
+        rt,
+        |scope| -> Result<u64, ServeFault>
+            requires { (1 ≤ sessions) × (sessions ≤ 64) }
+            ensures { Answered accept result }
+        {
+            let Ok(working) = scope.spawn(move || work(rt, alloc, desk, workers)) else {
+                return Err(ServeFault::NoThread);
+            };
+            let answered = answer_connections(rt, alloc, desk, roster, listener, sessions, accept);
+            desk.stop(rt);
+            let worked = working.join(rt);
+            let count = answered?;
+            worked_well(worked)?;
+            Ok(count)
+        },
+    )
+}
+
+/// Runs 1 to 64 workers until the desk is stopped. Where all of them end sooner, for want of memory, nobody goes on with
+/// the searches: then it stops the desk itself, so that no session waits for one.
+fn work<L: Ledger + Send + Sync, R: Threads + Wait + Sync>(
+    rt: &R,
+    alloc: Global,
+    desk: &Desk<L>,
+    workers: u64,
+) -> Result<u64, DeskFault> {
+    let worked = run_workers(rt, alloc, desk, workers.clamp(1, 64), &NoGate);
+    desk.stop(rt);
+    worked
+}
+
+/// The fault of the workers, if there was one.
+fn worked_well(worked: Result<u64, DeskFault>) -> Result<(), ServeFault>
+    ensures { IfErr result (λ why. why ≢ fault.Write) }
+{
+    match worked {
+        Ok(_letters) => Ok(()),
+        Err(DeskFault::NoThread) => Err(ServeFault::NoThread),
+        Err(_fault) => Err(ServeFault::Memory),
+    }
+}
