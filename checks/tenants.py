@@ -10,7 +10,7 @@ TEXTS = {
     22: "head", 23: "empty body", 24: "too many dots", 25: "link base", 26: "parts", 27: "credential too long",
     31: "not issuer", 32: "already held", 33: "not held", 34: "already granted", 35: "not granted", 36: "grant self",
     41: "creds limit", 42: "grants limit", 43: "searches limit", 44: "changes limit", 45: "opens limit",
-    51: "no such search", 52: "not done", 53: "no proof", 62: "bad hello", 63: "roster", 64: "command",
+    51: "no such search", 52: "not done", 53: "no proof", 61: "no hello", 62: "bad hello", 63: "roster", 64: "command",
     65: "line too long", 66: "not ascii",
 }  # fmt: skip
 USUAL = [1000, 100, 16, 10000, 10000, 1000000]

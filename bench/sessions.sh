@@ -1,0 +1,65 @@
+#!/usr/bin/env bash
+# How many requests sessions answer in a second, over 1 and over 64 connections at once: of a search that isn't there, which
+# touches no vault, and of searches that are opened, waited for and ended; each line sent once the one before it is answered,
+# and 16 rounds of them sent at once. Beside each what a bare echo loop gives to the same client over the same sockets.
+#
+# Prints the requests in a second and the microseconds of processor time that the server took for one, of the program and of
+# the echo. Each figure is the median of so many runs as the first argument says (3); the second is the number of workers
+# (4). It needs a C compiler.
+. "$(dirname "$0")/common.sh"
+
+runs=${1:-3}
+workers=${2:-4}
+program=$(built_program)
+TIMEFORMAT='%U %S'
+for part in client echo; do
+    cc -O2 -pthread -o "$work/$part" "$root/bench/sessions/$part.c"
+done
+awk 'BEGIN {
+    for (tenant = 1; tenant <= 64; tenant++) print "tenant T" tenant " word 1000 100 16 10000 1000000000 1000000"
+    print "begin"
+}' > "$work/roster"
+
+# server KIND CONNECTIONS: the program or the echo for so many connections, with its processor time behind it.
+server() {
+    if [ "$1" = echo ]; then
+        time "$work/echo" "$2"
+    else
+        time "$program" serve --workers "$workers" --sessions 64 --accept "$2" < "$work/roster"
+    fi
+}
+
+# once KIND CONNECTIONS ROUNDS AHEAD ASKED: the requests in a second, and the nanoseconds of processor time of one.
+once() {
+    local port lines=1
+    [ "$5" = poll ] || lines=3
+    rm -f "$work/said"
+    mkfifo "$work/said"
+    server "$1" "$2" > "$work/said" 2> "$work/worked" &
+    exec 3< "$work/said"
+    read -r port <&3
+    "$work/client" "${port##*:}" "$2" "$3" "$4" "$5" > "$work/lasted"
+    cat <&3 > "$work/rest"
+    wait
+    awk -v requests="$(($2 * $3 * lines))" -v lasted="$(cat "$work/lasted")" '
+        { printf "%d %d\n", requests * 1e9 / lasted, ($1 + $2) * 1e9 / requests }' "$work/worked"
+}
+
+# row CONNECTIONS ROUNDS AHEAD ASKED WHAT
+row() {
+    local of_program of_echo
+    of_program=$(medians "$runs" once program "$1" "$2" "$3" "$4")
+    of_echo=$(medians "$runs" once echo "$1" "$2" "$3" "$4")
+    # shellcheck disable=SC2086
+    echo $of_program $of_echo | awk -v connections="$1" -v what="$5" '
+        { printf "%-34s %11d %14d %8.1f %14d %8.1f\n", what, connections, $1, $2 / 1000, $3, $4 / 1000 }'
+}
+
+printf '%-34s %11s %14s %8s %14s %8s\n' requests connections 'a second' 'us each' 'echoed/second' 'us each'
+for connections in 1 64; do
+    rounds=$((connections == 1 ? 30000 : 2000))
+    row "$connections" "$rounds" 0 poll 'poll, one by one'
+    row "$connections" "$((3 * rounds))" 16 poll 'poll, 16 at once'
+    row "$connections" "$((rounds / 3))" 0 ask 'ask, wait and end, one by one'
+    row "$connections" "$((rounds / 3))" 16 ask 'ask, wait and end, 48 at once'
+done
