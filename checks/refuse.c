@@ -6,18 +6,22 @@
 #include <stdio.h>
 #include <string.h>
 #include <errno.h>
+#include <sys/syscall.h>
 extern void *__libc_malloc(size_t);
 extern void *__libc_realloc(void *, size_t);
 extern void *__libc_calloc(size_t, size_t);
 extern void *__libc_memalign(size_t, size_t);
-static long wanted = -1, made = 0;
+static long wanted = -1;
+static _Atomic long made = 0;
 __attribute__((constructor)) static void begin(void) { const char *n = getenv("REFUSE"); wanted = n ? atol(n) : 0; made = 0; }
 __attribute__((destructor)) static void end(void) {
     const char *to = getenv("REFUSE_COUNT");
     wanted = -1;
     if (to) { FILE *f = fopen(to, "w"); if (f) { fprintf(f, "%ld\n", made); fclose(f); } }
 }
-static int refused(void) { if (wanted < 0) return 0; made++; if (made == wanted) { errno = ENOMEM; return 1; } return 0; }
+// A program with threads ends by this call, and runs no destructors.
+void _exit(int status) { end(); syscall(SYS_exit_group, status); __builtin_unreachable(); }
+static int refused(void) { if (wanted >= 0 && ++made == wanted) { errno = ENOMEM; return 1; } return 0; }
 void *malloc(size_t n) { return refused() ? NULL : __libc_malloc(n); }
 void *calloc(size_t n, size_t m) { return refused() ? NULL : __libc_calloc(n, m); }
 void *realloc(void *p, size_t n) { return refused() ? NULL : __libc_realloc(p, n); }
