@@ -12,7 +12,7 @@
 - Waits and polls: a session that waits for a long search while another session of its tenant ends it, and one that polls.
 - Cut sessions: a session is cut after each of its bytes, once by a peer that has said its last and reads on, once by a reset.
 - A peer that never reads: its own session alone stands still, and goes on when it reads.
-- A line of 100 MB: refused, and the server takes no more memory for it.
+- A line of 100 MB: refused, and the most memory that the server had grows by less than 8 MB.
 - Endings: what the server prints, and its status, after its last connection and where it can't begin.
 
 It prints what it did, and ends with status 1 at the first difference. It isn't part of ./check."""
@@ -221,7 +221,7 @@ def long_lines(size=100_000_000):
                 peer.send(piece)
             want(peer.rest(), b"error 65 line too long\n", "a long line that has no end")
         grown = server.most_memory() - before
-        if grown > 1024:
+        if grown > 8192:
             raise Wrong(f"the server took {grown} kB for long lines")
     print(f"two lines of {size} bytes: refused, and the server's most memory, {before} kB before, grew by {grown} kB")
 
