@@ -16,7 +16,7 @@ lay_out() {
     mkdir -p "$work/crates/$program/src"
     cp "$root/bench/$program/main.rt.txt" "$work/crates/$program/src/main.rt"
     for library in "$@"; do
-        grep "^$library:" "$root/crates.txt" >> "$work/crates.txt" || continue
+        grep "^$library[ :]" "$root/crates.txt" >> "$work/crates.txt" || continue
         cp -R "$root/crates/$library" "$work/crates/$library"
     done
     for proof in "$root/bench/$program"/*.antt.txt; do
