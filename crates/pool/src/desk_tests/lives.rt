@@ -160,16 +160,6 @@ impl Extra for Meeting {
             self.left.store(true, Ordering::SeqCst);
         }
     }
-
-    fn look<L: Ledger, R: Wait>(
-        &self,
-        _rt: &R,
-        _alloc: Global,
-        _desk: &Desk<L>,
-        _passes: &mut Vec<Pass<L>>,
-    ) -> Result<bool, Fail> {
-        Ok(!self.left.load(Ordering::SeqCst))
-    }
 }
 
 /// A credential, and two searches of its one member.
@@ -200,6 +190,7 @@ fn two_first_letters_meet_at_the_gate(rt: HostRuntime) -> Result<(), Fail> {
         workers: 2,
     };
     let letters = played(&rt, rt.alloc(), &scene, &meeting)?;
+    assert!(rt; !meeting.left.load(Ordering::SeqCst));
     assert_eq!(rt; letters, 6);
     Ok(())
 }
