@@ -1,1 +1,3 @@
 pub mod CommandLine
+pub mod Serving
+pub mod Running

@@ -1,26 +1,118 @@
-ghost use Rattle.std.specs.Prelude.{◌≡◌, ℕ, List, [], ◌∷◌, codes, map, IfErr, OnOk};
-ghost use Rattle.clap.specs.Words.{kind_of};
-ghost use Rattle.rtsearch.specs.CommandLine.{AsksForScript, IsCommandLine};
+ghost use Rattle.std.specs.Prelude.{◌≡◌, ◌≤◌, ℕ, List, [], ◌∷◌, codes, map, false, IfOk, IfErr, OnOk};
+ghost use Rattle.clap.specs.Words.{app_of, kind_of, found_of, one_text, rule_of, subcommand_rows_of};
+ghost use Rattle.rtsearch.specs.CommandLine.{AsksForScript, IsCommandLine, program, serve_command, number_rule, entered, IsGiven, Asks};
 
+use clap::builder::ValueParser;
 use clap::error::ErrorKind;
-use clap::{ArgMatches, Command, Error};
-use std::alloc::Global;
+use clap::{Arg, ArgMatches, Command, Error, value_parser};
+use service::ServeOptions;
+use std::alloc::{AllocError, Global};
 
 /// What `--version` shows.
 const VERSION: &str = "0.1.0";
 
-/// Reads the words of the command line, the program's name first. The one subcommand is `script`.
-pub fn read_words<'a>(alloc: Global, words: &'a [&'a str]) -> Result<ArgMatches<'a>, Error>
+/// How many workers there are where the command line doesn't say.
+const WORKERS: u64 = 4;
+
+/// How many sessions there are where the command line doesn't say.
+const SESSIONS: u64 = 8;
+
+/// What a command line asks for.
+#[derive(Clone, Copy, Debug, PartialEq, Eq)]
+pub enum Errand {
+    /// To run a script.
+    Script,
+    /// To serve connections at this port, or at any free one where it is 0.
+    Serve(u16, ServeOptions),
+}
+
+/// Reads the words of the command line, the program's name first.
+pub fn read_words<'a>(alloc: Global, words: &'a [&'a str]) -> Result<Errand, Error>
     ensures script { IfErr result (λ e. AsksForScript (map (λ w. w.now) words.now) → kind_of e ≡ ErrorKind.OutOfMemory) }
     ensures accepted { OnOk result (IsCommandLine (map (λ w. w.now) words.now)) }
+    ensures errand { IfOk result (Asks (entered (map (λ w. w.now) words.now))) }
+{
+    let program = program_line(alloc)?;
+    let matches = program.try_get_matches_from(words)?;
+    Ok(errand_of(&matches))
+}
+
+/// The program's command line.
+fn program_line<'a>(alloc: Global) -> Result<Command<'a>, AllocError>
+    ensures { IfOk result (λ c. app_of c ≡ program) }
 {
     let script = Command::new(alloc, "script").about(
         "Reads a roster and commands on standard input, and writes one reply to each",
     );
-    let program = Command::new(alloc, "rtsearch")
+    let serve = serve_line(alloc)?;
+    Command::new(alloc, "rtsearch")
         .about("Answers membership questions over RT0 credentials")
         .version(VERSION)
         .subcommand_required(true)
-        .subcommand(script)?;
-    program.try_get_matches_from(words)
+        .subcommand(script)?
+        .subcommand(serve)
+}
+
+/// The command line of `serve`, after that word.
+fn serve_line<'a>(alloc: Global) -> Result<Command<'a>, AllocError>
+    ensures { IfOk result (λ c. app_of c ≡ serve_command) }
+{
+    let threads = value_parser!(u64).range(1..=64);
+    let connections = value_parser!(u64).range(1..=1_000_000);
+    let port = "The port on 127.0.0.1, 0 for any that is free";
+    let workers = "How many threads go on with the searches";
+    let sessions = "How many connections are answered at once";
+    let accept = "Ends after so many connections";
+    Command::new(alloc, "serve")
+        .about("Reads a roster on standard input, and serves its tenants on 127.0.0.1")
+        .arg(number_option(alloc, "port", port, value_parser!(u16)).default_value("0"))?
+        .arg(number_option(alloc, "workers", workers, threads).default_value("4"))?
+        .arg(number_option(alloc, "sessions", sessions, threads).default_value("8"))?
+        .arg(number_option(alloc, "accept", accept, connections))
+}
+
+/// An option of this name, whose value is a number that passes this test.
+fn number_option<'a>(alloc: Global, name: &'a str, help: &'a str, test: ValueParser<'a>) -> Arg<'a>
+    ensures rule { rule_of result ≡ number_rule name.entry.now test.entry }
+    ensures local { result.global ≡ false }
+{
+    Arg::new(alloc, name)
+        .long(name)
+        .help(help)
+        .value_parser(test)
+}
+
+/// What the words ask for, by what was found in them.
+fn errand_of(matches: &ArgMatches<'_>) -> Errand
+    ensures { Asks (subcommand_rows_of matches.now) result }
+{
+    match matches.subcommand_matches("serve") {
+        Some(serve) => Errand::Serve(port_of(serve), options_of(serve)),
+        None => Errand::Script,
+    }
+}
+
+/// The port to serve at.
+fn port_of(serve: &ArgMatches<'_>) -> u16 {
+    serve.get_one::<u16>("port").unwrap_or(0)
+}
+
+/// How many threads the service has, and after how many connections it ends.
+fn options_of(serve: &ArgMatches<'_>) -> ServeOptions
+    ensures workers { (1 ≤ result.workers) × (result.workers ≤ 64) }
+    ensures sessions { (1 ≤ result.sessions) × (result.sessions ≤ 64) }
+    ensures accept { IsGiven (one_text (found_of serve.now) (codes "accept")) result.accept }
+{
+    ServeOptions {
+        workers: threads(serve, "workers", WORKERS),
+        sessions: threads(serve, "sessions", SESSIONS),
+        accept: serve.get_one::<u64>("accept"),
+    }
+}
+
+/// How many threads an option asks for. The command line lets no number through that isn't 1 to 64.
+fn threads(serve: &ArgMatches<'_>, option: &str, usual: u64) -> u64
+    ensures { (1 ≤ result) × (result ≤ 64) }
+{
+    serve.get_one::<u64>(option).unwrap_or(usual).clamp(1, 64)
 }

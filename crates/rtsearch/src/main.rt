@@ -1,19 +1,31 @@
-//! The program: `rtsearch script` reads a roster and commands on standard input, and writes one reply to each.
+//! The program: `rtsearch script` reads a roster and commands on standard input, and writes one reply to each;
+//! `rtsearch serve` reads a roster there, and answers its tenants over TCP.
 #![tactic(auto)]
 
 mod command_line;
 mod ending;
 mod running;
+mod serving;
 #[cfg(test)]
 mod tests;
 
 use crate::ending::end_with;
 use crate::running::run_words;
+use std::alloc::AllocGlobal;
+use std::env::Env;
+use std::io::{Read, Write};
+use std::net::{Net, TcpListener, TcpStream};
 use std::process::ExitCode;
+use std::sync::Wait;
+use std::thread::Threads;
 use std::{env, io};
 
-/// Runs the program over its own words and standard streams, and answers its status.
-fn run(rt: &HostRuntime) -> io::Result<u8> {
+/// Runs the program over its own words and these streams, and answers its status.
+fn run<
+    H: Env + AllocGlobal + Net<Listener = TcpListener, Stream = TcpStream> + Threads + Wait + Sync,
+    R: Read + Drop,
+    W: Write,
+>(rt: &H, reader: &mut R, writer: &mut W) -> io::Result<u8> {
     let mut words = Vec::new(rt.alloc());
     for word in env::args(rt)? {
         words.push(word)?;
@@ -22,14 +34,10 @@ fn run(rt: &HostRuntime) -> io::Result<u8> {
     for word in &words {
         texts.push(word.as_str())?;
     }
-    Ok(run_words(
-        rt.alloc(),
-        texts.as_slice(),
-        &mut rt.stdin(),
-        &mut rt.stdout(),
-    ))
+    Ok(run_words(rt, rt.alloc(), texts.as_slice(), reader, writer))
 }
 
 fn main(rt: HostRuntime) -> ExitCode {
-    end_with(run(&rt), &mut rt.stdout())
+    let told = run(&rt, &mut rt.stdin(), &mut rt.stdout());
+    end_with(told, &mut rt.stdout())
 }

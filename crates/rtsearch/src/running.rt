@@ -3,29 +3,32 @@ ghost use Rattle.std.specs.Io.KnownBytes.{Appends};
 ghost use Rattle.service.specs.Line.{commands_of};
 ghost use Rattle.service.specs.Written.{ScriptWrote};
 ghost use Rattle.service.specs.declared.script_faults.ScriptFault.{ScriptFault};
-ghost use Rattle.rtsearch.specs.CommandLine.{AsksForScript, IsCommandLine};
+ghost use Rattle.rtsearch.specs.CommandLine.{AsksForScript, IsCommandLine, entered};
+ghost use Rattle.rtsearch.specs.Running.{Ran, Failed};
 
-use crate::command_line::read_words;
+use crate::command_line::{Errand, read_words};
+use crate::serving::run_service;
 use clap::error::ErrorKind;
 use service::run_script;
 use std::alloc::Global;
 use std::io::{Read, Write};
+use std::net::{Net, TcpListener, TcpStream};
+use std::sync::Wait;
+use std::thread::Threads;
 
 /// Does what the words of the command line ask for, the program's name first, and answers the status of the program:
-/// 0 where all input was read and answered, 1 on a fault of the roster, of reading, of writing or of memory, 2 where
-/// the command line is refused, whose text goes to the writer, and nothing is read. `--help` and `--version` are among
-/// those.
-pub fn run_words<R: Read + Drop, W: Write>(
-    alloc: Global,
-    words: &[&str],
-    reader: &mut R,
-    writer: &mut W,
-) -> u8
+/// 0 where all input was read and answered, or all connections were served; 1 on a fault of the roster, of reading, of
+/// writing, of a socket, of a thread or of memory; 2 where the command line is refused, whose text goes to the writer,
+/// and nothing is read. `--help` and `--version` are among those.
+pub fn run_words<
+    H: Net<Listener = TcpListener, Stream = TcpStream> + Threads + Wait + Sync,
+    R: Read + Drop,
+    W: Write,
+>(rt: &H, alloc: Global, words: &[&str], reader: &mut R, writer: &mut W) -> u8
     ensures ran { result ≡ 0 → IfSome (R.remaining reader.old)
-        (λ input. ScriptWrote (commands_of input) (Ok tt) (Appends (W.contents writer.old) (W.contents writer.new))) }
+        (λ input. Ran (entered (map (λ w. w.now) words.now)) (commands_of input) (Appends (W.contents writer.old) (W.contents writer.new))) }
     ensures failed { result ≡ 1 → IfSome (R.remaining reader.old)
-        (λ input. (fault : ScriptFault) × ScriptWrote (commands_of input) (Err fault)
-        (Appends (W.contents writer.old) (W.contents writer.new))) }
+        (λ input. Failed (entered (map (λ w. w.now) words.now)) (commands_of input) (Appends (W.contents writer.old) (W.contents writer.new))) }
     ensures script { AsksForScript (map (λ w. w.now) words.now) → result ≤ 1 }
     ensures accepted { result ≡ 0 → IsCommandLine (map (λ w. w.now) words.now) }
     ensures refused { (IsCommandLine (map (λ w. w.now) words.now) → ⊥) → R.remaining reader.new ≡ R.remaining reader.old }
@@ -33,10 +36,8 @@ pub fn run_words<R: Read + Drop, W: Write>(
     ensures status { result ≤ 2 }
 {
     match read_words(alloc, words) {
-        Ok(_matches) => match run_script(alloc, reader, writer) {
-            Ok(()) => 0,
-            Err(_fault) => 1,
-        },
+        Ok(Errand::Script) => script_status(alloc, reader, writer),
+        Ok(Errand::Serve(port, options)) => run_service(rt, alloc, port, options, reader, writer),
         Err(error) => {
             if error.kind() == ErrorKind::OutOfMemory {
                 return 1;
@@ -44,5 +45,20 @@ pub fn run_words<R: Read + Drop, W: Write>(
             let _ = write!(writer, "{error}");
             2
         }
+    }
+}
+
+/// Runs a script: 0 where all input was read and answered, 1 on a fault.
+fn script_status<R: Read + Drop, W: Write>(alloc: Global, reader: &mut R, writer: &mut W) -> u8
+    ensures ran { result ≡ 0 → IfSome (R.remaining reader.old)
+        (λ input. ScriptWrote (commands_of input) (Ok tt) (Appends (W.contents writer.old) (W.contents writer.new))) }
+    ensures failed { result ≡ 1 → IfSome (R.remaining reader.old)
+        (λ input. (fault : ScriptFault) × ScriptWrote (commands_of input) (Err fault)
+        (Appends (W.contents writer.old) (W.contents writer.new))) }
+    ensures status { result ≤ 1 }
+{
+    match run_script(alloc, reader, writer) {
+        Ok(()) => 0,
+        Err(_fault) => 1,
     }
 }

@@ -1,12 +1,18 @@
 use crate::ending::{NO_TEXT, end_with};
 use crate::running::run_words;
+use std::alloc::AllocGlobal;
 use std::io;
+use std::net::{Net, TcpListener, TcpStream};
 use std::process::ExitCode;
+use std::sync::Wait;
 use std::test::Fail;
+use std::thread::Threads;
 
 /// The status and the output of the program on these words, and what it leaves of the input.
-fn status_of(rt: &HostRuntime, words: &[&str], input: &mut &[u8], out: &mut Vec<u8>) -> u8 {
-    run_words(rt.alloc(), words, input, out)
+fn status_of<
+    H: AllocGlobal + Net<Listener = TcpListener, Stream = TcpStream> + Threads + Wait + Sync,
+>(rt: &H, words: &[&str], input: &mut &[u8], out: &mut Vec<u8>) -> u8 {
+    run_words(rt, rt.alloc(), words, input, out)
 }
 
 #[test]
@@ -34,7 +40,9 @@ fn a_faulty_roster_ends_with_status_1(rt: HostRuntime) -> Result<(), Fail> {
 
 /// Whether a command line is refused: with status 2 and a text that begins so, which is no reply, and all of the input
 /// left unread.
-fn is_refused(rt: &HostRuntime, words: &[&str], front: &str) -> bool {
+fn is_refused<
+    H: AllocGlobal + Net<Listener = TcpListener, Stream = TcpStream> + Threads + Wait + Sync,
+>(rt: &H, words: &[&str], front: &str) -> bool {
     let script: &[u8] = b"tenant A a\nbegin\nA: vault\n";
     let mut input = script;
     let mut out = Vec::new(rt.alloc());

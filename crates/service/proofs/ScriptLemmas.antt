@@ -11,11 +11,12 @@ use Rattle.service.specs.declared.script_faults.ScriptFault.TheVariants.{Roster,
 use Rattle.service.specs.declared.scripts.Turn.TheVariants.{Blank, Replied, End}
 use Rattle.service.specs.Line.{Line, commands_of}
 use Rattle.service.specs.LineReader.{Source, known, unknown, failed, source_of, IfKnown}
-use Rattle.service.specs.Written.{WritesFront, Wrote, roster_refusal, ScriptWrote}
+use Rattle.service.specs.Written.{WritesFront, Wrote, ScriptWrote}
 use Rattle.service.specs.Outcome.{Outcome, outcome_text}
 use Rattle.service.specs.Transcript.{AreAnswered, IsTranscript}
-use Rattle.service.specs.Roster.{Row, tenant_of, HasRoster, HasNoRoster}
+use Rattle.service.specs.Roster.{Row, tenant_of, HasRoster}
 use Rattle.service.specs.RosterReading.{ReadsRoster}
+use Rattle.service.specs.RosterAnswer.{AnswersFault}
 use Rattle.service.specs.Turn.{Takes}
 use Rattle.service.proofs.TranscriptLemmas.{AreAnswered-more, AreAnswered-none, transcript_of}
 use Rattle.service.proofs.WrittenLemmas.{Appends-more}
@@ -162,17 +163,15 @@ ScriptWrote-after_roster (known bytes) mid rows result out roster wrote =
     let here : Wrote (new_hall (map tenant_of rows)) (commands_of roster.0) result out = subst (λ (s : Source). IfKnown s (λ lines. Wrote (new_hall (map tenant_of rows)) lines result out)) roster.1 wrote in
     ScriptWrote-wrote (commands_of bytes) (commands_of roster.0) rows result out roster.2 here
 
--- lines without a roster
-pub ScriptWrote-wrong : (source : Source) (out : List ℕ → Type 0) → IfKnown source HasNoRoster → out roster_refusal → IfKnown source (λ lines. ScriptWrote lines (Err Roster) out)
-ScriptWrote-wrong unknown out none written = tt
-ScriptWrote-wrong failed out none written = tt
-ScriptWrote-wrong (known bytes) out none written = (none, written)
-
-pub ScriptWrote-wrong_part : (source : Source) (c0 c1 : Option (List ℕ)) → IfKnown source HasNoRoster → WritesFront c0 c1 roster_refusal → IfKnown source (λ lines. ScriptWrote lines (Err Write) (Appends c0 c1))
-ScriptWrote-wrong_part unknown c0 c1 none written = tt
-ScriptWrote-wrong_part failed c0 c1 none written = tt
-ScriptWrote-wrong_part (known bytes) c0 c1 none written =
-    inl (none, written)
+-- a fault of the roster
+pub ScriptWrote-fault : (source : Source) (why : ScriptFault) (out : List ℕ → Type 0) → IfKnown source (λ lines. AnswersFault lines why out) →
+    IfKnown source (λ lines. ScriptWrote lines (Err why) out)
+ScriptWrote-fault unknown why out answered = tt
+ScriptWrote-fault failed why out answered = tt
+ScriptWrote-fault (known bytes) Roster out answered = answered
+ScriptWrote-fault (known bytes) Read out answered = inl answered
+ScriptWrote-fault (known bytes) Write out answered = inl answered
+ScriptWrote-fault (known bytes) Memory out answered = answered
 
 -- what a script with these bytes wrote
 pub ScriptWrote-known : (remaining : Option (List ℕ)) (source : Source) (result : Result (Unit {0}) ScriptFault) (out : List ℕ → Type 0) → source ≡ source_of remaining → IfKnown source (λ lines. ScriptWrote lines result out) → IfSome remaining (λ input. ScriptWrote (commands_of input) result out)

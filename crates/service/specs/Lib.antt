@@ -15,6 +15,7 @@ pub mod SessionTurn
 pub mod SessionWritten
 pub mod Served
 pub mod RosterReading
+pub mod RosterAnswer
 pub mod Isolation
 pub mod Laws
 pub mod Turn

@@ -12,7 +12,7 @@ use crate::lines::{LineReader, NextLine};
 use crate::refusals::Refusal;
 use crate::reply_lines::fill_refusal;
 use crate::rooms::Room;
-use crate::rosters::Roster;
+use crate::roster_answers::take_roster;
 use crate::script_faults::ScriptFault;
 use crate::speakers::Speaker;
 use crate::writing::write_reply;
@@ -29,9 +29,6 @@ enum Turn {
     Fault,
 }
 
-/// What answers a faulty roster.
-const ROSTER_REFUSAL: &[u8; 19] = b"?: error 63 roster\n";
-
 /// Runs a script: a roster, then the commands of its tenants. Each line that isn't blank is answered before the next
 /// line is read. The room for a line and for a short reply is taken before anything is read.
 pub fn run_script<R: Read + Drop, W: Write>(
@@ -44,14 +41,7 @@ pub fn run_script<R: Read + Drop, W: Write>(
 {
     let mut reply = Room::make(alloc)?;
     let mut lines = LineReader::make(alloc, reader)?;
-    let roster = match Roster::read(alloc, &mut lines) {
-        Ok(roster) => roster,
-        Err(ScriptFault::Roster) => {
-            write_reply(writer, ROSTER_REFUSAL)?;
-            return Err(ScriptFault::Roster);
-        }
-        Err(fault) => return Err(fault),
-    };
+    let roster = take_roster(alloc, &mut lines, writer)?;
     let Ok(mut hall) = roster.hall(alloc) else {
         return Err(ScriptFault::Memory);
     };

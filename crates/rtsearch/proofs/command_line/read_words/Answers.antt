@@ -1,44 +1,36 @@
-use Rattle.std.proofs.Common.{ℕ, rules, ap, ap₂, refl, codes, true, List, map, [], ◌∷◌, ◌≡◌, ◌∙◌, Result, Ok, Err, OnOk, sym}
-use Rattle.std.proofs.lemmas.Result.{IfErr-weaker}
-use Rattle.clap.specs.declared.error.Error.{Error}
-use Rattle.clap.specs.Words.{App, FailsBy, Kinds, Text, app_of, fault_of, is_simple_and_free, new_app, takes, with_subcommand}
-use Rattle.clap.specs.Simple.{app_of_fields}
+-- The words are read as those of the program.
+use Rattle.std.proofs.Common.{ℕ, ap, ap₂, refl, codes, true, List, map, [], ◌∷◌, ◌≡◌, ◌∙◌, Option, sym, subst}
+use Rattle.std.proofs.lemmas.Result.{err_from_is_err_and}
+use Rattle.clap.specs.Words.{App, Row, Text, app_of, fault_of, is_simple, is_simple_and_free, subcommand_of, takes}
 use Rattle.clap.proofs.OnLiterals.{clap_on_literals}
-use Rattle.rtsearch.specs.CommandLine.{AsksForScript, program, rtsearch}
+use Rattle.rtsearch.specs.CommandLine.{Asks, AsksForScript, program}
 use Rattle.rtsearch.proofs.command_line.read_words.Goals as goal
-
-abbrev script : App
-script = new_app (codes "script")
-
-abbrev requiring : App → App
-requiring a = record { top = record a.top { subcommand_required = true }; subs = a.subs }
-
-abbrev versioned : App → App
-versioned a = record { top = record a.top { has_version = true }; subs = a.subs }
 
 is_taken : (name : Text) → takes program (name ∷ codes "script" ∷ []) ≡ true
 unfolding clap_on_literals
 is_taken name = refl
 
-is_free : is_simple_and_free program ≡ true
+simple : is_simple program ≡ true
 unfolding clap_on_literals
-is_free = refl
+simple = refl
 
--- what is accepted has no fault
-no_fault : {T : Type 0} (kinds same : Kinds) (r : Result T Error) → kinds ≡ same → FailsBy kinds r → OnOk r (same ≡ [])
-no_fault kinds same (Ok m) is fails = sym is ∙ fails
-no_fault kinds same (Err e) is fails = tt
+simple_and_free : is_simple_and_free program ≡ true
+unfolding clap_on_literals
+simple_and_free = refl
+
+pub returns-in_err-matches-clause-script : goal.returns-in_err-matches-clause-script
+returns-in_err-matches-clause-script c =
+    let p = err_from_is_err_and c.from_residual-in_err-matches.result c.from_residual-in_err-matches.ensures.1 in
+    rw (p.1, p.2)
+    (λ (asks : AsksForScript (map (λ w. w.now) c.args.words.now)). c.in_err-matches.ensures.passes (ap₂ takes c.in_ok-program.ensures asks.1 ∙ is_taken asks.0))
 
 pub returns : goal.returns
 returns c =
-    let script_is : app_of c.about-script.result ≡ script = ap app_of_fields c.about-script.ensures ∙ c.new.ensures.app in
-    let bare_is : app_of c.subcommand_required.result ≡ rtsearch = ap app_of_fields c.subcommand_required.ensures
-    ∙ ap requiring (ap app_of_fields c.version.ensures ∙ ap versioned (ap app_of_fields c.about.ensures ∙ c.new-2.ensures.app)) in
-    let program_is : app_of c.in_ok-program.program ≡ program = c.in_ok-program.ensures.shape (search rules)
-    ∙ ap₂ with_subcommand bare_is (ap (λ (a : App). a.top) script_is) in
-    let parse = c.try_get_matches_from in
     let words : List (List ℕ) = map (λ w. w.now) c.args.words.now in
+    let is : app_of c.in_ok-program.program ≡ program = c.in_ok-program.ensures in
+    let found = (c.in_ok-matches.ensures.matches (ap is_simple is ∙ simple)).1 ∙ ap (λ (a : App). subcommand_of a words) is in
     record {
-      script = IfErr-weaker parse.result _ _ (λ e h (asks : AsksForScript words). h (ap₂ takes program_is asks.1 ∙ is_taken asks.0)) parse.ensures.passes;
-      accepted = no_fault _ _ parse.result (ap (λ (a : App). fault_of a words) program_is) (parse.ensures.kinds (ap is_simple_and_free program_is ∙ is_free));
+      script = tt;
+      accepted = ap (λ (a : App). fault_of a words) (sym is) ∙ c.in_ok-matches.ensures.kinds (ap is_simple_and_free is ∙ simple_and_free);
+      errand = subst (λ (f : Option (Text × List Row)). Asks f c.errand_of.result) found c.errand_of.ensures;
     }

@@ -1,32 +1,24 @@
--- The roster, and then its commands, or the refusal of the roster.
+-- The roster, and then its commands, or what answers a fault of the roster.
 use Rattle.std.proofs.Common.{List, ℕ, Err}
 use Rattle.std.specs.Io.KnownBytes.{Appends}
 use Rattle.std.proofs.lemmas.Result.{err_from_is_err_and}
-use Rattle.service.specs.declared.script_faults.ScriptFault.TheVariants.{Roster, Write}
-use Rattle.service.proofs.ScriptLemmas.{ScriptWrote-after_roster, ScriptWrote-wrong, ScriptWrote-wrong_part, ScriptWrote-known}
+use Rattle.service.proofs.ScriptLemmas.{ScriptWrote-after_roster, ScriptWrote-fault, ScriptWrote-known}
 use Rattle.service.proofs.scripts.run_script.Goals as goal
 
-pub returns-in_err-write_reply-in-Err-Roster : goal.returns-in_err-write_reply-in-Err-Roster
-returns-in_err-write_reply-in-Err-Roster g c =
-    let failed = c.from_residual-in_err-write_reply-in-Err-Roster in
+pub returns-in_err-roster : goal.returns-in_err-roster
+returns-in_err-roster g c =
+    let failed = c.from_residual-in_err-roster in
+    let why = c.in_err-roster.field-0.0 in
     let p = err_from_is_err_and failed.result failed.ensures.1 in
-    let none = rw c.in-Err-Roster.field-0-is at c.in-Err-Roster.ensures.roster in
-    let out : List ℕ → Type 0 = Appends (g.W.Write.contents c.args.writer.now) (g.W.Write.contents c.write_reply.new.writer) in
+    let out : List ℕ → Type 0 = Appends (g.W.Write.contents c.args.writer.now) (g.W.Write.contents c.take_roster.new.writer) in
     rw (p.1, p.2)
-    (ScriptWrote-known (g.R.Read.remaining c.args.reader) c.in_ok-lines.lines (Err Write) out c.in_ok-lines.ensures.source
-    (ScriptWrote-wrong_part c.in_ok-lines.lines _ _ none c.in_err-write_reply-in-Err-Roster.ensures.err))
-
-pub returns-in-Err-Roster : goal.returns-in-Err-Roster
-returns-in-Err-Roster g c =
-    let none = rw c.in-Err-Roster.field-0-is at c.in-Err-Roster.ensures.roster in
-    let out : List ℕ → Type 0 = Appends (g.W.Write.contents c.args.writer.now) (g.W.Write.contents c.write_reply.new.writer) in
-    ScriptWrote-known (g.R.Read.remaining c.args.reader) c.in_ok-lines.lines (Err Roster) out c.in_ok-lines.ensures.source
-    (ScriptWrote-wrong c.in_ok-lines.lines out none c.in_ok-write_reply-in-Err-Roster.ensures.ok)
+    (ScriptWrote-known (g.R.Read.remaining c.args.reader) c.in_ok-lines.lines (Err why) out c.in_ok-lines.ensures.source
+    (ScriptWrote-fault c.in_ok-lines.lines why out c.in_err-roster.ensures.roster))
 
 pub returns : goal.returns
 returns g c =
     let source = c.in_ok-lines.lines in
     let out : List ℕ → Type 0 = Appends (g.W.Write.contents c.args.writer.now) (g.W.Write.contents c.run_commands.new.writer) in
-    let wrote = rw c.in-Ok-hall.ensures.hall at c.run_commands.ensures in
+    let wrote = rw (c.in-Ok.ensures.hall, c.in_ok-roster.ensures.silent) at c.run_commands.ensures in
     ScriptWrote-known (g.R.Read.remaining c.args.reader) source c.run_commands.result out c.in_ok-lines.ensures.source
-    (ScriptWrote-after_roster source c.read.new.lines c.in-Ok.roster c.run_commands.result out c.in-Ok.ensures.roster wrote)
+    (ScriptWrote-after_roster source c.take_roster.new.lines c.in_ok-roster.roster c.run_commands.result out c.in_ok-roster.ensures.roster wrote)
