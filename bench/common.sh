@@ -7,14 +7,16 @@ root=$(cd "$(dirname "$0")/.." && pwd)
 work=$(mktemp -d)
 trap 'rm -rf "$work"' EXIT
 
-# lay_out PROGRAM LIBRARY..: enters a new folder of the program bench/PROGRAM, which stands on these libraries: crates
-# of the repository, lower ones first, or the kit's own. A file FUNCTION.antt.txt beside the program is what stands of
-# that function's proof.
+# lay_out PROGRAM LIBRARY..: enters a new folder of the program bench/PROGRAM, with its modules' files MODULE.rt.txt, which
+# stands on these libraries: crates of the repository, lower ones first, or the kit's own. A file FUNCTION.antt.txt beside
+# the program is what stands of that function's proof.
 lay_out() {
     program=$1
     shift
     mkdir -p "$work/crates/$program/src"
-    cp "$root/bench/$program/main.rt.txt" "$work/crates/$program/src/main.rt"
+    for source in "$root/bench/$program"/*.rt.txt; do
+        cp "$source" "$work/crates/$program/src/$(basename "$source" .txt)"
+    done
     for library in "$@"; do
         grep "^$library[ :]" "$root/crates.txt" >> "$work/crates.txt" || continue
         cp -R "$root/crates/$library" "$work/crates/$library"
