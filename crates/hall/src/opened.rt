@@ -105,7 +105,7 @@ impl Opened {
         held: &mut Vec<Job>,
     ) -> Result<(), AllocError>
         requires space { vec_len held.old + most ≤ vec_capacity held.old }
-        ensures visited { (s : SearchState) × Visits who self.old.number most held.old.items held.new.items self.old.of.search s
+        ensures visited { (s : SearchState) × Visits who self.old.number most held.old.items held.new.items result self.old.of.search s
             × (self.new ≡ with_search s self.old) }
         ensures bound { vec_len held.new ≤ vec_len held.old + most }
         ensures capacity { vec_capacity held.new ≡ vec_capacity held.old }

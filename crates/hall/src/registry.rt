@@ -210,7 +210,7 @@ impl Hall {
         held: &mut Vec<Job>,
     ) -> Result<(), Fault>
         requires space { vec_len held.old + most ≤ vec_capacity held.old }
-        ensures visited { IsVisited who number most self.old held.old.items self.new held.new.items }
+        ensures visited { IsVisited who number most self.old held.old.items result self.new held.new.items }
         ensures only_memory { IfErr result (λ f. f ≡ Fault.Memory) }
         ensures bound { vec_len held.new ≤ vec_len held.old + most }
         ensures capacity { vec_capacity held.new ≡ vec_capacity held.old }

@@ -181,7 +181,7 @@ impl Seat {
         requires space { vec_len held.old + most ≤ vec_capacity held.old }
         ensures visited { MatchOption (position (is_number number) self.old.holder.searches)
             ((held.new.items ≡ held.old.items) × (self.new ≡ self.old))
-            (λ i. GoesAt (λ s t. Visits who number most held.old.items held.new.items s t) i self.old self.new) }
+            (λ i. GoesAt (λ s t. Visits who number most held.old.items held.new.items result s t) i self.old self.new) }
         ensures bound { vec_len held.new ≤ vec_len held.old + most }
         ensures capacity { vec_capacity held.new ≡ vec_capacity held.old }
     {

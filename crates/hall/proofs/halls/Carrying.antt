@@ -174,6 +174,9 @@ run_sound old new (e ∷ events) [] sound run = absurd run
 run_sound old new (e ∷ events) (told ∷ replies) sound (mid, happens, run) = run_sound mid new events replies (events_keep old mid e told sound happens) run
 
 module _ (h : HallState) (who : List ℕ) (k : ℕ) where
+  pub nobody_quiet : tenant_named who h.tenants ≡ None → SearchIsQuiet h who k
+  nobody_quiet none = subst (λ (o : Option Tenant). IfRunning IsQuiet (running_of k o)) (sym none) tt
+
   pub nobody_driven : tenant_named who h.tenants ≡ None → IsDriven h who k (reply.Refused fault.NoTenant) h
   nobody_driven none = record {
     steps = [];

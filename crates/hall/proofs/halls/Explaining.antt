@@ -2,7 +2,7 @@
 use Rattle.std.proofs.Common.{◌≡◌, ◌∙◌, ◌↔◌, ℕ, true, List, ap, sym, refl, subst, Option, Some, None, option_map, is_some}
 use Rattle.credential_text.specs.declared.credentials.Credential.{Credential}
 use Rattle.rt0_rules.specs.Membership.{IsMember}
-use Rattle.vaults.specs.Journal.{view, credentials, Vault}
+use Rattle.vaults.specs.Journal.{credentials}
 use Rattle.search.specs.Ending.{Settled, Nothing, Yes, No, Members, Spent, Broken, IsAnswered, status_of, asked_role}
 use Rattle.search.specs.Search.{SearchState, IsCompleted, settled_of, rows_of}
 use Rattle.search.proofs.Answered.{answers_as}
@@ -12,14 +12,14 @@ use Rattle.proof_trees.specs.declared.faults.ProofFault.TheVariants as faults
 use Rattle.proof_trees.specs.Proof.{IsProof}
 use Rattle.proof_trees.specs.Fault.{WhyRefused}
 use Rattle.hall.specs.declared.faults.Fault.{Fault}
-use Rattle.hall.specs.declared.faults.Fault.TheVariants.{NotDone, NoProof, NoSuchSearch, Memory}
+use Rattle.hall.specs.declared.faults.Fault.TheVariants.{NotDone, NoProof, NoSuchSearch}
 use Rattle.hall.specs.declared.calls.requests.Request.TheVariants as request
 use Rattle.hall.specs.declared.calls.replies.Reply.{Reply}
 use Rattle.hall.specs.declared.calls.replies.Reply.TheVariants.{Proof, Refused}
 use Rattle.hall.specs.Fault.{proof_fault}
 use Rattle.hall.specs.halls.Holder.{search_in}
 use Rattle.hall.specs.halls.Account.{Account, Asked, IsAnswer, MayProve, not_done, no_proof, proof, MayProveOf}
-use Rattle.hall.specs.halls.State.{Running, Tenant, HallState, tenant_named, is_tenant, running_of, search_at, seen, account, account_of, IsSound, IsSoundSearch, IsSoundTenant}
+use Rattle.hall.specs.halls.State.{Running, Tenant, HallState, tenant_named, is_tenant, running_of, search_at, seen, account, IsSound, IsSoundSearch, IsSoundTenant}
 use Rattle.hall.specs.halls.Run.{IsServed, RefusedLast, IsDue}
 use Rattle.hall.proofs.halls.Holders.{search_mapped, found_in}
 use Rattle.hall.proofs.halls.Named.{found_tenant, running_at}

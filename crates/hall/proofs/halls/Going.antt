@@ -1,5 +1,5 @@
 -- A search that goes on in its place.
-use Rattle.std.proofs.Common.{◌≡◌, ◌∙◌, ◌==◌, ℕ, Bool, true, List, if◌then◌else◌, length, map, set, ap, sym, refl, subst, inl, inr, Option, Some, None, option_map, find, position, slice_get, get_or, Result, Ok, Err}
+use Rattle.std.proofs.Common.{◌≡◌, ◌∙◌, ℕ, List, if◌then◌else◌, length, map, set, ap, sym, refl, subst, inl, inr, Option, Some, None, option_map, find, position, slice_get, get_or, Result, Ok, Err}
 use Rattle.std.specs.Option.{MatchOption}
 use Rattle.std.specs.declared.alloc.AllocError.{AllocError}
 use Rattle.std.proofs.lemmas.Bool.Decides.{Decides-eqb}

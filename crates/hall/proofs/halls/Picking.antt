@@ -35,12 +35,12 @@ find_once {X} p (y ∷ ys) x once among passes =
     by true alone later = let clash : None ≡ Some x = sym (alone refl) ∙ later in cc
     by false alone later = later
 
-first_none : {X : Type 0} (xs : List X) → slice_get xs 0 ≡ None → xs ≡ []
+pub first_none : {X : Type 0} (xs : List X) → slice_get xs 0 ≡ None → xs ≡ []
 first_none [] none = refl
 first_none (x ∷ xs) none = cc
 
 -- a list that isn't longer than nothing is empty
-none_long : {X : Type 0} (xs : List X) → length xs ≤ 0 → xs ≡ []
+pub none_long : {X : Type 0} (xs : List X) → length xs ≤ 0 → xs ≡ []
 none_long [] short = refl
 none_long (x ∷ xs) short = absurd (omega (arith, short))
 

@@ -5,12 +5,11 @@ use Rattle.hall.specs.declared.faults.Fault.{Fault}
 use Rattle.hall.specs.declared.faults.Fault.TheVariants.{NoSuchSearch, Memory}
 use Rattle.hall.specs.declared.calls.requests.Request.TheVariants as request
 use Rattle.hall.specs.declared.calls.answers.Answer.{Answer}
-use Rattle.hall.specs.declared.calls.replies.Reply.{Reply}
 use Rattle.hall.specs.declared.calls.replies.Reply.TheVariants.{Answered, Refused}
 use Rattle.hall.specs.halls.Searches.{settled_of}
 use Rattle.hall.specs.halls.Holder.{Numbered, is_number, search_in}
-use Rattle.hall.specs.halls.Account.{Account, Asked, polled}
-use Rattle.hall.specs.halls.State.{Running, Tenant, HallState, tenant_named, account, account_of, seen}
+use Rattle.hall.specs.halls.Account.{Account, polled}
+use Rattle.hall.specs.halls.State.{Running, Tenant, HallState, tenant_named, account, seen}
 use Rattle.hall.specs.halls.Run.{IsServed, RefusedLast, IsDue}
 use Rattle.hall.specs.halls.Calls.{answered}
 use Rattle.hall.specs.halls.Kept.{IsToldOf}

@@ -1,21 +1,18 @@
 -- What is told of a search, by its status.
-use Rattle.std.proofs.Common.{◌≡◌, ◌∙◌, ◌==◌, ℕ, Bool, true, false, cond, List, ap, sym, refl, subst}
+use Rattle.std.proofs.Common.{◌≡◌, ◌==◌, ℕ, Bool, true, false, cond, List, ap, sym, refl}
 use Rattle.std.specs.List.{list_any}
 use Rattle.std.proofs.lemmas.Bool.Decides.{Decides-eqb}
 use Rattle.names.specs.Name.{is_same}
 use Rattle.names.specs.declared.roles.Role.{Role}
 use Rattle.cred_graph.specs.GraphState.{GraphState, members_of}
-use Rattle.scholten_core.specs.Computation.{Computation, outstanding}
-use Rattle.search.specs.declared.letters.Load.{Load}
-use Rattle.search.specs.declared.outcomes.Status.{Status}
+use Rattle.scholten_core.specs.Computation.{outstanding}
 use Rattle.search.specs.declared.outcomes.Status.TheVariants as status
 use Rattle.search.specs.declared.queries.Query.{Query}
 use Rattle.search.specs.declared.queries.Query.TheVariants.{Ask, Who}
 use Rattle.search.specs.declared.stages.Stage.{Stage}
 use Rattle.search.specs.declared.stages.Stage.TheVariants as stage
-use Rattle.search.specs.Ending.{Settled, Nothing, Yes, No, Members, Spent, Broken, status_of, found, come_to}
+use Rattle.search.specs.Ending.{Nothing, Yes, No, Members, status_of, found, come_to}
 use Rattle.search.specs.Search.{SearchState, settled_of, IsCompleted, IsOutstanding}
-use Rattle.hall.specs.declared.calls.answers.Answer.{Answer}
 use Rattle.hall.specs.declared.calls.answers.Answer.TheVariants as answer
 use Rattle.hall.specs.halls.Account.{answer_of}
 

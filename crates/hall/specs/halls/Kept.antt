@@ -1,5 +1,5 @@
 -- What a hall keeps beside what it is seen as, and what its calls do to one of its searches.
-use Rattle.std.specs.Prelude.{◌≡◌, ◌≤◌, ◌+◌, ◌++◌, ◌∷◌, ◌⊎◌, ℕ, Bool, true, List, [], map, Option, None, Some, Result, Ok, Err, slice_set, slice_get}
+use Rattle.std.specs.Prelude.{◌≡◌, ◌≤◌, ◌+◌, ◌++◌, ◌∷◌, ◌⊎◌, ℕ, Bool, true, false, List, [], map, Option, None, Some, Result, Ok, Err, slice_set, slice_get}
 use Rattle.std.specs.List.{Contains}
 use Rattle.search.specs.Ending.{Settled}
 use Rattle.search.specs.Search.{SearchState, Settles, IsOutstanding, settled_of}
@@ -16,6 +16,7 @@ use Rattle.hall.specs.halls.Holder.{Numbered}
 use Rattle.hall.specs.halls.Account.{answer_of}
 use Rattle.hall.specs.halls.State.{Running, Tenant, HallState, IsSound}
 use Rattle.hall.specs.halls.Calls.{TakenLetter}
+use Rattle.hall.specs.halls.Visits.{IsWhole}
 
 -- the tenants' names stand as the tenants do, and the hall is sound
 pub record IsKept (names : List (List ℕ)) (h : HallState) : Type 0 where
@@ -61,12 +62,13 @@ TakesJob who k place s (Ok None) t = (slice_get (waiting_in s.stage) place ≡ N
 TakesJob who k place s (Ok (Some job)) t = TakesAs who k place s job t
 TakesJob who k place s (Err f) t = t ≡ s
 
--- a step of the search was made: the oldest signal was delivered, or the first letter that waits was taken; or there was
--- neither, or no memory to hold the letter
+-- a step of the search was made: the oldest signal was delivered, or the first letter that waits was taken; or nothing of
+-- it is left to do, or there is no memory to hold the letter
 abbrev pub GoesOn : {E : Type 0} → List ℕ → ℕ → List TakenLetter → List TakenLetter → SearchState → Result Bool E → SearchState → Type 0
 GoesOn who k held holds s (Ok true) t =
     (SignalsFirst s t × (holds ≡ held)) ⊎ ((job : TakenLetter) × TakesAs who k 0 s job t × (holds ≡ held ++ job ∷ []))
-GoesOn who k held holds s _ t = (t ≡ s) × (holds ≡ held)
+GoesOn who k held holds s (Ok false) t = (t ≡ s) × (holds ≡ held) × IsQuiet t.stage
+GoesOn who k held holds s (Err lacked) t = (t ≡ s) × (holds ≡ held)
 
 -- so many steps of the search were made one after another, by which these letters were taken
 pub data WorksOn (who : List ℕ) (k : ℕ) (s : SearchState) : ℕ → List TakenLetter → SearchState → Type 0 where
@@ -76,10 +78,14 @@ pub data WorksOn (who : List ℕ) (k : ℕ) (s : SearchState) : ℕ → List Tak
   letter : {n : ℕ} {taken : List TakenLetter} {job : TakenLetter} {middle t : SearchState} → WorksOn who k s n taken middle →
       TakesAs who k 0 middle job t → WorksOn who k s (n + 1) (taken ++ job ∷ []) t
 
--- at most so many steps of the search were made, and the letters stand behind those that were held
-abbrev pub Visits : List ℕ → ℕ → ℕ → List TakenLetter → List TakenLetter → SearchState → SearchState → Type 0
-Visits who k most held holds s t =
-    (n : ℕ) × (taken : List TakenLetter) × (n ≤ most) × WorksOn who k s n taken t × (holds ≡ held ++ taken)
+-- so many steps were made, and the letters stand behind those that were held
+abbrev pub MakesSteps : List ℕ → ℕ → ℕ → List TakenLetter → List TakenLetter → SearchState → SearchState → Type 0
+MakesSteps who k n held holds s t = (taken : List TakenLetter) × WorksOn who k s n taken t × (holds ≡ held ++ taken)
+
+-- at most so many steps of the search were made, fewer only where nothing of it is left to do or memory lacked
+abbrev pub Visits : {E : Type 0} → List ℕ → ℕ → ℕ → List TakenLetter → List TakenLetter → Result (Unit {0}) E → SearchState → SearchState → Type 0
+Visits who k most held holds result s t =
+    (n : ℕ) × (n ≤ most) × MakesSteps who k n held holds s t × IsWhole most n (IsQuiet t.stage) result
 
 -- the step goes on with a search where something waits or is under way
 abbrev pub IsNext : List ℕ → Numbered Running → Step → Type 0

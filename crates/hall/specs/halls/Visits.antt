@@ -1,10 +1,10 @@
 -- What somebody who works for a hall does to one search in a row.
-use Rattle.std.specs.Prelude.{◌≡◌, ◌≤◌, ◌+◌, ◌++◌, ◌∷◌, ℕ, List, [], Some}
+use Rattle.std.specs.Prelude.{◌≡◌, ◌≤◌, ◌+◌, ◌++◌, ◌∷◌, ◌⊎◌, ℕ, List, [], Some, Result, Ok, Err}
 use Rattle.hall.specs.declared.calls.steps.Step.TheVariants.{Signal}
 use Rattle.hall.specs.declared.calls.steps.Stepped.TheVariants.{Signalled}
 use Rattle.hall.specs.halls.State.{HallState}
 use Rattle.hall.specs.halls.Run.{IsStepped}
-use Rattle.hall.specs.halls.Calls.{TakenLetter, IsTaken}
+use Rattle.hall.specs.halls.Calls.{TakenLetter, IsTaken, SearchIsQuiet}
 
 -- so many steps of this search are made one after another, by which these letters are taken: each step delivers the
 -- oldest signal, or takes the first letter that waits
@@ -15,7 +15,14 @@ pub data IsWorkedOn (who : List ℕ) (number : ℕ) (old : HallState) : ℕ → 
   letter : {n : ℕ} {taken : List TakenLetter} {job : TakenLetter} {middle new : HallState} → IsWorkedOn who number old n taken middle →
       IsTaken middle who number 0 (Some job) new → IsWorkedOn who number old (n + 1) (taken ++ job ∷ []) new
 
--- at most so many such steps are made, and the letters stand behind those that are held
-abbrev pub IsVisited : List ℕ → ℕ → ℕ → HallState → List TakenLetter → HallState → List TakenLetter → Type 0
-IsVisited who number most old held new holds =
+-- so many steps are all that may be made, or nothing was left to do; where memory lacked there may be fewer
+abbrev pub IsWhole : {E : Type 0} → ℕ → ℕ → Type 0 → Result (Unit {0}) E → Type 0
+IsWhole most n nothing_left (Ok done) = (n ≡ most) ⊎ nothing_left
+IsWhole most n nothing_left (Err lacked) = Unit {0}
+
+-- at most so many such steps are made, fewer only where nothing of the search is left to do or memory lacks, and the letters
+-- stand behind those that are held
+abbrev pub IsVisited : {E : Type 0} → List ℕ → ℕ → ℕ → HallState → List TakenLetter → Result (Unit {0}) E → HallState → List TakenLetter → Type 0
+IsVisited who number most old held result new holds =
     (n : ℕ) × (taken : List TakenLetter) × (n ≤ most) × IsWorkedOn who number old n taken new × (holds ≡ held ++ taken)
+    × IsWhole most n (SearchIsQuiet new who number) result

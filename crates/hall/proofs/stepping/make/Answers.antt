@@ -1,4 +1,4 @@
-use Rattle.std.proofs.Common.{◌≡◌, Bool, true, sym, subst, refl, ap}
+use Rattle.std.proofs.Common.{true, sym, subst, refl}
 use Rattle.hall.specs.halls.Searches.{StepsSearch}
 use Rattle.hall.specs.declared.calls.steps.Step.{Step}
 use Rattle.search.specs.Stage.{Delivers}

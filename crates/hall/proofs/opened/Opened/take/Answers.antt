@@ -1,8 +1,7 @@
-use Rattle.std.proofs.Common.{◌≡◌, ◌∙◌, sym, ap, refl, subst, IfSome}
+use Rattle.std.proofs.Common.{◌≡◌, ◌∙◌, ap, refl, subst, IfSome}
 use Rattle.std.proofs.lemmas.Result.{err_from_is_err_and}
 use Rattle.std.specs.Arc.{arc_value}
 use Rattle.std.specs.declared.alloc.AllocError.{AllocError}
-use Rattle.search.specs.Search.{SearchState}
 use Rattle.search.specs.Finish.{Takes}
 use Rattle.hall.specs.halls.Holder.{Numbered}
 use Rattle.hall.specs.halls.State.{Running}

@@ -1,17 +1,16 @@
-use Rattle.std.proofs.Common.{◌≡◌, ap, sym, subst, position, Option, Err}
+use Rattle.std.proofs.Common.{◌≡◌, subst, position, Err}
 use Rattle.hall.specs.declared.calls.requests.Request.TheVariants.{Poll}
 use Rattle.hall.specs.declared.calls.replies.Reply.TheVariants.{Refused}
 use Rattle.hall.specs.declared.faults.Fault.TheVariants.{NoTenant, NoSuchSearch}
-use Rattle.hall.specs.halls.State.{Tenant, HallState, running_of, tenant_named}
-use Rattle.search.specs.Quiet.{IsQuiet}
+use Rattle.hall.specs.halls.State.{HallState}
 use Rattle.hall.specs.halls.Run.{RefusedLast}
-use Rattle.hall.specs.halls.Calls.{answered, IfRunning, SearchIsQuiet}
+use Rattle.hall.specs.halls.Calls.{answered, SearchIsQuiet}
 use Rattle.hall.specs.halls.Deeds.{IsDriven}
 use Rattle.hall.specs.halls.Kept.{DrivesTo}
 use Rattle.hall.specs.halls.Holder.{is_number}
 use Rattle.hall.proofs.halls.Seated.{nowhere, stands, after, kept}
 use Rattle.hall.proofs.halls.Going.{went_named}
-use Rattle.hall.proofs.halls.Carrying.{nobody_driven, drive_driven, drive_sound, drive_quiet, drive_last}
+use Rattle.hall.proofs.halls.Carrying.{nobody_quiet, nobody_driven, drive_driven, drive_sound, drive_quiet, drive_last}
 use Rattle.hall.proofs.registry.Hall.drive.Goals as goal
 
 pub returns-in_default-clause-driven : goal.returns-in_default-clause-driven
@@ -24,7 +23,7 @@ pub returns-in_default-clause-quiet : goal.returns-in_default-clause-quiet
 returns-in_default-clause-quiet c =
     let h : HallState = record { journal = c.self.inside.book; tenants = c.self.inside.seats.items } in
     let none = nowhere c.args.who c.self.inside.names.keys h.tenants c.self.invariant.in_place c.in_default.ensures in
-    subst (λ (h : HallState). SearchIsQuiet h c.args.who c.args.number) c.self.view_is (subst (λ (o : Option Tenant). IfRunning IsQuiet (running_of c.args.number o)) (sym none) tt)
+    subst (λ (h : HallState). SearchIsQuiet h c.args.who c.args.number) c.self.view_is (nobody_quiet h c.args.who c.args.number none)
 
 pub invariant_of-self : goal.invariant_of-self
 invariant_of-self c =

@@ -1,4 +1,4 @@
-use Rattle.std.proofs.Common.{◌≡◌, ◌∙◌, ap, sym, subst, find, None, Some, Err, Option}
+use Rattle.std.proofs.Common.{◌≡◌, subst, Err, Option}
 use Rattle.std.specs.Option.{MatchOption}
 use Rattle.hall.specs.declared.calls.requests.Request.TheVariants.{Poll}
 use Rattle.hall.specs.declared.calls.replies.Reply.TheVariants.{Refused}

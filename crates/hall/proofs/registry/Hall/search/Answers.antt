@@ -1,4 +1,4 @@
-use Rattle.std.proofs.Common.{◌≡◌, ◌∙◌, ap, sym, option_map, None, Some, Option}
+use Rattle.std.proofs.Common.{◌∙◌, ap, sym, option_map, Some, Option}
 use Rattle.hall.specs.halls.Holder.{Numbered}
 use Rattle.hall.specs.halls.State.{Running, Tenant, HallState, search_at, running_of}
 use Rattle.hall.proofs.halls.Seated.{nowhere, stands}

@@ -1,12 +1,9 @@
-use Rattle.std.proofs.Common.{◌≡◌, ◌∙◌, ℕ, List, ap, sym, subst, refl, position, None, Some, Option}
-use Rattle.std.specs.Option.{MatchOption}
-use Rattle.names.specs.Name.{is_same}
+use Rattle.std.proofs.Common.{◌≡◌, ℕ, List, sym, subst, refl, position, Option}
 use Rattle.hall.specs.declared.calls.steps.Stepped.TheVariants.{Gone}
 use Rattle.hall.specs.halls.Holder.{is_number}
-use Rattle.hall.specs.halls.State.{Running, Tenant, HallState, running_of, tenant_named}
+use Rattle.hall.specs.halls.State.{Tenant, HallState, running_of, tenant_named}
 use Rattle.hall.specs.halls.Searches.{StepsSearch}
-use Rattle.hall.specs.halls.Run.{IsStepped, StepsRunning, step_name, step_search}
-use Rattle.hall.specs.halls.Kept.{GoesAt}
+use Rattle.hall.specs.halls.Run.{IsStepped, StepsRunning, step_search}
 use Rattle.hall.proofs.halls.Seated.{nowhere, stands, after, kept}
 use Rattle.hall.proofs.halls.Sound.{stepped_sound}
 use Rattle.hall.proofs.halls.Going.{steps_made, went_named}

@@ -1,10 +1,9 @@
-use Rattle.std.proofs.Common.{◌≡◌, ◌∙◌, List, ℕ, ap, sym, subst, refl, inr, position, None, Some, Option, Ok, Err, OnErr}
+use Rattle.std.proofs.Common.{◌≡◌, ◌∙◌, sym, subst, refl, inr, position, None, Option, Ok}
 use Rattle.std.proofs.lemmas.Result.{err_from_is_err_and}
 use Rattle.hall.specs.declared.calls.steps.Step.TheVariants as step
-use Rattle.hall.specs.declared.calls.steps.Stepped.{Stepped}
 use Rattle.hall.specs.declared.calls.steps.Stepped.TheVariants.{Gone}
 use Rattle.hall.specs.halls.Holder.{is_number}
-use Rattle.hall.specs.halls.State.{Tenant, HallState, running_of, tenant_named}
+use Rattle.hall.specs.halls.State.{Tenant, HallState, running_of}
 use Rattle.hall.specs.halls.Run.{IsStepped, StepsRunning}
 use Rattle.hall.specs.halls.Calls.{IsTaken}
 use Rattle.hall.specs.halls.Kept.{IsKept, TakesJob}

@@ -1,4 +1,4 @@
-use Rattle.std.proofs.Common.{◌≡◌, ◌∙◌, ap, subst, refl, position, None, Ok, set, ℕ}
+use Rattle.std.proofs.Common.{◌≡◌, subst, refl, position, None, Ok, set, ℕ}
 use Rattle.std.specs.Option.{MatchOption}
 use Rattle.search.specs.Search.{SearchState}
 use Rattle.hall.specs.halls.Holder.{is_number}
