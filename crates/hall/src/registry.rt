@@ -166,7 +166,7 @@ impl Hall {
 
 impl Hall {
     ghost use Rattle.hall.specs.declared.calls.steps.Step.TheVariants as step;
-    ghost use Rattle.hall.specs.halls.Run.{IsStepped};
+    ghost use Rattle.hall.specs.halls.Run.{IsStepped, step_name, step_search};
     ghost use Rattle.hall.specs.halls.Calls.{IsTaken};
     ghost use Rattle.std.specs.Prelude.{◌+◌, ◌≤◌, vec_len, vec_capacity};
     ghost use Rattle.hall.specs.halls.Deeds.{IsDriven};
@@ -256,6 +256,7 @@ impl Hall {
     /// the turn picks, and goes round.
     pub fn pick(&self, turn: u64) -> Option<Step>
         ensures progress { IfSome result (λ step. CanBeMade self.now step) }
+        ensures left { IfSome result (λ step. SearchIsQuiet self.now (step_name step) (step_search step) → ⊥) }
         ensures none { (result ≡ None) ↔ NothingToDo self.now }
     {
         let _names = &self.names;

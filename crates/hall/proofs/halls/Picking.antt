@@ -9,14 +9,15 @@ use Rattle.names.proofs.SameNames.{is_same_itself}
 use Rattle.rt0_rules.proofs.Elements.{Contains-none, Contains-cons_cases}
 use Rattle.search.specs.declared.queries.Need.{Need}
 use Rattle.search.specs.Search.{SearchState}
+use Rattle.search.specs.Quiet.{IsQuiet}
 use Rattle.search.specs.Stage.{waiting_in, signals_in}
 use Rattle.hall.specs.declared.calls.steps.Step.{Step}
 use Rattle.hall.specs.declared.calls.steps.Step.TheVariants as step
 use Rattle.hall.specs.halls.Searches.{TakesAt, Signals, took, signalled}
 use Rattle.hall.specs.halls.Holder.{Numbered, is_number, AreNumbered}
 use Rattle.hall.specs.halls.State.{Running, Tenant, HallState, tenant_named, running_of, search_at, IsSound, IsSoundTenant}
-use Rattle.hall.specs.halls.Run.{StepsRunning}
-use Rattle.hall.specs.halls.Calls.{IsStill, IsIdle, NothingToDo, MadeProgress, CanBeMade}
+use Rattle.hall.specs.halls.Run.{StepsRunning, step_name, step_search}
+use Rattle.hall.specs.halls.Calls.{IfRunning, SearchIsQuiet, IsStill, IsIdle, NothingToDo, MadeProgress, CanBeMade}
 use Rattle.hall.specs.halls.Kept.{IsNext, IsNextOfAny}
 use Rattle.hall.proofs.Elements.{IsOnce}
 use Rattle.hall.proofs.halls.Named.{once_named}
@@ -55,6 +56,13 @@ module _ (old new : SearchState) (place : ℕ) (first : place ≡ 0) where
   delivered_one false waits signals = waits (none_long (signals_in old.stage) (subst (λ (n : ℕ). length (signals_in old.stage) ≤ n) first signals.delivers.0))
   delivered_one true waits signals = tt
 
+-- a search that a step goes on with isn't still
+moves : (who : List ℕ) (s : Numbered Running) (made : Step) → IsNext who s made → IsStill s → ⊥
+moves who s (step.Take name k place) (named, number, first, waits) still = waits still.0
+moves who s (step.Signal name k place) (named, number, first, waits) still = waits still.1
+moves who s (step.GiveBack name k letter) next still = next
+moves who s (step.Finish name k letter hint) next still = next
+
 module _ (h : HallState) (sound : IsSound h) (t : Tenant) (s : Numbered Running) (there : Contains h.tenants t) (among : Contains t.holder.searches s) where
   -- a search that stands at a tenant is found by its name and number
   tenant_found : tenant_named t.name h.tenants ≡ Some t
@@ -84,12 +92,12 @@ module _ (h : HallState) (sound : IsSound h) (t : Tenant) (s : Numbered Running)
   goes_on (step.GiveBack name k letter) next answer new stepped = absurd next
   goes_on (step.Finish name k letter hint) next answer new stepped = absurd next
 
--- a search that a step goes on with isn't still
-moves : (who : List ℕ) (s : Numbered Running) (made : Step) → IsNext who s made → IsStill s → ⊥
-moves who s (step.Take name k place) (named, number, first, waits) still = waits still.0
-moves who s (step.Signal name k place) (named, number, first, waits) still = waits still.1
-moves who s (step.GiveBack name k letter) next still = next
-moves who s (step.Finish name k letter hint) next still = next
+  -- and something of its search is left to do
+  is_left : (made : Step) → IsNext t.name s made → SearchIsQuiet h (step_name made) (step_search made) → ⊥
+  is_left (step.Take name k place) next quiet = moves t.name s (step.Take name k place) next (subst (IfRunning IsQuiet) (runs name k next.0 next.1) quiet)
+  is_left (step.Signal name k place) next quiet = moves t.name s (step.Signal name k place) next (subst (IfRunning IsQuiet) (runs name k next.0 next.1) quiet)
+  is_left (step.GiveBack name k letter) next quiet = next
+  is_left (step.Finish name k letter hint) next quiet = next
 
 busy : (h : HallState) (made : Step) → IsNextOfAny h.tenants made → NothingToDo h → ⊥
 busy h made (t, there, (s, among, next)) nothing =
@@ -100,6 +108,11 @@ module _ (h : HallState) where
   pub picked_progress : IsSound h → (o : Option Step) → MatchOption o (AllByRecursion IsIdle h.tenants) (IsNextOfAny h.tenants) → IfSome o (λ made. CanBeMade h made)
   picked_progress sound None idle = tt
   picked_progress sound (Some made) (t, there, (s, among, next)) = goes_on h sound t s there among made next
+
+  pub picked_left : IsSound h → (o : Option Step) → MatchOption o (AllByRecursion IsIdle h.tenants) (IsNextOfAny h.tenants) →
+      IfSome o (λ made. SearchIsQuiet h (step_name made) (step_search made) → ⊥)
+  picked_left sound None idle = tt
+  picked_left sound (Some made) (t, there, (s, among, next)) = is_left h sound t s there among made next
 
   pub picked_none : (o : Option Step) → MatchOption o (AllByRecursion IsIdle h.tenants) (IsNextOfAny h.tenants) → (o ≡ None) ↔ NothingToDo h
   picked_none None idle = (λ none. idle, λ nothing. refl)
