@@ -1,17 +1,15 @@
--- A visit leaves the journal as it was.
-use Rattle.std.proofs.Common.{◌≡◌, ◌∙◌, ℕ, List, [], refl}
+-- What a visit is made of, and that it leaves the journal as it was.
+use Rattle.std.proofs.Common.{◌≡◌, ◌∙◌, ℕ, List, Result, refl, subst}
+use Rattle.hall.specs.declared.faults.Fault.{Fault}
+use Rattle.hall.specs.declared.calls.steps.Step.{Step}
 use Rattle.hall.specs.declared.calls.steps.Step.TheVariants.{Take, Signal}
 use Rattle.hall.specs.declared.calls.steps.Stepped.TheVariants.{Signalled}
 use Rattle.hall.specs.halls.State.{HallState}
-use Rattle.hall.specs.halls.Calls.{TakenLetter}
+use Rattle.hall.specs.halls.Run.{step_name, step_search}
+use Rattle.hall.specs.halls.Calls.{TakenLetter, SearchIsQuiet}
 use Rattle.hall.specs.halls.Visits.{IsWorkedOn, IsVisited}
-use Rattle.hall.proofs.halls.Visiting.{no_visit}
-use Rattle.pool.specs.Visits.{IsVisit}
+use Rattle.pool.specs.Visits.{VisitsOne}
 use Rattle.pool.proofs.Kept.{stepped_journal}
-
--- where nothing is done
-pub no_steps : (most : ℕ) (h : HallState) (held : List TakenLetter) → IsVisit most h held h held
-no_steps most h held = ([], 0, no_visit [] 0 most held h)
 
 worked_journal : (who : List ℕ) (k : ℕ) (old : HallState) (n : ℕ) (taken : List TakenLetter) (new : HallState) → IsWorkedOn who k old n taken new → new.journal ≡ old.journal
 worked_journal who k old n taken new IsWorkedOn.nothing = refl
@@ -20,6 +18,17 @@ worked_journal who k old n taken new (IsWorkedOn.signal {n = m} {taken = before}
 worked_journal who k old n taken new (IsWorkedOn.letter {n = m} {taken = before} {job} {middle} works (answer, steps, is)) =
     stepped_journal middle new (Take who k 0) answer steps ∙ worked_journal who k old m before middle works
 
-pub visited_journal : (who : List ℕ) (k most : ℕ) (old : HallState) (held : List TakenLetter) (new : HallState) (holds : List TakenLetter) →
-    IsVisited who k most old held new holds → new.journal ≡ old.journal
-visited_journal who k most old held new holds (n, taken, within, works, is) = worked_journal who k old n taken new works
+pub visited_journal : {E : Type 0} (who : List ℕ) (k most : ℕ) (old : HallState) (held : List TakenLetter) (result : Result (Unit {0}) E) (new : HallState) (holds : List TakenLetter) →
+    IsVisited who k most old held result new holds → new.journal ≡ old.journal
+visited_journal who k most old held result new holds (n, taken, within, works, is, whole) = worked_journal who k old n taken new works
+
+-- what a worker does with the search that was picked
+pub visits_one : (most : ℕ) (old : HallState) (held : List TakenLetter) (new : HallState) (holds : List TakenLetter) (result told : Result (Unit {0}) Fault) (at : List ℕ × ℕ) (made : Step) →
+    at ≡ (step_name made, step_search made) → (SearchIsQuiet old (step_name made) (step_search made) → ⊥) → IsVisited at.0 at.1 most old held result new holds → result ≡ told →
+    VisitsOne most old held told new holds
+visits_one most old held new holds result told at made same left visited is = (
+  at.0,
+  at.1,
+  λ quiet. left (subst (λ (p : List ℕ × ℕ). SearchIsQuiet old p.0 p.1) same quiet),
+  subst (λ (r : Result (Unit {0}) Fault). IsVisited at.0 at.1 most old held r new holds) is visited,
+)

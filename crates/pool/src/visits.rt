@@ -80,8 +80,8 @@ impl<L: Ledger> Room<L> {
     pub(crate) fn visit(&mut self, held: &mut Vec<Job>) -> Found
         requires empty { vec_len held.old ≡ 0 }
         requires space { BATCH ≤ vec_capacity held.old }
-        ensures visit { IsVisit BATCH self.old.hall held.old.items self.new.hall held.new.items }
-        ensures stopped { self.old.stopped ≡ true → (result ≡ Found.Stopped) × (self.new ≡ self.old) }
+        ensures visit { IsVisit BATCH self.old.hall held.old.items result self.new.hall held.new.items }
+        ensures stopped { (result ≡ Found.Stopped) ↔ (self.old.stopped ≡ true) }
         ensures journal { self.new.hall.journal ≡ self.old.hall.journal }
         ensures room { self.new ≡ record self.old { hall = self.new.hall } }
         ensures bound { vec_len held.new ≤ BATCH }
