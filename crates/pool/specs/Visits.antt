@@ -1,9 +1,45 @@
--- What a worker does to the hall in one visit.
-use Rattle.std.specs.Prelude.{ℕ, List}
+-- What a worker does to the hall: it hands in letters, and makes steps of one search in a row.
+use Rattle.std.specs.Prelude.{◌≡◌, ◌+◌, ◌∷◌, ◌↔◌, ℕ, Bool, true, false, IsTrue, List, [], map, if◌then◌else◌}
+use Rattle.hall.specs.declared.calls.steps.Step.{Step}
+use Rattle.hall.specs.declared.calls.steps.Step.TheVariants.{GiveBack, Finish}
+use Rattle.hall.specs.declared.calls.steps.Stepped.{Stepped}
+use Rattle.hall.specs.declared.calls.steps.Stepped.TheVariants.{Done}
 use Rattle.hall.specs.halls.State.{HallState}
-use Rattle.hall.specs.halls.Calls.{TakenLetter}
+use Rattle.hall.specs.halls.Run.{IsStepped, step_name, step_search}
+use Rattle.hall.specs.halls.Calls.{TakenLetter, CanBeMade}
 use Rattle.hall.specs.halls.Visits.{IsVisited}
+use Rattle.pool.specs.declared.visits.Found.{Found}
+use Rattle.pool.specs.declared.visits.Found.TheVariants as found
+use Rattle.pool.specs.declared.visits.Looked.{Looked}
 
--- steps of one search are made, no more than so many, and the letters that are taken by them stand behind those that are held
-abbrev pub IsVisit : ℕ → HallState → List TakenLetter → HallState → List TakenLetter → Type 0
-IsVisit most old held new holds = (who : List ℕ) × (number : ℕ) × IsVisited who number most old held new holds
+-- where the desk wasn't stopped the letter is finished with its hint, and this tells whether the hall answered that it is
+-- done; after a stop it is given back
+abbrev pub IsHandedIn : Bool → HallState → Looked → Bool → HallState → Type 0
+IsHandedIn false old one finished new =
+    (answer : Stepped) × IsStepped old (Finish one.job.who one.job.number one.job.letter one.hint) answer new × (IsTrue finished ↔ (answer ≡ Done))
+IsHandedIn true old one finished new =
+    (answer : Stepped) × IsStepped old (GiveBack one.job.who one.job.number one.job.letter) answer new × (finished ≡ false)
+
+-- each of these letters is handed in once, the last one first, and so many are finished
+pub data AreHandedIn (stopped : Bool) (old : HallState) : List Looked → ℕ → HallState → Type 0 where
+  nothing : AreHandedIn stopped old [] 0 old
+  letter : {one : Looked} {behind : List Looked} {n : ℕ} {middle new : HallState} (finished : Bool) →
+      AreHandedIn stopped old behind n middle → IsHandedIn stopped middle one finished new →
+      AreHandedIn stopped old (one ∷ behind) (if finished then n + 1 else n) new
+
+-- the letters, without what was looked up for them
+abbrev pub letters_of : List Looked → List TakenLetter
+letters_of looked = map (λ (one : Looked). one.job) looked
+
+-- steps are made of one search, of which there is one to make; no more than so many, and the letters that are taken by them
+-- stand behind those that are held
+abbrev pub WorksOnSearch : ℕ → HallState → List TakenLetter → HallState → List TakenLetter → Type 0
+WorksOnSearch most old held new holds =
+    (first : Step) × CanBeMade old first × IsVisited (step_name first) (step_search first) most old held new holds
+
+-- where there was something to do a search is worked on, and else nothing is done
+abbrev pub IsVisit : ℕ → HallState → List TakenLetter → Found → HallState → List TakenLetter → Type 0
+IsVisit most old held found.Work new holds = WorksOnSearch most old held new holds
+IsVisit most old held found.NoMemory new holds = WorksOnSearch most old held new holds
+IsVisit most old held found.Nothing new holds = (new ≡ old) × (holds ≡ held)
+IsVisit most old held found.Stopped new holds = (new ≡ old) × (holds ≡ held)
