@@ -21,8 +21,6 @@ for steps in 1 8 32; do
     sed "s/^pub(crate) const BATCH: usize = 32;/pub(crate) const BATCH: usize = $steps;/" \
         "$root/crates/pool/src/visits.rt" > "$work/crates/pool/src/visits.rt"
     grep -q "BATCH: usize = $steps;" "$work/crates/pool/src/visits.rt"
-    sed "s/(32 ≤/($steps ≤/g" "$root/crates/pool/proofs/workers/work/Invariants.antt" \
-        > "$work/crates/pool/proofs/workers/work/Invariants.antt"
     build
     for workers in 1 2 4; do
         # shellcheck disable=SC2046,SC2059

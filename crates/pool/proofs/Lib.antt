@@ -3,4 +3,5 @@ pub mod Polled
 pub mod Read
 pub mod Kept
 pub mod Visiting
+pub mod HandingIn
 pub mod Counted

@@ -1,4 +1,4 @@
--- What a visit is made of, and that it leaves the journal as it was.
+-- What a search is worked on leaves the journal as it was, and what a worker does with the search that was picked.
 use Rattle.std.proofs.Common.{◌≡◌, ◌∙◌, ℕ, List, Result, refl, subst}
 use Rattle.hall.specs.declared.faults.Fault.{Fault}
 use Rattle.hall.specs.declared.calls.steps.Step.{Step}
@@ -11,16 +11,12 @@ use Rattle.hall.specs.halls.Visits.{IsWorkedOn, IsVisited}
 use Rattle.pool.specs.Visits.{VisitsOne}
 use Rattle.pool.proofs.Kept.{stepped_journal}
 
-worked_journal : (who : List ℕ) (k : ℕ) (old : HallState) (n : ℕ) (taken : List TakenLetter) (new : HallState) → IsWorkedOn who k old n taken new → new.journal ≡ old.journal
+pub worked_journal : (who : List ℕ) (k : ℕ) (old : HallState) (n : ℕ) (taken : List TakenLetter) (new : HallState) → IsWorkedOn who k old n taken new → new.journal ≡ old.journal
 worked_journal who k old n taken new IsWorkedOn.nothing = refl
 worked_journal who k old n taken new (IsWorkedOn.signal {n = m} {taken = before} {middle} works steps) =
     stepped_journal middle new (Signal who k 0) Signalled steps ∙ worked_journal who k old m before middle works
 worked_journal who k old n taken new (IsWorkedOn.letter {n = m} {taken = before} {job} {middle} works (answer, steps, is)) =
     stepped_journal middle new (Take who k 0) answer steps ∙ worked_journal who k old m before middle works
-
-pub visited_journal : {E : Type 0} (who : List ℕ) (k most : ℕ) (old : HallState) (held : List TakenLetter) (result : Result (Unit {0}) E) (new : HallState) (holds : List TakenLetter) →
-    IsVisited who k most old held result new holds → new.journal ≡ old.journal
-visited_journal who k most old held result new holds (n, taken, within, works, is, whole) = worked_journal who k old n taken new works
 
 -- what a worker does with the search that was picked
 pub visits_one : (most : ℕ) (old : HallState) (held : List TakenLetter) (new : HallState) (holds : List TakenLetter) (result told : Result (Unit {0}) Fault) (at : List ℕ × ℕ) (made : Step) →

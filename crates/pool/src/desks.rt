@@ -223,6 +223,9 @@ impl<L: Ledger> Desk<L> {
     ) -> (Found, u64)
         requires empty { vec_len held.old ≡ 0 }
         requires space { BATCH ≤ vec_capacity held.old }
+        ensures found { ¬ (result.0 ≡ Found.Nothing) }
+        ensures stopped { result.0 ≡ Found.Stopped → vec_len held.new ≡ 0 }
+        ensures most { result.1 ≤ vec_len looked.old }
         ensures handed_in { vec_len looked.new ≡ 0 }
         ensures looked { vec_capacity looked.new ≡ vec_capacity looked.old }
         ensures bound { vec_len held.new ≤ BATCH }
@@ -249,6 +252,7 @@ impl<L: Ledger> Desk<L> {
 
     /// For a worker that ends: hands in all that it holds, and answers how many letters are finished.
     pub(crate) fn hand_in<R: Wait>(&self, rt: &R, looked: &mut Vec<Looked>) -> u64
+        ensures most { result ≤ vec_len looked.old }
         ensures empty { vec_len looked.new ≡ 0 }
         ensures capacity { vec_capacity looked.new ≡ vec_capacity looked.old }
     {

@@ -1,12 +1,8 @@
 //! What a worker does when it has the lock: the steps of one search in a row, and what it hands in.
 ghost use Rattle.std.specs.Prelude.{◌≡◌, ◌≤◌, ◌↔◌, true, false, IsTrue, vec_len, vec_capacity};
-ghost use Rattle.hall.specs.declared.calls.steps.Step.TheVariants as step;
-ghost use Rattle.hall.specs.declared.calls.steps.Stepped.TheVariants as stepped;
-ghost use Rattle.hall.specs.declared.calls.steps.Stepped.{Stepped};
-ghost use Rattle.hall.specs.halls.Run.{IsStepped, step_name, step_search};
+ghost use Rattle.hall.specs.halls.Run.{step_name, step_search};
 ghost use Rattle.hall.specs.halls.Calls.{NothingToDo};
 ghost use Rattle.search.specs.Need.{right_hint};
-ghost use Rattle.pool.specs.Visits.{IsVisit};
 
 use crate::rooms::Room;
 use hall::{Job, Step, Stepped};
@@ -51,6 +47,8 @@ fn search_of(step: &Step) -> (Entity, u64)
 }
 
 impl<L: Ledger> Room<L> {
+    ghost use Rattle.pool.specs.Visits.{IsHandedIn, AreHandedIn, IsVisit};
+
     /// Whether a worker has nothing to do, and is not to end.
     pub(crate) fn is_idle(&self) -> bool
         ensures { IsTrue result ↔ ((self.now.stopped ≡ false) × NothingToDo self.now.hall) }
@@ -75,6 +73,7 @@ impl<L: Ledger> Room<L> {
         mem::take(&mut self.ended)
     }
 
+    #[tactic(auto, using(crate::proofs::Visiting::worked_journal))]
     /// The steps of one visit of a worker, all of one search: it delivers signals and takes letters as long as there are any,
     /// and makes no more than 32 steps.
     pub(crate) fn visit(&mut self, held: &mut Vec<Job>) -> Found
@@ -82,6 +81,7 @@ impl<L: Ledger> Room<L> {
         requires space { BATCH ≤ vec_capacity held.old }
         ensures visit { IsVisit BATCH self.old.hall held.old.items result self.new.hall held.new.items }
         ensures stopped { (result ≡ Found.Stopped) ↔ (self.old.stopped ≡ true) }
+        ensures nothing { (result ≡ Found.Nothing) ↔ ((self.old.stopped ≡ false) × NothingToDo self.old.hall) }
         ensures journal { self.new.hall.journal ≡ self.old.hall.journal }
         ensures room { self.new ≡ record self.old { hall = self.new.hall } }
         ensures bound { vec_len held.new ≤ BATCH }
@@ -106,29 +106,24 @@ impl<L: Ledger> Room<L> {
     /// Finishes the letter with what was looked up for it, and tells whether it is finished. After a stop the letter is given
     /// back.
     fn hand_in(&mut self, looked: Looked) -> bool
-        ensures finishes { self.old.stopped ≡ false → ((answer : Stepped)
-            × IsStepped self.old.hall (step.Finish looked.job.who looked.job.number looked.job.letter looked.hint) answer self.new.hall
-            × (IsTrue result ↔ (answer ≡ stepped.Done))) }
-        ensures gives_back { self.old.stopped ≡ true → ((answer : Stepped)
-            × IsStepped self.old.hall (step.GiveBack looked.job.who looked.job.number looked.job.letter) answer self.new.hall
-            × (result ≡ false)) }
+        ensures handed_in { IsHandedIn self.old.stopped self.old.hall looked result self.new.hall }
         ensures journal { self.new.hall.journal ≡ self.old.hall.journal }
         ensures room { self.new ≡ record self.old { hall = self.new.hall } }
     {
         let Looked { job, hint } = looked;
-        if self.stopped {
-            self.hall.give_back(job);
-            return false;
+        if !self.stopped {
+            let answer = self.hall.finish(job, hint);
+            return matches!(answer, Stepped::Done);
         }
-        let answer = self.hall.finish(job, hint);
-        matches!(answer, Stepped::Done)
+        self.hall.give_back(job);
+        false
     }
 
     /// Hands in all that a worker holds, which are letters of one search, and answers how many are finished.
     pub(crate) fn hand_in_all(&mut self, looked: &mut Vec<Looked>) -> u64
+        ensures handed_in { AreHandedIn self.old.stopped self.old.hall looked.old.items result self.new.hall }
         ensures journal { self.new.hall.journal ≡ self.old.hall.journal }
         ensures room { self.new ≡ record self.old { hall = self.new.hall } }
-        ensures stopped { self.old.stopped ≡ true → result ≡ 0 }
         ensures most { result ≤ vec_len looked.old }
         ensures empty { vec_len looked.new ≡ 0 }
         ensures capacity { vec_capacity looked.new ≡ vec_capacity looked.old }

@@ -1,6 +1,7 @@
 //! Workers: threads that take letters, look up outside the lock, and hand in.
-ghost use Rattle.std.specs.Prelude.{◌≡◌, ◌≤◌, IfErr, vec_len, vec_capacity};
+ghost use Rattle.std.specs.Prelude.{◌≡◌, ◌≤◌, IfErr, vec_len, vec_capacity, reverse};
 ghost use Rattle.pool.specs.Refusals.{IsWorkRefusal};
+ghost use Rattle.pool.specs.Visits.{letters_of};
 
 use crate::desks::Desk;
 use crate::faults::DeskFault;
@@ -24,6 +25,7 @@ struct Worked {
 fn look_up_all<G: Gate>(gate: &G, held: &mut Vec<Job>, looked: &mut Vec<Looked>)
     requires empty { vec_len looked.old ≡ 0 }
     requires space { vec_len held.old ≤ vec_capacity looked.old }
+    ensures letters { letters_of looked.new.items ≡ reverse held.old.items }
     ensures empty { vec_len held.new ≡ 0 }
     ensures held { vec_capacity held.new ≡ vec_capacity held.old }
     ensures looked { vec_capacity looked.new ≡ vec_capacity looked.old }

@@ -1,8 +1,10 @@
-use Rattle.std.specs.Prelude.{◌≡◌, ◌≤◌, ◌+◌, vec_len, vec_capacity}
+use Rattle.std.specs.Prelude.{◌≡◌, ◌≤◌, ◌+◌, ◌++◌, reverse, vec_len, vec_capacity}
+use Rattle.pool.specs.Visits.{letters_of}
 use Rattle.pool.proofs.workers.look_up_all.Given as goal
 
 abbrev pub invariant-loop-job : goal.invariant-loop-job
 invariant-loop-job g l = record {
+  letters : letters_of l.looked.items ++ reverse l.held.items ≡ reverse l.initial.held.items;
   space : vec_len l.looked + vec_len l.held ≤ vec_capacity l.looked;
   held : vec_capacity l.held ≡ vec_capacity l.initial.held;
   looked : vec_capacity l.looked ≡ vec_capacity l.initial.looked;

@@ -1,0 +1,25 @@
+-- Letters that are handed in one after another, the last one first.
+use Rattle.std.proofs.Common.{◌≡◌, ◌∙◌, ◌+◌, ◌++◌, ◌∷◌, ℕ, Bool, List, [], sym, subst, if◌then◌else◌}
+use Rattle.std.proofs.lemmas.List.{append-nil, append_assoc}
+use Rattle.hall.specs.halls.State.{HallState}
+use Rattle.pool.specs.declared.visits.Looked.{Looked}
+use Rattle.pool.specs.Visits.{IsHandedIn, AreHandedIn}
+
+-- of all these letters, those that are left wait, and those behind them are handed in
+abbrev pub HandsInBehind : Bool → HallState → List Looked → List Looked → ℕ → HallState → Type 0
+HandsInBehind stopped old all left n now = (behind : List Looked) × (all ≡ left ++ behind) × AreHandedIn stopped old behind n now
+
+pub none_handed_in : (stopped : Bool) (old : HallState) (all : List Looked) → all ≡ [] → AreHandedIn stopped old all 0 old
+none_handed_in stopped old all none = subst (λ (these : List Looked). AreHandedIn stopped old these 0 old) (sym none) AreHandedIn.nothing
+
+pub none_behind : (stopped : Bool) (old : HallState) (all : List Looked) → HandsInBehind stopped old all all 0 old
+none_behind stopped old all = ([], sym (append-nil all), AreHandedIn.nothing)
+
+pub one_behind : (stopped now_stopped : Bool) (old : HallState) (all left rest : List Looked) (one : Looked) (n : ℕ) (finished : Bool) (now new : HallState) →
+    HandsInBehind stopped old all left n now → left ≡ rest ++ one ∷ [] → now_stopped ≡ stopped → IsHandedIn now_stopped now one finished new →
+    HandsInBehind stopped old all rest (if finished then n + 1 else n) new
+one_behind stopped now_stopped old all left rest one n finished now new (behind, is, done) last same handed_in = (
+  one ∷ behind,
+  is ∙ rw last (append_assoc rest (one ∷ []) behind),
+  AreHandedIn.letter finished done (subst (λ (b : Bool). IsHandedIn b now one finished new) same handed_in),
+)
