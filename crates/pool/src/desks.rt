@@ -1,11 +1,11 @@
-ghost use Rattle.std.specs.Prelude.{◌≡◌, ◌+◌, ◌<◌, [], ◌≤◌, length, vec_len, vec_capacity, IfOk, IfErr, OnOk, Contains};
+ghost use Rattle.std.specs.Prelude.{◌≡◌, ◌↔◌, ◌+◌, ◌<◌, ◌≤◌, length, map, vec_len, vec_capacity, IfOk, IfErr, OnOk, Contains};
 ghost use Rattle.std.specs.List.{All};
 ghost use Rattle.std.specs.List.Sorted.{IsStrictlySortedBy};
 ghost use Rattle.std.specs.Arc.{arc_value};
 ghost use Rattle.std.specs.Sync.Mutex.{mutex_guard_value};
 ghost use Rattle.names.specs.Name.{name_order};
 ghost use Rattle.credential_text.specs.Credential.{credential_order};
-ghost use Rattle.hall.specs.halls.State.{IsSound};
+ghost use Rattle.hall.specs.halls.State.{AreDistinct, IsSound, new_hall};
 ghost use Rattle.pool.specs.Passes.{OnlySees, shares_of};
 ghost use Rattle.pool.specs.Refusals.{IsRefused, IsChangeRefusal, IsOpenRefusal, IsPollRefusal, IsEndRefusal, IsReadRefusal};
 ghost use Rattle.pool.specs.Refusals.{IsProofRefusal, IsPassRefusal};
@@ -14,19 +14,26 @@ ghost use Rattle.pool.specs.Verdicts.{IsTrueWhereCompleted, rows_read, IsProofOf
 use crate::faults::DeskFault;
 use crate::passes::Pass;
 use crate::rooms::{PARTS, Room};
+use crate::tenants::{is_among, names_of};
 use crate::verdicts::{Gathered, Ticket, Verdict};
 use crate::visits::{BATCH, Found, Looked};
-use hall::{Hall, Job, Names, Proof, Query, Rows};
+use hall::{Fault, Hall, Job, Names, Proof, Query, Rows};
+use indexmap::IndexSet;
 use names::Entity;
+use quotas::Limits;
+use std::alloc::Global;
+use std::marker::Model;
 use std::sync::ledger::{Blank, Ledger};
 use std::sync::{Condvar, Mutex, MutexGuard, Wait};
 use vaults::Change;
 
 /// A hall under one lock, with the ledger of the accepted changes of which passes were told. The type `L` names the
 /// ledger, so a pass of another desk fits no call. All calls but `make` may wait for the lock, and what they ensure holds
-/// if they return.
+/// if they return. Contracts see of a desk the names of its tenants, which never change.
 #[derive(Drop)]
 pub struct Desk<L: Ledger> {
+    /// The names of the hall's tenants. They stand outside of the lock, so that a contract can tell who gets a pass.
+    tenants: IndexSet<Entity>,
     room: Mutex<Room<L>>,
     /// Where callers wait for the end of a search.
     over: Condvar,
@@ -34,19 +41,36 @@ pub struct Desk<L: Ledger> {
     work: Condvar,
 }
 
+impl<L: Ledger> Model for Desk<L> {
+    ghost use Rattle.std.specs.Prelude.{ℕ, List};
+
+    ghost Value = { List (List ℕ) };
+
+    ghost view = { λ d. d.tenants.keys };
+}
+
 impl<L: Ledger> Desk<L> {
-    /// A desk over a hall without a journal, where no pass is out.
-    pub fn make(hall: Hall, blank: Blank) -> Desk<L>
-        requires empty { hall.journal ≡ [] }
+    /// A desk of these tenants, who have done nothing yet. No pass is out.
+    pub fn make(
+        alloc: Global,
+        roster: Vec<(Entity, Limits)>,
+        blank: Blank,
+    ) -> Result<Desk<L>, Fault>
+        requires distinct { AreDistinct (new_hall roster.items).tenants }
         requires name { blank.name ≡ L.name }
         requires parts { blank.parts ≡ L.parts }
         requires room { blank.parts ≡ PARTS }
+        ensures tenants { IfOk result (λ desk. desk ≡ map (λ row. row.0) roster.items) }
+        ensures only_memory { IfErr result (λ f. f ≡ Fault.Memory) }
     {
-        Desk {
+        let tenants = names_of(alloc, &roster)?;
+        let hall = Hall::make(alloc, roster)?;
+        Ok(Desk {
+            tenants,
             room: Mutex::new(Room::new(hall, blank)),
             over: Condvar::new(),
             work: Condvar::new(),
-        }
+        })
     }
 
     /// Takes the lock. Each time the ledger's total is the length of the journal, and the hall is sound.
@@ -64,8 +88,13 @@ impl<L: Ledger> Desk<L> {
     pub fn pass<R: Wait>(&self, rt: &R, who: Entity) -> Result<Pass<L>, DeskFault>
         ensures tenant { IfOk result (λ p. p.tenant ≡ who) }
         ensures share { IfOk result (λ p. p.share ≡ 0) }
+        ensures known { OnOk result (Contains self.now who) }
         ensures refused { IfErr result IsPassRefusal }
+        ensures stranger { IfErr result (λ f. (f ≡ DeskFault.Hall Fault.NoTenant) ↔ (Contains self.now who → ⊥)) }
     {
+        if !is_among(&self.tenants, &who) {
+            return Err(DeskFault::Hall(Fault::NoTenant));
+        }
         self.enter(rt).admit(who)
     }
 

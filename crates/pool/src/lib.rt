@@ -10,6 +10,7 @@ mod faults;
 mod gates;
 mod passes;
 mod rooms;
+mod tenants;
 #[cfg(test)]
 mod tests;
 mod verdicts;

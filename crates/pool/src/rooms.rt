@@ -1,11 +1,11 @@
 //! What lies under the lock of a desk: the hall, and the count of the changes of which passes were told.
-ghost use Rattle.std.specs.Prelude.{◌≡◌, ◌+◌, ◌<◌, ◌≤◌, ◌↔◌, true, false, [], length, vec_len, IfOk, IfErr, OnOk, OnErr};
+ghost use Rattle.std.specs.Prelude.{◌≡◌, ◌+◌, ◌<◌, ◌≤◌, true, false, [], length, vec_len, IfOk, IfErr, OnOk, OnErr};
 ghost use Rattle.hall.specs.declared.calls.requests.Request.TheVariants as request;
-ghost use Rattle.hall.specs.halls.State.{IsSound, is_tenant};
+ghost use Rattle.hall.specs.halls.State.{IsSound};
 ghost use Rattle.hall.specs.halls.Run.{IsServed, RefusedLast};
 ghost use Rattle.hall.specs.halls.Calls.{counted};
 ghost use Rattle.pool.specs.Passes.{IsSeenAt, shares_of};
-ghost use Rattle.pool.specs.Refusals.{IsRefusedAt, IsChangeRefusal, IsPassRefusal};
+ghost use Rattle.pool.specs.Refusals.{IsRefusedAt, IsChangeRefusal};
 ghost use Rattle.pool.specs.Told.{IfTold};
 
 use crate::faults::DeskFault;
@@ -102,19 +102,14 @@ impl<L: Ledger> Room<L> {
         let _length = self.hall.journal_len();
     }
 
-    /// A new pass of a tenant, which has seen the journal as it is and was told of no change.
+    /// A new pass of this name, which has seen the journal as it is and was told of no change.
     pub(crate) fn admit(&mut self, who: Entity) -> Result<Pass<L>, DeskFault>
         ensures pass { IfOk result (λ p. p ≡ record { tenant = who; front = length self.old.hall.journal; share = 0 }) }
-        ensures tenant { OnOk result (is_tenant self.old.hall who ≡ true) }
         ensures ok { OnOk result (self.new ≡ record self.old { out = self.old.out + 1 }) }
-        ensures refused { IfErr result IsPassRefusal }
-        ensures no_tenant { IfErr result (λ f. (f ≡ DeskFault.Hall Fault.NoTenant) ↔ (is_tenant self.old.hall who ≡ false)) }
-        ensures full { IfErr result (λ f. f ≡ DeskFault.Hall Fault.Memory → self.old.out ≡ MOST_OUT) }
+        ensures refused { IfErr result (λ f. f ≡ DeskFault.Hall Fault.Memory) }
+        ensures full { OnErr result (self.old.out ≡ MOST_OUT) }
         ensures err { OnErr result (self.new ≡ self.old) }
     {
-        if !self.hall.has(who) {
-            return Err(DeskFault::Hall(Fault::NoTenant));
-        }
         if self.out == MOST_OUT {
             return Err(DeskFault::Hall(Fault::Memory));
         }

@@ -18,11 +18,10 @@ bye = session_line (codes "bye")
 abbrev pub hello_to : List ℕ → List ℕ
 hello_to name = session_line (codes "hello " ++ name)
 
--- A tenant with its word is let in, if the desk has a pass for it; where it has none, it says so as to a wrong hello, or
--- that memory lacks. Any other hello has the one answer.
+-- A tenant with its word is let in, unless memory lacks for its pass. Any other hello has the one answer.
 pub data IsGreeted (rows : List Row) (name word reply : List ℕ) (after : Phase) : Type 0 where
   let_in : IsTenant rows name word → reply ≡ hello_to name → after ≡ of_tenant name → IsGreeted rows name word reply after
-  turned_away : reply ≡ session_refusal 62 → after ≡ new → IsGreeted rows name word reply after
+  turned_away : (IsTenant rows name word → ⊥) → reply ≡ session_refusal 62 → after ≡ new → IsGreeted rows name word reply after
   lacks_memory : IsTenant rows name word → reply ≡ session_refusal 90 → after ≡ new → IsGreeted rows name word reply after
 
 -- what one who has not said who it is gets for a line

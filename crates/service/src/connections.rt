@@ -1,6 +1,7 @@
 //! The connections of a service: one thread accepts them, and hands them to those that answer.
-ghost use Rattle.std.specs.Prelude.{◌≢◌, ◌≤◌, IfErr};
+ghost use Rattle.std.specs.Prelude.{◌≡◌, ◌≢◌, ◌≤◌, IfErr};
 ghost use Rattle.service.specs.declared.serve_faults.ServeFault.TheVariants as fault;
+ghost use Rattle.service.specs.Roster.{names_of};
 ghost use Rattle.service.specs.Served.{Answered};
 
 use crate::rosters::Roster;
@@ -29,7 +30,8 @@ pub(crate) fn answer_connections<L: Ledger + Send + Sync, R: Threads + Wait + Sy
     sessions: u64,
     accept: Option<u64>,
 ) -> Result<u64, ServeFault>
-    requires { (1 ≤ sessions) × (sessions ≤ 64) }
+    requires tenants { desk.now ≡ names_of roster.now }
+    requires sessions { (1 ≤ sessions) × (sessions ≤ 64) }
     ensures { Answered accept result }
 {
     let Ok((sender, receiver)) = bounded::<TcpStream, _>(alloc, QUEUED) else {
@@ -40,7 +42,8 @@ pub(crate) fn answer_connections<L: Ledger + Send + Sync, R: Threads + Wait + Sy
         thread::scope_env(),
         rt,
         |scope| -> Result<u64, ServeFault>
-            requires { (1 ≤ sessions) × (sessions ≤ 64) }
+            requires tenants { desk.now ≡ names_of roster.now }
+            requires sessions { (1 ≤ sessions) × (sessions ≤ 64) }
             ensures { Answered accept result }
         {
             let mut started = true;
@@ -109,7 +112,9 @@ fn answer_queue<L: Ledger, R: Wait>(
     desk: &Desk<L>,
     roster: &Roster,
     queue: &Receiver<TcpStream>,
-) {
+)
+    requires { desk.now ≡ names_of roster.now }
+{
     for _ in rt.forever() {
         let Ok(stream) = queue.recv(rt) else {
             break;
@@ -125,7 +130,9 @@ fn answer_peer<L: Ledger, R: Wait>(
     desk: &Desk<L>,
     roster: &Roster,
     stream: &TcpStream,
-) {
+)
+    requires { desk.now ≡ names_of roster.now }
+{
     let _ = stream.set_nodelay(true);
     let mut writer = stream;
     let _end = serve_session(rt, alloc, desk, roster, stream, &mut writer);

@@ -1,10 +1,10 @@
 //! Rosters: the tenants that an input begins with.
 ghost use Rattle.std.specs.Prelude.{◌≡◌, ◌≢◌, ◌↔◌, map, true, IsTrue, IfOk, IfErr};
 ghost use Rattle.std.specs.List.{list_any};
-ghost use Rattle.names.specs.Name.{is_same};
+ghost use Rattle.names.specs.Name.{IsName, is_same};
 ghost use Rattle.hall.specs.halls.State.{new_hall, AreDistinct};
 ghost use Rattle.service.specs.declared.script_faults.ScriptFault.TheVariants as fault;
-ghost use Rattle.service.specs.Roster.{IsTenant, IsRoster, tenant_of};
+ghost use Rattle.service.specs.Roster.{IsTenant, IsRoster, names_of, tenant_of};
 ghost use Rattle.service.specs.RosterReading.{FindsLine, AddsRow, ReadsRoster};
 ghost use Rattle.service.specs.LineReader.{IfKnown};
 
@@ -13,10 +13,12 @@ use crate::roster_lines::{RosterLine, Row, roster_line};
 use crate::script_faults::ScriptFault;
 use hall::{Fault, Hall};
 use names::Entity;
+use pool::{Desk, PARTS};
 use quotas::Limits;
 use std::alloc::{AllocError, Global};
 use std::io::Read;
 use std::marker::Model;
+use std::sync::ledger::{Blank, Ledger};
 
 /// The most tenants of a roster.
 const MOST_TENANTS: usize = 1_000;
@@ -62,9 +64,14 @@ impl Roster {
 
     /// Whether a tenant has this name and this word.
     pub fn check(&self, name: &[u8], word: &[u8]) -> bool
-        ensures { IsTrue result ↔ IsTenant self.now name.now word.now }
+        ensures tenant { IsTrue result ↔ IsTenant self.now name.now word.now }
+        ensures name { IsTrue result → IsName name.now }
     {
-        self.rows.iter().any(|row| row.name.bytes() == name && row.word.as_slice() == word)
+        let mut rows = self.rows.iter();
+        match rows.find(|row| row.name.bytes() == name && row.word.as_slice() == word) {
+            Some(row) => row.name.bytes() == name,
+            None => false,
+        }
     }
 
     /// The hall of the roster's tenants, who have done nothing.
@@ -74,6 +81,19 @@ impl Roster {
     {
         let tenants = self.tenants(alloc)?;
         Hall::make(alloc, tenants)
+    }
+
+    #[tactic(auto, using(crate::proofs::TenantLemmas::names_of_tenants))]
+    /// A desk of the roster's tenants, who have done nothing.
+    pub fn desk<L: Ledger>(&self, alloc: Global, blank: Blank) -> Result<Desk<L>, Fault>
+        requires name { blank.name ≡ L.name }
+        requires parts { blank.parts ≡ L.parts }
+        requires room { blank.parts ≡ PARTS }
+        ensures tenants { IfOk result (λ desk. desk ≡ names_of self.now) }
+        ensures only_memory { IfErr result (λ f. f ≡ Fault.Memory) }
+    {
+        let tenants = self.tenants(alloc)?;
+        Desk::make(alloc, tenants, blank)
     }
 
     /// The tenants' names and limits, in order.

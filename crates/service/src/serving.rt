@@ -1,7 +1,8 @@
 //! The service: connections that are answered, and the workers beside them.
-ghost use Rattle.std.specs.Prelude.{◌≡◌, ◌≢◌, ◌≤◌, ◌<◌, ◌^◌, Some, [], IfOk, IfErr, OnOk, OnErr};
+ghost use Rattle.std.specs.Prelude.{◌≡◌, ◌≢◌, ◌≤◌, ◌<◌, ◌^◌, Some, IfOk, IfErr, OnOk, OnErr};
 ghost use Rattle.std.specs.Io.KnownBytes.{Appends};
 ghost use Rattle.service.specs.declared.serve_faults.ServeFault.TheVariants as fault;
+ghost use Rattle.service.specs.Roster.{names_of};
 ghost use Rattle.service.specs.Served.{Answered, ServeWrote, listening_line, served_line};
 ghost use Rattle.service.specs.Written.{WritesFront};
 
@@ -12,7 +13,6 @@ use crate::rosters::Roster;
 use crate::serve_faults::ServeFault;
 use crate::speakers::Speaker;
 use crate::writing::{WriteFault, write_reply};
-use hall::Hall;
 use pool::{Desk, DeskFault, NoGate, PARTS, run_workers};
 use std::alloc::Global;
 use std::io::Write;
@@ -51,23 +51,54 @@ pub fn serve<R: Threads + Wait + Sync, W: Write>(
     ensures count { IfOk result (λ n. options.accept ≡ Some n) }
     ensures wrote { ServeWrote options.accept result (Appends (W.contents writer.old) (W.contents writer.new)) }
 {
+    let blank = Blank::new(PARTS);
+    serve_with::<Brand, R, W>(rt, alloc, blank, roster, listener, options, writer)
+}
+
+/// Serves at a new desk of the roster's tenants, whose ledger has this name.
+fn serve_with<L: Ledger + Send + Sync, R: Threads + Wait + Sync, W: Write>(
+    rt: &R,
+    alloc: Global,
+    blank: Blank,
+    roster: &Roster,
+    listener: &TcpListener,
+    options: ServeOptions,
+    writer: &mut W,
+) -> Result<u64, ServeFault>
+    requires name { blank.name ≡ L.name }
+    requires parts { blank.parts ≡ L.parts }
+    requires room { blank.parts ≡ PARTS }
+    requires sessions { (1 ≤ options.sessions) × (options.sessions ≤ 64) }
+    ensures count { IfOk result (λ n. options.accept ≡ Some n) }
+    ensures wrote { ServeWrote options.accept result (Appends (W.contents writer.old) (W.contents writer.new)) }
+{
+    match roster.desk::<L>(alloc, blank) {
+        Ok(desk) => serve_at(rt, alloc, &desk, roster, listener, options, writer),
+        Err(_fault) => Err(ServeFault::Memory),
+    }
+}
+
+/// Serves at this desk.
+fn serve_at<L: Ledger + Send + Sync, R: Threads + Wait + Sync, W: Write>(
+    rt: &R,
+    alloc: Global,
+    desk: &Desk<L>,
+    roster: &Roster,
+    listener: &TcpListener,
+    options: ServeOptions,
+    writer: &mut W,
+) -> Result<u64, ServeFault>
+    requires tenants { desk.now ≡ names_of roster.now }
+    requires sessions { (1 ≤ options.sessions) × (options.sessions ≤ 64) }
+    ensures count { IfOk result (λ n. options.accept ≡ Some n) }
+    ensures wrote { ServeWrote options.accept result (Appends (W.contents writer.old) (W.contents writer.new)) }
+{
     let mut line = Room::make(alloc)?;
-    let Ok(hall) = roster.hall(alloc) else {
-        return Err(ServeFault::Memory);
-    };
     let Ok(address) = listener.local_addr() else {
         return Err(ServeFault::Socket);
     };
     tell_port(writer, &mut line, address.port())?;
-    let count = serve_hall::<Brand, R>(
-        rt,
-        alloc,
-        hall,
-        Blank::new(PARTS),
-        roster,
-        listener,
-        options,
-    )?;
+    let count = answer_beside_workers(rt, alloc, desk, roster, listener, options)?;
     tell_count(writer, &mut line, count)?;
     Ok(count)
 }
@@ -96,27 +127,6 @@ fn tell_count<W: Write>(writer: &mut W, line: &mut Room, count: u64) -> Result<(
     write_reply(writer, line.as_slice())
 }
 
-/// Serves at a new desk of the hall, whose ledger has this name.
-fn serve_hall<L: Ledger + Send + Sync, R: Threads + Wait + Sync>(
-    rt: &R,
-    alloc: Global,
-    hall: Hall,
-    blank: Blank,
-    roster: &Roster,
-    listener: &TcpListener,
-    options: ServeOptions,
-) -> Result<u64, ServeFault>
-    requires empty { hall.journal ≡ [] }
-    requires name { blank.name ≡ L.name }
-    requires parts { blank.parts ≡ L.parts }
-    requires room { blank.parts ≡ PARTS }
-    requires sessions { (1 ≤ options.sessions) × (options.sessions ≤ 64) }
-    ensures { Answered options.accept result }
-{
-    let desk = Desk::<L>::make(hall, blank);
-    answer_beside_workers(rt, alloc, &desk, roster, listener, options)
-}
-
 /// Runs the workers while the connections are answered.
 fn answer_beside_workers<L: Ledger + Send + Sync, R: Threads + Wait + Sync>(
     rt: &R,
@@ -126,7 +136,8 @@ fn answer_beside_workers<L: Ledger + Send + Sync, R: Threads + Wait + Sync>(
     listener: &TcpListener,
     options: ServeOptions,
 ) -> Result<u64, ServeFault>
-    requires { (1 ≤ options.sessions) × (options.sessions ≤ 64) }
+    requires tenants { desk.now ≡ names_of roster.now }
+    requires sessions { (1 ≤ options.sessions) × (options.sessions ≤ 64) }
     ensures { Answered options.accept result }
 {
     let ServeOptions {
@@ -138,7 +149,8 @@ fn answer_beside_workers<L: Ledger + Send + Sync, R: Threads + Wait + Sync>(
         thread::scope_env(),
         rt,
         |scope| -> Result<u64, ServeFault>
-            requires { (1 ≤ sessions) × (sessions ≤ 64) }
+            requires tenants { desk.now ≡ names_of roster.now }
+            requires sessions { (1 ≤ sessions) × (sessions ≤ 64) }
             ensures { Answered accept result }
         {
             let Ok(working) = scope.spawn(move || work(rt, alloc, desk, workers)) else {

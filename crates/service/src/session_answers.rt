@@ -3,7 +3,7 @@ ghost use Rattle.std.specs.Prelude.{◌≡◌, ◌⊎◌, IfOk, IfErr, None, Som
 ghost use Rattle.service.specs.declared.refusals.Refusal.TheVariants as refusal;
 ghost use Rattle.service.specs.Command.{form_of};
 ghost use Rattle.service.specs.Line.{text};
-ghost use Rattle.service.specs.Roster.{IsTenant};
+ghost use Rattle.service.specs.Roster.{IsTenant, names_of};
 ghost use Rattle.service.specs.Session.{IsGreeted, of_tenant};
 ghost use Rattle.service.specs.SessionReply.{IsTold};
 ghost use Rattle.service.specs.SessionTurn.{phase_of, TakesLine};
@@ -31,6 +31,7 @@ pub(crate) fn answer_line<L: Ledger, R: Wait>(
     pass: &mut Option<Pass<L>>,
     reply: &mut Room,
 ) -> Turn
+    requires { host.now.desk.now ≡ names_of host.now.roster.now }
     ensures { TakesLine host.now.roster.now (text line.now) (phase_of pass.old) result (phase_of pass.new) reply.new }
 {
     match pass {
@@ -46,7 +47,8 @@ fn answer_stranger<L: Ledger, R: Wait>(
     pass: &mut Option<Pass<L>>,
     reply: &mut Room,
 ) -> Turn
-    requires { pass.old ≡ None }
+    requires tenants { host.now.desk.now ≡ names_of host.now.roster.now }
+    requires nobody { pass.old ≡ None }
     ensures { TakesLine host.now.roster.now (text line.now) (phase_of pass.old) result (phase_of pass.new) reply.new }
 {
     match read_said(line) {
@@ -76,6 +78,7 @@ fn greet<L: Ledger, R: Wait>(
     word: &[u8],
     reply: &mut Room,
 ) -> Option<Pass<L>>
+    requires { host.now.desk.now ≡ names_of host.now.roster.now }
     ensures { IsGreeted host.now.roster.now name.now word.now reply.new (phase_of result) }
 {
     match admit(host, name, word) {
@@ -90,15 +93,17 @@ fn greet<L: Ledger, R: Wait>(
     }
 }
 
+#[tactic(auto, using(crate::proofs::TenantLemmas::tenant_listed))]
 /// A pass for the tenant of this name, if that is its word.
 fn admit<L: Ledger, R: Wait>(
     host: &Host<'_, L, R>,
     name: &[u8],
     word: &[u8],
 ) -> Result<Pass<L>, Refusal>
+    requires tenants { host.now.desk.now ≡ names_of host.now.roster.now }
     ensures tenant { IfOk result (λ pass. pass.tenant ≡ name.now) }
     ensures known { IfOk result (λ pass. IsTenant host.now.roster.now name.now word.now) }
-    ensures refused { IfErr result (λ why. (why ≡ refusal.BadHello)
+    ensures refused { IfErr result (λ why. ((why ≡ refusal.BadHello) × (IsTenant host.now.roster.now name.now word.now → ⊥))
         ⊎ ((why ≡ refusal.Memory) × IsTenant host.now.roster.now name.now word.now)) }
 {
     if !host.roster.check(name, word) {
@@ -109,8 +114,8 @@ fn admit<L: Ledger, R: Wait>(
     };
     match host.desk.pass(host.rt, who) {
         Ok(pass) => Ok(pass),
-        Err(DeskFault::Hall(Fault::Memory)) => Err(Refusal::Memory),
-        Err(_fault) => Err(Refusal::BadHello),
+        Err(DeskFault::Hall(Fault::NoTenant)) => Err(Refusal::BadHello),
+        Err(_fault) => Err(Refusal::Memory),
     }
 }
 

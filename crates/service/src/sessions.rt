@@ -3,6 +3,7 @@ ghost use Rattle.std.specs.Prelude.{◌≡◌, IfSome};
 ghost use Rattle.std.specs.Io.KnownBytes.{Appends};
 ghost use Rattle.service.specs.Line.{commands_of};
 ghost use Rattle.service.specs.LineReader.{IfKnown};
+ghost use Rattle.service.specs.Roster.{names_of};
 ghost use Rattle.service.specs.Session.{new};
 ghost use Rattle.service.specs.SessionTurn.{phase_of, TakesTurn};
 ghost use Rattle.service.specs.SessionWritten.{SessionWrote};
@@ -48,8 +49,8 @@ pub(crate) enum Turn {
 }
 
 /// Serves a session: answers each line that isn't blank before the next one is read, up to the end of the input or to
-/// `quit`, and then gives its pass back to the desk. The room for a line and for a short reply is taken before anything
-/// is read.
+/// `quit`, and then gives its pass back to the desk, which is one of the roster's tenants. The room for a line and for a
+/// short reply is taken before anything is read.
 pub fn serve_session<L: Ledger, R: Wait, I: Read + Drop, W: Write>(
     rt: &R,
     alloc: Global,
@@ -58,6 +59,7 @@ pub fn serve_session<L: Ledger, R: Wait, I: Read + Drop, W: Write>(
     reader: I,
     writer: &mut W,
 ) -> SessionEnd
+    requires tenants { desk.now ≡ names_of roster.now }
     ensures { IfSome (I.remaining reader)
         (λ input. SessionWrote roster.now (commands_of input) result (Appends (W.contents writer.old) (W.contents writer.new))) }
 {
@@ -89,7 +91,8 @@ fn talk<L: Ledger, R: Wait, I: Read + Drop, W: Write>(
     reply: &mut Room,
     writer: &mut W,
 ) -> SessionEnd
-    requires { phase_of pass.old ≡ new }
+    requires tenants { host.now.desk.now ≡ names_of host.now.roster.now }
+    requires nobody { phase_of pass.old ≡ new }
     ensures { IfKnown lines.old (λ commands. SessionWrote host.now.roster.now commands result
         (Appends (W.contents writer.old) (W.contents writer.new))) }
 {
@@ -121,6 +124,7 @@ fn take_turn<L: Ledger, R: Wait, I: Read + Drop>(
     pass: &mut Option<Pass<L>>,
     reply: &mut Room,
 ) -> Turn
+    requires { host.now.desk.now ≡ names_of host.now.roster.now }
     ensures { IfKnown lines.old (λ commands. TakesTurn host.now.roster.now commands (phase_of pass.old) result lines.new
         (phase_of pass.new) reply.new) }
 {

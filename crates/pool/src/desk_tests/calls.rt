@@ -1,12 +1,13 @@
 //! Each call once without workers, and calls by a pass that has seen more than there is.
-ghost use Rattle.std.specs.Prelude.{◌≡◌, []};
+ghost use Rattle.std.specs.Prelude.{◌≡◌};
+ghost use Rattle.hall.specs.halls.State.{AreDistinct, new_hall};
 
 use super::entity;
-use super::plays::{come_back, hall_of_two};
+use super::plays::{come_back, roster_of_two};
 use crate::{Desk, DeskFault, PARTS, Pass};
 use credential_text::{Credential, Expr};
-use hall::{Answer, Fault, Hall, Query};
-use names::Role;
+use hall::{Answer, Fault, Query};
+use names::{Entity, Role};
 use quotas::Limits;
 use std::alloc::Global;
 use std::marker::Brand;
@@ -108,23 +109,23 @@ fn counts<L: Ledger, R: Wait>(
 fn each_call_once<L: Ledger, R: Wait>(
     rt: &R,
     alloc: Global,
-    hall: Hall,
+    roster: Vec<(Entity, Limits)>,
     blank: Blank,
 ) -> Result<bool, Fail>
-    requires empty { hall.journal ≡ [] }
+    requires distinct { AreDistinct (new_hall roster.items).tenants }
     requires name { blank.name ≡ L.name }
     requires parts { blank.parts ≡ L.parts }
     requires room { blank.parts ≡ PARTS }
 {
-    let desk = Desk::<L>::make(hall, blank);
+    let desk = Desk::<L>::make(alloc, roster, blank)?;
     let mut pass = desk.pass(rt, entity("A")?)?;
     Ok(asks(rt, &desk, &mut pass)? && keeps_out(rt, &desk)? && counts(rt, alloc, &desk, pass)?)
 }
 
 #[test]
 fn each_call(rt: HostRuntime) -> Result<(), Fail> {
-    let hall = hall_of_two(rt.alloc(), Limits::usual())?;
-    let all = each_call_once::<Brand, _>(&rt, rt.alloc(), hall, Blank::new(PARTS))?;
+    let roster = roster_of_two(rt.alloc(), Limits::usual())?;
+    let all = each_call_once::<Brand, _>(&rt, rt.alloc(), roster, Blank::new(PARTS))?;
     assert!(rt; all);
     Ok(())
 }
@@ -149,13 +150,18 @@ fn are_rewound<L: Ledger, R: Wait>(
 }
 
 /// Whether they leave the pass as it was.
-fn rewinds<L: Ledger, R: Wait>(rt: &R, hall: Hall, blank: Blank) -> Result<bool, Fail>
-    requires empty { hall.journal ≡ [] }
+fn rewinds<L: Ledger, R: Wait>(
+    rt: &R,
+    alloc: Global,
+    roster: Vec<(Entity, Limits)>,
+    blank: Blank,
+) -> Result<bool, Fail>
+    requires distinct { AreDistinct (new_hall roster.items).tenants }
     requires name { blank.name ≡ L.name }
     requires parts { blank.parts ≡ L.parts }
     requires room { blank.parts ≡ PARTS }
 {
-    let desk = Desk::<L>::make(hall, blank);
+    let desk = Desk::<L>::make(alloc, roster, blank)?;
     let mut pass = desk.pass(rt, entity("A")?)?;
     desk.change(rt, &mut pass, upload("A.r", "D")?)?;
     pass.see(3);
@@ -164,8 +170,8 @@ fn rewinds<L: Ledger, R: Wait>(rt: &R, hall: Hall, blank: Blank) -> Result<bool,
 
 #[test]
 fn a_pass_that_has_seen_more(rt: HostRuntime) -> Result<(), Fail> {
-    let hall = hall_of_two(rt.alloc(), Limits::usual())?;
-    let all = rewinds::<Brand, _>(&rt, hall, Blank::new(PARTS))?;
+    let roster = roster_of_two(rt.alloc(), Limits::usual())?;
+    let all = rewinds::<Brand, _>(&rt, rt.alloc(), roster, Blank::new(PARTS))?;
     assert!(rt; all);
     Ok(())
 }

@@ -1,11 +1,12 @@
 //! Calls of a desk as a table writes them, what a table wants each to be answered, and the desk on which they are played
 //! while workers run.
-ghost use Rattle.std.specs.Prelude.{◌≡◌, [], IfOk};
+ghost use Rattle.std.specs.Prelude.{◌≡◌, IfOk};
+ghost use Rattle.hall.specs.halls.State.{AreDistinct, new_hall};
 
 use super::entity;
 use crate::{Desk, DeskFault, Gate, PARTS, Pass, Verdict, run_workers};
 use credential_text::read_credential;
-use hall::{Answer, Fault, Hall, Query};
+use hall::{Answer, Fault, Query};
 use names::{Entity, Role};
 use quotas::Limits;
 use std::alloc::{AllocError, Global};
@@ -391,28 +392,28 @@ fn begun<L: Ledger, R: Wait>(
     Ok(passes)
 }
 
-/// Plays the scene on a desk over the hall, and answers how many letters the workers finished.
+/// Plays the scene on a desk of the roster, and answers how many letters the workers finished.
 fn on_desk<L: Ledger + Send + Sync, E: Extra, R: Threads + Wait + Clock + Sync>(
     rt: &R,
     alloc: Global,
-    hall: Hall,
+    roster: Vec<(Entity, Limits)>,
     blank: Blank,
     scene: &Scene<'_>,
     extra: &E,
 ) -> Result<u64, Fail>
-    requires empty { hall.journal ≡ [] }
+    requires distinct { AreDistinct (new_hall roster.items).tenants }
     requires name { blank.name ≡ L.name }
     requires parts { blank.parts ≡ L.parts }
     requires room { blank.parts ≡ PARTS }
 {
-    let desk = Desk::<L>::make(hall, blank);
+    let desk = Desk::<L>::make(alloc, roster, blank)?;
     let passes = begun(rt, alloc, &desk, scene)?;
     staged(rt, alloc, &desk, passes, scene.workers, scene.beside, extra)
 }
 
-/// The hall of A, with these limits, and B.
-pub(super) fn hall_of_two(alloc: Global, limits: Limits) -> Result<Hall, Fail>
-    ensures { IfOk result (λ h. h.journal ≡ []) }
+/// The roster of A, with these limits, and B.
+pub(super) fn roster_of_two(alloc: Global, limits: Limits) -> Result<Vec<(Entity, Limits)>, Fail>
+    ensures { IfOk result (λ roster. AreDistinct (new_hall roster.items).tenants) }
 {
     let (a, b) = (entity("A")?, entity("B")?);
     if a == b {
@@ -421,7 +422,7 @@ pub(super) fn hall_of_two(alloc: Global, limits: Limits) -> Result<Hall, Fail>
     let mut roster = Vec::new(alloc);
     roster.push((a, limits))?;
     roster.push((b, Limits::usual()))?;
-    Ok(Hall::make(alloc, roster)?)
+    Ok(roster)
 }
 
 /// Plays the scene, and answers how many letters the workers finished.
@@ -431,6 +432,6 @@ pub(super) fn played<E: Extra, R: Threads + Wait + Clock + Sync>(
     scene: &Scene<'_>,
     extra: &E,
 ) -> Result<u64, Fail> {
-    let hall = hall_of_two(alloc, scene.limits)?;
-    on_desk::<Brand, _, _>(rt, alloc, hall, Blank::new(PARTS), scene, extra)
+    let roster = roster_of_two(alloc, scene.limits)?;
+    on_desk::<Brand, _, _>(rt, alloc, roster, Blank::new(PARTS), scene, extra)
 }

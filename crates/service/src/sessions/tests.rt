@@ -1,8 +1,8 @@
-ghost use Rattle.std.specs.Prelude.{◌≡◌, [], IfOk};
+ghost use Rattle.std.specs.Prelude.{◌≡◌};
+ghost use Rattle.service.specs.Roster.{names_of};
 
 use super::*;
 use crate::fakes::{Drips, NEVER, Refuses, Trickles};
-use hall::Hall;
 use pool::{NoGate, PARTS, run_workers};
 use std::alloc::AllocError;
 use std::marker::Brand;
@@ -11,15 +11,11 @@ use std::test::Fail;
 use std::thread;
 use std::thread::Threads;
 
-/// The roster of A and B, and their hall.
-fn tenants(alloc: Global) -> Result<(Roster, Hall), Fail>
-    ensures { IfOk result (λ both. both.1.journal ≡ []) }
-{
+/// The roster of A and B.
+fn tenants(alloc: Global) -> Result<Roster, Fail> {
     let input: &[u8] = b"tenant A a\ntenant B bb\nbegin\n";
     let mut lines = LineReader::make(alloc, input)?;
-    let roster = Roster::read(alloc, &mut lines)?;
-    let hall = roster.hall(alloc)?;
-    Ok((roster, hall))
+    Ok(Roster::read(alloc, &mut lines)?)
 }
 
 /// How many changes were accepted, where all passes have left.
@@ -42,8 +38,8 @@ fn serve_at<L: Ledger, R: Wait>(
     requires parts { blank.parts ≡ L.parts }
     requires room { blank.parts ≡ PARTS }
 {
-    let (roster, hall) = tenants(alloc)?;
-    let desk = Desk::<L>::make(hall, blank);
+    let roster = tenants(alloc)?;
+    let desk = roster.desk::<L>(alloc, blank)?;
     let end = serve_session(rt, alloc, &desk, &roster, reader, writer);
     Ok((end, told_to_all(rt, alloc, &desk)?))
 }
@@ -346,7 +342,9 @@ fn are_told<L: Ledger, R: Wait>(
     desk: &Desk<L>,
     roster: &Roster,
     talks: &[Talk],
-) -> Result<bool, AllocError> {
+) -> Result<bool, AllocError>
+    requires { desk.now ≡ names_of roster.now }
+{
     for (said, told) in talks {
         let mut written = Vec::new(alloc);
         serve_session(rt, alloc, desk, roster, *said, &mut written);
@@ -367,8 +365,8 @@ fn are_told_at<L: Ledger + Send + Sync, R: Threads + Wait + Sync>(
     requires parts { blank.parts ≡ L.parts }
     requires room { blank.parts ≡ PARTS }
 {
-    let (roster, hall) = tenants(alloc)?;
-    let desk = Desk::<L>::make(hall, blank);
+    let roster = tenants(alloc)?;
+    let desk = roster.desk::<L>(alloc, blank)?;
     let (worked, beside) = thread::join(
         rt,
         || {

@@ -1,5 +1,5 @@
 -- The ledger is the one of the blank.
 use Rattle.service.proofs.serving.serve.Given as goal
 
-abbrev pub ghosts-serve_hall : goal.ghosts-serve_hall
-ghosts-serve_hall g a = record { name = a.blank.name; parts = a.blank.parts }
+abbrev pub ghosts-serve_with : goal.ghosts-serve_with
+ghosts-serve_with g a = record { name = a.blank.name; parts = a.blank.parts }

@@ -8,7 +8,7 @@ use Rattle.service.proofs.sessions.talk.Goals as goal
 use Rattle.service.proofs.sessions.talk.Goals.{in-Blank, in-Replied+else-is_err}
 
 pub loop-init : goal.loop-init
-loop-init g c = TalkSoFar-start c.args.host.now.roster.now c.args.lines.now _ (g.W.Write.contents c.args.writer.now) c.requires
+loop-init g c = TalkSoFar-start c.args.host.now.roster.now c.args.lines.now _ (g.W.Write.contents c.args.writer.now) c.requires.nobody
 
 pub returns-then-is_err : goal.returns-then-is_err
 returns-then-is_err g c =
