@@ -177,3 +177,6 @@ fn worked_well(worked: Result<u64, DeskFault>) -> Result<(), ServeFault>
         Err(_fault) => Err(ServeFault::Memory),
     }
 }
+
+#[cfg(test)]
+mod tests;
