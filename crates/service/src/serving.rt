@@ -1,5 +1,5 @@
 //! The service: connections that are answered, and the workers beside them.
-ghost use Rattle.std.specs.Prelude.{◌≡◌, ◌≢◌, ◌≤◌, ◌<◌, ◌^◌, Some, [], IfOk, IfErr, OnOk, OnErr};
+ghost use Rattle.std.specs.Prelude.{◌≡◌, ◌≤◌, ◌<◌, ◌^◌, ◌⊎◌, ◌↔◌, Some, [], IsOk, IfOk, IfErr, OnOk, OnErr};
 ghost use Rattle.std.specs.Io.KnownBytes.{Appends};
 ghost use Rattle.service.specs.declared.serve_faults.ServeFault.TheVariants as fault;
 ghost use Rattle.service.specs.Served.{Answered, ServeWrote, listening_line, served_line};
@@ -169,7 +169,8 @@ fn work<L: Ledger + Send + Sync, R: Threads + Wait + Sync>(
 
 /// The fault of the workers, if there was one.
 fn worked_well(worked: Result<u64, DeskFault>) -> Result<(), ServeFault>
-    ensures { IfErr result (λ why. why ≢ fault.Write) }
+    ensures well { IsOk result ↔ IsOk worked }
+    ensures why { IfErr result (λ why. (why ≡ fault.NoThread) ⊎ (why ≡ fault.Memory)) }
 {
     match worked {
         Ok(_letters) => Ok(()),
