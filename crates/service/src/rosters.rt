@@ -62,16 +62,17 @@ impl Roster {
         Err(ScriptFault::Read)
     }
 
-    /// Whether a tenant has this name and this word.
+    /// Whether a tenant has this name and this word. By its code it costs the same whatever they are: it goes over each
+    /// byte of all tenants' names and words.
     pub fn check(&self, name: &[u8], word: &[u8]) -> bool
         ensures tenant { IsTrue result ↔ IsTenant self.now name.now word.now }
         ensures name { IsTrue result → IsName name.now }
     {
-        let mut rows = self.rows.iter();
-        match rows.find(|row| row.name.bytes() == name && row.word.as_slice() == word) {
-            Some(row) => row.name.bytes() == name,
-            None => false,
+        let mut is_known = false;
+        for row in &self.rows {
+            is_known |= is_row(row, name, word);
         }
+        is_known
     }
 
     /// The hall of the roster's tenants, who have done nothing.
@@ -145,6 +146,28 @@ fn is_named(rows: &[Row], name: &Entity) -> bool
     ensures { result ≡ list_any (λ row. is_same name.now row.name) rows.now }
 {
     rows.iter().any(|row| *name == row.name)
+}
+
+/// Whether the tenant of this row has this name and this word. Neither is left out where the other is wrong.
+fn is_row(row: &Row, name: &[u8], word: &[u8]) -> bool
+    ensures both { IsTrue result ↔ ((row.now.name ≡ name.now) × (row.now.word ≡ word.now)) }
+    ensures name { IsTrue result → IsName name.now }
+{
+    let is_name = is_text(row.name.bytes(), name);
+    let is_word = is_text(&row.word, word);
+    is_name & is_word
+}
+
+/// Whether what a roster has is this text. Each byte that it has is compared, also behind one that differs.
+fn is_text(kept: &[u8], said: &[u8]) -> bool
+    ensures { IsTrue result ↔ (kept.now ≡ said.now) }
+{
+    let mut is_same = kept.len() == said.len();
+    for (place, byte) in kept.iter().enumerate() {
+        let is_there = said.get(place).is_some_and(|other| *other == *byte);
+        is_same &= is_there;
+    }
+    is_same
 }
 
 #[cfg(test)]

@@ -1,5 +1,5 @@
 //! The service: connections that are answered, and the workers beside them.
-ghost use Rattle.std.specs.Prelude.{◌≡◌, ◌≢◌, ◌≤◌, ◌<◌, ◌^◌, Some, IfOk, IfErr, OnOk, OnErr};
+ghost use Rattle.std.specs.Prelude.{◌≡◌, ◌≢◌, ◌≤◌, ◌<◌, ◌^◌, ◌⊎◌, ◌↔◌, Some, IsOk, IfOk, IfErr, OnOk, OnErr};
 ghost use Rattle.std.specs.Io.KnownBytes.{Appends};
 ghost use Rattle.service.specs.declared.serve_faults.ServeFault.TheVariants as fault;
 ghost use Rattle.service.specs.Roster.{names_of};
@@ -181,7 +181,8 @@ fn work<L: Ledger + Send + Sync, R: Threads + Wait + Sync>(
 
 /// The fault of the workers, if there was one.
 fn worked_well(worked: Result<u64, DeskFault>) -> Result<(), ServeFault>
-    ensures { IfErr result (λ why. why ≢ fault.Write) }
+    ensures well { IsOk result ↔ IsOk worked }
+    ensures why { IfErr result (λ why. (why ≡ fault.NoThread) ⊎ (why ≡ fault.Memory)) }
 {
     match worked {
         Ok(_letters) => Ok(()),
@@ -189,3 +190,6 @@ fn worked_well(worked: Result<u64, DeskFault>) -> Result<(), ServeFault>
         Err(_fault) => Err(ServeFault::Memory),
     }
 }
+
+#[cfg(test)]
+mod tests;

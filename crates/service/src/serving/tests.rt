@@ -1,0 +1,305 @@
+use super::*;
+use crate::fakes::{NEVER, Refuses, Trickles};
+use crate::lines::LineReader;
+use std::io;
+use std::io::Read;
+use std::net::{Net, Shutdown, TcpStream};
+use std::test::Fail;
+
+const ROSTER: &[u8] = b"tenant A a\ntenant B b\ntenant C c\nbegin\n";
+
+/// Which peer speaks, what it says, and what it is told. Where its last line has no newline it says no more.
+type Step = (usize, &'static [u8], &'static [u8]);
+
+/// What peers do that are connected at the same time.
+#[derive(Clone, Copy)]
+struct Visit {
+    peers: usize,
+    steps: &'static [Step],
+    /// Whether they read on until their sessions are over. Else they just close.
+    stays: bool,
+}
+
+/// Whether the peer is told this next. It reads no further than to the first byte that is another.
+fn is_told(mut stream: &TcpStream, told: &[u8]) -> io::Result<bool> {
+    let mut byte = [0];
+    for wanted in told {
+        stream.read_exact(&mut byte)?;
+        if byte[0] != *wanted {
+            return Ok(false);
+        }
+    }
+    Ok(true)
+}
+
+/// Whether the session of this peer is over, and nothing more was told.
+fn is_over(mut stream: &TcpStream) -> io::Result<bool> {
+    let mut byte = [0];
+    Ok(stream.read(&mut byte)? == 0)
+}
+
+/// Whether a peer that says this is told that.
+fn is_answered(mut stream: &TcpStream, said: &[u8], told: &[u8]) -> io::Result<bool> {
+    stream.write_all(said)?;
+    if !said.ends_with(b"\n") {
+        stream.shutdown(Shutdown::Write)?;
+    }
+    is_told(stream, told)
+}
+
+/// Whether all peers of a visit are told what they should be, one step after the other.
+fn is_told_all<R: Net<Stream = TcpStream>>(
+    rt: &R,
+    alloc: Global,
+    port: u16,
+    visit: &Visit,
+) -> io::Result<bool> {
+    let mut streams = Vec::new(alloc);
+    for _ in 0..visit.peers {
+        streams.push(TcpStream::connect(rt, ("127.0.0.1", port))?)?;
+    }
+    for (peer, said, told) in visit.steps {
+        let Some(stream) = streams.get(*peer) else {
+            return Ok(false);
+        };
+        if !is_answered(stream, said, told)? {
+            return Ok(false);
+        }
+    }
+    if visit.stays {
+        for stream in &streams {
+            if !is_over(stream)? {
+                return Ok(false);
+            }
+        }
+    }
+    Ok(true)
+}
+
+/// Whether it is so in each visit. All take place, one after the other, also where one goes wrong.
+fn are_told_all<R: Net<Stream = TcpStream>>(
+    rt: &R,
+    alloc: Global,
+    port: u16,
+    visits: &[Visit],
+) -> bool {
+    let mut all = true;
+    for visit in visits {
+        all &= is_told_all(rt, alloc, port, visit).unwrap_or(false);
+    }
+    all
+}
+
+/// Serves the tenants at this listener by two workers, and closes it.
+fn serve_at<R: Threads + Wait + Sync>(
+    rt: &R,
+    alloc: Global,
+    roster: &Roster,
+    listener: TcpListener,
+    sessions: u64,
+    count: u64,
+    writer: &mut Trickles,
+) -> Result<u64, ServeFault> {
+    let options = ServeOptions {
+        workers: 2,
+        sessions: sessions.clamp(1, 64),
+        accept: Some(count),
+    };
+    serve(rt, alloc, roster, &listener, options, writer)
+}
+
+/// Serves so many connections beside these visits. Answers what the service came to, and whether the peers were told
+/// what they should be.
+fn serve_beside<R: Net<Stream = TcpStream> + Threads + Wait + Sync>(
+    rt: &R,
+    alloc: Global,
+    listener: TcpListener,
+    sessions: u64,
+    count: u64,
+    visits: &[Visit],
+    writer: &mut Trickles,
+) -> Result<(Result<u64, ServeFault>, bool), Fail> {
+    let mut lines = LineReader::make(alloc, ROSTER)?;
+    let roster = Roster::read(alloc, &mut lines)?;
+    let port = listener.local_addr()?.port();
+    Ok(thread::join(
+        rt,
+        || serve_at(rt, alloc, &roster, listener, sessions, count, writer),
+        || are_told_all(rt, alloc, port, visits),
+    ))
+}
+
+/// Whether these visits are served, of so many connections in all, and the service tells where it listened and how many
+/// it served.
+fn are_served<R: Net<Listener = TcpListener, Stream = TcpStream> + Threads + Wait + Sync>(
+    rt: &R,
+    alloc: Global,
+    sessions: u64,
+    count: u64,
+    visits: &[Visit],
+) -> Result<bool, Fail> {
+    let listener = TcpListener::bind(rt, ("127.0.0.1", 0))?;
+    let port = listener.local_addr()?.port();
+    let mut writer = Trickles::new(Vec::new(alloc), NEVER, Refuses::WithAnError);
+    let came_to = serve_beside(rt, alloc, listener, sessions, count, visits, &mut writer)?;
+    let wanted = format!(in alloc; "listening 127.0.0.1:{port}\nserved {count}\n")?;
+    Ok(came_to == (Ok(count), true) && writer.taken.as_slice() == wanted.as_bytes())
+}
+
+const WORKED: [Step; 10] = [
+    (0, b"vault\n", b"error 61 no hello\n"),
+    (0, b"hello A x\n", b"error 62 bad hello\n"),
+    (0, b"hello Z a\n", b"error 62 bad hello\n"),
+    (0, b"hello A a\n", b"hello A\n"),
+    (0, b"put A.r <- D\n", b"ok 1\n"),
+    (0, b"vault\n", b"vault 1\nA.r <- D\n"),
+    (0, b"sees\n", b"sees A\n"),
+    (0, b"end 7\n", b"error 51 no such search\n"),
+    (0, b"look\n", b"error 64 command\n"),
+    (0, b"quit\n", b"bye\n"),
+];
+
+const WORKED_BY_ONE: [Visit; 1] = [Visit {
+    peers: 1,
+    steps: &WORKED,
+    stays: true,
+}];
+
+#[test]
+fn a_worked_session(rt: HostRuntime) -> Result<(), Fail> {
+    assert!(rt; are_served(&rt, rt.alloc(), 2, 1, &WORKED_BY_ONE)?);
+    Ok(())
+}
+
+const A_MEMBER: [Step; 5] = [
+    (0, b"hello A a\n", b"hello A\n"),
+    (0, b"put A.r <- D\n", b"ok 1\n"),
+    (0, b"ask A.r D\n", b"search 1\n"),
+    (0, b"wait 1\n", b"yes\n"),
+    (0, b"quit\n", b"bye\n"),
+];
+
+const ASKED_BY_ONE: [Visit; 1] = [Visit {
+    peers: 1,
+    steps: &A_MEMBER,
+    stays: true,
+}];
+
+#[test]
+fn a_session_that_asks(rt: HostRuntime) -> Result<(), Fail> {
+    assert!(rt; are_served(&rt, rt.alloc(), 2, 1, &ASKED_BY_ONE)?);
+    Ok(())
+}
+
+// The first peer speaks for A, the second for B.
+const A_REVOCATION: [Step; 13] = [
+    (0, b"hello A a\n", b"hello A\n"),
+    (1, b"hello B b\n", b"hello B\n"),
+    (0, b"put A.r <- B.s\n", b"ok 1\n"),
+    (1, b"put B.s <- D\n", b"ok 1\n"),
+    (1, b"grant A\n", b"ok 2\n"),
+    (0, b"ask A.r D\n", b"search 1\n"),
+    (1, b"revoke A\n", b"ok 3\n"),
+    (0, b"wait 1\n", b"yes\n"),
+    (0, b"ask A.r D\n", b"search 2\n"),
+    (0, b"wait 2\n", b"no\n"),
+    (0, b"sees\n", b"sees A\n"),
+    (1, b"quit\n", b"bye\n"),
+    (0, b"quit\n", b"bye\n"),
+];
+
+const REVOKED_BY_TWO: [Visit; 1] = [Visit {
+    peers: 2,
+    steps: &A_REVOCATION,
+    stays: true,
+}];
+
+#[test]
+fn two_sessions_at_once(rt: HostRuntime) -> Result<(), Fail> {
+    assert!(rt; are_served(&rt, rt.alloc(), 2, 2, &REVOKED_BY_TWO)?);
+    Ok(())
+}
+
+const CUT_SHORT: [Step; 2] = [(0, b"hello A a\n", b"hello A\n"), (0, b"put A.r <- D", b"")];
+
+const AFTERWARDS: [Step; 2] = [
+    (0, b"hello A a\n", b"hello A\n"),
+    (0, b"vault", b"vault 1\nA.r <- D\n"),
+];
+
+const CUT_AND_AFTERWARDS: [Visit; 2] = [
+    Visit {
+        peers: 1,
+        steps: &CUT_SHORT,
+        stays: false,
+    },
+    Visit {
+        peers: 1,
+        steps: &AFTERWARDS,
+        stays: true,
+    },
+];
+
+// There is one session at a time, so the second begins once the first is over.
+#[test]
+fn peers_that_close_within_a_line(rt: HostRuntime) -> Result<(), Fail> {
+    assert!(rt; are_served(&rt, rt.alloc(), 1, 2, &CUT_AND_AFTERWARDS)?);
+    Ok(())
+}
+
+// Nobody has come when it is to accept, and it may not wait.
+#[test]
+fn a_listener_that_fails(rt: HostRuntime) -> Result<(), Fail> {
+    let listener = TcpListener::bind(&rt, ("127.0.0.1", 0))?;
+    let port = listener.local_addr()?.port();
+    listener.set_nonblocking(true)?;
+    let mut writer = Trickles::new(Vec::new(rt.alloc()), NEVER, Refuses::WithAnError);
+    let came_to = serve_beside(&rt, rt.alloc(), listener, 1, 1, &[], &mut writer)?;
+    let wanted = format!(in rt.alloc(); "listening 127.0.0.1:{port}\n")?;
+    assert_eq!(rt; came_to, (Err(ServeFault::Socket), true));
+    assert_eq!(rt; writer.taken.as_slice(), wanted.as_bytes());
+    Ok(())
+}
+
+const COMES_AND_CLOSES: [Visit; 1] = [Visit {
+    peers: 1,
+    steps: &[],
+    stays: false,
+}];
+
+/// Whether a service ends as it should whose writer refuses so many bytes behind the start of the first line, where nobody
+/// visits, and else of the second.
+fn ends_at_a_write<R: Net<Listener = TcpListener, Stream = TcpStream> + Threads + Wait + Sync>(
+    rt: &R,
+    alloc: Global,
+    visits: &[Visit],
+    behind: usize,
+    refuses: Refuses,
+) -> Result<bool, Fail> {
+    let listener = TcpListener::bind(rt, ("127.0.0.1", 0))?;
+    let port = listener.local_addr()?.port();
+    let first = format!(in alloc; "listening 127.0.0.1:{port}\n")?;
+    let both = format!(in alloc; "listening 127.0.0.1:{port}\nserved 1\n")?;
+    let before = if visits.is_empty() { 0 } else { first.len() };
+    let at = before.saturating_add(behind);
+    let mut writer = Trickles::new(Vec::new(alloc), at as u64, refuses);
+    let came_to = serve_beside(rt, alloc, listener, 1, 1, visits, &mut writer)?;
+    Ok(
+        came_to == (Err(ServeFault::Write), true)
+            && writer.taken.len() == at
+            && both.as_bytes().starts_with(&writer.taken),
+    )
+}
+
+// Each line has at least nine bytes.
+#[test]
+fn a_writer_that_fails(rt: HostRuntime) -> Result<(), Fail> {
+    for refuses in [Refuses::WithAnError, Refuses::ByTakingNothing] {
+        for behind in 0..9usize {
+            let first = ends_at_a_write(&rt, rt.alloc(), &[], behind, refuses)?;
+            let second = ends_at_a_write(&rt, rt.alloc(), &COMES_AND_CLOSES, behind, refuses)?;
+            assert!(rt; first && second, "{refuses:?} at byte {behind}");
+        }
+    }
+    Ok(())
+}
