@@ -1,8 +1,7 @@
 //! Each call once without workers, and calls by a pass that has seen more than there is.
 use super::acts::{Act, Told};
 use super::gates::Way;
-use super::plays::{Line, Scene, USUAL, played};
-use std::test::Fail;
+use super::plays::{Break, Line, Scene, USUAL, played};
 
 /// Each call, but for those that take a pass back. A wait ends though the search is working, since the desk was stopped.
 /// No pass is given to a name outside the roster.
@@ -31,8 +30,8 @@ const EACH_CALL: Scene = Scene {
 };
 
 #[test]
-fn each_call(rt: HostRuntime) -> Result<(), Fail> {
-    Ok(played(&rt, rt.alloc(), &EACH_CALL, Way::Open)?)
+fn each_call(rt: HostRuntime) -> Result<(), Break> {
+    played(&rt, rt.alloc(), &EACH_CALL, Way::Open)
 }
 
 /// Calls by a pass that has seen a journal of 3 are refused over one of 1, and leave the pass as it was.
@@ -54,6 +53,6 @@ const REWOUND: Scene = Scene {
 };
 
 #[test]
-fn a_pass_that_has_seen_more(rt: HostRuntime) -> Result<(), Fail> {
-    Ok(played(&rt, rt.alloc(), &REWOUND, Way::Open)?)
+fn a_pass_that_has_seen_more(rt: HostRuntime) -> Result<(), Break> {
+    played(&rt, rt.alloc(), &REWOUND, Way::Open)
 }

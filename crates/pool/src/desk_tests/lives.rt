@@ -1,10 +1,9 @@
 //! Searches from their opening to their end, beside workers.
 use super::acts::{Act, Told};
 use super::gates::{Meeting, Way};
-use super::plays::{Line, Scene, USUAL, played};
+use super::plays::{Break, Line, Scene, USUAL, played};
 use snapshots::Span;
 use std::sync::atomic::{AtomicBool, Ordering};
-use std::test::Fail;
 
 /// A credential, and a search of its one member.
 const OPENED: [Line; 2] = [
@@ -56,8 +55,8 @@ const WHOLE_LIFE: Scene = Scene {
 };
 
 #[test]
-fn a_whole_life_of_a_search(rt: HostRuntime) -> Result<(), Fail> {
-    Ok(played(&rt, rt.alloc(), &WHOLE_LIFE, Way::Open)?)
+fn a_whole_life_of_a_search(rt: HostRuntime) -> Result<(), Break> {
+    played(&rt, rt.alloc(), &WHOLE_LIFE, Way::Open)
 }
 
 /// A credential, and two searches of its one member, which are both waited for.
@@ -79,7 +78,7 @@ const TWO_SEARCHES: Scene = Scene {
 };
 
 #[test]
-fn two_first_letters_meet_at_the_gate(rt: HostRuntime) -> Result<(), Fail> {
+fn two_first_letters_meet_at_the_gate(rt: HostRuntime) -> Result<(), Break> {
     let meeting = Meeting {
         first: AtomicBool::new(false),
         second: AtomicBool::new(false),
@@ -106,7 +105,7 @@ const ENDED: Scene = Scene {
 };
 
 #[test]
-fn a_gate_that_ends_the_search_of_a_held_letter(rt: HostRuntime) -> Result<(), Fail> {
+fn a_gate_that_ends_the_search_of_a_held_letter(rt: HostRuntime) -> Result<(), Break> {
     let over = AtomicBool::new(false);
     played(&rt, rt.alloc(), &ENDED, Way::End(&over))?;
     assert!(rt; over.load(Ordering::SeqCst));
@@ -168,6 +167,6 @@ const FORTY_MEMBERS: Scene = Scene {
 };
 
 #[test]
-fn forty_members_as_81_letters(rt: HostRuntime) -> Result<(), Fail> {
-    Ok(played(&rt, rt.alloc(), &FORTY_MEMBERS, Way::Open)?)
+fn forty_members_as_81_letters(rt: HostRuntime) -> Result<(), Break> {
+    played(&rt, rt.alloc(), &FORTY_MEMBERS, Way::Open)
 }

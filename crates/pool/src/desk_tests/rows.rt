@@ -7,7 +7,6 @@ use snapshots::Span;
 use std::alloc::Global;
 use std::rt::Clock;
 use std::sync::Wait;
-use std::test::Fail;
 use std::thread::Threads;
 
 /// `A`'s search reads what `B` granted before it was opened, and nothing that `B` grants later: only the second search reads
@@ -57,8 +56,8 @@ const GRANT: Scene = Scene {
 };
 
 #[test]
-fn a_grant_after_the_opening(rt: HostRuntime) -> Result<(), Fail> {
-    Ok(played(&rt, rt.alloc(), &GRANT, Way::Open)?)
+fn a_grant_after_the_opening(rt: HostRuntime) -> Result<(), Break> {
+    played(&rt, rt.alloc(), &GRANT, Way::Open)
 }
 
 /// Limits of `A`, and what it is told under them: one search at once; all that is refused for another reason than a limit;
@@ -128,7 +127,7 @@ fn under_limits<R: Threads + Wait + Clock + Sync>(
 }
 
 #[test]
-fn refusals_and_limits(rt: HostRuntime) -> Result<(), Fail> {
+fn refusals_and_limits(rt: HostRuntime) -> Result<(), Break> {
     for (limits, beside) in REFUSALS {
         under_limits(&rt, rt.alloc(), limits, &[], beside, 2, None)?;
     }
@@ -200,7 +199,7 @@ fn ends_so<R: Threads + Wait + Clock + Sync>(
 
 /// A search that isn't spent finishes as many letters as its limit says.
 #[test]
-fn the_same_end_by_any_number_of_workers(rt: HostRuntime) -> Result<(), Fail> {
+fn the_same_end_by_any_number_of_workers(rt: HostRuntime) -> Result<(), Break> {
     for (work, before) in WORKS {
         ends_so(&rt, rt.alloc(), before, work, Told::Yes, Some(work))?;
         ends_so(
