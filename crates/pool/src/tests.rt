@@ -1,11 +1,10 @@
 //! The numbers and the texts of faults.
 use crate::DeskFault;
 use hall::Fault;
-use std::alloc::Global;
-use std::test::Fail;
+use std::alloc::{AllocError, Global};
 
 /// Whether the fault has this number and this text.
-fn reads_as(alloc: Global, fault: DeskFault, number: u64, text: &str) -> Result<bool, Fail> {
+fn reads_as(alloc: Global, fault: DeskFault, number: u64, text: &str) -> Result<bool, AllocError> {
     let written = format!(in alloc; "{fault}")?;
     Ok(fault.number() == number && written.as_str() == text)
 }
@@ -20,7 +19,7 @@ const FAULTS: [(DeskFault, u64, &str); 5] = [
 ];
 
 #[test]
-fn numbers_and_texts(rt: HostRuntime) -> Result<(), Fail> {
+fn numbers_and_texts(rt: HostRuntime) -> Result<(), AllocError> {
     for (fault, number, text) in FAULTS {
         assert!(rt; reads_as(rt.alloc(), fault, number, text)?, "at {number}");
     }

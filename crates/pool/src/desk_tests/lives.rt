@@ -1,21 +1,9 @@
 //! Searches from their opening to their end, beside workers.
-use super::entity;
-use super::plays::{Act, Extra, Line, Scene, Told, is_query, played};
-use crate::{Desk, DeskFault, Pass, Verdict};
-use credential_text::{Credential, read_credential};
-use hall::{Answer, Query};
-use names::{Entity, Role};
-use quotas::Limits;
-use snapshots::{Snapshot, Span};
-use std::alloc::{AllocError, Global};
-use std::rt::Clock;
-use std::sync::Wait;
+use super::acts::{Act, Told};
+use super::gates::{Meeting, Way};
+use super::plays::{Break, Line, Scene, USUAL, played};
+use snapshots::Span;
 use std::sync::atomic::{AtomicBool, Ordering};
-use std::sync::ledger::Ledger;
-use std::test::Fail;
-use std::thread;
-use std::time::Duration;
-use vaults::Change;
 
 /// A credential, and a search of its one member.
 const OPENED: [Line; 2] = [
@@ -23,316 +11,162 @@ const OPENED: [Line; 2] = [
     Line(0, Act::Ask("A.r", "D"), Told::Opened(1, 1)),
 ];
 
-/// Whether the credential is the only row of its role that the snapshot has, in the vault at this place.
-pub(super) fn is_row(snapshot: &Snapshot, vault: u64, credential: &Credential) -> bool {
-    let span = snapshot.find(&credential.head);
-    span == Span {
-        vault,
-        lo: 0,
-        hi: 1,
-    } && snapshot.row(span, 0).compare(credential).is_eq()
-}
-
-/// Whether the verdict is Yes to the query, over a snapshot with this one row.
-fn is_yes(verdict: &Verdict, query: &Query, row: &Credential) -> Result<bool, Fail> {
-    let later = verdict.snapshot.find(&Role::read(b"A.z")?);
-    Ok(
-        matches!(verdict.answer, Answer::Yes)
-            && is_query(&verdict.query, query)
-            && is_row(&verdict.snapshot, 0, row)
-            && later
-                == Span {
+/// The second pass waits for the search, and asks all that there is to ask. The credential is the only row that is read.
+const WHOLE_LIFE: Scene = Scene {
+    limits: USUAL,
+    passes: &["A", "A"],
+    before: &OPENED,
+    beside: &[
+        Line(1, Act::Wait(1), Told::Yes),
+        Line(
+            1,
+            Act::Find(1, "A.r <- D"),
+            Told::Found(
+                Span {
+                    vault: 0,
+                    lo: 0,
+                    hi: 1,
+                },
+                true,
+                true,
+            ),
+        ),
+        Line(
+            1,
+            Act::Find(1, "A.z <- D"),
+            Told::Found(
+                Span {
                     vault: 0,
                     lo: 1,
                     hi: 1,
                 },
-    )
-}
-
-/// Whether the search is answered with Yes to the query, over this row, where it is waited for and then polled.
-fn is_answered<L: Ledger, R: Wait>(
-    rt: &R,
-    desk: &Desk<L>,
-    pass: &mut Pass<L>,
-    row: &Credential,
-) -> Result<bool, Fail> {
-    let query = Query::Ask(row.head, entity("D")?);
-    let waited = desk.wait(rt, pass, 1)?;
-    if matches!(waited.answer, Answer::Working | Answer::Broken) {
-        return Err(AllocError)?;
-    }
-    let polled = desk.poll(rt, pass, 1)?;
-    Ok(is_yes(&waited, &query, row)? && is_yes(&polled, &query, row)?)
-}
-
-/// Whether the tenant reads its own vault alone, with this row alone in it.
-fn reads_alone<L: Ledger, R: Wait>(
-    rt: &R,
-    desk: &Desk<L>,
-    pass: &mut Pass<L>,
-    row: &Credential,
-) -> Result<bool, DeskFault> {
-    let rows = desk.vault(rt, pass)?;
-    let names = desk.sees(rt, pass)?;
-    Ok(
-        matches!(rows.as_slice(), [only] if only.compare(row).is_eq())
-            && matches!(names.as_slice(), [only] if *only == pass.tenant()),
-    )
-}
-
-/// The second pass waits for the search, and asks all that there is to ask.
-struct WholeLife;
-
-impl Extra for WholeLife {
-    fn look<L: Ledger, R: Wait>(
-        &self,
-        rt: &R,
-        alloc: Global,
-        desk: &Desk<L>,
-        passes: &mut Vec<Pass<L>>,
-    ) -> Result<bool, Fail> {
-        let Some(pass) = passes.get_mut(1) else {
-            return Ok(false);
-        };
-        let row = read_credential(alloc, b"A.r <- D")?;
-        Ok(
-            is_answered(rt, desk, pass, &row)?
-                && reads_alone(rt, desk, pass, &row)?
-                && desk.proof(rt, pass, 1, entity("D")?)?.steps().len() == 2
-                && pass.front() == 1
-                && pass.share() == 0,
-        )
-    }
-}
+                false,
+                false,
+            ),
+        ),
+        Line(1, Act::Vault("A.r <- D"), Told::Rows(1, true)),
+        Line(1, Act::Sees, Told::OwnAlone),
+        Line(1, Act::Proof(1, "D"), Told::Steps(2)),
+        Line(1, Act::Share, Told::Share(1, 0)),
+    ],
+    workers: 2,
+    left: 0,
+    letters: Some(3),
+};
 
 #[test]
-fn a_whole_life_of_a_search(rt: HostRuntime) -> Result<(), Fail> {
-    let scene = Scene {
-        limits: Limits::usual(),
-        passes: &["A", "A"],
-        before: &OPENED,
-        beside: &[],
-        workers: 2,
-    };
-    let letters = played(&rt, rt.alloc(), &scene, &WholeLife)?;
-    assert_eq!(rt; letters, 3);
-    Ok(())
+fn a_whole_life_of_a_search(rt: HostRuntime) -> Result<(), Break> {
+    played(&rt, rt.alloc(), &WHOLE_LIFE, Way::Open)
 }
 
-/// Where the first letters of two searches meet.
-#[derive(Drop)]
-struct Meeting {
-    first: AtomicBool,
-    second: AtomicBool,
-    left: AtomicBool,
-}
-
-/// Whether the flag is set within 100,000 turns.
-fn is_set<R: Clock>(rt: &R, flag: &AtomicBool) -> bool {
-    for _ in 0..100_000u64 {
-        if flag.load(Ordering::SeqCst) {
-            return true;
-        }
-        thread::sleep(rt, Duration::from_micros(100));
-    }
-    false
-}
-
-impl Extra for Meeting {
-    fn at_gate<L: Ledger, R: Wait + Clock>(
-        &self,
-        rt: &R,
-        _desk: &Desk<L>,
-        _who: &Entity,
-        search: u64,
-        letter: u64,
-    ) {
-        if letter != 1 {
-            return;
-        }
-        let (own, other) = if search == 1 {
-            (&self.first, &self.second)
-        } else {
-            (&self.second, &self.first)
-        };
-        own.store(true, Ordering::SeqCst);
-        if !is_set(rt, other) {
-            self.left.store(true, Ordering::SeqCst);
-        }
-    }
-}
-
-/// A credential, and two searches of its one member.
-const OPENED_TWICE: [Line; 3] = [
-    Line(0, Act::Put("A.r <- D"), Told::Counted(1)),
-    Line(0, Act::Ask("A.r", "D"), Told::Opened(1, 1)),
-    Line(0, Act::Ask("A.r", "D"), Told::Opened(2, 1)),
-];
-
-/// Both are waited for.
-const BOTH: [Line; 2] = [
-    Line(0, Act::Wait(1), Told::Yes),
-    Line(0, Act::Wait(2), Told::Yes),
-];
+/// A credential, and two searches of its one member, which are both waited for.
+const TWO_SEARCHES: Scene = Scene {
+    limits: USUAL,
+    passes: &["A"],
+    before: &[
+        Line(0, Act::Put("A.r <- D"), Told::Counted(1)),
+        Line(0, Act::Ask("A.r", "D"), Told::Opened(1, 1)),
+        Line(0, Act::Ask("A.r", "D"), Told::Opened(2, 1)),
+    ],
+    beside: &[
+        Line(0, Act::Wait(1), Told::Yes),
+        Line(0, Act::Wait(2), Told::Yes),
+    ],
+    workers: 2,
+    left: 0,
+    letters: Some(6),
+};
 
 #[test]
-fn two_first_letters_meet_at_the_gate(rt: HostRuntime) -> Result<(), Fail> {
+fn two_first_letters_meet_at_the_gate(rt: HostRuntime) -> Result<(), Break> {
     let meeting = Meeting {
         first: AtomicBool::new(false),
         second: AtomicBool::new(false),
         left: AtomicBool::new(false),
     };
-    let scene = Scene {
-        limits: Limits::usual(),
-        passes: &["A"],
-        before: &OPENED_TWICE,
-        beside: &BOTH,
-        workers: 2,
-    };
-    let letters = played(&rt, rt.alloc(), &scene, &meeting)?;
+    played(&rt, rt.alloc(), &TWO_SEARCHES, Way::Meet(&meeting))?;
     assert!(rt; !meeting.left.load(Ordering::SeqCst));
-    assert_eq!(rt; letters, 6);
     Ok(())
 }
 
-/// Ends the first search while its first letter is held.
-#[derive(Drop)]
-struct EndsAtTheGate {
-    over: AtomicBool,
-}
-
-impl Extra for EndsAtTheGate {
-    fn at_gate<L: Ledger, R: Wait + Clock>(
-        &self,
-        rt: &R,
-        desk: &Desk<L>,
-        who: &Entity,
-        search: u64,
-        letter: u64,
-    ) {
-        if search != 1 || letter != 1 {
-            return;
-        }
-        let Ok(mut pass) = desk.pass(rt, *who) else {
-            return;
-        };
-        let ended = desk.end(rt, &mut pass, search);
-        desk.leave(rt, pass);
-        self.over.store(ended.is_ok(), Ordering::SeqCst);
-    }
-
-    fn look<L: Ledger, R: Wait>(
-        &self,
-        _rt: &R,
-        _alloc: Global,
-        _desk: &Desk<L>,
-        _passes: &mut Vec<Pass<L>>,
-    ) -> Result<bool, Fail> {
-        Ok(self.over.load(Ordering::SeqCst))
-    }
-}
-
-/// The first search is gone, and the second one's letters are finished.
-const ENDED: [Line; 3] = [
-    Line(1, Act::Wait(1), Told::Refused(51)),
-    Line(0, Act::Ask("A.r", "D"), Told::Opened(2, 1)),
-    Line(1, Act::Wait(2), Told::Yes),
-];
+/// The first search is ended while its first letter is held. It is gone, and the second one's letters are finished.
+const ENDED: Scene = Scene {
+    limits: USUAL,
+    passes: &["A", "A"],
+    before: &OPENED,
+    beside: &[
+        Line(1, Act::Wait(1), Told::Refused(51)),
+        Line(0, Act::Ask("A.r", "D"), Told::Opened(2, 1)),
+        Line(1, Act::Wait(2), Told::Yes),
+    ],
+    workers: 2,
+    left: 0,
+    letters: Some(3),
+};
 
 #[test]
-fn a_gate_that_ends_the_search_of_a_held_letter(rt: HostRuntime) -> Result<(), Fail> {
-    let ending = EndsAtTheGate {
-        over: AtomicBool::new(false),
-    };
-    let scene = Scene {
-        limits: Limits::usual(),
-        passes: &["A", "A"],
-        before: &OPENED,
-        beside: &ENDED,
-        workers: 2,
-    };
-    let letters = played(&rt, rt.alloc(), &scene, &ending)?;
-    assert_eq!(rt; letters, 3);
+fn a_gate_that_ends_the_search_of_a_held_letter(rt: HostRuntime) -> Result<(), Break> {
+    let over = AtomicBool::new(false);
+    played(&rt, rt.alloc(), &ENDED, Way::End(&over))?;
+    assert!(rt; over.load(Ordering::SeqCst));
     Ok(())
 }
 
-/// The numbers 1 to 40 in the order of their digits.
-const NUMBERS: [u64; 40] = [
-    1, 10, 11, 12, 13, 14, 15, 16, 17, 18, 19, 2, 20, 21, 22, 23, 24, 25, 26, 27, 28, 29, 3, 30,
-    31, 32, 33, 34, 35, 36, 37, 38, 39, 4, 40, 5, 6, 7, 8, 9,
-];
-
-/// Uploads 40 members of a role, and asks who is in it.
-struct FortyMembers;
-
-/// Uploads `A.r <- E1` to `A.r <- E40`.
-fn upload_forty<L: Ledger, R: Wait>(
-    rt: &R,
-    alloc: Global,
-    desk: &Desk<L>,
-    pass: &mut Pass<L>,
-) -> Result<u64, Fail> {
-    let mut count = 0;
-    for number in 1..41u64 {
-        let text = format!(in alloc; "A.r <- E{number}")?;
-        let credential = read_credential(alloc, text.as_bytes())?;
-        count = desk.change(rt, pass, Change::Upload(credential))?;
-    }
-    Ok(count)
-}
-
-/// Whether the names are those of the 40, in order.
-fn are_forty(alloc: Global, names: &[Entity]) -> Result<bool, AllocError> {
-    for (name, number) in names.iter().zip(&NUMBERS) {
-        let text = format!(in alloc; "E{number}")?;
-        if name.bytes() != text.as_bytes() {
-            return Ok(false);
-        }
-    }
-    Ok(names.len() == NUMBERS.len())
-}
-
-/// Whether a search of the members of `A.r` comes to the 40.
-fn has_forty<L: Ledger, R: Wait>(
-    rt: &R,
-    alloc: Global,
-    desk: &Desk<L>,
-    pass: &mut Pass<L>,
-) -> Result<bool, Fail> {
-    let ticket = desk.open(rt, pass, Query::Who(Role::read(b"A.r")?))?;
-    let waited = desk.wait(rt, pass, ticket.no)?;
-    match &waited.answer {
-        Answer::Working | Answer::Broken => Err(AllocError)?,
-        Answer::Members(names) => Ok(are_forty(alloc, names.as_slice())?),
-        _ => Ok(false),
-    }
-}
-
-impl Extra for FortyMembers {
-    fn look<L: Ledger, R: Wait>(
-        &self,
-        rt: &R,
-        alloc: Global,
-        desk: &Desk<L>,
-        passes: &mut Vec<Pass<L>>,
-    ) -> Result<bool, Fail> {
-        let Some(pass) = passes.get_mut(0) else {
-            return Ok(false);
-        };
-        Ok(upload_forty(rt, alloc, desk, pass)? == 40 && has_forty(rt, alloc, desk, pass)?)
-    }
-}
+/// 40 members of a role, and who is in it.
+const FORTY_MEMBERS: Scene = Scene {
+    limits: USUAL,
+    passes: &["A"],
+    before: &[],
+    beside: &[
+        Line(0, Act::Put("A.r <- E1"), Told::Counted(1)),
+        Line(0, Act::Put("A.r <- E2"), Told::Counted(2)),
+        Line(0, Act::Put("A.r <- E3"), Told::Counted(3)),
+        Line(0, Act::Put("A.r <- E4"), Told::Counted(4)),
+        Line(0, Act::Put("A.r <- E5"), Told::Counted(5)),
+        Line(0, Act::Put("A.r <- E6"), Told::Counted(6)),
+        Line(0, Act::Put("A.r <- E7"), Told::Counted(7)),
+        Line(0, Act::Put("A.r <- E8"), Told::Counted(8)),
+        Line(0, Act::Put("A.r <- E9"), Told::Counted(9)),
+        Line(0, Act::Put("A.r <- E10"), Told::Counted(10)),
+        Line(0, Act::Put("A.r <- E11"), Told::Counted(11)),
+        Line(0, Act::Put("A.r <- E12"), Told::Counted(12)),
+        Line(0, Act::Put("A.r <- E13"), Told::Counted(13)),
+        Line(0, Act::Put("A.r <- E14"), Told::Counted(14)),
+        Line(0, Act::Put("A.r <- E15"), Told::Counted(15)),
+        Line(0, Act::Put("A.r <- E16"), Told::Counted(16)),
+        Line(0, Act::Put("A.r <- E17"), Told::Counted(17)),
+        Line(0, Act::Put("A.r <- E18"), Told::Counted(18)),
+        Line(0, Act::Put("A.r <- E19"), Told::Counted(19)),
+        Line(0, Act::Put("A.r <- E20"), Told::Counted(20)),
+        Line(0, Act::Put("A.r <- E21"), Told::Counted(21)),
+        Line(0, Act::Put("A.r <- E22"), Told::Counted(22)),
+        Line(0, Act::Put("A.r <- E23"), Told::Counted(23)),
+        Line(0, Act::Put("A.r <- E24"), Told::Counted(24)),
+        Line(0, Act::Put("A.r <- E25"), Told::Counted(25)),
+        Line(0, Act::Put("A.r <- E26"), Told::Counted(26)),
+        Line(0, Act::Put("A.r <- E27"), Told::Counted(27)),
+        Line(0, Act::Put("A.r <- E28"), Told::Counted(28)),
+        Line(0, Act::Put("A.r <- E29"), Told::Counted(29)),
+        Line(0, Act::Put("A.r <- E30"), Told::Counted(30)),
+        Line(0, Act::Put("A.r <- E31"), Told::Counted(31)),
+        Line(0, Act::Put("A.r <- E32"), Told::Counted(32)),
+        Line(0, Act::Put("A.r <- E33"), Told::Counted(33)),
+        Line(0, Act::Put("A.r <- E34"), Told::Counted(34)),
+        Line(0, Act::Put("A.r <- E35"), Told::Counted(35)),
+        Line(0, Act::Put("A.r <- E36"), Told::Counted(36)),
+        Line(0, Act::Put("A.r <- E37"), Told::Counted(37)),
+        Line(0, Act::Put("A.r <- E38"), Told::Counted(38)),
+        Line(0, Act::Put("A.r <- E39"), Told::Counted(39)),
+        Line(0, Act::Put("A.r <- E40"), Told::Counted(40)),
+        Line(0, Act::Who("A.r"), Told::Opened(1, 40)),
+        Line(0, Act::Wait(1), Told::Forty),
+    ],
+    workers: 2,
+    left: 0,
+    letters: Some(81),
+};
 
 #[test]
-fn forty_members_as_81_letters(rt: HostRuntime) -> Result<(), Fail> {
-    let scene = Scene {
-        limits: Limits::usual(),
-        passes: &["A"],
-        before: &[],
-        beside: &[],
-        workers: 2,
-    };
-    let letters = played(&rt, rt.alloc(), &scene, &FortyMembers)?;
-    assert_eq!(rt; letters, 81);
-    Ok(())
+fn forty_members_as_81_letters(rt: HostRuntime) -> Result<(), Break> {
+    played(&rt, rt.alloc(), &FORTY_MEMBERS, Way::Open)
 }

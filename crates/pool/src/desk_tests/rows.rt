@@ -1,75 +1,63 @@
 //! Lines by the passes of three tenants, each told what the rules say: refusals, limits, views as they were at the opening,
 //! and the limit of work.
-use super::lives::is_row;
-use super::plays::{Act, Extra, Line, LinesAlone, Scene, Told, played};
-use crate::{Desk, Pass};
-use credential_text::read_credential;
-use names::Entity;
-use quotas::Limits;
+use super::acts::{Act, Told};
+use super::gates::Way;
+use super::plays::{Break, Line, Scene, USUAL, played};
 use snapshots::Span;
 use std::alloc::Global;
 use std::rt::Clock;
 use std::sync::Wait;
-use std::sync::ledger::Ledger;
-use std::test::Fail;
 use std::thread::Threads;
 
-/// Only the second search of `A` reads the row that `B` granted after the first was opened.
-struct ReadsLater;
-
-impl Extra for ReadsLater {
-    fn look<L: Ledger, R: Wait>(
-        &self,
-        rt: &R,
-        alloc: Global,
-        desk: &Desk<L>,
-        passes: &mut Vec<Pass<L>>,
-    ) -> Result<bool, Fail> {
-        let Some(pass) = passes.get_mut(0) else {
-            return Ok(false);
-        };
-        let row = read_credential(alloc, b"B.s <- D")?;
-        let first = desk.poll(rt, pass, 1)?;
-        let second = desk.poll(rt, pass, 2)?;
-        Ok(
-            first.snapshot.find(&row.head)
-                == Span {
+/// `A`'s search reads what `B` granted before it was opened, and nothing that `B` grants later: only the second search reads
+/// the row.
+const GRANT: Scene = Scene {
+    limits: USUAL,
+    passes: &["A", "B"],
+    before: &[],
+    beside: &[
+        Line(0, Act::Put("A.r <- B.s"), Told::Counted(1)),
+        Line(1, Act::Put("B.s <- D"), Told::Counted(1)),
+        Line(0, Act::Ask("A.r", "D"), Told::Opened(1, 2)),
+        Line(1, Act::Grant("A"), Told::Counted(2)),
+        Line(0, Act::Ask("A.r", "D"), Told::Opened(2, 3)),
+        Line(0, Act::Wait(2), Told::Yes),
+        Line(0, Act::Wait(1), Told::No),
+        Line(
+            0,
+            Act::Find(1, "B.s <- D"),
+            Told::Found(
+                Span {
                     vault: 1,
                     lo: 0,
                     hi: 0,
-                }
-                && is_row(&second.snapshot, 1, &row),
-        )
-    }
-}
-
-/// `A`'s search reads what `B` granted before it was opened, and nothing that `B` grants later.
-const GRANT: [Line; 7] = [
-    Line(0, Act::Put("A.r <- B.s"), Told::Counted(1)),
-    Line(1, Act::Put("B.s <- D"), Told::Counted(1)),
-    Line(0, Act::Ask("A.r", "D"), Told::Opened(1, 2)),
-    Line(1, Act::Grant("A"), Told::Counted(2)),
-    Line(0, Act::Ask("A.r", "D"), Told::Opened(2, 3)),
-    Line(0, Act::Wait(2), Told::Yes),
-    Line(0, Act::Wait(1), Told::No),
-];
+                },
+                false,
+                false,
+            ),
+        ),
+        Line(
+            0,
+            Act::Find(2, "B.s <- D"),
+            Told::Found(
+                Span {
+                    vault: 1,
+                    lo: 0,
+                    hi: 1,
+                },
+                true,
+                false,
+            ),
+        ),
+    ],
+    workers: 2,
+    left: 0,
+    letters: None,
+};
 
 #[test]
-fn a_grant_after_the_opening(rt: HostRuntime) -> Result<(), Fail> {
-    let scene = Scene {
-        limits: Limits::usual(),
-        passes: &["A", "B"],
-        before: &[],
-        beside: &GRANT,
-        workers: 2,
-    };
-    played(&rt, rt.alloc(), &scene, &ReadsLater)?;
-    Ok(())
-}
-
-fn limits_of(numbers: [u64; 6]) -> Result<Limits, Fail> {
-    let [creds, grants, searches, changes, opens, work] = numbers;
-    Ok(Limits::make(creds, grants, searches, changes, opens, work).ok_or("limits")?)
+fn a_grant_after_the_opening(rt: HostRuntime) -> Result<(), Break> {
+    played(&rt, rt.alloc(), &GRANT, Way::Open)
 }
 
 /// Limits of `A`, and what it is told under them: one search at once; all that is refused for another reason than a limit;
@@ -82,7 +70,7 @@ const REFUSALS: [([u64; 6], &[Line]); 3] = [
             Line(0, Act::Ask("A.r", "E"), Told::Refused(43)),
             Line(0, Act::Wait(1), Told::No),
             Line(0, Act::Ask("A.r", "E"), Told::Refused(43)),
-            Line(0, Act::End(1), Told::Ended),
+            Line(0, Act::End(1), Told::Done),
             Line(0, Act::Ask("A.r", "E"), Told::Opened(2, 0)),
         ],
     ),
@@ -97,7 +85,7 @@ const REFUSALS: [([u64; 6], &[Line]); 3] = [
             Line(0, Act::Grant("B"), Told::Refused(34)),
             Line(0, Act::Revoke("C"), Told::Refused(35)),
             Line(0, Act::Drop("A.r <- D"), Told::Counted(3)),
-            Line(0, Act::Vault, Told::Rows(0)),
+            Line(0, Act::Vault("A.r <- D"), Told::Rows(0, false)),
         ],
     ),
     (
@@ -110,35 +98,38 @@ const REFUSALS: [([u64; 6], &[Line]); 3] = [
             Line(0, Act::Drop("A.r <- D"), Told::Counted(3)),
             Line(0, Act::Put("A.r <- D"), Told::Refused(44)),
             Line(0, Act::Ask("A.r", "D"), Told::Opened(1, 3)),
-            Line(0, Act::End(1), Told::Ended),
+            Line(0, Act::End(1), Told::Done),
             Line(0, Act::Ask("A.r", "D"), Told::Refused(45)),
         ],
     ),
 ];
 
-/// How many letters the workers finish of what `A`, with these limits, and `B` open by the lines.
-fn letters_of<R: Threads + Wait + Clock + Sync>(
+/// Plays lines by `A`, with these limits, and `B`.
+fn under_limits<R: Threads + Wait + Clock + Sync>(
     rt: &R,
     alloc: Global,
-    numbers: [u64; 6],
+    limits: [u64; 6],
     before: &[Line],
     beside: &[Line],
     workers: u64,
-) -> Result<u64, Fail> {
+    letters: Option<u64>,
+) -> Result<(), Break> {
     let scene = Scene {
-        limits: limits_of(numbers)?,
+        limits,
         passes: &["A", "B"],
         before,
         beside,
         workers,
+        left: 0,
+        letters,
     };
-    played(rt, alloc, &scene, &LinesAlone)
+    played(rt, alloc, &scene, Way::Open)
 }
 
 #[test]
-fn refusals_and_limits(rt: HostRuntime) -> Result<(), Fail> {
-    for (numbers, beside) in REFUSALS {
-        letters_of(&rt, rt.alloc(), numbers, &[], beside, 2)?;
+fn refusals_and_limits(rt: HostRuntime) -> Result<(), Break> {
+    for (limits, beside) in REFUSALS {
+        under_limits(&rt, rt.alloc(), limits, &[], beside, 2, None)?;
     }
     Ok(())
 }
@@ -190,33 +181,35 @@ const WORKS: [(u64, &[Line]); 5] = [
     ),
 ];
 
-/// Whether a search with this limit of work comes to this end after the lines, by 1 worker and by 4, and where it isn't
-/// spent as many letters are finished as the limit says.
+/// A search with this limit of work comes to this end after the lines, by 1 worker and by 4, and where so many letters are
+/// given they are finished.
 fn ends_so<R: Threads + Wait + Clock + Sync>(
     rt: &R,
     alloc: Global,
     before: &[Line],
     work: u64,
     end: Told,
-) -> Result<bool, Fail> {
-    let numbers = [10, 10, 1, 100, 100, work];
-    for workers in [1, 4] {
-        let beside = [Line(0, Act::Wait(1), end)];
-        let letters = letters_of(rt, alloc, numbers, before, &beside, workers)?;
-        if end != Told::Spent && letters != work {
-            return Ok(false);
-        }
-    }
-    Ok(true)
+    letters: Option<u64>,
+) -> Result<(), Break> {
+    let limits = [10, 10, 1, 100, 100, work];
+    let beside = [Line(0, Act::Wait(1), end)];
+    under_limits(rt, alloc, limits, before, &beside, 1, letters)?;
+    under_limits(rt, alloc, limits, before, &beside, 4, letters)
 }
 
+/// A search that isn't spent finishes as many letters as its limit says.
 #[test]
-fn the_same_end_by_any_number_of_workers(rt: HostRuntime) -> Result<(), Fail> {
+fn the_same_end_by_any_number_of_workers(rt: HostRuntime) -> Result<(), Break> {
     for (work, before) in WORKS {
-        let yes = ends_so(&rt, rt.alloc(), before, work, Told::Yes)?;
-        let less = work.saturating_sub(1);
-        let spent = ends_so(&rt, rt.alloc(), before, less, Told::Spent)?;
-        assert!(rt; yes && spent, "work {work}");
+        ends_so(&rt, rt.alloc(), before, work, Told::Yes, Some(work))?;
+        ends_so(
+            &rt,
+            rt.alloc(),
+            before,
+            work.saturating_sub(1),
+            Told::Spent,
+            None,
+        )?;
     }
     Ok(())
 }

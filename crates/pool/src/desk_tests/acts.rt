@@ -1,0 +1,356 @@
+//! Calls of a desk as a table writes them, and what each is told.
+use crate::{Desk, DeskFault, Pass, Verdict};
+use credential_text::{Credential, Expr, read_credential};
+use hall::{Answer, Fault, Query};
+use names::{Entity, Role};
+use snapshots::Span;
+use std::alloc::Global;
+use std::mem;
+use std::sync::Wait;
+use std::sync::ledger::Ledger;
+use vaults::Change;
+
+/// What is asked of a desk.
+#[derive(Clone, Copy)]
+pub(super) enum Act {
+    /// The credential that this text spells is uploaded.
+    Put(&'static str),
+    /// It is withdrawn.
+    Drop(&'static str),
+    /// The reader is granted the vault.
+    Grant(&'static str),
+    /// The grant to the reader is taken back.
+    Revoke(&'static str),
+    /// Is the entity a member of the role?
+    Ask(&'static str, &'static str),
+    /// Who is a member of the role?
+    Who(&'static str),
+    /// The search of this number is polled.
+    Poll(u64),
+    /// It is waited for, and then polled: what is its end?
+    Wait(u64),
+    /// It is waited for, and then polled: what has it to do with this credential?
+    Find(u64, &'static str),
+    /// Why is the entity a member?
+    Proof(u64, &'static str),
+    End(u64),
+    /// Is the vault this credential alone?
+    Vault(&'static str),
+    /// Whose vaults does the tenant read?
+    Sees,
+    Stop,
+    /// A new pass of this tenant takes the place of the pass, which leaves.
+    Pass(&'static str),
+    /// The pass sees a journal of this length.
+    See(u64),
+    /// What has the pass seen, and of how many changes was it told?
+    Share,
+}
+
+/// What is told, or wanted.
+#[derive(Clone, Copy, PartialEq)]
+pub(super) enum Told {
+    Counted(u64),
+    /// The number of a search, and the length of the journal at its opening.
+    Opened(u64, u64),
+    Working,
+    Yes,
+    No,
+    /// The names `E1` to `E40`, in order.
+    Forty,
+    Spent,
+    /// Where the search reads the rows of the credential's role, whether the first of them is the credential, and whether
+    /// the search is for the credential's member in its role.
+    Found(Span, bool, bool),
+    /// A proof of so many steps.
+    Steps(usize),
+    /// So many rows, and whether the first is the credential.
+    Rows(usize, bool),
+    /// The tenant reads its own vault alone.
+    OwnAlone,
+    /// The length of the journal that was seen, and the share of the pass.
+    Share(u64, u64),
+    Done,
+    /// Refused by the fault of this number.
+    Refused(u64),
+    /// Refused since the journal that was found has this length.
+    Rewound(u64),
+    /// Refused for want of memory, or ended by it.
+    NoMemory,
+    /// What no table wants: another answer by the poll than by the wait, other members, a text that is no name.
+    Otherwise,
+}
+
+/// The names `E1` to `E40`, in order.
+const FORTY: [&str; 40] = [
+    "E1", "E10", "E11", "E12", "E13", "E14", "E15", "E16", "E17", "E18", "E19", "E2", "E20", "E21",
+    "E22", "E23", "E24", "E25", "E26", "E27", "E28", "E29", "E3", "E30", "E31", "E32", "E33",
+    "E34", "E35", "E36", "E37", "E38", "E39", "E4", "E40", "E5", "E6", "E7", "E8", "E9",
+];
+
+fn are_forty(names: &[Entity]) -> bool {
+    for (name, wanted) in names.iter().zip(&FORTY) {
+        if name.bytes() != wanted.as_bytes() {
+            return false;
+        }
+    }
+    names.len() == FORTY.len()
+}
+
+fn refused(fault: DeskFault) -> Told {
+    match fault {
+        DeskFault::Hall(Fault::Memory) => Told::NoMemory,
+        DeskFault::Rewound { front } => Told::Rewound(front),
+        _ => Told::Refused(fault.number()),
+    }
+}
+
+fn end_of(answer: &Answer) -> Told {
+    match answer {
+        Answer::Working => Told::Working,
+        Answer::Yes => Told::Yes,
+        Answer::No => Told::No,
+        Answer::Members(names) if are_forty(names.as_slice()) => Told::Forty,
+        Answer::Members(_names) => Told::Otherwise,
+        Answer::Spent => Told::Spent,
+        Answer::Broken => Told::NoMemory,
+    }
+}
+
+/// Whether the two queries are one.
+fn is_query(one: Query, other: Query) -> bool {
+    match (one, other) {
+        (Query::Ask(role, who), Query::Ask(same, it)) => role == same && who == it,
+        (Query::Who(role), Query::Who(same)) => role == same,
+        _ => false,
+    }
+}
+
+/// Whether the query is for the credential's member in its role.
+fn is_for(query: Query, credential: &Credential) -> bool {
+    match &credential.body {
+        Expr::Ent(who) => is_query(query, Query::Ask(credential.head, *who)),
+        _ => false,
+    }
+}
+
+/// What the verdict has to do with the credential, or else its end.
+fn told_by(verdict: &Verdict, about: Option<&Credential>) -> Told {
+    let Some(credential) = about else {
+        return end_of(&verdict.answer);
+    };
+    let span = verdict.snapshot.find(&credential.head);
+    let is_first = span.lo < span.hi && verdict.snapshot.row(span, 0).compare(credential).is_eq();
+    Told::Found(span, is_first, is_for(verdict.query, credential))
+}
+
+/// What both verdicts tell.
+fn told_twice(waited: &Verdict, polled: &Verdict, about: Option<&Credential>) -> Told {
+    let told = told_by(waited, about);
+    if told_by(polled, about) == told && is_query(waited.query, polled.query) {
+        told
+    } else {
+        Told::Otherwise
+    }
+}
+
+/// What a poll tells, where it is what the wait told.
+fn polled_after<L: Ledger, R: Wait>(
+    rt: &R,
+    desk: &Desk<L>,
+    pass: &mut Pass<L>,
+    number: u64,
+    about: Option<&Credential>,
+    waited: &Verdict,
+) -> Told {
+    match desk.poll(rt, pass, number) {
+        Ok(polled) => told_twice(waited, &polled, about),
+        Err(fault) => refused(fault),
+    }
+}
+
+fn waited<L: Ledger, R: Wait>(
+    rt: &R,
+    desk: &Desk<L>,
+    pass: &mut Pass<L>,
+    number: u64,
+    about: Option<&Credential>,
+) -> Told {
+    match desk.wait(rt, pass, number) {
+        Ok(verdict) => polled_after(rt, desk, pass, number, about, &verdict),
+        Err(fault) => refused(fault),
+    }
+}
+
+fn polled<L: Ledger, R: Wait>(rt: &R, desk: &Desk<L>, pass: &mut Pass<L>, number: u64) -> Told {
+    match desk.poll(rt, pass, number) {
+        Ok(verdict) => end_of(&verdict.answer),
+        Err(fault) => refused(fault),
+    }
+}
+
+fn changed<L: Ledger, R: Wait>(rt: &R, desk: &Desk<L>, pass: &mut Pass<L>, change: Change) -> Told {
+    match desk.change(rt, pass, change) {
+        Ok(count) => Told::Counted(count),
+        Err(fault) => refused(fault),
+    }
+}
+
+fn rows_told(rows: &[Credential], credential: &Credential) -> Told {
+    match rows {
+        [first, ..] => Told::Rows(rows.len(), first.compare(credential).is_eq()),
+        [] => Told::Rows(0, false),
+    }
+}
+
+fn held<L: Ledger, R: Wait>(
+    rt: &R,
+    desk: &Desk<L>,
+    pass: &mut Pass<L>,
+    credential: &Credential,
+) -> Told {
+    match desk.vault(rt, pass) {
+        Ok(rows) => rows_told(rows.as_slice(), credential),
+        Err(fault) => refused(fault),
+    }
+}
+
+fn seen<L: Ledger, R: Wait>(rt: &R, desk: &Desk<L>, pass: &mut Pass<L>) -> Told {
+    let own = pass.tenant();
+    match desk.sees(rt, pass) {
+        Ok(names) if matches!(names.as_slice(), [only] if *only == own) => Told::OwnAlone,
+        Ok(_) => Told::Otherwise,
+        Err(fault) => refused(fault),
+    }
+}
+
+fn opened<L: Ledger, R: Wait>(rt: &R, desk: &Desk<L>, pass: &mut Pass<L>, query: Query) -> Told {
+    match desk.open(rt, pass, query) {
+        Ok(ticket) => Told::Opened(ticket.no, ticket.opened_at),
+        Err(fault) => refused(fault),
+    }
+}
+
+fn proved<L: Ledger, R: Wait>(
+    rt: &R,
+    desk: &Desk<L>,
+    pass: &mut Pass<L>,
+    number: u64,
+    member: Entity,
+) -> Told {
+    match desk.proof(rt, pass, number, member) {
+        Ok(proof) => Told::Steps(proof.steps().len()),
+        Err(fault) => refused(fault),
+    }
+}
+
+fn ended<L: Ledger, R: Wait>(rt: &R, desk: &Desk<L>, pass: &mut Pass<L>, number: u64) -> Told {
+    match desk.end(rt, pass, number) {
+        Ok(()) => Told::Done,
+        Err(fault) => refused(fault),
+    }
+}
+
+fn renewed<L: Ledger, R: Wait>(rt: &R, desk: &Desk<L>, pass: &mut Pass<L>, who: Entity) -> Told {
+    match desk.pass(rt, who) {
+        Ok(other) => {
+            desk.leave(rt, mem::replace(pass, other));
+            Told::Done
+        }
+        Err(fault) => refused(fault),
+    }
+}
+
+/// What an act about a credential is told.
+fn about_credential<L: Ledger, R: Wait>(
+    rt: &R,
+    desk: &Desk<L>,
+    pass: &mut Pass<L>,
+    act: Act,
+    credential: Credential,
+) -> Told {
+    match act {
+        Act::Put(_) => changed(rt, desk, pass, Change::Upload(credential)),
+        Act::Drop(_) => changed(rt, desk, pass, Change::Withdraw(credential)),
+        Act::Find(number, _) => waited(rt, desk, pass, number, Some(&credential)),
+        _ => held(rt, desk, pass, &credential),
+    }
+}
+
+/// What an act about an entity is told.
+fn about_entity<L: Ledger, R: Wait>(
+    rt: &R,
+    desk: &Desk<L>,
+    pass: &mut Pass<L>,
+    act: Act,
+    who: Entity,
+) -> Told {
+    match act {
+        Act::Grant(_) => changed(rt, desk, pass, Change::Grant(who)),
+        Act::Revoke(_) => changed(rt, desk, pass, Change::Revoke(who)),
+        Act::Proof(number, _) => proved(rt, desk, pass, number, who),
+        _ => renewed(rt, desk, pass, who),
+    }
+}
+
+/// The query with these names.
+fn query_of(role: &str, member: Option<&str>) -> Option<Query> {
+    let role = Role::read(role.as_bytes()).ok()?;
+    let Some(member) = member else {
+        return Some(Query::Who(role));
+    };
+    Some(Query::Ask(role, Entity::read(member.as_bytes()).ok()?))
+}
+
+/// What an act without a text is told.
+fn about_pass<L: Ledger, R: Wait>(rt: &R, desk: &Desk<L>, pass: &mut Pass<L>, act: Act) -> Told {
+    match act {
+        Act::Poll(number) => polled(rt, desk, pass, number),
+        Act::Wait(number) => waited(rt, desk, pass, number, None),
+        Act::End(number) => ended(rt, desk, pass, number),
+        Act::Sees => seen(rt, desk, pass),
+        Act::See(length) => {
+            pass.see(length);
+            Told::Done
+        }
+        Act::Share => Told::Share(pass.front(), pass.share()),
+        _ => {
+            desk.stop(rt);
+            Told::Done
+        }
+    }
+}
+
+/// What the act is told. A text that a table has for a credential spells one, and so it is want of memory where it isn't
+/// read.
+pub(super) fn answer_to<L: Ledger, R: Wait>(
+    rt: &R,
+    alloc: Global,
+    desk: &Desk<L>,
+    pass: &mut Pass<L>,
+    act: Act,
+) -> Told {
+    match act {
+        Act::Put(text) | Act::Drop(text) | Act::Find(_, text) | Act::Vault(text) => {
+            match read_credential(alloc, text.as_bytes()) {
+                Ok(credential) => about_credential(rt, desk, pass, act, credential),
+                Err(_) => Told::NoMemory,
+            }
+        }
+        Act::Grant(name) | Act::Revoke(name) | Act::Proof(_, name) | Act::Pass(name) => {
+            match Entity::read(name.as_bytes()) {
+                Ok(who) => about_entity(rt, desk, pass, act, who),
+                Err(_) => Told::Otherwise,
+            }
+        }
+        Act::Ask(role, member) => match query_of(role, Some(member)) {
+            Some(query) => opened(rt, desk, pass, query),
+            None => Told::Otherwise,
+        },
+        Act::Who(role) => match query_of(role, None) {
+            Some(query) => opened(rt, desk, pass, query),
+            None => Told::Otherwise,
+        },
+        _ => about_pass(rt, desk, pass, act),
+    }
+}
