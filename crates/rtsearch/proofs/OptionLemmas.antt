@@ -26,13 +26,21 @@ rule place = slice_index_or serve.rules place (new_rule [])
 
 tested : AllByRecursion (IsTested serve.rules) serve.rules
 tested = (
-  record { named = refl; used = one_value (rule 0) refl refl; usual = λ some. accepts-Accepts false port_test (codes "0") refl }, (
-  record { named = refl; used = one_value (rule 1) refl refl; usual = λ some. accepts-Accepts false threads_test (codes "4") refl }, (
-  record { named = refl; used = one_value (rule 2) refl refl; usual = λ some. accepts-Accepts false threads_test (codes "8") refl }, (
-  record { named = refl; used = one_value (rule 3) refl refl; usual = λ some. cc }, (
-  record { named = refl; used = never_used (rule 4) DisplayHelp (λ again values rows. refl); usual = λ some. cc },
-  tt,
-)))))
+  record { named = refl; used = one_value (rule 0) refl refl; usual = λ some. accepts-Accepts false port_test (codes "0") refl },
+  (
+    record { named = refl; used = one_value (rule 1) refl refl; usual = λ some. accepts-Accepts false threads_test (codes "4") refl },
+    (
+      record { named = refl; used = one_value (rule 2) refl refl; usual = λ some. accepts-Accepts false threads_test (codes "8") refl },
+      (
+        record { named = refl; used = one_value (rule 3) refl refl; usual = λ some. cc },
+        (
+          record { named = refl; used = never_used (rule 4) DisplayHelp (λ again values rows. refl); usual = λ some. cc },
+          tt,
+        ),
+      ),
+    ),
+  ),
+)
 
 -- where words after `serve` have no fault
 options : (words : List Text) → level_fault serve [] nothing_held words false [] ≡ [] → HasOptions (Some (rows_at serve words))

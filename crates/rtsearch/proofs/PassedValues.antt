@@ -91,10 +91,10 @@ module _ (c : List Rule) where
   with_values_pass : (a : Rule) (s : ValueSource) (values : List Text) (rows : List Row) → arg_by_id c a.id ≡ Some a → FirstPasses a values → RowsPass c rows
       → RowsPass c (with_values a.id (reading_by a) s values rows)
   with_values_pass a s values [] named passes h = (
-      λ b is.
-          let same : a ≡ b = ap (λ (o : Option Rule). unwrap_or o a) (sym named ∙ is) in
-          (ap reading_by same, subst (λ (r : Rule). FirstPasses r values) same passes),
-      tt,
+    λ b is.
+        let same : a ≡ b = ap (λ (o : Option Rule). unwrap_or o a) (sym named ∙ is) in
+        (ap reading_by same, subst (λ (r : Rule). FirstPasses r values) same passes),
+    tt,
   )
   with_values_pass a s values (r ∷ rs) named passes h = go (bytes_eq r.id a.id) (with_values_pass a s values rs named passes h.1)
     where
