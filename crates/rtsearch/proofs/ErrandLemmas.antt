@@ -1,10 +1,12 @@
 -- Lemmas on what words ask for.
-use Rattle.std.proofs.Common.{◌≡◌, ◌&&◌, ℕ, Bool, true, false, not, List, Option, Some, None, Result, Ok, refl, ap, codes}
+use Rattle.std.proofs.Common.{◌≡◌, ◌∙◌, ◌&&◌, Bool, true, false, not, List, Option, Some, None, refl, ap, sym, codes}
 use Rattle.std.specs.Prelude.{option_map, unwrap_or}
 use Rattle.std.specs.Str.{bytes_eq}
 use Rattle.std.proofs.lemmas.Slice.Eq.{bytes_eq-Decides}
-use Rattle.clap.specs.Words.{ReadsOne, Row, Text, one_of}
-use Rattle.rtsearch.specs.CommandLine.{IsGiven, Spells, is_serve, value_of}
+use Rattle.clap.specs.Words.{Row, Text, one_of, one_text, rows_of}
+use Rattle.clap.specs.declared.parser.matches.Found.{Found}
+use Rattle.clap.proofs.WalkLemmas.{one_text-rows}
+use Rattle.rtsearch.specs.CommandLine.{is_serve, value_of}
 
 -- no argument of a plain command is global
 pub third_is_false : (a b c rest : Bool) → (a && (b && (not c && rest))) ≡ true → c ≡ false
@@ -31,13 +33,10 @@ module _ {A : Type 0} (name : A → Text) (rows : A → List Row) where
       go false is = is
 
 -- an option of the subcommand, by its rows
-pub value_of-rows : (option : Text) (found : Option (Text × List Row)) (rows : List Row) → option_map (λ p. p.1) found ≡ Some rows → value_of option found ≡ one_of option rows
+value_of-rows : (option : Text) (found : Option (Text × List Row)) (rows : List Row) → option_map (λ p. p.1) found ≡ Some rows → value_of option found ≡ one_of option rows
 value_of-rows option None rows e = cc
 value_of-rows option (Some p) rows e = ap (λ (o : Option (List Row)). one_of option (unwrap_or o rows)) e
 
--- what a getter reads of an option is given
-pub given_of : {E : Type 0} (gives : Text → Result ℕ E → Type 0) → ((text : Text) (number : ℕ) → gives text (Ok number) → Spells text number) →
-    (text : Option Text) (read : Option ℕ) → (text ≡ None → read ≡ None) → ((t : Text) → text ≡ Some t → ReadsOne gives t read) → IsGiven text read
-given_of gives spells text None none value = tt
-given_of gives spells None (Some number) none value = absurd (let no : Some number ≡ None = none refl in cc)
-given_of gives spells (Some t) (Some number) none value = (t, refl, spells t number (value t refl))
+-- what a getter reads of it
+pub text_of : (found : Option (Text × List Row)) (serve : Found) → option_map (λ p. p.1) found ≡ Some (rows_of serve) → (option : Text) → one_text serve option ≡ value_of option found
+text_of found serve is option = one_text-rows serve option ∙ sym (value_of-rows option found _ is)

@@ -1,2 +1,4 @@
 pub mod ErrandLemmas
+pub mod OptionLemmas
+pub mod PassedValues
 pub mod RunLemmas

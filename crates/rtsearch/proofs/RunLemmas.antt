@@ -1,5 +1,5 @@
 -- Lemmas on what a run did, by what its words ask for.
-use Rattle.std.proofs.Common.{◌≡◌, ℕ, Bool, true, false, List, Option, Some, None, inl, subst, codes}
+use Rattle.std.proofs.Common.{◌≡◌, ◌⊎◌, ℕ, Bool, true, false, List, [], Option, Some, None, inl, inr, subst, codes}
 use Rattle.std.specs.Prelude.{IfSome, MatchBool}
 use Rattle.std.specs.Io.KnownBytes.{Appends}
 use Rattle.clap.specs.Words.{Row, Text}
@@ -21,7 +21,7 @@ if_true Q false e p = cc
 -- want of memory, where nothing was written
 pub unwritten : (found : Option (Text × List Row)) (input out : Option (List ℕ)) → IfSome input (λ bytes. Failed found (commands_of bytes) (Appends out out))
 unwritten found None out = tt
-unwritten found (Some bytes) out = either_way (is_serve found) (None, tt, inl (Appends-nothing out)) (Memory, Appends-nothing out)
+unwritten found (Some bytes) out = either_way (is_serve found) (inl (Appends-nothing out)) (Memory, Appends-nothing out)
 
 -- a service that ended after so many connections
 pub served_all : (found : Option (Text × List Row)) (accept : Option ℕ) (input : Option (List ℕ)) (out : List ℕ → Type 0) → is_serve found ≡ true →
@@ -33,7 +33,8 @@ served_all found accept (Some bytes) out serve given served =
 
 -- or failed
 pub served_not : (found : Option (Text × List Row)) (accept : Option ℕ) (input : Option (List ℕ)) (out : List ℕ → Type 0) → is_serve found ≡ true →
-    IsGiven (value_of (codes "accept") found) accept → IfSome input (λ bytes. NotServed (commands_of bytes) accept out) →
+    IsGiven (value_of (codes "accept") found) accept → IfSome input (λ bytes. out [] ⊎ NotServed (commands_of bytes) accept out) →
     IfSome input (λ bytes. Failed found (commands_of bytes) out)
 served_not found accept None out serve given failed = tt
-served_not found accept (Some bytes) out serve given failed = if_true _ (is_serve found) serve (accept, given, failed)
+served_not found accept (Some bytes) out serve given (inl nothing) = if_true _ (is_serve found) serve (inl nothing)
+served_not found accept (Some bytes) out serve given (inr failed) = if_true _ (is_serve found) serve (inr (accept, given, failed))

@@ -1,6 +1,8 @@
-ghost use Rattle.std.specs.Prelude.{◌≡◌, ◌≤◌, ℕ, List, [], ◌∷◌, codes, map, false, IfOk, IfErr, OnOk};
+ghost use Rattle.std.specs.Prelude.{◌≡◌, ◌≤◌, ℕ, List, [], ◌∷◌, codes, map, true, false, IfOk, IfErr, OnOk};
 ghost use Rattle.clap.specs.Words.{app_of, kind_of, found_of, one_text, rule_of, subcommand_rows_of};
-ghost use Rattle.rtsearch.specs.CommandLine.{AsksForScript, IsCommandLine, program, serve_command, number_rule, entered, IsGiven, Asks};
+ghost use Rattle.rtsearch.specs.CommandLine.{AsksForScript, IsCommandLine, IsFaultOf, program, serve_command, number_rule};
+ghost use Rattle.rtsearch.specs.CommandLine.{entered, is_serve, port_test, threads_test, accept_test};
+ghost use Rattle.rtsearch.specs.CommandLine.{HasValue, MayHaveValue, HasOptions, IsValue, IsGiven, AreThreads, Asks};
 
 use clap::builder::ValueParser;
 use clap::error::ErrorKind;
@@ -10,12 +12,6 @@ use std::alloc::{AllocError, Global};
 
 /// What `--version` shows.
 const VERSION: &str = "0.1.0";
-
-/// How many workers there are where the command line doesn't say.
-const WORKERS: u64 = 4;
-
-/// How many sessions there are where the command line doesn't say.
-const SESSIONS: u64 = 8;
 
 /// What a command line asks for.
 #[derive(Clone, Copy, Debug, PartialEq, Eq)]
@@ -30,6 +26,7 @@ pub enum Errand {
 pub fn read_words<'a>(alloc: Global, words: &'a [&'a str]) -> Result<Errand, Error>
     ensures script { IfErr result (λ e. AsksForScript (map (λ w. w.now) words.now) → kind_of e ≡ ErrorKind.OutOfMemory) }
     ensures accepted { OnOk result (IsCommandLine (map (λ w. w.now) words.now)) }
+    ensures refused { IfErr result (IsFaultOf (map (λ w. w.now) words.now)) }
     ensures errand { IfOk result (Asks (entered (map (λ w. w.now) words.now))) }
 {
     let program = program_line(alloc)?;
@@ -84,6 +81,7 @@ fn number_option<'a>(alloc: Global, name: &'a str, help: &'a str, test: ValuePar
 
 /// What the words ask for, by what was found in them.
 fn errand_of(matches: &ArgMatches<'_>) -> Errand
+    requires { is_serve (subcommand_rows_of matches.now) ≡ true → HasOptions (subcommand_rows_of matches.now) }
     ensures { Asks (subcommand_rows_of matches.now) result }
 {
     match matches.subcommand_matches("serve") {
@@ -93,26 +91,42 @@ fn errand_of(matches: &ArgMatches<'_>) -> Errand
 }
 
 /// The port to serve at.
-fn port_of(serve: &ArgMatches<'_>) -> u16 {
-    serve.get_one::<u16>("port").unwrap_or(0)
+fn port_of(serve: &ArgMatches<'_>) -> u16
+    requires { HasValue port_test (one_text (found_of serve.now) (codes "port")) }
+    ensures { IsValue (one_text (found_of serve.now) (codes "port")) result }
+{
+    serve.get_one::<u16>("port").unwrap()
 }
 
 /// How many threads the service has, and after how many connections it ends.
 fn options_of(serve: &ArgMatches<'_>) -> ServeOptions
-    ensures workers { (1 ≤ result.workers) × (result.workers ≤ 64) }
-    ensures sessions { (1 ≤ result.sessions) × (result.sessions ≤ 64) }
+    requires workers { HasValue threads_test (one_text (found_of serve.now) (codes "workers")) }
+    requires sessions { HasValue threads_test (one_text (found_of serve.now) (codes "sessions")) }
+    requires accept { MayHaveValue accept_test (one_text (found_of serve.now) (codes "accept")) }
+    ensures workers { IsValue (one_text (found_of serve.now) (codes "workers")) result.workers × AreThreads result.workers }
+    ensures sessions { IsValue (one_text (found_of serve.now) (codes "sessions")) result.sessions × AreThreads result.sessions }
     ensures accept { IsGiven (one_text (found_of serve.now) (codes "accept")) result.accept }
 {
     ServeOptions {
-        workers: threads(serve, "workers", WORKERS),
-        sessions: threads(serve, "sessions", SESSIONS),
-        accept: serve.get_one::<u64>("accept"),
+        workers: threads_of(serve, "workers"),
+        sessions: threads_of(serve, "sessions"),
+        accept: accept_of(serve),
     }
 }
 
-/// How many threads an option asks for. The command line lets no number through that isn't 1 to 64.
-fn threads(serve: &ArgMatches<'_>, option: &str, usual: u64) -> u64
-    ensures { (1 ≤ result) × (result ≤ 64) }
+/// How many threads an option asks for.
+fn threads_of(serve: &ArgMatches<'_>, option: &str) -> u64
+    requires { HasValue threads_test (one_text (found_of serve.now) option.now) }
+    ensures value { IsValue (one_text (found_of serve.now) option.now) result }
+    ensures range { AreThreads result }
 {
-    serve.get_one::<u64>(option).unwrap_or(usual).clamp(1, 64)
+    serve.get_one::<u64>(option).unwrap()
+}
+
+/// After how many connections the service ends, where the words say so.
+fn accept_of(serve: &ArgMatches<'_>) -> Option<u64>
+    requires { MayHaveValue accept_test (one_text (found_of serve.now) (codes "accept")) }
+    ensures { IsGiven (one_text (found_of serve.now) (codes "accept")) result }
+{
+    serve.get_one::<u64>("accept")
 }

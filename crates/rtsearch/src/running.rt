@@ -31,6 +31,7 @@ pub fn run_words<
         (λ input. Failed (entered (map (λ w. w.now) words.now)) (commands_of input) (Appends (W.contents writer.old) (W.contents writer.new))) }
     ensures script { AsksForScript (map (λ w. w.now) words.now) → result ≤ 1 }
     ensures accepted { result ≡ 0 → IsCommandLine (map (λ w. w.now) words.now) }
+    ensures fault { result ≡ 2 → IsCommandLine (map (λ w. w.now) words.now) → ⊥ }
     ensures refused { (IsCommandLine (map (λ w. w.now) words.now) → ⊥) → R.remaining reader.new ≡ R.remaining reader.old }
     ensures unread { result ≡ 2 → R.remaining reader.new ≡ R.remaining reader.old }
     ensures status { result ≤ 2 }

@@ -1,4 +1,4 @@
-ghost use Rattle.std.specs.Prelude.{◌≡◌, ◌≤◌, ℕ, Some, IfSome};
+ghost use Rattle.std.specs.Prelude.{◌≡◌, ◌≤◌, ◌⊎◌, ℕ, [], Some, IfSome};
 ghost use Rattle.std.specs.Io.KnownBytes.{Appends};
 ghost use Rattle.service.specs.Line.{commands_of};
 ghost use Rattle.rtsearch.specs.Serving.{Served, NotServed};
@@ -23,7 +23,8 @@ pub fn run_service<
         (λ input. (count : ℕ) × (options.accept ≡ Some count)
         × Served (commands_of input) count (Appends (W.contents writer.old) (W.contents writer.new))) }
     ensures failed { result ≡ 1 → IfSome (R.remaining reader.old)
-        (λ input. NotServed (commands_of input) options.accept (Appends (W.contents writer.old) (W.contents writer.new))) }
+        (λ input. Appends (W.contents writer.old) (W.contents writer.new) []
+        ⊎ NotServed (commands_of input) options.accept (Appends (W.contents writer.old) (W.contents writer.new))) }
     ensures status { result ≤ 1 }
 {
     let Ok(roster) = read_roster(alloc, reader, writer) else {

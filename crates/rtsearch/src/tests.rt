@@ -1,5 +1,7 @@
+use crate::command_line::{Errand, read_words};
 use crate::ending::{NO_TEXT, end_with};
 use crate::running::run_words;
+use service::ServeOptions;
 use std::alloc::AllocGlobal;
 use std::io;
 use std::net::{Net, TcpListener, TcpStream};
@@ -58,6 +60,41 @@ fn a_refused_command_line_ends_with_status_2(rt: HostRuntime) {
     assert!(rt; is_refused(&rt, &["rtsearch", "--version"], "rtsearch 0.1.0\n"));
     assert!(rt; is_refused(&rt, &["rtsearch", "serv"], "error: "));
     assert!(rt; is_refused(&rt, &["rtsearch", "script", "now"], "error: "));
+}
+
+#[test]
+fn words_without_options_ask_for_the_usual_numbers(rt: HostRuntime) {
+    let usual = ServeOptions {
+        workers: 4,
+        sessions: 8,
+        accept: None,
+    };
+    let errand = read_words(rt.alloc(), &["rtsearch", "serve"]).ok();
+    assert!(rt; errand == Some(Errand::Serve(0, usual)));
+}
+
+#[test]
+fn each_option_gives_its_own_number(rt: HostRuntime) {
+    let words = [
+        "rtsearch",
+        "serve",
+        "--sessions",
+        "3",
+        "--port=7412",
+        "--accept",
+        "1000000",
+        "--workers=64",
+    ];
+    let options = ServeOptions {
+        workers: 64,
+        sessions: 3,
+        accept: Some(1_000_000),
+    };
+    let errand = read_words(rt.alloc(), &words).ok();
+    assert!(rt; errand == Some(Errand::Serve(7412, options)));
+    assert!(rt; is_refused(&rt, &["rtsearch", "serve", "--workers", "65"], "error: "));
+    assert!(rt; is_refused(&rt, &["rtsearch", "serve", "--port", "65536"], "error: "));
+    assert!(rt; is_refused(&rt, &["rtsearch", "serve", "--accept", "0"], "error: "));
 }
 
 #[test]

@@ -3,7 +3,8 @@ use Rattle.std.proofs.Common.{ℕ, ap, ap₂, refl, codes, true, List, map, [], 
 use Rattle.std.proofs.lemmas.Result.{err_from_is_err_and}
 use Rattle.clap.specs.Words.{App, Row, Text, app_of, fault_of, is_simple, is_simple_and_free, subcommand_of, takes}
 use Rattle.clap.proofs.OnLiterals.{clap_on_literals}
-use Rattle.rtsearch.specs.CommandLine.{Asks, AsksForScript, program}
+use Rattle.rtsearch.specs.CommandLine.{Asks, AsksForScript, HasOptions, is_serve, program}
+use Rattle.rtsearch.proofs.OptionLemmas.{options_pass}
 use Rattle.rtsearch.proofs.command_line.read_words.Goals as goal
 
 is_taken : (name : Text) → takes program (name ∷ codes "script" ∷ []) ≡ true
@@ -24,6 +25,14 @@ returns-in_err-matches-clause-script c =
     rw (p.1, p.2)
     (λ (asks : AsksForScript (map (λ w. w.now) c.args.words.now)). c.in_err-matches.ensures.passes (ap₂ takes c.in_ok-program.ensures asks.1 ∙ is_taken asks.0))
 
+pub errand_of-requires : goal.errand_of-requires
+errand_of-requires c =
+    let words : List (List ℕ) = map (λ w. w.now) c.args.words.now in
+    let is : app_of c.in_ok-program.program ≡ program = c.in_ok-program.ensures in
+    let found = (c.in_ok-matches.ensures.matches (ap is_simple is ∙ simple)).1 ∙ ap (λ (a : App). subcommand_of a words) is in
+    let fine = ap (λ (a : App). fault_of a words) (sym is) ∙ c.in_ok-matches.ensures.kinds (ap is_simple_and_free is ∙ simple_and_free) in
+    subst (λ (f : Option (Text × List Row)). is_serve f ≡ true → HasOptions f) (sym found) (options_pass words fine)
+
 pub returns : goal.returns
 returns c =
     let words : List (List ℕ) = map (λ w. w.now) c.args.words.now in
@@ -32,5 +41,6 @@ returns c =
     record {
       script = tt;
       accepted = ap (λ (a : App). fault_of a words) (sym is) ∙ c.in_ok-matches.ensures.kinds (ap is_simple_and_free is ∙ simple_and_free);
+      refused = tt;
       errand = subst (λ (f : Option (Text × List Row)). Asks f c.errand_of.result) found c.errand_of.ensures;
     }

@@ -13,10 +13,10 @@ pub returns-in-Ok-Serve-clause-ran : goal.returns-in-Ok-Serve-clause-ran
 returns-in-Ok-Serve-clause-ran g c zero =
     let asks = rw c.in-Ok-Serve.field-0-is at c.in-Ok-Serve.ensures.errand in
     served_all (entered (map (λ w. w.now) c.args.words.now)) c.in-Ok-Serve.options.accept (g.R.Read.remaining c.args.reader.now)
-    (Appends (g.W.Write.contents c.args.writer.now) (g.W.Write.contents c.run_service.new.writer)) asks.0 asks.3 (c.run_service.ensures.served zero)
+    (Appends (g.W.Write.contents c.args.writer.now) (g.W.Write.contents c.run_service.new.writer)) asks.0 asks.4 (c.run_service.ensures.served zero)
 
 pub returns-in-Ok-Serve-clause-failed : goal.returns-in-Ok-Serve-clause-failed
 returns-in-Ok-Serve-clause-failed g c one =
     let asks = rw c.in-Ok-Serve.field-0-is at c.in-Ok-Serve.ensures.errand in
     served_not (entered (map (λ w. w.now) c.args.words.now)) c.in-Ok-Serve.options.accept (g.R.Read.remaining c.args.reader.now)
-    (Appends (g.W.Write.contents c.args.writer.now) (g.W.Write.contents c.run_service.new.writer)) asks.0 asks.3 (c.run_service.ensures.failed one)
+    (Appends (g.W.Write.contents c.args.writer.now) (g.W.Write.contents c.run_service.new.writer)) asks.0 asks.4 (c.run_service.ensures.failed one)
