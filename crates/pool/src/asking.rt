@@ -46,6 +46,7 @@ impl<L: Ledger> Room<L> {
         Ok(Ticket { no, opened_at })
     }
 
+    #[tactic(auto, using(crate::proofs::Polled::polled_verdict))]
     /// What the search of the pass's tenant has come to.
     pub(crate) fn poll(&self, pass: &mut Pass<L>, number: u64) -> Result<Verdict, DeskFault>
         ensures served { IfTold verdict_told (λ told.

@@ -74,8 +74,8 @@ impl<L: Ledger> Room<L> {
     }
 
     #[tactic(auto, using(crate::proofs::Visiting::worked_journal))]
-    /// The steps of one visit of a worker, all of one search: it delivers signals and takes letters as long as there are any,
-    /// and makes no more than 32 steps.
+    /// The steps of one visit of a worker, all of one search: it delivers signals and takes letters as long as there are any
+    /// and the steps are within their limit. The searches take turns.
     pub(crate) fn visit(&mut self, held: &mut Vec<Job>) -> Found
         requires empty { vec_len held.old ≡ 0 }
         requires space { BATCH ≤ vec_capacity held.old }
@@ -119,7 +119,8 @@ impl<L: Ledger> Room<L> {
         false
     }
 
-    /// Hands in all that a worker holds, which are letters of one search, and answers how many are finished.
+    /// Hands in all that a worker holds, and answers how many are finished. They are letters of one search, that of the last
+    /// one: it alone is looked at, whether those who wait for its end are to be woken.
     pub(crate) fn hand_in_all(&mut self, looked: &mut Vec<Looked>) -> u64
         ensures handed_in { AreHandedIn self.old.stopped self.old.hall looked.old.items result self.new.hall }
         ensures journal { self.new.hall.journal ≡ self.old.hall.journal }
