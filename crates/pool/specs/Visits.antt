@@ -17,7 +17,8 @@ use Rattle.pool.specs.declared.visits.Looked.{Looked}
 -- done; after a stop it is given back
 abbrev pub IsHandedIn : Bool → HallState → Looked → Bool → HallState → Type 0
 IsHandedIn false old one finished new =
-    (answer : Stepped) × IsStepped old (Finish one.job.who one.job.number one.job.letter one.hint) answer new × (IsTrue finished ↔ (answer ≡ Done))
+    (answer : Stepped) × IsStepped old (Finish one.job.who one.job.number one.job.letter one.hint) answer new
+    × (IsTrue finished ↔ (answer ≡ Done))
 IsHandedIn true old one finished new =
     (answer : Stepped) × IsStepped old (GiveBack one.job.who one.job.number one.job.letter) answer new × (finished ≡ false)
 

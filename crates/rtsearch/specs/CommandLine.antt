@@ -3,7 +3,8 @@ use Rattle.std.specs.Prelude.{ℕ, ◌≤◌, ◌≡◌, ◌⊎◌, pos, Bool, t
 use Rattle.std.specs.Option.{option_map_or}
 use Rattle.std.specs.Str.{bytes_eq}
 use Rattle.std.specs.Str.Parse.{IsNumeral, digits_value, without_leading_plus}
-use Rattle.clap.specs.Words.{Accepts, App, HasKind, Row, Rule, Text, fault_of, new_app, new_rule, one_of, read_as, reading_of, subcommand_of, with_rule, with_subcommand}
+use Rattle.clap.specs.Words.{Accepts, App, HasKind, Row, Rule, Text, fault_of, new_app, new_rule}
+use Rattle.clap.specs.Words.{one_of, read_as, reading_of, subcommand_of, with_rule, with_subcommand}
 use Rattle.clap.specs.declared.builder.value_parser.ValueParser.{ValueParser}
 use Rattle.clap.specs.declared.error.Error.{Error}
 use Rattle.clap.specs.declared.builder.value_parser.ValueParser.TheVariants as vp

@@ -26,9 +26,11 @@ pub fn run_words<
     W: Write,
 >(rt: &H, alloc: Global, words: &[&str], reader: &mut R, writer: &mut W) -> u8
     ensures ran { result ≡ 0 → IfSome (R.remaining reader.old)
-        (λ input. Ran (entered (map (λ w. w.now) words.now)) (commands_of input) (Appends (W.contents writer.old) (W.contents writer.new))) }
+        (λ input. Ran (entered (map (λ w. w.now) words.now)) (commands_of input)
+        (Appends (W.contents writer.old) (W.contents writer.new))) }
     ensures failed { result ≡ 1 → IfSome (R.remaining reader.old)
-        (λ input. Failed (entered (map (λ w. w.now) words.now)) (commands_of input) (Appends (W.contents writer.old) (W.contents writer.new))) }
+        (λ input. Failed (entered (map (λ w. w.now) words.now)) (commands_of input)
+        (Appends (W.contents writer.old) (W.contents writer.new))) }
     ensures script { AsksForScript (map (λ w. w.now) words.now) → result ≤ 1 }
     ensures accepted { result ≡ 0 → IsCommandLine (map (λ w. w.now) words.now) }
     ensures fault { result ≡ 2 → IsCommandLine (map (λ w. w.now) words.now) → ⊥ }

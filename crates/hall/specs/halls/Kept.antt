@@ -1,5 +1,6 @@
 -- What a hall keeps beside what it is seen as, and what its calls do to one of its searches.
-use Rattle.std.specs.Prelude.{◌≡◌, ◌≤◌, ◌+◌, ◌++◌, ◌∷◌, ◌⊎◌, ℕ, Bool, true, false, List, [], map, Option, None, Some, Result, Ok, Err, slice_set, slice_get}
+use Rattle.std.specs.Prelude.{◌≡◌, ◌≤◌, ◌+◌, ◌++◌, ◌∷◌, ◌⊎◌, ℕ, Bool, true, false, List, [], map, slice_set, slice_get}
+use Rattle.std.specs.Prelude.{Option, None, Some, Result, Ok, Err}
 use Rattle.std.specs.List.{Contains}
 use Rattle.search.specs.Ending.{Settled}
 use Rattle.search.specs.Search.{SearchState, Settles, IsOutstanding, settled_of}
@@ -83,7 +84,8 @@ abbrev pub MakesSteps : List ℕ → ℕ → ℕ → List TakenLetter → List T
 MakesSteps who k n held holds s t = (taken : List TakenLetter) × WorksOn who k s n taken t × (holds ≡ held ++ taken)
 
 -- at most so many steps of the search were made, fewer only where nothing of it is left to do or memory lacked
-abbrev pub Visits : {E : Type 0} → List ℕ → ℕ → ℕ → List TakenLetter → List TakenLetter → Result (Unit {0}) E → SearchState → SearchState → Type 0
+abbrev pub Visits : {E : Type 0} → List ℕ → ℕ → ℕ → List TakenLetter → List TakenLetter → Result (Unit {0}) E →
+    SearchState → SearchState → Type 0
 Visits who k most held holds result s t =
     (n : ℕ) × (n ≤ most) × MakesSteps who k n held holds s t × IsWhole most n (IsQuiet t.stage) result
 

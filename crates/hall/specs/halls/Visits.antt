@@ -22,7 +22,8 @@ IsWhole most n nothing_left (Err lacked) = Unit {0}
 
 -- at most so many such steps are made, fewer only where nothing of the search is left to do or memory lacks, and the letters
 -- stand behind those that are held
-abbrev pub IsVisited : {E : Type 0} → List ℕ → ℕ → ℕ → HallState → List TakenLetter → Result (Unit {0}) E → HallState → List TakenLetter → Type 0
+abbrev pub IsVisited : {E : Type 0} → List ℕ → ℕ → ℕ → HallState → List TakenLetter → Result (Unit {0}) E →
+    HallState → List TakenLetter → Type 0
 IsVisited who number most old held result new holds =
     (n : ℕ) × (taken : List TakenLetter) × (n ≤ most) × IsWorkedOn who number old n taken new × (holds ≡ held ++ taken)
     × IsWhole most n (SearchIsQuiet new who number) result
