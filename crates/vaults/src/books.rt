@@ -261,11 +261,11 @@ fn keep(
         }
         Change::GrantAll => {
             public.add(&who)?;
-            let kept = keep_on_page(alloc, pages, who, change);
-            if kept.is_err() {
+            let counted = keep_on_page(alloc, pages, who, change);
+            if counted.is_err() {
                 public.remove(&who);
             }
-            kept
+            counted
         }
         Change::RevokeAll => {
             let count = keep_on_page(alloc, pages, who, change)?;

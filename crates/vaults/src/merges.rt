@@ -10,11 +10,7 @@ use names::Entity;
 use std::alloc::{AllocError, Global};
 
 /// The names of both lists, each once, marked where it stands among the public ones. One pass over each list.
-pub fn merged(
-    alloc: Global,
-    names: &[Entity],
-    public: &[Entity],
-) -> Result<Vec<Seen>, AllocError>
+pub fn merged(alloc: Global, names: &[Entity], public: &[Entity]) -> Result<Vec<Seen>, AllocError>
     requires names { IsStrictlySortedBy name_order names.now }
     requires public { IsStrictlySortedBy name_order public.now }
     ensures { IfOk result (λ seen. AreMerged names.now public.now seen.items) }
@@ -23,11 +19,9 @@ pub fn merged(
     let mut rest = public;
     for name in names {
         let before = push_before(&mut seen, rest, name)?;
-        rest = &rest[before..];
-        let to_all = starts_with(rest, name);
-        if to_all {
-            rest = &rest[1..];
-        }
+        let (_pushed, behind) = rest.split_at(before);
+        let to_all = starts_with(behind, name);
+        rest = if to_all { &behind[1..] } else { behind };
         seen.push(Seen {
             name: *name,
             to_all,
@@ -48,10 +42,7 @@ fn push_before(seen: &mut Vec<Seen>, public: &[Entity], name: &Entity) -> Result
         if !other.compare(name).is_lt() {
             return Ok(count);
         }
-        seen.push(Seen {
-            name: *other,
-            to_all: true,
-        })?;
+        seen.push(to_everybody(*other))?;
     }
     Ok(public.len())
 }
@@ -71,10 +62,14 @@ fn push_all(seen: &mut Vec<Seen>, public: &[Entity]) -> Result<(), AllocError>
     ensures { OnOk result (seen.new.items ≡ seen.old.items ++ map to_everybody public.now) }
 {
     for name in public {
-        seen.push(Seen {
-            name: *name,
-            to_all: true,
-        })?;
+        seen.push(to_everybody(*name))?;
     }
     Ok(())
+}
+
+/// A name whose vault is public.
+fn to_everybody(name: Entity) -> Seen
+    ensures { result ≡ to_everybody name }
+{
+    Seen { name, to_all: true }
 }
