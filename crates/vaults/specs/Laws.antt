@@ -10,7 +10,8 @@ use Rattle.vaults.specs.declared.changes.Change.TheVariants.{Grant, Revoke, Gran
 use Rattle.vaults.specs.declared.changes.Entry.{Entry}
 use Rattle.vaults.specs.declared.marks.Seen.{Seen}
 use Rattle.vaults.specs.Journal.{entries_of, holds, granted, is_public, grant_count, reads, refusal, AreAccepted}
-use Rattle.vaults.specs.Journal.{vault, readers, names_read, marked_names, names_in, Vault, view, marked_view, unmarked, seen_of, credentials}
+use Rattle.vaults.specs.Journal.{vault, readers, names_read, marked_names, names_in}
+use Rattle.vaults.specs.Journal.{Vault, view, marked_view, unmarked, seen_of, credentials}
 
 -- the list is in the order, each element once, and has exactly what the fact holds of
 pub record ListsInOrder {K : Type 0} (InOrder : List K → Type 0) (P : K → Type 0) (xs : List K) : Type 0 where

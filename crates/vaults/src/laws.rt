@@ -1,6 +1,7 @@
 ghost use Rattle.vaults.specs.Laws.{VaultsAreExact, ReadersAreExact, NamesReadAreExact, ViewsAreOfNamesRead, ViewsAreExact};
 ghost use Rattle.vaults.specs.Laws.{MarksAreExact, MarkedViewsAreExact, PublicIsRead, GrantsAreApart, HeldAreIssued, GrantedAreOthers};
-ghost use Rattle.vaults.specs.Laws.{HoldingIsOwn, GrantingIsOwn, PublishingIsOwn, VaultsAreOwn, ReadersAreOwn, GrantCountsAreOwn, RefusalsAreOwn};
+ghost use Rattle.vaults.specs.Laws.{HoldingIsOwn, GrantingIsOwn, PublishingIsOwn};
+ghost use Rattle.vaults.specs.Laws.{VaultsAreOwn, ReadersAreOwn, GrantCountsAreOwn, RefusalsAreOwn};
 
 /// A vault has exactly the credentials that its owner issues and holds, in order, each once; the readers of a vault
 /// are exactly those that its owner granted last, in order, each once.
