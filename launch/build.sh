@@ -29,7 +29,7 @@ build() {
         leave_old_rooms
     fi
     # (where it waited for another launcher, that one built it)
-    if is_older_than_a_source "$(left_by "$1")"; then
+    if is_older_than_a_source "${left_by[$1]}"; then
         prove_all
     fi
     stop_all
@@ -58,7 +58,7 @@ prove_all() {
         end_what_ended
     done
     # a source that changed meanwhile is newer
-    touch -r "$logs/begun" "$(left_by "${crates[-1]}")"
+    touch -r "$logs/begun" "${left_by[${crates[-1]}]}"
 }
 
 stop_unless_writable() {
@@ -175,12 +175,12 @@ end() {
     unset "runs[$crate]" "jobs_of[$crate]"
     [ -z "$has_rooms" ] || leave_room "$crate"
     # (the run that follows the program's own build has no words, so its status is no news)
-    if [ "$status" -ne 0 ] && ! { [ "$crate" = "${crates[-1]}" ] && [ -x "$(left_by "$crate")" ]; }; then
+    if [ "$status" -ne 0 ] && ! { [ "$crate" = "${crates[-1]}" ] && [ -x "${left_by[$crate]}" ]; }; then
         cat "$logs/$crate" >&2
         fail 125 "$crate is not proved"
     fi
     # a source that changed meanwhile is newer
-    touch -c -r "$logs/$crate.begun" "$(left_by "$crate")"
+    touch -c -r "$logs/$crate.begun" "${left_by[$crate]}"
     phase[$crate]=proved
     say "$crate is proved"
 }

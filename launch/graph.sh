@@ -4,6 +4,7 @@ sources=(src specs proofs)
 declare -a crates=()           # a crate and all below it, each after those that it stands on
 declare -A stands_on=()        # the crates that a crate names
 declare -A all_below=()        # those and the ones below them, each once and after those that it stands on
+declare -A left_by=()          # what a proved crate leaves: of a library the stamp that `rt` writes last, or the program
 declare -A is_stale=()         # the crates that have to be proved again
 
 # Whether the file isn't there, or is older than a source of the repository.
@@ -26,6 +27,7 @@ read_graph() {
         [[ $line == *:* ]] && stands_on[${line%%[: ]*}]=${line#*:}
     done <"$here/crates.txt"
     visit "$1"
+    left_by[$1]=$here/crates/$1/out/$1
 }
 
 visit() {
@@ -42,16 +44,8 @@ visit() {
         done
     done
     all_below[$1]=$all
+    left_by[$1]=$here/crates/$1/out/rlib/stamp
     crates+=("$1")
-}
-
-# What a proved crate leaves: of a library the stamp that `rt` writes last, of the top the program.
-left_by() {
-    if [ "$1" = "${crates[-1]}" ]; then
-        echo "$here/crates/$1/out/$1"
-    else
-        echo "$here/crates/$1/out/rlib/stamp"
-    fi
 }
 
 # Marks the crates that left nothing, those with a source that is newer than what they left, and all that stand on one.
@@ -59,13 +53,13 @@ left_by() {
 mark_stale() {
     local crate below left
     for crate in "${crates[@]}"; do
-        left=$(left_by "$crate")
+        left=${left_by[$crate]}
         if [ "$crate" = "${crates[-1]}" ] || [ ! -e "$left" ] ||
             has_newer "$left" "$here/crates.txt" "${sources[@]/#/$here/crates/$crate/}"; then
             is_stale[$crate]=1
         fi
         for below in ${all_below[$crate]}; do
-            if [ -n "${is_stale[$below]-}" ] || [ "$(left_by "$below")" -nt "$left" ]; then
+            if [ -n "${is_stale[$below]-}" ] || [ "${left_by[$below]}" -nt "$left" ]; then
                 is_stale[$crate]=1
             fi
         done

@@ -54,13 +54,15 @@ enter_room() {
 # Gives a crate's own files a second name in the room.
 share() {
     local file
-    mkdir "$2/crates/$1"
+    local -a own=()
     for file in "$here/crates/$1"/*; do
         case ${file##*/} in
             out | must-fail) ;;
-            *) cp -al "$file" "$2/crates/$1/" ;;
+            *) own+=("$file") ;;
         esac
     done
+    mkdir "$2/crates/$1"
+    cp -al "${own[@]}" "$2/crates/$1/"
 }
 
 # Brings what the crate left back to its own folder, and ends its room. (After a run that was killed, something newer
