@@ -42,9 +42,8 @@ for it in $(sed -n "s/^$name[ :][^:]*:*//p" ../../crates.txt); do
         exit 1
     fi
 done
+mkdir -p out && echo "half a proof" >out/kept
 echo "begin $name $*" >>"$STAND_IN/log"
-echo "half a proof" >"out.part"
-mkdir -p out && mv out.part out/kept
 while [ -e "$STAND_IN/hold.$name" ]; do sleep 0.02; done
 if [ -e "$STAND_IN/refuse.$name" ]; then
     echo "$name has a hole"
@@ -108,7 +107,7 @@ builds_each_crate_once_and_runs_the_program() {
         [ "$(ended)" = "alone left low right rtsearch top " ] && [ "$(begun)" = "$(ended)" ] &&
         [ "$(grep -c ' begins, with [1-4] job' "$said")" -eq 6 ] &&
         [ "$(grep -c '^rtsearch: [0-9]*:[0-9][0-9] [a-z]* is proved$' "$said")" -eq 6 ] &&
-        [ -z "$(ls "$tree/.git/rooms" | grep -v crates.txt)" ]
+        [ -z "$(find "$tree/.git/rooms" -mindepth 1 -type d)" ]
 }
 
 proves_side_by_side() {

@@ -136,7 +136,8 @@ free_memory() {
 # memory_of CRATE JOBS: the most that so many jobs take, in MB. One was measured with 2.3 GB over twelve crates and 3.4
 # over fourteen, each further one with up to 1.5 GB.
 memory_of() {
-    local -a below=(${all_below[$1]})
+    local -a below
+    read -ra below <<<"${all_below[$1]}"
     echo $((1000 + 180 * ${#below[@]} + 1500 * ($2 - 1)))
 }
 
@@ -150,7 +151,7 @@ begin() {
     fi
     (
         trap - EXIT INT TERM HUP
-        cd "$root/crates/$crate"
+        cd "$root/crates/$crate" || exit 1
         if [ "$crate" = "${crates[-1]}" ]; then
             rm -f "out/$crate"
             exec rt run --jobs "$jobs"

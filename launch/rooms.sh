@@ -38,7 +38,7 @@ enter_room() {
     local room=$rooms/$1 crate
     mkdir -p "$room/crates"
     for crate in ${all_below[$1]} "$1"; do
-        grep "^$crate[ :]" "$here/crates.txt"
+        grep "^${crate}[ :]" "$here/crates.txt"
     done >"$room/crates.txt"
     for crate in ${all_below[$1]}; do
         share "$crate" "$room"
