@@ -159,8 +159,7 @@ def runs_of(page):
     for words, lines, at in page.blocks:
         kind = words[0] if words else ""
         if kind == "text" and len(words) > 1:
-            file = (ROOT / words[1]).read_text().splitlines()
-            yield f"file {words[1]}", lambda lines=lines, file=file: compare(file, lines)
+            yield f"file {words[1]}", lambda lines=lines, file=ROOT / words[1]: compare(file.read_text().splitlines(), lines)
         elif kind == "console":
             for command, wanted in parts_of(lines, "$ "):
                 if "rtsearch serve" in command:
