@@ -12,6 +12,7 @@
   one, and port 7412 is replaced by one that is free.
 - Sessions: of a block ```session, at the service before it, each line `> LINE` is answered by what stands below it.
 - Scripts: a block ```script and the table of lines and replies after it, or a block ```replies, are what the program prints.
+- Pictures: docs/pictures/NAME.svg is what checks/draw_proof makes of examples/NAME.script.
 - README.md has at most 6,000 bytes.
 
 A block with no such word isn't run. The last line is `N passed, M failed`; each fault is told before it."""
@@ -197,6 +198,17 @@ def talk(port, parts):
     return None
 
 
+def pictures_of(page):
+    for name in re.findall(r"\(pictures/(\w+)\.svg\)", page.plain):
+        if (ROOT / f"examples/{name}.script").exists():
+            yield f"picture {name}", lambda name=name: is_drawn(name)
+
+
+def is_drawn(name):
+    came = run(f"{PROGRAM} script < examples/{name}.script | checks/draw_proof")
+    return compare((ROOT / f"docs/pictures/{name}.svg").read_text().splitlines(), came)
+
+
 def table_after(text):
     """The lines and replies of the table of `Line` and `Reply` that comes next, if it does."""
     found = re.match(r"\s*\| Line \| Reply \|[^\n]*\n\|[^\n]*\n((?:\|[^\n]*\n)+)", text)
@@ -216,6 +228,7 @@ def checks_of(page):
     yield from paths_of(page)
     yield from contracts_of(page)
     yield from runs_of(page)
+    yield from pictures_of(page)
     if page.name == "README.md":
         size = page.path.stat().st_size
         yield "size", lambda: None if size <= README_BYTES else f"{size} bytes"
