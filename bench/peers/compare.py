@@ -6,6 +6,7 @@ import re
 import statistics
 import subprocess
 import sys
+import time
 
 from families import FAMILIES
 
@@ -78,14 +79,13 @@ def answers_of_clingo(output, count):
 
 def take(command, source):
     """What the command prints, its seconds and megabytes; None where it took too long."""
+    begun = time.perf_counter()
     try:
-        ran = subprocess.run(
-            ["time", "-f", "%e %M", *map(str, command)], stdin=open(source), capture_output=True, text=True, timeout=PATIENCE
-        )
+        with open(source) as given:
+            ran = subprocess.run(["time", "-f", "%M", *map(str, command)], stdin=given, capture_output=True, text=True, timeout=PATIENCE)
     except subprocess.TimeoutExpired:
         return None
-    seconds, kilobytes = ran.stderr.splitlines()[-1].split()
-    return ran.stdout, float(seconds), int(kilobytes) / 1024
+    return ran.stdout, time.perf_counter() - begun, int(ran.stderr.splitlines()[-1]) / 1024
 
 
 def compare(program, folder, runs, family, size):
@@ -114,7 +114,7 @@ def compare(program, folder, runs, family, size):
         if answers != wanted or len(answers) != count:
             cells.append("other answers")
             continue
-        cells.append(f"{statistics.median(one[1] for one in taken):.2f} ({statistics.median(one[2] for one in taken):.0f})")
+        cells.append(f"{statistics.median(one[1] for one in taken):.3f} ({statistics.median(one[2] for one in taken):.0f})")
     print(f"| {family.__name__} | {len(rows)} | {sum(map(len, wanted))} | {' | '.join(cells)} |", flush=True)
 
 
