@@ -1,0 +1,88 @@
+#!/usr/bin/env python3
+"""Draws the table that bench/peers.sh prints: a small plot for each family, seconds by number of credentials, both by powers
+of ten. In light or dark as the reader's browser is set.
+
+  bench/peers/draw.py < docs/FIGURES.md > docs/pictures/peers.svg"""
+import math
+import re
+import sys
+
+TOOLS = ["rtsearch", "SWI-Prolog", "SQLite", "clingo"]
+LIGHT = ["#1d4ed8", "#b45309", "#047857", "#be185d"]
+DARK = ["#7db2ff", "#f5b553", "#4fd1a1", "#f78fc0"]
+DASHES = ["", "5 3", "2 3", "8 3 2 3"]
+WIDTH, HEIGHT, LEFT, TOP, ACROSS = 250, 170, 46, 26, 3
+SECONDS, SIZES = (0.003, 30), (700, 70000)
+
+
+def read_table(text):
+    """Of each family the points of each tool: the number of credentials, and the seconds, where it came to an end."""
+    families = {}
+    for row in re.findall(r"^\| (\w+) \| (\d+) \| \d+ \| (.+) \|$", text, flags=re.M):
+        points = families.setdefault(row[0], [[] for _ in TOOLS])
+        for place, cell in enumerate(row[2].split(" | ")):
+            seconds = re.match(r"[0-9.]+", cell)
+            if seconds:
+                points[place].append((int(row[1]), max(float(seconds[0]), SECONDS[0])))
+    return families
+
+
+def along(value, bounds, length):
+    low, high = (math.log(bound) for bound in bounds)
+    return (math.log(value) - low) / (high - low) * length
+
+
+def spot(x, y, point):
+    inner = WIDTH - LEFT - 12, HEIGHT - TOP - 30
+    return x + LEFT + along(point[0], SIZES, inner[0]), y + HEIGHT - 30 - along(point[1], SECONDS, inner[1])
+
+
+def draw_family(name, points, x, y):
+    yield f'<text class="name" x="{x + LEFT}" y="{y + 16}">{name}</text>'
+    for seconds in (0.01, 0.1, 1, 10):
+        (left, at), (right, _) = spot(x, y, (SIZES[0], seconds)), spot(x, y, (SIZES[1], seconds))
+        yield f'<path class="grid" d="M{left:.1f} {at:.1f}H{right:.1f}"/><text class="tick" x="{left - 5:.1f}" y="{at + 4:.1f}" text-anchor="end">{seconds:g} s</text>'
+    for size in (1000, 10000, 50000):
+        at, foot = spot(x, y, (size, SECONDS[0]))
+        yield f'<text class="tick" x="{at:.1f}" y="{foot + 14:.1f}" text-anchor="middle">{size:,}</text>'
+    for place, tool in enumerate(points):
+        spots = [spot(x, y, point) for point in tool]
+        if spots:
+            yield f'<path class="t{place}" d="M{"L".join(f"{a:.1f} {b:.1f}" for a, b in spots)}"/>'
+            yield from (f'<circle class="t{place}" cx="{a:.1f}" cy="{b:.1f}" r="2.5"/>' for a, b in spots)
+
+
+def draw_legend(y):
+    for place, tool in enumerate(TOOLS):
+        x = LEFT + 150 * place
+        yield f'<path class="t{place}" d="M{x} {y}h30"/><text class="tick" x="{x + 36}" y="{y + 4}">{tool}</text>'
+
+
+def style_of():
+    def rules(paper, ink, soft, grid, colours):
+        yield f".paper{{fill:{paper}}} text{{fill:{ink}}} .tick{{fill:{soft}}} .grid{{stroke:{grid}}}"
+        yield from (f"path.t{place}{{stroke:{colour}}} circle.t{place}{{fill:{colour}}}" for place, colour in enumerate(colours))
+
+    yield "text{font:11px 'DejaVu Sans',Verdana,sans-serif} .name{font-weight:bold;font-size:12px} .tick{font-size:10px}"
+    yield "path{fill:none;stroke-width:1.8} .grid{stroke-width:1}"
+    yield from (f"path.t{place}{{stroke-dasharray:{dashes}}}" for place, dashes in enumerate(DASHES) if dashes)
+    yield from rules("#ffffff", "#111827", "#4b5563", "#e2e8f0", LIGHT)
+    yield "@media (prefers-color-scheme: dark){"
+    yield from rules("#0d1117", "#e6edf3", "#b6c2cf", "#263040", DARK)
+    yield "}"
+
+
+def main():
+    families = read_table(sys.stdin.read())
+    rows = -(-len(families) // ACROSS)
+    width, height = ACROSS * WIDTH, rows * HEIGHT + 34
+    print(f'<svg xmlns="http://www.w3.org/2000/svg" width="{width}" height="{height}" viewBox="0 0 {width} {height}" role="img">')
+    print("<title>Seconds by number of credentials, for nine families and four tools</title>")
+    print("\n".join(["<style>", *style_of(), "</style>", '<rect class="paper" width="100%" height="100%"/>']))
+    for place, (name, points) in enumerate(families.items()):
+        print("\n".join(draw_family(name, points, place % ACROSS * WIDTH, place // ACROSS * HEIGHT)))
+    print("\n".join(draw_legend(rows * HEIGHT + 14)))
+    print("</svg>")
+
+
+main()

@@ -1,0 +1,265 @@
+#!/usr/bin/env python3
+"""Holds the pages against the repository and the built program.
+
+  checks/pages.py          all pages: README.md, CONTRIBUTING.md, CHANGELOG.md and docs/*.md
+  checks/pages.py PAGE..   these pages alone
+
+- Links: each link within the repository leads to a file that is there, and to a heading of it.
+- Paths: each path in backticks that begins with a folder of the repository is there.
+- Contracts: each `crate::function` is a function of that crate, and the clauses named behind it are clauses of it.
+- Files: a block ```text FILE is that file.
+- Commands: of a block ```console each line `$ COMMAND` prints what stands below it. A service goes on until the page's next
+  one, and port 7412 is replaced by one that is free.
+- Sessions: of a block ```session, at the service before it, each line `> LINE` is answered by what stands below it.
+- Scripts: a block ```script and the table of lines and replies after it, or a block ```replies, are what the program prints.
+- Pictures: docs/pictures/NAME.svg is what checks/draw_proof makes of examples/NAME.script; peers.svg is of docs/FIGURES.md,
+  and crates.svg of crates.txt and docs/ARCHITECTURE.md.
+- README.md has at most 6,000 bytes.
+
+A block with no such word isn't run. The last line is `N passed, M failed`; each fault is told before it."""
+import itertools
+import os
+import pathlib
+import re
+import socket
+import subprocess
+import sys
+
+ROOT = pathlib.Path(__file__).resolve().parent.parent
+PROGRAM = os.environ.get("RTSEARCH", str(ROOT / "rtsearch"))
+FOLDERS = ("crates/", "docs/", "examples/", "cases/", "checks/", "bench/", "launch/")
+DRAWINGS = {"peers": "bench/peers/draw.py < docs/FIGURES.md", "crates": "checks/draw_crates"}
+README_BYTES = 6000
+PATIENCE = 30  # seconds
+NC = 'nc() { exec 3<>"/dev/tcp/$1/$2"; cat >&3; cat <&3; }; '  # in place of the program of that name
+
+
+class Page:
+    """A page: its text, its blocks in order, and its headings."""
+
+    def __init__(self, path):
+        self.path, self.name = path, str(path.relative_to(ROOT))
+        self.text = path.read_text()
+        self.plain = re.sub(r"^```.*?^```$", "", self.text, flags=re.S | re.M)
+        self.blocks = [(word.split(), body.splitlines(), at) for word, body, at in self.read_blocks()]
+        headings = re.findall(r"^#+ (.*)$", self.plain, flags=re.M)
+        self.anchors = {re.sub(r"[^\w\- ]", "", heading.lower()).replace(" ", "-") for heading in headings}
+
+    def read_blocks(self):
+        for found in re.finditer(r"^```([^\n]*)\n(.*?)^```$", self.text, flags=re.S | re.M):
+            yield found.group(1), found.group(2), found.end()
+
+
+def links_of(page):
+    for target in re.findall(r"\]\(([^)\s]+)\)", page.plain):
+        if not re.match(r"[a-z]+:", target):
+            yield f"link {target}", lambda target=target: is_link(page, target)
+
+
+def is_link(page, target):
+    file, _, anchor = target.partition("#")
+    path = (page.path.parent / file).resolve() if file else page.path
+    if not path.exists():
+        return "nothing is there"
+    if anchor and anchor not in Page(path).anchors:
+        return "no such heading"
+    return None
+
+
+def paths_of(page):
+    for path in sorted(set(re.findall(r"`([a-z_]+/[\w./-]*)`", page.plain))):
+        if path.startswith(FOLDERS) and "NAME" not in path:
+            yield f"path {path}", lambda path=path: None if (ROOT / path).exists() else "nothing is there"
+
+
+def contracts_of(page):
+    """Each run of functions, with the clauses in brackets behind it, which each of them has to have."""
+    function = r"`[a-z]\w*(?:::\w+)+`"
+    for run, clauses in re.findall(rf"((?:{function}(?:, )?)+)(?: \(([^)|]*`[^)|]*)\))?", page.plain):
+        for path in re.findall(r"`([^`]+)`", run):
+            if (ROOT / "crates" / path.split("::")[0]).is_dir():
+                wanted = [clause for clause in re.findall(r"`([a-z]\w*)`", clauses)]
+                yield f"contract {path} {' '.join(wanted)}".strip(), lambda path=path, wanted=wanted: is_contract(path, wanted)
+
+
+def is_contract(path, wanted):
+    crate, *middle, name = path.split("::")
+    owner = next((word for word in middle if word[0].isupper()), None)
+    fault = "no such function"
+    for file in (ROOT / "crates" / crate / "src").rglob("*.rt"):
+        source = file.read_text()
+        if "tests" in str(file) or owner and not re.search(rf"^impl\b.*\b{owner}\b", source, flags=re.M):
+            continue
+        for found in re.findall(rf"\bfn {name}\b.*?(?=^ *\{{\}}?$|\bfn \w|\Z)", source, flags=re.S | re.M):
+            missing = set(wanted) - set(re.findall(r"ensures\*? (\w+) \{", found))
+            if not missing:
+                return None
+            fault = f"has no clause {', '.join(sorted(missing))}"
+    return fault
+
+
+class Service:
+    """The service of a page that is under way, and the port that stands for 7412."""
+
+    def __init__(self):
+        self.process, self.port, self.wanted = None, None, None
+
+    def begin(self, command, wanted):
+        self.port, self.wanted = free_port(), wanted
+        self.process = subprocess.Popen(
+            ["bash", "-c", self.localized(command)], cwd=ROOT, stdin=subprocess.DEVNULL, stdout=subprocess.PIPE, text=True
+        )
+        first = self.process.stdout.readline()
+        return compare(wanted[:1], [first.rstrip("\n").replace(str(self.port), "7412")])
+
+    def localized(self, text):
+        text = text.replace("./rtsearch", PROGRAM)
+        return text if self.port is None else text.replace("7412", str(self.port))
+
+    def end(self):
+        """What the service printed after its first line, and whether it ended where it was to end."""
+        if self.process is None:
+            return None
+        process, self.process = self.process, None
+        if len(self.wanted) < 2:
+            process.kill()
+            process.wait()
+            return None
+        try:
+            rest, _ = process.communicate(timeout=PATIENCE)
+        except subprocess.TimeoutExpired:
+            process.kill()
+            return "the service didn't end"
+        return compare(self.wanted[1:], rest.splitlines())
+
+
+def free_port():
+    with socket.socket() as one:
+        one.bind(("127.0.0.1", 0))
+        return one.getsockname()[1]
+
+
+def compare(wanted, came):
+    for line, other in itertools.zip_longest(wanted, came, fillvalue="(nothing)"):
+        if line != other:
+            return f"prints {other!r} in place of {line!r}"
+    return None
+
+
+def parts_of(lines, mark):
+    """The lines that begin with the mark, each with those below it."""
+    parts = []
+    for line in lines:
+        if line.startswith(mark):
+            parts.append((line[len(mark) :], []))
+        elif parts:
+            parts[-1][1].append(line)
+    return parts
+
+
+def runs_of(page):
+    service, script = Service(), None
+    for words, lines, at in page.blocks:
+        kind = words[0] if words else ""
+        if kind == "text" and len(words) > 1:
+            yield f"file {words[1]}", lambda lines=lines, file=ROOT / words[1]: compare(file.read_text().splitlines(), lines)
+        elif kind == "console":
+            for command, wanted in parts_of(lines, "$ "):
+                if "rtsearch serve" in command:
+                    yield "the service before", service.end
+                    yield f"command {command}", lambda c=command, w=wanted: service.begin(c, w)
+                else:
+                    yield f"command {command}", lambda c=command, w=wanted: compare(w, run(service.localized(c)))
+        elif kind == "session":
+            yield "session", lambda lines=lines: talk(service.port, parts_of(lines, "> "))
+        elif kind == "script":
+            script = lines
+            rows = table_after(page.text[at:])
+            if rows:
+                yield "script and table", lambda s=lines, r=rows: is_answered(s + [x for x, _ in r], [y for _, ys in r for y in ys])
+        elif kind == "replies":
+            yield "script and replies", lambda s=script, w=lines: is_answered(s, w)
+    yield "the last service", service.end
+
+
+def run(command):
+    ran = subprocess.run(["bash", "-c", NC + command], cwd=ROOT, stdin=subprocess.DEVNULL, stdout=subprocess.PIPE, text=True, timeout=PATIENCE)
+    return ran.stdout.splitlines()
+
+
+def talk(port, parts):
+    if port is None:
+        return "there is no service"
+    with socket.create_connection(("127.0.0.1", port), timeout=PATIENCE) as peer:
+        lines = peer.makefile("r")
+        for line, wanted in parts:
+            peer.sendall(line.encode() + b"\n")
+            fault = compare(wanted, [lines.readline().rstrip("\n") for _ in wanted])
+            if fault:
+                return f"{line}: {fault}"
+    return None
+
+
+def pictures_of(page):
+    for name in re.findall(r"\(pictures/(\w+)\.svg\)", page.plain):
+        yield f"picture {name}", lambda name=name: is_drawn(name)
+
+
+def is_drawn(name):
+    came = run(DRAWINGS.get(name, f"{PROGRAM} script < examples/{name}.script | checks/draw_proof"))
+    return compare((ROOT / f"docs/pictures/{name}.svg").read_text().splitlines(), came)
+
+
+def table_after(text):
+    """The lines and replies of the table of `Line` and `Reply` that comes next, if it does."""
+    found = re.match(r"\s*\| Line \| Reply \|[^\n]*\n\|[^\n]*\n((?:\|[^\n]*\n)+)", text)
+    if not found:
+        return None
+    cells = [row.split("|")[1:3] for row in found.group(1).splitlines()]
+    return [(re.search(r"`([^`]+)`", line).group(1), re.findall(r"`([^`]+)`", reply)) for line, reply in cells]
+
+
+def is_answered(script, wanted):
+    ran = subprocess.run([PROGRAM, "script"], input="\n".join(script) + "\n", stdout=subprocess.PIPE, text=True, timeout=PATIENCE)
+    return compare(wanted, ran.stdout.splitlines())
+
+
+def checks_of(page):
+    yield from links_of(page)
+    yield from paths_of(page)
+    yield from contracts_of(page)
+    yield from runs_of(page)
+    yield from pictures_of(page)
+    if page.name == "README.md":
+        size = page.path.stat().st_size
+        yield "size", lambda: None if size <= README_BYTES else f"{size} bytes"
+
+
+def has_program():
+    """Builds the program where it isn't built as its sources stand."""
+    return subprocess.run([PROGRAM, "--version"], stdin=subprocess.DEVNULL, stdout=subprocess.DEVNULL).returncode == 2
+
+
+def main():
+    names = sys.argv[1:] or ["README.md", "CONTRIBUTING.md", "CHANGELOG.md", *sorted(str(p) for p in (ROOT / "docs").glob("*.md"))]
+    passed = failed = 0
+    if not has_program():
+        print("the program can't be built")
+    for name in names:
+        page = Page((ROOT / name).resolve())
+        for what, check in checks_of(page):
+            try:
+                fault = check()
+            except (OSError, subprocess.TimeoutExpired) as error:
+                fault = str(error)
+            if fault:
+                print(f"{page.name}: {what}: {fault}")
+                failed += 1
+            else:
+                passed += 1
+    print(f"{passed} passed, {failed} failed")
+    return failed > 0
+
+
+if __name__ == "__main__":
+    sys.exit(main())
