@@ -1,5 +1,6 @@
 """A crowd of tenants who may all speak at once: each reads the vault of the next one, of which only roles matter to it that
-stay as they are. So what a tenant is told depends on its own lines alone, whenever the others say theirs."""
+stay as they are. One in eight lets all read its vault from the start, and goes on so. So what a tenant is told depends on its
+own lines alone, whenever the others say theirs."""
 import random
 
 import rt0
@@ -9,7 +10,8 @@ from tenants import Hall, refusal
 USUAL = "1000 100 64 1000000 1000000"
 ROLES = ["r", "s", "t", "R-", "link"]
 FAULTS = ["look", "hello T01 word", "quit now", "ask A.r", "ask A D", "who 9.r", "wait x", "wait 999", "end 0", "proof 1",
-          "put A.r = D", "put Z.r <- D", "put A.r <- Z.s.t", "drop Z.r <- D", "grant 9", "grant A_", "vault all", "T01: sees"]  # fmt: skip
+          "put A.r = D", "put Z.r <- D", "put A.r <- Z.s.t", "drop Z.r <- D", "grant 9", "grant A_", "grant **",
+          "grant * *", "vault all", "T01: sees"]  # fmt: skip
 
 
 class Speaker:
@@ -39,6 +41,8 @@ class Speaker:
                      f"{name}.all <- {name}.friends.open", f"{name}.both <- {name}.open & {other}.open"]:  # fmt: skip
             self.say(f"put {text}")
         self.say(f"grant {reader}")
+        if place % 8 == 3:
+            self.say("grant *")
 
     # what changes
 
@@ -86,7 +90,10 @@ class Speaker:
         self.say(self.draw.choice(["vault", "sees"]))
 
     def grant(self):
-        self.say(f"{self.draw.choice(['grant', 'revoke'])} Outside{self.draw.randrange(3)}")
+        if self.draw.random() < 0.2:
+            self.say("grant *" if self.tenant.is_public else "revoke *")
+        else:
+            self.say(f"{self.draw.choice(['grant', 'revoke'])} Outside{self.draw.randrange(3)}")
 
     def stumble(self):
         self.say(self.draw.choice(FAULTS))

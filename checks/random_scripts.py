@@ -21,7 +21,8 @@ ROOT = pathlib.Path(__file__).resolve().parent.parent
 PROGRAM = ROOT / "crates/rtsearch/out/rtsearch"
 NAMES = ["A", "B", "C", "D", "a", "A-", "A_1", "Ab", "in", "by", "from", "x" * 64]
 ROLES = ["r", "s", "t", "R-", "link"]
-FAULTS = ["A", "A.r.s.t", "9", "a b", "A..r", "", ".", "x" * 65, "A.r <- B", "é", "\t", "-", "A-.r_", "<-", "&"]
+FAULTS = ["A", "A.r.s.t", "9", "a b", "A..r", "", ".", "x" * 65, "A.r <- B", "é", "\t", "-", "A-.r_", "<-", "&", "*"]
+ALL = ["*", "*", "*", "*", "*", "*", "*", "*", "**", "* *", "*A", "A*"]
 
 
 class Script:
@@ -55,9 +56,9 @@ class Script:
 
     def enroll(self):
         tenants = self.draw.sample(self.names, self.draw.randint(1, min(6, len(self.names))))
-        lines = [f"tenant {name} {self.draw.choice(['w', '~!', 'p' * 64])}{self.limits()}" for name in tenants]
+        lines = [f"tenant {name} {self.draw.choice(['w', '~!', '*', 'p' * 64])}{self.limits()}" for name in tenants]
         if self.draw.random() < 0.03:
-            lines.insert(self.draw.randrange(len(lines) + 1), self.draw.choice([lines[0], "tenant", "begin now", "A: sees"]))
+            lines.insert(self.draw.randrange(len(lines) + 1), self.draw.choice([lines[0], "tenant", "tenant * w", "begin now", "A: sees"]))
         return all(self.enrolled(line) for line in [*lines, "begin"]) and self.hall.begun
 
     def enrolled(self, line):
@@ -140,11 +141,15 @@ class Script:
     def drop(self, tenant):
         self.say(tenant.name, f"drop {self.held(tenant)}")
 
+    def reader(self):
+        """A name, or what stands for all, or looks so."""
+        return self.name() if self.draw.random() < 0.75 else self.draw.choice(ALL)
+
     def grant(self, tenant):
-        self.say(tenant.name, f"grant {self.name()}")
+        self.say(tenant.name, f"grant {self.reader()}")
 
     def revoke(self, tenant):
-        self.say(tenant.name, f"revoke {self.name()}")
+        self.say(tenant.name, f"revoke {self.reader()}")
 
     def asked(self, tenant):
         """A role, mostly one that a credential gives members to."""

@@ -55,7 +55,7 @@ ALONE_SAYS = [
     ("A", line)
     for line in [
         "hello A a", "put A.r <- A.s", "put A.s <- D", "put A.s <- E", "put A.b <- F", "put F.t <- D", "put A.l <- A.b.t",
-        "put A.m <- A.r & A.s", "put A.s <- D", "grant B", "grant B", "revoke B", "sees", "ask A.r D", "wait 1", "poll 1",
+        "put A.m <- A.r & A.s", "put A.s <- D", "grant B", "grant B", "revoke B", "grant *", "sees", "revoke *", "ask A.r D", "wait 1", "poll 1",
         "proof 1 D", "proof 1 F", "who A.m", "wait 2", "proof 2 E", "drop A.s <- E", "vault", "who A.m", "ask A.l D", "wait 4",
         "wait 3", "poll 2", "end 2", "wait 2", "ask A.r E", "wait 5", "proof 5 E", "end 1", "vault", "quit",
     ]
@@ -68,7 +68,7 @@ begin
 PAIR_SAYS = [
     ("A", "hello A a"), ("B", "hello B b"), ("A", "put A.r <- B.s"), ("B", "put B.s <- D"), ("A", "ask A.r D"), ("B", "grant A"),
     ("A", "ask A.r D"), ("A", "sees"), ("B", "put B.s <- B.s.t"), ("B", "put B.u <- B.s & B.s"), ("B", "who B.u"), ("A", "wait 1"),
-    ("B", "wait 1"), ("A", "wait 2"), ("A", "proof 2 D"), ("B", "revoke A"), ("A", "who A.r"), ("B", "proof 1 D"), ("B", "vault"),
+    ("B", "wait 1"), ("A", "wait 2"), ("A", "proof 2 D"), ("B", "revoke A"), ("B", "grant *"), ("A", "sees"), ("A", "who A.r"), ("B", "proof 1 D"), ("B", "vault"),
     ("A", "wait 3"), ("A", "poll 2"), ("B", "drop B.s <- D"), ("B", "who B.s"), ("A", "end 1"), ("B", "wait 2"), ("A", "vault"),
     ("A", "quit"), ("B", "end 2"), ("B", "sees"), ("B", "quit"),
 ]  # fmt: skip

@@ -63,7 +63,16 @@ class Tenant:
         self.name = name
         self.creds, self.grants, self.searches, self.changes, self.opens, self.work = limits
         self.vault, self.readers, self.unended = set(), set(), {}
+        self.is_public = False
         self.changed = self.opened = 0
+
+    def granted(self):
+        """How many grants stand: one for each reader, and one to all."""
+        return len(self.readers) + self.is_public
+
+    def seen(self):
+        """The tenant's name as it is shown to those who read its vault."""
+        return self.name + "*" * self.is_public
 
 
 def read_number(word):
@@ -158,13 +167,13 @@ class Hall:
         unended(self.tenants[name], int(command.split()[1])).broken = True
 
     def sees(self, tenant):
-        return [" ".join(["sees", *sorted(self.read_by(tenant))])]
+        return [" ".join(["sees", *(owner.seen() for owner in sorted(self.read_by(tenant), key=lambda owner: owner.name))])]
 
     def read_by(self, tenant):
-        return [owner.name for owner in self.tenants.values() if owner is tenant or tenant.name in owner.readers]
+        return [owner for owner in self.tenants.values() if owner is tenant or owner.is_public or tenant.name in owner.readers]
 
     def view(self, tenant):
-        return {credential for owner in self.read_by(tenant) for credential in self.tenants[owner].vault}
+        return {credential for owner in self.read_by(tenant) for credential in owner.vault}
 
     def vault(self, tenant):
         rows = sorted(tenant.vault)
@@ -190,19 +199,36 @@ class Hall:
         return self.accept(tenant)
 
     def grant(self, tenant, word):
+        if word == "*":
+            return self.grant_to_all(tenant)
         name = rt0.read_name(word)
         refuse(44, tenant.changed >= tenant.changes)
-        refuse(42, len(tenant.readers) >= tenant.grants)
+        refuse(42, tenant.granted() >= tenant.grants)
         refuse(36, name == tenant.name)
         refuse(34, name in tenant.readers)
         tenant.readers.add(name)
         return self.accept(tenant)
 
+    def grant_to_all(self, tenant):
+        refuse(44, tenant.changed >= tenant.changes)
+        refuse(42, tenant.granted() >= tenant.grants)
+        refuse(34, tenant.is_public)
+        tenant.is_public = True
+        return self.accept(tenant)
+
     def revoke(self, tenant, word):
+        if word == "*":
+            return self.revoke_from_all(tenant)
         name = rt0.read_name(word)
         refuse(44, tenant.changed >= tenant.changes)
         refuse(35, name not in tenant.readers)
         tenant.readers.remove(name)
+        return self.accept(tenant)
+
+    def revoke_from_all(self, tenant):
+        refuse(44, tenant.changed >= tenant.changes)
+        refuse(35, not tenant.is_public)
+        tenant.is_public = False
         return self.accept(tenant)
 
     def ask(self, tenant, role, who):

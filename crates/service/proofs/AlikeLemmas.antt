@@ -4,7 +4,7 @@ use Rattle.std.specs.Prelude.{filter}
 use Rattle.std.specs.List.{AllZip, AllByRecursion}
 use Rattle.names.specs.Name.{is_same}
 use Rattle.vaults.specs.declared.changes.Entry.{Entry}
-use Rattle.vaults.specs.Journal.{Vault, view}
+use Rattle.vaults.specs.Journal.{Marked, marked_view}
 use Rattle.hall.specs.declared.calls.replies.Reply.{Reply}
 use Rattle.hall.specs.halls.Account.{Moment, sight}
 use Rattle.hall.specs.halls.Run.{journal_after, trace}
@@ -111,7 +111,7 @@ turns-deeds tenant journal (d ∷ deeds) = by (is_same d.tenant tenant) (turns-d
     later = turns tenant (journal_after journal (event_of d) d.reply) deeds
 
     by : (own : Bool) → what_in later ≡ what_of (own_deeds tenant deeds) →
-        what_in (cond own (record { view = sight (view journal tenant) (request_of d.deed); deed = d.deed } ∷ []) [] ++ later)
+        what_in (cond own (record { view = sight (marked_view journal tenant) (request_of d.deed); deed = d.deed } ∷ []) [] ++ later)
         ≡ what_of (cond own (d ∷ own_deeds tenant deeds) (own_deeds tenant deeds))
     by true rest = ap (λ (l : List Deed). d.deed ∷ l) rest
     by false rest = rest
@@ -124,10 +124,10 @@ turns-trace tenant journal (d ∷ deeds) = by (is_same d.tenant tenant) (turns-t
     after = journal_after journal (event_of d) d.reply
 
     moment : Moment
-    moment = record { view = sight (view journal tenant) (request_of d.deed); request = request_of d.deed }
+    moment = record { view = sight (marked_view journal tenant) (request_of d.deed); request = request_of d.deed }
 
     by : (own : Bool) → map moment_of (turns tenant after deeds) ≡ trace tenant after (events_of deeds) (replies_of deeds) →
-        map moment_of (cond own (record { view = sight (view journal tenant) (request_of d.deed); deed = d.deed } ∷ []) [] ++ turns tenant after deeds)
+        map moment_of (cond own (record { view = sight (marked_view journal tenant) (request_of d.deed); deed = d.deed } ∷ []) [] ++ turns tenant after deeds)
         ≡ cond own (moment ∷ []) [] ++ trace tenant after (events_of deeds) (replies_of deeds)
     by true rest = ap (λ (l : List Moment). moment ∷ l) rest
     by false rest = rest
@@ -135,7 +135,7 @@ turns-trace tenant journal (d ∷ deeds) = by (is_same d.tenant tenant) (turns-t
 -- turns are told apart by what is done and by their moments
 same_turn : (one two : Turn) → moment_of one ≡ moment_of two → one.deed ≡ two.deed → one ≡ two
 same_turn one two moment deed =
-    ap (λ (v : List Vault). record { view = v; deed = one.deed }) (ap (λ (m : Moment). m.view) moment)
+    ap (λ (v : List Marked). record { view = v; deed = one.deed }) (ap (λ (m : Moment). m.view) moment)
     ∙ ap (λ (d : Deed). record { view = two.view; deed = d }) deed
 
 same_turns : (first second : List Turn) → map moment_of first ≡ map moment_of second → what_in first ≡ what_in second → first ≡ second

@@ -21,7 +21,7 @@ use Rattle.service.specs.declared.commands.Command.TheVariants as command
 use Rattle.service.specs.declared.refusals.Refusal.{Refusal}
 use Rattle.service.specs.declared.refusals.Refusal.TheVariants as refusal
 use Rattle.service.specs.Words.{IsNumber}
-use Rattle.service.specs.Command.{Form, put, drop, grant, revoke, ask, who, poll, wait, proof, end, vault, sees, unknown, Reads}
+use Rattle.service.specs.Command.{Form, put, drop, grant, revoke, grant_all, revoke_all, ask, who, poll, wait, proof, end, vault, sees, unknown, Reads}
 use Rattle.service.specs.Command.{RefusesCredential, RefusesName, RefusesQuestion, RefusesRole, RefusesNumber, RefusesProof}
 
 -- what each form is read as
@@ -40,6 +40,14 @@ grant_read text _ read = absurd read
 revoke_read : (text : List ℕ) (said : Command) → Reads (revoke text) (Ok said) → IsName text × (said ≡ command.Request (request.Alter (change.Revoke text)))
 revoke_read text (command.Request (request.Alter (change.Revoke reader))) read = (read.0, ap (λ (n : List ℕ). command.Request (request.Alter (change.Revoke n))) read.1)
 revoke_read text _ read = absurd read
+
+grant_all_read : (said : Command) → Reads grant_all (Ok said) → said ≡ command.Request (request.Alter change.GrantAll)
+grant_all_read (command.Request (request.Alter change.GrantAll)) read = refl
+grant_all_read _ read = absurd read
+
+revoke_all_read : (said : Command) → Reads revoke_all (Ok said) → said ≡ command.Request (request.Alter change.RevokeAll)
+revoke_all_read (command.Request (request.Alter change.RevokeAll)) read = refl
+revoke_all_read _ read = absurd read
 
 ask_read : (role name : List ℕ) (said : Command) → Reads (ask role name) (Ok said) → (r : Role) × SpellsRole role r × IsName name × (said ≡ command.Request (request.Seek (query.Ask r name)))
 ask_read role name (command.Request (request.Seek (query.Ask r d))) read = (r, read.0, read.1, ap (λ (n : List ℕ). command.Request (request.Seek (query.Ask r n))) read.2)
@@ -92,6 +100,8 @@ one_command (drop text) said other read also =
     one.1 ∙ ap (λ (c : Credential). command.Request (request.Alter (change.Withdraw c))) (no_text_spells_two text one.0 two.0 one.2 two.2) ∙ sym two.1
 one_command (grant text) said other read also = (grant_read text said read).1 ∙ sym (grant_read text other also).1
 one_command (revoke text) said other read also = (revoke_read text said read).1 ∙ sym (revoke_read text other also).1
+one_command grant_all said other read also = grant_all_read said read ∙ sym (grant_all_read other also)
+one_command revoke_all said other read also = revoke_all_read said read ∙ sym (revoke_all_read other also)
 one_command (ask role name) said other read also =
     let one = ask_read role name said read in
     let two = ask_read role name other also in
@@ -181,6 +191,8 @@ one_refusal (put text) why other memory more is also = one_credential_refusal te
 one_refusal (drop text) why other memory more is also = one_credential_refusal text why other memory more is also
 one_refusal (grant text) why other memory more is also = one_name_refusal text why other is also
 one_refusal (revoke text) why other memory more is also = one_name_refusal text why other is also
+one_refusal grant_all why other memory more is also = absurd is
+one_refusal revoke_all why other memory more is also = absurd is
 one_refusal (ask role name) why other memory more is also =
     let one = question_refused role name why is in
     let two = question_refused role name other also in
@@ -228,6 +240,8 @@ read_kept (put text) said why short memory read is = let one = put_read text sai
 read_kept (drop text) said why short memory read is = let one = drop_read text said read in spelled_kept text one.0 why short memory one.2 is
 read_kept (grant text) said why short memory read is = name_kept text why (grant_read text said read).0 is
 read_kept (revoke text) said why short memory read is = name_kept text why (revoke_read text said read).0 is
+read_kept grant_all said why short memory read is = absurd is
+read_kept revoke_all said why short memory read is = absurd is
 read_kept (ask role name) said why short memory read is = let one = ask_read role name said read in question_kept role name one.0 why one.1 one.2 is
 read_kept (who role) said why short memory read is = let one = who_read role said read in role_kept role one.0 why one.1 is
 read_kept (poll text) said why short memory read is = let one = poll_read text said read in (number_refused text why is).1 one.0 one.1

@@ -1,7 +1,7 @@
 -- A reply that memory lacked for is one that the hall may have given.
 use Rattle.std.proofs.Common.{◌≡◌, ℕ, ◌+◌, length, Bool, true, false, List, refl, sym, ◌∙◌, subst, ap, Option, Some, None, inl, inr}
 use Rattle.std.proofs.lemmas.Bool.{false≢true}
-use Rattle.vaults.specs.Journal.{Vault, view}
+use Rattle.vaults.specs.Journal.{Marked, marked_view}
 use Rattle.hall.specs.declared.faults.Fault.{Fault}
 use Rattle.hall.specs.declared.faults.Fault.TheVariants.{Memory}
 use Rattle.hall.specs.declared.calls.requests.Request.{Request}
@@ -60,7 +60,7 @@ closed-short : (o : Option Asked) → is_long (told_closed o) ≡ false
 closed-short None = refl
 closed-short (Some s) = refl
 
-reply-short : (name : List ℕ) (seen : List Vault) (a : Account) (q : Request) (told : Reply) → IsShort q → IsReply name seen a q told → is_long told ≡ false
+reply-short : (name : List ℕ) (seen : List Marked) (a : Account) (q : Request) (told : Reply) → IsShort q → IsReply name seen a q told → is_long told ≡ false
 reply-short name seen a (request.Alter change) told short is =
     ap is_long is ∙ unless-short (alter_refusal a.holder.limits a.entries name change) (reply.Counted (length a.entries + 1)) refl
 reply-short name seen a (request.Seek query) told short is = ap is_long is ∙ unless-short (seek_refusal a.holder) (reply.Opened (a.holder.opens + 1)) refl
@@ -73,7 +73,7 @@ reply-short name seen a (request.Proof k who) told short is = absurd short
 -- so such a request isn't answered by a long one
 none_long : (h : HallState) (name : List ℕ) (o : Option Account) (q : Request) (told : Reply) → IsShort q → IsLong told → MayReplyTo h name o q told → ⊥
 none_long h name None q told short long may = false≢true (ap is_long (sym may) ∙ long_is told long)
-none_long h name (Some a) q told short long (inl given) = false≢true (sym (reply-short name (view h.journal name) a q told short given) ∙ long_is told long)
+none_long h name (Some a) q told short long (inl given) = false≢true (sym (reply-short name (marked_view h.journal name) a q told short given) ∙ long_is told long)
 none_long h name (Some a) q told short long (inr lacks) = false≢true (ap is_long (sym lacks.0) ∙ long_is told long)
 
 -- where a long reply may be given, so may want of memory
@@ -83,7 +83,7 @@ lacks_may h name (Some a) q told lacks long may = inr (refl, lacks)
 
 -- and no other refusal is due, where none may be given beside it
 none_due : (h : HallState) (name : List ℕ) (o : Option Account) (q : Request) (told : Reply) →
-    ((a : Account) (f : Fault) → IsReply name (view h.journal name) a q told → IsReply name (view h.journal name) a q (reply.Refused f) → ⊥) → IsLong told →
+    ((a : Account) (f : Fault) → IsReply name (marked_view h.journal name) a q told → IsReply name (marked_view h.journal name) a q (reply.Refused f) → ⊥) → IsLong told →
     MayReplyTo h name o q told → (f : Fault) → IsDue h name o q f → ⊥
 none_due h name None q told never long may f due = false≢true (ap is_long (sym may) ∙ long_is told long)
 none_due h name (Some a) q told never long (inl given) f due = never a f given due

@@ -1,7 +1,8 @@
 -- What a tenant says in a line has at most 4,096 bytes.
 use Rattle.std.proofs.Common.{ℕ, ◌≤◌, ◌+◌, leb, Bool, true, false, cond, List, [], ◌∷◌, ◌++◌, length, map, subst, arith, Option, Some, None, length-drop, inl, inr}
-use Rattle.std.specs.Prelude.{◌&&◌, not}
+use Rattle.std.specs.Prelude.{◌&&◌, not, codes}
 use Rattle.std.specs.List.{AllByRecursion, list_any, list_all, position_or_len, before_first, after_first}
+use Rattle.std.specs.Str.{bytes_eq}
 use Rattle.std.specs.Str.Lines.{lines}
 use Rattle.std.proofs.lemmas.Bool.{cases_lt, lt-leb}
 use Rattle.names.specs.Name.{is_same}
@@ -10,8 +11,8 @@ use Rattle.service.specs.declared.verbs.Verb.{Verb}
 use Rattle.service.specs.declared.verbs.Verb.TheVariants as verb
 use Rattle.service.specs.Line.{Line, text, too_long, not_ascii, is_printable, line_of, is_blank, commands_of}
 use Rattle.service.specs.Words.{is_space, is_colon, trim_start, after_word, words}
-use Rattle.service.specs.Command.{Form, grant, revoke, ask, who, poll, wait, proof, end, vault, sees}
-use Rattle.service.specs.Command.{form_of, form_by_words, form_by_verb, verb_of, with_none, with_one, with_two}
+use Rattle.service.specs.Command.{Form, grant, revoke, grant_all, revoke_all, ask, who, poll, wait, proof, end, vault, sees}
+use Rattle.service.specs.Command.{form_of, form_by_words, form_by_verb, verb_of, grant_form, revoke_form, with_none, with_one, with_two}
 use Rattle.service.specs.Roster.{Row, HasRows}
 use Rattle.service.specs.Isolation.{said_in, own_lines}
 use Rattle.service.proofs.CommandLemmas.{IsShortForm}
@@ -102,12 +103,16 @@ two-short form (word ∷ []) short = tt
 two-short form (word ∷ other ∷ []) short = short word other
 two-short form (word ∷ other ∷ third ∷ args) short = tt
 
+either-short : (b : Bool) (one other : Form) → IsShortForm one → IsShortForm other → IsShortForm (cond b one other)
+either-short true one other short also = short
+either-short false one other short also = also
+
 verb-short : (v : Option Verb) (args : List (List ℕ)) (rest : List ℕ) → IsShort rest → IsShortForm (form_by_verb v args rest)
 verb-short None args rest short = tt
 verb-short (Some verb.Put) args rest short = short
 verb-short (Some verb.Drop) args rest short = short
-verb-short (Some verb.Grant) args rest short = one-short grant args (λ word. tt)
-verb-short (Some verb.Revoke) args rest short = one-short revoke args (λ word. tt)
+verb-short (Some verb.Grant) args rest short = one-short grant_form args (λ word. either-short (bytes_eq word (codes "*")) grant_all (grant word) tt tt)
+verb-short (Some verb.Revoke) args rest short = one-short revoke_form args (λ word. either-short (bytes_eq word (codes "*")) revoke_all (revoke word) tt tt)
 verb-short (Some verb.Ask) args rest short = two-short ask args (λ word other. tt)
 verb-short (Some verb.Who) args rest short = one-short who args (λ word. tt)
 verb-short (Some verb.Poll) args rest short = one-short poll args (λ word. tt)

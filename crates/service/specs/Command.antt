@@ -23,6 +23,8 @@ pub data Form : Type 0 where
   drop : List ℕ → Form
   grant : List ℕ → Form
   revoke : List ℕ → Form
+  grant_all : Form
+  revoke_all : Form
   ask : List ℕ → List ℕ → Form
   who : List ℕ → Form
   poll : List ℕ → Form
@@ -46,6 +48,13 @@ abbrev pub with_two : (List ℕ → List ℕ → Form) → List (List ℕ) → F
 with_two form (first ∷ second ∷ []) = form first second
 with_two form _ = unknown
 
+-- a star stands for every reader, and is read before names
+abbrev pub grant_form : List ℕ → Form
+grant_form word = if bytes_eq word (codes "*") then grant_all else grant word
+
+abbrev pub revoke_form : List ℕ → Form
+revoke_form word = if bytes_eq word (codes "*") then revoke_all else revoke word
+
 -- the verb that a word is
 abbrev pub verb_of : List ℕ → Option Verb
 verb_of word =
@@ -68,8 +77,8 @@ abbrev pub form_by_verb : Option Verb → List (List ℕ) → List ℕ → Form
 form_by_verb None args rest = unknown
 form_by_verb (Some Put) args rest = put rest
 form_by_verb (Some Drop) args rest = drop rest
-form_by_verb (Some Grant) args rest = with_one grant args
-form_by_verb (Some Revoke) args rest = with_one revoke args
+form_by_verb (Some Grant) args rest = with_one grant_form args
+form_by_verb (Some Revoke) args rest = with_one revoke_form args
 form_by_verb (Some Ask) args rest = with_two ask args
 form_by_verb (Some Who) args rest = with_one who args
 form_by_verb (Some Poll) args rest = with_one poll args
@@ -127,6 +136,8 @@ Reads (grant name) (Ok (command.Request (request.Alter (change.Grant reader)))) 
 Reads (grant name) (Err why) = RefusesName name why
 Reads (revoke name) (Ok (command.Request (request.Alter (change.Revoke reader)))) = IsName name × (reader ≡ name)
 Reads (revoke name) (Err why) = RefusesName name why
+Reads grant_all (Ok (command.Request (request.Alter change.GrantAll))) = Unit {0}
+Reads revoke_all (Ok (command.Request (request.Alter change.RevokeAll))) = Unit {0}
 Reads (ask role name) (Ok (command.Request (request.Seek (query.Ask r d)))) = SpellsRole role r × IsName name × (d ≡ name)
 Reads (ask role name) (Err why) = RefusesQuestion role name why
 Reads (who role) (Ok (command.Request (request.Seek (query.Who r)))) = SpellsRole role r

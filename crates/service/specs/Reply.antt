@@ -1,9 +1,10 @@
 -- The lines of the replies.
-use Rattle.std.specs.Prelude.{◌≡◌, ◌⊎◌, ℕ, List, [], ◌∷◌, ◌++◌, length, map, codes, filter, nat_lt}
+use Rattle.std.specs.Prelude.{◌≡◌, ◌⊎◌, ℕ, List, [], ◌∷◌, ◌++◌, length, map, codes, filter, nat_lt, if◌then◌else◌}
 use Rattle.std.specs.List.{flat_map}
 use Rattle.std.specs.Fmt.{decimal}
 use Rattle.names.specs.Texts.{pieces}
 use Rattle.credential_text.specs.Spelling.{canonical}
+use Rattle.vaults.specs.declared.marks.Seen.{Seen}
 use Rattle.hall.specs.declared.faults.Fault.TheVariants.{Memory}
 use Rattle.hall.specs.declared.calls.answers.Answer.{Answer}
 use Rattle.hall.specs.declared.calls.answers.Answer.TheVariants.{Working, Yes, No, Members, Spent, Broken}
@@ -52,6 +53,14 @@ refusal_line who why = line_to who (error_text (refusal_number why))
 abbrev pub listed : List (List ℕ) → List ℕ
 listed names = flat_map (λ name. 32 ∷ name) names
 
+-- a name that is seen, with a star directly behind it where its vault is public
+abbrev pub seen_text : Seen → List ℕ
+seen_text seen = seen.name ++ (if seen.to_all then codes "*" else [])
+
+-- each of these with a space before it
+abbrev pub seen_listed : List Seen → List ℕ
+seen_listed names = flat_map (λ seen. 32 ∷ seen_text seen) names
+
 abbrev pub answer_text : Answer → List ℕ
 answer_text Working = codes "working"
 answer_text Yes = codes "yes"
@@ -72,7 +81,7 @@ reply_texts (Opened n) = (codes "search " ++ decimal n) ∷ []
 reply_texts (Answered answer) = answer_text answer ∷ []
 reply_texts Closed = codes "ended" ∷ []
 reply_texts (Vault rows) = (codes "vault " ++ decimal (length rows)) ∷ map canonical rows
-reply_texts (Sees names) = (codes "sees" ++ listed names) ∷ []
+reply_texts (Sees names) = (codes "sees" ++ seen_listed names) ∷ []
 reply_texts (Proof steps) = (codes "proof " ++ decimal (length steps)) ∷ text_lines (proof_text steps)
 reply_texts (Refused fault) = error_text (fault_number fault) ∷ []
 reply_texts (Stepped answer) = []

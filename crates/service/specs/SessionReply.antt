@@ -2,6 +2,7 @@
 use Rattle.std.specs.Prelude.{◌≡◌, ℕ, List, [], Result, Ok, Err, All, Contains}
 use Rattle.std.specs.List.Sorted.{IsStrictlySortedBy}
 use Rattle.names.specs.Name.{name_order}
+use Rattle.vaults.specs.Journal.{names_in}
 use Rattle.hall.specs.declared.faults.Fault.{Fault}
 use Rattle.hall.specs.declared.calls.requests.Request.TheVariants as request
 use Rattle.hall.specs.declared.calls.replies.Reply.{Reply}
@@ -45,7 +46,7 @@ MayTell who (Request (request.Close k)) (Ok Closed) = Unit {0}
 MayTell who (Request (request.Close k)) (Err fault) = RefusesBy IsEndRefusal fault
 MayTell who (Request request.Vault) (Ok (Vault rows)) = All (λ c. c.head.owner ≡ who) rows
 MayTell who (Request request.Vault) (Err fault) = RefusesBy IsReadRefusal fault
-MayTell who (Request request.Sees) (Ok (Sees names)) = Contains names who × IsStrictlySortedBy name_order names
+MayTell who (Request request.Sees) (Ok (Sees names)) = Contains (names_in names) who × IsStrictlySortedBy name_order (names_in names)
 MayTell who (Request request.Sees) (Err fault) = RefusesBy IsReadRefusal fault
 MayTell who (Request (request.Proof k member)) (Ok (Proof steps)) = IsProofOfSome member steps
 MayTell who (Request (request.Proof k member)) (Err fault) = RefusesBy IsProofRefusal fault

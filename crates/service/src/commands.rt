@@ -4,7 +4,8 @@ ghost use Rattle.names.specs.Name.{IsName};
 ghost use Rattle.credential_text.specs.Spelling.{Spells};
 ghost use Rattle.hall.specs.declared.calls.requests.Request.TheVariants as request;
 ghost use Rattle.service.specs.Words.{words, IsNumber};
-ghost use Rattle.service.specs.Command.{form_of, form_by_verb, RefusesCredential, RefusesName, RefusesNumber, Reads};
+ghost use Rattle.service.specs.Command.{form_of, form_by_verb, grant_form, revoke_form};
+ghost use Rattle.service.specs.Command.{RefusesCredential, RefusesName, RefusesNumber, Reads};
 
 use crate::arguments::{Arguments, split_words};
 use crate::refusals::Refusal;
@@ -46,8 +47,8 @@ fn read_rest(alloc: Global, verb: Verb, text: &[u8]) -> Result<Command, Refusal>
     match (verb, split_words(text)) {
         (Verb::Put, _) => Ok(alter(Change::Upload(credential_of(alloc, text)?))),
         (Verb::Drop, _) => Ok(alter(Change::Withdraw(credential_of(alloc, text)?))),
-        (Verb::Grant, Arguments::One(reader)) => Ok(alter(Change::Grant(entity_of(reader)?))),
-        (Verb::Revoke, Arguments::One(reader)) => Ok(alter(Change::Revoke(entity_of(reader)?))),
+        (Verb::Grant, Arguments::One(reader)) => read_grant(reader),
+        (Verb::Revoke, Arguments::One(reader)) => read_revoke(reader),
         (Verb::Ask, Arguments::Two(role, who)) => {
             let role = Role::read(role)?;
             Ok(seek(Query::Ask(role, Entity::read(who)?)))
@@ -67,6 +68,26 @@ fn read_rest(alloc: Global, verb: Verb, text: &[u8]) -> Result<Command, Refusal>
         (Verb::Vault, Arguments::Nothing) => Ok(Command::Request(Request::Vault)),
         (Verb::Sees, Arguments::Nothing) => Ok(Command::Request(Request::Sees)),
         _ => Err(Refusal::Command),
+    }
+}
+
+/// The command to grant: to every tenant where the word is a star, which is no name.
+fn read_grant(word: &[u8]) -> Result<Command, Refusal>
+    ensures { Reads (grant_form word.now) result }
+{
+    match word {
+        b"*" => Ok(alter(Change::GrantAll)),
+        name => Ok(alter(Change::Grant(entity_of(name)?))),
+    }
+}
+
+/// The command to take such a grant back.
+fn read_revoke(word: &[u8]) -> Result<Command, Refusal>
+    ensures { Reads (revoke_form word.now) result }
+{
+    match word {
+        b"*" => Ok(alter(Change::RevokeAll)),
+        name => Ok(alter(Change::Revoke(entity_of(name)?))),
     }
 }
 

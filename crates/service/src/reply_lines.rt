@@ -6,7 +6,8 @@ ghost use Rattle.credential_text.specs.Spelling.{canonical};
 ghost use Rattle.hall.specs.declared.calls.answers.Answer.TheVariants as answer;
 ghost use Rattle.hall.specs.declared.calls.replies.Reply.TheVariants as reply;
 ghost use Rattle.service.specs.Refusal.{text_of, refusal_number};
-ghost use Rattle.service.specs.Reply.{front_of, line_after, error_text, listed, text_lines, lines_after, IsFilled};
+ghost use Rattle.service.specs.Reply.{front_of, line_after, error_text, listed, seen_text, seen_listed};
+ghost use Rattle.service.specs.Reply.{text_lines, lines_after, IsFilled};
 
 use crate::fault_texts::fault_text;
 use crate::refusals::Refusal;
@@ -17,6 +18,7 @@ use hall::{Answer, Fault, Proof, Reply, write_proof};
 use names::Entity;
 use names::texts::cut;
 use std::alloc::AllocError;
+use vaults::Seen;
 
 /// Fills the room with the line that refuses a text. It takes no memory.
 pub(crate) fn fill_refusal(room: &mut Room, who: &Speaker, refusal: Refusal)
@@ -36,7 +38,7 @@ pub(crate) fn fill_reply(room: &mut Room, who: &Speaker, reply: &Reply)
         Reply::Answered(answer) => fill_answer(room, who, answer),
         Reply::Closed => fill_text(room, who, b"ended"),
         Reply::Vault(rows) => fill_vault(room, who, rows.as_slice()),
-        Reply::Sees(names) => fill_sees(room, who, names.as_slice()),
+        Reply::Sees(seen) => fill_sees(room, who, seen.as_slice()),
         Reply::Refused(fault) => fill_error(room, who, fault.number()),
         Reply::Proof(proof) => fill_proof(room, who, proof),
         Reply::Stepped(_outcome) => room.clear(),
@@ -108,10 +110,10 @@ fn fill_vault(room: &mut Room, who: &Speaker, rows: &[Credential])
 }
 
 /// The names that are seen, or that memory lacked.
-fn fill_sees(room: &mut Room, who: &Speaker, names: &[Entity])
-    ensures { IsFilled (front_of who.now) (reply.Sees names.now) room.new }
+fn fill_sees(room: &mut Room, who: &Speaker, seen: &[Seen])
+    ensures { IsFilled (front_of who.now) (reply.Sees seen.now) room.new }
 {
-    if write_names(room, who, b"sees", names).is_err() {
+    if write_sees(room, who, seen).is_err() {
         fill_error(room, who, Fault::Memory.number());
     }
 }
@@ -120,7 +122,7 @@ fn fill_sees(room: &mut Room, who: &Speaker, names: &[Entity])
 fn fill_members(room: &mut Room, who: &Speaker, names: &[Entity])
     ensures { IsFilled (front_of who.now) (reply.Answered (answer.Members names.now)) room.new }
 {
-    if write_names(room, who, b"members", names).is_err() {
+    if write_members(room, who, names).is_err() {
         fill_error(room, who, Fault::Memory.number());
     }
 }
@@ -187,18 +189,35 @@ fn write_row(room: &mut Room, who: &Speaker, row: &Credential) -> Result<(), All
     room.extend(b"\n")
 }
 
-/// A word and the names in one line.
-fn write_names(
-    room: &mut Room,
-    who: &Speaker,
-    word: &[u8],
-    names: &[Entity],
-) -> Result<(), AllocError>
-    requires word { length word.now ≤ 8 }
-    ensures { OnOk result (room.new ≡ line_after (front_of who.now) (word.now ++ listed names.now)) }
+/// The names that are seen in one line.
+fn write_sees(room: &mut Room, who: &Speaker, seen: &[Seen]) -> Result<(), AllocError>
+    ensures { OnOk result (room.new ≡ line_after (front_of who.now) (codes "sees" ++ seen_listed seen.now)) }
 {
     room.begin(who);
-    room.append(word);
+    room.append(b"sees");
+    for one in seen {
+        write_seen(room, one)?;
+    }
+    room.extend(b"\n")
+}
+
+/// Appends a space and a name, and a star directly behind it where its vault is public.
+fn write_seen(room: &mut Room, seen: &Seen) -> Result<(), AllocError>
+    ensures { OnOk result (room.new ≡ room.old ++ 32 ∷ seen_text seen.now) }
+{
+    write_name(room, &seen.name)?;
+    if seen.to_all {
+        room.extend(b"*")?;
+    }
+    Ok(())
+}
+
+/// The members of a role in one line.
+fn write_members(room: &mut Room, who: &Speaker, names: &[Entity]) -> Result<(), AllocError>
+    ensures { OnOk result (room.new ≡ line_after (front_of who.now) (codes "members" ++ listed names.now)) }
+{
+    room.begin(who);
+    room.append(b"members");
     for name in names {
         write_name(room, name)?;
     }

@@ -31,11 +31,13 @@ fn carries_out_each_command(rt: HostRuntime) -> Result<(), Fail> {
     let input: &[u8] = b"tenant A a\ntenant B b\nbegin\n\
         A: put A.r <- B.s\nB: put B.s <- D\nB: put B.s <- C & B.s.t\nB: grant A\n\
         A: ask A.r D\nA: poll 1\nA: who A.r\nB: drop B.s <- D\nA: sees\nB: revoke A\n\
-        A: wait 1\nA: wait 2\nA: poll 1\nA: end 1\nA: poll 1\nB: vault\nB: look\n";
+        A: wait 1\nA: wait 2\nA: poll 1\nA: end 1\nA: poll 1\nB: vault\nB: grant *\nA: sees\n\
+        B: revoke *\nB: sees\nB: look\n";
     let wanted: &[u8] = b"A: ok 1\nB: ok 1\nB: ok 2\nB: ok 3\n\
         A: search 1\nA: working\nA: search 2\nB: ok 4\nA: sees A B\nB: ok 5\n\
         A: yes\nA: members D\nA: yes\nA: ended\nA: error 51 no such search\n\
-        B: vault 1\nB: B.s <- C & B.s.t\nB: error 64 command\n";
+        B: vault 1\nB: B.s <- C & B.s.t\nB: ok 6\nA: sees A B*\nB: ok 7\nB: sees B\n\
+        B: error 64 command\n";
     let mut output = Vec::new(rt.alloc());
     assert_eq!(rt; run_script(rt.alloc(), input, &mut output), Ok(()));
     assert_eq!(rt; output.as_slice(), wanted);

@@ -7,7 +7,7 @@ use std::net::{Net, Shutdown, TcpStream};
 use std::test::Fail;
 use std::time::Duration;
 
-const ROSTER: &[u8] = b"tenant A a\ntenant B b\ntenant C c\nbegin\n";
+const ROSTER: &[u8] = b"tenant A a\ntenant B b\ntenant C c\ntenant D d 1 1 1 3 1 1000\nbegin\n";
 
 /// Which peer speaks, what it says, and what it is told. Where its last line has no newline it says no more.
 type Step = (usize, &'static [u8], &'static [u8]);
@@ -219,6 +219,57 @@ const REVOKED_BY_TWO: [Visit; 1] = [Visit {
 #[test]
 fn two_sessions_at_once(rt: HostRuntime) -> Result<(), Fail> {
     assert!(rt; are_served(&rt, rt.alloc(), 2, 2, &REVOKED_BY_TWO)?);
+    Ok(())
+}
+
+// Each peer speaks for a tenant of its own. D may grant once, and make three changes.
+const A_PUBLIC_VAULT: [Step; 35] = [
+    (0, b"hello A a\n", b"hello A\n"),
+    (1, b"hello B b\n", b"hello B\n"),
+    (2, b"hello C c\n", b"hello C\n"),
+    (3, b"hello D d\n", b"hello D\n"),
+    (0, b"put A.r <- B.s\n", b"ok 1\n"),
+    (1, b"put B.s <- D\n", b"ok 1\n"),
+    (0, b"ask A.r D\n", b"search 1\n"),
+    (1, b"grant *\n", b"ok 2\n"),
+    (0, b"ask A.r D\n", b"search 2\n"),
+    (0, b"wait 2\n", b"yes\n"),
+    (0, b"wait 1\n", b"no\n"),
+    (0, b"sees\n", b"sees A B*\n"),
+    (2, b"sees\n", b"sees B* C\n"),
+    (1, b"sees\n", b"sees B*\n"),
+    (1, b"grant *\n", b"error 34 already granted\n"),
+    (1, b"revoke A\n", b"error 35 not granted\n"),
+    (1, b"grant A\n", b"ok 3\n"),
+    (1, b"revoke A\n", b"ok 4\n"),
+    (0, b"sees\n", b"sees A B*\n"),
+    (0, b"ask A.r D\n", b"search 3\n"),
+    (1, b"revoke *\n", b"ok 5\n"),
+    (0, b"wait 3\n", b"yes\n"),
+    (0, b"sees\n", b"sees A\n"),
+    (0, b"ask A.r D\n", b"search 4\n"),
+    (0, b"wait 4\n", b"no\n"),
+    (1, b"revoke *\n", b"error 35 not granted\n"),
+    (3, b"grant *\n", b"ok 1\n"),
+    (3, b"grant B\n", b"error 42 grants limit\n"),
+    (3, b"revoke *\n", b"ok 2\n"),
+    (3, b"grant B\n", b"ok 3\n"),
+    (3, b"revoke B\n", b"error 44 changes limit\n"),
+    (0, b"quit\n", b"bye\n"),
+    (1, b"quit\n", b"bye\n"),
+    (2, b"quit\n", b"bye\n"),
+    (3, b"quit\n", b"bye\n"),
+];
+
+const READ_BY_ALL: [Visit; 1] = [Visit {
+    peers: 4,
+    steps: &A_PUBLIC_VAULT,
+    stays: true,
+}];
+
+#[test]
+fn a_vault_that_all_read(rt: HostRuntime) -> Result<(), Fail> {
+    assert!(rt; are_served(&rt, rt.alloc(), 4, 4, &READ_BY_ALL)?);
     Ok(())
 }
 

@@ -119,7 +119,7 @@ const BEFORE_A_HELLO: [(&[u8], &[u8]); 24] = [
 ];
 
 /// What one line is answered after a hello of A, who stays the one that speaks.
-const AFTER_A_HELLO: [(&[u8], &[u8]); 9] = [
+const AFTER_A_HELLO: [(&[u8], &[u8]); 11] = [
     (b" ", b""),
     (b"hello A a", NO_COMMAND),
     (b"hello B bb", NO_COMMAND),
@@ -128,6 +128,8 @@ const AFTER_A_HELLO: [(&[u8], &[u8]); 9] = [
     (b"quit now", NO_COMMAND),
     (b"A: sees", NO_COMMAND),
     (b"put B.r <- D", b"error 31 not issuer\n"),
+    (b"grant **", b"error 12 name start\n"),
+    (b"revoke *", b"error 35 not granted\n"),
     (b"\x7f", b"error 66 not ascii\n"),
 ];
 

@@ -12,5 +12,5 @@ returns-then-is_err c =
 
 pub returns-else-is_err : goal.returns-else-is_err
 returns-else-is_err c =
-    IsFilled-whole_line c.write_names.result (front_of c.args.who.now) (codes "members" ++ listed c.args.names.now) c.write_names.new.room (Answered (Members c.args.names.now)) refl
-    (sym c.if-is_err.ensures.value) c.write_names.ensures
+    IsFilled-whole_line c.write_members.result (front_of c.args.who.now) (codes "members" ++ listed c.args.names.now) c.write_members.new.room (Answered (Members c.args.names.now)) refl
+    (sym c.if-is_err.ensures.value) c.write_members.ensures
