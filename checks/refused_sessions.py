@@ -2,9 +2,10 @@
 """Runs the proved program as a server, `rtsearch serve`, with each of its allocations refused in turn, and compares every
 line that its sessions are answered: once with one worker and one session, for one connection; once with two of each, for
 two connections whose tenants take turns. The refused allocation is the first alone, the second alone, and so on until a
-run makes fewer. Threads come to their allocations in another order each time, so another run may refuse others.
+run makes fewer. Threads come to their allocations in another order each time, so another run may refuse others. Without
+--whole every third allocation is refused.
 
-  checks/refused_sessions.py [ROUNDS]          once, or so often; needs a C compiler, for checks/refuse.c
+  checks/refused_sessions.py [--whole] [ROUNDS]          once, or so often; needs a C compiler, for checks/refuse.c
 
 Each run has to end by itself, within a minute. One allocation is refused in it, so at most one of these may come of that:
 
@@ -24,8 +25,8 @@ Each run has to end by itself, within a minute. One allocation is refused in it,
 After each of them every other line has to be answered as it follows from that: where `ask` was refused the next search has
 its number, and a proof of a search that is broken, or that nobody goes on with, is refused as 52. A `poll` may always say
 `working` where nobody has waited for the search. What a line is answered is taken from tenants.py and rt0.py, a second,
-plain reading of the protocol; of a proof any is taken that is one. Prints how many allocations the program made, and how
-the runs ended; the status is 1 where one ended otherwise. It isn't part of ./check."""
+plain reading of the protocol; of a proof any is taken that is one. Prints how many allocations were refused, and how the
+runs ended; the last line is `N passed, M failed`, a sweep each."""
 import contextlib
 import copy
 import os
@@ -292,31 +293,33 @@ ENDINGS = {
 }
 
 
-def sweep(runner):
+def sweep(runner, apart):
     how, why = ending(runner, runner.run(0))
     assert how == "ample", why
-    endings, number = Counter(), 0
-    while number <= runner.allocations():
-        number += 1
+    endings, number, ample = Counter(), 1, runner.allocations()
+    while number <= max(ample, runner.allocations()):
         how, why = ending(runner, runner.run(number))
         endings[how] += 1
         if how == "otherwise":
             print(f"allocation {number} refused: {why}")
-    print(f"{runner.threads} workers and sessions: {number - 1} allocations refused in turn; runs ended", end=" ")
+        number += apart
+    print(f"{runner.threads} workers and sessions: {sum(endings.values())} allocations refused in turn; runs ended", end=" ")
     print(", ".join(f"{endings[how]} {text}" for how, text in ENDINGS.items()))
-    return endings
+    return not endings["otherwise"]
 
 
-def main(rounds=1):
-    total = Counter()
+def main(words):
+    apart = 1 if "--whole" in words else 3
+    rounds = next((int(word) for word in words if word != "--whole"), 1)
     subprocess.run([ROOT / "rtsearch", "--version"], stdout=subprocess.DEVNULL)  # builds the program where it isn't yet
+    results = []
     with tempfile.TemporaryDirectory() as folder:
         for _ in range(rounds):
-            total += sweep(Runner(pathlib.Path(folder), ALONE, ALONE_SAYS, 1))
-            total += sweep(Runner(pathlib.Path(folder), PAIR, PAIR_SAYS, 2))
-    print(f"{sum(total.values())} runs, {total['otherwise']} otherwise")
-    return 1 if total["otherwise"] else 0
+            results.append(sweep(Runner(pathlib.Path(folder), ALONE, ALONE_SAYS, 1), apart))
+            results.append(sweep(Runner(pathlib.Path(folder), PAIR, PAIR_SAYS, 2), apart))
+    print(f"{results.count(True)} passed, {results.count(False)} failed")
+    return 0 if all(results) else 1
 
 
 if __name__ == "__main__":
-    sys.exit(main(*map(int, sys.argv[1:])))
+    sys.exit(main(sys.argv[1:]))

@@ -18,10 +18,10 @@ pub enum Fault {
     /// The tenant doesn't hold the credential that it withdraws.
     #[error("not held")]
     NotHeld,
-    /// The reader may read the tenant's vault as it is.
+    /// The grant stands already: to the reader, or to every tenant.
     #[error("already granted")]
     AlreadyGranted,
-    /// The reader has no grant that could be revoked.
+    /// No such grant stands that could be revoked: to the reader, or to every tenant.
     #[error("not granted")]
     NotGranted,
     /// The tenant grants itself, who reads its own vault anyway.
@@ -30,7 +30,7 @@ pub enum Fault {
     /// The tenant holds as many credentials as it may.
     #[error("creds limit")]
     Creds,
-    /// The tenant lets as many readers read its vault as it may.
+    /// As many grants of the tenant stand as may, one to every tenant counting as one.
     #[error("grants limit")]
     Grants,
     /// The tenant has as many searches that it has not ended as it may.

@@ -4,6 +4,7 @@ ghost use Rattle.std.specs.Prelude.{◌≡◌};
 use credential_text::Credential;
 use names::Entity;
 use std::marker::Model;
+use vaults::Seen;
 
 /// Credentials, as a reply tells them.
 #[derive(Drop)]
@@ -77,5 +78,43 @@ impl Names {
         ensures { result.items ≡ self }
     {
         self.names
+    }
+}
+
+/// Names whose vaults a tenant reads, each with the mark whether every tenant reads it, as a reply tells them.
+#[derive(Drop)]
+pub struct Sights {
+    seen: Vec<Seen>,
+}
+
+impl Model for Sights {
+    ghost use Rattle.std.specs.Prelude.{List};
+    ghost use Rattle.vaults.specs.declared.marks.Seen.{Seen};
+
+    ghost Value = { List Seen };
+
+    ghost view = { λ s. s.seen.items };
+}
+
+impl Sights {
+    /// The sights of a vector.
+    pub fn new(seen: Vec<Seen>) -> Sights
+        ensures { result ≡ seen.items }
+    {
+        Sights { seen }
+    }
+
+    /// The sights, in order.
+    pub fn as_slice(&self) -> &[Seen]
+        ensures { result.now ≡ self.now }
+    {
+        &self.seen
+    }
+
+    /// The vector again.
+    pub fn into_vec(self) -> Vec<Seen>
+        ensures { result.items ≡ self }
+    {
+        self.seen
     }
 }

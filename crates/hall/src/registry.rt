@@ -10,7 +10,7 @@ use crate::calls::{Answer, Step, Stepped};
 use crate::copies::copy_of;
 use crate::faults::Fault;
 use crate::jobs::Job;
-use crate::lists::{Names, Rows};
+use crate::lists::{Rows, Sights};
 use crate::picking::pick_seat;
 use crate::seats::Seat;
 use indexmap::IndexSet;
@@ -91,7 +91,8 @@ impl Hall {
     }
 
     /// Enters the tenant's change, and answers how many of its changes were accepted so far. The order of refusals: 62,
-    /// then 44 of all changes, 41 of an upload and 42 of a grant, then the journal's own (31 to 36), and want of memory.
+    /// then 44 of all changes, 41 of an upload and 42 of a grant to one reader or to all, then the journal's own (31 to
+    /// 36), and want of memory.
     pub fn change(&mut self, who: Entity, change: Change) -> Result<u64, Fault>
         ensures served { IsServed self.old who (request.Alter change) (counted result) self.new }
         ensures memory_last { RefusedLast self.old who (request.Alter change) (counted result) }
@@ -151,16 +152,17 @@ impl Hall {
         Ok(Rows::new(rows))
     }
 
-    /// The names whose vaults the tenant reads, in order, its own among them.
-    pub fn sees(&self, who: Entity) -> Result<Names, Fault>
+    /// The names whose vaults the tenant reads, in order, its own among them, each with the mark whether every tenant
+    /// reads it.
+    pub fn sees(&self, who: Entity) -> Result<Sights, Fault>
         ensures served { IsServed self.now who request.Sees (names_seen result) self.now }
         ensures memory_last { RefusedLast self.now who request.Sees (names_seen result) }
     {
         if !self.has(who) {
             return Err(Fault::NoTenant);
         }
-        let names = self.book.owners_read_by(who)?;
-        Ok(Names::new(names))
+        let seen = self.book.owners_read_by(who)?;
+        Ok(Sights::new(seen))
     }
 }
 

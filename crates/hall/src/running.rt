@@ -6,7 +6,7 @@ ghost use Rattle.hall.specs.halls.Run.{IsServed, RefusedLast, Happens, Run, IsAl
 
 use crate::calls::{Answer, Event, Reply, Request};
 use crate::faults::Fault;
-use crate::lists::{Names, Rows};
+use crate::lists::{Rows, Sights};
 use crate::registry::Hall;
 use names::Entity;
 use proof_trees::{Proof, proof_of};
@@ -65,7 +65,7 @@ impl Hall {
             Request::Poll(number) => tell_answer(self.poll(who, *number)),
             Request::Close(number) => tell_closed(self.end(who, *number)),
             Request::Vault => tell_rows(self.vault(who)),
-            Request::Sees => tell_names(self.sees(who)),
+            Request::Sees => tell_sights(self.sees(who)),
             Request::Proof(number, member) => tell_proof(self.proof(who, *number, *member)),
         }
     }
@@ -93,6 +93,8 @@ fn same_change(change: &Change) -> Result<Change, AllocError>
         Change::Withdraw(credential) => Change::Withdraw(credential.try_clone()?),
         Change::Grant(reader) => Change::Grant(*reader),
         Change::Revoke(reader) => Change::Revoke(*reader),
+        Change::GrantAll => Change::GrantAll,
+        Change::RevokeAll => Change::RevokeAll,
     })
 }
 
@@ -141,11 +143,11 @@ fn tell_rows(told: Result<Rows, Fault>) -> Reply
     }
 }
 
-fn tell_names(told: Result<Names, Fault>) -> Reply
+fn tell_sights(told: Result<Sights, Fault>) -> Reply
     ensures { result ≡ names_seen told }
 {
     match told {
-        Ok(names) => Reply::Sees(names),
+        Ok(sights) => Reply::Sees(sights),
         Err(fault) => Reply::Refused(fault),
     }
 }

@@ -2,7 +2,7 @@
 ghost use Rattle.std.specs.Prelude.{◌≡◌, ◌+◌, ◌<◌, ◌≤◌, [], None, Some, length, unwrap_or};
 ghost use Rattle.std.specs.Prelude.{IfOk, IfErr, OnOk, OnErr, option_copied, Ok, Err, MatchOption};
 ghost use Rattle.std.specs.Prelude.{option_map, position, filter, find, not, is_none, vec_len, vec_capacity};
-ghost use Rattle.vaults.specs.Journal.{entries_of, vault, readers, view};
+ghost use Rattle.vaults.specs.Journal.{entries_of, vault, grant_count, view};
 ghost use Rattle.hall.specs.declared.faults.Fault.TheVariants as faults;
 ghost use Rattle.hall.specs.halls.Searches.{just_opened, settled_of, StepsSearch};
 ghost use Rattle.hall.specs.halls.Holder.{Numbered, is_number, seek_refusal, ending};
@@ -66,8 +66,8 @@ impl Seat {
     }
 
     /// Whether the limits allow the change, of which there are 44 of all changes, and then 41 of an upload and 42 of a
-    /// grant.
-    #[tactic(auto, using(vaults::proofs::Exactness::vaults_own, vaults::proofs::Exactness::readers_own))]
+    /// grant to one reader or to all.
+    #[tactic(auto, using(vaults::proofs::Exactness::vaults_own, vaults::proofs::Exactness::grant_counts_own))]
     pub(crate) fn may_alter(&self, book: &Book, change: &Change) -> Result<(), Fault>
         ensures allowed { OnOk result
             (limit_refusal self.now.holder.limits (entries_of self.now.name book.now) self.now.name change.now ≡ None) }
@@ -79,7 +79,8 @@ impl Seat {
         match change {
             Change::Upload(_) => self.limits.may_hold(&used)?,
             Change::Grant(_) => self.limits.may_grant(&used)?,
-            Change::Withdraw(_) | Change::Revoke(_) => {}
+            Change::GrantAll => self.limits.may_grant(&used)?,
+            Change::Withdraw(_) | Change::Revoke(_) | Change::RevokeAll => {}
         }
         Ok(())
     }
@@ -223,14 +224,14 @@ impl Seat {
     /// What the tenant uses of its limits.
     fn used(&self, book: &Book) -> Used
         ensures creds { result.creds ≡ length (vault book.now self.now.name) }
-        ensures grants { result.grants ≡ length (readers book.now self.now.name) }
+        ensures grants { result.grants ≡ grant_count book.now self.now.name }
         ensures searches { result.searches ≡ length self.now.holder.searches }
         ensures changes { result.changes ≡ length (entries_of self.now.name book.now) }
         ensures opens { result.opens ≡ self.now.holder.opens }
     {
         Used {
             creds: book.vault_of(self.name).len() as u64,
-            grants: book.readers_of(self.name),
+            grants: book.grants_of(self.name),
             searches: self.searches.len() as u64,
             changes: book.changes_of(self.name),
             opens: self.opens,

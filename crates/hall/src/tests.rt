@@ -1,19 +1,20 @@
-//! Faults, lists, the laws, jobs, whole runs of events, and halls compared with the plain program.
+//! Faults, lists, the laws, jobs, whole runs of events, public reading, and halls compared with the plain program.
 mod acts;
 mod jobs;
+mod public_reading;
 mod runs;
 mod worlds;
 
 use crate::{
-    Fault, Names, Rows, answers_are_true, deeds_are_allowed, deeds_are_fixed, runs_are_allowed,
-    two_halls, two_worlds,
+    Fault, Names, Rows, Sights, answers_are_true, deeds_are_allowed, deeds_are_fixed,
+    runs_are_allowed, two_halls, two_worlds,
 };
 use credential_text::{Credential, Expr};
 use names::{Entity, Role};
 use quotas::QuotaFault;
 use std::alloc::Global;
 use std::test::Fail;
-use vaults::VaultFault;
+use vaults::{Seen, VaultFault};
 
 fn entity(name: &str) -> Result<Entity, Fail> {
     Ok(Entity::read(name.as_bytes())?)
@@ -113,6 +114,23 @@ fn names_as_they_were_given(rt: HostRuntime) -> Result<(), Fail> {
     let entities = names.into_vec();
     assert_eq!(rt; entities.len(), 2);
     assert!(rt; entities[1] == entity("A")?);
+    Ok(())
+}
+
+#[test]
+fn sights_as_they_were_given(rt: HostRuntime) -> Result<(), Fail> {
+    let own = Seen {
+        name: entity("B")?,
+        to_all: false,
+    };
+    let public = Seen {
+        name: entity("A")?,
+        to_all: true,
+    };
+    let given = [own, public];
+    let sights = Sights::new(Vec::from_slice(rt.alloc(), &given)?);
+    assert!(rt; sights.as_slice() == given.as_slice());
+    assert!(rt; sights.into_vec().as_slice() == given.as_slice());
     Ok(())
 }
 

@@ -2,7 +2,6 @@
 use Rattle.std.proofs.Common.{◌≡◌, ℕ, ◌+◌, ◌==◌, ◌&&◌, if◌then◌else◌, Bool, true, false, cond, List, [], ◌∷◌, ◌++◌, Option, Some, None, remove, is_some, option_to_list, refl, sym, ap, ◌∙◌, subst, arith, eq-eqb, ne_eqb}
 use Rattle.std.specs.List.{slice_get}
 use Rattle.std.specs.FinMap as fin
-use Rattle.std.specs.BTreeMap.{BTreeMap}
 use Rattle.std.proofs.lemmas.List.{append-nil}
 use Rattle.scholten_core.specs.declared.parents.Parent.{Parent}
 use Rattle.scholten_core.specs.declared.parents.Parent.TheVariants.{Neutral, Environment, Node}
@@ -28,12 +27,12 @@ none_either true = refl
 none_either false = refl
 
 -- what the fields hold once a signal is delivered
-pub record IsSignalled {P : Type 0} (d : Computation P) (place : ℕ) (e : Computation P) (owed : ℕ) (nodes : BTreeMap ℕ Engagement) : Type 0 where
+pub record IsSignalled {P : Type 0} (d : Computation P) (place : ℕ) (e : Computation P) (owed : ℕ) (nodes : List (Option Engagement)) : Type 0 where
   pub step : DeliversSignal d place e
   pub kept : IsKept e owed nodes
 
 -- the fields after a signal to one is delivered, where the counts and the nodes are as they are told
-module _ {P : Type 0} (table : LetterTableState P) (signals : List Parent) (owed : ℕ) (nodes : BTreeMap ℕ Engagement) (keeps : IsKept (held_in table signals nodes) owed nodes) (place : ℕ) (to : Parent) (at : slice_get signals place ≡ Some to) (owed_after : ℕ) (nodes_after : BTreeMap ℕ Engagement) (by : Option Parent) (delivers : Delivers owed owed_after nodes nodes_after to by) where
+module _ {P : Type 0} (table : LetterTableState P) (signals : List Parent) (owed : ℕ) (nodes : List (Option Engagement)) (keeps : IsKept (held_in table signals nodes) owed nodes) (place : ℕ) (to : Parent) (at : slice_get signals place ≡ Some to) (owed_after : ℕ) (nodes_after : List (Option Engagement)) (by : Option Parent) (delivers : Delivers owed owed_after nodes nodes_after to by) where
   abbrev before : Computation P
   before = held_in table signals nodes
 
@@ -51,25 +50,25 @@ module _ {P : Type 0} (table : LetterTableState P) (signals : List Parent) (owed
         sent = table.sent;
         letters = table.letters;
         signals = (sym (append-nil (remove signals place)) ∙ ap (λ o. remove signals place ++ option_to_list o) (sym none)) i;
-        engaged = engagements_are (engagements nodes.entries) nodes_after (λ n. get-engagements nodes n ∙ sym (delivers.parents n ∙ stays_none _ by _ none)) i;
+        engaged = engagements_are (engagements nodes) nodes_after (λ n. get-engagements nodes n ∙ sym (delivers.parents n ∙ stays_none _ by _ none)) i;
       }
 
-  removed : (n : ℕ) (parent : Parent) → to ≡ Node n → by ≡ Some parent → (q : ℕ) → fin.get (fin.remove (engagements nodes.entries) n) q ≡ parent_kept nodes_after q
+  removed : (n : ℕ) (parent : Parent) → to ≡ Node n → by ≡ Some parent → (q : ℕ) → fin.get (fin.remove (engagements nodes) n) q ≡ parent_kept nodes_after q
   removed n parent is some q =
       let test : (same_parent to (Node q) && is_some by) ≡ ((n == q) && true) = λ i. same_parent (is i) (Node q) && is_some (some i) in
       let after = delivers.parents q ∙ ap (λ b. if b then None else parent_kept nodes q) test in
       one_or_other q n
-      (λ one. ap (fin.get _) one ∙ get-remove_same (engagements nodes.entries) n ∙ sym (after ∙ ap (λ b. if b && true then None else parent_kept nodes q) (ap (λ x. n == x) one ∙ eq-eqb n n refl)))
-      (λ other. get-remove_other (engagements nodes.entries) n q other ∙ get-engagements nodes q ∙ sym (after ∙ ap (λ b. if b && true then None else parent_kept nodes q) (ne_eqb n q (λ e. other (sym e)))))
+      (λ one. ap (fin.get _) one ∙ get-remove_same (engagements nodes) n ∙ sym (after ∙ ap (λ b. if b && true then None else parent_kept nodes q) (ap (λ x. n == x) one ∙ eq-eqb n n refl)))
+      (λ other. get-remove_other (engagements nodes) n q other ∙ get-engagements nodes q ∙ sym (after ∙ ap (λ b. if b && true then None else parent_kept nodes q) (ne_eqb n q (λ e. other (sym e)))))
 
   -- where a node is let go, its engagement goes and a signal goes to the one that engaged it
-  goes : (n : ℕ) (parent : Parent) → to ≡ Node n → by ≡ Some parent → record taken { signals = remove signals place ++ parent ∷ []; engaged = fin.remove (engagements nodes.entries) n } ≡ held_in table (remove signals place ++ option_to_list by) nodes_after
+  goes : (n : ℕ) (parent : Parent) → to ≡ Node n → by ≡ Some parent → record taken { signals = remove signals place ++ parent ∷ []; engaged = fin.remove (engagements nodes) n } ≡ held_in table (remove signals place ++ option_to_list by) nodes_after
   goes n parent is some =
       λ i. record {
         sent = table.sent;
         letters = table.letters;
         signals = ap (λ o. remove signals place ++ option_to_list o) (sym some) i;
-        engaged = engagements_are (fin.remove (engagements nodes.entries) n) nodes_after (removed n parent is some) i;
+        engaged = engagements_are (fin.remove (engagements nodes) n) nodes_after (removed n parent is some) i;
       }
 
   -- the answer, with what the one is owed
@@ -77,11 +76,11 @@ module _ {P : Type 0} (table : LetterTableState P) (signals : List Parent) (owed
   answer x is b owed_is =
       delivers.signal ∙ (λ i. if (ap (λ n. n == 0) (ap (kept owed_after nodes_after) is ∙ counts_taken x) ∙ owed_is) i then engager nodes (is i) else None)
 
-  settles_node : (n : ℕ) → to ≡ Node n → (o : Option Parent) → fin.get (engagements nodes.entries) n ≡ o → settles_under taken n o ≡ held_in table (remove signals place ++ option_to_list by) nodes_after
+  settles_node : (n : ℕ) → to ≡ Node n → (o : Option Parent) → fin.get (engagements nodes) n ≡ o → settles_under taken n o ≡ held_in table (remove signals place ++ option_to_list by) nodes_after
   settles_node n is None gone =
       stays (answer (Node n) is _ refl ∙ ap (λ o. if deficit taken (Node n) == 0 then o else None) (sym (get-engagements nodes n) ∙ gone) ∙ none_either _)
   settles_node n is (Some parent) engaged =
-      elim (deficit taken (Node n) == 0) as (λ b. (deficit taken (Node n) == 0) ≡ b → cond b (record taken { signals = remove signals place ++ parent ∷ []; engaged = fin.remove (engagements nodes.entries) n }) taken ≡ held_in table (remove signals place ++ option_to_list by) nodes_after) [
+      elim (deficit taken (Node n) == 0) as (λ b. (deficit taken (Node n) == 0) ≡ b → cond b (record taken { signals = remove signals place ++ parent ∷ []; engaged = fin.remove (engagements nodes) n }) taken ≡ held_in table (remove signals place ++ option_to_list by) nodes_after) [
         | true ↦ λ nothing. goes n parent is (answer (Node n) is true nothing ∙ sym (get-engagements nodes n) ∙ engaged)
         | false ↦ λ something. stays (answer (Node n) is false something)
       ] refl
@@ -89,7 +88,7 @@ module _ {P : Type 0} (table : LetterTableState P) (signals : List Parent) (owed
   settles_one : (x : Parent) → to ≡ x → settles taken x ≡ held_in table (remove signals place ++ option_to_list by) nodes_after
   settles_one Neutral is = stays (answer Neutral is _ refl ∙ none_either _)
   settles_one Environment is = stays (answer Environment is _ refl ∙ none_either _)
-  settles_one (Node n) is = settles_node n is (fin.get (engagements nodes.entries) n) refl
+  settles_one (Node n) is = settles_node n is (fin.get (engagements nodes) n) refl
 
   signalled_is : settles taken to ≡ held_in table (remove signals place ++ option_to_list by) nodes_after
   signalled_is = settles_one to refl

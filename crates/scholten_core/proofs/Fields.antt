@@ -1,57 +1,65 @@
 -- The fields as a computation
-use Rattle.std.proofs.Common.{◌≡◌, ℕ, ◌==◌, Bool, true, false, cond, not, List, [], ◌∷◌, Option, Some, map, IsSomeAnd, IsTrue, option_map, unwrap_or, refl, sym, ap, ◌∙◌, subst, arith}
+use Rattle.std.proofs.Common.{◌≡◌, ℕ, zero, suc, ◌+◌, ◌<◌, ◌==◌, Bool, false, true, not, List, [], ◌∷◌, Option, Some, None, map, IsSomeAnd, IsTrue, option_map, unwrap_or, refl, sym, ap, ◌∙◌, subst, arith, zero-add}
 use Rattle.std.specs.Ordering.{nat_cmp}
-use Rattle.std.specs.Cmp.{nat_cmp_total}
 use Rattle.std.specs.FinMap as fin
 use Rattle.std.specs.FinMap.{FinMap}
 use Rattle.std.specs.Map.{lookup}
-use Rattle.std.specs.BTreeMap.{BTreeMap, is_at}
 use Rattle.scholten_core.specs.declared.parents.Parent.{Parent}
 use Rattle.scholten_core.specs.declared.parents.Parent.TheVariants.{Neutral, Environment, Node}
 use Rattle.scholten_core.specs.declared.letters.Letter.{Letter}
 use Rattle.scholten_core.specs.declared.engagement.Engagement.{Engagement}
 use Rattle.scholten_core.specs.Computation.{deficit, same_parent}
 use Rattle.scholten_core.specs.Step.{mark, marked, started}
-use Rattle.scholten_core.specs.Kept.{IsKept, engagements, held_in, kept, parent_kept}
+use Rattle.scholten_core.specs.Kept.{IsKept, engaged_from, engagement_of, engagements, held_in, kept, parent_kept}
 use Rattle.scholten_core.specs.LetterTable.{LetterTableState, TakesOut}
 use Rattle.scholten_core.specs.Call.{TakesLetter}
 use Rattle.scholten_core.proofs.Complete.{settled_started, sound}
-use Rattle.scholten_core.proofs.Engaged.{alike, count-empty}
+use Rattle.scholten_core.proofs.Engaged.{alike, count-empty, get-insert_other, get-insert_same}
 use Rattle.scholten_core.proofs.Lists.{lookup-changed, lookup_from_filter}
 use Rattle.scholten_core.proofs.Steps.{deficit-marked, settled_marked}
 
-find-engagements : (n : ℕ) (es : List (ℕ × Engagement)) → fin.find nat_cmp n (map (λ e. (e.0, e.1.parent)) es) ≡ option_map (λ e. e.parent) (lookup (is_at (nat_cmp n)) es)
-find-engagements n [] = refl
-find-engagements n (e ∷ es) =
-    elim (is_at (nat_cmp n) e.0) as (λ b. cond b (Some e.1.parent) (fin.find nat_cmp n (map (λ x. (x.0, x.1.parent)) es)) ≡ option_map (λ x. x.parent) (cond b (Some e.1) (lookup (is_at (nat_cmp n)) es))) [
-      | true ↦ refl
-      | false ↦ find-engagements n es
-    ]
+-- nobody engaged a node whose place comes before those looked at
+before : (k n : ℕ) (nodes : List (Option Engagement)) → n < k → fin.get (engaged_from k nodes) n ≡ None
+before k n [] less = fin.get-empty nat_cmp n
+before k n (None ∷ nodes) less = before (k + 1) n nodes (omega arith)
+before k n (Some e ∷ nodes) less =
+    get-insert_other _ k e.parent n (λ same. absurd (omega (arith, same))) ∙ before (k + 1) n nodes (omega arith)
 
--- who engaged a node, by the map of the fields
-pub get-engagements : (m : BTreeMap ℕ Engagement) (n : ℕ) → fin.get (engagements m.entries) n ≡ parent_kept m n
-get-engagements m n = fin.get-from_entries nat_cmp_total _ n ∙ find-engagements n m.entries
+-- who engaged a node of the places from k on
+get-engaged_from : (k i n : ℕ) (nodes : List (Option Engagement)) → n ≡ k + i → fin.get (engaged_from k nodes) n ≡ option_map (λ e. e.parent) (engagement_of nodes i)
+get-engaged_from k i n [] is = fin.get-empty nat_cmp n
+get-engaged_from k zero n (None ∷ nodes) is = before (k + 1) n nodes (omega (arith, is))
+get-engaged_from k zero n (Some e ∷ nodes) is =
+    let here : n ≡ k = omega (arith, is) in
+    ap (fin.get (fin.insert (engaged_from (k + 1) nodes) k e.parent)) here ∙ get-insert_same (engaged_from (k + 1) nodes) k e.parent
+get-engaged_from k (suc i) n (None ∷ nodes) is = get-engaged_from (k + 1) i n nodes (omega (arith, is))
+get-engaged_from k (suc i) n (Some e ∷ nodes) is =
+    get-insert_other _ k e.parent n (λ same. absurd (omega (arith, is, same))) ∙ get-engaged_from (k + 1) i n nodes (omega (arith, is))
+
+-- who engaged a node, by the list of the fields
+pub get-engagements : (nodes : List (Option Engagement)) (n : ℕ) → fin.get (engagements nodes) n ≡ parent_kept nodes n
+get-engagements nodes n = get-engaged_from 0 n n nodes (sym (zero-add n))
 
 -- a map of parents is that of the fields where it answers as they do
-pub engagements_are : (m : FinMap nat_cmp Parent) (nodes : BTreeMap ℕ Engagement) → ((n : ℕ) → fin.get m n ≡ parent_kept nodes n) → m ≡ engagements nodes.entries
-engagements_are m nodes same = alike m (engagements nodes.entries) (λ n. same n ∙ sym (get-engagements nodes n))
+pub engagements_are : (m : FinMap nat_cmp Parent) (nodes : List (Option Engagement)) → ((n : ℕ) → fin.get m n ≡ parent_kept nodes n) → m ≡ engagements nodes
+engagements_are m nodes same = alike m (engagements nodes) (λ n. same n ∙ sym (get-engagements nodes n))
 
 -- before any node is engaged
-module _ {P : Type 0} (root : ℕ) (load : P) (nodes : BTreeMap ℕ Engagement) (bare : nodes.entries ≡ []) where
+module _ {P : Type 0} (root : ℕ) (load : P) (nodes : List (Option Engagement)) (bare : nodes ≡ []) where
   first_counts : (p : Parent) → kept 1 nodes p ≡ deficit (started root load) p
   first_counts Neutral = sym ((settled_started root load).idle Neutral refl)
   first_counts Environment = omega (arith, count-empty (same_parent Environment))
   first_counts (Node n) =
-      omega (arith, count-empty (same_parent (Node n)), ap (λ es. unwrap_or (option_map (λ e. e.deficit) (lookup (is_at (nat_cmp n)) es)) 0) bare)
+      omega (arith, count-empty (same_parent (Node n)), ap (λ es. unwrap_or (option_map (λ (e : Engagement). e.deficit) (engagement_of es n)) 0) bare)
 
   pub started_kept : IsKept (started root load) 1 nodes
   started_kept = record { settled = settled_started root load; counts = first_counts }
 
 -- a letter is marked in the table
-module _ {P : Type 0} (table after : LetterTableState P) (signals : List Parent) (owed : ℕ) (nodes : BTreeMap ℕ Engagement) (keeps : IsKept (held_in table signals nodes) owed nodes) (number : ℕ) (held : Bool) (letters : after.letters ≡ map (mark number held) table.letters) (sent : after.sent ≡ table.sent) where
+module _ {P : Type 0} (table after : LetterTableState P) (signals : List Parent) (owed : ℕ) (nodes : List (Option Engagement)) (keeps : IsKept (held_in table signals nodes) owed nodes) (number : ℕ) (held : Bool) (letters : after.letters ≡ map (mark number held) table.letters) (sent : after.sent ≡ table.sent) where
   pub marked_is : held_in after signals nodes ≡ marked (held_in table signals nodes) number held
   marked_is =
-      λ i. record { sent = sent i; letters = letters i; signals = signals; engaged = engagements nodes.entries }
+      λ i. record { sent = sent i; letters = letters i; signals = signals; engaged = engagements nodes }
 
   pub marked_kept : IsKept (held_in after signals nodes) owed nodes
   marked_kept =
@@ -61,7 +69,7 @@ module _ {P : Type 0} (table after : LetterTableState P) (signals : List Parent)
       })
 
 -- the waiting letter at a place is taken
-module _ {P : Type 0} (table after : LetterTableState P) (signals : List Parent) (owed : ℕ) (nodes : BTreeMap ℕ Engagement) (keeps : IsKept (held_in table signals nodes) owed nodes) (place number : ℕ) (out : TakesOut table place number after) where
+module _ {P : Type 0} (table after : LetterTableState P) (signals : List Parent) (owed : ℕ) (nodes : List (Option Engagement)) (keeps : IsKept (held_in table signals nodes) owed nodes) (place number : ℕ) (out : TakesOut table place number after) where
   pub taken_kept : IsKept (held_in after signals nodes) owed nodes
   taken_kept = marked_kept table after signals owed nodes keeps number true out.letters out.sent
 
@@ -79,7 +87,7 @@ module _ {P : Type 0} (table after : LetterTableState P) (signals : List Parent)
       }
 
 -- what is kept is kept where the letters, the signals and the entries of the nodes stay
-pub unchanged_kept : {P : Type 0} (table after : LetterTableState P) (signals signals_after : List Parent) (owed : ℕ) (nodes same : BTreeMap ℕ Engagement) → after.letters ≡ table.letters → after.sent ≡ table.sent → signals_after ≡ signals → same.entries ≡ nodes.entries → IsKept (held_in table signals nodes) owed nodes → IsKept (held_in after signals_after same) owed same
+pub unchanged_kept : {P : Type 0} (table after : LetterTableState P) (signals signals_after : List Parent) (owed : ℕ) (nodes same : List (Option Engagement)) → after.letters ≡ table.letters → after.sent ≡ table.sent → signals_after ≡ signals → same ≡ nodes → IsKept (held_in table signals nodes) owed nodes → IsKept (held_in after signals_after same) owed same
 unchanged_kept table after signals signals_after owed nodes same letters sent signals_are entries keeps =
     let is : held_in after signals_after same ≡ held_in table signals nodes = λ i. record {
       sent = sent i;
@@ -92,4 +100,4 @@ unchanged_kept table after signals signals_after owed nodes same letters sent si
     same_counts : (p : Parent) → kept owed same p ≡ kept owed nodes p
     same_counts Neutral = refl
     same_counts Environment = refl
-    same_counts (Node n) = ap (λ es. unwrap_or (option_map (λ (e : Engagement). e.deficit) (lookup (is_at (nat_cmp n)) es)) 0) entries
+    same_counts (Node n) = ap (λ es. unwrap_or (option_map (λ (e : Engagement). e.deficit) (engagement_of es n)) 0) entries

@@ -3,7 +3,6 @@ use Rattle.std.proofs.Common.{◌≡◌, ◌≢◌, ℕ, zero, suc, ◌+◌, ◌
 use Rattle.std.specs.Ordering.{nat_cmp}
 use Rattle.std.specs.FinMap as fin
 use Rattle.std.specs.FinMap.{FinMap}
-use Rattle.std.specs.BTreeMap.{BTreeMap, get}
 use Rattle.std.specs.Map.{lookup}
 use Rattle.std.proofs.lemmas.List.{append-nil}
 use Rattle.scholten_core.specs.declared.parents.Parent.{Parent}
@@ -12,7 +11,7 @@ use Rattle.scholten_core.specs.declared.letters.Letter.{Letter}
 use Rattle.scholten_core.specs.declared.engagement.Engagement.{Engagement}
 use Rattle.scholten_core.specs.Computation.{Computation, deficit, is_engaged, outstanding}
 use Rattle.scholten_core.specs.Step.{answers, finished_as, finishes, numbered, receives, sends, settles, settles_under}
-use Rattle.scholten_core.specs.Kept.{IsKept, Receives, deficit_kept, engagements, held_in, kept, parent_kept}
+use Rattle.scholten_core.specs.Kept.{IsKept, Receives, deficit_kept, engagement_of, engagements, held_in, kept, parent_kept}
 use Rattle.scholten_core.specs.LetterTable.{LetterTableState}
 use Rattle.scholten_core.specs.Call.{FinishesLetter}
 use Rattle.scholten_core.proofs.Engaged.{get-insert_same, get-insert_other, one_or_other, remove-insert}
@@ -39,12 +38,12 @@ module _ {P : Type 0} (e : Computation P) (n : ℕ) where
       ∙ ap (λ k. cond (k == 0) (record e { signals = e.signals ++ by ∷ []; engaged = fin.remove e.engaged n }) e) nothing
 
 -- what the fields hold once a letter is finished
-pub record IsFinishedIn {P : Type 0} (d : Computation P) (number : ℕ) (outs : List (ℕ × P)) (e : Computation P) (owed : ℕ) (nodes : BTreeMap ℕ Engagement) : Type 0 where
+pub record IsFinishedIn {P : Type 0} (d : Computation P) (number : ℕ) (outs : List (ℕ × P)) (e : Computation P) (owed : ℕ) (nodes : List (Option Engagement)) : Type 0 where
   pub step : FinishesLetter d number outs e
   pub kept : IsKept e owed nodes
 
 -- what the fields hold after a letter is finished
-module _ {P : Type 0} (table : LetterTableState P) (signals : List Parent) (owed : ℕ) (nodes : BTreeMap ℕ Engagement) (keeps : IsKept (held_in table signals nodes) owed nodes) (number : ℕ) (l : Letter P) (found : lookup (λ n. n == number) table.letters ≡ Some l) (outs : List (ℕ × P)) (nodes_after : BTreeMap ℕ Engagement) (by : Option Parent) (receives_it : Receives nodes nodes_after l.from l.to (length outs) by) where
+module _ {P : Type 0} (table : LetterTableState P) (signals : List Parent) (owed : ℕ) (nodes : List (Option Engagement)) (keeps : IsKept (held_in table signals nodes) owed nodes) (number : ℕ) (l : Letter P) (found : lookup (λ n. n == number) table.letters ≡ Some l) (outs : List (ℕ × P)) (nodes_after : List (Option Engagement)) (by : Option Parent) (receives_it : Receives nodes nodes_after l.from l.to (length outs) by) where
   abbrev before : Computation P
   before = held_in table signals nodes
 
@@ -54,7 +53,7 @@ module _ {P : Type 0} (table : LetterTableState P) (signals : List Parent) (owed
       record { sent = table.sent + length outs; letters = rest before number l ++ numbered (Node l.to) (table.sent + 1) outs; signals = s; engaged = m }
 
   abbrev after : Computation P
-  after = with_parts (signals ++ option_to_list by) (engagements nodes_after.entries)
+  after = with_parts (signals ++ option_to_list by) (engagements nodes_after)
 
   got : IsReceived before number l (receives before number l)
   got = received before number l keeps.settled found
@@ -63,7 +62,7 @@ module _ {P : Type 0} (table : LetterTableState P) (signals : List Parent) (owed
   owed_to =
       omega (arith, deficit-sends (receives before number l) (Node l.to) outs (Node l.to), ap (λ b. cond b (length outs) 0) (same_parent-self (Node l.to)), got.owed.deficits (Node l.to))
 
-  engaged_before : (o : Option Engagement) → get nat_cmp nodes l.to ≡ o → is_engaged before l.to ≡ is_some o
+  engaged_before : (o : Option Engagement) → engagement_of nodes l.to ≡ o → is_engaged before l.to ≡ is_some o
   engaged_before o is =
       ap is_some (get-engagements nodes l.to) ∙ ap (λ x. is_some (option_map (λ (e : Engagement). e.parent) x)) is ∙ elim o as (λ x. is_some (option_map (λ (e : Engagement). e.parent) x) ≡ is_some x) [ None ↦ refl | Some e ↦ refl ]
 
@@ -76,7 +75,7 @@ module _ {P : Type 0} (table : LetterTableState P) (signals : List Parent) (owed
       (λ other. others n other ∙ ap (option_map (λ (e : Engagement). e.parent)) (sym (receives_it.same n other)))) i)
 
   -- the letter came to an engaged node
-  finished_engaged : (e : Engagement) → get nat_cmp nodes l.to ≡ Some e → finishes before number l outs ≡ after
+  finished_engaged : (e : Engagement) → engagement_of nodes l.to ≡ Some e → finishes before number l outs ≡ after
   finished_engaged e there =
       let is = engaged_before (Some e) there in
       let acknowledges = ap (λ b. cond b (acknowledged before number l) (engages before number l)) is in
@@ -84,14 +83,14 @@ module _ {P : Type 0} (table : LetterTableState P) (signals : List Parent) (owed
       let got_it = receives_it.engaged e there in
       settles_stays (sends (receives before number l) (Node l.to) outs) l.to (omega (arith, owed_to, owing))
       ∙ ap (λ x. sends x (Node l.to) outs) acknowledges
-      ∙ parts_are (signals ++ l.from ∷ []) (engagements nodes.entries) (ap (λ o. signals ++ option_to_list o) (sym got_it.0)) (λ n _. get-engagements nodes n) (get-engagements nodes l.to ∙ ap (option_map (λ (x : Engagement). x.parent)) there ∙ ap (option_map (λ (x : Engagement). x.parent)) (sym got_it.1))
+      ∙ parts_are (signals ++ l.from ∷ []) (engagements nodes) (ap (λ o. signals ++ option_to_list o) (sym got_it.0)) (λ n _. get-engagements nodes n) (get-engagements nodes l.to ∙ ap (option_map (λ (x : Engagement). x.parent)) there ∙ ap (option_map (λ (x : Engagement). x.parent)) (sym got_it.1))
 
-  module _ (gone : get nat_cmp nodes l.to ≡ None) where
+  module _ (gone : engagement_of nodes l.to ≡ None) where
     engages_it : receives before number l ≡ engages before number l
     engages_it =
         ap (λ b. cond b (acknowledged before number l) (engages before number l)) (engaged_before None gone)
 
-    parent_gone : fin.get (engagements nodes.entries) l.to ≡ None
+    parent_gone : fin.get (engagements nodes) l.to ≡ None
     parent_gone = get-engagements nodes l.to ∙ ap (option_map (λ (x : Engagement). x.parent)) gone
 
     -- it came to a neutral node, which sends letters
@@ -100,7 +99,7 @@ module _ {P : Type 0} (table : LetterTableState P) (signals : List Parent) (owed
         let got_it = receives_it.anew gone some in
         settles_stays (sends (receives before number l) (Node l.to) outs) l.to (omega (arith, owed_to))
         ∙ ap (λ x. sends x (Node l.to) outs) engages_it
-        ∙ parts_are signals (fin.insert (engagements nodes.entries) l.to l.from) (sym (append-nil signals) ∙ ap (λ o. signals ++ option_to_list o) (sym got_it.0)) (λ n other. get-insert_other _ l.to l.from n other ∙ get-engagements nodes n) (get-insert_same _ l.to l.from ∙ ap (option_map (λ (x : Engagement). x.parent)) (sym got_it.1))
+        ∙ parts_are signals (fin.insert (engagements nodes) l.to l.from) (sym (append-nil signals) ∙ ap (λ o. signals ++ option_to_list o) (sym got_it.0)) (λ n other. get-insert_other _ l.to l.from n other ∙ get-engagements nodes n) (get-insert_same _ l.to l.from ∙ ap (option_map (λ (x : Engagement). x.parent)) (sym got_it.1))
 
     -- it came to a neutral node, which sends none
     finished_idle : length outs ≡ 0 → finishes before number l outs ≡ after
@@ -111,12 +110,12 @@ module _ {P : Type 0} (table : LetterTableState P) (signals : List Parent) (owed
         let nothing : deficit sent_by (Node l.to) ≡ 0 = ap (λ x. deficit (sends x (Node l.to) outs) (Node l.to)) (sym engages_it) ∙ omega (arith, owed_to, neutral, none) in
         ap (λ x. settles (sends x (Node l.to) outs) (Node l.to)) engages_it
         ∙ settles_goes sent_by l.to l.from (get-insert_same _ l.to l.from) nothing
-        ∙ ap (with_parts (signals ++ l.from ∷ [])) (remove-insert (engagements nodes.entries) l.to l.from parent_gone)
-        ∙ parts_are (signals ++ l.from ∷ []) (engagements nodes.entries) (ap (λ o. signals ++ option_to_list o) (sym got_it.0)) (λ n _. get-engagements nodes n) (parent_gone ∙ ap (option_map (λ (x : Engagement). x.parent)) (sym got_it.1))
+        ∙ ap (with_parts (signals ++ l.from ∷ [])) (remove-insert (engagements nodes) l.to l.from parent_gone)
+        ∙ parts_are (signals ++ l.from ∷ []) (engagements nodes) (ap (λ o. signals ++ option_to_list o) (sym got_it.0)) (λ n _. get-engagements nodes n) (parent_gone ∙ ap (option_map (λ (x : Engagement). x.parent)) (sym got_it.1))
 
   finished_is : finishes before number l outs ≡ after
   finished_is =
-      elim (get nat_cmp nodes l.to) as (λ o. get nat_cmp nodes l.to ≡ o → finishes before number l outs ≡ after) [
+      elim (engagement_of nodes l.to) as (λ o. engagement_of nodes l.to ≡ o → finishes before number l outs ≡ after) [
         | None ↦ λ gone. elim (length outs) as (λ n. length outs ≡ n → finishes before number l outs ≡ after) [
           | zero ↦ λ none. finished_idle gone none
           | suc n ↦ λ some. finished_anew gone (omega arith)
@@ -127,8 +126,8 @@ module _ {P : Type 0} (table : LetterTableState P) (signals : List Parent) (owed
   -- the receiver is owed so many more
   count_here : deficit_kept nodes_after l.to ≡ deficit_kept nodes l.to + length outs
   count_here =
-      elim (get nat_cmp nodes l.to) as (λ o. get nat_cmp nodes l.to ≡ o → count_of (get nat_cmp nodes_after l.to) ≡ count_of o + length outs) [
-        | None ↦ λ gone. elim (length outs) as (λ n. length outs ≡ n → count_of (get nat_cmp nodes_after l.to) ≡ length outs) [
+      elim (engagement_of nodes l.to) as (λ o. engagement_of nodes l.to ≡ o → count_of (engagement_of nodes_after l.to) ≡ count_of o + length outs) [
+        | None ↦ λ gone. elim (length outs) as (λ n. length outs ≡ n → count_of (engagement_of nodes_after l.to) ≡ length outs) [
           | zero ↦ λ none. ap count_of (receives_it.idle gone none).1 ∙ sym none
           | suc n ↦ λ some. ap count_of (receives_it.anew gone (omega arith)).1
         ] refl ∙ sym (zero-add (length outs))
@@ -161,7 +160,7 @@ module _ {P : Type 0} (table : LetterTableState P) (signals : List Parent) (owed
         sent = sent_is i;
         letters = letters_are i;
         signals = signals_are i;
-        engaged = engagements nodes_after.entries;
+        engaged = engagements nodes_after;
       }) ∙ sym finished_is in
       let done = is_finished before number l outs keeps.settled found in
       record {

@@ -1,12 +1,11 @@
 -- A node that is owed one less
-use Rattle.std.proofs.Common.{◌≡◌, ℕ, zero, suc, ◌+◌, ◌<◌, ◌==◌, ◌&&◌, if◌then◌else◌, Option, Some, None, is_some, option_map, unwrap_or, refl, sym, ap, ◌∙◌, arith, eq-eqb, ne_eqb}
+use Rattle.std.proofs.Common.{◌≡◌, ℕ, zero, suc, ◌+◌, ◌<◌, ◌==◌, ◌&&◌, if◌then◌else◌, List, Option, Some, None, is_some, option_map, unwrap_or, refl, sym, ap, ◌∙◌, arith, eq-eqb, ne_eqb}
 use Rattle.std.specs.Ordering.{nat_cmp}
-use Rattle.std.specs.BTreeMap.{BTreeMap, get}
 use Rattle.scholten_core.specs.declared.parents.Parent.{Parent}
 use Rattle.scholten_core.specs.declared.parents.Parent.TheVariants.{Neutral, Environment, Node}
 use Rattle.scholten_core.specs.declared.engagement.Engagement.{Engagement}
 use Rattle.scholten_core.specs.Computation.{same_parent}
-use Rattle.scholten_core.specs.Kept.{Delivers, Pays, deficit_kept, hit, kept, parent_kept}
+use Rattle.scholten_core.specs.Kept.{Delivers, Pays, deficit_kept, engagement_of, hit, kept, parent_kept}
 use Rattle.scholten_core.proofs.Engaged.{one_or_other}
 use Rattle.scholten_core.proofs.Delivered.{stays_none}
 
@@ -17,10 +16,10 @@ count_of o = unwrap_or (option_map (λ e. e.deficit) o) 0
 abbrev parent_in : Option Engagement → Option Parent
 parent_in o = option_map (λ e. e.parent) o
 
-module _ (nodes nodes_after : BTreeMap ℕ Engagement) (node : ℕ) (by : Option Parent) (owed : 0 < deficit_kept nodes node) (pays : Pays nodes nodes_after node by) where
-  cases : {C : Type 0} → ((e : Engagement) → get nat_cmp nodes node ≡ Some e → 1 < e.deficit → C) → ((e : Engagement) → get nat_cmp nodes node ≡ Some e → e.deficit ≡ 1 → C) → C
+module _ (nodes nodes_after : List (Option Engagement)) (node : ℕ) (by : Option Parent) (owed : 0 < deficit_kept nodes node) (pays : Pays nodes nodes_after node by) where
+  cases : {C : Type 0} → ((e : Engagement) → engagement_of nodes node ≡ Some e → 1 < e.deficit → C) → ((e : Engagement) → engagement_of nodes node ≡ Some e → e.deficit ≡ 1 → C) → C
   cases {C} more last =
-      elim (get nat_cmp nodes node) as (λ o. get nat_cmp nodes node ≡ o → C) [
+      elim (engagement_of nodes node) as (λ o. engagement_of nodes node ≡ o → C) [
         | None ↦ λ none. absurd (omega (arith, ap count_of none))
         | Some e ↦ λ there. elim e.deficit as (λ n. e.deficit ≡ n → C) [
           | zero ↦ λ nothing. absurd (omega (arith, ap count_of there, nothing))

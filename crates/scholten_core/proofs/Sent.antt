@@ -1,10 +1,9 @@
 -- The letters that one sends together
-use Rattle.std.proofs.Common.{◌≡◌, ℕ, suc, ◌+◌, true, false, cond, List, [], ◌∷◌, ◌++◌, Option, length, map, count_by, refl, ap, ◌∙◌, arith}
+use Rattle.std.proofs.Common.{◌≡◌, ℕ, suc, ◌+◌, true, false, cond, List, [], ◌∷◌, ◌++◌, length, count_by, refl, ap, ◌∙◌, arith}
 use Rattle.std.proofs.lemmas.List.Sums.{sum_by-cons}
 use Rattle.scholten_core.specs.declared.parents.Parent.{Parent}
 use Rattle.scholten_core.specs.declared.letters.Letter.{Letter}
 use Rattle.scholten_core.specs.Computation.{same_parent}
-use Rattle.scholten_core.specs.LetterTable.{AllWait, counted, standing, written}
 use Rattle.scholten_core.specs.Step.{numbered}
 use Rattle.scholten_core.specs.Sound.{IsNumbered}
 use Rattle.scholten_core.proofs.Lists.{numbered_below}
@@ -28,22 +27,11 @@ module _ {P : Type 0} (from : Parent) where
       let joined : cond {A = ℕ} (same_parent p from) 1 0 + cond (same_parent p from) (length outs) 0 ≡ cond (same_parent p from) (suc (length outs)) 0 = elim (same_parent p from) as (λ b. cond {A = ℕ} b 1 0 + cond b (length outs) 0 ≡ cond b (suc (length outs)) 0) [ true ↦ omega arith | false ↦ refl ] in
       omega (arith, first, rest, joined)
 
-  -- they are what stands in the table once they are written and counted
-  pub standing-written : (k : ℕ) (outs : List (ℕ × P)) → standing (counted k (map (written from) outs)) ≡ numbered from k outs
-  standing-written k [] = refl
-  standing-written k (o ∷ outs) =
-      ap (λ ls. (k, record { from = from; to = o.0; held = false; load = o.1 }) ∷ ls) (standing-written (k + 1) outs)
-
-  -- all of them wait
-  pub all_wait : (outs : List (ℕ × P)) → AllWait (map (written from) outs)
-  all_wait [] = tt
-  all_wait (o ∷ outs) = (refl, all_wait outs)
-
--- one more entry takes the next number
-pub counted_push : {P : Type 0} (k : ℕ) (os : List (Option (Letter P))) (o : Option (Letter P)) → counted k (os ++ o ∷ []) ≡ counted k os ++ (k + length os, o) ∷ []
-counted_push k [] o =
-    let here : k ≡ k + 0 = omega arith in
-    ap (λ n. (n, o) ∷ []) here
-counted_push k (x ∷ os) o =
-    let last : (k + 1) + length os ≡ k + suc (length os) = omega arith in
-    ap (λ ls. (k, x) ∷ ls) (counted_push (k + 1) os o ∙ ap (λ n. counted (k + 1) os ++ (n, o) ∷ []) last)
+  -- one more takes the next number
+  pub numbered-push : (k : ℕ) (outs : List (ℕ × P)) (o : ℕ × P) → numbered from k (outs ++ o ∷ []) ≡ numbered from k outs ++ (k + length outs, record { from = from; to = o.0; held = false; load = o.1 }) ∷ []
+  numbered-push k [] o =
+      let here : k ≡ k + 0 = omega arith in
+      ap (λ n. (n, record { from = from; to = o.0; held = false; load = o.1 }) ∷ []) here
+  numbered-push k (x ∷ outs) o =
+      let last : (k + 1) + length outs ≡ k + suc (length outs) = omega arith in
+      ap (λ ls. (k, record { from = from; to = x.0; held = false; load = x.1 }) ∷ ls) (numbered-push (k + 1) outs o ∙ ap (λ n. numbered from (k + 1) outs ++ (n, record { from = from; to = o.0; held = false; load = o.1 }) ∷ []) last)

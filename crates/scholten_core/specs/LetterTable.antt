@@ -4,7 +4,6 @@ use Rattle.std.specs.Prelude.{length, take, filter, map, is_some, slice_get, IsS
 use Rattle.std.specs.Map.{lookup}
 use Rattle.std.specs.Coded.{Coded, code_by, coded×, coded_list, coded_ℕ}
 use Rattle.scholten_core.specs.declared.letters.Letter.{Letter}
-use Rattle.scholten_core.specs.declared.parents.Parent.{Parent}
 use Rattle.scholten_core.specs.Code.{letter_code}
 use Rattle.scholten_core.specs.Sound.{IsNumbered}
 use Rattle.scholten_core.specs.Step.{mark}
@@ -30,15 +29,6 @@ module _ {P : Type 0} where
   standing ((number, None) ∷ es) = standing es
   standing ((number, Some l) ∷ es) = (number, l) ∷ standing es
 
-  -- a letter from one sender that isn't taken yet
-  abbrev pub written : Parent → ℕ × P → Option (Letter P)
-  written from o = Some (record { from = from; to = o.0; held = false; load = o.1 })
-
-  -- entries, numbered from number on
-  abbrev pub counted : ℕ → List (Option (Letter P)) → List (ℕ × Option (Letter P))
-  counted number [] = []
-  counted number (o ∷ os) = (number, o) ∷ counted (number + 1) os
-
   -- the letters that wait
   abbrev pub waiting_in : List (ℕ × Letter P) → List (ℕ × Letter P)
   waiting_in letters = filter (λ l. not l.1.held) letters
@@ -57,11 +47,6 @@ module _ {P : Type 0} where
   abbrev pub does_wait : Option (Letter P) → Bool
   does_wait None = false
   does_wait (Some l) = not l.held
-
-  -- none is a hole or held
-  abbrev pub AllWait : List (Option (Letter P)) → Type 0
-  AllWait [] = Unit {0}
-  AllWait (o ∷ os) = (does_wait o ≡ true) × AllWait os
 
   -- a letter is held from now on, or waits again
   abbrev pub held_as : Bool → Option (Letter P) → Option (Letter P)

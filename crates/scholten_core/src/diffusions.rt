@@ -1,20 +1,22 @@
-use crate::engagement::{Engagement, deliver, receive};
+use crate::engagement::{Engagement, deliver, engaged_at, receive};
 use crate::letter_tables::LetterTable;
 use crate::letters::Letter;
 use crate::parents::Parent;
 use crate::signals::put;
-use crate::slots::{Slot, letters_from};
 use std::alloc::{AllocError, Global};
-use std::collections::{BTreeMap, VecDeque};
+use std::collections::VecDeque;
 use std::marker::Model;
 
 /// A diffusing computation: letters, signals and the tree of engaged nodes. Letters are numbered from 1 as they are
-/// sent. Only `start` and `finish` take memory. Contracts see it as a `Computation`.
+/// sent. Nodes are best numbered from 0 on: memory is taken up to the greatest number of a node that was engaged, and
+/// where that can't be had `finish` is refused. Only `start` and `finish` take memory. Contracts see it as a
+/// `Computation`.
 #[derive(Debug, Drop)]
 pub struct Diffusion<P> {
     letters: LetterTable<P>,
     signals: VecDeque<Parent>,
-    nodes: BTreeMap<u64, Engagement>,
+    // Of each node, by its number, the engagement that it is in.
+    nodes: Vec<Option<Engagement>>,
     environment: u64,
 }
 
@@ -28,14 +30,15 @@ impl<P> Model for Diffusion<P> {
 
     ghost use Rattle.scholten_core.specs.Kept.{IsKept, held_in};
 
-    ghost view = { λ a. held_in a.letters a.signals.items a.nodes };
+    ghost view = { λ a. held_in a.letters a.signals.items a.nodes.items };
 
-    ghost invariant = { λ a. IsKept (held_in a.letters a.signals.items a.nodes) a.environment a.nodes };
+    ghost invariant = { λ a. IsKept (held_in a.letters a.signals.items a.nodes.items) a.environment a.nodes.items };
 }
 
 impl<P: Drop> Diffusion<P> {
     ghost use Rattle.std.specs.Prelude.{◌≡◌, ◌+◌, ◌^◌, ◌<◌, ◌↔◌, false, [], length, vec_len, option_copied};
     ghost use Rattle.std.specs.Prelude.{IfOk, OnOk, OnErr, IsTrue};
+    ghost use Rattle.std.specs.VecDeque.{deque_len};
     ghost use Rattle.scholten_core.specs.Computation.{IsHeld, StandByNumber, letter_of, waiting as waiting_of};
     ghost use Rattle.scholten_core.specs.Computation.{deficit as deficit_of, parent_of, outstanding};
     ghost use Rattle.scholten_core.specs.Step.{started, marked};
@@ -54,12 +57,11 @@ impl<P: Drop> Diffusion<P> {
             held: false,
             load,
         };
-        let slot = Slot::full(alloc, first)?;
-        letters.push(slot);
+        letters.push(first);
         Ok(Diffusion {
             letters,
             signals: VecDeque::new(alloc),
-            nodes: BTreeMap::new(alloc),
+            nodes: Vec::new(alloc),
             environment: 1,
         })
     }
@@ -120,15 +122,32 @@ impl<P: Drop> Diffusion<P> {
         ensures unchanged { OnErr result (self.new ≡ self.old) }
         ensures sound { IsSound self.new }
     {
+        self.finish_with(number, &mut VecDeque::from_vec(outs))
+    }
+
+    /// The same with letters in a list that the caller keeps: it is empty then, with the room that it had. Where memory
+    /// is refused, it is as it was too.
+    pub fn finish_with(
+        &mut self,
+        number: u64,
+        outs: &mut VecDeque<(u64, P)>,
+    ) -> Result<(), AllocError>
+        requires held { IsHeld self.old number }
+        requires room { self.old.sent + deque_len outs.old < 2 ^ 64 }
+        ensures finished { OnOk result (FinishesLetter self.old number outs.old.items self.new) }
+        ensures emptied { OnOk result (outs.new.items ≡ []) }
+        ensures unchanged { OnErr result (self.new ≡ self.old) }
+        ensures kept { OnErr result (outs.new ≡ outs.old) }
+        ensures sound { IsSound self.new }
+    {
+        self.letters.reserve(outs.len())?;
+        self.signals.reserve(1)?;
         let letter = self.letters.get(number).unwrap();
         let (from, to) = (letter.from, letter.to);
-        let slots = letters_from(Parent::Node(to), outs)?;
-        self.letters.reserve(slots.len())?;
-        self.signals.reserve(1)?;
-        let by = receive(&mut self.nodes, from, to, slots.len() as u64)?;
+        let by = receive(&mut self.nodes, from, to, outs.len() as u64)?;
         put(&mut self.signals, by);
         self.letters.finish(number);
-        self.letters.send(slots);
+        self.letters.send(Parent::Node(to), outs);
         Ok(())
     }
 
@@ -163,14 +182,14 @@ impl<P: Drop> Diffusion<P> {
     pub fn deficit(&self, node: u64) -> u64
         ensures { result ≡ deficit_of self.now (Parent.Node node) }
     {
-        self.nodes.get(&node).map_or(0, |engaged| engaged.deficit)
+        engaged_at(&self.nodes, node).map_or(0, |engaged| engaged.deficit)
     }
 
     /// Who engaged a node.
     pub fn parent(&self, node: u64) -> Parent
         ensures { result ≡ parent_of self.now node }
     {
-        match self.nodes.get(&node) {
+        match engaged_at(&self.nodes, node) {
             Some(engaged) => engaged.parent,
             None => Parent::Neutral,
         }

@@ -1,11 +1,8 @@
-//! The table of engaged nodes: who engaged each, and how much each is owed.
-ghost use Rattle.std.specs.Prelude.{◌≡◌, ◌+◌, ◌^◌, ◌<◌, None, IfOk, OnErr};
-ghost use Rattle.std.specs.Ordering.{nat_cmp};
-ghost use Rattle.std.specs.BTreeMap.{get};
+//! The engaged nodes, by number: who engaged each, and how much each is owed.
+ghost use Rattle.std.specs.Prelude.{◌≡◌, ◌+◌, ◌^◌, ◌<◌, ℕ, None, IfOk, OnOk, OnErr, vec_len};
 
 use crate::parents::Parent;
 use std::alloc::AllocError;
-use std::collections::BTreeMap;
 
 /// An engaged node: who engaged it, and how much it is owed.
 #[derive(Clone, Copy, Debug)]
@@ -14,59 +11,92 @@ pub(crate) struct Engagement {
     pub(crate) deficit: u64,
 }
 
-ghost use Rattle.scholten_core.specs.Kept.{deficit_kept, kept, Receives, Pays, Delivers};
+ghost use Rattle.scholten_core.specs.Kept.{engagement_of, deficit_kept, kept, Receives, Pays, Delivers};
+
+// The engagement of a node. Nobody engaged one past the end.
+pub(crate) fn engaged_at(nodes: &Vec<Option<Engagement>>, node: u64) -> Option<Engagement>
+    ensures { result ≡ engagement_of nodes.now.items node }
+{
+    let place = node as usize;
+    if place < nodes.len() {
+        nodes[place]
+    } else {
+        None
+    }
+}
+
+// Makes a place for a node. A number for which no list of nodes can be had is want of memory.
+fn make_place(nodes: &mut Vec<Option<Engagement>>, node: u64) -> Result<(), AllocError>
+    ensures place { OnOk result (node < vec_len nodes.new) }
+    ensures same { OnOk result ((n : ℕ) → engagement_of nodes.new.items n ≡ engagement_of nodes.old.items n) }
+    ensures unchanged { OnErr result (nodes.new.items ≡ nodes.old.items) }
+{
+    let place = node as usize;
+    if place < nodes.len() {
+        return Ok(());
+    }
+    let Some(count) = place.checked_add(1) else {
+        return Err(AllocError);
+    };
+    nodes.resize(count, None)
+}
 
 // The receiver is owed so many more, and is engaged by the sender if it is neutral and owed anything.
 // Answers whom a signal goes to: the sender, unless it engaged the receiver.
 pub(crate) fn receive(
-    nodes: &mut BTreeMap<u64, Engagement>,
+    nodes: &mut Vec<Option<Engagement>>,
     from: Parent,
     to: u64,
     count: u64,
 ) -> Result<Option<Parent>, AllocError>
-    requires { deficit_kept nodes.old to + count < 2 ^ 64 }
-    ensures received { IfOk result (λ by. Receives nodes.old nodes.new from to count by) }
-    ensures growth { OnErr result ((get nat_cmp nodes.old to ≡ None) × (0 < count)) }
-    ensures unchanged { OnErr result (nodes.new.entries ≡ nodes.old.entries) }
+    requires { deficit_kept nodes.old.items to + count < 2 ^ 64 }
+    ensures received { IfOk result (λ by. Receives nodes.old.items nodes.new.items from to count by) }
+    ensures growth { OnErr result ((engagement_of nodes.old.items to ≡ None) × (0 < count)) }
+    ensures unchanged { OnErr result (nodes.new.items ≡ nodes.old.items) }
 {
-    if let Some(engaged) = nodes.get_mut(&to) {
-        engaged.deficit += count;
+    if let Some(engaged) = engaged_at(nodes, to) {
+        nodes[to as usize] = Some(Engagement {
+            parent: engaged.parent,
+            deficit: engaged.deficit + count,
+        });
         return Ok(Some(from));
     }
     if count == 0 {
         return Ok(Some(from));
     }
-    let anew = Engagement {
+    make_place(nodes, to)?;
+    nodes[to as usize] = Some(Engagement {
         parent: from,
         deficit: count,
-    };
-    nodes.insert(to, anew)?;
+    });
     Ok(None)
 }
 
 // A node is owed one less. Where it is then owed nothing it is let go, and the answer is who engaged it.
-fn pay(nodes: &mut BTreeMap<u64, Engagement>, node: u64) -> Option<Parent>
-    requires { 0 < deficit_kept nodes.old node }
-    ensures { Pays nodes.old nodes.new node result }
+fn pay(nodes: &mut Vec<Option<Engagement>>, node: u64) -> Option<Parent>
+    requires { 0 < deficit_kept nodes.old.items node }
+    ensures { Pays nodes.old.items nodes.new.items node result }
 {
-    let engaged = nodes.get_mut(&node)?;
+    let engaged = engaged_at(nodes, node)?;
     if engaged.deficit > 1 {
-        engaged.deficit -= 1;
+        nodes[node as usize] = Some(Engagement {
+            parent: engaged.parent,
+            deficit: engaged.deficit - 1,
+        });
         return None;
     }
-    let parent = engaged.parent;
-    nodes.remove(&node);
-    Some(parent)
+    nodes[node as usize] = None;
+    Some(engaged.parent)
 }
 
 // One is owed one less. A node that is then owed nothing is let go, and the answer is who engaged it.
 pub(crate) fn deliver(
     environment: &mut u64,
-    nodes: &mut BTreeMap<u64, Engagement>,
+    nodes: &mut Vec<Option<Engagement>>,
     to: Parent,
 ) -> Option<Parent>
-    requires { 0 < kept environment.old nodes.old to }
-    ensures { Delivers environment.old environment.new nodes.old nodes.new to result }
+    requires { 0 < kept environment.old nodes.old.items to }
+    ensures { Delivers environment.old environment.new nodes.old.items nodes.new.items to result }
 {
     match to {
         Parent::Neutral => None,

@@ -5,13 +5,16 @@ ghost use Rattle.indexmap.specs.IndexMap.{index_map_len};
 ghost use Rattle.scholten_core.specs.LetterTable.{count, does_wait, is_of, last_hole, WaitsAt};
 
 use crate::letters::Letter;
+use crate::parents::Parent;
 use crate::slots::Slot;
 use indexmap::IndexMap;
 use std::alloc::{AllocError, Global};
+use std::collections::VecDeque;
 use std::marker::Model;
 
 /// The letters that wait or are held, by number, in order of number. A letter that is finished leaves a hole, so that
-/// the others keep their places. Holes at the end are popped, and all of them are dropped once they are more than half.
+/// the others keep their places. Holes at the end are popped when the last letter is finished; all of them are dropped
+/// where room lacks and they are at least half of the entries.
 #[derive(Debug, Drop)]
 pub(crate) struct LetterTable<P> {
     // How many letters were ever sent, the number of the last one.
@@ -140,10 +143,11 @@ impl<P> Model for LetterTable<P> {
 
 impl<P: Drop> LetterTable<P> {
     ghost use Rattle.std.specs.Prelude.{◌≡◌, ◌+◌, ◌^◌, ◌<◌, ◌≤◌, ◌==◌, ◌++◌, [], ◌∷◌, true, false, not, length, filter, map};
-    ghost use Rattle.std.specs.Prelude.{vec_len, is_some, option_copied, IfOk, OnOk};
+    ghost use Rattle.std.specs.Prelude.{is_some, option_copied, IfOk, OnOk};
+    ghost use Rattle.std.specs.VecDeque.{deque_len};
     ghost use Rattle.std.specs.Map.{lookup};
-    ghost use Rattle.scholten_core.specs.Step.{mark};
-    ghost use Rattle.scholten_core.specs.LetterTable.{waiting_in, standing, counted, AllWait, IsHeldIn, TakesOut};
+    ghost use Rattle.scholten_core.specs.Step.{mark, numbered};
+    ghost use Rattle.scholten_core.specs.LetterTable.{waiting_in, IsHeldIn, TakesOut};
 
     /// No letter, with room for one.
     pub(crate) fn new(alloc: Global) -> Result<Self, AllocError>
@@ -209,40 +213,58 @@ impl<P: Drop> LetterTable<P> {
         self.last = self.last.max(at + 1);
     }
 
-    /// Makes room for so many letters more.
+    /// Makes room for so many letters more. Where it lacks and at least half of the entries are holes, these are dropped
+    /// before the table grows.
     pub(crate) fn reserve(&mut self, count: usize) -> Result<(), AllocError>
         ensures room { OnOk result (count ≤ self.new.room) }
         ensures letters { self.new.letters ≡ self.old.letters }
         ensures sent { self.new.sent ≡ self.old.sent }
     {
+        if self.lacks_room(count) && self.is_half_holes() {
+            self.drop_holes();
+        }
         self.letters.reserve(count)
     }
 
+    fn lacks_room(&self, count: usize) -> bool {
+        self.letters.capacity() - self.letters.len() < count
+    }
+
+    // Whether at least half of the entries are holes.
+    fn is_half_holes(&self) -> bool {
+        self.holes >= self.letters.len() - self.holes
+    }
+
     /// Sends letters that wait, where there is room for them.
-    pub(crate) fn send(&mut self, slots: Vec<Slot<P>>)
-        requires room { vec_len slots ≤ self.old.room }
-        requires numbers { self.old.sent + vec_len slots < 2 ^ 64 }
-        requires wait { AllWait slots.items }
-        ensures letters { self.new.letters ≡ self.old.letters ++ standing (counted (self.old.sent + 1) slots.items) }
-        ensures sent { self.new.sent ≡ self.old.sent + vec_len slots }
+    pub(crate) fn send(&mut self, from: Parent, outs: &mut VecDeque<(u64, P)>)
+        requires room { deque_len outs.old ≤ self.old.room }
+        requires numbers { self.old.sent + deque_len outs.old < 2 ^ 64 }
+        ensures letters { self.new.letters ≡ self.old.letters ++ numbered from (self.old.sent + 1) outs.old.items }
+        ensures sent { self.new.sent ≡ self.old.sent + deque_len outs.old }
+        ensures emptied { outs.new.items ≡ [] }
     {
-        for slot in slots {
-            self.push(slot);
+        while let Some((to, load)) = outs.pop_front() {
+            self.push(Letter {
+                from,
+                to,
+                held: false,
+                load,
+            });
         }
     }
 
     /// Sends a letter that waits, where there is room for it.
-    pub(crate) fn push(&mut self, slot: Slot<P>)
+    pub(crate) fn push(&mut self, letter: Letter<P>)
         requires room { 0 < self.old.room }
         requires numbers { self.old.sent + 1 < 2 ^ 64 }
-        requires waits { does_wait slot ≡ true }
-        ensures letters { self.new.letters ≡ self.old.letters ++ standing ((self.old.sent + 1, slot) ∷ []) }
+        requires waits { letter.held ≡ false }
+        ensures letters { self.new.letters ≡ self.old.letters ++ (self.old.sent + 1, letter) ∷ [] }
         ensures sent { self.new.sent ≡ self.old.sent + 1 }
         ensures room { self.old.room ≤ self.new.room + 1 }
     {
         self.sent += 1;
         self.waits += 1;
-        let _ = self.letters.insert(self.sent, slot).unwrap();
+        let _ = self.letters.insert(self.sent, Slot::full(letter)).unwrap();
         self.last = self.letters.len();
     }
 
@@ -257,8 +279,9 @@ impl<P: Drop> LetterTable<P> {
         let (_, slot) = self.letters.pair_mut(at);
         slot.empty();
         self.holes += 1;
-        self.pop_holes();
-        self.drop_holes();
+        if at + 1 == self.letters.len() {
+            self.pop_holes();
+        }
     }
 
     // Pops the holes at the end, so that a letter that is sent next stands beside the last one.
@@ -275,21 +298,18 @@ impl<P: Drop> LetterTable<P> {
         self.last = self.last.min(self.letters.len());
     }
 
-    // Drops all holes, where they are more than half.
+    // Drops all holes.
     fn drop_holes(&mut self)
         ensures letters { self.new.letters ≡ self.old.letters }
         ensures sent { self.new.sent ≡ self.old.sent }
-        ensures room { self.old.room ≤ self.new.room }
     {
-        if self.holes > self.letters.len() - self.holes {
-            self.letters.retain(
-                |_number: &u64, slot: &mut Slot<P>| -> bool
-                    ensures { (result ≡ is_some slot.old) × (slot.new ≡ slot.old) }
-                { !slot.is_hole() },
-            );
-            self.holes = 0;
-            self.first = 0;
-            self.last = self.letters.len();
-        }
+        self.letters.retain(
+            |_number: &u64, slot: &mut Slot<P>| -> bool
+                ensures { (result ≡ is_some slot.old) × (slot.new ≡ slot.old) }
+            { !slot.is_hole() },
+        );
+        self.holes = 0;
+        self.first = 0;
+        self.last = self.letters.len();
     }
 }

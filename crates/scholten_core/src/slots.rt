@@ -1,21 +1,18 @@
 //! A place in the table of letters.
-ghost use Rattle.std.specs.Prelude.{◌≡◌, None, Some, option_copied, IfOk, map};
-ghost use Rattle.scholten_core.specs.LetterTable.{does_wait, held_as, is_hole, written};
+ghost use Rattle.std.specs.Prelude.{◌≡◌, None, Some, option_copied};
+ghost use Rattle.scholten_core.specs.LetterTable.{does_wait, held_as, is_hole};
 
 use crate::letters::Letter;
-use crate::parents::Parent;
-use std::alloc::{AllocError, Global};
 use std::marker::Model;
 
-/// A letter, or a hole. A letter stands on the heap, so that the table is small and a move in it is short. Contracts
-/// see an option.
+/// A letter, or a hole. Contracts see an option.
 #[derive(Debug, Drop)]
 pub(crate) struct Slot<P> {
-    letter: Option<Box<Letter<P>>>,
+    letter: Option<Letter<P>>,
 }
 
 impl<P> Model for Slot<P> {
-    ghost use Rattle.std.specs.Prelude.{Option, option_map};
+    ghost use Rattle.std.specs.Prelude.{Option};
     ghost use Rattle.std.specs.Coded.{coded_option};
     ghost use Rattle.scholten_core.specs.declared.letters.Letter.{Letter};
     ghost use Rattle.scholten_core.specs.Code.{letter_code};
@@ -24,16 +21,16 @@ impl<P> Model for Slot<P> {
 
     ghost coded = { coded_option (letter_code P.code) };
 
-    ghost view = { λ s. option_map (λ b. b.value) s.letter };
+    ghost view = { λ s. s.letter };
 }
 
 impl<P: Drop> Slot<P> {
-    pub(crate) fn full(alloc: Global, letter: Letter<P>) -> Result<Self, AllocError>
-        ensures { IfOk result (λ s. s ≡ Some letter) }
+    pub(crate) fn full(letter: Letter<P>) -> Self
+        ensures { result ≡ Some letter }
     {
-        Ok(Slot {
-            letter: Some(Box::new(alloc, letter)?),
-        })
+        Slot {
+            letter: Some(letter),
+        }
     }
 
     pub(crate) fn empty(&mut self)
@@ -76,25 +73,4 @@ impl<P> Slot<P> {
             None => None,
         }
     }
-}
-
-/// Letters from one sender, none of them taken.
-pub(crate) fn letters_from<P: Drop>(
-    from: Parent,
-    outs: Vec<(u64, P)>,
-) -> Result<Vec<Slot<P>>, AllocError>
-    ensures { IfOk result (λ slots. slots.items ≡ map (written from) outs.items) }
-{
-    let alloc = *outs.allocator();
-    let mut slots = Vec::with_capacity(alloc, outs.len())?;
-    for (to, load) in outs {
-        let letter = Letter {
-            from,
-            to,
-            held: false,
-            load,
-        };
-        slots.push(Slot::full(alloc, letter)?)?;
-    }
-    Ok(slots)
 }

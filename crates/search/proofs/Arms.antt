@@ -14,7 +14,7 @@ use Rattle.search.specs.declared.letters.Load.TheVariants as load
 use Rattle.search.specs.declared.findings.Monitor.{Monitor}
 use Rattle.search.specs.Net.{Net, Sent, LetterFits}
 use Rattle.search.specs.Receipt.{Awaits}
-use Rattle.search.specs.Answers.{Progress, progress, net_at, MayTakeIn, Opens, own_rows, AnswersAsk, Answers}
+use Rattle.search.specs.Answers.{Progress, progress, net_at, MayTakeIn, Opens, own_rows, AnswersAsk, TakesIn, Answers}
 use Rattle.search.proofs.Receive.{awaited_fits, receiver_in, told_by_letter}
 use Rattle.search.proofs.Taken.{may_take_in}
 
@@ -70,3 +70,7 @@ answers_start {rows} {asked} {g} {ms} {rest} {from} {to} {l} awaits is view s t 
 pub answers_ask : (view : List Vault) (s t : Progress) (from : Parent) (to : ℕ) (l : Load) (m : ℕ) (p : Port) → from ≡ Node m → l ≡ load.Ask p → AnswersAsk view s t to m p → Answers view s t from to l
 answers_ask view s t from to l m p by is answers =
     subst (λ (k : Load). Answers view s t from to k) (sym is) (subst (λ (f : Parent). Answers view s t f to (load.Ask p)) (sym by) answers)
+
+pub answers_tell : (view : List Vault) (s t : Progress) (from : Parent) (to : ℕ) (l : Load) (m : ℕ) (p : Port) (who : List ℕ) → from ≡ Node m → l ≡ load.Tell p who → TakesIn s t to m p who → Answers view s t from to l
+answers_tell view s t from to l m p who by is takes =
+    subst (λ (k : Load). Answers view s t from to k) (sym is) (subst (λ (f : Parent). Answers view s t f to (load.Tell p who)) (sym by) takes)

@@ -7,21 +7,21 @@ use Rattle.cred_graph.specs.GraphState.{IsNode}
 use Rattle.scholten_core.specs.declared.letters.Letter.{Letter}
 use Rattle.scholten_core.specs.Computation.{Computation}
 use Rattle.search.specs.declared.letters.Load.{Load}
-use Rattle.snapshots.specs.Snapshot.{SnapshotState}
+use Rattle.search.specs.declared.letters.Held.{Held}
 use Rattle.search.specs.declared.queries.Need.{Need}
-use Rattle.search.specs.declared.queries.Hint.{Hint}
 use Rattle.search.specs.declared.outcomes.Finished.{Finished}
 use Rattle.search.specs.declared.outcomes.Finished.TheVariants as finished
 use Rattle.search.specs.declared.stages.Stage.{Stage}
 use Rattle.search.specs.declared.stages.Stage.TheVariants as stage
 use Rattle.search.specs.Need.{need_of, right_hint}
-use Rattle.search.specs.Stage.{waiting_in, signals_in, held_in}
+use Rattle.search.specs.Stage.{waiting_in, signals_in, held_in, letter_in}
 use Rattle.search.specs.Search.{SearchState, SameQuestion, Settles, settled_of}
-use Rattle.search.specs.Finish.{Needs, Takes, Received, Finishes}
+use Rattle.search.specs.Finish.{Needs, Takes, TakesHeld, Received, Receives, Finishes}
 use Rattle.search.specs.Quiet.{IsQuiet, NoneHeld, HoldsAsBefore}
 use Rattle.search.specs.Driven.{DriveStep, a_signal, a_letter, Makes, MakesEach, IsDriven}
 use Rattle.search.proofs.Grow.{one_expr}
 use Rattle.search.proofs.Ended.{settles_on}
+use Rattle.search.proofs.Finishing.{finishes_rightly, rightly_needed}
 use Rattle.search.proofs.InHand.{finished_gone, finished_other, marked_other, signalled_holds}
 use Rattle.search.proofs.StepsLeft.{steps_left, marked_left, held_left, finished_left, signalled_left}
 
@@ -199,20 +199,22 @@ same_search s t st g ms q = λ i. record {
   stage = st i;
 }
 
--- the first letter is taken, and finished with what the snapshot says of its need
-pub finishes_first : (s same held t : SearchState) (number : ℕ) (need : Need) (hint : Hint) (view : SnapshotState) (told : Finished) → length (signals_in s.stage) ≤ 0 → same ≡ s →
-    Takes same held 0 number need → Settles same held → hint ≡ right_hint view.vaults need → view ≡ held.snapshot → Finishes held t number hint told → Settles held t → (x : DriveStep) × Makes s x t
-finishes_first s same held t number need hint view told few is takes takes_settles hint_is view_is finishes finish_settles =
-    let takes' = subst (λ (x : SearchState). Takes x held 0 number need) is takes in
-    let right : hint ≡ right_hint s.snapshot.vaults need =
-    hint_is ∙ ap (λ (x : SnapshotState). right_hint x.vaults need) (view_is ∙ ap (λ (x : SearchState). x.snapshot) takes'.after) in (
+-- the first letter is taken and received
+pub finishes_first : (s same held t : SearchState) (number : ℕ) (h : Held) (told : Finished) → length (signals_in s.stage) ≤ 0 → same ≡ s →
+    TakesHeld same held 0 number h → Settles same held → Receives held t number (letter_in h) told → Settles held t → (x : DriveStep) × Makes s x t
+finishes_first s same held t number h told few is takes takes_settles receives finish_settles =
+    let takes' = subst (λ (x : SearchState). TakesHeld x held 0 number h) is takes in
+    let need : Need = need_of takes'.expr h.load in
+    let after = takes'.takes.after in
+    let node = subst (λ (x : SearchState). IsNode x.graph h.to takes'.expr) (sym after) takes'.node in
+    let finishes = finishes_rightly held t number (right_hint held.snapshot.vaults need) (letter_in h) (rightly_needed held number h takes'.expr node takes'.holds) told receives in (
       a_letter number need told,
       record {
         held = held;
         no_signal = no_element (signals_in s.stage) few;
-        takes = takes';
+        takes = takes'.takes;
         takes_settles = subst (λ (x : SearchState). Settles x held) is takes_settles;
-        finishes = subst (λ (h : Hint). Finishes held t number h told) right finishes;
+        finishes = subst (λ (x : SearchState). Finishes held t number (right_hint x.snapshot.vaults need) told) after finishes;
         finish_settles = finish_settles;
       },
     )

@@ -2,14 +2,17 @@
 use Rattle.std.proofs.Common.{ℕ, ◌+◌, ◌<◌, ◌≤◌, ◌≡◌, ◌∙◌, refl, sym, subst, ap, false, List, [], Some, length, get_or}
 use Rattle.names.specs.declared.roles.Role.{Role}
 use Rattle.rt0_rules.specs.Work.{WorkExceeds}
+use Rattle.vaults.specs.Journal.{Vault}
 use Rattle.snapshots.specs.Snapshot.{SnapshotState, IsOrdered}
 use Rattle.cred_graph.specs.GraphState.{GraphState, IsNode}
 use Rattle.credential_text.specs.declared.exprs.Expr.{Expr}
-use Rattle.credential_text.specs.declared.exprs.Expr.TheVariants.{Ent}
+use Rattle.credential_text.specs.declared.exprs.Expr.TheVariants.{Ent, Rol, Link, Meet}
 use Rattle.std.proofs.lemmas.Option.{slice_get-get_or}
+use Rattle.scholten_core.specs.declared.letters.Letter.{Letter}
 use Rattle.scholten_core.specs.Computation.{Computation}
 use Rattle.scholten_core.specs.Call.{FinishesLetter}
 use Rattle.search.specs.declared.letters.Load.{Load}
+use Rattle.search.specs.declared.letters.Load.TheVariants as load
 use Rattle.search.specs.declared.letters.Held.{Held}
 use Rattle.search.specs.declared.findings.Monitor.{Monitor}
 use Rattle.search.specs.declared.queries.Hint.{Hint}
@@ -19,10 +22,10 @@ use Rattle.search.specs.declared.stages.Stage.{Stage}
 use Rattle.search.specs.declared.stages.Stage.TheVariants as stage
 use Rattle.search.specs.Net.{sent_of}
 use Rattle.search.specs.Answers.{progress, Answers}
-use Rattle.search.specs.Need.{need_of, right_hint}
+use Rattle.search.specs.Need.{IsSpanFor, need_of, right_hint, rows_for, span_in}
 use Rattle.search.specs.Stage.{HoldsLetter, letter_in, held_in, if_held, stage_marked, Sends}
 use Rattle.search.specs.Search.{SearchState, KeptBy, IsTallied, IsKept, asked_role, rows_of}
-use Rattle.search.specs.Finish.{IsRightly, Finishes}
+use Rattle.search.specs.Finish.{IsRightly, Receives, Finishes}
 use Rattle.search.proofs.Grow.{one_expr}
 use Rattle.search.proofs.Receive.{receipt}
 use Rattle.search.proofs.Closing.{done_kept}
@@ -44,6 +47,37 @@ rightly s number hint h view same held right = record {
   hint_is = λ need needs.
       right needs.0 needs.1 ∙ ap (λ (v : SnapshotState). right_hint v.vaults (need_of needs.0 h.load)) same ∙ ap (right_hint s.snapshot.vaults) (sym needs.2);
 }
+
+-- what the snapshot says of the need of the letter in hand is right for it
+pub rightly_needed : (s : SearchState) (number : ℕ) (h : Held) (e : Expr) → IsNode s.graph h.to e → HoldsLetter s.stage number h → IsRightly s number (right_hint s.snapshot.vaults (need_of e h.load)) (letter_in h)
+rightly_needed s number h e at held = record {
+  held = held_letter_is s.stage number h held;
+  hint_is = λ need needs.
+      ap (λ (x : Expr). right_hint s.snapshot.vaults (need_of x h.load)) (one_expr s.graph h.to e needs.0 at needs.1) ∙ ap (right_hint s.snapshot.vaults) (sym needs.2);
+}
+
+-- a letter that was received is finished with a hint that is right for it
+pub finishes_rightly : (s t : SearchState) (number : ℕ) (hint : Hint) (l : Letter Load) → IsRightly s number hint l → (result : Finished) → Receives s t number l result → Finishes s t number hint result
+finishes_rightly s t number hint l right finished.NotHeld receives = absurd receives
+finishes_rightly s t number hint l right finished.BadHint receives = absurd receives
+finishes_rightly s t number hint l right finished.Done receives = (l, right, receives.0, receives.1)
+finishes_rightly s t number hint l right finished.Spent receives = (l, right, receives.0, receives.1, receives.2)
+finishes_rightly s t number hint l right finished.Broken receives = (l, right, receives.0, receives.1)
+
+-- a hint that is right says where the rows stand of the role that it is for
+pub span_for : (view : List Vault) (e : Expr) (l : Load) (hint : Hint) → hint ≡ right_hint view (need_of e l) → IsSpanFor view e (span_in hint)
+span_for view e l hint is = subst (λ (x : Hint). IsSpanFor view e (span_in x)) (sym is) (needed e l)
+  where
+    opened : (f : Expr) → IsSpanFor view f (span_in (right_hint view (rows_for f)))
+    opened (Ent d) = tt
+    opened (Rol r) = refl
+    opened (Link r name) = tt
+    opened (Meet parts) = tt
+
+    needed : (f : Expr) (k : Load) → IsSpanFor view f (span_in (right_hint view (need_of f k)))
+    needed f load.Start = opened f
+    needed f (load.Ask p) = opened f
+    needed f (load.Tell p who) = tt
 
 -- where a search runs after a letter was finished, it ran before
 pub record RanBefore (old : Stage) (work number : ℕ) (outs : List (ℕ × Load)) (after : Computation Load) : Type 0 where
@@ -68,19 +102,19 @@ spent_from old new work number outs finished.Broken (c, ran, within, is) now = l
 spent_from old new work number outs finished.BadHint sent now = absurd sent
 spent_from old new work number outs finished.NotHeld sent now = absurd sent
 
-module _ (s : SearchState) (number : ℕ) (hint : Hint) (h : Held) (held : HoldsLetter s.stage number h) (right : IsRightly s number hint (letter_in h))
+module _ (s : SearchState) (number : ℕ) (h : Held) (held : HoldsLetter s.stage number h)
     (g : GraphState) (ms : List Monitor) (outs : List (ℕ × Load)) (row : Answers s.snapshot.vaults (progress s.graph s.monitors []) (progress g ms outs) h.from h.to h.load) where
   abbrev after : Stage → SearchState
   after st = record s { graph = g; monitors = ms; stage = st }
 
-  pub sent_finishes : (st : Stage) (result : Finished) → Sends s.stage st s.work number outs result → Finishes s (after st) number hint result
-  sent_finishes st finished.Done (c, d, ran, runs, within, finishes) =
-      (letter_in h, right, record { before = c; after = d; outs = outs; ran = ran; runs = runs; finishes = finishes; within = within; row = row }, same_question s g ms st)
-  sent_finishes st finished.Spent (c, ran, over, is) =
-      (letter_in h, right, record { before = c; reached = progress g ms outs; ran = ran; row = row; over = over }, is, same_question s g ms st)
-  sent_finishes st finished.Broken (c, ran, within, is) = (letter_in h, right, is, same_question s g ms st)
-  sent_finishes st finished.BadHint sent = absurd sent
-  sent_finishes st finished.NotHeld sent = absurd sent
+  pub sent_receives : (st : Stage) (result : Finished) → Sends s.stage st s.work number outs result → Receives s (after st) number (letter_in h) result
+  sent_receives st finished.Done (c, d, ran, runs, within, finishes) =
+      (record { before = c; after = d; outs = outs; ran = ran; runs = runs; finishes = finishes; within = within; row = row }, same_question s g ms st)
+  sent_receives st finished.Spent (c, ran, over, is) =
+      (record { before = c; reached = progress g ms outs; ran = ran; row = row; over = over }, is, same_question s g ms st)
+  sent_receives st finished.Broken (c, ran, within, is) = (is, same_question s g ms st)
+  sent_receives st finished.BadHint sent = absurd sent
+  sent_receives st finished.NotHeld sent = absurd sent
 
   module _ (kept : IsKept s) (ordered : IsOrdered s.snapshot.vaults) where
     abbrev asked : Role

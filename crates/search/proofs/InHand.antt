@@ -5,7 +5,7 @@ use Rattle.std.proofs.lemmas.Bool.{eq-eqb, false≢true}
 use Rattle.scholten_core.specs.declared.parents.Parent.{Parent}
 use Rattle.scholten_core.specs.declared.parents.Parent.TheVariants.{Node}
 use Rattle.scholten_core.specs.declared.letters.Letter.{Letter}
-use Rattle.scholten_core.specs.Computation.{Computation, letter_of, outstanding}
+use Rattle.scholten_core.specs.Computation.{Computation, StandByNumber, letter_of, outstanding}
 use Rattle.scholten_core.specs.Step.{numbered, answers}
 use Rattle.scholten_core.specs.Sound.{IsNumbered}
 use Rattle.scholten_core.specs.Call.{TakesLetter, FinishesLetter, DeliversSignal}
@@ -16,6 +16,7 @@ use Rattle.search.specs.declared.stages.Stage.TheVariants as stage
 use Rattle.search.specs.Stage.{waiting_in, held_in, if_held, letter_in, stage_marked, Holds}
 use Rattle.search.specs.Search.{IsOutstanding}
 use Rattle.search.specs.Quiet.{IsQuiet, NoneHeld}
+use Rattle.search.proofs.Holding.{holds_letter}
 use Rattle.search.proofs.ByNumber.{lookup-rest, lookup-rest_other, lookup-changed_other, numbered_before}
 
 -- a letter that waits isn't held
@@ -24,9 +25,9 @@ not_held l waits =
     elim l.held as (λ b. not b ≡ true → cond b (Some l) None ≡ None) [ true ↦ λ no. absurd (false≢true no) | false ↦ λ _. refl ] waits
 
 -- a waiting letter is taken: it stands in the hands of who took it
-pub holds_taken : (old : Stage) (c d : Computation Load) (place number : ℕ) (l : Letter Load) → old ≡ stage.Running c → TakesLetter c place number d → Some l ≡ letter_of d number →
+pub holds_taken : (old : Stage) (c d : Computation Load) (place number : ℕ) (l : Letter Load) → old ≡ stage.Running c → TakesLetter c place number d → Some l ≡ letter_of d number → StandByNumber d →
     Holds old (stage.Running d) place number (record { from = l.from; to = l.to; load = l.load })
-holds_taken old c d place number l ran takes is =
+holds_taken old c d place number l ran takes is by =
     let same : Some (record takes.letter { held = true }) ≡ Some l = sym takes.taken ∙ sym is in
     let l_is : record takes.letter { held = true } ≡ l = cc in
     let low = numbered_before number (λ (x : Letter Load). record x { held = true }) 0 c.letters d.sent (subst (λ (x : Computation Load). IsNumbered 0 x.letters d.sent) takes.marked takes.sound.numbers) in
@@ -38,6 +39,7 @@ holds_taken old c d place number l ran takes is =
       marked = ap stage.Running takes.marked ∙ ap (stage_marked number true) (sym ran);
       free = ap (λ (s : Stage). held_in s number) ran ∙ ap if_held before ∙ not_held takes.letter (filter_passes (λ (x : ℕ × Letter Load). not x.1.held) c.letters place (number, takes.letter) takes.waited);
       held = ap if_held takes.taken;
+      holds = holds_letter (stage.Running d) d number l refl is (sym (ap (λ (x : Letter Load). x.held) l_is)) by takes.sound.numbers;
     }
 
 -- letters that are sent wait

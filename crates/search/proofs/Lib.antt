@@ -7,6 +7,7 @@ pub mod Owed
 pub mod Loops
 pub mod Steps
 pub mod Taken
+pub mod Taking
 pub mod Rows
 pub mod Receive
 pub mod Closing

@@ -6,6 +6,7 @@ use Rattle.scholten_core.specs.declared.letters.Letter.{Letter}
 use Rattle.scholten_core.specs.Computation.{Computation}
 use Rattle.scholten_core.specs.Call.{FinishesLetter}
 use Rattle.search.specs.declared.letters.Load.{Load}
+use Rattle.search.specs.declared.letters.Held.{Held}
 use Rattle.search.specs.declared.queries.Need.{Need}
 use Rattle.search.specs.declared.queries.Hint.{Hint}
 use Rattle.search.specs.declared.outcomes.Finished.{Finished}
@@ -13,7 +14,7 @@ use Rattle.search.specs.declared.outcomes.Finished.TheVariants as finished
 use Rattle.search.specs.declared.stages.Stage.TheVariants as stage
 use Rattle.search.specs.Answers.{Progress, progress, Answers}
 use Rattle.search.specs.Need.{need_of, right_hint}
-use Rattle.search.specs.Stage.{waiting_in, held_in, stage_marked}
+use Rattle.search.specs.Stage.{HoldsLetter, waiting_in, held_in, stage_marked}
 use Rattle.search.specs.Search.{SearchState, SameQuestion}
 
 -- the letter needs this to be finished
@@ -28,6 +29,13 @@ pub record Takes (s t : SearchState) (place number : ℕ) (need : Need) : Type 0
   pub after : t ≡ record s { stage = stage_marked number true s.stage }
   pub free : held_in s.stage number ≡ None
   pub held : held_in t.stage number ≡ Some (record letter { held = true })
+
+-- the same of a letter in hand: its receiver is a node, whose expression says what it needs
+pub record TakesHeld (s t : SearchState) (place number : ℕ) (h : Held) : Type 0 where
+  pub expr : Expr
+  pub node : IsNode s.graph h.to expr
+  pub takes : Takes s t place number (need_of expr h.load)
+  pub holds : HoldsLetter t.stage number h
 
 -- a letter was received: it is gone, and its receiver's answers wait
 pub record Received (s t : SearchState) (number : ℕ) (l : Letter Load) : Type 0 where
@@ -52,6 +60,14 @@ pub record Exceeds (s : SearchState) (l : Letter Load) : Type 0 where
 pub record IsRightly (s : SearchState) (number : ℕ) (hint : Hint) (l : Letter Load) : Type 0 where
   pub held : held_in s.stage number ≡ Some l
   pub hint_is : (need : Need) → Needs s l need → hint ≡ right_hint s.snapshot.vaults need
+
+-- the letter of a number is received, and goes on as its result says
+abbrev pub Receives : SearchState → SearchState → ℕ → Letter Load → Finished → Type 0
+Receives s t number l finished.NotHeld = ⊥
+Receives s t number l finished.BadHint = ⊥
+Receives s t number l finished.Done = Received s t number l × SameQuestion s t
+Receives s t number l finished.Spent = Exceeds s l × (t.stage ≡ stage.Spent) × SameQuestion s t
+Receives s t number l finished.Broken = (t.stage ≡ stage.Broken) × SameQuestion s t
 
 -- the letter of a number is finished with this hint
 abbrev pub Finishes : SearchState → SearchState → ℕ → Hint → Finished → Type 0

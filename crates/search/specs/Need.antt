@@ -1,8 +1,9 @@
 -- What a letter needs to be finished, and the hint that this asks for.
-use Rattle.std.specs.Prelude.{List}
+use Rattle.std.specs.Prelude.{List, ◌≡◌, Option, Some, None}
 use Rattle.credential_text.specs.declared.exprs.Expr.{Expr}
 use Rattle.credential_text.specs.declared.exprs.Expr.TheVariants.{Ent, Rol, Link, Meet}
 use Rattle.vaults.specs.Journal.{Vault}
+use Rattle.snapshots.specs.declared.spans.Span.{Span}
 use Rattle.snapshots.specs.Span.{span_of}
 use Rattle.search.specs.declared.letters.Load.{Load}
 use Rattle.search.specs.declared.letters.Load.TheVariants as load
@@ -27,3 +28,16 @@ need_of e (load.Tell p who) = need.Nothing
 abbrev pub right_hint : List Vault → Need → Hint
 right_hint view (need.Rows role) = hint.Rows (span_of view role)
 right_hint view need.Nothing = hint.Nothing
+
+-- where the rows stand that a hint says
+abbrev pub span_in : Hint → Option Span
+span_in (hint.Rows span) = Some span
+span_in hint.Nothing = None
+
+-- where a span was looked up for a role, it is that of its rows
+abbrev pub IsSpanFor : List Vault → Expr → Option Span → Type 0
+IsSpanFor view e None = Unit {0}
+IsSpanFor view (Ent d) (Some span) = Unit {0}
+IsSpanFor view (Rol r) (Some span) = span ≡ span_of view r
+IsSpanFor view (Link r name) (Some span) = Unit {0}
+IsSpanFor view (Meet parts) (Some span) = Unit {0}

@@ -62,6 +62,7 @@ pub record Holds (old new : Stage) (place number : ℕ) (h : Held) : Type 0 wher
   pub marked : new ≡ stage_marked number true old
   pub free : held_in old number ≡ None
   pub held : held_in new number ≡ Some (record letter { held = true })
+  pub holds : HoldsLetter new number h
 
 -- the held letter of a number is finished, and its receiver sends these, where the work limit allows it
 abbrev pub Sends : Stage → Stage → ℕ → ℕ → List (ℕ × Load) → Finished → Type 0

@@ -8,6 +8,7 @@ use cred_graph::Port;
 use credential_text::Expr;
 use monitors::{LinkMonitor, MeetMonitor};
 use std::alloc::{AllocError, Global};
+use std::collections::VecDeque;
 
 // What the node of the expression remembers before it is told anything.
 fn monitor_for(alloc: Global, expr: &Expr) -> Monitor
@@ -25,7 +26,7 @@ fn monitor_for(alloc: Global, expr: &Expr) -> Monitor
 pub(crate) fn ask(
     alloc: Global,
     found: &mut Findings,
-    outs: &mut Vec<(u64, Load)>,
+    outs: &mut VecDeque<(u64, Load)>,
     expr: &Expr,
     port: &Port,
 ) -> Result<(), AllocError>
@@ -36,6 +37,6 @@ pub(crate) fn ask(
     if is_new {
         found.monitors.push(monitor_for(alloc, expr))?;
     }
-    outs.push((node, Load::Ask(*port)))?;
+    outs.push_back((node, Load::Ask(*port)))?;
     Ok(())
 }

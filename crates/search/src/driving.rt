@@ -1,20 +1,5 @@
 //! How a search is carried on by itself, with what its own snapshot says.
-ghost use Rattle.std.specs.Prelude.{◌≡◌};
-ghost use Rattle.search.specs.Need.{right_hint};
-
-use crate::queries::{Hint, Need};
 use crate::searches::Search;
-use snapshots::Snapshot;
-
-// What is needed, by the snapshot.
-fn look_up(snapshot: &Snapshot, need: &Need) -> Hint
-    ensures { result ≡ right_hint snapshot.now.vaults need.now }
-{
-    match need {
-        Need::Rows(role) => Hint::Rows(snapshot.find(role)),
-        Need::Nothing => Hint::Nothing,
-    }
-}
 
 impl Search {
     ghost use Rattle.search.specs.Search.{IsOutstanding, SameQuestion, Settles};
@@ -29,15 +14,14 @@ impl Search {
         if self.signal(0) {
             return;
         }
-        let Some((letter, need)) = self.take_letter(0) else {
+        let Some((letter, held)) = self.take_held(0) else {
             unreachable!()
         };
-        let hint = look_up(self.snapshot(), &need);
-        let _finished = self.finish(letter, hint);
+        let _finished = self.receive_held(letter, &held, None);
     }
 
     /// Carries the search on until nothing more of it can be: the oldest signal goes first, then the first waiting
-    /// letter, looked up in the search's own snapshot. Letters that others hold stay with them.
+    /// letter; the rows of a role that opens are looked up in the search's own snapshot. Letters that others hold stay with them.
     pub fn drive(&mut self)
         ensures driven { IsDriven self.old self.new }
         ensures quiet { IsQuiet self.new.stage }

@@ -6,11 +6,12 @@ use crate::findings::Findings;
 use crate::letters::Load;
 use cred_graph::Port;
 use std::alloc::AllocError;
+use std::collections::VecDeque;
 
 // The asker listens to the node on the port; where that is new, it is told each solution of the node.
 pub(crate) fn hear_ask(
     found: &mut Findings,
-    outs: &mut Vec<(u64, Load)>,
+    outs: &mut VecDeque<(u64, Load)>,
     node: u64,
     asker: u64,
     port: &Port,
@@ -25,7 +26,7 @@ pub(crate) fn hear_ask(
     }
     for place in 0..found.graph.solutions(node) {
         let who = found.graph.solution(node, place);
-        outs.push((asker, Load::Tell(*port, who)))?;
+        outs.push_back((asker, Load::Tell(*port, who)))?;
     }
     Ok(())
 }

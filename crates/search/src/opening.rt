@@ -4,24 +4,24 @@ ghost use Rattle.credential_text.specs.declared.exprs.Expr.{Expr};
 ghost use Rattle.snapshots.specs.Span.{role_rows, span_of};
 ghost use Rattle.cred_graph.specs.GraphState.{IsNode};
 ghost use Rattle.search.specs.Answers.{progress, AsksEach, row_asks, part_asks, own_rows, Opens};
-ghost use Rattle.search.specs.Need.{rows_for, right_hint};
+ghost use Rattle.search.specs.Need.{IsSpanFor};
 
 use crate::asking::ask;
 use crate::findings::Findings;
 use crate::letters::Load;
-use crate::queries::Hint;
 use crate::solving::solve;
 use cred_graph::{Port, Reason};
 use credential_text::{Expr, Part};
 use names::Role;
 use snapshots::{Snapshot, Span};
 use std::alloc::{AllocError, Global};
+use std::collections::VecDeque;
 
 // A role asks the body of each of its rows.
 fn ask_rows(
     alloc: Global,
     found: &mut Findings,
-    outs: &mut Vec<(u64, Load)>,
+    outs: &mut VecDeque<(u64, Load)>,
     snapshot: &Snapshot,
     role: &Role,
     span: Span,
@@ -42,7 +42,7 @@ fn ask_rows(
 fn ask_parts(
     alloc: Global,
     found: &mut Findings,
-    outs: &mut Vec<(u64, Load)>,
+    outs: &mut VecDeque<(u64, Load)>,
     parts: &[Part],
 ) -> Result<(), AllocError>
     requires { length parts.now ≤ 8 }
@@ -55,28 +55,28 @@ fn ask_parts(
     Ok(())
 }
 
-// The node of the expression opens.
+// The node of the expression opens. Where its rows stand is sought in the snapshot, unless that was looked up before.
 fn open_as(
     alloc: Global,
     found: &mut Findings,
-    outs: &mut Vec<(u64, Load)>,
+    outs: &mut VecDeque<(u64, Load)>,
     snapshot: &Snapshot,
     node: u64,
     expr: &Expr,
-    hint: &Hint,
+    looked_up: Option<Span>,
 ) -> Result<(), AllocError>
     requires node { node < length found.old.graph.nodes }
     requires expr { IsNode found.old.graph node expr.now }
-    requires hint { hint.now ≡ right_hint snapshot.now.vaults (rows_for expr.now) }
+    requires span { IsSpanFor snapshot.now.vaults expr.now looked_up }
     ensures { OnOk result (Opens (own_rows snapshot.now.vaults expr.now) (progress found.old.graph found.old.monitors.items outs.old.items)
         (progress found.new.graph found.new.monitors.items outs.new.items) node expr.now) }
 {
     match expr {
         Expr::Ent(who) => solve(found, outs, node, *who, &Reason::Leaf),
-        Expr::Rol(role) => match hint {
-            Hint::Rows(span) => ask_rows(alloc, found, outs, snapshot, role, *span),
-            Hint::Nothing => unreachable!(),
-        },
+        Expr::Rol(role) => {
+            let span = looked_up.unwrap_or_else(|| snapshot.find(role));
+            ask_rows(alloc, found, outs, snapshot, role, span)
+        }
         Expr::Link(base, _name) => ask(alloc, found, outs, &Expr::Rol(*base), &Port::Base),
         Expr::Meet(parts) => ask_parts(alloc, found, outs, parts.as_slice()),
     }
@@ -86,17 +86,17 @@ fn open_as(
 pub(crate) fn open(
     alloc: Global,
     found: &mut Findings,
-    outs: &mut Vec<(u64, Load)>,
+    outs: &mut VecDeque<(u64, Load)>,
     snapshot: &Snapshot,
     node: u64,
-    hint: &Hint,
+    looked_up: Option<Span>,
 ) -> Result<(), AllocError>
     requires node { node < length found.old.graph.nodes }
-    requires hint { (e : Expr) → IsNode found.old.graph node e → hint.now ≡ right_hint snapshot.now.vaults (rows_for e) }
+    requires span { (e : Expr) → IsNode found.old.graph node e → IsSpanFor snapshot.now.vaults e looked_up }
     ensures { OnOk result ((e : Expr) → IsNode found.old.graph node e → Opens (own_rows snapshot.now.vaults e)
         (progress found.old.graph found.old.monitors.items outs.old.items)
         (progress found.new.graph found.new.monitors.items outs.new.items) node e) }
 {
     let expr = found.graph.expr(node).try_clone()?;
-    open_as(alloc, found, outs, snapshot, node, &expr, hint)
+    open_as(alloc, found, outs, snapshot, node, &expr, looked_up)
 }

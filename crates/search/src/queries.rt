@@ -42,6 +42,20 @@ pub enum Hint {
     Nothing,
 }
 
+impl Hint {
+    ghost use Rattle.std.specs.Prelude.{◌≡◌};
+    ghost use Rattle.search.specs.Need.{span_in};
+
+    pub(crate) fn span(&self) -> Option<Span>
+        ensures { result ≡ span_in self.now }
+    {
+        match self {
+            Hint::Rows(span) => Some(*span),
+            Hint::Nothing => None,
+        }
+    }
+}
+
 /// A letter that was taken, and what is needed to finish it.
 #[derive(Drop)]
 pub struct Task {

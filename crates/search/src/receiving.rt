@@ -1,5 +1,5 @@
 //! How a node receives a letter: what is found, and the letters that it sends.
-ghost use Rattle.std.specs.Prelude.{◌≡◌, ◌<◌, ◌↔◌, ℕ, List, [], length, IsTrue, IfOk, OnOk};
+ghost use Rattle.std.specs.Prelude.{◌≡◌, ◌<◌, ◌↔◌, ℕ, List, [], length, IsTrue, OnOk};
 ghost use Rattle.names.specs.declared.roles.Role.{Role};
 ghost use Rattle.credential_text.specs.declared.exprs.Expr.{Expr};
 ghost use Rattle.vaults.specs.Journal.{credentials};
@@ -7,18 +7,18 @@ ghost use Rattle.cred_graph.specs.GraphState.{IsNode};
 ghost use Rattle.search.specs.Net.{Sent};
 ghost use Rattle.search.specs.Receipt.{Awaits};
 ghost use Rattle.search.specs.Answers.{progress, IsOpenAt, AnswersAsk, Answers};
-ghost use Rattle.search.specs.Need.{rows_for, need_of, right_hint};
+ghost use Rattle.search.specs.Need.{IsSpanFor};
 
 use crate::findings::Findings;
 use crate::hearing::hear_ask;
 use crate::letters::{Held, Load};
 use crate::opening::open;
-use crate::queries::Hint;
 use crate::telling::take_in;
 use cred_graph::{Graph, Port};
 use scholten_core::Parent;
-use snapshots::Snapshot;
+use snapshots::{Snapshot, Span};
 use std::alloc::{AllocError, Global};
+use std::collections::VecDeque;
 
 // Whether the node was asked before: the asked role's by the environment, any other by a listener.
 fn is_open(graph: &Graph, node: u64) -> bool
@@ -44,59 +44,59 @@ fn sender(from: Parent) -> u64
 fn asked(
     alloc: Global,
     found: &mut Findings,
-    outs: &mut Vec<(u64, Load)>,
+    outs: &mut VecDeque<(u64, Load)>,
     snapshot: &Snapshot,
     node: u64,
     asker: u64,
     port: &Port,
-    hint: &Hint,
+    looked_up: Option<Span>,
 ) -> Result<(), AllocError>
     requires node { node < length found.old.graph.nodes }
     requires asker { asker < length found.old.graph.nodes }
-    requires hint { (e : Expr) → IsNode found.old.graph node e → hint.now ≡ right_hint snapshot.now.vaults (rows_for e) }
+    requires span { (e : Expr) → IsNode found.old.graph node e → IsSpanFor snapshot.now.vaults e looked_up }
     ensures { OnOk result (AnswersAsk snapshot.now.vaults (progress found.old.graph found.old.monitors.items outs.old.items)
         (progress found.new.graph found.new.monitors.items outs.new.items) node asker port.now) }
 {
     if is_open(&found.graph, node) {
         return hear_ask(found, outs, node, asker, port);
     }
-    open(alloc, found, outs, snapshot, node, hint)?;
+    open(alloc, found, outs, snapshot, node, looked_up)?;
     hear_ask(found, outs, node, asker, port)
 }
 
-// The receiver of the letter receives it, with what its finisher looked up, and answers what it sends.
+// The receiver of the letter receives it, with the rows that its finisher looked up, and puts what it sends into the list.
 pub(crate) fn receive(
     alloc: Global,
     found: &mut Findings,
+    outs: &mut VecDeque<(u64, Load)>,
     snapshot: &Snapshot,
     held: &Held,
-    hint: &Hint,
-) -> Result<Vec<(u64, Load)>, AllocError>
+    looked_up: Option<Span>,
+) -> Result<(), AllocError>
+    requires none { outs.old.items ≡ [] }
     requires awaits { (role : Role) × (rest : List Sent)
         × Awaits (credentials snapshot.now.vaults) role found.old.graph found.old.monitors.items rest
         held.now.from held.now.to held.now.load }
-    requires hint { (e : Expr) → IsNode found.old.graph held.now.to e
-        → hint.now ≡ right_hint snapshot.now.vaults (need_of e held.now.load) }
-    ensures { IfOk result (λ outs. Answers snapshot.now.vaults (progress found.old.graph found.old.monitors.items [])
-        (progress found.new.graph found.new.monitors.items outs.items) held.now.from held.now.to held.now.load) }
+    requires span { (e : Expr) → IsNode found.old.graph held.now.to e → IsSpanFor snapshot.now.vaults e looked_up }
+    ensures { OnOk result (Answers snapshot.now.vaults (progress found.old.graph found.old.monitors.items [])
+        (progress found.new.graph found.new.monitors.items outs.new.items) held.now.from held.now.to held.now.load) }
 {
-    let mut outs = Vec::new(alloc);
     match held.load {
         Load::Start => {
-            open(alloc, found, &mut outs, snapshot, held.to, hint)?;
-            Ok(outs)
+            open(alloc, found, outs, snapshot, held.to, looked_up)?;
+            Ok(())
         }
         Load::Ask(port) => {
             let asker = sender(held.from);
             asked(
-                alloc, found, &mut outs, snapshot, held.to, asker, &port, hint,
+                alloc, found, outs, snapshot, held.to, asker, &port, looked_up,
             )?;
-            Ok(outs)
+            Ok(())
         }
         Load::Tell(port, who) => {
             let teller = sender(held.from);
-            take_in(alloc, found, &mut outs, held.to, teller, &port, who)?;
-            Ok(outs)
+            take_in(alloc, found, outs, held.to, teller, &port, who)?;
+            Ok(())
         }
     }
 }

@@ -13,7 +13,7 @@ ghost use Rattle.search.specs.Ending.{MaySettle, Nothing, Members, IsAnswered, s
 
 use crate::findings::{Findings, first_findings};
 use crate::hints::{hint_is_right, needed};
-use crate::letters::Load;
+use crate::letters::{Held, Load};
 use crate::members::solutions_in_order;
 use crate::outcomes::{Finished, Status};
 use crate::queries::{Hint, Need, Query, Task};
@@ -25,8 +25,9 @@ use crate::stages::{
 use cred_graph::{Graph, Port};
 use names::Entity;
 use scholten_core::Diffusion;
-use snapshots::Snapshot;
+use snapshots::{Snapshot, Span};
 use std::alloc::{AllocError, Global};
+use std::collections::VecDeque;
 use std::marker::Model;
 use std::sync::Arc;
 
@@ -37,6 +38,8 @@ pub struct Search {
     snapshot: Arc<Snapshot>,
     found: Findings,
     stage: Stage,
+    // What a receiver answers, until it is sent; the list's memory serves each receipt.
+    answers: VecDeque<(u64, Load)>,
     alloc: Global,
 }
 
@@ -78,6 +81,7 @@ impl Drop for Search {
             snapshot: _snapshot,
             found: _found,
             stage: _stage,
+            answers: _answers,
             alloc: _alloc,
         } = self;
     }
@@ -86,8 +90,9 @@ impl Drop for Search {
 impl Search {
     ghost use Rattle.search.specs.Search.{SearchState, IsNew, IsOutstanding, IsCompleted, rows_of, asked_role, net_of};
     ghost use Rattle.search.specs.Search.{SameQuestion, Settles, settled_of};
-    ghost use Rattle.search.specs.Stage.{waiting_in, signals_in, held_in, stage_marked, Delivers};
-    ghost use Rattle.search.specs.Finish.{Takes, Finishes};
+    ghost use Rattle.search.specs.Stage.{HoldsLetter, letter_in, waiting_in, signals_in, held_in, stage_marked, Delivers};
+    ghost use Rattle.search.specs.Need.{IsSpanFor};
+    ghost use Rattle.search.specs.Finish.{Takes, TakesHeld, Receives, Finishes};
     ghost use Rattle.search.specs.Quiet.{IsQuiet, NoneHeld};
 
     /// A search over the snapshot that may send so many letters. One letter, to the asked role, waits.
@@ -109,6 +114,7 @@ impl Search {
             snapshot,
             found,
             stage: Stage::Running(running),
+            answers: VecDeque::new(alloc),
             alloc,
         })
     }
@@ -207,8 +213,43 @@ impl Search {
             wait_again(&mut self.stage, letter);
             return Finished::BadHint;
         }
-        match receive(self.alloc, &mut self.found, &self.snapshot, &held, &hint) {
-            Ok(answers) => send(&mut self.stage, self.work, letter, answers),
+        self.receive_held(letter, &held, hint.span())
+    }
+
+    // Takes the waiting letter at that place, in order of sending: its number, and what it says.
+    pub(crate) fn take_held(&mut self, place: u64) -> Option<(u64, Held)>
+        ensures taken { MatchOption result ((slice_get (waiting_in self.old.stage) place ≡ None) × (self.new ≡ self.old))
+            (λ r. TakesHeld self.old self.new place r.0 r.1) }
+        ensures settles { Settles self.old self.new }
+    {
+        hold(&mut self.stage, place)
+    }
+
+    // The letter in hand is received, and its receiver's answers are sent. Where the rows of a role stand may have been
+    // looked up. Where a growth is refused the search is broken.
+    pub(crate) fn receive_held(
+        &mut self,
+        letter: u64,
+        held: &Held,
+        looked_up: Option<Span>,
+    ) -> Finished
+        requires held { HoldsLetter self.old.stage letter held.now }
+        requires span { (e : Expr) → IsNode self.old.graph held.now.to e → IsSpanFor self.old.snapshot.vaults e looked_up }
+        ensures receives { Receives self.old self.new letter (letter_in held.now) result }
+        ensures settles { Settles self.old self.new }
+    {
+        let _asker = self.snapshot.asker();
+        self.answers.clear();
+        let received = receive(
+            self.alloc,
+            &mut self.found,
+            &mut self.answers,
+            &self.snapshot,
+            held,
+            looked_up,
+        );
+        match received {
+            Ok(()) => send(&mut self.stage, self.work, letter, &mut self.answers),
             Err(_refusal) => {
                 self.stage = Stage::Broken;
                 Finished::Broken

@@ -8,11 +8,12 @@ use crate::letters::Load;
 use cred_graph::Reason;
 use names::Entity;
 use std::alloc::AllocError;
+use std::collections::VecDeque;
 
 // The entity is a solution of the node; where that is new, each listener is told.
 pub(crate) fn solve(
     found: &mut Findings,
-    outs: &mut Vec<(u64, Load)>,
+    outs: &mut VecDeque<(u64, Load)>,
     node: u64,
     who: Entity,
     reason: &Reason,
@@ -27,7 +28,7 @@ pub(crate) fn solve(
     }
     for place in 0..found.graph.listeners(node) {
         let (asker, port) = found.graph.listener(node, place);
-        outs.push((asker, Load::Tell(port, who)))?;
+        outs.push_back((asker, Load::Tell(port, who)))?;
     }
     Ok(())
 }

@@ -8,6 +8,7 @@ ghost use Rattle.search.specs.Search.{IsOutstanding};
 use crate::letters::{Held, Load};
 use crate::outcomes::Finished;
 use scholten_core::Diffusion;
+use std::collections::VecDeque;
 
 /// Where a search stands.
 #[derive(Drop)]
@@ -70,9 +71,14 @@ pub(crate) fn wait_again(stage: &mut Stage, number: u64)
 }
 
 // The held letter of that number is finished, and its receiver sends these, where the work limit allows it.
-pub(crate) fn send(stage: &mut Stage, work: u64, number: u64, outs: Vec<(u64, Load)>) -> Finished
+pub(crate) fn send(
+    stage: &mut Stage,
+    work: u64,
+    number: u64,
+    outs: &mut VecDeque<(u64, Load)>,
+) -> Finished
     requires { (c : Computation Load) × (stage.old ≡ Stage.Running c) × IsHeld c number × (c.sent ≤ work) }
-    ensures { Sends stage.old stage.new work number outs.items result }
+    ensures { Sends stage.old stage.new work number outs.old.items result }
 {
     let Stage::Running(running) = stage else {
         unreachable!()
@@ -81,7 +87,7 @@ pub(crate) fn send(stage: &mut Stage, work: u64, number: u64, outs: Vec<(u64, Lo
         *stage = Stage::Spent;
         return Finished::Spent;
     }
-    match running.finish(number, outs) {
+    match running.finish_with(number, outs) {
         Ok(()) => Finished::Done,
         Err(_refusal) => {
             *stage = Stage::Broken;

@@ -16,6 +16,7 @@ use cred_graph::{Graph, Port, Reason};
 use credential_text::Expr;
 use names::{Entity, Role};
 use std::alloc::{AllocError, Global};
+use std::collections::VecDeque;
 
 // The monitor of a linked role hears a member of its base, and answers whether that is new.
 fn hear_base(monitors: &mut Vec<Monitor>, node: u64, base: Entity) -> Result<bool, AllocError>
@@ -65,7 +66,7 @@ fn given_role(graph: &Graph, node: u64, base: Entity) -> Expr
 fn told_base(
     alloc: Global,
     found: &mut Findings,
-    outs: &mut Vec<(u64, Load)>,
+    outs: &mut VecDeque<(u64, Load)>,
     node: u64,
     base: Entity,
 ) -> Result<(), AllocError>
@@ -84,7 +85,7 @@ fn told_base(
 // An intersection hears that a part told the entity; with the last part it is a solution.
 fn told_part(
     found: &mut Findings,
-    outs: &mut Vec<(u64, Load)>,
+    outs: &mut VecDeque<(u64, Load)>,
     node: u64,
     part: u8,
     who: Entity,
@@ -105,7 +106,7 @@ fn told_part(
 pub(crate) fn take_in(
     alloc: Global,
     found: &mut Findings,
-    outs: &mut Vec<(u64, Load)>,
+    outs: &mut VecDeque<(u64, Load)>,
     node: u64,
     from: u64,
     port: &Port,

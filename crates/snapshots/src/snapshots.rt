@@ -45,8 +45,8 @@ impl Snapshot {
         let owners = book.owners_read_by(who)?;
         let mut vaults = Vec::new(alloc);
         for owner in &owners {
-            let version = book.version_of(*owner)?;
-            hold(&mut vaults, Holding::new(*owner, version))?;
+            let version = book.version_of(owner.name)?;
+            hold(&mut vaults, Holding::new(owner.name, version))?;
         }
         Ok(Snapshot { asker: who, vaults })
     }

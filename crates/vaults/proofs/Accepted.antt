@@ -6,7 +6,7 @@ use Rattle.credential_text.specs.declared.credentials.Credential.{Credential}
 use Rattle.credential_text.specs.Credential.{credential_order}
 use Rattle.names.specs.Name.{is_same}
 use Rattle.vaults.specs.declared.changes.Change.{Change}
-use Rattle.vaults.specs.declared.changes.Change.TheVariants.{Upload, Withdraw, Grant, Revoke}
+use Rattle.vaults.specs.declared.changes.Change.TheVariants.{Upload, Withdraw, Grant, Revoke, GrantAll, RevokeAll}
 use Rattle.vaults.specs.declared.changes.Entry.{Entry}
 use Rattle.vaults.specs.declared.faults.VaultFault.TheVariants.{NotIssuer, AlreadyHeld, NotHeld, AlreadyGranted, NotGranted, GrantSelf}
 use Rattle.vaults.specs.Journal.{moves, concerns, uploads, grants, holds, granted, vault, refusal, AreAccepted}
@@ -50,6 +50,8 @@ issued_by journal who c (Withdraw d) accepted moved =
     ∙ same_from_is_same d.head.owner who (not_refused (is_same d.head.owner who) NotIssuer (cond (holds journal who d) None (Some NotHeld)) accepted)
 issued_by journal who c (Grant reader) accepted moved = cc
 issued_by journal who c (Revoke reader) accepted moved = cc
+issued_by journal who c GrantAll accepted moved = cc
+issued_by journal who c RevokeAll accepted moved = cc
 
 -- and concerns another reader than its tenant
 concerns_another : (journal : List Entry) (who reader : List ℕ) (change : Change) → refusal journal who change ≡ None → concerns reader change ≡ true → is_same reader who ≡ false
@@ -61,6 +63,8 @@ concerns_another journal who reader (Grant other) accepted concerned =
 concerns_another journal who reader (Revoke other) accepted concerned =
     ap (λ (r : List ℕ). is_same r who) (sym (same_from_is_same other reader concerned))
     ∙ not_self_revoked (is_same other who) (granted journal who other) NotGranted accepted
+concerns_another journal who reader GrantAll accepted concerned = cc
+concerns_another journal who reader RevokeAll accepted concerned = cc
 
 pub held_issued : HeldAreIssued
 held_issued journal owner c accepted held =

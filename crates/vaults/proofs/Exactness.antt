@@ -1,20 +1,23 @@
 -- What stands in vaults, in lists of readers and in views.
-use Rattle.std.proofs.Common.{ℕ, Bool, true, false, List, [], ◌∷◌, ◌≡◌, ◌∙◌, ◌||◌, ◌&&◌, sym, ap, refl, filter, map, IsTrue}
+use Rattle.std.proofs.Common.{ℕ, Bool, true, false, List, [], ◌∷◌, ◌≡◌, ◌∙◌, ◌||◌, ◌&&◌, inl, inr, sym, ap, refl, filter, map, IsTrue}
 use Rattle.std.specs.List.{list_any, filter_map, Contains}
 use Rattle.std.specs.List.Sorted.{IsStrictlySortedBy}
 use Rattle.std.specs.Ordering.{eq_by_cmp}
-use Rattle.std.proofs.lemmas.Bool.{and_parts, and_from, and_right}
+use Rattle.std.proofs.lemmas.Bool.{and_parts, and_from, and_right, or_cases}
 use Rattle.std.proofs.lemmas.List.Elements.{filter_agree, All-contains, All-map}
 use Rattle.std.proofs.lemmas.List.Folds.{list_any-append}
 use Rattle.names.specs.Name.{is_same, name_order}
 use Rattle.credential_text.specs.declared.credentials.Credential.{Credential}
 use Rattle.credential_text.specs.Credential.{credential_order}
 use Rattle.vaults.specs.declared.changes.Change.{Change}
-use Rattle.vaults.specs.declared.changes.Change.TheVariants.{Upload, Withdraw, Grant, Revoke}
+use Rattle.vaults.specs.declared.changes.Change.TheVariants.{Upload, Withdraw, Grant, Revoke, GrantAll, RevokeAll}
 use Rattle.vaults.specs.declared.changes.Entry.{Entry}
 use Rattle.vaults.specs.InOrder.{in_order}
-use Rattle.vaults.specs.Journal.{moves, concerns, change_credential, moved_credential, change_reader, named_reader, uploads, grants, entry_is, entries_of, holds, granted, reads, vault, readers, names_read, Vault, vault_record, view, credentials}
-use Rattle.vaults.specs.Laws.{VaultsAreExact, ReadersAreExact, NamesReadAreExact, ViewsAreOfNamesRead, ViewsAreExact, HoldingIsOwn, GrantingIsOwn, VaultsAreOwn, ReadersAreOwn, RefusalsAreOwn}
+use Rattle.vaults.specs.Journal.{moves, concerns, change_credential, moved_credential, change_reader, named_reader, uploads, grants, is_for_all, grants_all, entry_is, entries_of, last_entry, holds, granted, is_public, reads, vault, readers, names_read, Vault, vault_record, view, credentials}
+use Rattle.vaults.specs.Journal.{marked_name_of, marked_names, names_in, marked_record, marked_view, unmarked, seen_of}
+use Rattle.vaults.specs.declared.marks.Seen.{Seen}
+use Rattle.vaults.specs.Laws.{VaultsAreExact, ReadersAreExact, NamesReadAreExact, ViewsAreOfNamesRead, MarksAreExact, MarkedViewsAreExact, ViewsAreExact}
+use Rattle.vaults.specs.Laws.{HoldingIsOwn, GrantingIsOwn, PublishingIsOwn, VaultsAreOwn, ReadersAreOwn, GrantCountsAreOwn, RefusalsAreOwn}
 use Rattle.vaults.proofs.Elements.{has, has-in_order, has-filter, sorted-in_order, has_iff, tied_both_ways}
 use Rattle.names.proofs.SameNames.{is_same_tied, same_from_is_same, is_same_itself}
 use Rattle.vaults.proofs.Orders.{credentials_exact, names_exact}
@@ -29,12 +32,16 @@ moves_named c (Upload d) e = tied_both_ways credentials_exact c d ∙ e
 moves_named c (Withdraw d) e = tied_both_ways credentials_exact c d ∙ e
 moves_named c (Grant reader) e = cc
 moves_named c (Revoke reader) e = cc
+moves_named c GrantAll e = cc
+moves_named c RevokeAll e = cc
 
 concerns_named : (reader : List ℕ) (change : Change) → concerns reader change ≡ true → asked (eq_by_cmp name_order reader) (change_reader change) ≡ true
 concerns_named reader (Upload d) e = cc
 concerns_named reader (Withdraw d) e = cc
 concerns_named reader (Grant other) e = tied_both_ways names_exact reader other ∙ is_same_tied other reader ∙ e
 concerns_named reader (Revoke other) e = tied_both_ways names_exact reader other ∙ is_same_tied other reader ∙ e
+concerns_named reader GrantAll e = cc
+concerns_named reader RevokeAll e = cc
 
 -- the vault has what its owner issues and holds
 pub has-vault : (journal : List Entry) (owner : List ℕ) (c : Credential) → has credential_order (vault journal owner) c ≡ (is_same c.head.owner owner && holds journal owner c)
@@ -74,6 +81,13 @@ read_candidates true g m follows = refl
 read_candidates false true m follows = follows refl
 read_candidates false false m follows = refl
 
+-- an owner whose last entry is of the kind is among the tenants of the journal
+among_tenants : (kind test : Change → Bool) (journal : List Entry) (owner : List ℕ) → entry_is kind (last_entry journal owner test) ≡ true → has name_order (map (λ e. e.tenant) journal) owner ≡ true
+among_tenants kind test journal owner found =
+    list_any-map (eq_by_cmp name_order owner) (λ (e : Entry). e.tenant) journal
+    ∙ list_any_agree (λ (e : Entry). eq_by_cmp name_order owner e.tenant) (λ e. is_same e.tenant owner) (λ e. is_same_tied owner e.tenant ∙ same_either_way owner e.tenant) journal
+    ∙ last_has_tenant kind test journal owner found
+
 -- the names read are those that the reader reads
 pub has-names_read : (journal : List Entry) (reader owner : List ℕ) → has name_order (names_read journal reader) owner ≡ reads journal reader owner
 unfolding names_read
@@ -81,11 +95,11 @@ has-names_read journal reader owner =
     has-in_order names_exact (filter (reads journal reader) (reader ∷ map (λ e. e.tenant) journal)) owner
     ∙ has-filter names_exact (reads journal reader) (reader ∷ map (λ e. e.tenant) journal) owner
     ∙ ap (λ (b : Bool). reads journal reader owner && (b || has name_order (map (λ e. e.tenant) journal) owner)) (is_same_tied owner reader)
-    ∙ read_candidates (is_same owner reader) (granted journal owner reader) (has name_order (map (λ e. e.tenant) journal) owner)
-    (λ given.
-    list_any-map (eq_by_cmp name_order owner) (λ (e : Entry). e.tenant) journal
-    ∙ list_any_agree (λ (e : Entry). eq_by_cmp name_order owner e.tenant) (λ e. is_same e.tenant owner) (λ e. is_same_tied owner e.tenant ∙ same_either_way owner e.tenant) journal
-    ∙ last_has_tenant grants (concerns reader) journal owner given)
+    ∙ read_candidates (is_same owner reader) (granted journal owner reader || is_public journal owner) (has name_order (map (λ e. e.tenant) journal) owner)
+    (λ open_to. elim (or_cases (granted journal owner reader) (is_public journal owner) open_to) [
+      | inl given ↦ among_tenants grants (concerns reader) journal owner given
+      | inr public ↦ among_tenants grants_all is_for_all journal owner public
+    ])
 
 pub sorted-names_read : (journal : List Entry) (reader : List ℕ) → IsStrictlySortedBy name_order (names_read journal reader)
 unfolding names_read
@@ -133,6 +147,30 @@ views_of_names_read journal reader = (
       (All-map (λ (w : Vault). w.rows ≡ vault journal w.owner) (vault_record journal) (names_read journal reader) (λ k d within. refl)) among,
 )
 
+names_again : (journal : List Entry) (names : List (List ℕ)) → names_in (map (marked_name_of journal) names) ≡ names
+names_again journal [] = refl
+names_again journal (name ∷ names) = ap (λ (l : List (List ℕ)). name ∷ l) (names_again journal names)
+
+pub marks_exact : MarksAreExact
+unfolding marked_names
+marks_exact journal reader = (
+  names_again journal (names_read journal reader),
+  λ s among. All-contains (λ (s : Seen). s.to_all ≡ is_public journal s.name) (marked_names journal reader) s
+      (All-map (λ (s : Seen). s.to_all ≡ is_public journal s.name) (marked_name_of journal) (names_read journal reader) (λ k d within. refl)) among,
+)
+
+vaults_again : (journal : List Entry) (names : List (List ℕ)) → unmarked (map (marked_record journal) names) ≡ map (vault_record journal) names
+vaults_again journal [] = refl
+vaults_again journal (name ∷ names) = ap (λ (l : List Vault). vault_record journal name ∷ l) (vaults_again journal names)
+
+marks_again : (journal : List Entry) (names : List (List ℕ)) → map seen_of (map (marked_record journal) names) ≡ map (marked_name_of journal) names
+marks_again journal [] = refl
+marks_again journal (name ∷ names) = ap (λ (l : List Seen). marked_name_of journal name ∷ l) (marks_again journal names)
+
+pub marked_views_exact : MarkedViewsAreExact
+unfolding marked_names view marked_view
+marked_views_exact journal reader = (vaults_again journal (names_read journal reader), marks_again journal (names_read journal reader))
+
 rows_any : (journal : List Entry) (t : Credential → Bool) (names : List (List ℕ)) →
     list_any t (credentials (map (vault_record journal) names)) ≡ list_any (λ name. list_any t (vault journal name)) names
 rows_any journal t [] = refl
@@ -177,6 +215,9 @@ holding_own journal tenant c = ap (entry_is uploads) (last_entry_own journal ten
 pub granting_own : GrantingIsOwn
 granting_own journal tenant reader = ap (entry_is grants) (last_entry_own journal tenant (concerns reader))
 
+pub publishing_own : PublishingIsOwn
+publishing_own journal tenant = ap (entry_is grants_all) (last_entry_own journal tenant is_for_all)
+
 pub vaults_own : VaultsAreOwn
 unfolding vault
 vaults_own journal tenant =
@@ -190,8 +231,13 @@ readers_own journal tenant =
     ap (λ (es : List Entry). in_order name_order (filter (granted (entries_of tenant journal) tenant) (filter_map named_reader es))) (entries_own journal tenant)
     ∙ ap (in_order name_order) (filter_agree (granted (entries_of tenant journal) tenant) (granted journal tenant) (granting_own journal tenant) (filter_map named_reader (entries_of tenant journal)))
 
+pub grant_counts_own : GrantCountsAreOwn
+grant_counts_own journal tenant = rw (readers_own journal tenant, publishing_own journal tenant)
+
 pub refusals_own : RefusalsAreOwn
 refusals_own journal tenant (Upload c) = rw (holding_own journal tenant c)
 refusals_own journal tenant (Withdraw c) = rw (holding_own journal tenant c)
 refusals_own journal tenant (Grant reader) = rw (granting_own journal tenant reader)
 refusals_own journal tenant (Revoke reader) = rw (granting_own journal tenant reader)
+refusals_own journal tenant GrantAll = rw (publishing_own journal tenant)
+refusals_own journal tenant RevokeAll = rw (publishing_own journal tenant)

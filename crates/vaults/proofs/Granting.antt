@@ -1,17 +1,21 @@
--- Who has granted whom, as a book keeps it, and the names that a tenant reads.
-use Rattle.std.proofs.Common.{ℕ, Bool, true, false, cond, not, List, [], ◌∷◌, ◌++◌, ◌≡◌, ◌∙◌, ◌||◌, ◌&&◌, sym, ap, refl, subst, Option, Some, None, unwrap_or}
-use Rattle.std.specs.List.Sorted.{IsStrictlySortedBy}
+-- Who has granted whom and whose vaults are public, as a book keeps it, and the names that a tenant reads.
+use Rattle.std.proofs.Common.{ℕ, Bool, true, false, cond, not, List, [], ◌∷◌, ◌++◌, ◌≡◌, ◌∙◌, ◌||◌, ◌&&◌, sym, ap, refl, subst, map, Option, Some, None, unwrap_or}
+use Rattle.std.specs.List.{AllByRecursion}
 use Rattle.std.specs.BTreeMap.{BTreeMap, get}
 use Rattle.std.specs.BTreeSet.{insert_key}
 use Rattle.std.specs.Ordering.{eq_by_cmp}
+use Rattle.std.proofs.Math.Bool.{or_assoc}
+use Rattle.std.proofs.lemmas.List.Elements.{recursion_from_All}
 use Rattle.names.specs.Name.{is_same, name_order}
 use Rattle.vaults.specs.declared.changes.Change.{Change}
-use Rattle.vaults.specs.declared.changes.Change.TheVariants.{Grant, Revoke}
+use Rattle.vaults.specs.declared.changes.Change.TheVariants.{Grant, Revoke, GrantAll, RevokeAll}
 use Rattle.vaults.specs.declared.changes.Entry.{Entry}
 use Rattle.vaults.specs.declared.faults.VaultFault.TheVariants.{GrantSelf, AlreadyGranted}
 use Rattle.vaults.specs.InOrder.{without}
-use Rattle.vaults.specs.Journal.{concerns, grants, granted, entry_is, last_entry, names_read, refusal}
-use Rattle.vaults.specs.Book.{is_granting, AreGranting, KeepsGrant, SameGranting}
+use Rattle.vaults.specs.declared.marks.Seen.{Seen}
+use Rattle.vaults.specs.Journal.{concerns, grants, granted, is_for_all, grants_all, is_public, entry_is, last_entry, names_read, marked_name_of, marked_names, names_in, refusal}
+use Rattle.vaults.specs.Book.{is_granting, AreGranting, KeepsGrant, SameGranting, is_listed, ArePublic, KeepsPublic, SamePublic}
+use Rattle.vaults.specs.Merge.{AreMerged}
 use Rattle.vaults.proofs.Elements.{has, has-insert_key, has-without, same_in_order, tied_both_ways}
 use Rattle.names.proofs.SameNames.{is_same_tied, same_from_is_same}
 use Rattle.vaults.proofs.Orders.{names_exact}
@@ -89,13 +93,13 @@ granted_first journal who change granting accepted right reader is =
     by false true refused = cc
     by false false accepted = refl
 
--- who is granted after one entry more
-granted_push : (journal : List Entry) (who : List ℕ) (change : Change) (owner reader : List ℕ) →
-    granted (journal ++ record { tenant = who; change = change } ∷ []) owner reader ≡ cond (is_same who owner && concerns reader change) (grants change) (granted journal owner reader)
-granted_push journal who change owner reader =
-    ap (entry_is grants) (last_entry_push journal (record { tenant = who; change = change }) owner (concerns reader)) ∙ by (is_same who owner && concerns reader change)
+-- the answer of the last entry after one entry more
+answer_push : (kind test : Change → Bool) (journal : List Entry) (who : List ℕ) (change : Change) (owner : List ℕ) →
+    entry_is kind (last_entry (journal ++ record { tenant = who; change = change } ∷ []) owner test) ≡ cond (is_same who owner && test change) (kind change) (entry_is kind (last_entry journal owner test))
+answer_push kind test journal who change owner =
+    ap (entry_is kind) (last_entry_push journal (record { tenant = who; change = change }) owner test) ∙ by (is_same who owner && test change)
   where
-    by : (b : Bool) → entry_is grants (cond b (Some (record { tenant = who; change = change })) (last_entry journal owner (concerns reader))) ≡ cond b (grants change) (granted journal owner reader)
+    by : (b : Bool) → entry_is kind (cond b (Some (record { tenant = who; change = change })) (last_entry journal owner test)) ≡ cond b (kind change) (entry_is kind (last_entry journal owner test))
     by true = refl
     by false = refl
 
@@ -104,15 +108,76 @@ pub granting_after : (journal before after : List Entry) (who : List ℕ) (chang
     AreGranting journal old → KeepsGrant who change old new → before ≡ journal → after ≡ before ++ record { tenant = who; change = change } ∷ [] → AreGranting after new
 granting_after journal before after who change old new right keeps same entered =
     subst (λ (j : List Entry). AreGranting j new) (sym (entered ∙ ap (λ (j : List Entry). j ++ record { tenant = who; change = change } ∷ []) same)) (λ owner reader.
-    keeps owner reader ∙ ap (cond (is_same who owner && concerns reader change) (grants change)) (right owner reader) ∙ sym (granted_push journal who change owner reader))
+    keeps owner reader ∙ ap (cond (is_same who owner && concerns reader change) (grants change)) (right owner reader) ∙ sym (answer_push grants (concerns reader) journal who change owner))
 
--- the reader and those that have granted it are the names that it reads
-pub names_from_granting : (journal : List Entry) (who : List ℕ) (granting : BTreeMap (List ℕ) (List (List ℕ))) (was names : List (List ℕ)) → AreGranting journal granting →
-    was ≡ unwrap_or (get name_order granting who) [] → names ≡ insert_key name_order was who → IsStrictlySortedBy name_order names → names ≡ names_read journal who
-names_from_granting journal who granting was names right before after sorted =
-    same_in_order names_exact names (names_read journal who) sorted (sorted-names_read journal who) (λ owner.
-    ap (λ (l : List (List ℕ)). has name_order l owner) after ∙ has-insert_key names_exact was who owner
-    ∙ ap (λ (l : List (List ℕ)). eq_by_cmp name_order owner who || has name_order l owner) before
-    ∙ ap (λ (b : Bool). eq_by_cmp name_order owner who || b) (right owner who)
-    ∙ ap (λ (b : Bool). b || granted journal owner who) (is_same_tied owner who)
-    ∙ sym (has-names_read journal who owner))
+-- with the owner put among the public ones, it is as after public reading is granted
+pub public_added : (who : List ℕ) (change : Change) (old new : List (List ℕ)) → change ≡ GrantAll → new ≡ insert_key name_order old who → KeepsPublic who change old new
+public_added who change old new is after owner =
+    ap (λ (l : List (List ℕ)). has name_order l owner) after ∙ has-insert_key names_exact old who owner
+    ∙ added_then (eq_by_cmp name_order owner who) (has name_order old owner)
+    ∙ ap (λ (e : Bool). cond e true (has name_order old owner)) (tied_both_ways names_exact owner who ∙ is_same_tied who owner)
+    ∙ sym (and_true (is_same who owner) true (has name_order old owner))
+    ∙ ap (λ (c : Change). cond (is_same who owner && is_for_all c) (grants_all c) (has name_order old owner)) (sym is)
+
+-- with the owner taken out of them, it is as after that is revoked
+pub public_dropped : (who : List ℕ) (change : Change) (old new : List (List ℕ)) → change ≡ RevokeAll → new ≡ without name_order who old → KeepsPublic who change old new
+public_dropped who change old new is after owner =
+    ap (λ (l : List (List ℕ)). has name_order l owner) after ∙ has-without names_exact old who owner
+    ∙ dropped_then (eq_by_cmp name_order who owner) (has name_order old owner)
+    ∙ ap (λ (e : Bool). cond e false (has name_order old owner)) (is_same_tied who owner)
+    ∙ sym (and_true (is_same who owner) false (has name_order old owner))
+    ∙ ap (λ (c : Change). cond (is_same who owner && is_for_all c) (grants_all c) (has name_order old owner)) (sym is)
+
+-- an owner that wasn't there, put in and taken out again, changes nothing
+pub public_undone : (who : List ℕ) (old between new : List (List ℕ)) → is_listed old who ≡ false → between ≡ insert_key name_order old who → new ≡ without name_order who between → SamePublic old new
+public_undone who old between new first added dropped owner =
+    public_dropped who RevokeAll between new refl dropped owner
+    ∙ ap (cond (is_same who owner && true) false) (public_added who GrantAll old between refl added owner)
+    ∙ by (is_same who owner) refl
+  where
+    by : (b : Bool) → is_same who owner ≡ b → cond (b && true) false (cond (b && true) true (is_listed old owner)) ≡ is_listed old owner
+    by true same = sym first ∙ ap (is_listed old) (same_from_is_same who owner same)
+    by false apart = refl
+
+-- public reading that is granted wasn't before
+pub public_first : (journal : List Entry) (who : List ℕ) (change : Change) (public : List (List ℕ)) → refusal journal who change ≡ None → ArePublic journal public →
+    change ≡ GrantAll → is_listed public who ≡ false
+public_first journal who change public accepted right is =
+    right who ∙ by (is_public journal who) (subst (λ (x : Change). refusal journal who x ≡ None) is accepted)
+  where
+    by : (b : Bool) → cond b (Some AlreadyGranted) None ≡ None → b ≡ false
+    by true refused = cc
+    by false accepted = refl
+
+pub public_after : (journal before after : List Entry) (who : List ℕ) (change : Change) (old new : List (List ℕ)) →
+    ArePublic journal old → KeepsPublic who change old new → before ≡ journal → after ≡ before ++ record { tenant = who; change = change } ∷ [] → ArePublic after new
+public_after journal before after who change old new right keeps same entered =
+    subst (λ (j : List Entry). ArePublic j new) (sym (entered ∙ ap (λ (j : List Entry). j ++ record { tenant = who; change = change } ∷ []) same)) (λ owner.
+    keeps owner ∙ ap (cond (is_same who owner && is_for_all change) (grants_all change)) (right owner) ∙ sym (answer_push grants_all is_for_all journal who change owner))
+
+-- what is marked where it is listed is marked where its vault is public
+marked_as_public : (journal : List Entry) (public : List (List ℕ)) → ArePublic journal public → (seen : List Seen) → AllByRecursion (λ (s : Seen). s.to_all ≡ is_listed public s.name) seen →
+    seen ≡ map (marked_name_of journal) (names_in seen)
+marked_as_public journal public right [] marked = refl
+marked_as_public journal public right (s ∷ seen) marked =
+    let with_mark : Bool → Seen = λ to_all. record { name = s.name; to_all = to_all } in
+    ap (λ (b : Bool). with_mark b ∷ seen) (marked.0 ∙ right s.name)
+    ∙ ap (λ (l : List Seen). marked_name_of journal s.name ∷ l) (marked_as_public journal public right seen marked.1)
+
+-- the reader and those that have granted it, merged with the public ones, are what it sees
+pub seen_from_merged : (journal : List Entry) (who : List ℕ) (granting : BTreeMap (List ℕ) (List (List ℕ))) (public was names : List (List ℕ)) (seen : List Seen) →
+    AreGranting journal granting → ArePublic journal public → was ≡ unwrap_or (get name_order granting who) [] → names ≡ insert_key name_order was who →
+    AreMerged names public seen → seen ≡ marked_names journal who
+unfolding marked_names
+seen_from_merged journal who granting public was names seen right publicly before after merged =
+    marked_as_public journal public publicly seen (recursion_from_All (λ (s : Seen). s.to_all ≡ is_listed public s.name) seen merged.marked)
+    ∙ ap (map (marked_name_of journal)) (same_in_order names_exact (names_in seen) (names_read journal who) merged.in_order (sorted-names_read journal who) (λ owner.
+    merged.of_both owner
+    ∙ ap (λ (l : List (List ℕ)). has name_order l owner || is_listed public owner) after
+    ∙ ap (λ (b : Bool). b || is_listed public owner) (has-insert_key names_exact was who owner)
+    ∙ ap (λ (l : List (List ℕ)). (eq_by_cmp name_order owner who || has name_order l owner) || is_listed public owner) before
+    ∙ ap (λ (b : Bool). (eq_by_cmp name_order owner who || b) || is_listed public owner) (right owner who)
+    ∙ ap (λ (b : Bool). (eq_by_cmp name_order owner who || granted journal owner who) || b) (publicly owner)
+    ∙ ap (λ (b : Bool). (b || granted journal owner who) || is_public journal owner) (is_same_tied owner who)
+    ∙ or_assoc (is_same owner who) (granted journal owner who) (is_public journal owner)
+    ∙ sym (has-names_read journal who owner)))

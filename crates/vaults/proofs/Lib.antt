@@ -6,4 +6,5 @@ pub mod Accepted
 pub mod Places
 pub mod Steps
 pub mod PageWrites
+pub mod Merging
 pub mod Granting

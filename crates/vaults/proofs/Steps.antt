@@ -9,7 +9,7 @@ use Rattle.names.specs.Name.{is_same, name_order}
 use Rattle.credential_text.specs.declared.credentials.Credential.{Credential}
 use Rattle.credential_text.specs.Credential.{credential_order}
 use Rattle.vaults.specs.declared.changes.Change.{Change}
-use Rattle.vaults.specs.declared.changes.Change.TheVariants.{Upload, Withdraw, Grant, Revoke}
+use Rattle.vaults.specs.declared.changes.Change.TheVariants.{Upload, Withdraw, Grant, Revoke, GrantAll, RevokeAll}
 use Rattle.vaults.specs.declared.changes.Entry.{Entry}
 use Rattle.vaults.specs.declared.faults.VaultFault.TheVariants.{NotIssuer, AlreadyHeld}
 use Rattle.vaults.specs.Journal.{moves, concerns, uploads, grants, entry_is, entries_of, last_entry, holds, granted, vault, readers, refusal}
@@ -42,6 +42,8 @@ sorted-rows_after journal who (Upload c) = sorted-insert_key credentials_exact (
 sorted-rows_after journal who (Withdraw c) = sorted-without credentials_exact (vault journal who) c (sorted-vault journal who)
 sorted-rows_after journal who (Grant reader) = sorted-vault journal who
 sorted-rows_after journal who (Revoke reader) = sorted-vault journal who
+sorted-rows_after journal who GrantAll = sorted-vault journal who
+sorted-rows_after journal who RevokeAll = sorted-vault journal who
 
 issued_then : (s h e : Bool) → (e ≡ true → s ≡ true) → (s && cond e true h) ≡ (e || (s && h))
 issued_then s h true issued = ap (λ (b : Bool). b && true) (issued refl)
@@ -74,6 +76,8 @@ has-rows_after journal who (Withdraw c) accepted x =
     ∙ sym (has-without credentials_exact (vault journal who) c x)
 has-rows_after journal who (Grant reader) accepted x = sym (has-vault journal who x)
 has-rows_after journal who (Revoke reader) accepted x = sym (has-vault journal who x)
+has-rows_after journal who GrantAll accepted x = sym (has-vault journal who x)
+has-rows_after journal who RevokeAll accepted x = sym (has-vault journal who x)
 
 -- an accepted change of the owner and its vault
 vault_push : (journal : List Entry) (who : List ℕ) (change : Change) → refusal journal who change ≡ None →
@@ -91,6 +95,8 @@ sorted-readers_after journal who (Upload c) = sorted-readers journal who
 sorted-readers_after journal who (Withdraw c) = sorted-readers journal who
 sorted-readers_after journal who (Grant reader) = sorted-insert_key names_exact (readers journal who) reader (sorted-readers journal who)
 sorted-readers_after journal who (Revoke reader) = sorted-without names_exact (readers journal who) reader (sorted-readers journal who)
+sorted-readers_after journal who GrantAll = sorted-readers journal who
+sorted-readers_after journal who RevokeAll = sorted-readers journal who
 
 given_then : (h e : Bool) → cond e true h ≡ (e || h)
 given_then h true = refl
@@ -114,6 +120,8 @@ has-readers_after journal who (Revoke reader) x =
     ∙ ap (λ (e : Bool). not e && granted journal who x) (sym (is_same_tied reader x))
     ∙ ap (λ (b : Bool). not (eq_by_cmp name_order reader x) && b) (sym (has-readers journal who x))
     ∙ sym (has-without names_exact (readers journal who) reader x)
+has-readers_after journal who GrantAll x = sym (has-readers journal who x)
+has-readers_after journal who RevokeAll x = sym (has-readers journal who x)
 
 -- a change of the owner and its readers
 readers_push : (journal : List Entry) (who : List ℕ) (change : Change) → readers (journal ++ entry who change ∷ []) who ≡ readers_after change (readers journal who)

@@ -6,7 +6,7 @@ use Rattle.std.specs.BTreeMap.{BTreeMap, get}
 use Rattle.names.specs.Name.{is_same, name_order}
 use Rattle.vaults.specs.declared.changes.Change.{Change}
 use Rattle.vaults.specs.declared.changes.Entry.{Entry}
-use Rattle.vaults.specs.Journal.{concerns, grants, granted, AreAccepted}
+use Rattle.vaults.specs.Journal.{concerns, grants, granted, is_for_all, grants_all, is_public, AreAccepted}
 use Rattle.vaults.specs.Page.{PageState, empty_page, page_of, page_after}
 
 -- each tenant's page is what the journal gives it; a tenant without a page has nothing
@@ -21,11 +21,21 @@ is_granting granting owner reader = list_any (eq_by_cmp name_order owner) (unwra
 abbrev pub AreGranting : List Entry → BTreeMap (List ℕ) (List (List ℕ)) → Type 0
 AreGranting journal granting = (owner reader : List ℕ) → is_granting granting owner reader ≡ granted journal owner reader
 
--- the journal is of accepted changes, and the pages and who has granted whom are what it gives
-pub record IsBook (journal : List Entry) (pages : BTreeMap (List ℕ) PageState) (granting : BTreeMap (List ℕ) (List (List ℕ))) : Type 0 where
+-- whether the owner is kept among those whose vault is public
+abbrev pub is_listed : List (List ℕ) → List ℕ → Bool
+is_listed public owner = list_any (eq_by_cmp name_order owner) public
+
+-- just those are kept whose vault the journal says to be public
+abbrev pub ArePublic : List Entry → List (List ℕ) → Type 0
+ArePublic journal public = (owner : List ℕ) → is_listed public owner ≡ is_public journal owner
+
+-- the journal is of accepted changes, and the pages, who has granted whom and whose vaults are public are what it gives
+pub record IsBook (journal : List Entry) (pages : BTreeMap (List ℕ) PageState) (granting : BTreeMap (List ℕ) (List (List ℕ)))
+    (public : List (List ℕ)) : Type 0 where
   pub accepted : AreAccepted journal
   pub pages_are : ArePages journal pages
   pub granting_are : AreGranting journal granting
+  pub public_are : ArePublic journal public
 
 -- the change is kept on the tenant's page, and every other page is as it was
 abbrev pub KeepsChange : List ℕ → Change → BTreeMap (List ℕ) PageState → BTreeMap (List ℕ) PageState → Type 0
@@ -45,3 +55,12 @@ KeepsGrant who change old new = (owner reader : List ℕ) → is_granting new ow
 -- every reader has the owners that it had
 abbrev pub SameGranting : BTreeMap (List ℕ) (List (List ℕ)) → BTreeMap (List ℕ) (List (List ℕ)) → Type 0
 SameGranting old new = (owner reader : List ℕ) → is_granting new owner reader ≡ is_granting old owner reader
+
+-- where the change is for all readers it is kept of the owner, and every other owner's vault is public or not as it was
+abbrev pub KeepsPublic : List ℕ → Change → List (List ℕ) → List (List ℕ) → Type 0
+KeepsPublic who change old new = (owner : List ℕ) → is_listed new owner
+    ≡ (if is_same who owner && is_for_all change then grants_all change else is_listed old owner)
+
+-- the same vaults are public
+abbrev pub SamePublic : List (List ℕ) → List (List ℕ) → Type 0
+SamePublic old new = (owner : List ℕ) → is_listed new owner ≡ is_listed old owner

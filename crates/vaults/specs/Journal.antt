@@ -1,14 +1,15 @@
 -- What a journal means, as which a book is seen: every question about it is answered by the last entry on its subject.
-use Rattle.std.specs.Prelude.{ℕ, Bool, true, false, not, ◌≡◌, ◌&&◌, ◌||◌, if◌then◌else◌, Option, Some, None}
-use Rattle.std.specs.Prelude.{List, [], ◌∷◌, ◌++◌, map, filter, find, reverse, take}
+use Rattle.std.specs.Prelude.{ℕ, Bool, true, false, not, ◌≡◌, ◌+◌, ◌&&◌, ◌||◌, if◌then◌else◌, Option, Some, None}
+use Rattle.std.specs.Prelude.{List, [], ◌∷◌, ◌++◌, length, map, filter, find, reverse, take}
 use Rattle.std.specs.List.{filter_map, slice_get}
 use Rattle.std.specs.Ordering.{eq_by_cmp}
 use Rattle.names.specs.Name.{is_same, name_order}
 use Rattle.credential_text.specs.declared.credentials.Credential.{Credential}
 use Rattle.credential_text.specs.Credential.{credential_order}
 use Rattle.vaults.specs.declared.changes.Change.{Change}
-use Rattle.vaults.specs.declared.changes.Change.TheVariants.{Upload, Withdraw, Grant, Revoke}
+use Rattle.vaults.specs.declared.changes.Change.TheVariants.{Upload, Withdraw, Grant, Revoke, GrantAll, RevokeAll}
 use Rattle.vaults.specs.declared.changes.Entry.{Entry}
+use Rattle.vaults.specs.declared.marks.Seen.{Seen}
 use Rattle.vaults.specs.declared.faults.VaultFault.{VaultFault}
 use Rattle.vaults.specs.declared.faults.VaultFault.TheVariants.{NotIssuer, AlreadyHeld, NotHeld}
 use Rattle.vaults.specs.declared.faults.VaultFault.TheVariants.{AlreadyGranted, NotGranted, GrantSelf}
@@ -24,13 +25,26 @@ moves c (Upload d) = is_same_credential d c
 moves c (Withdraw d) = is_same_credential d c
 moves c (Grant reader) = false
 moves c (Revoke reader) = false
+moves c GrantAll = false
+moves c RevokeAll = false
 
--- the change grants to the reader or revokes from it
+-- the change grants to the reader or revokes from it; what it does for all readers concerns none of them
 abbrev pub concerns : List ℕ → Change → Bool
 concerns reader (Upload c) = false
 concerns reader (Withdraw c) = false
 concerns reader (Grant other) = is_same other reader
 concerns reader (Revoke other) = is_same other reader
+concerns reader GrantAll = false
+concerns reader RevokeAll = false
+
+-- the change grants to all readers or revokes from all
+abbrev pub is_for_all : Change → Bool
+is_for_all (Upload c) = false
+is_for_all (Withdraw c) = false
+is_for_all (Grant reader) = false
+is_for_all (Revoke reader) = false
+is_for_all GrantAll = true
+is_for_all RevokeAll = true
 
 -- the credential that the change uploads or withdraws
 abbrev pub change_credential : Change → Option Credential
@@ -38,6 +52,8 @@ change_credential (Upload c) = Some c
 change_credential (Withdraw c) = Some c
 change_credential (Grant reader) = None
 change_credential (Revoke reader) = None
+change_credential GrantAll = None
+change_credential RevokeAll = None
 
 abbrev pub moved_credential : Entry → Option Credential
 moved_credential e = change_credential e.change
@@ -48,6 +64,8 @@ change_reader (Upload c) = None
 change_reader (Withdraw c) = None
 change_reader (Grant reader) = Some reader
 change_reader (Revoke reader) = Some reader
+change_reader GrantAll = None
+change_reader RevokeAll = None
 
 abbrev pub named_reader : Entry → Option (List ℕ)
 named_reader e = change_reader e.change
@@ -62,12 +80,24 @@ uploads (Upload c) = true
 uploads (Withdraw c) = false
 uploads (Grant reader) = false
 uploads (Revoke reader) = false
+uploads GrantAll = false
+uploads RevokeAll = false
 
 abbrev pub grants : Change → Bool
 grants (Upload c) = false
 grants (Withdraw c) = false
 grants (Grant reader) = true
 grants (Revoke reader) = false
+grants GrantAll = false
+grants RevokeAll = false
+
+abbrev pub grants_all : Change → Bool
+grants_all (Upload c) = false
+grants_all (Withdraw c) = false
+grants_all (Grant reader) = false
+grants_all (Revoke reader) = false
+grants_all GrantAll = true
+grants_all RevokeAll = false
 
 -- the tenant's own entries, in order
 abbrev pub entries_of : List ℕ → List Entry → List Entry
@@ -85,9 +115,13 @@ holds journal owner c = entry_is uploads (last_entry journal owner (moves c))
 abbrev pub granted : List Entry → List ℕ → List ℕ → Bool
 granted journal owner reader = entry_is grants (last_entry journal owner (concerns reader))
 
--- the reader reads the owner's vault
+-- the owner's last entry that grants to all or revokes from all is a grant
+abbrev pub is_public : List Entry → List ℕ → Bool
+is_public journal owner = entry_is grants_all (last_entry journal owner is_for_all)
+
+-- the reader reads the owner's vault: its own, one that it is granted, or one that is public
 abbrev pub reads : List Entry → List ℕ → List ℕ → Bool
-reads journal reader owner = is_same owner reader || granted journal owner reader
+reads journal reader owner = is_same owner reader || (granted journal owner reader || is_public journal owner)
 
 -- the credentials that the owner issues and holds, in order, each once
 unfoldable pub vault : List Entry → List ℕ → List Credential
@@ -98,9 +132,30 @@ vault journal owner = in_order credential_order
 unfoldable pub readers : List Entry → List ℕ → List (List ℕ)
 readers journal owner = in_order name_order (filter (granted journal owner) (filter_map named_reader (entries_of owner journal)))
 
+-- one where it holds
+abbrev pub one_if : Bool → ℕ
+one_if true = 1
+one_if false = 0
+
+-- how many grants of the owner stand: one for each reader that it has granted, and one for public reading
+abbrev pub grant_count : List Entry → List ℕ → ℕ
+grant_count journal owner = length (readers journal owner) + one_if (is_public journal owner)
+
 -- the names that the reader reads, in order, each once
 unfoldable pub names_read : List Entry → List ℕ → List (List ℕ)
 names_read journal reader = in_order name_order (filter (reads journal reader) (reader ∷ map (λ e. e.tenant) journal))
+
+-- a name that is read, with its mark: whether its vault is public
+abbrev pub marked_name_of : List Entry → List ℕ → Seen
+marked_name_of journal owner = record { name = owner; to_all = is_public journal owner }
+
+-- the names that the reader reads, in order, each with its mark
+unfoldable pub marked_names : List Entry → List ℕ → List Seen
+marked_names journal reader = map (marked_name_of journal) (names_read journal reader)
+
+-- the names alone
+abbrev pub names_in : List Seen → List (List ℕ)
+names_in seen = map (λ s. s.name) seen
 
 -- one owner of a view, with the credentials that it issues and holds
 pub record Vault : Type 0 where
@@ -114,6 +169,27 @@ vault_record journal owner = record { owner = owner; rows = vault journal owner 
 -- what the reader sees: the names that it reads, in order, each with its vault
 unfoldable pub view : List Entry → List ℕ → List Vault
 view journal reader = map (vault_record journal) (names_read journal reader)
+
+-- one owner of a view, with its mark
+pub record Marked : Type 0 where
+  pub vault : Vault
+  pub to_all : Bool
+
+-- an owner with its vault and its mark
+abbrev pub marked_record : List Entry → List ℕ → Marked
+marked_record journal owner = record { vault = vault_record journal owner; to_all = is_public journal owner }
+
+-- what the reader sees, each name with its mark
+unfoldable pub marked_view : List Entry → List ℕ → List Marked
+marked_view journal reader = map (marked_record journal) (names_read journal reader)
+
+-- the view without its marks
+abbrev pub unmarked : List Marked → List Vault
+unmarked vs = map (λ v. v.vault) vs
+
+-- the names of a view, with their marks
+abbrev pub seen_of : Marked → Seen
+seen_of v = record { name = v.vault.owner; to_all = v.to_all }
 
 -- all credentials of a view
 abbrev pub credentials : List Vault → List Credential
@@ -133,6 +209,8 @@ refusal journal who (Grant reader) =
     else (if granted journal who reader then Some AlreadyGranted else None)
 refusal journal who (Revoke reader) =
     if not (is_same reader who) && granted journal who reader then None else Some NotGranted
+refusal journal who GrantAll = if is_public journal who then Some AlreadyGranted else None
+refusal journal who RevokeAll = if is_public journal who then None else Some NotGranted
 
 -- every entry is an accepted change: nothing that stood before it refuses it
 abbrev pub AreAccepted : List Entry → Type 0

@@ -1,14 +1,17 @@
 -- What holds of vaults, readers and views by their definitions alone.
-use Rattle.std.specs.Prelude.{ℕ, List, ◌≡◌, ◌≢◌, ◌↔◌, IsTrue, map}
+use Rattle.std.specs.Prelude.{ℕ, List, [], ◌∷◌, ◌++◌, ◌≡◌, ◌≢◌, ◌↔◌, IsTrue, map}
 use Rattle.std.specs.List.{Contains}
 use Rattle.std.specs.List.Sorted.{IsStrictlySortedBy}
 use Rattle.names.specs.Name.{name_order}
 use Rattle.credential_text.specs.declared.credentials.Credential.{Credential}
 use Rattle.credential_text.specs.Credential.{credential_order}
 use Rattle.vaults.specs.declared.changes.Change.{Change}
+use Rattle.vaults.specs.declared.changes.Change.TheVariants.{Grant, Revoke, GrantAll, RevokeAll}
 use Rattle.vaults.specs.declared.changes.Entry.{Entry}
-use Rattle.vaults.specs.Journal.{entries_of, holds, granted, reads, refusal, AreAccepted}
-use Rattle.vaults.specs.Journal.{vault, readers, names_read, Vault, view, credentials}
+use Rattle.vaults.specs.declared.marks.Seen.{Seen}
+use Rattle.vaults.specs.Journal.{entries_of, holds, granted, is_public, grant_count, reads, refusal, AreAccepted}
+use Rattle.vaults.specs.Journal.{vault, readers, names_read, marked_names, names_in}
+use Rattle.vaults.specs.Journal.{Vault, view, marked_view, unmarked, seen_of, credentials}
 
 -- the list is in the order, each element once, and has exactly what the fact holds of
 pub record ListsInOrder {K : Type 0} (InOrder : List K → Type 0) (P : K → Type 0) (xs : List K) : Type 0 where
@@ -37,6 +40,29 @@ ViewsAreOfNamesRead = (journal : List Entry) (reader : List ℕ) →
     (map (λ v. v.owner) (view journal reader) ≡ names_read journal reader)
     × ((v : Vault) → Contains (view journal reader) v → v.rows ≡ vault journal v.owner)
 
+-- the names seen are the names read, and each mark says whether the vault is public
+abbrev pub MarksAreExact : Type 0
+MarksAreExact = (journal : List Entry) (reader : List ℕ) →
+    (names_in (marked_names journal reader) ≡ names_read journal reader)
+    × ((s : Seen) → Contains (marked_names journal reader) s → s.to_all ≡ is_public journal s.name)
+
+-- a view with its marks is the view and the names seen
+abbrev pub MarkedViewsAreExact : Type 0
+MarkedViewsAreExact = (journal : List Entry) (reader : List ℕ) →
+    (unmarked (marked_view journal reader) ≡ view journal reader) × (map seen_of (marked_view journal reader) ≡ marked_names journal reader)
+
+-- a public vault is read by everybody
+abbrev pub PublicIsRead : Type 0
+PublicIsRead = (journal : List Entry) (reader owner : List ℕ) → IsTrue (is_public journal owner) → IsTrue (reads journal reader owner)
+
+-- a grant to a reader and public reading don't touch one another
+abbrev pub GrantsAreApart : Type 0
+GrantsAreApart = (journal : List Entry) (who owner reader other : List ℕ) →
+    (granted (journal ++ record { tenant = who; change = GrantAll } ∷ []) owner reader ≡ granted journal owner reader)
+    × (granted (journal ++ record { tenant = who; change = RevokeAll } ∷ []) owner reader ≡ granted journal owner reader)
+    × (is_public (journal ++ record { tenant = who; change = Grant other } ∷ []) owner ≡ is_public journal owner)
+    × (is_public (journal ++ record { tenant = who; change = Revoke other } ∷ []) owner ≡ is_public journal owner)
+
 -- the credentials of a view are exactly those that their issuer holds and the reader reads
 abbrev pub ViewsAreExact : Type 0
 ViewsAreExact = (journal : List Entry) (reader : List ℕ) (c : Credential) →
@@ -62,11 +88,17 @@ abbrev pub GrantingIsOwn : Type 0
 GrantingIsOwn = (journal : List Entry) (tenant reader : List ℕ) →
     granted (entries_of tenant journal) tenant reader ≡ granted journal tenant reader
 
+abbrev pub PublishingIsOwn : Type 0
+PublishingIsOwn = (journal : List Entry) (tenant : List ℕ) → is_public (entries_of tenant journal) tenant ≡ is_public journal tenant
+
 abbrev pub VaultsAreOwn : Type 0
 VaultsAreOwn = (journal : List Entry) (tenant : List ℕ) → vault (entries_of tenant journal) tenant ≡ vault journal tenant
 
 abbrev pub ReadersAreOwn : Type 0
 ReadersAreOwn = (journal : List Entry) (tenant : List ℕ) → readers (entries_of tenant journal) tenant ≡ readers journal tenant
+
+abbrev pub GrantCountsAreOwn : Type 0
+GrantCountsAreOwn = (journal : List Entry) (tenant : List ℕ) → grant_count (entries_of tenant journal) tenant ≡ grant_count journal tenant
 
 abbrev pub RefusalsAreOwn : Type 0
 RefusalsAreOwn = (journal : List Entry) (tenant : List ℕ) (change : Change) →

@@ -5,3 +5,4 @@ pub mod Laws
 pub mod Version
 pub mod Page
 pub mod Book
+pub mod Merge

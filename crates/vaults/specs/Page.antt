@@ -5,7 +5,7 @@ use Rattle.names.specs.Name.{name_order}
 use Rattle.credential_text.specs.declared.credentials.Credential.{Credential}
 use Rattle.credential_text.specs.Credential.{credential_order}
 use Rattle.vaults.specs.declared.changes.Change.{Change}
-use Rattle.vaults.specs.declared.changes.Change.TheVariants.{Upload, Withdraw, Grant, Revoke}
+use Rattle.vaults.specs.declared.changes.Change.TheVariants.{Upload, Withdraw, Grant, Revoke, GrantAll, RevokeAll}
 use Rattle.vaults.specs.declared.changes.Entry.{Entry}
 use Rattle.vaults.specs.InOrder.{without}
 use Rattle.vaults.specs.Journal.{entries_of, vault, readers}
@@ -33,6 +33,8 @@ rows_after (Upload c) rows = insert_key credential_order rows c
 rows_after (Withdraw c) rows = without credential_order c rows
 rows_after (Grant reader) rows = rows
 rows_after (Revoke reader) rows = rows
+rows_after GrantAll rows = rows
+rows_after RevokeAll rows = rows
 
 -- the readers after a change
 abbrev pub readers_after : Change → List (List ℕ) → List (List ℕ)
@@ -40,6 +42,8 @@ readers_after (Upload c) readers = readers
 readers_after (Withdraw c) readers = readers
 readers_after (Grant reader) readers = insert_key name_order readers reader
 readers_after (Revoke reader) readers = without name_order reader readers
+readers_after GrantAll readers = readers
+readers_after RevokeAll readers = readers
 
 abbrev pub page_after : Change → PageState → PageState
 page_after change page = record {

@@ -3,14 +3,17 @@ ghost use Rattle.std.specs.Prelude.{false, IfOk, IfErr, OnOk, OnErr};
 ghost use Rattle.std.specs.Vec.{vec_capacity};
 ghost use Rattle.std.specs.BTreeMap.{get};
 ghost use Rattle.names.specs.Name.{name_order};
-ghost use Rattle.vaults.specs.Journal.{entries_of, holds, granted, reads, vault, readers, names_read, refusal, AreAccepted};
+ghost use Rattle.vaults.specs.Journal.{entries_of, holds, granted, is_public, reads, refusal, AreAccepted};
+ghost use Rattle.vaults.specs.Journal.{vault, readers, grant_count, marked_names};
 ghost use Rattle.vaults.specs.Page.{empty_page};
 ghost use Rattle.vaults.specs.Version.{version_rows};
-ghost use Rattle.vaults.specs.Book.{is_granting, KeepsChange, IsUnchanged, KeepsGrant, SameGranting};
-ghost use Rattle.vaults.specs.declared.changes.Change.TheVariants.{Grant, Revoke};
+ghost use Rattle.vaults.specs.Book.{is_granting, is_listed, KeepsChange, IsUnchanged, KeepsGrant, SameGranting, KeepsPublic, SamePublic};
+ghost use Rattle.vaults.specs.declared.changes.Change.TheVariants.{Grant, Revoke, GrantAll};
 
 use crate::changes::{Change, Entry};
 use crate::faults::VaultFault;
+use crate::marks::Seen;
+use crate::merges::merged;
 use crate::name_sets::NameSet;
 use crate::pages::Page;
 use crate::versions::Version;
@@ -22,14 +25,15 @@ use std::marker::Model;
 use std::sync::Arc;
 
 /// The journal of accepted changes, and seen as it. Beside the journal it keeps a page for each tenant with what the
-/// journal gives it, and for each reader those that have granted it, so that no call walks over the journal, nor over
-/// all tenants.
+/// journal gives it, for each reader those that have granted it, and those whose vaults are public, so that no call walks
+/// over the journal, nor over all tenants.
 #[derive(Drop)]
 pub struct Book {
     alloc: Global,
     journal: Vec<Entry>,
     pages: BTreeMap<Entity, Page>,
     granting: BTreeMap<Entity, NameSet>,
+    public: NameSet,
 }
 
 impl Model for Book {
@@ -41,7 +45,7 @@ impl Model for Book {
 
     ghost view = { λ b. b.journal.items };
 
-    ghost invariant = { λ b. IsBook b.journal.items b.pages b.granting };
+    ghost invariant = { λ b. IsBook b.journal.items b.pages b.granting b.public };
 }
 
 impl Book {
@@ -54,12 +58,13 @@ impl Book {
             journal: Vec::new(alloc),
             pages: BTreeMap::new(alloc),
             granting: BTreeMap::new(alloc),
+            public: NameSet::new(alloc),
         }
     }
 
     /// Enters the change of the tenant, and answers how many of its changes were accepted so far. The order of
-    /// refusals: 31 and 32 of an upload, 31 and 33 of a withdrawal, 36 and 34 of a grant, 35 of a revocation, and want
-    /// of memory after these.
+    /// refusals: 31 and 32 of an upload, 31 and 33 of a withdrawal, 36 and 34 of a grant to one reader, 34 of one to all,
+    /// 35 of a revocation, and want of memory after these.
     pub fn change(&mut self, who: Entity, change: Change) -> Result<u64, VaultFault>
         ensures accepted { OnOk result (refusal self.old who change ≡ None) }
         ensures entered { OnOk result (self.new ≡ self.old ++ record { tenant = who; change = change } ∷ []) }
@@ -75,6 +80,7 @@ impl Book {
             self.alloc,
             &mut self.pages,
             &mut self.granting,
+            &mut self.public,
             who,
             &change,
         )?;
@@ -95,6 +101,8 @@ impl Book {
             Change::Revoke(reader) if *reader == *who || !self.grants(who, reader) => {
                 VaultFault::NotGranted
             }
+            Change::GrantAll if self.is_public(who) => VaultFault::AlreadyGranted,
+            Change::RevokeAll if !self.is_public(who) => VaultFault::NotGranted,
             _ => return None,
         };
         Some(fault)
@@ -120,11 +128,18 @@ impl Book {
         }
     }
 
-    /// Whether the tenant reads the owner's vault: its own, and those that it is granted.
+    /// Whether the owner's vault is public.
+    fn is_public(&self, owner: &Entity) -> bool
+        ensures { result ≡ is_public self.now owner.now }
+    {
+        self.public.has(owner)
+    }
+
+    /// Whether the tenant reads the owner's vault: its own, those that it is granted, and those that are public.
     pub fn readable(&self, who: Entity, owner: Entity) -> bool
         ensures { result ≡ reads self.now who owner }
     {
-        owner == who || self.grants(&owner, &who)
+        owner == who || self.grants(&owner, &who) || self.is_public(&owner)
     }
 
     /// The credentials that the tenant issues and holds, in order.
@@ -149,21 +164,36 @@ impl Book {
         }
     }
 
-    /// The names whose vaults the tenant reads, in order, its own among them.
-    pub fn owners_read_by(&self, who: Entity) -> Result<Vec<Entity>, VaultFault>
-        ensures names { IfOk result (λ names. names.items ≡ names_read self.now who) }
+    /// The names whose vaults the tenant reads, in order, its own among them, each with whether its vault is public. Costs
+    /// what the tenant reads, however many tenants there are.
+    pub fn owners_read_by(&self, who: Entity) -> Result<Vec<Seen>, VaultFault>
+        ensures names { IfOk result (λ seen. seen.items ≡ marked_names self.now who) }
         ensures only_memory { IfErr result (λ f. f ≡ VaultFault.Memory) }
     {
         let mut owners = granting_names(self.alloc, &self.granting, &who)?;
         owners.add(&who)?;
-        Ok(owners.into_names())
+        let seen = merged(self.alloc, owners.names(), self.public.names())?;
+        Ok(seen)
     }
 
-    /// How many readers the tenant has granted, itself not counted.
-    pub fn readers_of(&self, who: Entity) -> u64
-        ensures { result ≡ length (readers self.now who) }
+    /// How many grants of the tenant stand: one for each reader, itself not counted, and one where its vault is public.
+    pub fn grants_of(&self, who: Entity) -> u64
+        ensures { result ≡ grant_count self.now who }
     {
-        match self.pages.get(&who) {
+        let readers = self.readers_of(&who);
+        if self.is_public(&who) {
+            readers + 1
+        } else {
+            readers
+        }
+    }
+
+    /// How many readers the tenant has granted.
+    fn readers_of(&self, who: &Entity) -> u64
+        ensures count { result ≡ length (readers self.now who.now) }
+        ensures fits { result < 2 ^ 63 }
+    {
+        match self.pages.get(who) {
             Some(page) => page.readers_len() as u64,
             None => 0,
         }
@@ -195,22 +225,26 @@ impl Book {
     }
 }
 
-/// Keeps the change on the tenant's page and for the reader that it concerns, and answers how many changes stand on the
+/// Keeps the change on the tenant's page and for the readers that it concerns, and answers how many changes stand on the
 /// page.
 fn keep(
     alloc: Global,
     pages: &mut BTreeMap<Entity, Page>,
     granting: &mut BTreeMap<Entity, NameSet>,
+    public: &mut NameSet,
     who: Entity,
     change: &Change,
 ) -> Result<u64, AllocError>
     requires fits { (unwrap_or (get name_order pages.old who) empty_page).changes + 1 < 2 ^ 64 }
     requires first { (reader : List ℕ) → change.now ≡ Grant reader → is_granting granting.old who reader ≡ false }
+    requires first_for_all { change.now ≡ GrantAll → is_listed public.old who ≡ false }
     ensures kept { OnOk result (KeepsChange who change.now pages.old pages.new) }
     ensures grant { OnOk result (KeepsGrant who change.now granting.old granting.new) }
+    ensures public { OnOk result (KeepsPublic who change.now public.old public.new) }
     ensures count { IfOk result (λ n. n ≡ (unwrap_or (get name_order pages.old who) empty_page).changes + 1) }
     ensures unchanged { OnErr result (IsUnchanged pages.old pages.new) }
     ensures same_granting { OnErr result (SameGranting granting.old granting.new) }
+    ensures same_public { OnErr result (SamePublic public.old public.new) }
 {
     match change {
         Change::Grant(reader) => {
@@ -224,6 +258,19 @@ fn keep(
         Change::Revoke(reader) => {
             let count = keep_on_page(alloc, pages, who, change)?;
             drop_granting(granting, who, *reader);
+            Ok(count)
+        }
+        Change::GrantAll => {
+            public.add(&who)?;
+            let counted = keep_on_page(alloc, pages, who, change);
+            if counted.is_err() {
+                public.remove(&who);
+            }
+            counted
+        }
+        Change::RevokeAll => {
+            let count = keep_on_page(alloc, pages, who, change)?;
+            public.remove(&who);
             Ok(count)
         }
         Change::Upload(_) | Change::Withdraw(_) => keep_on_page(alloc, pages, who, change),

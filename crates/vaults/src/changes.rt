@@ -10,8 +10,12 @@ pub enum Change {
     Withdraw(Credential),
     /// The reader may read the tenant's vault from now on.
     Grant(Entity),
-    /// The reader may read the tenant's vault no longer.
+    /// The reader's grant ends.
     Revoke(Entity),
+    /// Every tenant may read the tenant's vault from now on.
+    GrantAll,
+    /// The tenant's vault is public no longer; what it granted single readers stands.
+    RevokeAll,
 }
 
 /// An accepted change and the tenant that made it.

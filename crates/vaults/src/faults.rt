@@ -16,10 +16,10 @@ pub enum VaultFault {
     /// The tenant doesn't hold the credential that it withdraws.
     #[error("not held")]
     NotHeld,
-    /// The reader may read the tenant's vault as it is.
+    /// What the tenant grants, to one reader or to all, stands already.
     #[error("already granted")]
     AlreadyGranted,
-    /// The reader has no grant that could be revoked.
+    /// What the tenant revokes, from one reader or from all, isn't granted.
     #[error("not granted")]
     NotGranted,
     /// The tenant grants itself, who reads its own vault anyway.

@@ -1,6 +1,7 @@
 ghost use Rattle.vaults.specs.Laws.{VaultsAreExact, ReadersAreExact, NamesReadAreExact, ViewsAreOfNamesRead, ViewsAreExact};
-ghost use Rattle.vaults.specs.Laws.{HeldAreIssued, GrantedAreOthers};
-ghost use Rattle.vaults.specs.Laws.{HoldingIsOwn, GrantingIsOwn, VaultsAreOwn, ReadersAreOwn, RefusalsAreOwn};
+ghost use Rattle.vaults.specs.Laws.{MarksAreExact, MarkedViewsAreExact, PublicIsRead, GrantsAreApart, HeldAreIssued, GrantedAreOthers};
+ghost use Rattle.vaults.specs.Laws.{HoldingIsOwn, GrantingIsOwn, PublishingIsOwn};
+ghost use Rattle.vaults.specs.Laws.{VaultsAreOwn, ReadersAreOwn, GrantCountsAreOwn, RefusalsAreOwn};
 
 /// A vault has exactly the credentials that its owner issues and holds, in order, each once; the readers of a vault
 /// are exactly those that its owner granted last, in order, each once.
@@ -17,18 +18,34 @@ pub fn views_are_exact()
     ensures credentials { ViewsAreExact }
 {}
 
+/// What is seen are the names that are read, each marked exactly where its vault is public; a view with its marks is the
+/// view and what is seen; and everybody reads a public vault.
+pub fn marks_are_exact()
+    ensures marks { MarksAreExact }
+    ensures views { MarkedViewsAreExact }
+    ensures public { PublicIsRead }
+{}
+
+/// Public reading, granted or revoked, leaves what single readers are granted as it is; and a grant to one reader, or its
+/// end, leaves a vault public or not as it is.
+pub fn grants_are_apart()
+    ensures { GrantsAreApart }
+{}
+
 /// By accepted changes a tenant holds only what it issues, and grants only others.
 pub fn accepted_changes_are_own()
     ensures holding { HeldAreIssued }
     ensures granting { GrantedAreOthers }
 {}
 
-/// What a tenant holds and grants, its vault, its readers and the refusals of its changes depend on its own entries
-/// alone.
+/// What a tenant holds and grants, whether its vault is public, its vault, its readers, the count of its grants and the
+/// refusals of its changes depend on its own entries alone.
 pub fn own_entries_decide()
     ensures holding { HoldingIsOwn }
     ensures granting { GrantingIsOwn }
+    ensures publishing { PublishingIsOwn }
     ensures vaults { VaultsAreOwn }
     ensures readers { ReadersAreOwn }
+    ensures counts { GrantCountsAreOwn }
     ensures refusals { RefusalsAreOwn }
 {}

@@ -7,6 +7,8 @@ mod books;
 mod changes;
 mod faults;
 mod laws;
+mod marks;
+mod merges;
 mod name_sets;
 mod pages;
 #[cfg(test)]
@@ -16,5 +18,9 @@ mod versions;
 pub use books::Book;
 pub use changes::{Change, Entry};
 pub use faults::VaultFault;
-pub use laws::{accepted_changes_are_own, own_entries_decide, vaults_are_exact, views_are_exact};
+pub use laws::{
+    accepted_changes_are_own, grants_are_apart, marks_are_exact, own_entries_decide,
+    vaults_are_exact, views_are_exact,
+};
+pub use marks::Seen;
 pub use versions::Version;

@@ -1,4 +1,4 @@
-ghost use Rattle.std.specs.Prelude.{◌≡◌, [], length, OnOk, OnErr, IfOk};
+ghost use Rattle.std.specs.Prelude.{◌≡◌, ◌<◌, ◌^◌, [], length, OnOk, OnErr, IfOk};
 ghost use Rattle.std.specs.List.{list_any};
 ghost use Rattle.std.specs.BTreeSet.{insert_key};
 ghost use Rattle.std.specs.Ordering.{eq_by_cmp};
@@ -40,7 +40,8 @@ impl NameSet {
 
     /// How many names there are.
     pub fn len(&self) -> usize
-        ensures { result ≡ length self.now }
+        ensures count { result ≡ length self.now }
+        ensures fits { result < 2 ^ 63 }
     {
         self.names.len()
     }
@@ -80,12 +81,12 @@ impl NameSet {
         Ok(NameSet { names })
     }
 
-    /// The names as a list.
-    pub fn into_names(self) -> Vec<Entity>
-        ensures names { result.items ≡ self }
-        ensures ordered { IsStrictlySortedBy name_order self }
+    /// The names, in order.
+    pub fn names(&self) -> &[Entity]
+        ensures names { result.now ≡ self.now }
+        ensures ordered { IsStrictlySortedBy name_order self.now }
     {
-        self.names
+        &self.names
     }
 }
 

@@ -61,7 +61,8 @@ impl Page {
 
     /// How many readers the tenant has.
     pub fn readers_len(&self) -> usize
-        ensures { result ≡ length self.now.readers }
+        ensures count { result ≡ length self.now.readers }
+        ensures fits { result < 2 ^ 63 }
     {
         self.readers.len()
     }
@@ -101,6 +102,7 @@ impl Page {
             Change::Withdraw(credential) => take_row(&mut self.version, credential)?,
             Change::Grant(reader) => self.readers.add(reader)?,
             Change::Revoke(reader) => self.readers.remove(reader),
+            Change::GrantAll | Change::RevokeAll => {}
         }
         self.changes += 1;
         Ok(())

@@ -1,6 +1,6 @@
 use crate::{
-    Book, Change, VaultFault, accepted_changes_are_own, own_entries_decide, vaults_are_exact,
-    views_are_exact,
+    Book, Change, Seen, VaultFault, accepted_changes_are_own, grants_are_apart, marks_are_exact,
+    own_entries_decide, vaults_are_exact, views_are_exact,
 };
 use credential_text::{Credential, Expr};
 use names::{Entity, Role};
@@ -20,11 +20,13 @@ fn credential(head: &str, body: &str) -> Result<Credential, Fail> {
     Ok(Credential::make(Role::read(head.as_bytes())?, body).ok_or("no credential")?)
 }
 
-/// The change that a word names: `put` and `drop` of a credential, `grant` and `revoke` of a reader.
+/// The change that a word names: `put` and `drop` of a credential, `grant` and `revoke` of a reader, or of all by a star.
 fn change_of(word: &str, name: &str, body: &str) -> Result<Change, Fail> {
     Ok(match word {
         "put" => Change::Upload(credential(name, body)?),
         "drop" => Change::Withdraw(credential(name, body)?),
+        "grant" if name == "*" => Change::GrantAll,
+        "revoke" if name == "*" => Change::RevokeAll,
         "grant" => Change::Grant(entity(name)?),
         _ => Change::Revoke(entity(name)?),
     })
@@ -88,11 +90,23 @@ fn change_in_turn(
     Ok(count)
 }
 
-/// Whether these are the names that the tenant reads, in this order.
+/// A name that is seen: public where a star stands behind it.
+fn seen_of(text: &str) -> Result<Seen, Fail> {
+    let (name, to_all) = match text.strip_suffix("*") {
+        Some(name) => (name, true),
+        None => (text, false),
+    };
+    Ok(Seen {
+        name: entity(name)?,
+        to_all,
+    })
+}
+
+/// Whether these are the names that the tenant reads, in this order, with a star behind those that are public.
 fn reads_names(alloc: Global, book: &Book, who: &str, expected: &[&str]) -> Result<bool, Fail> {
     let mut names = Vec::new(alloc);
-    for name in expected {
-        names.push(entity(name)?)?;
+    for text in expected {
+        names.push(seen_of(text)?)?;
     }
     Ok(book.owners_read_by(entity(who)?)? == names)
 }
@@ -158,7 +172,7 @@ fn a_grant_lets_its_reader_read(rt: HostRuntime) -> Result<(), Fail> {
     assert!(rt; book.readable(a, a));
     assert!(rt; reads_names(rt.alloc(), &book, "B", &["A", "B", "C"])?);
     assert!(rt; reads_names(rt.alloc(), &book, "Z", &["A", "Z"])?);
-    assert_eq!(rt; book.readers_of(a), 2);
+    assert_eq!(rt; book.grants_of(a), 2);
     assert_eq!(rt; book.changes_of(a), 2);
     Ok(())
 }
@@ -174,8 +188,51 @@ fn a_revoked_reader_reads_no_more(rt: HostRuntime) -> Result<(), Fail> {
     assert!(rt; answers(&mut book, &rows)?);
     assert!(rt; !book.readable(entity("B")?, entity("A")?));
     assert!(rt; reads_names(rt.alloc(), &book, "B", &["B", "C"])?);
-    assert_eq!(rt; book.readers_of(entity("A")?), 0);
+    assert_eq!(rt; book.grants_of(entity("A")?), 0);
     assert_eq!(rt; book.changes_of(entity("B")?), 0);
+    Ok(())
+}
+
+#[test]
+fn a_public_vault_is_read_by_all(rt: HostRuntime) -> Result<(), Fail> {
+    let mut book = Book::new(rt.alloc());
+    let rows = [("B", "put", "B.s", "D", 1), ("B", "grant", "*", "", 2)];
+    assert!(rt; answers(&mut book, &rows)?);
+    assert!(rt; reads_names(rt.alloc(), &book, "A", &["A", "B*"])?);
+    assert!(rt; reads_names(rt.alloc(), &book, "B", &["B*"])?);
+    assert!(rt; reads_names(rt.alloc(), &book, "C", &["B*", "C"])?);
+    let rows = [
+        ("B", "grant", "*", "", 34),
+        ("B", "revoke", "A", "", 35),
+        ("B", "grant", "A", "", 3),
+    ];
+    assert!(rt; answers(&mut book, &rows)?);
+    assert_eq!(rt; book.grants_of(entity("B")?), 2);
+    assert!(rt; answers(&mut book, &[("B", "revoke", "A", "", 4)])?);
+    assert!(rt; reads_names(rt.alloc(), &book, "A", &["A", "B*"])?);
+    assert!(rt; answers(&mut book, &[("B", "revoke", "*", "", 5)])?);
+    assert!(rt; reads_names(rt.alloc(), &book, "A", &["A"])?);
+    assert!(rt; answers(&mut book, &[("B", "revoke", "*", "", 35)])?);
+    assert_eq!(rt; book.grants_of(entity("B")?), 0);
+    Ok(())
+}
+
+#[test]
+fn single_grants_and_public_vaults_are_in_order(rt: HostRuntime) -> Result<(), Fail> {
+    let mut book = Book::new(rt.alloc());
+    let rows = [
+        ("F", "grant", "*", "", 1),
+        ("A", "grant", "*", "", 1),
+        ("D", "grant", "*", "", 1),
+        ("B", "grant", "D", "", 1),
+        ("F", "grant", "D", "", 2),
+        ("E", "grant", "D", "", 1),
+    ];
+    assert!(rt; answers(&mut book, &rows)?);
+    assert!(rt; reads_names(rt.alloc(), &book, "D", &["A*", "B", "D*", "E", "F*"])?);
+    assert!(rt; answers(&mut book, &[("F", "revoke", "*", "", 3)])?);
+    assert!(rt; reads_names(rt.alloc(), &book, "D", &["A*", "B", "D*", "E", "F"])?);
+    assert!(rt; reads_names(rt.alloc(), &book, "G", &["A*", "D*", "G"])?);
     Ok(())
 }
 
@@ -219,6 +276,8 @@ fn numbers_and_texts(rt: HostRuntime) -> Result<(), Fail> {
 fn laws() {
     vaults_are_exact();
     views_are_exact();
+    marks_are_exact();
+    grants_are_apart();
     accepted_changes_are_own();
     own_entries_decide();
 }

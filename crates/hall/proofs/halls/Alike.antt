@@ -2,7 +2,7 @@
 use Rattle.std.proofs.Common.{ℕ, List, ◌∷◌, [], ◌++◌, ◌≡◌, ◌∙◌, inl, sym, ap, refl, subst, subst₂}
 use Rattle.vaults.specs.declared.changes.Change.{Change}
 use Rattle.vaults.specs.declared.changes.Entry.{Entry}
-use Rattle.vaults.specs.Journal.{Vault, credentials}
+use Rattle.vaults.specs.Journal.{Vault, Marked, unmarked, credentials}
 use Rattle.quotas.specs.Quota.{Quota}
 use Rattle.search.specs.declared.queries.Query.{Query}
 use Rattle.search.specs.Ending.{Nothing, MaySettle}
@@ -61,9 +61,9 @@ altered_alike limit tenant a b change (Counted n) alike =
     record { work = alike.work; entries = ap (λ (es : List Entry). es ++ record { tenant = tenant; change = change } ∷ []) alike.entries; holder = alike.holder }
 altered_alike limit tenant a b change _ alike = alike
 
-sought_alike : (limit : ℕ) (view : List Vault) (a b : Account) (query : Query) (told : Reply) → AreAlike limit a b → AreAlike limit (sought view a query told) (sought view b query told)
+sought_alike : (limit : ℕ) (view : List Marked) (a b : Account) (query : Query) (told : Reply) → AreAlike limit a b → AreAlike limit (sought view a query told) (sought view b query told)
 sought_alike limit view a b query (Opened n) alike =
-    let opened : Asked = record { query = query; view = view; settled = Nothing } in
+    let opened : Asked = record { query = query; view = unmarked view; settled = Nothing } in
     record {
       work = alike.work;
       entries = alike.entries;
@@ -76,7 +76,7 @@ ended_alike limit a b k Closed alike = record { work = alike.work; entries = ali
 ended_alike limit a b k _ alike = alike
 
 -- the same reply leaves accounts alike
-pub after_alike : (limit : ℕ) (tenant : List ℕ) (view : List Vault) (a b : Account) (q : Request) (told : Reply) → AreAlike limit a b →
+pub after_alike : (limit : ℕ) (tenant : List ℕ) (view : List Marked) (a b : Account) (q : Request) (told : Reply) → AreAlike limit a b →
     AreAlike limit (account_after tenant view a q told) (account_after tenant view b q told)
 after_alike limit tenant view a b (request.Alter change) told alike = altered_alike limit tenant a b change told alike
 after_alike limit tenant view a b (request.Seek query) told alike = sought_alike limit view a b query told alike

@@ -3,12 +3,12 @@ use Rattle.std.proofs.Common.{◌≡◌, ◌∙◌, ◌+◌, ℕ, Bool, true, fa
 use Rattle.std.proofs.Common.{Option, Some, None, option_map, unwrap_or}
 use Rattle.std.proofs.lemmas.List.{length-append}
 use Rattle.vaults.specs.declared.changes.Change.{Change}
-use Rattle.vaults.specs.declared.changes.Change.TheVariants.{Upload, Withdraw, Grant, Revoke}
+use Rattle.vaults.specs.declared.changes.Change.TheVariants.{Upload, Withdraw, Grant, Revoke, GrantAll, RevokeAll}
 use Rattle.vaults.specs.declared.changes.Entry.{Entry}
 use Rattle.vaults.specs.declared.faults.VaultFault.{VaultFault}
 use Rattle.vaults.specs.declared.faults.VaultFault.TheVariants as vault
 use Rattle.names.specs.Name.{is_same}
-use Rattle.vaults.specs.Journal.{entries_of, holds, granted, refusal}
+use Rattle.vaults.specs.Journal.{entries_of, holds, granted, is_public, refusal}
 use Rattle.vaults.proofs.Exactness.{refusals_own}
 use Rattle.vaults.proofs.Steps.{own_entries_push}
 use Rattle.hall.specs.declared.faults.Fault.{Fault}
@@ -44,6 +44,16 @@ never_memory journal who (Grant reader) = by (is_same reader who) (granted journ
     by false true e = cc
     by false false e = cc
 never_memory journal who (Revoke reader) = by (not (is_same reader who) && granted journal who reader)
+  where
+    by : (a : Bool) → option_map vault_fault (cond a None (Some vault.NotGranted)) ≡ Some Memory → ⊥
+    by true e = cc
+    by false e = cc
+never_memory journal who GrantAll = by (is_public journal who)
+  where
+    by : (a : Bool) → option_map vault_fault (cond a (Some vault.AlreadyGranted) None) ≡ Some Memory → ⊥
+    by true e = cc
+    by false e = cc
+never_memory journal who RevokeAll = by (is_public journal who)
   where
     by : (a : Bool) → option_map vault_fault (cond a None (Some vault.NotGranted)) ≡ Some Memory → ⊥
     by true e = cc

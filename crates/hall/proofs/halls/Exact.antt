@@ -3,7 +3,7 @@ use Rattle.std.proofs.Common.{ℕ, Bool, true, false, cond, List, [], ◌∷◌,
 use Rattle.names.specs.Name.{is_same}
 use Rattle.names.proofs.SameNames.{same_from_is_same}
 use Rattle.vaults.specs.declared.changes.Entry.{Entry}
-use Rattle.vaults.specs.Journal.{Vault, view}
+use Rattle.vaults.specs.Journal.{Marked, marked_view}
 use Rattle.hall.specs.declared.faults.Fault.TheVariants.{NoTenant}
 use Rattle.hall.specs.declared.calls.requests.Request.{Request}
 use Rattle.hall.specs.declared.calls.requests.Request.TheVariants.{Poll}
@@ -21,11 +21,11 @@ use Rattle.hall.proofs.halls.Deeds.{done_journal}
 use Rattle.hall.proofs.halls.Timely.{KnowsDeeds, knows_done, knows_none}
 
 -- what a turn does to the account of its tenant, if the tenant has one
-abbrev TurnsTo : List ℕ → List Vault → Deed → Reply → Option Account → Option Account → Type 0
+abbrev TurnsTo : List ℕ → List Marked → Deed → Reply → Option Account → Option Account → Type 0
 TurnsTo tenant v deed told None after = (told ≡ Refused NoTenant) × (after ≡ None)
 TurnsTo tenant v deed told (Some a) after = (b : Account) × (after ≡ Some b) × TurnIsTaken tenant a v deed told b
 
-asked_turn : (tenant : List ℕ) (v : List Vault) (q : Request) (told : Reply) (o after : Option Account) → ServesTo tenant v q told o after → TurnsTo tenant v (asks q) told o after
+asked_turn : (tenant : List ℕ) (v : List Marked) (q : Request) (told : Reply) (o after : Option Account) → ServesTo tenant v q told o after → TurnsTo tenant v (asks q) told o after
 asked_turn tenant v q told None after serves = serves
 asked_turn tenant v q told (Some a) after serves = (account_after tenant v a q told, serves.1, record { may_reply = serves.0; after = refl })
 
@@ -42,9 +42,9 @@ waited_turn old new name k told before knows driven =
     by (Some a) (Some b) both serves = (b, refl, (both, serves.0, driven.answers (knows.free name k)))
 
 turn_own : (old new : HallState) (name : List ℕ) (deed : Deed) (told : Reply) (before : List Done) → KnowsDeeds before old → CarriesOut old name deed told new →
-    TurnsTo name (sight (view old.journal name) (request_of deed)) deed told (account_of old name) (account_of new name)
+    TurnsTo name (sight (marked_view old.journal name) (request_of deed)) deed told (account_of old name) (account_of new name)
 turn_own old new name (asks q) told before knows served =
-    asked_turn name (sight (view old.journal name) q) q told (account_of old name) (account_of new name) (serves_own old new name q told knows.sound served)
+    asked_turn name (sight (marked_view old.journal name) q) q told (account_of old name) (account_of new name) (serves_own old new name q told knows.sound served)
 turn_own old new name (waits k) told before knows driven = waited_turn old new name k told before knows driven
 
 turn_other : (old new : HallState) (name tenant : List ℕ) (deed : Deed) (told : Reply) (before : List Done) → KnowsDeeds before old → CarriesOut old name deed told new → is_same name tenant ≡ false →
@@ -53,7 +53,7 @@ turn_other old new name tenant (asks q) told before knows served apart = ap (λ 
 turn_other old new name tenant (waits k) told before knows driven apart = (driven_drives old new name k told knows.sound driven).others tenant apart
 
 -- a run that begins with a turn of the tenant
-exact_own : (tenant : List ℕ) (v : List Vault) (deed : Deed) (told : Reply) (o after end : Option Account) (more : List Turn) (replies : List Reply) → TurnsTo tenant v deed told o after →
+exact_own : (tenant : List ℕ) (v : List Marked) (deed : Deed) (told : Reply) (o after end : Option Account) (more : List Turn) (replies : List Reply) → TurnsTo tenant v deed told o after →
     IsExactRun tenant after more replies end → IsExactRun tenant o (record { view = v; deed = deed } ∷ more) (told ∷ replies) end
 exact_own tenant v deed told None after end more replies turn run =
     let rest : IsExactRun tenant None more replies end = subst (λ (x : Option Account). IsExactRun tenant x more replies end) turn.1 run in
@@ -65,11 +65,11 @@ exact_own tenant v deed told (Some a) after end more replies (b, is, taken) run 
 -- one deed more at the start of a run
 exact_first : (tenant : List ℕ) (old middle new : HallState) (d : Done) (before : List Done) (more : List Turn) (replies : List Reply) → KnowsDeeds before old →
     CarriesOut old d.tenant d.deed d.reply middle → IsExactRun tenant (account_of middle tenant) more replies (account_of new tenant) → (own : Bool) → is_same d.tenant tenant ≡ own →
-    IsExactRun tenant (account_of old tenant) (cond own (record { view = sight (view old.journal tenant) (request_of d.deed); deed = d.deed } ∷ []) [] ++ more) (cond own (d.reply ∷ []) [] ++ replies)
+    IsExactRun tenant (account_of old tenant) (cond own (record { view = sight (marked_view old.journal tenant) (request_of d.deed); deed = d.deed } ∷ []) [] ++ more) (cond own (d.reply ∷ []) [] ++ replies)
     (account_of new tenant)
 exact_first tenant old middle new d before more replies knows carried rest true same =
-    exact_own tenant (sight (view old.journal tenant) (request_of d.deed)) d.deed d.reply (account_of old tenant) (account_of middle tenant) (account_of new tenant) more replies
-    (subst (λ (n : List ℕ). TurnsTo n (sight (view old.journal n) (request_of d.deed)) d.deed d.reply (account_of old n) (account_of middle n)) (same_from_is_same d.tenant tenant same)
+    exact_own tenant (sight (marked_view old.journal tenant) (request_of d.deed)) d.deed d.reply (account_of old tenant) (account_of middle tenant) (account_of new tenant) more replies
+    (subst (λ (n : List ℕ). TurnsTo n (sight (marked_view old.journal n) (request_of d.deed)) d.deed d.reply (account_of old n) (account_of middle n)) (same_from_is_same d.tenant tenant same)
     (turn_own old middle d.tenant d.deed d.reply before knows carried)) rest
 exact_first tenant old middle new d before more replies knows carried rest false apart =
     subst (λ (o : Option Account). IsExactRun tenant o more replies (account_of new tenant)) (turn_other old middle d.tenant tenant d.deed d.reply before knows carried apart) rest

@@ -2,7 +2,7 @@
 use Rattle.std.proofs.Common.{ℕ, List, [], ◌∷◌, map, ◌≡◌, ◌≢◌, ◌∙◌, inl, inr, sym, ap, refl, subst, subst₂, not, Option, Some, None, option_map}
 use Rattle.std.specs.List.{AllZip, AllByRecursion}
 use Rattle.vaults.specs.declared.changes.Entry.{Entry}
-use Rattle.vaults.specs.Journal.{Vault, credentials}
+use Rattle.vaults.specs.Journal.{Vault, Marked, unmarked, credentials}
 use Rattle.search.specs.Ending.{Settled, Nothing, Broken, IsEnding, MaySettle, asked_role}
 use Rattle.proof_trees.proofs.Soundness.{sound as proved_member}
 use Rattle.hall.specs.declared.faults.Fault.TheVariants.{Memory}
@@ -59,12 +59,12 @@ honest_account h name a sound is = by (tenant_named name h.tenants) refl is
         same_one = cc
 
 -- a request keeps an account honest
-honest_after : (limit : ℕ) (tenant : List ℕ) (view : List Vault) (a : Account) (q : Request) (told : Reply) → IsHonest limit a → IsHonest limit (account_after tenant view a q told)
+honest_after : (limit : ℕ) (tenant : List ℕ) (view : List Marked) (a : Account) (q : Request) (told : Reply) → IsHonest limit a → IsHonest limit (account_after tenant view a q told)
 honest_after limit tenant view a (request.Alter change) (Counted n) honest = record { work = honest.work; searches = honest.searches }
 honest_after limit tenant view a (request.Alter change) told honest = honest
 honest_after limit tenant view a (request.Seek query) (Opened n) honest = record {
   work = honest.work;
-  searches = all_pushed (λ (s : Numbered Asked). IsHonestSearch limit s.of) a.holder.searches (record { number = n; of = record { query = query; view = view; settled = Nothing } }) honest.searches (inl refl);
+  searches = all_pushed (λ (s : Numbered Asked). IsHonestSearch limit s.of) a.holder.searches (record { number = n; of = record { query = query; view = unmarked view; settled = Nothing } }) honest.searches (inl refl);
 }
 honest_after limit tenant view a (request.Seek query) told honest = honest
 honest_after limit tenant view a (request.Poll k) told honest = honest
@@ -110,11 +110,11 @@ proofs_same None who told other e f = same_told told other (e ∙ sym f)
 proofs_same (Some s) who told other may might = proved_same s who told other may might
 
 -- what the account says of a request, and what that leaves
-both_same : (tenant : List ℕ) (view : List Vault) (a : Account) (q : Request) (told other : Reply) → told ≡ other →
+both_same : (tenant : List ℕ) (view : List Marked) (a : Account) (q : Request) (told other : Reply) → told ≡ other →
     IsSameTold told other × (account_after tenant view a q told ≡ account_after tenant view a q other)
 both_same tenant view a q told other e = (same_told told other e, ap (account_after tenant view a q) e)
 
-replies_same : (tenant : List ℕ) (view : List Vault) (a : Account) (q : Request) (told other : Reply) → IsReply tenant view a q told → IsReply tenant view a q other →
+replies_same : (tenant : List ℕ) (view : List Marked) (a : Account) (q : Request) (told other : Reply) → IsReply tenant view a q told → IsReply tenant view a q other →
     IsSameTold told other × (account_after tenant view a q told ≡ account_after tenant view a q other)
 replies_same tenant view a (request.Alter change) told other e f = both_same tenant view a (request.Alter change) told other (e ∙ sym f)
 replies_same tenant view a (request.Seek query) told other e f = both_same tenant view a (request.Seek query) told other (e ∙ sym f)
@@ -130,7 +130,7 @@ record IsTold (told : Reply) : Type 0 where
   whole : told ≢ Answered answer.Broken
   answered : told ≢ Answered answer.Working
 
-ended : (limit k : ℕ) (tenant : List ℕ) (view : List Vault) (a b : Account) (s : Asked) (settled : Settled) (told : Reply) → IsHonest limit a → search_in k a.holder ≡ Some s →
+ended : (limit k : ℕ) (tenant : List ℕ) (view : List Marked) (a b : Account) (s : Asked) (settled : Settled) (told : Reply) → IsHonest limit a → search_in k a.holder ≡ Some s →
     MaySettle a.holder.limits.work (credentials s.view) s.query s.settled settled → b ≡ record a { holder = going_on k (record s { settled = settled }) a.holder } →
     MayReply tenant view b (request.Poll k) told → IsTold told → IsEnding limit (credentials s.view) s.query settled × (settled ≢ Broken)
 ended limit k tenant view a b s settled told honest at may is reply fine = (
@@ -148,7 +148,7 @@ ended limit k tenant view a b s settled told honest at may is reply fine = (
     by (inl nothing) = absurd (fine.answered (says ∙ ap (λ (x : Settled). Answered (answer_of x)) nothing))
     by (inr end) = end.1
 
-waits_same : (limit k : ℕ) (tenant : List ℕ) (view : List Vault) (a b c : Account) (told other : Reply) → IsHonest limit a → SettlesAt a k b → SettlesAt a k c →
+waits_same : (limit k : ℕ) (tenant : List ℕ) (view : List Marked) (a b c : Account) (told other : Reply) → IsHonest limit a → SettlesAt a k b → SettlesAt a k c →
     MayReply tenant view b (request.Poll k) told → MayReply tenant view c (request.Poll k) other → IsTold told → IsTold other → b ≡ c
 waits_same limit k tenant view a b c told other honest settles also reply more fine intact = by (search_in k a.holder) refl settles also
   where
@@ -161,7 +161,7 @@ waits_same limit k tenant view a b c told other honest settles also reply more f
         (ending_unique limit (credentials s.view) s.query first second one.0 two.0 one.1 two.1) ∙ sym are
 
 -- two turns from one account
-turns_same : (limit : ℕ) (tenant : List ℕ) (view : List Vault) (deed : Deed) (a b c : Account) (told other : Reply) → IsHonest limit a →
+turns_same : (limit : ℕ) (tenant : List ℕ) (view : List Marked) (deed : Deed) (a b c : Account) (told other : Reply) → IsHonest limit a →
     TurnIsTaken tenant a view deed told b → TurnIsTaken tenant a view deed other c → (told ≢ Refused Memory) × (told ≢ Answered answer.Broken) →
     (other ≢ Refused Memory) × (other ≢ Answered answer.Broken) → IsSameTold told other × (b ≡ c) × IsHonest limit b
 turns_same limit tenant view (asks q) a b c told other honest first second whole intact =

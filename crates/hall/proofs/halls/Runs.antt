@@ -5,7 +5,7 @@ use Rattle.names.specs.Name.{is_same}
 use Rattle.names.proofs.SameNames.{same_from_is_same}
 use Rattle.quotas.specs.Quota.{Quota}
 use Rattle.vaults.specs.declared.changes.Entry.{Entry}
-use Rattle.vaults.specs.Journal.{view, credentials, Vault}
+use Rattle.vaults.specs.Journal.{marked_view, credentials, Vault, Marked}
 use Rattle.search.specs.declared.queries.Query.{Query}
 use Rattle.search.specs.Ending.{MaySettle}
 use Rattle.hall.specs.declared.calls.requests.Request.{Request}
@@ -61,7 +61,7 @@ allowed_end tenant None = (tt, refl)
 allowed_end tenant (Some a) = (a, refl, waits_itself a)
 
 -- a run may begin with a request of the tenant
-allowed_first : (tenant : List ℕ) (v : List Vault) (q : Request) (told : Reply) (o after : Option Account) (moments : List Moment) (replies : List Reply) (end : Option Account) →
+allowed_first : (tenant : List ℕ) (v : List Marked) (q : Request) (told : Reply) (o after : Option Account) (moments : List Moment) (replies : List Reply) (end : Option Account) →
     ServesTo tenant v q told o after → IsAllowedRun tenant after moments replies end → IsAllowedRun tenant o (record { view = v; request = q } ∷ moments) (told ∷ replies) end
 allowed_first tenant v q told None after moments replies end serves run =
     let rest : IsAllowedRun tenant None moments replies end = subst (λ (x : Option Account). IsAllowedRun tenant x moments replies end) serves.1 run in
@@ -90,9 +90,9 @@ journal_grows old new (event.Step made) told (answer, is, stepped) = stepped_jou
 -- one request more at the start of a run
 request_first : (tenant : List ℕ) (old after new : HallState) (name : List ℕ) (q : Request) (told : Reply) (moments : List Moment) (replies : List Reply) → IsSound old →
     IsServed old name q told after → IsAllowedRun tenant (account_of after tenant) moments replies (account_of new tenant) → (own : Bool) → is_same name tenant ≡ own →
-    IsAllowedRun tenant (account_of old tenant) (cond own (record { view = sight (view old.journal tenant) q; request = q } ∷ []) [] ++ moments) (cond own (told ∷ []) [] ++ replies) (account_of new tenant)
+    IsAllowedRun tenant (account_of old tenant) (cond own (record { view = sight (marked_view old.journal tenant) q; request = q } ∷ []) [] ++ moments) (cond own (told ∷ []) [] ++ replies) (account_of new tenant)
 request_first tenant old after new name q told moments replies sound served rest true same =
-    allowed_first tenant (sight (view old.journal tenant) q) q told (account_of old tenant) (account_of after tenant) moments replies (account_of new tenant)
+    allowed_first tenant (sight (marked_view old.journal tenant) q) q told (account_of old tenant) (account_of after tenant) moments replies (account_of new tenant)
     (serves_own old after tenant q told sound (subst (λ (n : List ℕ). IsServed old n q told after) (same_from_is_same name tenant same) served)) rest
 request_first tenant old after new name q told moments replies sound served rest false apart =
     subst (λ (o : Option Account). IsAllowedRun tenant o moments replies (account_of new tenant))

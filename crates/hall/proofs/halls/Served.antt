@@ -1,6 +1,6 @@
 -- A reply that the account gives serves the request.
 use Rattle.std.proofs.Common.{◌≡◌, ℕ, List, ap, sym, refl, subst, inl, inr, Option, Some, None, unwrap_or}
-use Rattle.vaults.specs.Journal.{view}
+use Rattle.vaults.specs.Journal.{marked_view}
 use Rattle.hall.specs.declared.faults.Fault.{Fault}
 use Rattle.hall.specs.declared.faults.Fault.TheVariants.{NoTenant, Memory}
 use Rattle.hall.specs.declared.calls.requests.Request.{Request}
@@ -26,11 +26,11 @@ module _ (h : HallState) (who : List ℕ) (q : Request) where
   nobody_served none = record { may_reply = subst (λ (o : Option Account). MayReplyTo h who o q (Refused NoTenant)) (sym none) refl; after = refused_after h who q NoTenant }
 
   module _ (a : Account) (known : account_of h who ≡ Some a) where
-    pub told_served : (told : Reply) (new : HallState) → IsReply who (view h.journal who) a q told → new ≡ hall_after h who q told → IsServed h who q told new
+    pub told_served : (told : Reply) (new : HallState) → IsReply who (marked_view h.journal who) a q told → new ≡ hall_after h who q told → IsServed h who q told new
     told_served told new is after = record { may_reply = subst (λ (o : Option Account). MayReplyTo h who o q told) (sym known) (inl is); after = after }
 
     -- the request's own refusal
-    pub due_served : (f : Fault) → IsReply who (view h.journal who) a q (Refused f) → IsServed h who q (Refused f) h
+    pub due_served : (f : Fault) → IsReply who (marked_view h.journal who) a q (Refused f) → IsServed h who q (Refused f) h
     due_served f is = told_served (Refused f) h is (refused_after h who q f)
 
     pub lacks_served : MayLackMemory q → IsServed h who q (Refused Memory) h
@@ -40,13 +40,13 @@ module _ (h : HallState) (who : List ℕ) (q : Request) where
     }
 
     -- the request's own refusal, or want of memory where there is none
-    pub refused_served : (o : Option Fault) (told : Reply) (f : Fault) → ((r : Reply) → r ≡ unless_refused o told → IsReply who (view h.journal who) a q r) →
+    pub refused_served : (o : Option Fault) (told : Reply) (f : Fault) → ((r : Reply) → r ≡ unless_refused o told → IsReply who (marked_view h.journal who) a q r) →
         MayLackMemory q → f ≡ unwrap_or o Memory → IsServed h who q (Refused f) h
     refused_served None told f is lacks last = subst (λ (g : Fault). IsServed h who q (Refused g) h) (sym last) (lacks_served lacks)
     refused_served (Some g) told f is lacks last = due_served f (is (Refused f) (ap Refused last))
 
     -- and then want of memory comes last
-    pub memory_last : (o : Option Fault) (told reply : Reply) → ((r : Reply) → IsReply who (view h.journal who) a q r → r ≡ unless_refused o told) → (o ≡ Some Memory → ⊥) →
+    pub memory_last : (o : Option Fault) (told reply : Reply) → ((r : Reply) → IsReply who (marked_view h.journal who) a q r → r ≡ unless_refused o told) → (o ≡ Some Memory → ⊥) →
         ((f : Fault) → told ≡ Refused f → ⊥) → ((f : Fault) → reply ≡ Refused f → f ≡ unwrap_or o Memory) → RefusedLast h who q reply
     memory_last o told reply is never other last lacked f due =
         by o never (last Memory lacked) (sym (is (Refused f) (subst (λ (b : Option Account). IsDue h who b q f) known due)))

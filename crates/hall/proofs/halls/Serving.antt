@@ -5,8 +5,9 @@ use Rattle.std.proofs.lemmas.List.{take-append-le, take_all}
 use Rattle.names.specs.Name.{is_same}
 use Rattle.names.proofs.SameNames.{same_from_is_same, is_same_itself}
 use Rattle.vaults.specs.declared.changes.Entry.{Entry}
-use Rattle.vaults.specs.Journal.{entries_of, view, credentials, Vault}
+use Rattle.vaults.specs.Journal.{entries_of, view, credentials, Vault, Marked, marked_view, unmarked}
 use Rattle.vaults.proofs.LastEntries.{entries_push}
+use Rattle.vaults.proofs.Exactness.{marked_views_exact}
 use Rattle.search.specs.declared.queries.Query.{Query}
 use Rattle.search.specs.Ending.{Nothing, MaySettle}
 use Rattle.search.specs.Search.{SearchState}
@@ -72,17 +73,20 @@ seen_beginning journal name query work own is =
     let viewed : view (take (length journal) journal) own ≡ view journal name = ap (λ (j : List Entry). view j own) (take_all (length journal) journal (le_refl (length journal))) ∙ ap (view journal) is in
     λ i. record { query = query; view = viewed i; settled = nothing_yet name (view journal name) query work i }
 
+-- the account keeps the view, and no mark
 account_opening : (journal : List Entry) (name : List ℕ) (query : Query) (n : ℕ) (t : Tenant) → t.name ≡ name →
     account journal (record { name = t.name; holder = starting journal name query n t.holder })
-    ≡ record (account journal t) { holder = opening n (record { query = query; view = view journal name; settled = Nothing }) (map_holder (seen journal t.name) t.holder) }
+    ≡ record (account journal t) { holder = opening n (record { query = query; view = unmarked (marked_view journal name); settled = Nothing }) (map_holder (seen journal t.name) t.holder) }
 account_opening journal name query n t is =
     ap (λ (h : Holder Asked). record (account journal t) { holder = h })
     (opening_mapped (seen journal t.name) n (beginning journal name query t.holder.limits.work) t.holder
-    ∙ ap (λ (a : Asked). opening n a (map_holder (seen journal t.name) t.holder)) (seen_beginning journal name query t.holder.limits.work t.name is))
+    ∙ ap (λ (a : Asked). opening n a (map_holder (seen journal t.name) t.holder))
+    (seen_beginning journal name query t.holder.limits.work t.name is
+    ∙ ap (λ (v : List Vault). record { query = query; view = v; settled = Nothing }) (sym (marked_views_exact journal name).0)))
 
 -- a tenant's request leaves its account as the account's own definition says
 own_after : (h : HallState) (name : List ℕ) (q : Request) (told : Reply) (t : Tenant) → IsSoundTenant h.journal t → tenant_named name h.tenants ≡ Some t → t.name ≡ name →
-    account_of (hall_after h name q told) name ≡ Some (account_after name (view h.journal name) (account h.journal t) q told)
+    account_of (hall_after h name q told) name ≡ Some (account_after name (marked_view h.journal name) (account h.journal t) q told)
 own_after h name (request.Alter change) (Counted n) t sound found is =
     ap (option_map (account (h.journal ++ record { tenant = name; change = change } ∷ []))) found
     ∙ ap Some (account_with h.journal (record { tenant = name; change = change }) t sound is)
@@ -133,7 +137,7 @@ refused_stays h name request.Sees = refl
 refused_stays h name (request.Proof k who) = refl
 
 -- a request looks at no more of the view than its sight
-reply_by_sight : (tenant : List ℕ) (v : List Vault) (a : Account) (q : Request) (told : Reply) → MayReply tenant v a q told → MayReply tenant (sight v q) a q told
+reply_by_sight : (tenant : List ℕ) (v : List Marked) (a : Account) (q : Request) (told : Reply) → MayReply tenant v a q told → MayReply tenant (sight v q) a q told
 reply_by_sight tenant v a (request.Alter change) told may = may
 reply_by_sight tenant v a (request.Seek query) told may = may
 reply_by_sight tenant v a (request.Poll k) told may = may
@@ -142,7 +146,7 @@ reply_by_sight tenant v a request.Vault told may = may
 reply_by_sight tenant v a request.Sees told may = may
 reply_by_sight tenant v a (request.Proof k who) told may = may
 
-after_by_sight : (tenant : List ℕ) (v : List Vault) (a : Account) (q : Request) (told : Reply) → account_after tenant v a q told ≡ account_after tenant (sight v q) a q told
+after_by_sight : (tenant : List ℕ) (v : List Marked) (a : Account) (q : Request) (told : Reply) → account_after tenant v a q told ≡ account_after tenant (sight v q) a q told
 after_by_sight tenant v a (request.Alter change) told = refl
 after_by_sight tenant v a (request.Seek query) told = refl
 after_by_sight tenant v a (request.Poll k) told = refl
@@ -152,25 +156,25 @@ after_by_sight tenant v a request.Sees told = refl
 after_by_sight tenant v a (request.Proof k who) told = refl
 
 -- what a request does to the account of its tenant, if the tenant has one, by what it looks at
-abbrev pub ServesTo : List ℕ → List Vault → Request → Reply → Option Account → Option Account → Type 0
+abbrev pub ServesTo : List ℕ → List Marked → Request → Reply → Option Account → Option Account → Type 0
 ServesTo name v q told None after = (told ≡ Refused NoTenant) × (after ≡ None)
 ServesTo name v q told (Some a) after = MayReply name v a q told × (after ≡ Some (account_after name v a q told))
 
 serves_found : (h : HallState) (name : List ℕ) (q : Request) (told : Reply) (o : Option Tenant) → IsSound h → tenant_named name h.tenants ≡ o →
     MayReplyTo h name (option_map (account h.journal) o) q told →
-    ServesTo name (sight (view h.journal name) q) q told (option_map (account h.journal) o) (account_of (hall_after h name q told) name)
+    ServesTo name (sight (marked_view h.journal name) q) q told (option_map (account h.journal) o) (account_of (hall_after h name q told) name)
 serves_found h name q told None sound is may =
     (may, ap (λ (r : Reply). account_of (hall_after h name q r) name) may ∙ ap (λ (g : HallState). account_of g name) (refused_stays h name q) ∙ ap (option_map (account h.journal)) is)
 serves_found h name q told (Some t) sound is may =
     let this : IsSoundTenant h.journal t × (t.name ≡ name) = found_tenant (IsSoundTenant h.journal) name h.tenants sound.tenants t is in (
-      reply_by_sight name (view h.journal name) (account h.journal t) q told may,
-      own_after h name q told t this.0 is this.1 ∙ ap Some (after_by_sight name (view h.journal name) (account h.journal t) q told),
+      reply_by_sight name (marked_view h.journal name) (account h.journal t) q told may,
+      own_after h name q told t this.0 is this.1 ∙ ap Some (after_by_sight name (marked_view h.journal name) (account h.journal t) q told),
     )
 
 pub serves_own : (old new : HallState) (name : List ℕ) (q : Request) (told : Reply) → IsSound old → IsServed old name q told new →
-    ServesTo name (sight (view old.journal name) q) q told (account_of old name) (account_of new name)
+    ServesTo name (sight (marked_view old.journal name) q) q told (account_of old name) (account_of new name)
 serves_own old new name q told sound served =
-    subst (λ (g : HallState). ServesTo name (sight (view old.journal name) q) q told (account_of old name) (account_of g name)) (sym served.after)
+    subst (λ (g : HallState). ServesTo name (sight (marked_view old.journal name) q) q told (account_of old name) (account_of g name)) (sym served.after)
     (serves_found old name q told (tenant_named name old.tenants) sound refl served.may_reply)
 
 -- nothing happens to an account

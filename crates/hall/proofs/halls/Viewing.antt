@@ -4,9 +4,10 @@ use Rattle.std.proofs.lemmas.List.Elements.{All-contains}
 use Rattle.rt0_rules.proofs.Elements.{find-Some, find-None}
 use Rattle.credential_text.specs.declared.credentials.Credential.{Credential}
 use Rattle.vaults.specs.declared.changes.Entry.{Entry}
+use Rattle.vaults.specs.declared.marks.Seen.{Seen}
 use Rattle.names.specs.Name.{is_same}
-use Rattle.vaults.specs.Journal.{reads, granted, vault, names_read, vault_record, view}
-use Rattle.vaults.proofs.Exactness.{names_read_exact, views_of_names_read}
+use Rattle.vaults.specs.Journal.{reads, granted, is_public, vault, names_read, marked_names, vault_record, view, marked_view, unmarked}
+use Rattle.vaults.proofs.Exactness.{names_read_exact, marked_views_exact}
 use Rattle.names.proofs.SameNames.{same_from_is_same, is_same_itself}
 use Rattle.hall.specs.declared.calls.requests.Request.TheVariants as request
 use Rattle.hall.specs.declared.calls.replies.Reply.TheVariants as reply
@@ -27,7 +28,7 @@ own_name : (journal : List Entry) (who : List ℕ) → find (λ o. is_same o who
 own_name journal who = by (find (λ o. is_same o who) (names_read journal who)) refl
   where
     reads_own : reads journal who who ≡ true
-    reads_own = ap (λ (b : Bool). b || granted journal who who) (is_same_itself who who refl)
+    reads_own = ap (λ (b : Bool). b || (granted journal who who || is_public journal who)) (is_same_itself who who refl)
 
     by : (o : Option (List ℕ)) → find (λ o. is_same o who) (names_read journal who) ≡ o → o ≡ Some who
     by None none = cc (
@@ -38,10 +39,11 @@ own_name journal who = by (find (λ o. is_same o who) (names_read journal who)) 
     by (Some owner) found = ap Some (same_from_is_same owner who (find-Some (λ (o : List ℕ). is_same o who) (names_read journal who) owner found).1)
 
 -- the view lists the reader's own vault
-own_rows : (journal : List Entry) (who : List ℕ) → rows_of who (view journal who) ≡ vault journal who
+own_rows : (journal : List Entry) (who : List ℕ) → rows_of who (unmarked (marked_view journal who)) ≡ vault journal who
 unfolding view
 own_rows journal who =
-    ap rows_in (find-map (λ v. is_same v.owner who) (λ o. is_same o who) (vault_record journal) (λ o. refl) (names_read journal who)
+    ap (rows_of who) (marked_views_exact journal who).0
+    ∙ ap rows_in (find-map (λ v. is_same v.owner who) (λ o. is_same o who) (vault_record journal) (λ o. refl) (names_read journal who)
     ∙ ap (option_map (vault_record journal)) (own_name journal who))
 
 module _ (h : HallState) (who : List ℕ) where
@@ -55,5 +57,5 @@ module _ (h : HallState) (who : List ℕ) where
   pub vault_served : (rows : List Credential) → is_tenant h who ≡ true → rows ≡ vault h.journal who → IsServed h who request.Vault (reply.Vault rows) h
   vault_served rows is own = told_served h who request.Vault (known is).0 (known is).1 (reply.Vault rows) h (ap reply.Vault (own ∙ sym (own_rows h.journal who))) refl
 
-  pub sees_served : (names : List (List ℕ)) → is_tenant h who ≡ true → names ≡ names_read h.journal who → IsServed h who request.Sees (reply.Sees names) h
-  sees_served names is read = told_served h who request.Sees (known is).0 (known is).1 (reply.Sees names) h (ap reply.Sees (read ∙ sym (views_of_names_read h.journal who).0)) refl
+  pub sees_served : (names : List Seen) → is_tenant h who ≡ true → names ≡ marked_names h.journal who → IsServed h who request.Sees (reply.Sees names) h
+  sees_served names is read = told_served h who request.Sees (known is).0 (known is).1 (reply.Sees names) h (ap reply.Sees (read ∙ sym (marked_views_exact h.journal who).1)) refl

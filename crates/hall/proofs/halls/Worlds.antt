@@ -3,7 +3,7 @@ use Rattle.std.proofs.Common.{ℕ, ◌+◌, List, [], ◌∷◌, length, ◌≡�
 use Rattle.std.specs.List.{AllZip}
 use Rattle.credential_text.specs.declared.credentials.Credential.{Credential}
 use Rattle.rt0_rules.specs.Membership.{IsMember}
-use Rattle.vaults.specs.Journal.{Vault, credentials}
+use Rattle.vaults.specs.Journal.{Vault, Marked, credentials}
 use Rattle.search.specs.declared.queries.Query.{Query}
 use Rattle.search.specs.Ending.{Settled, Nothing, Broken, MaySettle, asked_role}
 use Rattle.proof_trees.proofs.Soundness.{sound as proved_member}
@@ -73,13 +73,13 @@ proves_agree limit (Some s) None who told other both e f = absurd both
 proves_agree limit (Some s) (Some t) who told other both e f = proves_one limit s t who told other both e f
 
 -- the two are told the same, and accounts stay alike
-same_told : (limit : ℕ) (tenant : List ℕ) (view : List Vault) (a b : Account) (q : Request) (told other : Reply) → AreAlike limit a b → told ≡ other →
+same_told : (limit : ℕ) (tenant : List ℕ) (view : List Marked) (a b : Account) (q : Request) (told other : Reply) → AreAlike limit a b → told ≡ other →
     Agree told other × AreAlike limit (account_after tenant view a q told) (account_after tenant view b q other)
 same_told limit tenant view a b q told other alike e =
     (agree_same told other e, subst (λ (r : Reply). AreAlike limit (account_after tenant view a q told) (account_after tenant view b q r)) e (after_alike limit tenant view a b q told alike))
 
 -- from accounts that are alike the replies agree, and leave accounts that are alike
-replies_agree : (limit : ℕ) (tenant : List ℕ) (view : List Vault) (a b : Account) (q : Request) (told other : Reply) → AreAlike limit a b →
+replies_agree : (limit : ℕ) (tenant : List ℕ) (view : List Marked) (a b : Account) (q : Request) (told other : Reply) → AreAlike limit a b →
     IsReply tenant view a q told → IsReply tenant view b q other → IsWhole told → IsWhole other →
     Agree told other × AreAlike limit (account_after tenant view a q told) (account_after tenant view b q other)
 unfolding IsWhole
@@ -103,7 +103,7 @@ replies_agree limit tenant view a b (request.Proof k who) told other alike e f w
     (proves_agree limit (search_in k a.holder) (search_in k b.holder) who told other (beside_search (Alike limit) k a.holder b.holder alike.holder) e f, alike)
 
 -- where memory did not lack, the reply is the account's
-pub told_by : (tenant : List ℕ) (view : List Vault) (a : Account) (q : Request) (told : Reply) → MayReply tenant view a q told → told ≢ Refused Memory → IsReply tenant view a q told
+pub told_by : (tenant : List ℕ) (view : List Marked) (a : Account) (q : Request) (told : Reply) → MayReply tenant view a q told → told ≢ Refused Memory → IsReply tenant view a q told
 told_by tenant view a q told (inl is) memory = is
 told_by tenant view a q told (inr lacks) memory = absurd (memory lacks.0)
 

@@ -6,9 +6,9 @@ use Rattle.quotas.specs.Quota.{Quota}
 use Rattle.names.specs.Name.{is_same}
 use Rattle.rt0_rules.specs.Membership.{IsMember}
 use Rattle.vaults.specs.declared.changes.Change.{Change}
-use Rattle.vaults.specs.declared.changes.Change.TheVariants.{Upload, Withdraw, Grant, Revoke}
+use Rattle.vaults.specs.declared.changes.Change.TheVariants.{Upload, Withdraw, Grant, Revoke, GrantAll, RevokeAll}
 use Rattle.vaults.specs.declared.changes.Entry.{Entry}
-use Rattle.vaults.specs.Journal.{vault, readers, refusal, Vault, credentials}
+use Rattle.vaults.specs.Journal.{vault, grant_count, refusal, Vault, Marked, unmarked, seen_of, credentials}
 use Rattle.search.specs.declared.queries.Query.{Query}
 use Rattle.search.specs.Ending.{Settled, Nothing, Yes, No, Members, Spent, Broken, MaySettle, asked_role}
 use Rattle.proof_trees.specs.declared.steps.Step.{Step as ProofStep}
@@ -24,7 +24,7 @@ use Rattle.hall.specs.declared.calls.replies.Reply.TheVariants as reply
 use Rattle.hall.specs.Fault.{vault_fault}
 use Rattle.hall.specs.halls.Holder.{Holder, search_in, opening, ending, seek_refusal, Beside}
 
--- a search that has not ended, as its asker knows it: what was asked, over which view, and what it has come to
+-- a search that has not ended, as its asker knows it: what was asked, over which view, marks left out, and what it has come to
 pub record Asked : Type 0 where
   pub query : Query
   pub view : List Vault
@@ -62,8 +62,10 @@ first_of_two (Some f) second = Some f
 abbrev pub kind_full : Quota → List Entry → List ℕ → Change → Option Fault
 kind_full limits entries tenant (Upload c) = if nat_le limits.creds (length (vault entries tenant)) then Some fault.Creds else None
 kind_full limits entries tenant (Withdraw c) = None
-kind_full limits entries tenant (Grant reader) = if nat_le limits.grants (length (readers entries tenant)) then Some fault.Grants else None
+kind_full limits entries tenant (Grant reader) = if nat_le limits.grants (grant_count entries tenant) then Some fault.Grants else None
 kind_full limits entries tenant (Revoke reader) = None
+kind_full limits entries tenant GrantAll = if nat_le limits.grants (grant_count entries tenant) then Some fault.Grants else None
+kind_full limits entries tenant RevokeAll = None
 
 -- the limit that stands against a change: that on changes, then that on credentials or grants
 abbrev pub limit_refusal : Quota → List Entry → List ℕ → Change → Option Fault
@@ -110,14 +112,14 @@ MayProveOf None who told = told ≡ reply.Refused fault.NoSuchSearch
 MayProveOf (Some s) who told = MayProve s who told
 
 -- the reply that the account and the view give; only a proof leaves a choice
-abbrev pub IsReply : List ℕ → List Vault → Account → Request → Reply → Type 0
+abbrev pub IsReply : List ℕ → List Marked → Account → Request → Reply → Type 0
 IsReply tenant view a (request.Alter change) told =
     told ≡ unless_refused (alter_refusal a.holder.limits a.entries tenant change) (reply.Counted (length a.entries + 1))
 IsReply tenant view a (request.Seek query) told = told ≡ unless_refused (seek_refusal a.holder) (reply.Opened (a.holder.opens + 1))
 IsReply tenant view a (request.Poll k) told = told ≡ polled (search_in k a.holder)
 IsReply tenant view a (request.Close k) told = told ≡ told_closed (search_in k a.holder)
-IsReply tenant view a request.Vault told = told ≡ reply.Vault (rows_of tenant view)
-IsReply tenant view a request.Sees told = told ≡ reply.Sees (map (λ v. v.owner) view)
+IsReply tenant view a request.Vault told = told ≡ reply.Vault (rows_of tenant (unmarked view))
+IsReply tenant view a request.Sees told = told ≡ reply.Sees (map seen_of view)
 IsReply tenant view a (request.Proof k who) told = MayProveOf (search_in k a.holder) who told
 
 -- a reply to the request may be that memory lacked: to each but an ending
@@ -131,7 +133,7 @@ MayLackMemory request.Sees = Unit {0}
 MayLackMemory (request.Proof k who) = Unit {0}
 
 -- what the tenant may be told
-abbrev pub MayReply : List ℕ → List Vault → Account → Request → Reply → Type 0
+abbrev pub MayReply : List ℕ → List Marked → Account → Request → Reply → Type 0
 MayReply tenant view a q told = IsReply tenant view a q told ⊎ ((told ≡ reply.Refused fault.Memory) × MayLackMemory q)
 
 -- an accepted change is entered
@@ -139,10 +141,10 @@ abbrev pub altered : List ℕ → Account → Change → Reply → Account
 altered tenant a change (reply.Counted n) = record a { entries = a.entries ++ record { tenant = tenant; change = change } ∷ [] }
 altered tenant a change _ = a
 
--- an opened search has come to nothing yet
-abbrev pub sought : List Vault → Account → Query → Reply → Account
+-- an opened search has come to nothing yet; it keeps the view, and no mark
+abbrev pub sought : List Marked → Account → Query → Reply → Account
 sought view a query (reply.Opened n) =
-    record a { holder = opening n (record { query = query; view = view; settled = Nothing }) a.holder }
+    record a { holder = opening n (record { query = query; view = unmarked view; settled = Nothing }) a.holder }
 sought view a query _ = a
 
 -- an ended search is gone
@@ -151,7 +153,7 @@ ended a k reply.Closed = record a { holder = ending k a.holder }
 ended a k _ = a
 
 -- the account after a request and its reply
-abbrev pub account_after : List ℕ → List Vault → Account → Request → Reply → Account
+abbrev pub account_after : List ℕ → List Marked → Account → Request → Reply → Account
 account_after tenant view a (request.Alter change) told = altered tenant a change told
 account_after tenant view a (request.Seek query) told = sought view a query told
 account_after tenant view a (request.Poll k) told = a
@@ -161,7 +163,7 @@ account_after tenant view a request.Sees told = a
 account_after tenant view a (request.Proof k who) told = a
 
 -- what of its view a request looks at
-abbrev pub sight : List Vault → Request → List Vault
+abbrev pub sight : List Marked → Request → List Marked
 sight view (request.Alter change) = []
 sight view (request.Seek query) = view
 sight view (request.Poll k) = []
@@ -172,7 +174,7 @@ sight view (request.Proof k who) = []
 
 -- a request, with what it looks at of what its tenant sees just before it
 pub record Moment : Type 0 where
-  pub view : List Vault
+  pub view : List Marked
   pub request : Request
 
 -- an allowed reply, and what it leaves

@@ -2,6 +2,7 @@
 use Rattle.std.specs.Prelude.{◌≡◌, ◌⊎◌, ℕ, List, Result, Ok, Err, Option, None, Some}
 use Rattle.std.specs.List.{AllByRecursion}
 use Rattle.credential_text.specs.declared.credentials.Credential.{Credential}
+use Rattle.vaults.specs.declared.marks.Seen.{Seen}
 use Rattle.snapshots.specs.Snapshot.{SnapshotState}
 use Rattle.search.specs.declared.queries.Need.{Need}
 use Rattle.search.specs.declared.stages.Stage.{Stage}
@@ -39,7 +40,7 @@ abbrev pub rows_seen : Result (List Credential) Fault → Reply
 rows_seen (Ok rows) = reply.Vault rows
 rows_seen (Err f) = reply.Refused f
 
-abbrev pub names_seen : Result (List (List ℕ)) Fault → Reply
+abbrev pub names_seen : Result (List Seen) Fault → Reply
 names_seen (Ok names) = reply.Sees names
 names_seen (Err f) = reply.Refused f
 

@@ -4,7 +4,7 @@ use Rattle.std.specs.List.{AllByRecursion}
 use Rattle.names.specs.Name.{is_same}
 use Rattle.vaults.specs.declared.changes.Change.{Change}
 use Rattle.vaults.specs.declared.changes.Entry.{Entry}
-use Rattle.vaults.specs.Journal.{view}
+use Rattle.vaults.specs.Journal.{view, marked_view}
 use Rattle.search.specs.declared.queries.Query.{Query}
 use Rattle.search.specs.Search.{SearchState}
 use Rattle.hall.specs.declared.faults.Fault.{Fault}
@@ -59,7 +59,7 @@ hall_after h name (request.Proof k who) told = h
 -- the reply that a name may get: to a tenant by its own account and view alone
 abbrev pub MayReplyTo : HallState → List ℕ → Option Account → Request → Reply → Type 0
 MayReplyTo h name None q told = told ≡ Refused NoTenant
-MayReplyTo h name (Some a) q told = MayReply name (view h.journal name) a q told
+MayReplyTo h name (Some a) q told = MayReply name (marked_view h.journal name) a q told
 
 -- a request is answered, and the hall changes accordingly
 pub record IsServed (old : HallState) (name : List ℕ) (q : Request) (told : Reply) (new : HallState) : Type 0 where
@@ -69,7 +69,7 @@ pub record IsServed (old : HallState) (name : List ℕ) (q : Request) (told : Re
 -- want of memory comes last: where another refusal is due, that one is told
 abbrev pub IsDue : HallState → List ℕ → Option Account → Request → Fault → Type 0
 IsDue h name None q f = f ≡ NoTenant
-IsDue h name (Some a) q f = IsReply name (view h.journal name) a q (Refused f)
+IsDue h name (Some a) q f = IsReply name (marked_view h.journal name) a q (Refused f)
 
 abbrev pub RefusedLast : HallState → List ℕ → Request → Reply → Type 0
 RefusedLast h name q told = told ≡ Refused Memory → (f : Fault) → IsDue h name (account_of h name) q f → ⊥
@@ -122,7 +122,7 @@ journal_after journal (event.Step made) told = journal
 -- the tenant's own request, with what it looks at
 abbrev pub moments_of : List ℕ → List Entry → Event → List Moment
 moments_of tenant journal (event.Request name q) =
-    if is_same name tenant then record { view = sight (view journal tenant) q; request = q } ∷ [] else []
+    if is_same name tenant then record { view = sight (marked_view journal tenant) q; request = q } ∷ [] else []
 moments_of tenant journal (event.Step made) = []
 
 -- the tenant's requests in a run, each with what it looks at

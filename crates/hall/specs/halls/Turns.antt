@@ -6,7 +6,7 @@ use Rattle.names.specs.declared.roles.Role.{Role}
 use Rattle.names.specs.Name.{is_same}
 use Rattle.credential_text.specs.declared.credentials.Credential.{Credential}
 use Rattle.vaults.specs.declared.changes.Entry.{Entry}
-use Rattle.vaults.specs.Journal.{Vault, view, credentials}
+use Rattle.vaults.specs.Journal.{Marked, marked_view, credentials}
 use Rattle.search.specs.Ending.{Settled, MaySettle}
 use Rattle.proof_trees.specs.declared.steps.Step.{Step as ProofStep}
 use Rattle.proof_trees.specs.Proof.{IsProof}
@@ -24,12 +24,12 @@ use Rattle.hall.specs.halls.Deeds.{Deed, asks, waits, Done, AreDone, request_of,
 
 -- a deed, with what it looks at
 pub record Turn : Type 0 where
-  pub view : List Vault
+  pub view : List Marked
   pub deed : Deed
 
 abbrev pub turns_of : List ℕ → List Entry → Done → List Turn
 turns_of tenant journal d =
-    if is_same d.tenant tenant then record { view = sight (view journal tenant) (request_of d.deed); deed = d.deed } ∷ [] else []
+    if is_same d.tenant tenant then record { view = sight (marked_view journal tenant) (request_of d.deed); deed = d.deed } ∷ [] else []
 
 -- the tenant's own deeds, each with what it looks at
 abbrev pub turns : List ℕ → List Entry → List Done → List Turn
@@ -55,7 +55,7 @@ abbrev pub SettlesAt : Account → ℕ → Account → Type 0
 SettlesAt old k new = SettlesAs old k (search_in k old.holder) new
 
 -- a request is answered by the account; a wait lets its search settle, and is then a poll that doesn't say that it works
-abbrev pub TurnIsTaken : List ℕ → Account → List Vault → Deed → Reply → Account → Type 0
+abbrev pub TurnIsTaken : List ℕ → Account → List Marked → Deed → Reply → Account → Type 0
 TurnIsTaken tenant old view (asks q) told new = Allowed tenant (record { view = view; request = q }) old told new
 TurnIsTaken tenant old view (waits k) told new = SettlesAt old k new × MayReply tenant view new (Poll k) told × (told ≢ Answered Working)
 

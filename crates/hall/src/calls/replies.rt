@@ -1,7 +1,7 @@
 use super::answers::Answer;
 use super::steps::Stepped;
 use crate::faults::Fault;
-use crate::lists::{Names, Rows};
+use crate::lists::{Rows, Sights};
 use proof_trees::Proof;
 
 /// What a tenant is told, or how a step went.
@@ -17,8 +17,8 @@ pub enum Reply {
     Closed,
     /// The credentials that the tenant holds, in order.
     Vault(Rows),
-    /// The names whose vaults the tenant reads, in order.
-    Sees(Names),
+    /// The names whose vaults the tenant reads, in order, each with its mark.
+    Sees(Sights),
     /// Why the entity is a member.
     Proof(Proof),
     /// The request was refused.

@@ -15,7 +15,7 @@ pub enum Request {
     Close(u64),
     /// Which credentials does the tenant hold?
     Vault,
-    /// Whose vaults does the tenant read?
+    /// Whose vaults does the tenant read, and which of them does every tenant?
     Sees,
     /// Why is the entity a member of the role that the search of this number asked about?
     Proof(u64, Entity),

@@ -1,6 +1,6 @@
 //! Events as a table writes them, and what a table wants each to be answered.
 use super::entity;
-use crate::{Answer, Event, Fault, Hall, Names, Query, Reply, Request, Step, Stepped};
+use crate::{Answer, Event, Fault, Hall, Names, Query, Reply, Request, Sights, Step, Stepped};
 use credential_text::read_credential;
 use names::Role;
 use search::{Hint, Need};
@@ -18,6 +18,12 @@ pub(super) enum Act {
     Drop(&'static str, &'static str),
     /// The reader is granted the vault.
     Grant(&'static str, &'static str),
+    /// That is revoked.
+    Revoke(&'static str, &'static str),
+    /// Every tenant is granted the vault.
+    GrantAll(&'static str),
+    /// That is revoked.
+    RevokeAll(&'static str),
     /// Is the entity a member of the role?
     Ask(&'static str, &'static str, &'static str),
     /// Who is a member of the role?
@@ -45,6 +51,8 @@ pub(super) enum Told {
     No,
     Members(&'static [&'static str]),
     Closed,
+    /// These names, each with whether its vault is read by every tenant.
+    Sees(&'static [(&'static str, bool)]),
     /// Refused by the fault of this number.
     Refused(u64),
     /// The letter of this number was taken, which needs the rows of this role.
@@ -75,6 +83,12 @@ fn event(alloc: Global, act: &Act) -> Result<Event, Fail> {
             let reader = entity(reader)?;
             Event::Request(entity(who)?, Request::Alter(Change::Grant(reader)))
         }
+        Act::Revoke(who, reader) => {
+            let reader = entity(reader)?;
+            Event::Request(entity(who)?, Request::Alter(Change::Revoke(reader)))
+        }
+        Act::GrantAll(who) => Event::Request(entity(who)?, Request::Alter(Change::GrantAll)),
+        Act::RevokeAll(who) => Event::Request(entity(who)?, Request::Alter(Change::RevokeAll)),
         Act::Ask(who, role, member) => {
             let query = Query::Ask(Role::read(role.as_bytes())?, entity(member)?);
             Event::Request(entity(who)?, Request::Seek(query))
@@ -117,6 +131,15 @@ fn are_named(names: &Names, wanted: &[&str]) -> bool {
             .all(|(name, text)| name.bytes() == text.as_bytes())
 }
 
+/// Whether these are the names with their marks, in this order.
+fn are_seen(sights: &Sights, wanted: &[(&str, bool)]) -> bool {
+    let seen = sights.as_slice();
+    seen.len() == wanted.len()
+        && seen.iter().zip(wanted).all(|(seen, (text, to_all))| {
+            seen.name.bytes() == text.as_bytes() && seen.to_all == *to_all
+        })
+}
+
 /// Whether the step went as is wanted.
 fn went(stepped: &Stepped, wanted: &Told) -> Result<bool, Fail> {
     Ok(match (stepped, wanted) {
@@ -156,6 +179,7 @@ fn is_told(reply: &Reply, wanted: &Told) -> Result<bool, Fail> {
         (Reply::Counted(count), Told::Counted(wanted)) => count == wanted,
         (Reply::Opened(number), Told::Opened(wanted)) => number == wanted,
         (Reply::Closed, Told::Closed) => true,
+        (Reply::Sees(sights), Told::Sees(wanted)) => are_seen(sights, wanted),
         (Reply::Answered(answer), _) => came_to(answer, wanted)?,
         (Reply::Stepped(stepped), _) => went(stepped, wanted)?,
         _ => false,

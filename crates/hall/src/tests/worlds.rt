@@ -1,5 +1,5 @@
-//! Halls of four tenants, with credentials and grants that rows of numbers make: what each tenant is answered, compared
-//! with the plain program over the vaults that it may read.
+//! Halls of four tenants, with credentials and grants that rows of numbers make: what each tenant sees and is answered,
+//! compared with the plain program over the vaults that it may read.
 ghost use Rattle.std.specs.Prelude.{◌<◌};
 
 use super::entity;
@@ -11,7 +11,7 @@ use quotas::Limits;
 use rt0_rules::members_plain;
 use std::alloc::{AllocError, Global};
 use std::test::Fail;
-use vaults::Change;
+use vaults::{Change, Seen};
 
 /// A row of numbers, each from the one before by a linear congruence.
 #[derive(Drop)]
@@ -108,34 +108,81 @@ struct Grant {
     reader: Entity,
 }
 
+/// The grants that stand: to one reader each, and those of the owners whose vaults every tenant may read.
+#[derive(Drop)]
+struct Grants {
+    to_one: Vec<Grant>,
+    to_all: Vec<Entity>,
+}
+
+impl Grants {
+    /// Whether the owner's vault may be read by the reader.
+    fn allow(&self, owner: Entity, reader: Entity) -> bool {
+        owner == reader
+            || self.to_all.contains(&owner)
+            || self.to_one.contains(&Grant { owner, reader })
+    }
+
+    /// The owner grants to the reader, or where that stands revokes it.
+    fn turn(&mut self, hall: &mut Hall, grant: Grant) -> Result<(), Fail> {
+        let Grant { owner, reader } = grant;
+        if self.to_one.contains(&grant) {
+            self.to_one.retain(|other| *other != grant);
+            hall.change(owner, Change::Revoke(reader))?;
+        } else {
+            self.to_one.push(grant)?;
+            hall.change(owner, Change::Grant(reader))?;
+        }
+        Ok(())
+    }
+
+    /// The owner grants to all, or where that stands revokes it.
+    fn turn_for_all(&mut self, hall: &mut Hall, owner: Entity) -> Result<(), Fail> {
+        if self.to_all.contains(&owner) {
+            self.to_all.retain(|other| *other != owner);
+            hall.change(owner, Change::RevokeAll)?;
+        } else {
+            self.to_all.push(owner)?;
+            hall.change(owner, Change::GrantAll)?;
+        }
+        Ok(())
+    }
+}
+
 /// What the tenant sees by these grants.
 fn view(
     alloc: Global,
     credentials: &[Credential],
-    grants: &[Grant],
+    grants: &Grants,
     reader: Entity,
 ) -> Result<Vec<Credential>, AllocError> {
     let mut seen = Vec::new(alloc);
     for credential in credentials {
-        let owner = credential.head.owner;
-        if owner == reader || grants.contains(&Grant { owner, reader }) {
+        if grants.allow(credential.head.owner, reader) {
             seen.push(credential.try_clone()?)?;
         }
     }
     Ok(seen)
 }
 
-/// The owner grants, or where the grant stands revokes it.
-fn turn(hall: &mut Hall, grants: &mut Vec<Grant>, grant: Grant) -> Result<(), Fail> {
-    let Grant { owner, reader } = grant;
-    if grants.contains(&grant) {
-        grants.retain(|other| *other != grant);
-        hall.change(owner, Change::Revoke(reader))?;
-    } else {
-        grants.push(grant)?;
-        hall.change(owner, Change::Grant(reader))?;
+/// Whether the tenant is told by these grants whose vaults it sees, each with its mark.
+fn tells_sights(
+    alloc: Global,
+    hall: &Hall,
+    tenants: &[Entity],
+    grants: &Grants,
+    reader: Entity,
+) -> Result<bool, Fail> {
+    let mut wanted = Vec::new(alloc);
+    for owner in tenants {
+        if grants.allow(*owner, reader) {
+            wanted.push(Seen {
+                name: *owner,
+                to_all: grants.to_all.contains(owner),
+            })?;
+        }
     }
-    Ok(())
+    Ok(hall.sees(reader)?.as_slice() == wanted.as_slice())
 }
 
 /// A question about a role, of which so many searches are open: who is in it, and whether each tenant is.
@@ -181,7 +228,12 @@ fn tells_members(hall: &mut Hall, question: Question, members: &[Entity]) -> Res
 }
 
 /// Whether the search of the number says that the entity is a member, or that it isn't.
-fn tells(hall: &mut Hall, asker: Entity, number: u64, is_member: bool) -> Result<bool, Fail> {
+pub(super) fn tells(
+    hall: &mut Hall,
+    asker: Entity,
+    number: u64,
+    is_member: bool,
+) -> Result<bool, Fail> {
     match told(hall, asker, number)? {
         Answer::Yes => Ok(is_member),
         Answer::No => Ok(!is_member),
@@ -248,21 +300,24 @@ fn hall_of_four(alloc: Global) -> Result<Hall, Fail> {
     Ok(Hall::make(alloc, roster)?)
 }
 
-/// Grants and revocations between any two of the tenants.
+/// Grants and revocations between any two of the tenants, and some for all.
 fn turn_some(
     hall: &mut Hall,
     tenants: &[Entity],
-    grants: &mut Vec<Grant>,
+    grants: &mut Grants,
     numbers: &mut Numbers,
 ) -> Result<(), Fail> {
     for owner in tenants {
+        if numbers.below(5) == 0 {
+            grants.turn_for_all(hall, *owner)?;
+        }
         for reader in tenants {
             if owner != reader && numbers.below(3) > 0 {
                 let grant = Grant {
                     owner: *owner,
                     reader: *reader,
                 };
-                turn(hall, grants, grant)?;
+                grants.turn(hall, grant)?;
             }
         }
     }
@@ -278,7 +333,10 @@ fn answers_each(
 ) -> Result<bool, Fail> {
     let tenants = four(alloc)?;
     let mut hall = hall_of_four(alloc)?;
-    let mut grants = Vec::new(alloc);
+    let mut grants = Grants {
+        to_one: Vec::new(alloc),
+        to_all: Vec::new(alloc),
+    };
     for credential in credentials {
         let upload = Change::Upload(credential.try_clone()?);
         hall.change(credential.head.owner, upload)?;
@@ -286,6 +344,7 @@ fn answers_each(
     let mut is_right = true;
     for asker in &tenants {
         turn_some(&mut hall, &tenants, &mut grants, numbers)?;
+        is_right &= tells_sights(alloc, &hall, &tenants, &grants, *asker)?;
         let seen = view(alloc, credentials, &grants, *asker)?;
         let mut question = Question {
             asker: *asker,

@@ -3,4 +3,4 @@ use Rattle.scholten_core.proofs.engagement.deliver.Goals as goal
 
 pub returns-in-Node : goal.returns-in-Node
 returns-in-Node c =
-    rw c.in-Node.is (delivers_paid c.args.nodes.now c.pay.new.nodes c.in-Node.node c.pay.result (rw c.in-Node.is at c.requires) c.pay.ensures c.args.environment.now)
+    rw c.in-Node.is (delivers_paid c.args.nodes.now.items c.pay.new.nodes.items c.in-Node.node c.pay.result (rw c.in-Node.is at c.requires) c.pay.ensures c.args.environment.now)

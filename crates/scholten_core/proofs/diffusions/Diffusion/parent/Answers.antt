@@ -6,10 +6,10 @@ use Rattle.scholten_core.proofs.diffusions.Diffusion.parent.Goals as goal
 
 pub returns-in-Some : goal.returns-in-Some
 returns-in-Some g c =
-    let parent = get-engagements c.self.inside.nodes c.args.node ∙ ap (option_map (λ (e : Engagement). e.parent)) (sym c.in-Some.ensures.value) in
+    let parent = get-engagements c.self.inside.nodes.items c.args.node ∙ ap (option_map (λ (e : Engagement). e.parent)) (sym c.in-Some.ensures) in
     rw (← c.self.view_is) (sym (ap (λ o. unwrap_or o Neutral) parent))
 
 pub returns-in-None : goal.returns-in-None
 returns-in-None g c =
-    let parent = get-engagements c.self.inside.nodes c.args.node ∙ ap (option_map (λ (e : Engagement). e.parent)) (sym c.in-None.ensures.value) in
+    let parent = get-engagements c.self.inside.nodes.items c.args.node ∙ ap (option_map (λ (e : Engagement). e.parent)) (sym c.in-None.ensures) in
     rw (← c.self.view_is) (sym (ap (λ o. unwrap_or o Neutral) parent))

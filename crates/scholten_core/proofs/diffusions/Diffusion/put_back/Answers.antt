@@ -8,11 +8,11 @@ put_back-requires g c = rw (← c.self.view_is) at c.requires
 
 pub invariant_of-self : goal.invariant_of-self
 invariant_of-self g c =
-    marked_kept c.self.inside.letters c.put_back.new.self c.self.inside.signals.items c.self.inside.environment c.self.inside.nodes c.self.invariant c.args.number false c.put_back.ensures.letters c.put_back.ensures.sent
+    marked_kept c.self.inside.letters c.put_back.new.self c.self.inside.signals.items c.self.inside.environment c.self.inside.nodes.items c.self.invariant c.args.number false c.put_back.ensures.letters c.put_back.ensures.sent
 
 pub returns-clause-waits : goal.returns-clause-waits
 returns-clause-waits g c =
-    rw (← c.self.view_is) (marked_is c.self.inside.letters c.put_back.new.self c.self.inside.signals.items c.self.inside.environment c.self.inside.nodes c.self.invariant c.args.number false c.put_back.ensures.letters c.put_back.ensures.sent)
+    rw (← c.self.view_is) (marked_is c.self.inside.letters c.put_back.new.self c.self.inside.signals.items c.self.inside.environment c.self.inside.nodes.items c.self.invariant c.args.number false c.put_back.ensures.letters c.put_back.ensures.sent)
 
 pub returns-clause-sound : goal.returns-clause-sound
 returns-clause-sound g c = sound _ (invariant_of-self g c).settled

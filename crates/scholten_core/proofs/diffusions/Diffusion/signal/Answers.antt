@@ -7,14 +7,14 @@ use Rattle.scholten_core.proofs.diffusions.Diffusion.signal.Goals as goal
 use Rattle.scholten_core.proofs.diffusions.Diffusion.signal.Goals.{After-put}
 
 -- the fields hold the computation with the signal delivered
-done : (g : Over) (c : After-put g) → IsSignalled (held_in c.self.inside.letters c.self.inside.signals.items c.self.inside.nodes) c.args.place (held_in c.self.inside.letters c.put.new.signals.items c.deliver-by.new.nodes) c.deliver-by.new.environment c.deliver-by.new.nodes
+done : (g : Over) (c : After-put g) → IsSignalled (held_in c.self.inside.letters c.self.inside.signals.items c.self.inside.nodes.items) c.args.place (held_in c.self.inside.letters c.put.new.signals.items c.deliver-by.new.nodes.items) c.deliver-by.new.environment c.deliver-by.new.nodes.items
 done g c =
     let signals = c.self.inside.signals.items in
     let inside = rw (← c.self.view_is) at c.requires in
     let value = rw c.unwrap-to.ensures at c.remove.ensures.value in
     let rest = rw c.unwrap-to.ensures at c.remove.ensures.items in
     let at = slice_get_read signals (length signals) c.args.place c.unwrap-to.result refl inside value in
-    signalled_fields c.self.inside.letters signals c.self.inside.environment c.self.inside.nodes c.self.invariant c.args.place c.unwrap-to.result at c.deliver-by.new.environment c.deliver-by.new.nodes c.deliver-by.result c.deliver-by.ensures c.put.new.signals.items (c.put.ensures ∙ ap (λ s. s ++ option_to_list c.deliver-by.result) rest)
+    signalled_fields c.self.inside.letters signals c.self.inside.environment c.self.inside.nodes.items c.self.invariant c.args.place c.unwrap-to.result at c.deliver-by.new.environment c.deliver-by.new.nodes.items c.deliver-by.result c.deliver-by.ensures c.put.new.signals.items (c.put.ensures ∙ ap (λ s. s ++ option_to_list c.deliver-by.result) rest)
 
 pub invariant_of-self : goal.invariant_of-self
 invariant_of-self g c = (done g c).kept

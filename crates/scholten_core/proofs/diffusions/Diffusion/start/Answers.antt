@@ -1,6 +1,6 @@
-use Rattle.std.proofs.Common.{◌≡◌, ◌+◌, ◌++◌, [], ◌∷◌, sym, ap, ◌∙◌, subst}
+use Rattle.std.proofs.Common.{◌≡◌, ◌+◌, ◌++◌, [], ◌∷◌, false, sym, ap, ◌∙◌, subst}
+use Rattle.scholten_core.specs.declared.parents.Parent.TheVariants.{Environment}
 use Rattle.scholten_core.specs.Kept.{IsKept, engagements, held_in}
-use Rattle.scholten_core.specs.LetterTable.{standing}
 use Rattle.scholten_core.specs.Step.{started}
 use Rattle.scholten_core.proofs.Complete.{sound}
 use Rattle.scholten_core.proofs.Fields.{started_kept}
@@ -8,21 +8,20 @@ use Rattle.scholten_core.proofs.diffusions.Diffusion.start.Given.{Over}
 use Rattle.scholten_core.proofs.diffusions.Diffusion.start.Goals as goal
 use Rattle.scholten_core.proofs.diffusions.Diffusion.start.Goals.{After-new-3}
 
-first : (g : Over) (c : After-new-3 g) → held_in c.push.new.self c.new-2.result.items c.new-3.result ≡ started c.args.root c.args.load
+first : (g : Over) (c : After-new-3 g) → held_in c.push.new.self c.new-2.result.items c.new-3.result.items ≡ started c.args.root c.args.load
 first g c =
     let sent = c.in_ok-letters.ensures.sent in
     let letters = c.in_ok-letters.ensures.letters in
-    let slot = c.in_ok-slot.ensures in
     λ i. record {
       sent = (c.push.ensures.sent ∙ ap (λ n. n + 1) sent) i;
-      letters = (c.push.ensures.letters ∙ (λ j. letters j ++ standing ((sent j + 1, slot j) ∷ []))) i;
+      letters = (c.push.ensures.letters ∙ (λ j. letters j ++ (sent j + 1, record { from = Environment; to = c.args.root; held = false; load = c.args.load }) ∷ [])) i;
       signals = c.new-2.ensures.items i;
-      engaged = engagements (c.new-3.ensures.empty i);
+      engaged = engagements (c.new-3.ensures.items i);
     }
 
 pub invariant_of-result : goal.invariant_of-result
 invariant_of-result g c =
-    subst (λ d. IsKept d 1 c.new-3.result) (sym (first g c)) (started_kept c.args.root c.args.load c.new-3.result c.new-3.ensures.empty)
+    subst (λ d. IsKept d 1 c.new-3.result.items) (sym (first g c)) (started_kept c.args.root c.args.load c.new-3.result.items c.new-3.ensures.items)
 
 pub returns-clause-sound : goal.returns-clause-sound
 returns-clause-sound g c = sound _ (invariant_of-result g c).settled

@@ -1,13 +1,10 @@
-use Rattle.std.proofs.Common.{◌≡◌, filter, is_some, arith, rules}
+use Rattle.std.proofs.Common.{◌≡◌, filter, is_some, rules}
 use Rattle.std.proofs.lemmas.Map.Made.{filter_same_pairs}
 use Rattle.scholten_core.proofs.Counts.{standing-full}
-use Rattle.scholten_core.proofs.Tables.{dropped, holes-le-length}
+use Rattle.scholten_core.proofs.Tables.{dropped}
 use Rattle.scholten_core.proofs.letter_tables.LetterTable.drop_holes.Given.{Over}
 use Rattle.scholten_core.proofs.letter_tables.LetterTable.drop_holes.Goals as goal
 use Rattle.scholten_core.proofs.letter_tables.LetterTable.drop_holes.Goals.{After-retain}
-
-pub overflow_sub-len : goal.overflow_sub-len
-overflow_sub-len g c = omega (arith, holes-le-length _ _ _ _ _ _ c.self.invariant, c.len.ensures.len)
 
 kept : (g : Over) (c : After-retain g) → c.retain.new.self.entries ≡ filter (λ e. is_some e.1) c.self.inside.letters.entries
 kept g c = filter_same_pairs _ _ _ (λ k v b w f call. search rules) _ _ c.retain.ensures.filtered
@@ -17,7 +14,7 @@ invariant_of-self g c =
     let after = (goal.at.invariant_of-self g c).After-retain in
     rw (c.len-self-inside.ensures.len, kept g after) (dropped _ _ _ _ _ _ c.self.invariant)
 
-pub returns-then-self-len-clause-letters : goal.returns-then-self-len-clause-letters
-returns-then-self-len-clause-letters g c =
-    let after = (goal.at.returns-then-self-len-clause-letters g c).After-retain in
+pub returns-clause-letters : goal.returns-clause-letters
+returns-clause-letters g c =
+    let after = (goal.at.returns-clause-letters g c).After-retain in
     rw (kept g after, ← c.self.view_is) (standing-full c.self.inside.letters.entries)

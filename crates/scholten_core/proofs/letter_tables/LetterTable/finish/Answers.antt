@@ -1,11 +1,11 @@
-use Rattle.std.proofs.Common.{ap, ◌∙◌, arith}
+use Rattle.std.proofs.Common.{◌≡◌, ◌+◌, ◌==◌, not, filter, ap, ◌∙◌, arith}
 use Rattle.indexmap.specs.IndexMap.{set_value_at}
-use Rattle.scholten_core.specs.LetterTable.{standing}
-use Rattle.scholten_core.proofs.Standing.{HoldsAt, holds_at, number_found, standing-hole}
+use Rattle.scholten_core.specs.LetterTable.{IsTable, standing}
+use Rattle.scholten_core.proofs.Standing.{HoldsAt, holds_at, length-numbered_le, number_found, standing-hole}
 use Rattle.scholten_core.proofs.Tables.{holes-le-sent, left_hole}
 use Rattle.scholten_core.proofs.letter_tables.LetterTable.finish.Given.{Over}
 use Rattle.scholten_core.proofs.letter_tables.LetterTable.finish.Goals as goal
-use Rattle.scholten_core.proofs.letter_tables.LetterTable.finish.Goals.{After-pair_mut-slot}
+use Rattle.scholten_core.proofs.letter_tables.LetterTable.finish.Goals.{After-empty}
 
 pub unwrap-at-requires : goal.unwrap-at-requires
 unwrap-at-requires g c =
@@ -13,22 +13,43 @@ unwrap-at-requires g c =
     c.place_of.ensures.found ∙ number_found c.self.inside.sent c.self.inside.letters.entries c.self.invariant.numbers c.args.number held
 
 -- the held letter of the number
-slot : (g : Over) (c : After-pair_mut-slot g) → HoldsAt c.self.inside.letters.entries c.args.number c.unwrap-at.result
+slot : (g : Over) (c : After-empty g) → HoldsAt c.self.inside.letters.entries c.args.number c.unwrap-at.result
 slot g c =
     let held = rw (← c.self.view_is) at c.requires in
     holds_at c.self.inside.sent c.self.inside.letters.entries c.self.invariant.numbers c.args.number c.unwrap-at.result c.pair_mut-slot.result.0.now c.pair_mut-slot.result.1.now held (rw c.unwrap-at.ensures at c.place_of.ensures.place) c.pair_mut-slot.ensures.value
 
 pub overflow_add-self : goal.overflow_add-self
 overflow_add-self g c =
-    let one = slot g (goal.at.overflow_add-self g c).After-pair_mut-slot in
+    let one = slot g (goal.at.overflow_add-self g c).After-empty in
     omega (arith, holes-le-sent _ _ _ _ _ _ (left_hole _ _ _ _ _ _ c.self.invariant c.unwrap-at.result c.args.number one.letter one.there one.held), c.self.ranges)
 
-pub invariant_of-self : goal.invariant_of-self
-invariant_of-self g c =
-    let one = slot g (goal.at.invariant_of-self g c).After-pair_mut-slot in
+pub overflow_add-at : goal.overflow_add-at
+overflow_add-at g c =
+    let within = rw c.unwrap-at.ensures at c.place_of.ensures.within in
+    omega (arith, within, length-numbered_le 0 c.self.inside.letters.entries c.self.inside.sent c.self.invariant.numbers, c.self.ranges)
+
+-- the table with the hole
+holed : (g : Over) (c : After-empty g) → IsTable c.self.inside.sent c.self.inside.waits (c.self.inside.holes + 1) c.self.inside.first c.self.inside.last (set_value_at c.self.inside.letters.entries c.unwrap-at.result c.empty.new.self)
+holed g c =
+    let one = slot g c in
     rw c.empty.ensures (left_hole _ _ _ _ _ _ c.self.invariant c.unwrap-at.result c.args.number one.letter one.there one.held)
 
-pub returns-clause-letters : goal.returns-clause-letters
-returns-clause-letters g c =
-    let one = slot g (goal.at.returns-clause-letters g c).After-pair_mut-slot in
-    rw (← c.self.view_is) (c.drop_holes.ensures.letters ∙ c.pop_holes.ensures.letters ∙ ap (λ w. standing (set_value_at c.self.inside.letters.entries c.unwrap-at.result w)) c.empty.ensures ∙ standing-hole 0 c.self.inside.letters.entries c.self.inside.sent c.unwrap-at.result c.args.number one.letter c.self.invariant.numbers one.there)
+-- the letter is gone, and no other
+gone : (g : Over) (c : After-empty g) → standing (set_value_at c.self.inside.letters.entries c.unwrap-at.result c.empty.new.self) ≡ filter (λ x. not (x.0 == c.args.number)) (standing c.self.inside.letters.entries)
+gone g c =
+    let one = slot g c in
+    ap (λ w. standing (set_value_at c.self.inside.letters.entries c.unwrap-at.result w)) c.empty.ensures ∙ standing-hole 0 c.self.inside.letters.entries c.self.inside.sent c.unwrap-at.result c.args.number one.letter c.self.invariant.numbers one.there
+
+pub invariant_of-self : goal.invariant_of-self
+invariant_of-self g c = holed g (goal.at.invariant_of-self g c).After-empty
+
+pub invariant_of-self-else-at-len : goal.invariant_of-self-else-at-len
+invariant_of-self-else-at-len g c = holed g (goal.at.invariant_of-self-else-at-len g c).After-empty
+
+pub returns-then-at-len-clause-letters : goal.returns-then-at-len-clause-letters
+returns-then-at-len-clause-letters g c =
+    rw (← c.self.view_is) (c.pop_holes.ensures.letters ∙ gone g (goal.at.returns-then-at-len-clause-letters g c).After-empty)
+
+pub returns-else-at-len-clause-letters : goal.returns-else-at-len-clause-letters
+returns-else-at-len-clause-letters g c =
+    rw (← c.self.view_is) (gone g (goal.at.returns-else-at-len-clause-letters g c).After-empty)

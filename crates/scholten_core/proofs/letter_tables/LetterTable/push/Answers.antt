@@ -1,4 +1,4 @@
-use Rattle.std.proofs.Common.{◌≡◌, ◌+◌, ◌++◌, ◌∷◌, [], nat_eq, ap, ◌∙◌, arith}
+use Rattle.std.proofs.Common.{◌≡◌, ◌+◌, ◌++◌, ◌∷◌, [], Some, not, nat_eq, ap, ◌∙◌, arith}
 use Rattle.indexmap.proofs.CallerLemmas.{insert_entry-new}
 use Rattle.scholten_core.specs.LetterTable.{standing}
 use Rattle.scholten_core.proofs.Standing.{absent, standing-append}
@@ -13,19 +13,21 @@ overflow_add-self-2 g c =
     omega (arith, numbers, waits-le-sent _ _ _ _ _ _ c.self.invariant)
 
 -- the letter stands at the end
-added : (g : Over) (c : After-unwrap g) → c.insert.new.self.entries ≡ c.self.inside.letters.entries ++ (c.self.inside.sent + 1, c.args.slot) ∷ []
+added : (g : Over) (c : After-unwrap g) → c.insert.new.self.entries ≡ c.self.inside.letters.entries ++ (c.self.inside.sent + 1, Some c.args.letter) ∷ []
 added g c =
     let entries = rw c.unwrap.ensures at c.insert.ensures.entries in
-    entries ∙ insert_entry-new nat_eq c.self.inside.letters (c.self.inside.sent + 1) c.args.slot (absent 0 c.self.inside.letters.entries c.self.inside.sent (c.self.inside.sent + 1) c.self.invariant.numbers (omega arith))
+    entries
+    ∙ insert_entry-new nat_eq c.self.inside.letters (c.self.inside.sent + 1) c.full.result (absent 0 c.self.inside.letters.entries c.self.inside.sent (c.self.inside.sent + 1) c.self.invariant.numbers (omega arith))
+    ∙ ap (λ o. c.self.inside.letters.entries ++ (c.self.inside.sent + 1, o) ∷ []) c.full.ensures
 
 pub invariant_of-self : goal.invariant_of-self
 invariant_of-self g c =
     let after = (goal.at.invariant_of-self g c).After-unwrap in
-    rw (c.len-self-inside.ensures.len, added g after) (pushed _ _ _ _ _ _ c.self.invariant c.args.slot c.requires.waits)
+    rw (c.len-self-inside.ensures.len, added g after) (pushed _ _ _ _ _ _ c.self.invariant (Some c.args.letter) (ap not c.requires.waits))
 
 pub returns-clause-letters : goal.returns-clause-letters
 returns-clause-letters g c =
     let after = (goal.at.returns-clause-letters g c).After-unwrap in
     ap standing (added g after)
-    ∙ standing-append c.self.inside.letters.entries ((c.self.inside.sent + 1, c.args.slot) ∷ [])
-    ∙ ap (λ s. s.letters ++ standing ((s.sent + 1, c.args.slot) ∷ [])) c.self.view_is
+    ∙ standing-append c.self.inside.letters.entries ((c.self.inside.sent + 1, Some c.args.letter) ∷ [])
+    ∙ ap (λ s. s.letters ++ (s.sent + 1, c.args.letter) ∷ []) c.self.view_is

@@ -1,6 +1,7 @@
 use Rattle.std.proofs.Common.{◌≡◌, map, take}
+use Rattle.vaults.specs.declared.marks.Seen.{Seen}
 use Rattle.vaults.specs.Journal.{vault_record}
 use Rattle.snapshots.proofs.snapshots.Snapshot.take.Given as goal
 
 abbrev pub invariant-loop-owner : goal.invariant-loop-owner
-invariant-loop-owner l = l.vaults.items ≡ map (vault_record l.book) (take l.owner-index l.owner-items)
+invariant-loop-owner l = l.vaults.items ≡ map (λ (s : Seen). vault_record l.book s.name) (take l.owner-index l.owner-items)

@@ -1,0 +1,257 @@
+#!/usr/bin/env bash
+# Tests of the launcher `rtsearch`, over a small tree of crates with a stand-in for the toolchain's `rt`, which locks what
+# `rt` locks, notes when it begins and ends, and leaves what `rt` would leave. Nothing is proved here. One line for each
+# test; the last line is `N passed, M failed`.
+set -u
+root=$(cd "$(dirname "${BASH_SOURCE[0]}")/.." && pwd)
+work=$(mktemp -d)
+trap 'rm -rf "$work"' EXIT
+passed=0
+failed=0
+
+# A tree in which `top` stands on `left` and `right`, both of them on `low`, and the program on `top` and `alone`.
+make_tree() {
+    local crate
+    tree=$work/tree
+    log=$work/log
+    rm -rf "$tree" "$log" "$work"/hold.* "$work"/refuse.*
+    mkdir -p "$tree/.git"
+    cp -r "$root/launch" "$root/rtsearch" "$tree/"
+    printf '%s\n' '# a tree of crates' 'low: thiserror' 'left: low' 'alone:' 'right may_wait=1: low indexmap' \
+        'top: low left right' 'rtsearch: top alone clap' >"$tree/crates.txt"
+    for crate in low left right alone top rtsearch; do
+        mkdir -p "$tree/crates/$crate"/{src,specs,proofs}
+        echo "fn $crate" >"$tree/crates/$crate/src/lib.rt"
+        echo "spec" >"$tree/crates/$crate/specs/Lib.antt"
+    done
+    : >"$log"
+}
+
+make_stand_in() {
+    mkdir "$work/bin"
+    cat >"$work/bin/rt" <<'END'
+#!/usr/bin/env bash
+name=$(basename "$PWD")
+for it in $(sed -n 's/^\([a-z]*\).*:.*/\1/p' ../../crates.txt | sort); do
+    exec {lock}<"../$it"
+    flock "$lock"
+done
+for it in $(sed -n "s/^$name[ :][^:]*:*//p" ../../crates.txt); do
+    if [ -d "../$it" ] && [ ! -f "../$it/out/rlib/stamp" ]; then
+        echo "$it is not there"
+        exit 1
+    fi
+done
+mkdir -p out && echo "half a proof" >out/kept
+echo "begin $name $*" >>"$STAND_IN/log"
+while [ -e "$STAND_IN/hold.$name" ]; do sleep 0.02; done
+if [ -e "$STAND_IN/refuse.$name" ]; then
+    echo "$name has a hole"
+    exit 1
+fi
+echo "end $name" >>"$STAND_IN/log"
+if [ "$1" = run ]; then
+    # (it tells each lock that it was left with)
+    printf '#!/bin/sh\necho "program: $*"\nls -l /proc/$$/fd | grep "crates/[a-z]*$"\ncat\nexit 7\n' >"out/$name"
+    chmod +x "out/$name"
+    exit 2
+fi
+mkdir -p out/rlib && cat src/* >out/rlib/stamp
+END
+    printf '#!/bin/sh\necho 4\n' >"$work/bin/nproc"
+    chmod +x "$work/bin/"*
+}
+
+# Runs the launcher, with what it prints in $out and $said, its status in $status.
+launch() {
+    out=$work/out
+    said=$work/said
+    STAND_IN=$work PATH="$work/bin:$PATH" "${as[@]}" "$tree/rtsearch" "$@" >"$out" 2>"$said" </dev/null
+    status=$?
+}
+as=()
+
+# The crates that were proved, or begun, in order of their names.
+ended() { sed -n 's/^end //p' "$log" | LC_ALL=C sort | tr '\n' ' '; }
+begun() { sed -n 's/^begin \([a-z]*\).*/\1/p' "$log" | LC_ALL=C sort | tr '\n' ' '; }
+
+# wait_for COMMAND..: until it succeeds, ten seconds at most.
+wait_for() {
+    local at
+    for ((at = 0; at < 500; at++)); do
+        "$@" && return 0
+        sleep 0.02
+    done
+    return 1
+}
+
+has_begun() { grep -q "^begin $1 " "$log"; }
+
+# Tells how a test went: tell NAME COMMAND..
+tell() {
+    local name=$1
+    shift
+    if "$@"; then
+        echo "launcher: $name: passed"
+        passed=$((passed + 1))
+    else
+        echo "launcher: $name: FAILED (status ${status-}; said: $(tail -n 3 "${said:-/dev/null}" | tr '\n' '/'))"
+        failed=$((failed + 1))
+    fi
+}
+
+builds_each_crate_once_and_runs_the_program() {
+    make_tree
+    launch script x
+    [ "$status" -eq 7 ] && [ "$(cat "$out")" = "program: script x" ] &&
+        [ "$(ended)" = "alone left low right rtsearch top " ] && [ "$(begun)" = "$(ended)" ] &&
+        [ "$(grep -c ' begins, with [1-4] job' "$said")" -eq 6 ] &&
+        [ "$(grep -c '^rtsearch: [0-9]*:[0-9][0-9] [a-z]* is proved$' "$said")" -eq 6 ] &&
+        [ -z "$(find "$tree/.git/rooms" -mindepth 1 -type d)" ]
+}
+
+proves_side_by_side() {
+    make_tree
+    touch "$work/hold.left" "$work/hold.right"
+    STAND_IN=$work PATH="$work/bin:$PATH" "$tree/rtsearch" >/dev/null 2>&1 </dev/null &
+    local launcher=$! both=1
+    wait_for has_begun left && wait_for has_begun right && both=0
+    rm -f "$work"/hold.*
+    wait "$launcher"
+    return "$both"
+}
+
+starts_again_within_a_second() {
+    local before after
+    make_tree
+    launch
+    : >"$log"
+    before=$(date +%s%N)
+    launch script
+    after=$(date +%s%N)
+    [ "$status" -eq 7 ] && [ ! -s "$said" ] && [ ! -s "$log" ] && [ $(((after - before) / 1000000)) -lt 1000 ]
+}
+
+# goes_on_after SIGNAL STATUS: the crate that was being proved is proved again, and no other.
+goes_on_after() {
+    local launcher
+    make_tree
+    touch "$work/hold.top"
+    STAND_IN=$work PATH="$work/bin:$PATH" "$tree/rtsearch" >/dev/null 2>&1 </dev/null &
+    launcher=$!
+    wait_for has_begun top
+    kill "-$1" "$launcher"
+    wait "$launcher" 2>/dev/null
+    status=$?
+    [ "$status" -eq "$2" ] || return 1
+    if [ "$1" != KILL ]; then
+        # what was kept of the crate stands in its own folder again
+        [ -f "$tree/crates/top/out/kept" ] && [ ! -e "$tree/.git/rooms/top" ] || return 1
+    fi
+    rm -f "$work/hold.top"
+    : >"$log"
+    launch
+    [ "$status" -eq 7 ] && [ -f "$tree/crates/top/out/kept" ] && [[ "$(begun)" =~ ^"rtsearch "(top )?$ ]]
+}
+
+builds_what_stands_on_a_change() {
+    make_tree
+    launch
+    : >"$log"
+    echo "fn changed" >"$tree/crates/left/src/lib.rt"
+    launch
+    [ "$status" -eq 7 ] && [ "$(begun)" = "left rtsearch top " ] || return 1
+    : >"$log"
+    rm "$tree/crates/right/specs/Lib.antt"
+    launch
+    [ "$status" -eq 7 ] && [ "$(begun)" = "right rtsearch top " ]
+}
+
+# A change that comes while the crates above are proved is built at the next start.
+sees_a_change_that_came_meanwhile() {
+    local launcher
+    make_tree
+    touch "$work/hold.top"
+    STAND_IN=$work PATH="$work/bin:$PATH" "$tree/rtsearch" >/dev/null 2>&1 </dev/null &
+    launcher=$!
+    wait_for has_begun top
+    echo "fn changed" >"$tree/crates/left/src/new.rt"
+    rm -f "$work/hold.top"
+    wait "$launcher"
+    : >"$log"
+    launch
+    [ "$(begun)" = "left rtsearch top " ]
+}
+
+two_at_once_build_once() {
+    local first
+    make_tree
+    touch "$work/hold.low"
+    STAND_IN=$work PATH="$work/bin:$PATH" "$tree/rtsearch" first >"$work/first" 2>/dev/null </dev/null &
+    first=$!
+    wait_for has_begun low
+    (sleep 0.3 && rm -f "$work/hold.low") &
+    launch second
+    wait "$first"
+    [ "$(cat "$work/first")" = "program: first" ] && [ "$(cat "$out")" = "program: second" ] &&
+        [ "$(begun)" = "alone left low right rtsearch top " ]
+}
+
+builds_in_turn_without_rooms() {
+    make_tree
+    rmdir "$tree/.git"
+    launch
+    [ "$status" -eq 7 ] && [ "$(ended)" = "alone left low right rtsearch top " ]
+}
+
+shows_why_a_crate_is_not_proved() {
+    make_tree
+    touch "$work/refuse.right"
+    launch
+    [ "$status" -eq 125 ] && [ ! -s "$out" ] && grep -q '^right has a hole$' "$said" &&
+        [ "$(tail -n 1 "$said")" = "rtsearch: right is not proved" ] || return 1
+    rm "$work/refuse.right"
+    : >"$log"
+    launch
+    [ "$status" -eq 7 ] && ! has_begun low
+}
+
+tells_that_there_is_no_toolchain() {
+    make_tree
+    mv "$work/bin/rt" "$work/rt"
+    PATH="$work/bin:/usr/bin:/bin" "$tree/rtsearch" script >"$work/out" 2>"$work/said" </dev/null
+    status=$?
+    mv "$work/rt" "$work/bin/rt"
+    [ "$status" -eq 127 ] && [ ! -s "$work/out" ] && [ "$(wc -l <"$work/said")" -eq 1 ] && grep -q 'command rt' "$work/said"
+}
+
+# (root may write anywhere, so it becomes nobody)
+tells_which_folder_cannot_be_written() {
+    make_tree
+    chmod a-w "$tree/crates/left"
+    if [ "$(id -u)" -eq 0 ]; then
+        chown -R 65534:65534 "$tree" "$log"
+        chmod 711 "$work"
+        as=(setpriv --reuid=65534 --regid=65534 --clear-groups)
+    fi
+    launch
+    as=()
+    chmod u+w "$tree/crates/left"
+    [ "$status" -eq 126 ] && [ ! -s "$out" ] && [ "$(wc -l <"$said")" -eq 1 ] && grep -q 'crates/left' "$said" && [ ! -s "$log" ]
+}
+
+make_stand_in
+tell "each crate is built once, and the program runs" builds_each_crate_once_and_runs_the_program
+tell "two crates over one other are proved side by side" proves_side_by_side
+tell "a second start takes less than a second" starts_again_within_a_second
+tell "an interrupted build goes on" goes_on_after TERM 143
+tell "a build whose launcher was killed goes on" goes_on_after KILL 137
+tell "a change in the middle builds what stands on it" builds_what_stands_on_a_change
+tell "a change that came meanwhile is built next" sees_a_change_that_came_meanwhile
+tell "two launchers at once build once" two_at_once_build_once
+tell "with no .git the crates are built in turn" builds_in_turn_without_rooms
+tell "a crate that isn't proved is told, and the rest is kept" shows_why_a_crate_is_not_proved
+tell "no toolchain" tells_that_there_is_no_toolchain
+tell "a folder that can't be written" tells_which_folder_cannot_be_written
+echo "$passed passed, $failed failed"
+[ "$failed" -eq 0 ]

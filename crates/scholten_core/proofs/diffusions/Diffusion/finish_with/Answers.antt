@@ -1,0 +1,59 @@
+use Rattle.std.proofs.Common.{ℕ, ◌+◌, ◌++◌, ◌==◌, not, filter, length, option_to_list, refl, sym, ap, subst, ◌∙◌, arith}
+use Rattle.std.specs.Map.{lookup}
+use Rattle.scholten_core.specs.declared.parents.Parent.TheVariants.{Node}
+use Rattle.scholten_core.specs.Kept.{Receives, held_in}
+use Rattle.scholten_core.specs.Step.{numbered}
+use Rattle.scholten_core.proofs.Complete.{sound}
+use Rattle.scholten_core.proofs.Fields.{unchanged_kept}
+use Rattle.scholten_core.proofs.Finished.{IsFinishedIn, finished_fields}
+use Rattle.scholten_core.proofs.Steps.{deficit-le-outstanding}
+use Rattle.scholten_core.proofs.diffusions.Diffusion.finish_with.Given.{Over}
+use Rattle.scholten_core.proofs.diffusions.Diffusion.finish_with.Goals as goal
+use Rattle.scholten_core.proofs.diffusions.Diffusion.finish_with.Goals.{After-send}
+
+pub returns-in_err-reserve-clause-sound : goal.returns-in_err-reserve-clause-sound
+returns-in_err-reserve-clause-sound g c =
+    sound _ (unchanged_kept c.self.inside.letters c.reserve.new.self c.self.inside.signals.items c.self.inside.signals.items c.self.inside.environment c.self.inside.nodes.items c.self.inside.nodes.items c.reserve.ensures.letters c.reserve.ensures.sent refl refl c.self.invariant).settled
+
+pub returns-in_err-reserve-2-clause-sound : goal.returns-in_err-reserve-2-clause-sound
+returns-in_err-reserve-2-clause-sound g c =
+    sound _ (unchanged_kept c.self.inside.letters c.reserve.new.self c.self.inside.signals.items c.reserve-2.new.self.items c.self.inside.environment c.self.inside.nodes.items c.self.inside.nodes.items c.reserve.ensures.letters c.reserve.ensures.sent c.reserve-2.ensures.items refl c.self.invariant).settled
+
+pub receive-requires : goal.receive-requires
+receive-requires g c =
+    let keeps = c.self.invariant in
+    let to = Node c.unwrap-letter.result.now.to in
+    let room = rw (← c.self.view_is) at c.requires.room in
+    omega (arith, room, keeps.counts to, deficit-le-outstanding (held_in c.self.inside.letters c.self.inside.signals.items c.self.inside.nodes.items) to, keeps.settled.one_each, c.len-2.ensures)
+
+pub invariant_of-self-in_err-by : goal.invariant_of-self-in_err-by
+invariant_of-self-in_err-by g c =
+    unchanged_kept c.self.inside.letters c.reserve.new.self c.self.inside.signals.items c.reserve-2.new.self.items c.self.inside.environment c.self.inside.nodes.items c.receive.new.nodes.items c.reserve.ensures.letters c.reserve.ensures.sent c.reserve-2.ensures.items c.in_err-by.ensures.unchanged c.self.invariant
+
+pub returns-in_err-by-clause-sound : goal.returns-in_err-by-clause-sound
+returns-in_err-by-clause-sound g c = sound _ (invariant_of-self-in_err-by g c).settled
+
+-- the fields hold the computation with the letter finished
+done : (g : Over) (c : After-send g) → IsFinishedIn (held_in c.self.inside.letters c.self.inside.signals.items c.self.inside.nodes.items) c.args.number c.args.outs.now.items (held_in c.send.new.self c.put.new.signals.items c.receive.new.nodes.items) c.self.inside.environment c.receive.new.nodes.items
+done g c =
+    let l = c.unwrap-letter.result.now in
+    let outs = c.args.outs.now.items in
+    let got = sym (rw c.unwrap-letter.ensures at c.get.ensures) in
+    let found = sym (ap (lookup (λ n. n == c.args.number)) c.reserve.ensures.letters) ∙ got in
+    let to = Node l.to in
+    let many = c.args.outs.now.ok.0 in
+    let receives = subst (λ (n : ℕ). Receives c.self.inside.nodes.items c.receive.new.nodes.items l.from l.to n c.in_ok-by.by) (c.len-2.ensures ∙ many) c.in_ok-by.ensures.received in
+    let left = c.finish.ensures.letters ∙ ap (filter (λ x. not (x.0 == c.args.number))) c.reserve.ensures.letters in
+    let sent = c.finish.ensures.sent ∙ c.reserve.ensures.sent in
+    let letters = c.send.ensures.letters ∙ (λ i. left i ++ numbered to (sent i + 1) outs) in
+    finished_fields c.self.inside.letters c.self.inside.signals.items c.self.inside.environment c.self.inside.nodes.items c.self.invariant c.args.number l found outs c.receive.new.nodes.items c.in_ok-by.by receives c.send.new.self letters (c.send.ensures.sent ∙ (λ i. sent i + many i)) c.put.new.signals.items (c.put.ensures ∙ ap (λ s. s ++ option_to_list c.in_ok-by.by) c.reserve-2.ensures.items)
+
+pub invariant_of-self-2 : goal.invariant_of-self-2
+invariant_of-self-2 g c = (done g (goal.at.invariant_of-self-2 g c).After-send).kept
+
+pub returns-clause-finished : goal.returns-clause-finished
+returns-clause-finished g c =
+    rw (← c.self.view_is) (done g (goal.at.returns-clause-finished g c).After-send).step
+
+pub returns-clause-sound : goal.returns-clause-sound
+returns-clause-sound g c = sound _ (invariant_of-self-2 g c).settled

@@ -1,0 +1,67 @@
+-- The waiting letter at a place is taken, if there is one.
+use Rattle.std.proofs.Common.{ℕ, ◌≡◌, inl, refl, sym, subst, ap, true, [], Option, Some, None, get_or, slice_get}
+use Rattle.std.specs.Option.{MatchOption}
+use Rattle.std.proofs.lemmas.Option.{slice_get-get_or}
+use Rattle.credential_text.specs.declared.exprs.Expr.{Expr}
+use Rattle.credential_text.specs.declared.exprs.Expr.TheVariants.{Ent}
+use Rattle.cred_graph.specs.GraphState.{IsNode}
+use Rattle.scholten_core.specs.declared.letters.Letter.{Letter}
+use Rattle.search.specs.declared.letters.Load.{Load}
+use Rattle.search.specs.declared.letters.Held.{Held}
+use Rattle.search.specs.declared.stages.Stage.{Stage}
+use Rattle.search.specs.Need.{need_of}
+use Rattle.search.specs.Stage.{waiting_in, Holds}
+use Rattle.search.specs.Search.{SearchState, IsKept, Settles, settled_of}
+use Rattle.search.specs.Finish.{TakesHeld}
+use Rattle.search.proofs.Searching.{taken_to, marked_stage_kept}
+use Rattle.search.proofs.Answered.{waits_outstanding}
+use Rattle.search.proofs.Ended.{same_question, settles}
+
+-- there is no letter at the place, or it is taken
+abbrev pub MayTake : SearchState → SearchState → ℕ → Option (ℕ × Held) → Type 0
+MayTake s t place r = MatchOption r ((slice_get (waiting_in s.stage) place ≡ None) × (t ≡ s)) (λ x. TakesHeld s t place x.0 x.1)
+
+-- what a search is then
+pub record TakenOrNot (s : SearchState) (st : Stage) (place : ℕ) (r : Option (ℕ × Held)) : Type 0 where
+  pub taken : MayTake s (record s { stage = st }) place r
+  pub kept : IsKept (record s { stage = st })
+  pub settles : Settles s (record s { stage = st })
+
+module _ (s : SearchState) (st : Stage) (place : ℕ) (kept : IsKept s) where
+  some_taken : (number : ℕ) (h : Held) → Holds s.stage st place number h → TakenOrNot s st place (Some (number, h))
+  some_taken number h holds =
+      let e : Expr = get_or s.graph.nodes h.to (Ent []) in
+      let at : IsNode s.graph h.to e = slice_get-get_or s.graph.nodes h.to (Ent []) (taken_to s st place number h kept.rules holds) in
+      let same_to : holds.letter.to ≡ h.to = ap (λ (l : Letter Load). l.to) holds.taken in
+      let same_load : holds.letter.load ≡ h.load = ap (λ (l : Letter Load). l.load) holds.taken in
+      let after = marked_stage_kept s st number true kept holds.marked in
+      record {
+        taken = record {
+          expr = e;
+          node = at;
+          takes = record {
+            letter = holds.letter;
+            waited = holds.waited;
+            needs = (e, subst (λ (n : ℕ). IsNode s.graph n e) (sym same_to) at, ap (need_of e) (sym same_load));
+            after = ap (λ (x : Stage). record s { stage = x }) holds.marked;
+            free = holds.free;
+            held = holds.held;
+          };
+          holds = holds.holds;
+        };
+        kept = after;
+        settles = settles refl (same_question s s.graph s.monitors st) after (waits_outstanding s.stage place (number, holds.letter) holds.waited);
+      }
+
+  none_taken : slice_get (waiting_in s.stage) place ≡ None → st ≡ s.stage → TakenOrNot s st place None
+  none_taken none same =
+      let is : record s { stage = st } ≡ s = ap (λ (x : Stage). record s { stage = x }) same in
+      record {
+        taken = (none, is);
+        kept = subst IsKept (sym is) kept;
+        settles = inl (ap settled_of is);
+      }
+
+pub taken_or_not : (s : SearchState) (st : Stage) (place : ℕ) (r : Option (ℕ × Held)) → IsKept s → MatchOption r ((slice_get (waiting_in s.stage) place ≡ None) × (st ≡ s.stage)) (λ x. Holds s.stage st place x.0 x.1) → TakenOrNot s st place r
+taken_or_not s st place None kept (none, same) = none_taken s st place kept none same
+taken_or_not s st place (Some (number, h)) kept holds = some_taken s st place kept number h holds
