@@ -4,11 +4,11 @@ use Rattle.std.specs.Option.{IfSome}
 use Rattle.names.specs.Name.{is_same}
 use Rattle.quotas.specs.Quota.{Quota}
 use Rattle.vaults.specs.declared.changes.Change.{Change}
-use Rattle.vaults.specs.declared.changes.Change.TheVariants.{Upload, Withdraw, Grant, Revoke}
+use Rattle.vaults.specs.declared.changes.Change.TheVariants.{Upload, Withdraw, Grant, Revoke, GrantAll, RevokeAll}
 use Rattle.vaults.specs.declared.changes.Entry.{Entry}
 use Rattle.vaults.specs.declared.faults.VaultFault.{VaultFault}
 use Rattle.vaults.specs.declared.faults.VaultFault.TheVariants as vault_faults
-use Rattle.vaults.specs.Journal.{vault, readers, holds, granted, refusal, view}
+use Rattle.vaults.specs.Journal.{vault, grant_count, holds, granted, is_public, refusal, marked_view}
 use Rattle.search.specs.declared.queries.Query.{Query}
 use Rattle.hall.specs.Fault.{vault_fault}
 use Rattle.hall.specs.declared.faults.Fault.{Fault}
@@ -25,7 +25,7 @@ use Rattle.pool.specs.Refusals.{IsChangeRefusal, IsOpenRefusal}
 
 -- a request is refused by what its account gives, to nobody, or for want of memory
 served_refused : (may : Fault → Type 0) (h new : HallState) (who : List ℕ) (q : Request) (f : Fault) → may NoTenant → (MayLackMemory q → may Memory) →
-    ((a : Account) → IsReply who (view h.journal who) a q (Refused f) → may f) → IsServed h who q (Refused f) new → may f
+    ((a : Account) → IsReply who (marked_view h.journal who) a q (Refused f) → may f) → IsServed h who q (Refused f) new → may f
 served_refused may h new who q f nobody lacks due served = by (account_of h who) served.may_reply
   where
     by : (o : Option Account) → MayReplyTo h who o q (Refused f) → may f
@@ -57,8 +57,10 @@ limit_may limits entries who change =
     kind : (change : Change) → IfSome (kind_full limits entries who change) (IsChangeRefusal change)
     kind (Upload c) = choice_may (IsChangeRefusal (Upload c)) (nat_le limits.creds (length (vault entries who))) (Some Creds) None tt tt
     kind (Withdraw c) = tt
-    kind (Grant reader) = choice_may (IsChangeRefusal (Grant reader)) (nat_le limits.grants (length (readers entries who))) (Some Grants) None tt tt
+    kind (Grant reader) = choice_may (IsChangeRefusal (Grant reader)) (nat_le limits.grants (grant_count entries who)) (Some Grants) None tt tt
     kind (Revoke reader) = tt
+    kind GrantAll = choice_may (IsChangeRefusal GrantAll) (nat_le limits.grants (grant_count entries who)) (Some Grants) None tt tt
+    kind RevokeAll = tt
 
 journal_may : (journal : List Entry) (who : List ℕ) (change : Change) → IfSome (refusal journal who change) (λ v. IsChangeRefusal change (vault_fault v))
 journal_may journal who (Upload c) =
@@ -75,6 +77,10 @@ journal_may journal who (Grant reader) =
     (choice_may (λ v. IsChangeRefusal (Grant reader) (vault_fault v)) (granted journal who reader) (Some vault_faults.AlreadyGranted) None tt tt)
 journal_may journal who (Revoke reader) =
     choice_may (λ v. IsChangeRefusal (Revoke reader) (vault_fault v)) (not (is_same reader who) && granted journal who reader) None (Some vault_faults.NotGranted) tt tt
+journal_may journal who GrantAll =
+    choice_may (λ v. IsChangeRefusal GrantAll (vault_fault v)) (is_public journal who) (Some vault_faults.AlreadyGranted) None tt tt
+journal_may journal who RevokeAll =
+    choice_may (λ v. IsChangeRefusal RevokeAll (vault_fault v)) (is_public journal who) None (Some vault_faults.NotGranted) tt tt
 
 alter_may : (limits : Quota) (entries : List Entry) (who : List ℕ) (change : Change) → IfSome (alter_refusal limits entries who change) (IsChangeRefusal change)
 alter_may limits entries who change =

@@ -1,7 +1,7 @@
 -- Which refusal a call with a pass may give, what it leaves of the pass, and the numbers of refusals.
 use Rattle.std.specs.Prelude.{ℕ, ◌≡◌, ◌<◌}
 use Rattle.vaults.specs.declared.changes.Change.{Change}
-use Rattle.vaults.specs.declared.changes.Change.TheVariants.{Upload, Withdraw, Grant, Revoke}
+use Rattle.vaults.specs.declared.changes.Change.TheVariants.{Upload, Withdraw, Grant, Revoke, GrantAll, RevokeAll}
 use Rattle.hall.specs.declared.faults.Fault.{Fault}
 use Rattle.hall.specs.declared.faults.Fault.TheVariants.{NotIssuer, AlreadyHeld, NotHeld, AlreadyGranted, NotGranted, GrantSelf}
 use Rattle.hall.specs.declared.faults.Fault.TheVariants.{Creds, Grants, Searches, Changes, Opens}
@@ -22,6 +22,9 @@ IsKindRefusal (Grant reader) Grants = Unit {0}
 IsKindRefusal (Grant reader) GrantSelf = Unit {0}
 IsKindRefusal (Grant reader) AlreadyGranted = Unit {0}
 IsKindRefusal (Revoke reader) NotGranted = Unit {0}
+IsKindRefusal GrantAll Grants = Unit {0}
+IsKindRefusal GrantAll AlreadyGranted = Unit {0}
+IsKindRefusal RevokeAll NotGranted = Unit {0}
 IsKindRefusal change fault = ⊥
 
 -- a change is refused to a name outside the roster, past the limit on changes, for its kind, and for want of memory

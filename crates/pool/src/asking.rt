@@ -5,6 +5,7 @@ ghost use Rattle.std.specs.List.Sorted.{IsStrictlySortedBy};
 ghost use Rattle.std.specs.Arc.{arc_value};
 ghost use Rattle.names.specs.Name.{name_order};
 ghost use Rattle.credential_text.specs.Credential.{credential_order};
+ghost use Rattle.vaults.specs.Journal.{names_in};
 ghost use Rattle.search.specs.Ending.{status_of};
 ghost use Rattle.search.specs.declared.outcomes.Status.TheVariants.{Working};
 ghost use Rattle.hall.specs.declared.calls.requests.Request.TheVariants as request;
@@ -21,7 +22,7 @@ use crate::faults::DeskFault;
 use crate::passes::Pass;
 use crate::rooms::Room;
 use crate::verdicts::{Ticket, Verdict};
-use hall::{Fault, Names, Proof, Query, Rows};
+use hall::{Fault, Proof, Query, Rows, Sights};
 use names::Entity;
 use search::Status;
 use std::sync::ledger::Ledger;
@@ -111,12 +112,12 @@ impl<L: Ledger> Room<L> {
     }
 
     #[tactic(auto, using(crate::proofs::Read::sees_own, crate::proofs::Read::sees_order))]
-    /// The names whose vaults the pass's tenant reads, in order.
-    pub(crate) fn sees(&self, pass: &mut Pass<L>) -> Result<Names, DeskFault>
+    /// The names whose vaults the pass's tenant reads, in order, each with whether its vault is public.
+    pub(crate) fn sees(&self, pass: &mut Pass<L>) -> Result<Sights, DeskFault>
         ensures served { IfTold names_seen (λ told. IsServed self.now.hall pass.old.tenant request.Sees told self.now.hall) result }
         ensures last { IfTold names_seen (λ told. RefusedLast self.now.hall pass.old.tenant request.Sees told) result }
-        ensures own { IfOk result (λ names. Contains names pass.old.tenant) }
-        ensures order { IfOk result (λ names. IsStrictlySortedBy name_order names) }
+        ensures own { IfOk result (λ seen. Contains (names_in seen) pass.old.tenant) }
+        ensures order { IfOk result (λ seen. IsStrictlySortedBy name_order (names_in seen)) }
         ensures seen { OnOk result (IsSeenAt (length self.now.hall.journal) pass.old pass.new) }
         ensures refused { IfErr result (IsRefusedAt IsReadRefusal (length self.now.hall.journal) pass.old pass.new) }
     {

@@ -5,6 +5,7 @@ ghost use Rattle.std.specs.Arc.{arc_value};
 ghost use Rattle.std.specs.Sync.Mutex.{mutex_guard_value};
 ghost use Rattle.names.specs.Name.{name_order};
 ghost use Rattle.credential_text.specs.Credential.{credential_order};
+ghost use Rattle.vaults.specs.Journal.{names_in};
 ghost use Rattle.hall.specs.halls.State.{AreDistinct, IsSound, new_hall};
 ghost use Rattle.pool.specs.Passes.{OnlySees, shares_of};
 ghost use Rattle.pool.specs.Refusals.{IsRefused, IsChangeRefusal, IsOpenRefusal, IsPollRefusal, IsEndRefusal, IsReadRefusal};
@@ -17,7 +18,7 @@ use crate::rooms::{PARTS, Room};
 use crate::tenants::{is_among, names_of};
 use crate::verdicts::{Gathered, Ticket, Verdict};
 use crate::visits::{BATCH, Found, Looked};
-use hall::{Fault, Hall, Job, Names, Proof, Query, Rows};
+use hall::{Fault, Hall, Job, Proof, Query, Rows, Sights};
 use indexmap::IndexSet;
 use names::Entity;
 use quotas::Limits;
@@ -189,10 +190,11 @@ impl<L: Ledger> Desk<L> {
         self.enter(rt).vault(pass)
     }
 
-    /// The names whose vaults the tenant reads, in order, its own among them. Refused as 91, and then as the hall refuses.
-    pub fn sees<R: Wait>(&self, rt: &R, pass: &mut Pass<L>) -> Result<Names, DeskFault>
-        ensures own { IfOk result (λ names. Contains names pass.old.tenant) }
-        ensures order { IfOk result (λ names. IsStrictlySortedBy name_order names) }
+    /// The names whose vaults the tenant reads, in order, its own among them, each with whether its vault is public. Refused
+    /// as 91, and then as the hall refuses.
+    pub fn sees<R: Wait>(&self, rt: &R, pass: &mut Pass<L>) -> Result<Sights, DeskFault>
+        ensures own { IfOk result (λ seen. Contains (names_in seen) pass.old.tenant) }
+        ensures order { IfOk result (λ seen. IsStrictlySortedBy name_order (names_in seen)) }
         ensures seen { OnOk result (OnlySees pass.old pass.new) }
         ensures refused { IfErr result (IsRefused IsReadRefusal pass.old pass.new) }
     {

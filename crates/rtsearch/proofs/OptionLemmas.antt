@@ -4,7 +4,7 @@ use Rattle.std.specs.Option.{option_map_or}
 use Rattle.std.specs.List.{AllByRecursion}
 use Rattle.clap.specs.Facts.{parser_of_value}
 use Rattle.clap.specs.Values.{Accepts, read_as}
-use Rattle.clap.specs.Walk.{Row, Rule, Text, answers_to, has_row, nothing_held, one_of, reading_by, rows_after, settled, stop_after, walk}
+use Rattle.clap.specs.Walk.{Row, Rule, Text, answers_to, arg_by_id, has_row, nothing_held, one_of, reading_by, rows_after, settled, stop_after, walk}
 use Rattle.clap.specs.Simple.{Shape, argument_words, built, entered, label_of, names_of, new_rule, new_shape, rows_at}
 use Rattle.clap.specs.Faults.{entered_fault, level_fault}
 use Rattle.clap.specs.declared.error.kind.ErrorKind.TheVariants.{DisplayHelp}
@@ -34,8 +34,11 @@ tested = (
       (
         record { named = refl; used = one_value (rule 3) refl refl; usual = λ some. cc },
         (
-          record { named = refl; used = never_used (rule 4) DisplayHelp (λ again values rows. refl); usual = λ some. cc },
-          tt,
+          record { named = refl; used = one_value (rule 4) refl refl; usual = λ some. cc },
+          (
+            record { named = refl; used = never_used (rule 5) DisplayHelp (λ again values rows. refl); usual = λ some. cc },
+            tt,
+          ),
         ),
       ),
     ),
@@ -48,16 +51,18 @@ options words e =
     let rows : List Row = rows_after serve.rules [] words in
     let before = (settled serve.rules (walk serve.rules [] nothing_held words).held).rows in
     let pass : RowsPass serve.rules rows = rows_pass serve [] tested words e in (
-      value_in serve.rules (rule 0) rows refl pass (usual_is_there [] (rule 0) (rule 1 ∷ rule 2 ∷ rule 3 ∷ rule 4 ∷ []) before refl),
-      value_in serve.rules (rule 1) rows refl pass (usual_is_there (rule 0 ∷ []) (rule 1) (rule 2 ∷ rule 3 ∷ rule 4 ∷ []) before refl),
-      value_in serve.rules (rule 2) rows refl pass (usual_is_there (rule 0 ∷ rule 1 ∷ []) (rule 2) (rule 3 ∷ rule 4 ∷ []) before refl),
-      accept rows pass (has_row (codes "accept") rows) refl,
+      value_in serve.rules (rule 0) rows refl pass (usual_is_there [] (rule 0) (rule 1 ∷ rule 2 ∷ rule 3 ∷ rule 4 ∷ rule 5 ∷ []) before refl),
+      value_in serve.rules (rule 1) rows refl pass (usual_is_there (rule 0 ∷ []) (rule 1) (rule 2 ∷ rule 3 ∷ rule 4 ∷ rule 5 ∷ []) before refl),
+      value_in serve.rules (rule 2) rows refl pass (usual_is_there (rule 0 ∷ rule 1 ∷ []) (rule 2) (rule 3 ∷ rule 4 ∷ rule 5 ∷ []) before refl),
+      perhaps (rule 3) refl rows pass (has_row (rule 3).id rows) refl,
+      perhaps (rule 4) refl rows pass (has_row (rule 4).id rows) refl,
     )
   where
-    accept : (rows : List Row) → RowsPass serve.rules rows → (b : Bool) → has_row (codes "accept") rows ≡ b
-        → (one_of (codes "accept") rows ≡ None) ⊎ ((v : Text) × (one_of (codes "accept") rows ≡ Some (read_as (reading_by (rule 3)) v)) × Accepts false (parser_of_value (rule 3).parser) v)
-    accept rows pass true is = inr (value_in serve.rules (rule 3) rows refl pass is)
-    accept rows pass false is = inl (no_value (codes "accept") rows is)
+    -- an option without a usual value
+    perhaps : (a : Rule) → arg_by_id serve.rules a.id ≡ Some a → (rows : List Row) → RowsPass serve.rules rows → (b : Bool) → has_row a.id rows ≡ b
+        → (one_of a.id rows ≡ None) ⊎ ((v : Text) × (one_of a.id rows ≡ Some (read_as (reading_by a) v)) × Accepts a.ignore_case (parser_of_value a.parser) v)
+    perhaps a named rows pass true is = inr (value_in serve.rules a rows named pass is)
+    perhaps a named rows pass false is = inl (no_value a.id rows is)
 
 -- the subcommand that the words name
 entered_options : (stop : Option (Text × List Text)) → entered_fault (built program) stop ≡ [] → is_serve (entered (built program) stop) ≡ true → HasOptions (entered (built program) stop)

@@ -40,16 +40,23 @@ threads_test = vp.Unsigned 1 64
 abbrev pub accept_test : ValueParser
 accept_test = vp.Unsigned 1 1000000
 
--- `serve` has a port, a number of workers and one of sessions, each of which has a usual value, and a number of connections
+-- a number of seconds, up to a day
+abbrev pub idle_test : ValueParser
+idle_test = vp.Unsigned 1 86400
+
+-- `serve` has a port, a number of workers and one of sessions, each of which has a usual value, a number of connections and one
+-- of seconds
 abbrev pub serve_command : App
 serve_command =
     with_rule
     (with_rule
     (with_rule
+    (with_rule
     (with_rule (new_app (codes "serve")) (usually (codes "0") (number_rule (codes "port") port_test)))
     (usually (codes "4") (number_rule (codes "workers") threads_test)))
     (usually (codes "8") (number_rule (codes "sessions") threads_test)))
-    (number_rule (codes "accept") accept_test)
+    (number_rule (codes "accept") accept_test))
+    (number_rule (codes "idle") idle_test)
 
 -- the program: its subcommands are `script` and `serve`
 abbrev pub program : App
@@ -83,12 +90,13 @@ HasValue test text = (given : Text) × (text ≡ Some (read_as (reading_of test)
 abbrev pub MayHaveValue : ValueParser → Option Text → Type 0
 MayHaveValue test text = (text ≡ None) ⊎ HasValue test text
 
--- each option of `serve` has a value that passes its test; only the number of connections may have none
+-- each option of `serve` has a value that passes its test; only the numbers of connections and of seconds may have none
 abbrev pub HasOptions : Option (Text × List Row) → Type 0
 HasOptions found = HasValue port_test (value_of (codes "port") found)
     × HasValue threads_test (value_of (codes "workers") found)
     × HasValue threads_test (value_of (codes "sessions") found)
     × MayHaveValue accept_test (value_of (codes "accept") found)
+    × MayHaveValue idle_test (value_of (codes "idle") found)
 
 -- the digits, after a plus or none, are those of this number
 abbrev pub Spells : Text → ℕ → Type 0
@@ -115,3 +123,4 @@ Asks found (Serve port options) = (is_serve found ≡ true)
     × (IsValue (value_of (codes "workers") found) options.workers × AreThreads options.workers)
     × (IsValue (value_of (codes "sessions") found) options.sessions × AreThreads options.sessions)
     × IsGiven (value_of (codes "accept") found) options.accept
+    × IsGiven (value_of (codes "idle") found) options.idle_seconds

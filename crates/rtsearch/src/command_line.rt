@@ -1,7 +1,7 @@
 ghost use Rattle.std.specs.Prelude.{◌≡◌, ◌≤◌, ℕ, List, [], ◌∷◌, codes, map, true, false, IfOk, IfErr, OnOk};
 ghost use Rattle.clap.specs.Words.{app_of, kind_of, found_of, one_text, rule_of, subcommand_rows_of};
 ghost use Rattle.rtsearch.specs.CommandLine.{AsksForScript, IsCommandLine, IsFaultOf, program, serve_command, number_rule};
-ghost use Rattle.rtsearch.specs.CommandLine.{entered, is_serve, port_test, threads_test, accept_test};
+ghost use Rattle.rtsearch.specs.CommandLine.{entered, is_serve, port_test, threads_test, accept_test, idle_test};
 ghost use Rattle.rtsearch.specs.CommandLine.{HasValue, MayHaveValue, HasOptions, IsValue, IsGiven, AreThreads, Asks};
 
 use clap::builder::ValueParser;
@@ -56,16 +56,19 @@ fn serve_line<'a>(alloc: Global) -> Result<Command<'a>, AllocError>
 {
     let threads = value_parser!(u64).range(1..=64);
     let connections = value_parser!(u64).range(1..=1_000_000);
+    let seconds = value_parser!(u64).range(1..=86_400);
     let port = "The port on 127.0.0.1, 0 for any that is free";
     let workers = "How many threads go on with the searches";
     let sessions = "How many connections are answered at once";
     let accept = "Ends after so many connections";
+    let idle = "Ends a session whose peer has sent nothing for so many seconds";
     Command::new(alloc, "serve")
         .about("Reads a roster on standard input, and serves its tenants on 127.0.0.1")
         .arg(number_option(alloc, "port", port, value_parser!(u16)).default_value("0"))?
         .arg(number_option(alloc, "workers", workers, threads).default_value("4"))?
         .arg(number_option(alloc, "sessions", sessions, threads).default_value("8"))?
-        .arg(number_option(alloc, "accept", accept, connections))
+        .arg(number_option(alloc, "accept", accept, connections))?
+        .arg(number_option(alloc, "idle", idle, seconds))
 }
 
 /// An option of this name, whose value is a number that passes this test.
@@ -98,19 +101,22 @@ fn port_of(serve: &ArgMatches<'_>) -> u16
     serve.get_one::<u16>("port").unwrap()
 }
 
-/// How many threads the service has, and after how many connections it ends.
+/// How many threads the service has, after how many connections it ends, and after how many silent seconds a session does.
 fn options_of(serve: &ArgMatches<'_>) -> ServeOptions
     requires workers { HasValue threads_test (one_text (found_of serve.now) (codes "workers")) }
     requires sessions { HasValue threads_test (one_text (found_of serve.now) (codes "sessions")) }
     requires accept { MayHaveValue accept_test (one_text (found_of serve.now) (codes "accept")) }
+    requires idle { MayHaveValue idle_test (one_text (found_of serve.now) (codes "idle")) }
     ensures workers { IsValue (one_text (found_of serve.now) (codes "workers")) result.workers × AreThreads result.workers }
     ensures sessions { IsValue (one_text (found_of serve.now) (codes "sessions")) result.sessions × AreThreads result.sessions }
     ensures accept { IsGiven (one_text (found_of serve.now) (codes "accept")) result.accept }
+    ensures idle { IsGiven (one_text (found_of serve.now) (codes "idle")) result.idle_seconds }
 {
     ServeOptions {
         workers: threads_of(serve, "workers"),
         sessions: threads_of(serve, "sessions"),
         accept: accept_of(serve),
+        idle_seconds: idle_of(serve),
     }
 }
 
@@ -129,4 +135,12 @@ fn accept_of(serve: &ArgMatches<'_>) -> Option<u64>
     ensures { IsGiven (one_text (found_of serve.now) (codes "accept")) result }
 {
     serve.get_one::<u64>("accept")
+}
+
+/// After how many silent seconds a session ends, where the words say so.
+fn idle_of(serve: &ArgMatches<'_>) -> Option<u64>
+    requires { MayHaveValue idle_test (one_text (found_of serve.now) (codes "idle")) }
+    ensures { IsGiven (one_text (found_of serve.now) (codes "idle")) result }
+{
+    serve.get_one::<u64>("idle")
 }

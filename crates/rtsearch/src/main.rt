@@ -18,11 +18,18 @@ use std::net::{Net, TcpListener, TcpStream};
 use std::process::ExitCode;
 use std::sync::Wait;
 use std::thread::Threads;
+use std::time::Clock;
 use std::{env, io};
 
 /// Runs the program over its own words and these streams, and answers its status.
 fn run<
-    H: Env + AllocGlobal + Net<Listener = TcpListener, Stream = TcpStream> + Threads + Wait + Sync,
+    H: Env
+        + AllocGlobal
+        + Net<Listener = TcpListener, Stream = TcpStream>
+        + Threads
+        + Wait
+        + Clock
+        + Sync,
     R: Read + Drop,
     W: Write,
 >(rt: &H, reader: &mut R, writer: &mut W) -> io::Result<u8> {

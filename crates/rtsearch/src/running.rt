@@ -15,13 +15,14 @@ use std::io::{Read, Write};
 use std::net::{Net, TcpListener, TcpStream};
 use std::sync::Wait;
 use std::thread::Threads;
+use std::time::Clock;
 
 /// Does what the words of the command line ask for, the program's name first, and answers the status of the program:
 /// 0 where all input was read and answered, or all connections were served; 1 on a fault of the roster, of reading, of
 /// writing, of a socket, of a thread or of memory; 2 where the command line is refused, whose text goes to the writer,
 /// and nothing is read. `--help` and `--version` are among those.
 pub fn run_words<
-    H: Net<Listener = TcpListener, Stream = TcpStream> + Threads + Wait + Sync,
+    H: Net<Listener = TcpListener, Stream = TcpStream> + Threads + Wait + Clock + Sync,
     R: Read + Drop,
     W: Write,
 >(rt: &H, alloc: Global, words: &[&str], reader: &mut R, writer: &mut W) -> u8

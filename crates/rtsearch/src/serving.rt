@@ -9,11 +9,12 @@ use std::io::{Read, Write};
 use std::net::{Net, TcpListener, TcpStream};
 use std::sync::Wait;
 use std::thread::Threads;
+use std::time::Clock;
 
 /// Reads a roster, and serves its tenants at this port of 127.0.0.1: 0 where all connections were served, 1 on a fault of
 /// the roster, of reading, of writing, of the socket, of a thread or of memory.
 pub fn run_service<
-    H: Net<Listener = TcpListener, Stream = TcpStream> + Threads + Wait + Sync,
+    H: Net<Listener = TcpListener, Stream = TcpStream> + Threads + Wait + Clock + Sync,
     R: Read + Drop,
     W: Write,
 >(rt: &H, alloc: Global, port: u16, options: ServeOptions, reader: &mut R, writer: &mut W) -> u8
@@ -33,7 +34,7 @@ pub fn run_service<
     let Ok(listener) = TcpListener::bind(rt, ("127.0.0.1", port)) else {
         return 1;
     };
-    match serve(rt, alloc, &roster, &listener, options, writer) {
+    match serve(rt, alloc, &roster, listener, options, writer) {
         Ok(_count) => 0,
         Err(_fault) => 1,
     }

@@ -9,10 +9,16 @@ use std::process::ExitCode;
 use std::sync::Wait;
 use std::test::Fail;
 use std::thread::Threads;
+use std::time::Clock;
 
 /// The status and the output of the program on these words, and what it leaves of the input.
 fn status_of<
-    H: AllocGlobal + Net<Listener = TcpListener, Stream = TcpStream> + Threads + Wait + Sync,
+    H: AllocGlobal
+        + Net<Listener = TcpListener, Stream = TcpStream>
+        + Threads
+        + Wait
+        + Clock
+        + Sync,
 >(rt: &H, words: &[&str], input: &mut &[u8], out: &mut Vec<u8>) -> u8 {
     run_words(rt, rt.alloc(), words, input, out)
 }
@@ -43,7 +49,12 @@ fn a_faulty_roster_ends_with_status_1(rt: HostRuntime) -> Result<(), Fail> {
 /// Whether a command line is refused: with status 2 and a text that begins so, which is no reply, and all of the input
 /// left unread.
 fn is_refused<
-    H: AllocGlobal + Net<Listener = TcpListener, Stream = TcpStream> + Threads + Wait + Sync,
+    H: AllocGlobal
+        + Net<Listener = TcpListener, Stream = TcpStream>
+        + Threads
+        + Wait
+        + Clock
+        + Sync,
 >(rt: &H, words: &[&str], front: &str) -> bool {
     let script: &[u8] = b"tenant A a\nbegin\nA: vault\n";
     let mut input = script;
@@ -68,6 +79,7 @@ fn words_without_options_ask_for_the_usual_numbers(rt: HostRuntime) {
         workers: 4,
         sessions: 8,
         accept: None,
+        idle_seconds: None,
     };
     let errand = read_words(rt.alloc(), &["rtsearch", "serve"]).ok();
     assert!(rt; errand == Some(Errand::Serve(0, usual)));
@@ -83,18 +95,22 @@ fn each_option_gives_its_own_number(rt: HostRuntime) {
         "--port=7412",
         "--accept",
         "1000000",
+        "--idle=86400",
         "--workers=64",
     ];
     let options = ServeOptions {
         workers: 64,
         sessions: 3,
         accept: Some(1_000_000),
+        idle_seconds: Some(86_400),
     };
     let errand = read_words(rt.alloc(), &words).ok();
     assert!(rt; errand == Some(Errand::Serve(7412, options)));
     assert!(rt; is_refused(&rt, &["rtsearch", "serve", "--workers", "65"], "error: "));
     assert!(rt; is_refused(&rt, &["rtsearch", "serve", "--port", "65536"], "error: "));
     assert!(rt; is_refused(&rt, &["rtsearch", "serve", "--accept", "0"], "error: "));
+    assert!(rt; is_refused(&rt, &["rtsearch", "serve", "--idle", "0"], "error: "));
+    assert!(rt; is_refused(&rt, &["rtsearch", "serve", "--idle", "86401"], "error: "));
 }
 
 #[test]

@@ -1,3 +1,4 @@
+pub mod Accepting
 pub mod Line
 pub mod LineReader
 pub mod Words

@@ -4,9 +4,11 @@ ghost use Rattle.service.specs.declared.serve_faults.ServeFault.TheVariants as f
 ghost use Rattle.service.specs.Roster.{names_of};
 ghost use Rattle.service.specs.Served.{Answered};
 
+use crate::accepting::next_connection;
+use crate::peers::{Bounds, answer_peer};
 use crate::rosters::Roster;
 use crate::serve_faults::ServeFault;
-use crate::sessions::serve_session;
+use crate::serving::ServeOptions;
 use crossbeam_channel::{Receiver, Sender, bounded};
 use pool::Desk;
 use std::alloc::Global;
@@ -15,29 +17,73 @@ use std::sync::Wait;
 use std::sync::ledger::Ledger;
 use std::thread;
 use std::thread::Threads;
+use std::time::Clock;
 
 /// How many accepted connections wait for a session that is free. More wait in the listener.
 const QUEUED: usize = 1;
 
-/// Answers connections by so many sessions at once, and tells how many there were once all have ended. Where no more can be
-/// accepted the desk is stopped, so that no session waits for a search.
-pub(crate) fn answer_connections<L: Ledger + Send + Sync, R: Threads + Wait + Sync>(
+/// Where connections come in.
+#[derive(Drop)]
+struct Entrance {
+    listener: TcpListener,
+    queue: Sender<TcpStream>,
+}
+
+/// Where the sessions find their connections, and what bounds each.
+#[derive(Drop)]
+struct Arrivals {
+    queue: Receiver<TcpStream>,
+    bounds: Bounds,
+}
+
+/// Answers connections by so many sessions at once, and tells how many there were once all have ended. The listener is closed
+/// as soon as no more are accepted. Where that is a fault the desk is stopped, so that no session waits for a search, and
+/// each session ends where it reads.
+pub(crate) fn answer_connections<L: Ledger + Send + Sync, R: Threads + Wait + Clock + Sync>(
     rt: &R,
     alloc: Global,
     desk: &Desk<L>,
     roster: &Roster,
-    listener: &TcpListener,
-    sessions: u64,
-    accept: Option<u64>,
+    listener: TcpListener,
+    options: ServeOptions,
 ) -> Result<u64, ServeFault>
     requires tenants { desk.now ≡ names_of roster.now }
-    requires sessions { (1 ≤ sessions) × (sessions ≤ 64) }
-    ensures { Answered accept result }
+    requires sessions { (1 ≤ options.sessions) × (options.sessions ≤ 64) }
+    ensures { Answered options.accept result }
 {
     let Ok((sender, receiver)) = bounded::<TcpStream, _>(alloc, QUEUED) else {
         return Err(ServeFault::Memory);
     };
-    let queue = &receiver;
+    let entrance = Entrance {
+        listener,
+        queue: sender,
+    };
+    let arrivals = Arrivals {
+        queue: receiver,
+        bounds: Bounds::new(options.idle_seconds),
+    };
+    answer_arrivals(rt, alloc, desk, roster, entrance, &arrivals, options)
+}
+
+/// Answers what comes in by so many sessions.
+fn answer_arrivals<L: Ledger + Send + Sync, R: Threads + Wait + Clock + Sync>(
+    rt: &R,
+    alloc: Global,
+    desk: &Desk<L>,
+    roster: &Roster,
+    entrance: Entrance,
+    arrivals: &Arrivals,
+    options: ServeOptions,
+) -> Result<u64, ServeFault>
+    requires tenants { desk.now ≡ names_of roster.now }
+    requires sessions { (1 ≤ options.sessions) × (options.sessions ≤ 64) }
+    ensures { Answered options.accept result }
+{
+    let ServeOptions {
+        sessions,
+        accept,
+        ..
+    } = options;
     thread::scope(
         thread::scope_env(),
         rt,
@@ -50,16 +96,17 @@ pub(crate) fn answer_connections<L: Ledger + Send + Sync, R: Threads + Wait + Sy
             for _session in 0..sessions {
                 started = started
                     && scope
-                        .spawn(move || answer_queue(rt, alloc, desk, roster, queue))
+                        .spawn(move || answer_queue(rt, alloc, desk, roster, arrivals))
                         .is_ok();
             }
             let accepted = if started {
-                accept_all(rt, listener, sender, accept)
+                accept_all(rt, entrance, accept)
             } else {
-                drop(sender);
+                drop(entrance);
                 Err(ServeFault::NoThread)
             };
             if accepted.is_err() {
+                arrivals.bounds.stop();
                 desk.stop(rt);
             }
             accepted
@@ -67,39 +114,32 @@ pub(crate) fn answer_connections<L: Ledger + Send + Sync, R: Threads + Wait + Sy
     )
 }
 
-/// Accepts so many connections, or all that come. The queue ends with it.
-fn accept_all<R: Wait>(
+/// Accepts so many connections, or all that come. The listener and the queue end with it.
+fn accept_all<R: Wait + Clock>(
     rt: &R,
-    listener: &TcpListener,
-    queue: Sender<TcpStream>,
+    entrance: Entrance,
     accept: Option<u64>,
 ) -> Result<u64, ServeFault>
     ensures { Answered accept result }
 {
     let Some(count) = accept else {
         for _ in rt.forever() {
-            accept_one(rt, listener, &queue)?;
+            accept_one(rt, &entrance)?;
         }
         unreachable!()
     };
     for _ in 0..count {
-        accept_one(rt, listener, &queue)?;
+        accept_one(rt, &entrance)?;
     }
     Ok(count)
 }
 
 /// Accepts a connection, and waits until there is room for it in the queue.
-fn accept_one<R: Wait>(
-    rt: &R,
-    listener: &TcpListener,
-    queue: &Sender<TcpStream>,
-) -> Result<(), ServeFault>
+fn accept_one<R: Wait + Clock>(rt: &R, entrance: &Entrance) -> Result<(), ServeFault>
     ensures { IfErr result (λ why. why ≢ fault.Write) }
 {
-    let Ok((stream, _peer)) = listener.accept() else {
-        return Err(ServeFault::Socket);
-    };
-    match queue.send(rt, stream) {
+    let stream = next_connection(rt, &entrance.listener)?;
+    match entrance.queue.send(rt, stream) {
         Ok(()) => Ok(()),
         Err(_unsent) => Err(ServeFault::Memory),
     }
@@ -111,29 +151,14 @@ fn answer_queue<L: Ledger, R: Wait>(
     alloc: Global,
     desk: &Desk<L>,
     roster: &Roster,
-    queue: &Receiver<TcpStream>,
+    arrivals: &Arrivals,
 )
     requires { desk.now ≡ names_of roster.now }
 {
     for _ in rt.forever() {
-        let Ok(stream) = queue.recv(rt) else {
+        let Ok(stream) = arrivals.queue.recv(rt) else {
             break;
         };
-        answer_peer(rt, alloc, desk, roster, &stream);
+        answer_peer(rt, alloc, desk, roster, &arrivals.bounds, &stream);
     }
-}
-
-/// A session with one peer. However it ends, it ends alone. Each reply is sent at once, and not held back for the next.
-fn answer_peer<L: Ledger, R: Wait>(
-    rt: &R,
-    alloc: Global,
-    desk: &Desk<L>,
-    roster: &Roster,
-    stream: &TcpStream,
-)
-    requires { desk.now ≡ names_of roster.now }
-{
-    let _ = stream.set_nodelay(true);
-    let mut writer = stream;
-    let _end = serve_session(rt, alloc, desk, roster, stream, &mut writer);
 }

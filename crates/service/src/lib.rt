@@ -1,6 +1,7 @@
 //! The service over bytes: lines that come in, commands of many tenants, and replies that go out.
 #![tactic(auto)]
 
+mod accepting;
 mod answers;
 mod arguments;
 mod commands;
@@ -12,6 +13,7 @@ mod fault_texts;
 mod hosts;
 mod laws;
 mod lines;
+mod peers;
 mod refusals;
 mod reply_lines;
 mod rooms;

@@ -22,6 +22,7 @@ use std::sync::Wait;
 use std::sync::ledger::{Blank, Ledger};
 use std::thread;
 use std::thread::Threads;
+use std::time::Clock;
 
 /// How many threads a service has, and when it ends.
 #[derive(Clone, Copy, Debug, PartialEq, Eq)]
@@ -32,17 +33,22 @@ pub struct ServeOptions {
     pub sessions: u64,
     /// After how many connections the service ends. Without a number it goes on.
     pub accept: Option<u64>,
+    /// After how many seconds, at least 1, in which its peer says nothing, or takes nothing of a reply, a session ends. The
+    /// time that a peer waits for its reply doesn't count. Without a number it goes on.
+    pub idle_seconds: Option<u64>,
 }
 
 /// Serves the roster's tenants, who have done nothing yet, to the peers that connect to the listener. Once the listener's
-/// port is known a line tells it. After the last connection has been answered another line tells how many there were. On a
-/// fault nothing more is accepted, waits for searches end, and it is told once the sessions that are open have ended. Where
-/// memory was refused to all workers, waits end too and the sessions go on; that is told at the end.
-pub fn serve<R: Threads + Wait + Sync, W: Write>(
+/// port is known a line tells it. After the last connection has been answered another line tells how many there were. An
+/// accept that fails for want of descriptors or memory, or since its peer has gone, is no fault: it is tried again. On a
+/// fault nothing more is accepted, waits for searches end, each session ends where it reads, and the fault is told once the
+/// sessions that are open have ended. The listener is closed as soon as nothing more is accepted, so that peers don't wait
+/// there. Where memory was refused to all workers, waits end too and the sessions go on; that is told at the end.
+pub fn serve<R: Threads + Wait + Clock + Sync, W: Write>(
     rt: &R,
     alloc: Global,
     roster: &Roster,
-    listener: &TcpListener,
+    listener: TcpListener,
     options: ServeOptions,
     writer: &mut W,
 ) -> Result<u64, ServeFault>
@@ -56,12 +62,12 @@ pub fn serve<R: Threads + Wait + Sync, W: Write>(
 }
 
 /// Serves at a new desk of the roster's tenants, whose ledger has this name.
-fn serve_with<L: Ledger + Send + Sync, R: Threads + Wait + Sync, W: Write>(
+fn serve_with<L: Ledger + Send + Sync, R: Threads + Wait + Clock + Sync, W: Write>(
     rt: &R,
     alloc: Global,
     blank: Blank,
     roster: &Roster,
-    listener: &TcpListener,
+    listener: TcpListener,
     options: ServeOptions,
     writer: &mut W,
 ) -> Result<u64, ServeFault>
@@ -79,12 +85,12 @@ fn serve_with<L: Ledger + Send + Sync, R: Threads + Wait + Sync, W: Write>(
 }
 
 /// Serves at this desk.
-fn serve_at<L: Ledger + Send + Sync, R: Threads + Wait + Sync, W: Write>(
+fn serve_at<L: Ledger + Send + Sync, R: Threads + Wait + Clock + Sync, W: Write>(
     rt: &R,
     alloc: Global,
     desk: &Desk<L>,
     roster: &Roster,
-    listener: &TcpListener,
+    listener: TcpListener,
     options: ServeOptions,
     writer: &mut W,
 ) -> Result<u64, ServeFault>
@@ -128,35 +134,31 @@ fn tell_count<W: Write>(writer: &mut W, line: &mut Room, count: u64) -> Result<(
 }
 
 /// Runs the workers while the connections are answered.
-fn answer_beside_workers<L: Ledger + Send + Sync, R: Threads + Wait + Sync>(
+fn answer_beside_workers<L: Ledger + Send + Sync, R: Threads + Wait + Clock + Sync>(
     rt: &R,
     alloc: Global,
     desk: &Desk<L>,
     roster: &Roster,
-    listener: &TcpListener,
+    listener: TcpListener,
     options: ServeOptions,
 ) -> Result<u64, ServeFault>
     requires tenants { desk.now ≡ names_of roster.now }
     requires sessions { (1 ≤ options.sessions) × (options.sessions ≤ 64) }
     ensures { Answered options.accept result }
 {
-    let ServeOptions {
-        workers,
-        sessions,
-        accept,
-    } = options;
+    let workers = options.workers;
     thread::scope(
         thread::scope_env(),
         rt,
         |scope| -> Result<u64, ServeFault>
             requires tenants { desk.now ≡ names_of roster.now }
-            requires sessions { (1 ≤ sessions) × (sessions ≤ 64) }
-            ensures { Answered accept result }
+            requires sessions { (1 ≤ options.sessions) × (options.sessions ≤ 64) }
+            ensures { Answered options.accept result }
         {
             let Ok(working) = scope.spawn(move || work(rt, alloc, desk, workers)) else {
                 return Err(ServeFault::NoThread);
             };
-            let answered = answer_connections(rt, alloc, desk, roster, listener, sessions, accept);
+            let answered = answer_connections(rt, alloc, desk, roster, listener, options);
             desk.stop(rt);
             let worked = working.join(rt);
             let count = answered?;

@@ -14,7 +14,7 @@ use Rattle.vaults.specs.declared.faults.VaultFault.TheVariants.{GrantSelf, Alrea
 use Rattle.vaults.specs.InOrder.{without}
 use Rattle.vaults.specs.declared.marks.Seen.{Seen}
 use Rattle.vaults.specs.Journal.{concerns, grants, granted, is_for_all, grants_all, is_public, entry_is, last_entry, names_read, marked_name_of, marked_names, names_in, refusal}
-use Rattle.vaults.specs.Book.{is_granting, AreGranting, KeepsGrant, SameGranting, is_listed, ArePublic, KeepsPublic, SamePublic}
+use Rattle.vaults.specs.Book.{is_granting, AreGranting, KeepsGrant, SameGranting, is_listed, ArePublic, KeepsPublic}
 use Rattle.vaults.specs.Merge.{AreMerged}
 use Rattle.vaults.proofs.Elements.{has, has-insert_key, has-without, same_in_order, tied_both_ways}
 use Rattle.names.proofs.SameNames.{is_same_tied, same_from_is_same}
@@ -111,33 +111,20 @@ granting_after journal before after who change old new right keeps same entered 
     keeps owner reader ∙ ap (cond (is_same who owner && concerns reader change) (grants change)) (right owner reader) ∙ sym (answer_push grants (concerns reader) journal who change owner))
 
 -- with the owner put among the public ones, it is as after public reading is granted
-pub public_added : (who : List ℕ) (change : Change) (old new : List (List ℕ)) → change ≡ GrantAll → new ≡ insert_key name_order old who → KeepsPublic who change old new
-public_added who change old new is after owner =
+pub public_added : (who : List ℕ) (old new : List (List ℕ)) → new ≡ insert_key name_order old who → KeepsPublic who GrantAll old new
+public_added who old new after owner =
     ap (λ (l : List (List ℕ)). has name_order l owner) after ∙ has-insert_key names_exact old who owner
     ∙ added_then (eq_by_cmp name_order owner who) (has name_order old owner)
     ∙ ap (λ (e : Bool). cond e true (has name_order old owner)) (tied_both_ways names_exact owner who ∙ is_same_tied who owner)
     ∙ sym (and_true (is_same who owner) true (has name_order old owner))
-    ∙ ap (λ (c : Change). cond (is_same who owner && is_for_all c) (grants_all c) (has name_order old owner)) (sym is)
 
 -- with the owner taken out of them, it is as after that is revoked
-pub public_dropped : (who : List ℕ) (change : Change) (old new : List (List ℕ)) → change ≡ RevokeAll → new ≡ without name_order who old → KeepsPublic who change old new
-public_dropped who change old new is after owner =
+pub public_dropped : (who : List ℕ) (old new : List (List ℕ)) → new ≡ without name_order who old → KeepsPublic who RevokeAll old new
+public_dropped who old new after owner =
     ap (λ (l : List (List ℕ)). has name_order l owner) after ∙ has-without names_exact old who owner
     ∙ dropped_then (eq_by_cmp name_order who owner) (has name_order old owner)
     ∙ ap (λ (e : Bool). cond e false (has name_order old owner)) (is_same_tied who owner)
     ∙ sym (and_true (is_same who owner) false (has name_order old owner))
-    ∙ ap (λ (c : Change). cond (is_same who owner && is_for_all c) (grants_all c) (has name_order old owner)) (sym is)
-
--- an owner that wasn't there, put in and taken out again, changes nothing
-pub public_undone : (who : List ℕ) (old between new : List (List ℕ)) → is_listed old who ≡ false → between ≡ insert_key name_order old who → new ≡ without name_order who between → SamePublic old new
-public_undone who old between new first added dropped owner =
-    public_dropped who RevokeAll between new refl dropped owner
-    ∙ ap (cond (is_same who owner && true) false) (public_added who GrantAll old between refl added owner)
-    ∙ by (is_same who owner) refl
-  where
-    by : (b : Bool) → is_same who owner ≡ b → cond (b && true) false (cond (b && true) true (is_listed old owner)) ≡ is_listed old owner
-    by true same = sym first ∙ ap (is_listed old) (same_from_is_same who owner same)
-    by false apart = refl
 
 -- public reading that is granted wasn't before
 pub public_first : (journal : List Entry) (who : List ℕ) (change : Change) (public : List (List ℕ)) → refusal journal who change ≡ None → ArePublic journal public →

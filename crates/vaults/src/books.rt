@@ -8,7 +8,7 @@ ghost use Rattle.vaults.specs.Journal.{vault, readers, grant_count, marked_names
 ghost use Rattle.vaults.specs.Page.{empty_page};
 ghost use Rattle.vaults.specs.Version.{version_rows};
 ghost use Rattle.vaults.specs.Book.{is_granting, is_listed, KeepsChange, IsUnchanged, KeepsGrant, SameGranting, KeepsPublic, SamePublic};
-ghost use Rattle.vaults.specs.declared.changes.Change.TheVariants.{Grant, Revoke, GrantAll};
+ghost use Rattle.vaults.specs.declared.changes.Change.TheVariants.{Grant, Revoke, GrantAll, RevokeAll};
 
 use crate::changes::{Change, Entry};
 use crate::faults::VaultFault;
@@ -261,16 +261,16 @@ fn keep(
             Ok(count)
         }
         Change::GrantAll => {
-            public.add(&who)?;
+            add_public(public, who)?;
             let counted = keep_on_page(alloc, pages, who, change);
             if counted.is_err() {
-                public.remove(&who);
+                drop_public(public, who);
             }
             counted
         }
         Change::RevokeAll => {
             let count = keep_on_page(alloc, pages, who, change)?;
-            public.remove(&who);
+            drop_public(public, who);
             Ok(count)
         }
         Change::Upload(_) | Change::Withdraw(_) => keep_on_page(alloc, pages, who, change),
@@ -305,6 +305,21 @@ fn drop_granting(granting: &mut BTreeMap<Entity, NameSet>, owner: Entity, reader
     if let Some(owners) = granting.get_mut(&reader) {
         owners.remove(&owner);
     }
+}
+
+/// Keeps that the owner's vault is public.
+fn add_public(public: &mut NameSet, owner: Entity) -> Result<(), AllocError>
+    ensures kept { OnOk result (KeepsPublic owner GrantAll public.old public.new) }
+    ensures unchanged { OnErr result (SamePublic public.old public.new) }
+{
+    public.add(&owner)
+}
+
+/// Keeps that the owner's vault is public no longer.
+fn drop_public(public: &mut NameSet, owner: Entity)
+    ensures { KeepsPublic owner RevokeAll public.old public.new }
+{
+    public.remove(&owner);
 }
 
 /// Those that have granted the reader.

@@ -8,7 +8,7 @@ use std::alloc::Global;
 use std::mem;
 use std::sync::Wait;
 use std::sync::ledger::Ledger;
-use vaults::Change;
+use vaults::{Change, Seen};
 
 /// What is asked of a desk.
 #[derive(Clone, Copy)]
@@ -21,6 +21,10 @@ pub(super) enum Act {
     Grant(&'static str),
     /// The grant to the reader is taken back.
     Revoke(&'static str),
+    /// Every tenant is granted the vault.
+    GrantAll,
+    /// That is taken back.
+    RevokeAll,
     /// Is the entity a member of the role?
     Ask(&'static str, &'static str),
     /// Who is a member of the role?
@@ -66,8 +70,8 @@ pub(super) enum Told {
     Steps(usize),
     /// So many rows, and whether the first is the credential.
     Rows(usize, bool),
-    /// The tenant reads its own vault alone.
-    OwnAlone,
+    /// The tenant reads so many vaults, and so many of them are public.
+    Seen(usize, usize),
     /// The length of the journal that was seen, and the share of the pass.
     Share(u64, u64),
     Done,
@@ -215,11 +219,13 @@ fn held<L: Ledger, R: Wait>(
     }
 }
 
+fn public_among(seen: &[Seen]) -> usize {
+    seen.iter().filter(|one| one.to_all).count()
+}
+
 fn seen<L: Ledger, R: Wait>(rt: &R, desk: &Desk<L>, pass: &mut Pass<L>) -> Told {
-    let own = pass.tenant();
     match desk.sees(rt, pass) {
-        Ok(names) if matches!(names.as_slice(), [only] if *only == own) => Told::OwnAlone,
-        Ok(_) => Told::Otherwise,
+        Ok(seen) => Told::Seen(seen.as_slice().len(), public_among(seen.as_slice())),
         Err(fault) => refused(fault),
     }
 }
@@ -308,6 +314,8 @@ fn about_pass<L: Ledger, R: Wait>(rt: &R, desk: &Desk<L>, pass: &mut Pass<L>, ac
         Act::Poll(number) => polled(rt, desk, pass, number),
         Act::Wait(number) => waited(rt, desk, pass, number, None),
         Act::End(number) => ended(rt, desk, pass, number),
+        Act::GrantAll => changed(rt, desk, pass, Change::GrantAll),
+        Act::RevokeAll => changed(rt, desk, pass, Change::RevokeAll),
         Act::Sees => seen(rt, desk, pass),
         Act::See(length) => {
             pass.see(length);

@@ -12,7 +12,7 @@ const EACH_CALL: Scene = Scene {
         Line(0, Act::Put("A.r <- D"), Told::Counted(1)),
         Line(0, Act::Ask("A.r", "D"), Told::Opened(1, 1)),
         Line(0, Act::Vault("A.r <- D"), Told::Rows(1, true)),
-        Line(0, Act::Sees, Told::OwnAlone),
+        Line(0, Act::Sees, Told::Seen(1, 0)),
         Line(0, Act::Proof(1, "D"), Told::Refused(52)),
         Line(0, Act::Poll(1), Told::Working),
         Line(0, Act::Stop, Told::Done),

@@ -45,7 +45,7 @@ const WHOLE_LIFE: Scene = Scene {
             ),
         ),
         Line(1, Act::Vault("A.r <- D"), Told::Rows(1, true)),
-        Line(1, Act::Sees, Told::OwnAlone),
+        Line(1, Act::Sees, Told::Seen(1, 0)),
         Line(1, Act::Proof(1, "D"), Told::Steps(2)),
         Line(1, Act::Share, Told::Share(1, 0)),
     ],

@@ -60,6 +60,37 @@ fn a_grant_after_the_opening(rt: HostRuntime) -> Result<(), Break> {
     played(&rt, rt.alloc(), &GRANT, Way::Open)
 }
 
+/// The same where `B` lets every tenant read, and so every one that reads `B`'s vault sees its mark, `B` too.
+const GRANT_TO_ALL: Scene = Scene {
+    limits: USUAL,
+    passes: &["A", "B"],
+    before: &[],
+    beside: &[
+        Line(0, Act::Put("A.r <- B.s"), Told::Counted(1)),
+        Line(1, Act::Put("B.s <- D"), Told::Counted(1)),
+        Line(0, Act::Ask("A.r", "D"), Told::Opened(1, 2)),
+        Line(1, Act::GrantAll, Told::Counted(2)),
+        Line(0, Act::Ask("A.r", "D"), Told::Opened(2, 3)),
+        Line(0, Act::Wait(2), Told::Yes),
+        Line(0, Act::Wait(1), Told::No),
+        Line(0, Act::Sees, Told::Seen(2, 1)),
+        Line(1, Act::Sees, Told::Seen(1, 1)),
+        Line(1, Act::GrantAll, Told::Refused(34)),
+        Line(1, Act::Revoke("A"), Told::Refused(35)),
+        Line(1, Act::RevokeAll, Told::Counted(3)),
+        Line(1, Act::RevokeAll, Told::Refused(35)),
+        Line(0, Act::Sees, Told::Seen(1, 0)),
+    ],
+    workers: 2,
+    left: 0,
+    letters: None,
+};
+
+#[test]
+fn a_grant_to_all_after_the_opening(rt: HostRuntime) -> Result<(), Break> {
+    played(&rt, rt.alloc(), &GRANT_TO_ALL, Way::Open)
+}
+
 /// Limits of `A`, and what it is told under them: one search at once; all that is refused for another reason than a limit;
 /// one credential, one grant, three changes and one opening.
 const REFUSALS: [([u64; 6], &[Line]); 3] = [

@@ -5,6 +5,7 @@ use std::io;
 use std::io::Read;
 use std::net::{Net, Shutdown, TcpStream};
 use std::test::Fail;
+use std::time::Duration;
 
 const ROSTER: &[u8] = b"tenant A a\ntenant B b\ntenant C c\nbegin\n";
 
@@ -90,8 +91,8 @@ fn are_told_all<R: Net<Stream = TcpStream>>(
     all
 }
 
-/// Serves the tenants at this listener by two workers, and closes it.
-fn serve_at<R: Threads + Wait + Sync>(
+/// Serves the tenants at this listener by two workers.
+fn serve_at<R: Threads + Wait + Clock + Sync>(
     rt: &R,
     alloc: Global,
     roster: &Roster,
@@ -104,13 +105,14 @@ fn serve_at<R: Threads + Wait + Sync>(
         workers: 2,
         sessions: sessions.clamp(1, 64),
         accept: Some(count),
+        idle_seconds: None,
     };
-    serve(rt, alloc, roster, &listener, options, writer)
+    serve(rt, alloc, roster, listener, options, writer)
 }
 
 /// Serves so many connections beside these visits. Answers what the service came to, and whether the peers were told
 /// what they should be.
-fn serve_beside<R: Net<Stream = TcpStream> + Threads + Wait + Sync>(
+fn serve_beside<R: Net<Stream = TcpStream> + Threads + Wait + Clock + Sync>(
     rt: &R,
     alloc: Global,
     listener: TcpListener,
@@ -131,7 +133,7 @@ fn serve_beside<R: Net<Stream = TcpStream> + Threads + Wait + Sync>(
 
 /// Whether these visits are served, of so many connections in all, and the service tells where it listened and how many
 /// it served.
-fn are_served<R: Net<Listener = TcpListener, Stream = TcpStream> + Threads + Wait + Sync>(
+fn are_served<R: Net<Listener = TcpListener, Stream = TcpStream> + Threads + Wait + Clock + Sync>(
     rt: &R,
     alloc: Global,
     sessions: u64,
@@ -261,6 +263,96 @@ fn a_listener_that_fails(rt: HostRuntime) -> Result<(), Fail> {
     Ok(())
 }
 
+/// Whether peers are refused once a listener no longer waits for them, while a session is open, and that session ends at
+/// its next line.
+fn are_refused<R: Net<Stream = TcpStream> + Clock>(
+    rt: &R,
+    port: u16,
+    lent: TcpListener,
+) -> io::Result<bool> {
+    let mut first = TcpStream::connect(rt, ("127.0.0.1", port))?;
+    let is_greeted = is_answered(&first, b"hello A a\n", b"hello A\n")?;
+    lent.set_nonblocking(true)?;
+    drop(lent);
+    let mut is_refused = false;
+    for _ in 0..1000u64 {
+        if TcpStream::connect(rt, ("127.0.0.1", port)).is_err() {
+            is_refused = true;
+            break;
+        }
+        thread::sleep(rt, Duration::from_millis(1));
+    }
+    first.write_all(b"vault\n")?;
+    Ok(is_greeted && is_refused && is_over(&first)?)
+}
+
+#[test]
+fn a_listener_that_fails_beside_a_session(rt: HostRuntime) -> Result<(), Fail> {
+    let listener = TcpListener::bind(&rt, ("127.0.0.1", 0))?;
+    let port = listener.local_addr()?.port();
+    let lent = listener.try_clone()?;
+    let mut lines = LineReader::make(rt.alloc(), ROSTER)?;
+    let roster = Roster::read(rt.alloc(), &mut lines)?;
+    let mut writer = Trickles::new(Vec::new(rt.alloc()), NEVER, Refuses::WithAnError);
+    let came_to = thread::join(
+        &rt,
+        || serve_at(
+            &rt,
+            rt.alloc(),
+            &roster,
+            listener,
+            8,
+            1_000_000,
+            &mut writer,
+        ),
+        || are_refused(&rt, port, lent).unwrap_or(false),
+    );
+    assert_eq!(rt; came_to, (Err(ServeFault::Socket), true));
+    Ok(())
+}
+
+/// Serves two peers at this listener, who may each be idle for less than a second.
+fn serve_two<R: Threads + Wait + Clock + Sync>(
+    rt: &R,
+    alloc: Global,
+    roster: &Roster,
+    listener: TcpListener,
+    writer: &mut Trickles,
+) -> Result<u64, ServeFault> {
+    let options = ServeOptions {
+        workers: 1,
+        sessions: 2,
+        accept: Some(2),
+        idle_seconds: Some(1),
+    };
+    serve(rt, alloc, roster, listener, options, writer)
+}
+
+/// Whether the sessions are ended of a peer that says nothing, and of one that stops within its second line.
+fn are_cut<R: Net<Stream = TcpStream>>(rt: &R, port: u16) -> io::Result<bool> {
+    let silent = TcpStream::connect(rt, ("127.0.0.1", port))?;
+    let mut stops = TcpStream::connect(rt, ("127.0.0.1", port))?;
+    let is_greeted = is_answered(&stops, b"hello A a\n", b"hello A\n")?;
+    stops.write_all(b"vau")?;
+    Ok(is_greeted && is_over(&stops)? && is_over(&silent)?)
+}
+
+#[test]
+fn peers_that_are_idle(rt: HostRuntime) -> Result<(), Fail> {
+    let listener = TcpListener::bind(&rt, ("127.0.0.1", 0))?;
+    let port = listener.local_addr()?.port();
+    let mut lines = LineReader::make(rt.alloc(), ROSTER)?;
+    let roster = Roster::read(rt.alloc(), &mut lines)?;
+    let mut writer = Trickles::new(Vec::new(rt.alloc()), NEVER, Refuses::WithAnError);
+    let came_to = thread::join(
+        &rt,
+        || serve_two(&rt, rt.alloc(), &roster, listener, &mut writer),
+        || are_cut(&rt, port).unwrap_or(false),
+    );
+    assert_eq!(rt; came_to, (Ok(2), true));
+    Ok(())
+}
+
 const COMES_AND_CLOSES: [Visit; 1] = [Visit {
     peers: 1,
     steps: &[],
@@ -269,13 +361,9 @@ const COMES_AND_CLOSES: [Visit; 1] = [Visit {
 
 /// Whether a service ends as it should whose writer refuses so many bytes behind the start of the first line, where nobody
 /// visits, and else of the second.
-fn ends_at_a_write<R: Net<Listener = TcpListener, Stream = TcpStream> + Threads + Wait + Sync>(
-    rt: &R,
-    alloc: Global,
-    visits: &[Visit],
-    behind: usize,
-    refuses: Refuses,
-) -> Result<bool, Fail> {
+fn ends_at_a_write<
+    R: Net<Listener = TcpListener, Stream = TcpStream> + Threads + Wait + Clock + Sync,
+>(rt: &R, alloc: Global, visits: &[Visit], behind: usize, refuses: Refuses) -> Result<bool, Fail> {
     let listener = TcpListener::bind(rt, ("127.0.0.1", 0))?;
     let port = listener.local_addr()?.port();
     let first = format!(in alloc; "listening 127.0.0.1:{port}\n")?;
