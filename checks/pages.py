@@ -13,7 +13,7 @@
 - Sessions: of a block ```session, at the service before it, each line `> LINE` is answered by what stands below it.
 - Scripts: a block ```script and the table of lines and replies after it, or a block ```replies, are what the program prints.
 - Pictures: docs/pictures/NAME.svg is what checks/draw_proof makes of examples/NAME.script; peers.svg is of docs/FIGURES.md,
-  and crates.svg of crates.txt and docs/ARCHITECTURE.md.
+  crates.svg of crates.txt and docs/ARCHITECTURE.md, and search.svg of bench/trace/clinic.trace.
 - README.md has at most 6,000 bytes.
 
 A block with no such word isn't run. The last line is `N passed, M failed`; each fault is told before it."""
@@ -28,7 +28,7 @@ import sys
 ROOT = pathlib.Path(__file__).resolve().parent.parent
 PROGRAM = os.environ.get("RTSEARCH", str(ROOT / "rtsearch"))
 FOLDERS = ("crates/", "docs/", "examples/", "cases/", "checks/", "bench/", "launch/")
-DRAWINGS = {"peers": "bench/peers/draw.py < docs/FIGURES.md", "crates": "checks/draw_crates"}
+DRAWINGS = {"peers": "bench/peers/draw.py < docs/FIGURES.md", "crates": "checks/draw_crates", "search": "bench/trace/draw.py < bench/trace/clinic.trace"}
 README_BYTES = 6000
 PATIENCE = 30  # seconds
 NC = 'nc() { exec 3<>"/dev/tcp/$1/$2"; cat >&3; cat <&3; }; '  # in place of the program of that name

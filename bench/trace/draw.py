@@ -1,7 +1,7 @@
 #!/usr/bin/env python3
 """Draws what bench/trace.sh prints as a diffusing computation: a column for each node, time downwards.
 
-  bench/trace.sh | bench/trace/draw.py > docs/pictures/search.svg
+  bench/trace/draw.py < bench/trace/clinic.trace > docs/pictures/search.svg
 
 An arrow is a letter, with its number: an ask, or a tell. A dotted arrow is a signal. A node is engaged, and its column
 thick, from the letter that engages it to the signal that it sends when it is owed nothing more. The trace has no names. So
