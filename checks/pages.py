@@ -28,7 +28,11 @@ import sys
 ROOT = pathlib.Path(__file__).resolve().parent.parent
 PROGRAM = os.environ.get("RTSEARCH", str(ROOT / "rtsearch"))
 FOLDERS = ("crates/", "docs/", "examples/", "cases/", "checks/", "bench/", "launch/")
-DRAWINGS = {"peers": "bench/peers/draw.py < docs/FIGURES.md", "crates": "checks/draw_crates", "search": "bench/trace/draw.py < bench/trace/clinic.trace"}
+DRAWINGS = {
+    "crates": "checks/draw_crates",
+    "peers": "bench/peers/draw.py < docs/FIGURES.md",
+    "search": "bench/trace/draw.py < bench/trace/clinic.trace",
+}
 README_BYTES = 6000
 PATIENCE = 30  # seconds
 NC = 'nc() { exec 3<>"/dev/tcp/$1/$2"; cat >&3; cat <&3; }; '  # in place of the program of that name
@@ -183,7 +187,9 @@ def runs_of(page):
 
 
 def run(command):
-    ran = subprocess.run(["bash", "-c", NC + command], cwd=ROOT, stdin=subprocess.DEVNULL, stdout=subprocess.PIPE, text=True, timeout=PATIENCE)
+    ran = subprocess.run(
+        ["bash", "-c", NC + command], cwd=ROOT, stdin=subprocess.DEVNULL, stdout=subprocess.PIPE, text=True, timeout=PATIENCE
+    )
     return ran.stdout.splitlines()
 
 
