@@ -7,13 +7,14 @@
 - Links: each link within the repository leads to a file that is there, and to a heading of it.
 - Paths: each path in backticks that begins with a folder of the repository is there.
 - Contracts: each `crate::function` is a function of that crate, and the clauses named behind it are clauses of it.
+- Definitions: each word of docs/DEFINITIONS.md stands in the file of specs/ that its row names, of its section's crate.
 - Files: a block ```text FILE is that file.
 - Commands: of a block ```console each line `$ COMMAND` prints what stands below it. A service goes on until the page's next
   one, and port 7412 is replaced by one that is free.
 - Sessions: of a block ```session, at the service before it, each line `> LINE` is answered by what stands below it.
 - Scripts: a block ```script and the table of lines and replies after it, or a block ```replies, are what the program prints.
 - Pictures: docs/pictures/NAME.svg is what checks/draw_proof makes of examples/NAME.script; peers.svg is of docs/FIGURES.md,
-  and crates.svg of crates.txt and docs/ARCHITECTURE.md.
+  crates.svg of crates.txt and docs/ARCHITECTURE.md, and search.svg of bench/trace/clinic.trace.
 - README.md has at most 6,000 bytes.
 
 A block with no such word isn't run. The last line is `N passed, M failed`; each fault is told before it."""
@@ -28,7 +29,11 @@ import sys
 ROOT = pathlib.Path(__file__).resolve().parent.parent
 PROGRAM = os.environ.get("RTSEARCH", str(ROOT / "rtsearch"))
 FOLDERS = ("crates/", "docs/", "examples/", "cases/", "checks/", "bench/", "launch/")
-DRAWINGS = {"peers": "bench/peers/draw.py < docs/FIGURES.md", "crates": "checks/draw_crates"}
+DRAWINGS = {
+    "crates": "checks/draw_crates",
+    "peers": "bench/peers/draw.py < docs/FIGURES.md",
+    "search": "bench/trace/draw.py < bench/trace/clinic.trace",
+}
 README_BYTES = 6000
 PATIENCE = 30  # seconds
 NC = 'nc() { exec 3<>"/dev/tcp/$1/$2"; cat >&3; cat <&3; }; '  # in place of the program of that name
@@ -80,6 +85,22 @@ def contracts_of(page):
             if (ROOT / "crates" / path.split("::")[0]).is_dir():
                 wanted = [clause for clause in re.findall(r"`([a-z]\w*)`", clauses)]
                 yield f"contract {path} {' '.join(wanted)}".strip(), lambda path=path, wanted=wanted: is_contract(path, wanted)
+
+
+def definitions_of(page):
+    """Each row of a section whose heading names a folder of specs: its words, and the files in which they stand."""
+    for folder, section in re.findall(r"^## [^\n]*\(`(crates/\w+/specs)`\)$(.*?)(?=^## |\Z)", page.text, flags=re.S | re.M):
+        for words, files in re.findall(r"^\| (`[^|]+`)[^|`]*\| ([\w, ]+) \|", section, flags=re.M):
+            for word in re.findall(r"`(\w+)`", words):
+                yield f"definition {word}", lambda w=word, fs=files.split(","), f=folder: is_defined(w, ROOT / f, fs)
+
+
+def is_defined(word, folder, files):
+    for file in files:
+        for found in folder.rglob(f"{file.strip()}.antt"):
+            if re.search(rf"^ *(?:abbrev |record |data |def )?(?:pub )?(?:data |record )?{word}\b", found.read_text(), flags=re.M):
+                return None
+    return f"not in {', '.join(files)}"
 
 
 def is_contract(path, wanted):
@@ -183,7 +204,9 @@ def runs_of(page):
 
 
 def run(command):
-    ran = subprocess.run(["bash", "-c", NC + command], cwd=ROOT, stdin=subprocess.DEVNULL, stdout=subprocess.PIPE, text=True, timeout=PATIENCE)
+    ran = subprocess.run(
+        ["bash", "-c", NC + command], cwd=ROOT, stdin=subprocess.DEVNULL, stdout=subprocess.PIPE, text=True, timeout=PATIENCE
+    )
     return ran.stdout.splitlines()
 
 
@@ -224,30 +247,36 @@ def is_answered(script, wanted):
     return compare(wanted, ran.stdout.splitlines())
 
 
-def checks_of(page):
+def checks_of(page, has_program):
     yield from links_of(page)
     yield from paths_of(page)
     yield from contracts_of(page)
-    yield from runs_of(page)
-    yield from pictures_of(page)
+    yield from definitions_of(page)
+    if has_program:
+        yield from runs_of(page)
+        yield from pictures_of(page)
     if page.name == "README.md":
         size = page.path.stat().st_size
         yield "size", lambda: None if size <= README_BYTES else f"{size} bytes"
 
 
-def has_program():
-    """Builds the program where it isn't built as its sources stand."""
-    return subprocess.run([PROGRAM, "--version"], stdin=subprocess.DEVNULL, stdout=subprocess.DEVNULL).returncode == 2
+def is_built():
+    """Whether the program is there; builds it where it isn't built as its sources stand."""
+    try:
+        return subprocess.run([PROGRAM, "--version"], stdin=subprocess.DEVNULL, stdout=subprocess.DEVNULL).returncode == 2
+    except OSError:
+        return False
 
 
 def main():
     names = sys.argv[1:] or ["README.md", "CONTRIBUTING.md", "CHANGELOG.md", *sorted(str(p) for p in (ROOT / "docs").glob("*.md"))]
-    passed = failed = 0
-    if not has_program():
-        print("the program can't be built")
+    has_program = is_built()
+    passed, failed = 0, int(not has_program)
+    if not has_program:
+        print("the program can't be built: nothing was run")
     for name in names:
         page = Page((ROOT / name).resolve())
-        for what, check in checks_of(page):
+        for what, check in checks_of(page, has_program):
             try:
                 fault = check()
             except (OSError, subprocess.TimeoutExpired) as error:
