@@ -2,16 +2,21 @@
 use Rattle.std.proofs.Common.{ℕ, List, ◌≡◌, rules}
 use Rattle.std.specs.Bool.{Decides}
 use Rattle.names.specs.contracts.entities.EntityPartialEq.TheImpl as entity
-use Rattle.cred_graph.specs.declared.edges.NumberedEdge.{NumberedEdge}
+use Rattle.cred_graph.specs.declared.listeners.KeptListening.{KeptListening}
+use Rattle.cred_graph.specs.declared.listeners.FarListening.{FarListening}
 use Rattle.cred_graph.specs.declared.solutions.Solved.{Solved}
-use Rattle.cred_graph.specs.contracts.edges.NumberedEdgePartialEq.TheImpl as row
+use Rattle.cred_graph.specs.contracts.listeners.KeptListeningPartialEq.TheImpl as kept
+use Rattle.cred_graph.specs.contracts.listeners.FarListeningPartialEq.TheImpl as far
 use Rattle.cred_graph.specs.contracts.solutions.SolvedPartialEq.TheImpl as solved
 
 pub entities_decided : (a b : List ℕ) → Decides (entity.ghosts.eq a b) (a ≡ b)
 entities_decided a b = search rules
 
-pub rows_decided : (r s : NumberedEdge) → Decides (row.ghosts.eq r s) (r ≡ s)
-rows_decided r s = search rules
+pub kept_decided : (a b : KeptListening) → Decides (kept.ghosts.eq a b) (a ≡ b)
+kept_decided a b = search rules
 
-pub solved_decided : (s t : Solved) → Decides (solved.ghosts.eq s t) (s ≡ t)
-solved_decided s t = search rules
+pub far_decided : (a b : FarListening) → Decides (far.ghosts.eq a b) (a ≡ b)
+far_decided a b = search rules
+
+pub solved_decided : (a b : Solved) → Decides (solved.ghosts.eq a b) (a ≡ b)
+solved_decided a b = search rules

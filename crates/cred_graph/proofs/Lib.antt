@@ -4,8 +4,11 @@ pub mod Growth
 pub mod Keys
 pub mod Tables
 pub mod InternedLemmas
-pub mod PlaceLemmas
-pub mod RowLemmas
-pub mod EdgeLemmas
+pub mod NumberLemmas
 pub mod SolutionLemmas
+pub mod ListenerLemmas
+pub mod KeptLemmas
 pub mod StoredLemmas
+pub mod Solvers
+pub mod CallLemmas
+pub mod ReadLemmas

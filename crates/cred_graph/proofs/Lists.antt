@@ -78,3 +78,18 @@ filter_mapped p f (x ∷ xs) =
 pub on_err : {T E P : Type 0} (r : Result T E) → P → OnErr r P
 on_err (Ok x) p = tt
 on_err (Err e) p = p
+
+filtered_step : {X : Type 0} (p : X → Bool) (y : X) (xs : List X) (x : X) → ((i : ℕ) → slice_get (filter p xs) i ≡ Some x → (j : ℕ) × (slice_get xs j ≡ Some x)) →
+    (b : Bool) (i : ℕ) → slice_get (cond b (y ∷ filter p xs) (filter p xs)) i ≡ Some x → (j : ℕ) × (slice_get (y ∷ xs) j ≡ Some x)
+filtered_step p y xs x rest true zero at = (0, at)
+filtered_step p y xs x rest true (suc i) at = let there = rest i at in (suc there.0, there.1)
+filtered_step p y xs x rest false i at = let there = rest i at in (suc there.0, there.1)
+
+-- an element that passes is one of all
+pub filtered_from : {X : Type 0} (p : X → Bool) (xs : List X) (i : ℕ) (x : X) → slice_get (filter p xs) i ≡ Some x → (j : ℕ) × (slice_get xs j ≡ Some x)
+filtered_from p [] i x at = absurd (none-some x at)
+filtered_from p (y ∷ xs) i x at = filtered_step p y xs x (λ k. filtered_from p xs k x) (p y) i at
+
+pub map-map : {X Y Z : Type 0} (f : Y → Z) (g : X → Y) (xs : List X) → map f (map g xs) ≡ map (λ x. f (g x)) xs
+map-map f g [] = refl
+map-map f g (x ∷ xs) = ap (λ l. f (g x) ∷ l) (map-map f g xs)

@@ -1,60 +1,246 @@
--- The tables stay a graph where a node, a listener or a solution is added.
-use Rattle.std.proofs.Common.{ℕ, suc, ◌<◌, ◌≡◌, ◌∙◌, ap, subst, refl, inl, inr, arith, List, [], ◌∷◌, ◌++◌, Contains, length}
-use Rattle.std.proofs.lemmas.List.{length_push}
+-- The tables stand for a graph, and stay one where a node, a listener or a solution is added.
+use Rattle.std.proofs.Common.{ℕ, zero, suc, ◌+◌, ◌<◌, ◌≡◌, ◌==◌, ◌∙◌, ap, refl, sym, subst, inl, inr, arith, zero-add, add-zero, true, List, [], ◌∷◌, ◌++◌, Some, Contains, get_or, length, map, set, slice_get}
+use Rattle.std.proofs.lemmas.Bool.{cases_eq, cond-true, cond-false, eq-eqb, ne_eqb}
+use Rattle.std.proofs.lemmas.List.{length-set, length_push, map_push, ext_get_or, get_or-set_same, get_or-set_other}
 use Rattle.std.proofs.lemmas.List.Elements.{Contains-push_cases}
 use Rattle.credential_text.specs.declared.exprs.Expr.{Expr}
+use Rattle.credential_text.specs.declared.exprs.Expr.TheVariants.{Ent}
 use Rattle.credential_text.specs.Expr.{HasPartsInRange}
-use Rattle.credential_text.specs.contracts.exprs.ExprPartialEq.TheImpl as expr
-use Rattle.credential_text.proofs.Equality.{exprs_decided}
-use Rattle.indexmap.specs.IndexSet.{insert_key}
 use Rattle.cred_graph.specs.declared.listeners.Listening.{Listening}
-use Rattle.cred_graph.specs.declared.listeners.Edge.{Edge}
+use Rattle.cred_graph.specs.declared.listeners.KeptListening.{KeptListening}
 use Rattle.cred_graph.specs.declared.solutions.Solution.{Solution}
-use Rattle.cred_graph.specs.GraphState.{GraphState, HasSolution}
+use Rattle.cred_graph.specs.declared.solutions.Reason.{Reason}
+use Rattle.cred_graph.specs.declared.solutions.Solved.{Solved}
+use Rattle.cred_graph.specs.declared.reasons.NumberedReason.{NumberedReason}
+use Rattle.cred_graph.specs.GraphState.{IsSolution, Listens, listed_at, listed_with}
 use Rattle.cred_graph.specs.Reason.{Fits}
-use Rattle.cred_graph.specs.Edges.{lists_from}
-use Rattle.cred_graph.specs.Stored.{IsStored}
-use Rattle.cred_graph.proofs.Growth.{node_added, listener_added, solution_added}
-use Rattle.cred_graph.proofs.Tables.{insert_key-absent}
-use Rattle.cred_graph.proofs.EdgeLemmas.{lists_from-node, lists_from-edge, listens_exactly, edge_to}
+use Rattle.cred_graph.specs.Graph.{IsGraph, NodeGiven}
+use Rattle.cred_graph.specs.Numbers.{IsEntity, IsReason, entity_at, reason_at}
+use Rattle.cred_graph.specs.NodeLists.{list_at, AreSame, AddsAt}
+use Rattle.cred_graph.specs.Kept.{IsKept, Joins, listening_as, lists_from}
+use Rattle.cred_graph.specs.Solved.{HasKey, solution_as}
+use Rattle.cred_graph.specs.Stored.{graph_as, IsStored}
+use Rattle.cred_graph.proofs.Growth.{with_node, with_listener, with_solution, graph_with_node, graph_with_listener, graph_with_solution}
+use Rattle.cred_graph.proofs.KeptLemmas.{kept_with_node, same_with_node, kept_joined, same_joined, once_joined, listens_kept, listens_as}
+use Rattle.cred_graph.proofs.Lists.{Contains-at_place, place_of_Contains, slice_get_push_cases, slice_get_pushed, map_same, behind_map, seen_at}
+use Rattle.cred_graph.proofs.NumberLemmas.{entity_goes_on, entity_stands, entity_stays, reason_goes_on, reason_stays}
 
-abbrev pub graph_of : List Expr → List Edge → List Solution → GraphState
-graph_of nodes edges solutions = record { nodes = nodes; listeners = lists_from 0 (length nodes) edges; solutions = solutions }
+-- the lists of listeners
 
--- an expression that isn't there goes last
-pub added_node : (nodes after : List Expr) (copy e : Expr) → (Contains nodes e → ⊥) → copy ≡ e → after ≡ insert_key expr.ghosts.eq nodes copy → after ≡ nodes ++ e ∷ []
-added_node nodes after copy e absent same is = is ∙ ap (insert_key expr.ghosts.eq nodes) same ∙ insert_key-absent expr.ghosts.eq exprs_decided nodes e absent
+pub length-lists_from : (nodes : List Expr) (strangers : List (List ℕ)) (n k : ℕ) (lists : List (List KeptListening)) → length (lists_from nodes strangers n k lists) ≡ k
+length-lists_from nodes strangers n zero lists = refl
+length-lists_from nodes strangers n (suc k) lists = ap suc (length-lists_from nodes strangers (suc n) k lists)
 
-pub lists-node : (nodes after : List Expr) (edges : List Edge) (solutions : List Solution) (e : Expr) → IsStored nodes edges solutions → after ≡ nodes ++ e ∷ [] →
-    lists_from 0 (length after) edges ≡ lists_from 0 (length nodes) edges ++ [] ∷ []
-lists-node nodes after edges solutions e stored is =
-    let longer : length after ≡ suc (length nodes) = omega (arith, ap length is, length_push nodes e) in
-    ap (λ k. lists_from 0 k edges) longer ∙ lists_from-node (length nodes) edges stored.asked_in_range
+at_list : (nodes : List Expr) (strangers : List (List ℕ)) (n k : ℕ) (lists : List (List KeptListening)) (m : ℕ) → m < k →
+    get_or (lists_from nodes strangers n k lists) m [] ≡ map (listening_as nodes strangers) (list_at lists (n + m))
+at_list nodes strangers n zero lists m within = absurd (omega arith)
+at_list nodes strangers n (suc k) lists zero within = ap (λ i. map (listening_as nodes strangers) (list_at lists i)) (sym (add-zero n))
+at_list nodes strangers n (suc k) lists (suc m) within =
+    let same : suc n + m ≡ n + suc m = omega arith in
+    at_list nodes strangers (suc n) k lists m (omega arith) ∙ ap (λ i. map (listening_as nodes strangers) (list_at lists i)) same
 
-pub stored-node : (nodes after : List Expr) (edges : List Edge) (solutions : List Solution) (e : Expr) → IsStored nodes edges solutions → (Contains nodes e → ⊥) → HasPartsInRange e →
-    after ≡ nodes ++ e ∷ [] → IsStored after edges solutions
-stored-node nodes after edges solutions e stored absent range is = record {
-  graph = node_added (graph_of nodes edges solutions) (graph_of after edges solutions) e stored.graph absent range is (lists-node nodes after edges solutions e stored is) refl;
-  asked_in_range = λ f stands.
-      let before : f.asked < length nodes = stored.asked_in_range f stands in
-      omega (arith, ap length is, length_push nodes e);
+-- each node's list
+pub listed_at-lists_from : (nodes : List Expr) (strangers : List (List ℕ)) (k : ℕ) (lists : List (List KeptListening)) (n : ℕ) → n < k →
+    listed_at (lists_from nodes strangers 0 k lists) n ≡ map (listening_as nodes strangers) (list_at lists n)
+listed_at-lists_from nodes strangers k lists n within =
+    at_list nodes strangers 0 k lists n within ∙ ap (λ i. map (listening_as nodes strangers) (list_at lists i)) (zero-add n)
+
+more_lists : (nodes : List Expr) (strangers : List (List ℕ)) (n k : ℕ) (lists : List (List KeptListening)) →
+    lists_from nodes strangers n (suc k) lists ≡ lists_from nodes strangers n k lists ++ map (listening_as nodes strangers) (list_at lists (n + k)) ∷ []
+more_lists nodes strangers n zero lists = ap (λ i. map (listening_as nodes strangers) (list_at lists i) ∷ []) (sym (add-zero n))
+more_lists nodes strangers n (suc k) lists =
+    let same : suc n + k ≡ n + suc k = omega arith in
+    ap (λ l. map (listening_as nodes strangers) (list_at lists n) ∷ l)
+    (more_lists nodes strangers (suc n) k lists ∙ ap (λ i. lists_from nodes strangers (suc n) k lists ++ map (listening_as nodes strangers) (list_at lists i) ∷ []) same)
+
+-- lists that stand for the same
+lists_same : (nodes others : List Expr) (strangers names : List (List ℕ)) (lists after : List (List KeptListening)) →
+    ((m : ℕ) → map (listening_as others names) (list_at after m) ≡ map (listening_as nodes strangers) (list_at lists m)) → (n k : ℕ) →
+    lists_from others names n k after ≡ lists_from nodes strangers n k lists
+lists_same nodes others strangers names lists after agree n zero = refl
+lists_same nodes others strangers names lists after agree n (suc k) =
+    λ i. agree n i ∷ lists_same nodes others strangers names lists after agree (suc n) k i
+
+-- a list that is added to
+lists_with : (nodes : List Expr) (strangers : List (List ℕ)) (k : ℕ) (lists after : List (List KeptListening)) (n : ℕ) (l : KeptListening) → n < k → AddsAt lists after n l →
+    lists_from nodes strangers 0 k after ≡ listed_with (lists_from nodes strangers 0 k lists) n (listening_as nodes strangers l)
+lists_with nodes strangers k lists after n l asked adds =
+    let old = lists_from nodes strangers 0 k lists in
+    let one_more : List Listening = listed_at old n ++ listening_as nodes strangers l ∷ [] in
+    let many : length old ≡ k = length-lists_from nodes strangers 0 k lists in
+    let within : n < length old = omega (arith, many) in
+    ext_get_or [] (lists_from nodes strangers 0 k after) (set old n one_more)
+    (length-lists_from nodes strangers 0 k after ∙ sym many ∙ sym (length-set old n one_more))
+    (λ m below.
+    let small : m < k = omega (arith, length-lists_from nodes strangers 0 k after) in
+    listed_at-lists_from nodes strangers k after m small ∙ ap (map (listening_as nodes strangers)) (adds m) ∙
+    elim (cases_eq m n) [
+      | inl same ↦
+          ap (map (listening_as nodes strangers)) (cond-true (m == n) (list_at lists m ++ l ∷ []) (list_at lists m) (eq-eqb m n same)) ∙
+          map_push (listening_as nodes strangers) (list_at lists m) l ∙
+          ap (λ ls. ls ++ listening_as nodes strangers l ∷ []) (sym (listed_at-lists_from nodes strangers k lists m small) ∙ ap (listed_at old) same) ∙
+          sym (get_or-set_same old n one_more [] within) ∙
+          ap (λ i. get_or (set old n one_more) i []) (sym same)
+      | inr other ↦
+          ap (map (listening_as nodes strangers)) (cond-false (m == n) (list_at lists m ++ l ∷ []) (list_at lists m) (ne_eqb m n other)) ∙
+          sym (listed_at-lists_from nodes strangers k lists m small) ∙
+          sym (get_or-set_other old n m one_more [] other)
+    ])
+
+-- a node is added
+
+abbrev solution_by : Solved → List ℕ → Reason → Solution
+solution_by key who why = record { node = key.node; who = who; reason = why }
+
+pub node_view : (nodes : List Expr) (strangers : List (List ℕ)) (lists : List (List KeptListening)) (entries : List (Solved × NumberedReason)) (e : Expr) → IsStored nodes strangers lists entries →
+    graph_as (nodes ++ e ∷ []) strangers lists entries ≡ with_node (graph_as nodes strangers lists entries) e
+node_view nodes strangers lists entries e stored =
+    let longer : length (nodes ++ e ∷ []) ≡ suc (length nodes) = omega (arith, length_push nodes e) in
+    let named = lists_same nodes (nodes ++ e ∷ []) strangers strangers lists lists
+    (λ m. map_same (listening_as (nodes ++ e ∷ []) strangers) (listening_as nodes strangers) (list_at lists m)
+    (λ j l at. ap (λ p. record { asker = l.asker; port = p }) (same_with_node nodes (e ∷ []) strangers l.port (stored.ports m l (Contains-at_place (list_at lists m) j l at))))) 0 (length nodes) in
+    let last : list_at lists (0 + length nodes) ≡ [] = ap (list_at lists) (zero-add (length nodes)) ∙ stored.asked (length nodes) (omega arith) in
+    let listened : lists_from (nodes ++ e ∷ []) strangers 0 (length (nodes ++ e ∷ [])) lists ≡ lists_from nodes strangers 0 (length nodes) lists ++ [] ∷ [] =
+    ap (λ k. lists_from (nodes ++ e ∷ []) strangers 0 k lists) longer ∙ more_lists (nodes ++ e ∷ []) strangers 0 (length nodes) lists ∙
+    ap (λ l. lists_from (nodes ++ e ∷ []) strangers 0 (length nodes) lists ++ map (listening_as (nodes ++ e ∷ []) strangers) l ∷ []) last ∙
+    ap (λ ls. ls ++ [] ∷ []) named in
+    let solved : map (solution_as (nodes ++ e ∷ [])) entries ≡ map (solution_as nodes) entries =
+    map_same (solution_as (nodes ++ e ∷ [])) (solution_as nodes) entries
+    (λ j s at i. solution_by s.0 (entity_stays nodes (e ∷ []) s.0.who (stored.members j s at) i) (reason_stays nodes (e ∷ []) s.1 (stored.reasons j s at) i)) in
+    λ i. record { nodes = nodes ++ e ∷ []; listeners = listened i; solutions = solved i }
+
+pub stored-node : (nodes : List Expr) (strangers : List (List ℕ)) (lists : List (List KeptListening)) (entries : List (Solved × NumberedReason)) (e : Expr) → IsStored nodes strangers lists entries →
+    (Contains nodes e → ⊥) → HasPartsInRange e → IsStored (nodes ++ e ∷ []) strangers lists entries
+stored-node nodes strangers lists entries e stored absent range = record {
+  graph = subst IsGraph (sym (node_view nodes strangers lists entries e stored)) (graph_with_node (graph_as nodes strangers lists entries) e stored.graph absent range);
+  once = stored.once;
+  asked = λ n beyond. stored.asked n (omega (arith, length_push nodes e));
+  ports = λ n l there. kept_with_node nodes (e ∷ []) strangers l.port (stored.ports n l there);
+  members = λ j s at. entity_goes_on nodes (e ∷ []) s.0.who (stored.members j s at);
+  reasons = λ j s at. reason_goes_on nodes (e ∷ []) s.1 (stored.reasons j s at);
 }
 
-pub stored-edge : (nodes : List Expr) (edges after : List Edge) (solutions : List Solution) (n : ℕ) (l : Listening) → IsStored nodes edges solutions →
-    (Contains edges (edge_to n l) → ⊥) → n < length nodes → l.asker < length nodes → after ≡ edges ++ edge_to n l ∷ [] → IsStored nodes after solutions
-stored-edge nodes edges after solutions n l stored absent asked asker is = record {
-  graph = listener_added (graph_of nodes edges solutions) (graph_of nodes after solutions) n l stored.graph
-      (λ listens. absent ((listens_exactly (length nodes) edges n l asked).0 listens)) asked asker refl
-      (ap (lists_from 0 (length nodes)) is ∙ lists_from-edge (length nodes) edges (edge_to n l) asked) refl;
-  asked_in_range = λ e stands. elim (Contains-push_cases edges (edge_to n l) e (subst (λ es. Contains es e) is stands)) [
-    | inl before ↦ stored.asked_in_range e before
-    | inr new ↦ subst (λ (x : Edge). x.asked < length nodes) new asked
+-- a stranger joins, and lists stay
+
+pub joined_view : (nodes : List Expr) (strangers names : List (List ℕ)) (lists after : List (List KeptListening)) (entries : List (Solved × NumberedReason)) → IsStored nodes strangers lists entries →
+    Joins nodes strangers names → AreSame lists after → graph_as nodes names after entries ≡ graph_as nodes strangers lists entries
+joined_view nodes strangers names lists after entries stored joins same =
+    let listened = lists_same nodes nodes strangers names lists after
+    (λ m. ap (map (listening_as nodes names)) (same m) ∙ map_same (listening_as nodes names) (listening_as nodes strangers) (list_at lists m)
+    (λ j l at. ap (λ p. record { asker = l.asker; port = p }) (same_joined nodes strangers names joins l.port (stored.ports m l (Contains-at_place (list_at lists m) j l at))))) 0 (length nodes) in
+    λ i. record { nodes = nodes; listeners = listened i; solutions = map (solution_as nodes) entries }
+
+pub stored-joined : (nodes : List Expr) (strangers names : List (List ℕ)) (lists after : List (List KeptListening)) (entries : List (Solved × NumberedReason)) → IsStored nodes strangers lists entries →
+    Joins nodes strangers names → AreSame lists after → IsStored nodes names after entries
+stored-joined nodes strangers names lists after entries stored joins same = record {
+  graph = subst IsGraph (sym (joined_view nodes strangers names lists after entries stored joins same)) stored.graph;
+  once = once_joined nodes strangers names joins stored.once;
+  asked = λ n beyond. same n ∙ stored.asked n beyond;
+  ports = λ n l there. kept_joined nodes strangers names joins l.port (stored.ports n l (subst (λ ls. Contains ls l) (same n) there));
+  members = stored.members;
+  reasons = stored.reasons;
+}
+
+-- a listener is added
+
+pub listener_view : (nodes : List Expr) (strangers : List (List ℕ)) (lists after : List (List KeptListening)) (entries : List (Solved × NumberedReason)) (n : ℕ) (l : KeptListening) → n < length nodes → AddsAt lists after n l →
+    graph_as nodes strangers after entries ≡ with_listener (graph_as nodes strangers lists entries) n (listening_as nodes strangers l)
+listener_view nodes strangers lists after entries n l asked adds =
+    let listened = lists_with nodes strangers (length nodes) lists after n l asked adds in
+    λ i. record { nodes = nodes; listeners = listened i; solutions = map (solution_as nodes) entries }
+
+-- a node has a listener where its list has what stands for it
+pub listens_stored : (nodes : List Expr) (strangers : List (List ℕ)) (lists : List (List KeptListening)) (entries : List (Solved × NumberedReason)) → IsStored nodes strangers lists entries →
+    (n : ℕ) (l : KeptListening) → n < length nodes → IsKept nodes strangers l.port → Listens (graph_as nodes strangers lists entries) n (listening_as nodes strangers l) → Contains (list_at lists n) l
+listens_stored nodes strangers lists entries stored n l asked is listens =
+    listens_kept nodes strangers stored.graph.one_node stored.once (list_at lists n) (stored.ports n) l is
+    (subst (λ ls. Contains ls (listening_as nodes strangers l)) (listed_at-lists_from nodes strangers (length nodes) lists n asked) listens)
+
+pub stored_listens : (nodes : List Expr) (strangers : List (List ℕ)) (lists : List (List KeptListening)) (entries : List (Solved × NumberedReason)) (n : ℕ) (l : KeptListening) → n < length nodes →
+    Contains (list_at lists n) l → Listens (graph_as nodes strangers lists entries) n (listening_as nodes strangers l)
+stored_listens nodes strangers lists entries n l asked there =
+    subst (λ ls. Contains ls (listening_as nodes strangers l)) (sym (listed_at-lists_from nodes strangers (length nodes) lists n asked)) (listens_as nodes strangers (list_at lists n) l there)
+
+pub stored-listener : (nodes : List Expr) (strangers : List (List ℕ)) (lists after : List (List KeptListening)) (entries : List (Solved × NumberedReason)) (n : ℕ) (l : KeptListening) → IsStored nodes strangers lists entries →
+    n < length nodes → l.asker < length nodes → IsKept nodes strangers l.port → (Contains (list_at lists n) l → ⊥) → AddsAt lists after n l → IsStored nodes strangers after entries
+stored-listener nodes strangers lists after entries n l stored asked asker is absent adds = record {
+  graph = subst IsGraph (sym (listener_view nodes strangers lists after entries n l asked adds))
+      (graph_with_listener (graph_as nodes strangers lists entries) n (listening_as nodes strangers l) stored.graph
+      (λ listens. absent (listens_stored nodes strangers lists entries stored n l asked is listens)) asked asker);
+  once = stored.once;
+  asked = λ m beyond. adds m ∙ cond-false (m == n) (list_at lists m ++ l ∷ []) (list_at lists m) (ne_eqb m n (λ same. omega (arith, same))) ∙ stored.asked m beyond;
+  ports = λ m k there. elim (cases_eq m n) [
+    | inl same ↦
+        let longer = adds m ∙ cond-true (m == n) (list_at lists m ++ l ∷ []) (list_at lists m) (eq-eqb m n same) in
+        elim (Contains-push_cases (list_at lists m) l k (subst (λ ls. Contains ls k) longer there)) [
+          | inl before ↦ stored.ports m k before
+          | inr new ↦ subst (λ (x : KeptListening). IsKept nodes strangers x.port) new is
+        ]
+    | inr other ↦
+        stored.ports m k (subst (λ ls. Contains ls k) (adds m ∙ cond-false (m == n) (list_at lists m ++ l ∷ []) (list_at lists m) (ne_eqb m n other)) there)
+  ];
+  members = stored.members;
+  reasons = stored.reasons;
+}
+
+-- a solution is added
+
+pub solution_view : (nodes : List Expr) (strangers : List (List ℕ)) (lists : List (List KeptListening)) (entries after : List (Solved × NumberedReason)) (key : Solved) (r : NumberedReason) → after ≡ entries ++ (key, r) ∷ [] →
+    graph_as nodes strangers lists after ≡ with_solution (graph_as nodes strangers lists entries) (solution_as nodes (key, r))
+solution_view nodes strangers lists entries after key r added =
+    let solved = ap (map (solution_as nodes)) added ∙ map_push (solution_as nodes) entries (key, r) in
+    λ i. record { nodes = nodes; listeners = lists_from nodes strangers 0 (length nodes) lists; solutions = solved i }
+
+-- an entity is a solution where the table has its number
+pub solution_stored : (nodes : List Expr) (strangers : List (List ℕ)) (lists : List (List KeptListening)) (entries : List (Solved × NumberedReason)) → IsStored nodes strangers lists entries →
+    (key : Solved) → IsEntity nodes key.who → IsSolution (graph_as nodes strangers lists entries) key.node (entity_at nodes key.who) → HasKey entries key
+solution_stored nodes strangers lists entries stored key is (why, there) =
+    let at = behind_map (solution_as nodes) entries (record { node = key.node; who = entity_at nodes key.who; reason = why }) there in
+    let node : at.1.0.node ≡ key.node = ap (λ (s : Solution). s.node) at.3 in
+    let named : entity_at nodes at.1.0.who ≡ entity_at nodes key.who = ap (λ (s : Solution). s.who) at.3 in
+    let who : at.1.0.who ≡ key.who =
+    stored.graph.one_node at.1.0.who key.who (Ent (entity_at nodes key.who)) (entity_stands nodes at.1.0.who (stored.members at.0 at.1 at.2) ∙ ap (λ (x : List ℕ). Some (Ent x)) named) (entity_stands nodes key.who is) in
+    (at.1.1, Contains-at_place entries at.0 (key, at.1.1) (at.2 ∙ ap Some (λ i. (record { node = node i; who = who i }, at.1.1))))
+
+pub stored_solution : (nodes : List Expr) (strangers : List (List ℕ)) (lists : List (List KeptListening)) (entries : List (Solved × NumberedReason)) (key : Solved) → HasKey entries key →
+    IsSolution (graph_as nodes strangers lists entries) key.node (entity_at nodes key.who)
+stored_solution nodes strangers lists entries key (r, there) =
+    let at = place_of_Contains entries (key, r) there in
+    (reason_at nodes r, Contains-at_place (map (solution_as nodes) entries) at.0 (solution_as nodes (key, r)) (seen_at (solution_as nodes) entries at.0 (key, r) at.1))
+
+pub stored-solution : (nodes : List Expr) (strangers : List (List ℕ)) (lists : List (List KeptListening)) (entries after : List (Solved × NumberedReason)) (key : Solved) (r : NumberedReason) → IsStored nodes strangers lists entries →
+    IsEntity nodes key.who → IsReason nodes r → (HasKey entries key → ⊥) → Fits (graph_as nodes strangers lists entries) key.node (entity_at nodes key.who) (reason_at nodes r) →
+    after ≡ entries ++ (key, r) ∷ [] → IsStored nodes strangers lists after
+stored-solution nodes strangers lists entries after key r stored who why absent fits added = record {
+  graph = subst IsGraph (sym (solution_view nodes strangers lists entries after key r added))
+      (graph_with_solution (graph_as nodes strangers lists entries) (solution_as nodes (key, r)) stored.graph
+      (λ solution. absent (solution_stored nodes strangers lists entries stored key who solution)) fits);
+  once = stored.once;
+  asked = stored.asked;
+  ports = stored.ports;
+  members = λ j e at. elim (slice_get_push_cases entries (key, r) j e (ap (λ l. slice_get l j) (sym added) ∙ at)) [
+    | inl before ↦ stored.members j e before
+    | inr now ↦ subst (λ (x : Solved × NumberedReason). IsEntity nodes x.0.who) now.1 who
+  ];
+  reasons = λ j e at. elim (slice_get_push_cases entries (key, r) j e (ap (λ l. slice_get l j) (sym added) ∙ at)) [
+    | inl before ↦ stored.reasons j e before
+    | inr now ↦ subst (λ (x : Solved × NumberedReason). IsReason nodes x.1) now.1 why
   ];
 }
 
-pub stored-solution : (nodes : List Expr) (edges : List Edge) (solutions after : List Solution) (s : Solution) → IsStored nodes edges solutions →
-    (HasSolution solutions s.node s.who → ⊥) → Fits (graph_of nodes edges solutions) s.node s.who s.reason → after ≡ solutions ++ s ∷ [] → IsStored nodes edges after
-stored-solution nodes edges solutions after s stored absent fits is = record {
-  graph = solution_added (graph_of nodes edges solutions) (graph_of nodes edges after) s stored.graph absent fits refl refl is;
-  asked_in_range = stored.asked_in_range;
-}
+-- what the calls give
+
+pub node_stored : (nodes after : List Expr) (strangers : List (List ℕ)) (lists : List (List KeptListening)) (entries : List (Solved × NumberedReason)) (e copy : Expr) → IsStored nodes strangers lists entries →
+    (Contains nodes e → ⊥) → HasPartsInRange e → copy ≡ e → after ≡ nodes ++ copy ∷ [] → IsStored after strangers lists entries
+node_stored nodes after strangers lists entries e copy stored absent range same is =
+    subst (λ ns. IsStored ns strangers lists entries) (sym (is ∙ ap (λ x. nodes ++ x ∷ []) same)) (stored-node nodes strangers lists entries e stored absent range)
+
+pub node_given : (nodes after : List Expr) (strangers : List (List ℕ)) (lists : List (List KeptListening)) (entries : List (Solved × NumberedReason)) (e copy : Expr) (n : ℕ) → IsStored nodes strangers lists entries →
+    (Contains nodes e → ⊥) → HasPartsInRange e → copy ≡ e → after ≡ nodes ++ copy ∷ [] → n ≡ length nodes →
+    NodeGiven (graph_as nodes strangers lists entries) (graph_as after strangers lists entries) e n true
+node_given nodes after strangers lists entries e copy n stored absent range same is number =
+    (absent, range, number, ap (λ ns. graph_as ns strangers lists entries) (is ∙ ap (λ x. nodes ++ x ∷ []) same) ∙ node_view nodes strangers lists entries e stored)
+
+pub node_stands : (nodes after : List Expr) (e copy : Expr) (n : ℕ) → copy ≡ e → after ≡ nodes ++ copy ∷ [] → n ≡ length nodes → slice_get after n ≡ Some e
+node_stands nodes after e copy n same is number =
+    ap (λ ns. slice_get ns n) (is ∙ ap (λ x. nodes ++ x ∷ []) same) ∙ ap (slice_get (nodes ++ e ∷ [])) number ∙ slice_get_pushed nodes e

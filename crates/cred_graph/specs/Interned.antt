@@ -9,11 +9,6 @@ name_at names k = slice_index_or names k []
 abbrev pub IsOnce : List (List ℕ) → Type 0
 IsOnce names = (i j : ℕ) (name : List ℕ) → slice_get names i ≡ Some name → slice_get names j ≡ Some name → i ≡ j
 
--- each name keeps its number
-abbrev pub Stay : List (List ℕ) → List (List ℕ) → Type 0
-Stay old new = (k : ℕ) (name : List ℕ) → slice_get old k ≡ Some name → slice_get new k ≡ Some name
-
--- each name has one number, of 32 bits
-pub record AreInterned (names : List (List ℕ)) : Type 0 where
-  pub once : IsOnce names
-  pub small : length names ≤ 2 ^ 32
+-- each number has 32 bits
+abbrev pub AreInterned : List (List ℕ) → Type 0
+AreInterned names = length names ≤ 2 ^ 32

@@ -1,9 +1,9 @@
 pub mod GraphState
 pub mod Reason
 pub mod Graph
+pub mod Numbers
 pub mod Interned
-pub mod Places
-pub mod Edges
-pub mod NumberedEdges
+pub mod NodeLists
+pub mod Kept
 pub mod Solved
 pub mod Stored

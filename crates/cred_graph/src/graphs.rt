@@ -1,42 +1,43 @@
 ghost use Rattle.std.specs.Prelude.{◌≡◌, ◌<◌, Some, IfOk, IfSome, OnOk, OnErr, MatchOption, Contains, length, slice_get};
+ghost use Rattle.credential_text.specs.declared.exprs.Expr.TheVariants as exprs;
 
-use crate::listeners::{Edge, Listeners, Listening, Port};
-use crate::nodes::copy_of;
-use crate::solutions::{Reason, Solution, Solutions};
+use crate::interned::Interned;
+use crate::listeners::{KeptListening, Listeners, Port};
+use crate::nodes::{Nodes, copy_of};
+use crate::ports::{NumberedPort, keep_port, kept_port, port_name, port_number};
+use crate::reasons::{NumberedReason, reason_name, reason_number};
+use crate::solutions::{Reason, Solutions, Solved};
 use credential_text::Expr;
-use indexmap::IndexSet;
 use names::Entity;
 use std::alloc::{AllocError, Global};
 use std::marker::Model;
 
-/// The nodes of a search with their listeners and solutions, each in order of adding. Nodes are numbered from 0.
+/// The nodes of a search with their listeners and solutions, each in order of adding. Nodes are numbered from 0, in 32
+/// bits. An entity's number is that of the node whose expression it is; ports and solutions are kept by these numbers.
 pub struct Graph {
-    nodes: IndexSet<Expr>,
+    nodes: Nodes,
+    // Who is named in a port, and had no node then.
+    strangers: Interned,
     listeners: Listeners,
     solutions: Solutions,
 }
 
 impl Model for Graph {
-    ghost use Rattle.std.specs.Prelude.{length};
     ghost use Rattle.cred_graph.specs.GraphState.{GraphState};
-    ghost use Rattle.cred_graph.specs.Edges.{lists_from};
-    ghost use Rattle.cred_graph.specs.Stored.{IsStored};
+    ghost use Rattle.cred_graph.specs.Stored.{graph_as, IsStored};
 
     ghost Value = { GraphState };
 
-    ghost view = { λ g. record {
-      nodes = g.nodes.keys;
-      listeners = lists_from 0 (length g.nodes.keys) g.listeners;
-      solutions = g.solutions;
-    } };
+    ghost view = { λ g. graph_as g.nodes g.strangers g.listeners g.solutions };
 
-    ghost invariant = { λ g. IsStored g.nodes.keys g.listeners g.solutions };
+    ghost invariant = { λ g. IsStored g.nodes g.strangers g.listeners g.solutions };
 }
 
 impl Drop for Graph {
     fn drop(self) {
         let Graph {
             nodes: _nodes,
+            strangers: _strangers,
             listeners: _listeners,
             solutions: _solutions,
         } = self;
@@ -47,6 +48,8 @@ impl Graph {
     ghost use Rattle.cred_graph.specs.GraphState.{empty_graph, IsNode, Listens, IsSolution, listeners_of, members_of, before};
     ghost use Rattle.cred_graph.specs.Reason.{Fits};
     ghost use Rattle.cred_graph.specs.Graph.{IsGraph, NodeGiven, ListenerGiven, SolutionGiven};
+    ghost use Rattle.cred_graph.specs.declared.listeners.Listening.{Listening};
+    ghost use Rattle.cred_graph.specs.Numbers.{IsEntity, IsPort, IsNamed, IsReason, entity_at, port_at, reason_at};
 
     /// The graph without a node.
     pub fn new(alloc: Global) -> Self
@@ -54,7 +57,8 @@ impl Graph {
         ensures graph { IsGraph result }
     {
         Graph {
-            nodes: IndexSet::new(alloc),
+            nodes: Nodes::new(alloc),
+            strangers: Interned::new(alloc),
             listeners: Listeners::new(alloc),
             solutions: Solutions::new(alloc),
         }
@@ -71,9 +75,7 @@ impl Graph {
         if let Some(n) = self.node(expr) {
             return Ok((n, false));
         }
-        let n = self.nodes.len() as u64;
-        let copy = copy_of(expr)?;
-        let _is_new = self.nodes.insert(copy)?;
+        let n = self.nodes.add(copy_of(expr)?)?;
         Ok((n, true))
     }
 
@@ -82,10 +84,7 @@ impl Graph {
         ensures node { MatchOption result (Contains self.now.nodes expr.now → ⊥) (λ n. IsNode self.now n expr.now) }
         ensures graph { IsGraph self.now }
     {
-        match self.nodes.get_full(expr) {
-            Some((n, _expr)) => Some(n as u64),
-            None => None,
-        }
+        self.nodes.number(expr)
     }
 
     /// The expression of the node.
@@ -94,7 +93,7 @@ impl Graph {
         ensures node { IsNode self.now n result.now }
         ensures graph { IsGraph self.now }
     {
-        &self.nodes.as_slice()[n as usize]
+        self.nodes.expr(n)
     }
 
     /// Lets the node `m` listen to the node `n` on the port, and answers whether that is new.
@@ -107,15 +106,10 @@ impl Graph {
         ensures growth { OnErr result (Listens self.old n (record { asker = m; port = port }) → ⊥) }
         ensures unchanged { OnErr result (self.new ≡ self.old) }
     {
-        let edge = Edge {
-            asked: n,
-            listening: Listening { asker: m, port },
-        };
-        if self.listeners.contains(&edge) {
-            return Ok(false);
-        }
-        self.listeners.add(edge)?;
-        Ok(true)
+        let port = keep_port(&self.nodes, &mut self.strangers, &port)?;
+        let asked = self.nodes.short(n);
+        let asker = self.nodes.short(m);
+        self.listeners.add(asked, KeptListening { asker, port })
     }
 
     /// How many listeners the node has.
@@ -124,7 +118,7 @@ impl Graph {
         ensures count { result ≡ length (listeners_of self.now n) }
         ensures graph { IsGraph self.now }
     {
-        self.listeners.count(n)
+        self.listeners.count(self.nodes.short(n))
     }
 
     /// The node that listens in this place among the node's listeners, and its port.
@@ -133,8 +127,9 @@ impl Graph {
         requires place { i < length (listeners_of self.now n) }
         ensures { slice_get (listeners_of self.now n) i ≡ Some (record { asker = result.0; port = result.1 }) }
     {
-        let Listening { asker, port } = self.listeners.get(n, i).listening;
-        (asker, port)
+        let kept = self.listeners.get(self.nodes.short(n), i);
+        let port = port_name(&self.nodes, &self.strangers, kept.port);
+        (kept.asker as u64, port)
     }
 
     /// Makes the entity a solution of the node, and answers whether that is new. The first reason stays.
@@ -146,15 +141,15 @@ impl Graph {
         ensures growth { OnErr result (IsSolution self.old n who → ⊥) }
         ensures unchanged { OnErr result (self.new ≡ self.old) }
     {
-        if let Some(_found) = self.solutions.find(n, &who) {
-            return Ok(false);
-        }
-        self.solutions.add(Solution {
-            node: n,
-            who,
-            reason,
-        })?;
-        Ok(true)
+        let Some(number) = self.nodes.entity_number(&who) else {
+            unreachable!()
+        };
+        let reason = reason_number(&self.nodes, &reason);
+        let solved = Solved {
+            node: self.nodes.short(n),
+            who: number,
+        };
+        self.solutions.add(solved, reason)
     }
 
     /// How many solutions the node has.
@@ -163,7 +158,7 @@ impl Graph {
         ensures count { result ≡ length (members_of self.now n) }
         ensures graph { IsGraph self.now }
     {
-        self.solutions.count(n)
+        self.solutions.count(self.nodes.short(n))
     }
 
     /// The solution of this place among the node's solutions.
@@ -172,7 +167,8 @@ impl Graph {
         requires place { i < length (members_of self.now n) }
         ensures { slice_get (members_of self.now n) i ≡ Some result }
     {
-        self.solutions.get(n, i)
+        self.nodes
+            .entity(self.solutions.get(self.nodes.short(n), i))
     }
 
     /// The place of this solution of the node among all solutions of the graph, and its reason, if it is one.
@@ -181,6 +177,101 @@ impl Graph {
             slice_get self.now.solutions r.0 ≡ Some (record { node = n; who = who.now; reason = r.1 })) }
         ensures earlier { IfSome result (λ r. Fits (before r.0 self.now) n who.now r.1) }
     {
-        self.solutions.find(n, who)
+        let Some(node) = self.nodes.found(n) else {
+            return None;
+        };
+        let Some(number) = self.nodes.entity_number(who) else {
+            return None;
+        };
+        match self.solutions.find(&Solved { node, who: number }) {
+            Some((place, reason)) => Some((place, reason_name(&self.nodes, reason))),
+            None => None,
+        }
+    }
+
+    /// The entity of this number.
+    pub fn entity(&self, k: u32) -> Entity
+        requires { IsEntity self.now.nodes k }
+        ensures node { IsNode self.now k (exprs.Ent result) }
+        ensures name { result ≡ entity_at self.now.nodes k }
+    {
+        self.nodes.entity(k)
+    }
+
+    /// The number of the entity, if it has a node.
+    pub fn entity_number(&self, who: &Entity) -> Option<u32>
+        ensures { MatchOption result (Contains self.now.nodes (exprs.Ent who.now) → ⊥) (λ k. IsNode self.now k (exprs.Ent who.now)) }
+    {
+        self.nodes.entity_number(who)
+    }
+
+    /// As `add_listener`, on a port with a number.
+    pub fn add_numbered_listener(
+        &mut self,
+        n: u64,
+        m: u64,
+        port: NumberedPort,
+    ) -> Result<bool, AllocError>
+        requires asked { n < length self.old.nodes }
+        requires asker { m < length self.old.nodes }
+        requires port { IsPort self.old.nodes port }
+        ensures ok { IfOk result (λ new. ListenerGiven self.old self.new n (record { asker = m; port = port_at self.old.nodes port }) new) }
+        ensures listens { OnOk result (Listens self.new n (record { asker = m; port = port_at self.old.nodes port })) }
+        ensures graph { IsGraph self.new }
+        ensures growth { OnErr result (Listens self.old n (record { asker = m; port = port_at self.old.nodes port }) → ⊥) }
+        ensures unchanged { OnErr result (self.new ≡ self.old) }
+    {
+        let port = kept_port(&self.nodes, &self.strangers, port);
+        let asked = self.nodes.short(n);
+        let asker = self.nodes.short(m);
+        self.listeners.add(asked, KeptListening { asker, port })
+    }
+
+    /// As `listener`, with the number of the port's name.
+    pub fn numbered_listener(&self, n: u64, i: u64) -> (u64, NumberedPort)
+        requires node { n < length self.now.nodes }
+        requires place { i < length (listeners_of self.now n) }
+        requires named { (l : Listening) → slice_get (listeners_of self.now n) i ≡ Some l → IsNamed self.now.nodes l.port }
+        ensures port { IsPort self.now.nodes result.1 }
+        ensures listener { slice_get (listeners_of self.now n) i
+            ≡ Some (record { asker = result.0; port = port_at self.now.nodes result.1 }) }
+    {
+        let kept = self.listeners.get(self.nodes.short(n), i);
+        let port = port_number(&self.nodes, &self.strangers, kept.port);
+        (kept.asker as u64, port)
+    }
+
+    /// As `add_solution`, with numbers for names.
+    pub fn add_numbered_solution(
+        &mut self,
+        n: u64,
+        who: u32,
+        reason: NumberedReason,
+    ) -> Result<bool, AllocError>
+        requires entity { IsEntity self.old.nodes who }
+        requires reason { IsReason self.old.nodes reason }
+        requires fits { Fits self.old n (entity_at self.old.nodes who) (reason_at self.old.nodes reason) }
+        ensures ok { IfOk result (λ new. SolutionGiven self.old self.new
+            (record { node = n; who = entity_at self.old.nodes who; reason = reason_at self.old.nodes reason }) new) }
+        ensures solves { OnOk result (IsSolution self.new n (entity_at self.old.nodes who)) }
+        ensures graph { IsGraph self.new }
+        ensures growth { OnErr result (IsSolution self.old n (entity_at self.old.nodes who) → ⊥) }
+        ensures unchanged { OnErr result (self.new ≡ self.old) }
+    {
+        let solved = Solved {
+            node: self.nodes.short(n),
+            who,
+        };
+        self.solutions.add(solved, reason)
+    }
+
+    /// As `solution`, by its number.
+    pub fn numbered_solution(&self, n: u64, i: u64) -> u32
+        requires node { n < length self.now.nodes }
+        requires place { i < length (members_of self.now n) }
+        ensures entity { IsEntity self.now.nodes result }
+        ensures solution { slice_get (members_of self.now n) i ≡ Some (entity_at self.now.nodes result) }
+    {
+        self.solutions.get(self.nodes.short(n), i)
     }
 }

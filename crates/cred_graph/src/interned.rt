@@ -1,4 +1,4 @@
-ghost use Rattle.std.specs.Prelude.{◌≡◌, ◌<◌, [], Some, IfOk, MatchOption, Contains, length, slice_get};
+ghost use Rattle.std.specs.Prelude.{◌≡◌, ◌<◌, ◌∷◌, [], ◌++◌, Some, IfOk, OnOk, OnErr, MatchOption, Contains, length, slice_get};
 
 use crate::numbers::short;
 use indexmap::IndexSet;
@@ -24,8 +24,6 @@ impl Model for Interned {
 }
 
 impl Interned {
-    ghost use Rattle.cred_graph.specs.Interned.{IsOnce, Stay};
-
     /// No name.
     pub fn new(alloc: Global) -> Self
         ensures { result ≡ [] }
@@ -37,8 +35,7 @@ impl Interned {
 
     /// The number of the name, if it is kept.
     pub fn number(&self, who: &Entity) -> Option<u32>
-        ensures number { MatchOption result (Contains self.now who.now → ⊥) (λ k. slice_get self.now k ≡ Some who.now) }
-        ensures once { IsOnce self.now }
+        ensures { MatchOption result (Contains self.now who.now → ⊥) (λ k. slice_get self.now k ≡ Some who.now) }
     {
         match self.names.get_full(who) {
             Some((number, _name)) => Some(number as u32),
@@ -46,15 +43,13 @@ impl Interned {
         }
     }
 
-    /// The number of the name, which is kept from now on.
-    pub fn keep(&mut self, who: Entity) -> Result<u32, AllocError>
-        ensures number { IfOk result (λ k. slice_get self.new k ≡ Some who) }
-        ensures others { Stay self.old self.new }
-        ensures once { IsOnce self.new }
+    /// Keeps a name that isn't kept, and answers its number. A number that doesn't fit 32 bits is refused.
+    pub fn add(&mut self, who: Entity) -> Result<u32, AllocError>
+        requires { Contains self.old who → ⊥ }
+        ensures number { IfOk result (λ k. k ≡ length self.old) }
+        ensures added { OnOk result (self.new ≡ self.old ++ who ∷ []) }
+        ensures unchanged { OnErr result (self.new ≡ self.old) }
     {
-        if let Some(number) = self.number(&who) {
-            return Ok(number);
-        }
         let Some(number) = short(self.names.len() as u64) else {
             return Err(AllocError);
         };

@@ -2,13 +2,14 @@
 //! and why.
 #![tactic(auto)]
 
-mod edges;
 mod graphs;
 mod interned;
+mod listener_lists;
 mod listeners;
+mod member_lists;
 mod nodes;
 mod numbers;
-mod places;
+mod ports;
 mod reasons;
 mod solutions;
 #[cfg(test)]
@@ -16,4 +17,6 @@ mod tests;
 
 pub use graphs::Graph;
 pub use listeners::{Listening, Port};
+pub use ports::NumberedPort;
+pub use reasons::NumberedReason;
 pub use solutions::{Reason, Solution};

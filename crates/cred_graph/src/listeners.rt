@@ -1,8 +1,7 @@
-ghost use Rattle.std.specs.Prelude.{◌≡◌, ◌<◌, ◌∷◌, [], ◌++◌, ◌↔◌, IsTrue, Some, OnOk, OnErr, Contains, length, slice_get};
+ghost use Rattle.std.specs.Prelude.{◌≡◌, [], ◌↔◌, ◌<◌, IsTrue, Some, IfOk, OnErr, Contains, length, slice_get};
 
-use crate::edges::{NumberedEdge, edge_found, edge_kept, edge_read};
-use crate::interned::Interned;
-use crate::places::Places;
+use crate::listener_lists::ListenerLists;
+use crate::ports::KeptPort;
 use indexmap::IndexSet;
 use names::Entity;
 use std::alloc::{AllocError, Global};
@@ -29,87 +28,110 @@ pub struct Listening {
     pub port: Port,
 }
 
-/// That a listener listens to the node `asked`.
-#[derive(Clone, Copy)]
-pub struct Edge {
-    pub asked: u64,
-    pub listening: Listening,
+/// A listener as a graph keeps it.
+#[derive(Clone, Copy, Default, PartialEq, Eq, Hash)]
+pub struct KeptListening {
+    pub asker: u32,
+    pub port: KeptPort,
 }
 
-/// The listeners of all nodes, each once, in order of adding, with the places of each node's. Names in their ports are
-/// kept once, and the rows have their numbers.
+/// A listener of the node `asked` beyond the first ones of that node.
+#[derive(Clone, Copy, PartialEq, Eq, Hash)]
+pub struct FarListening {
+    pub asked: u32,
+    pub listening: KeptListening,
+}
+
+/// So many listeners of a node are looked through one by one.
+const NEAR: usize = 8;
+
+/// The listeners of each node, each once, in order of adding. Those beyond the first ones of their node stand in a table
+/// too.
 #[derive(Drop)]
 pub struct Listeners {
-    names: Interned,
-    rows: IndexSet<NumberedEdge>,
-    places: Places,
+    lists: ListenerLists,
+    far: IndexSet<FarListening>,
 }
 
 impl Model for Listeners {
-    ghost use Rattle.std.specs.Prelude.{List, map};
-    ghost use Rattle.cred_graph.specs.declared.listeners.Edge.{Edge};
-    ghost use Rattle.cred_graph.specs.NumberedEdges.{edge_of, AreKept};
+    ghost use Rattle.std.specs.Prelude.{List};
+    ghost use Rattle.cred_graph.specs.declared.listeners.KeptListening.{KeptListening};
+    ghost use Rattle.cred_graph.specs.Kept.{AreFar};
 
-    ghost Value = { List Edge };
+    ghost Value = { List (List KeptListening) };
 
-    ghost view = { λ l. map (edge_of l.names) l.rows.keys };
+    ghost view = { λ l. l.lists };
 
-    ghost invariant = { λ l. AreKept l.names l.rows.keys l.places };
+    ghost invariant = { λ l. AreFar l.lists l.far.keys };
 }
 
 impl Listeners {
-    ghost use Rattle.cred_graph.specs.Edges.{edges_to};
+    ghost use Rattle.cred_graph.specs.NodeLists.{list_at, AreSame};
+    ghost use Rattle.cred_graph.specs.Kept.{HearsOf};
 
     /// No listener of any node.
     pub fn new(alloc: Global) -> Self
         ensures { result ≡ [] }
     {
         Listeners {
-            names: Interned::new(alloc),
-            rows: IndexSet::new(alloc),
-            places: Places::new(alloc),
+            lists: ListenerLists::new(alloc),
+            far: IndexSet::new(alloc),
         }
-    }
-
-    /// Whether this listener is there.
-    pub fn contains(&self, edge: &Edge) -> bool
-        ensures { IsTrue result ↔ Contains self.now edge.now }
-    {
-        match edge_found(&self.names, edge) {
-            Some(row) => self.rows.contains(&row),
-            None => false,
-        }
-    }
-
-    /// Adds a listener that isn't there.
-    pub fn add(&mut self, edge: Edge) -> Result<(), AllocError>
-        requires { Contains self.old edge → ⊥ }
-        ensures added { OnOk result (self.new ≡ self.old ++ edge ∷ []) }
-        ensures unchanged { OnErr result (self.new ≡ self.old) }
-    {
-        let row = edge_kept(&mut self.names, &edge)?;
-        self.rows.reserve(1)?;
-        self.places.add(edge.asked, self.rows.len() as u64)?;
-        let _is_new = self.rows.insert(row).unwrap();
-        Ok(())
     }
 
     /// How many listeners the node has.
-    pub fn count(&self, n: u64) -> u64
-        ensures { result ≡ length (edges_to n self.now) }
+    pub fn count(&self, n: u32) -> u64
+        ensures { result ≡ length (list_at self.now n) }
     {
-        self.places.count(n)
+        self.lists.of(n).len() as u64
     }
 
     /// The listener that stands here among those of the node.
-    pub fn get(&self, n: u64, i: u64) -> Edge
-        requires { i < length (edges_to n self.now) }
-        ensures { slice_get (edges_to n self.now) i ≡ Some result }
+    pub fn get(&self, n: u32, i: u64) -> KeptListening
+        requires { i < length (list_at self.now n) }
+        ensures { slice_get (list_at self.now n) i ≡ Some result }
     {
-        let place = self.places.get(n, i);
-        match self.rows.get_index(place as usize) {
-            Some(row) => edge_read(&self.names, row),
-            None => unreachable!(),
+        self.lists.of(n)[i as usize]
+    }
+
+    /// Whether the node has this listener.
+    fn has(&self, n: u32, listening: &KeptListening) -> bool
+        ensures { IsTrue result ↔ Contains (list_at self.now n) listening.now }
+    {
+        let list = self.lists.of(n);
+        let (near, others) = list.split_at(list.len().min(NEAR));
+        if near.contains(listening) {
+            return true;
         }
+        !others.is_empty()
+            && self.far.contains(&FarListening {
+                asked: n,
+                listening: *listening,
+            })
+    }
+
+    /// Lets the node have the listener, and answers whether that is new.
+    pub fn add(&mut self, n: u32, listening: KeptListening) -> Result<bool, AllocError>
+        ensures ok { IfOk result (λ new. HearsOf self.old self.new n listening new) }
+        ensures growth { OnErr result (Contains (list_at self.old n) listening → ⊥) }
+        ensures unchanged { OnErr result (AreSame self.old self.new) }
+    {
+        if self.has(n, &listening) {
+            return Ok(false);
+        }
+        if self.lists.of(n).len() < NEAR {
+            self.lists.add(n, listening)?;
+            return Ok(true);
+        }
+        self.far.reserve(1)?;
+        self.lists.add(n, listening)?;
+        let _is_new = self
+            .far
+            .insert(FarListening {
+                asked: n,
+                listening,
+            })
+            .unwrap();
+        Ok(true)
     }
 }

@@ -1,8 +1,119 @@
-ghost use Rattle.std.specs.Prelude.{◌≡◌, IfOk};
+ghost use Rattle.std.specs.Prelude.{◌≡◌, ◌<◌, ◌≤◌, ◌∷◌, [], ◌++◌, Some, IfOk, OnOk, OnErr, MatchOption, Contains, length, slice_get};
+ghost use Rattle.credential_text.specs.declared.exprs.Expr.{Expr};
+ghost use Rattle.credential_text.specs.declared.exprs.Expr.TheVariants as exprs;
 ghost use Rattle.credential_text.specs.Expr.{HasPartsInRange};
 
+use crate::numbers::short;
 use credential_text::Expr;
-use std::alloc::AllocError;
+use indexmap::IndexSet;
+use names::Entity;
+use std::alloc::{AllocError, Global};
+use std::marker::Model;
+
+/// The expressions of the nodes, each once and by its node's number, which has 32 bits.
+#[derive(Drop)]
+pub struct Nodes {
+    exprs: IndexSet<Expr>,
+}
+
+impl Model for Nodes {
+    ghost use Rattle.std.specs.Prelude.{List};
+    ghost use Rattle.credential_text.specs.declared.exprs.Expr.{Expr};
+    ghost use Rattle.cred_graph.specs.Numbers.{AreShort};
+
+    ghost Value = { List Expr };
+
+    ghost view = { λ n. n.exprs.keys };
+
+    ghost invariant = { λ n. AreShort n.exprs.keys };
+}
+
+impl Nodes {
+    ghost use Rattle.cred_graph.specs.Numbers.{IsEntity};
+
+    /// No node.
+    pub fn new(alloc: Global) -> Self
+        ensures { result ≡ [] }
+    {
+        Nodes {
+            exprs: IndexSet::new(alloc),
+        }
+    }
+
+    /// The number of the expression's node, if it has one.
+    pub fn number(&self, expr: &Expr) -> Option<u64>
+        ensures { MatchOption result (Contains self.now expr.now → ⊥) (λ n. slice_get self.now n ≡ Some expr.now) }
+    {
+        match self.exprs.get_full(expr) {
+            Some((n, _expr)) => Some(n as u64),
+            None => None,
+        }
+    }
+
+    /// Adds a node for an expression that has none, and answers its number. A number that doesn't fit 32 bits is refused.
+    pub fn add(&mut self, expr: Expr) -> Result<u64, AllocError>
+        requires { Contains self.old expr → ⊥ }
+        ensures number { IfOk result (λ n. n ≡ length self.old) }
+        ensures added { OnOk result (self.new ≡ self.old ++ expr ∷ []) }
+        ensures unchanged { OnErr result (self.new ≡ self.old) }
+    {
+        let n = self.exprs.len() as u64;
+        let Some(_number) = short(n) else {
+            return Err(AllocError);
+        };
+        let _is_new = self.exprs.insert(expr)?;
+        Ok(n)
+    }
+
+    /// The expression of the node.
+    pub fn expr(&self, n: u64) -> &Expr
+        requires { n < length self.now }
+        ensures { slice_get self.now n ≡ Some result.now }
+    {
+        &self.exprs.as_slice()[n as usize]
+    }
+
+    /// The node's number in 32 bits.
+    pub fn short(&self, n: u64) -> u32
+        requires { n < length self.now }
+        ensures { result ≡ n }
+    {
+        let _nodes = self.exprs.len();
+        n as u32
+    }
+
+    /// The node's number in 32 bits, if there is such a node.
+    pub fn found(&self, n: u64) -> Option<u32>
+        ensures { MatchOption result (length self.now ≤ n) (λ k. k ≡ n) }
+    {
+        if n < self.exprs.len() as u64 {
+            Some(n as u32)
+        } else {
+            None
+        }
+    }
+
+    /// The number of the entity's node, if it has one.
+    pub fn entity_number(&self, who: &Entity) -> Option<u32>
+        ensures { MatchOption result (Contains self.now (exprs.Ent who.now) → ⊥) (λ k. slice_get self.now k ≡ Some (exprs.Ent who.now)) }
+    {
+        match self.number(&Expr::Ent(*who)) {
+            Some(n) => Some(self.short(n)),
+            None => None,
+        }
+    }
+
+    /// The entity of this number.
+    pub fn entity(&self, k: u32) -> Entity
+        requires { IsEntity self.now k }
+        ensures { slice_get self.now k ≡ Some (exprs.Ent result) }
+    {
+        match self.expr(k as u64) {
+            Expr::Ent(who) => *who,
+            _ => unreachable!(),
+        }
+    }
+}
 
 /// The same expression again.
 pub fn copy_of(expr: &Expr) -> Result<Expr, AllocError>

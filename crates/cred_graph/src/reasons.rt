@@ -1,46 +1,50 @@
-ghost use Rattle.std.specs.Prelude.{◌≡◌, IfOk};
-ghost use Rattle.cred_graph.specs.Interned.{Stay};
-ghost use Rattle.cred_graph.specs.Solved.{reason_of, IsReasonIn};
+ghost use Rattle.std.specs.Prelude.{◌≡◌};
+ghost use Rattle.cred_graph.specs.Numbers.{reason_at, IsReason};
+ghost use Rattle.cred_graph.specs.Solved.{HasNumbers};
 
-use crate::interned::Interned;
-use crate::numbers::short;
+use crate::nodes::Nodes;
 use crate::solutions::Reason;
-use std::alloc::AllocError;
 
-/// A reason with the number of its name.
-#[derive(Clone, Copy)]
+/// Why an entity is a solution of a node, with the number of the member of a base.
+#[derive(Clone, Copy, PartialEq, Eq)]
 pub enum NumberedReason {
+    /// The node's expression is the entity.
     Leaf,
+    /// The node is a role, and the entity a solution of this node, the body of one of its credentials.
     Body(u32),
+    /// The node is a linked role, the entity of this number a member of its base, and the solution is in the role that it
+    /// gives under the linked name.
     Via(u32),
+    /// The node is an intersection, and the entity a solution of each part.
     Parts,
 }
 
-/// The reason with the number of its name, which is kept from now on. A node's number that is too large is refused.
-pub fn reason_kept(names: &mut Interned, reason: Reason) -> Result<NumberedReason, AllocError>
-    ensures numbered { IfOk result (λ r. IsReasonIn names.new r × (reason_of names.new r ≡ reason)) }
-    ensures others { Stay names.old names.new }
+/// The reason with numbers for names.
+pub fn reason_number(nodes: &Nodes, reason: &Reason) -> NumberedReason
+    requires { HasNumbers nodes.now reason.now }
+    ensures same { reason_at nodes.now result ≡ reason.now }
+    ensures number { IsReason nodes.now result }
 {
-    Ok(match reason {
+    match reason {
         Reason::Leaf => NumberedReason::Leaf,
-        Reason::Body(n) => match short(n) {
-            Some(n) => NumberedReason::Body(n),
-            None => return Err(AllocError),
+        Reason::Body(m) => NumberedReason::Body(nodes.short(*m)),
+        Reason::Via(who) => match nodes.entity_number(who) {
+            Some(k) => NumberedReason::Via(k),
+            None => unreachable!(),
         },
-        Reason::Via(who) => NumberedReason::Via(names.keep(who)?),
         Reason::Parts => NumberedReason::Parts,
-    })
+    }
 }
 
-/// The reason with its name.
-pub fn reason_read(names: &Interned, reason: NumberedReason) -> Reason
-    requires { IsReasonIn names.now reason }
-    ensures { result ≡ reason_of names.now reason }
+/// The reason with names for numbers.
+pub fn reason_name(nodes: &Nodes, reason: NumberedReason) -> Reason
+    requires { IsReason nodes.now reason }
+    ensures { result ≡ reason_at nodes.now reason }
 {
     match reason {
         NumberedReason::Leaf => Reason::Leaf,
-        NumberedReason::Body(n) => Reason::Body(n as u64),
-        NumberedReason::Via(number) => Reason::Via(names.name(number)),
+        NumberedReason::Body(m) => Reason::Body(m as u64),
+        NumberedReason::Via(k) => Reason::Via(nodes.entity(k)),
         NumberedReason::Parts => Reason::Parts,
     }
 }

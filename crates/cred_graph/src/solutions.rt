@@ -1,8 +1,7 @@
-ghost use Rattle.std.specs.Prelude.{◌≡◌, ◌<◌, ◌==◌, ◌∷◌, [], ◌++◌, Some, OnOk, OnErr, MatchOption, length, filter, map, slice_get};
+ghost use Rattle.std.specs.Prelude.{◌≡◌, [], Some, IfOk, OnErr, MatchOption, ◌<◌, length, slice_get};
 
-use crate::interned::Interned;
-use crate::places::Places;
-use crate::reasons::{NumberedReason, reason_kept, reason_read};
+use crate::member_lists::MemberLists;
+use crate::reasons::NumberedReason;
 use indexmap::IndexMap;
 use names::Entity;
 use std::alloc::{AllocError, Global};
@@ -30,93 +29,84 @@ pub struct Solution {
     pub reason: Reason,
 }
 
-/// That an entity is a solution of a node.
+/// That the entity of this number is a solution of a node.
 #[derive(Clone, Copy, PartialEq, Eq, Hash)]
 pub struct Solved {
-    pub node: u64,
-    pub who: Entity,
+    pub node: u32,
+    pub who: u32,
 }
 
-/// The solutions of all nodes with their reasons, in order of adding, and the places of each node's. Names in the
-/// reasons are kept once, and the rows have their numbers.
+/// The solutions of all nodes with their reasons, in order of adding, and the entities of each node's. Entities are
+/// spoken of by number.
 #[derive(Drop)]
 pub struct Solutions {
-    names: Interned,
     reasons: IndexMap<Solved, NumberedReason>,
-    places: Places,
+    members: MemberLists,
 }
 
 impl Model for Solutions {
-    ghost use Rattle.std.specs.Prelude.{List, map};
-    ghost use Rattle.cred_graph.specs.declared.solutions.Solution.{Solution};
-    ghost use Rattle.cred_graph.specs.Solved.{solution_of, AreKept};
+    ghost use Rattle.std.specs.Prelude.{List};
+    ghost use Rattle.cred_graph.specs.declared.solutions.Solved.{Solved};
+    ghost use Rattle.cred_graph.specs.declared.reasons.NumberedReason.{NumberedReason};
+    ghost use Rattle.cred_graph.specs.Solved.{AreMembers};
 
-    ghost Value = { List Solution };
+    ghost Value = { List (Solved × NumberedReason) };
 
-    ghost view = { λ s. map (solution_of s.names) s.reasons.entries };
+    ghost view = { λ s. s.reasons.entries };
 
-    ghost invariant = { λ s. AreKept s.names s.reasons.entries s.places };
+    ghost invariant = { λ s. AreMembers s.reasons.entries s.members };
 }
 
 impl Solutions {
-    ghost use Rattle.cred_graph.specs.GraphState.{HasSolution};
+    ghost use Rattle.cred_graph.specs.Solved.{HasKey, Solves, members_by};
 
     /// No solution of any node.
     pub fn new(alloc: Global) -> Self
         ensures { result ≡ [] }
     {
         Solutions {
-            names: Interned::new(alloc),
             reasons: IndexMap::new(alloc),
-            places: Places::new(alloc),
+            members: MemberLists::new(alloc),
         }
     }
 
     /// The place of the solution, and its reason, if it is there.
-    pub fn find(&self, n: u64, who: &Entity) -> Option<(u64, Reason)>
-        ensures { MatchOption result (HasSolution self.now n who.now → ⊥) (λ r.
-            slice_get self.now r.0 ≡ Some (record { node = n; who = who.now; reason = r.1 })) }
+    pub fn find(&self, solved: &Solved) -> Option<(u64, NumberedReason)>
+        ensures { MatchOption result (HasKey self.now solved.now → ⊥) (λ r. slice_get self.now r.0 ≡ Some (solved.now, r.1)) }
     {
-        let solved = Solved { node: n, who: *who };
-        match self.reasons.get_full(&solved) {
-            Some((place, _solved, reason)) => Some((
-                place as u64,
-                reason_read(&self.names, *reason),
-            )),
+        match self.reasons.get_full(solved) {
+            Some((place, _solved, reason)) => Some((place as u64, *reason)),
             None => None,
         }
     }
 
-    /// Adds a solution that isn't there.
-    pub fn add(&mut self, solution: Solution) -> Result<(), AllocError>
-        requires { HasSolution self.old solution.node solution.who → ⊥ }
-        ensures added { OnOk result (self.new ≡ self.old ++ solution ∷ []) }
+    /// Adds a solution, and answers whether that is new. The first reason stays.
+    pub fn add(&mut self, solved: Solved, reason: NumberedReason) -> Result<bool, AllocError>
+        ensures ok { IfOk result (λ new. Solves self.old self.new solved reason new) }
+        ensures growth { OnErr result (HasKey self.old solved → ⊥) }
         ensures unchanged { OnErr result (self.new ≡ self.old) }
     {
-        let Solution { node, who, reason } = solution;
-        let reason = reason_kept(&mut self.names, reason)?;
+        if let Some(_found) = self.find(&solved) {
+            return Ok(false);
+        }
         self.reasons.reserve(1)?;
-        self.places.add(node, self.reasons.len() as u64)?;
-        let _earlier = self.reasons.insert(Solved { node, who }, reason).unwrap();
-        Ok(())
+        self.members.add(solved.node, solved.who)?;
+        let _earlier = self.reasons.insert(solved, reason).unwrap();
+        Ok(true)
     }
 
     /// How many solutions the node has.
-    pub fn count(&self, n: u64) -> u64
-        ensures { result ≡ length (filter (λ s. s.node == n) self.now) }
+    pub fn count(&self, n: u32) -> u64
+        ensures { result ≡ length (members_by n self.now) }
     {
-        self.places.count(n)
+        self.members.of(n).len() as u64
     }
 
-    /// The solution that stands here among those of the node.
-    pub fn get(&self, n: u64, i: u64) -> Entity
-        requires { i < length (filter (λ s. s.node == n) self.now) }
-        ensures { slice_get (map (λ s. s.who) (filter (λ s. s.node == n) self.now)) i ≡ Some result }
+    /// The number of the entity that stands here among the node's solutions.
+    pub fn get(&self, n: u32, i: u64) -> u32
+        requires { i < length (members_by n self.now) }
+        ensures { slice_get (members_by n self.now) i ≡ Some result }
     {
-        let place = self.places.get(n, i);
-        match self.reasons.get_index(place as usize) {
-            Some((solved, _reason)) => solved.who,
-            None => unreachable!(),
-        }
+        self.members.of(n)[i as usize]
     }
 }

@@ -1,7 +1,7 @@
 ghost use Rattle.std.specs.Prelude.{◌≡◌, ◌∷◌, [], IfOk, IfSome};
 ghost use Rattle.cred_graph.specs.Reason.{Fits};
 
-use crate::{Graph, Port, Reason};
+use crate::{Graph, NumberedPort, NumberedReason, Port, Reason};
 use credential_text::{Expr, Part, Parts};
 use names::{Entity, Role, RoleName};
 use std::alloc::{AllocError, Global};
@@ -265,6 +265,103 @@ fn an_intersection_is_solved_by_all_its_parts(rt: HostRuntime) -> Result<(), Fai
     assert!(rt; solve_role(&mut graph, role, &Expr::Ent(who), who)? == Some(true));
     assert!(rt; solve_meet(rt.alloc(), &mut graph, one, other, who)? == Some(true));
     assert!(rt; graph.reason(node, &who) == Some((2, Reason::Parts)));
+    Ok(())
+}
+
+/// Lets an expression listen to another by way of the entity, by its number.
+fn listen_by_number(
+    graph: &mut Graph,
+    asked: &Expr,
+    asker: &Expr,
+    who: &Entity,
+) -> Result<Option<bool>, AllocError> {
+    let Some(n) = graph.node(asked) else {
+        return Ok(None);
+    };
+    let Some(m) = graph.node(asker) else {
+        return Ok(None);
+    };
+    let Some(k) = graph.entity_number(who) else {
+        return Ok(None);
+    };
+    match graph.add_numbered_listener(n, m, NumberedPort::Via(k)) {
+        Ok(is_new) => Ok(Some(is_new)),
+        Err(_) => Ok(Some(graph.add_numbered_listener(n, m, NumberedPort::Via(k))?)),
+    }
+}
+
+/// Makes the entity its own solution, by its number.
+fn solve_by_number(graph: &mut Graph, who: &Entity) -> Result<Option<bool>, AllocError> {
+    let Some(k) = graph.entity_number(who) else {
+        return Ok(None);
+    };
+    match graph.add_numbered_solution(k as u64, k, NumberedReason::Leaf) {
+        Ok(is_new) => Ok(Some(is_new)),
+        Err(_) => Ok(Some(graph.add_numbered_solution(k as u64, k, NumberedReason::Leaf)?)),
+    }
+}
+
+/// The first solution of the expression's node, by its number.
+fn first_solution(graph: &Graph, expr: &Expr) -> Option<Entity> {
+    let n = graph.node(expr)?;
+    if graph.solutions(n) == 0 {
+        return None;
+    }
+    Some(graph.entity(graph.numbered_solution(n, 0)))
+}
+
+#[test]
+fn numbers_stand_for_names(rt: HostRuntime) -> Result<(), Fail> {
+    let role = Expr::Rol(Role::read(b"A.r")?);
+    let who = Entity::read(b"D")?;
+    let entity = Expr::Ent(who);
+    let mut graph = Graph::new(rt.alloc());
+    let _role = node_of(&mut graph, &role)?;
+    assert!(rt; listen_by_number(&mut graph, &role, &role, &who)? == None);
+    let _entity = node_of(&mut graph, &entity)?;
+    assert!(rt; graph.entity_number(&who) == Some(1));
+    assert!(rt; listen_by_number(&mut graph, &entity, &role, &who)? == Some(true));
+    assert!(rt; listen(&mut graph, &entity, &role, Port::Via(who))? == Some(false));
+    assert!(rt; listener_of(&graph, &entity, 0) == Some((0, Port::Via(who))));
+    assert!(rt; solve_by_number(&mut graph, &who)? == Some(true));
+    assert!(rt; solve_entity(&mut graph, who)? == Some(false));
+    assert!(rt; first_solution(&graph, &entity) == Some(who));
+    assert!(rt; graph.reason(1, &who) == Some((0, Reason::Leaf)));
+    Ok(())
+}
+
+#[test]
+fn a_stranger_goes_on_to_be_one_listener(rt: HostRuntime) -> Result<(), Fail> {
+    let role = Expr::Rol(Role::read(b"A.r")?);
+    let who = Entity::read(b"D")?;
+    let entity = Expr::Ent(who);
+    let mut graph = Graph::new(rt.alloc());
+    let _role = node_of(&mut graph, &role)?;
+    assert!(rt; listen(&mut graph, &role, &role, Port::Via(who))? == Some(true));
+    assert!(rt; listen(&mut graph, &role, &role, Port::Via(who))? == Some(false));
+    let _entity = node_of(&mut graph, &entity)?;
+    assert!(rt; listen_by_number(&mut graph, &role, &role, &who)? == Some(false));
+    assert!(rt; listen_by_number(&mut graph, &entity, &role, &who)? == Some(true));
+    assert!(rt; listener_of(&graph, &role, 0) == Some((0, Port::Via(who))));
+    assert!(rt; listener_of(&graph, &role, 1) == None);
+    Ok(())
+}
+
+#[test]
+fn listeners_beyond_eight_stand_once(rt: HostRuntime) -> Result<(), Fail> {
+    let role = Expr::Rol(Role::read(b"A.r")?);
+    let entity = Expr::Ent(Entity::read(b"D")?);
+    let mut graph = Graph::new(rt.alloc());
+    let _role = node_of(&mut graph, &role)?;
+    let _entity = node_of(&mut graph, &entity)?;
+    for part in 0..11 {
+        assert!(rt; listen(&mut graph, &entity, &role, Port::Part(part))? == Some(true));
+        assert!(rt; listener_of(&graph, &entity, part as u64) == Some((0, Port::Part(part))));
+        assert!(rt; listener_of(&graph, &entity, part as u64 + 1) == None);
+    }
+    for part in 0..11 {
+        assert!(rt; listen(&mut graph, &entity, &role, Port::Part(part))? == Some(false));
+    }
     Ok(())
 }
 

@@ -1,26 +1,60 @@
-use Rattle.std.proofs.Common.{refl}
-use Rattle.cred_graph.proofs.Lists.{pushed_there}
-use Rattle.cred_graph.proofs.Found.{solution_at_place}
-use Rattle.cred_graph.proofs.StoredLemmas.{stored-solution}
+use Rattle.cred_graph.specs.Stored.{graph_as}
+use Rattle.cred_graph.proofs.CallLemmas.{kept_by, found_by}
+use Rattle.cred_graph.proofs.NumberLemmas.{entity_is}
+use Rattle.cred_graph.proofs.Solvers.{new_solver_has_node, reason_has_numbers, fits_node}
 use Rattle.cred_graph.proofs.graphs.Graph.add_solution.Goals as goal
 
-pub returns-in-Some-clause-solves : goal.returns-in-Some-clause-solves
-returns-in-Some-clause-solves c = rw (← c.self.view_is) (solution_at_place _ _ _ _ _ c.in-Some.ensures)
-
-pub returns-in-Some-clause-ok : goal.returns-in-Some-clause-ok
-returns-in-Some-clause-ok c = (rw (← c.self.view_is) (solution_at_place _ _ _ _ _ c.in-Some.ensures), refl)
-
-pub invariant_of-self-2 : goal.invariant_of-self-2
-invariant_of-self-2 c =
+pub unreachable-requires : goal.unreachable-requires
+unreachable-requires c =
     let fits = rw (← c.self.view_is) at c.requires in
-    stored-solution _ _ _ _ (record { node = c.args.n; who = c.args.who; reason = c.args.reason }) c.self.invariant c.in_default.ensures fits c.in_ok-add.ensures.added
+    c.in_default.ensures (new_solver_has_node (graph_as c.self.inside.nodes c.self.inside.strangers c.self.inside.listeners c.self.inside.solutions) c.self.invariant.graph c.args.n c.args.who c.args.reason fits)
+
+pub reason_number-reason-requires : goal.reason_number-reason-requires
+reason_number-reason-requires c =
+    let fits = rw (← c.self.view_is) at c.requires in
+    reason_has_numbers (graph_as c.self.inside.nodes c.self.inside.strangers c.self.inside.listeners c.self.inside.solutions) c.self.invariant.graph c.args.n c.args.who c.args.reason fits
+
+pub short-requires : goal.short-requires
+short-requires c =
+    let fits = rw (← c.self.view_is) at c.requires in
+    fits_node (graph_as c.self.inside.nodes c.self.inside.strangers c.self.inside.listeners c.self.inside.solutions) c.args.n c.args.who c.args.reason fits
+
+pub invariant_of-self : goal.invariant_of-self
+invariant_of-self c =
+    let fits = rw (← c.self.view_is) at c.requires in
+    kept_by c.self.inside.nodes c.self.inside.strangers c.self.inside.listeners c.self.inside.solutions c.add.new.self c.self.invariant (record { node = c.short.result; who = c.in-Some.number }) c.reason_number-reason.result (c.args.who, c.in-Some.ensures) c.reason_number-reason.ensures.number
+    (record { node = c.args.n; who = c.args.who; reason = c.args.reason })
+    (λ i. record { node = c.short.ensures i; who = entity_is c.self.inside.nodes c.in-Some.number c.args.who c.in-Some.ensures i; reason = c.reason_number-reason.ensures.same i })
+    fits c.add.result c.add.ensures.ok c.add.ensures.unchanged
+
+pub returns-clause-ok : goal.returns-clause-ok
+returns-clause-ok c =
+    let fits = rw (← c.self.view_is) at c.requires in
+    rw (← c.self.view_is) (found_by c.self.inside.nodes c.self.inside.strangers c.self.inside.listeners c.self.inside.solutions c.add.new.self c.self.invariant (record { node = c.short.result; who = c.in-Some.number }) c.reason_number-reason.result (c.args.who, c.in-Some.ensures) c.reason_number-reason.ensures.number
+    (record { node = c.args.n; who = c.args.who; reason = c.args.reason })
+    (λ i. record { node = c.short.ensures i; who = entity_is c.self.inside.nodes c.in-Some.number c.args.who c.in-Some.ensures i; reason = c.reason_number-reason.ensures.same i })
+    fits c.add.result c.add.ensures.ok c.add.ensures.growth c.add.ensures.unchanged).ok
+
+pub returns-clause-solves : goal.returns-clause-solves
+returns-clause-solves c =
+    let fits = rw (← c.self.view_is) at c.requires in
+    (found_by c.self.inside.nodes c.self.inside.strangers c.self.inside.listeners c.self.inside.solutions c.add.new.self c.self.invariant (record { node = c.short.result; who = c.in-Some.number }) c.reason_number-reason.result (c.args.who, c.in-Some.ensures) c.reason_number-reason.ensures.number
+    (record { node = c.args.n; who = c.args.who; reason = c.args.reason })
+    (λ i. record { node = c.short.ensures i; who = entity_is c.self.inside.nodes c.in-Some.number c.args.who c.in-Some.ensures i; reason = c.reason_number-reason.ensures.same i })
+    fits c.add.result c.add.ensures.ok c.add.ensures.growth c.add.ensures.unchanged).solves
 
 pub returns-clause-graph : goal.returns-clause-graph
 returns-clause-graph c =
     let fits = rw (← c.self.view_is) at c.requires in
-    (stored-solution c.self.inside.nodes.keys c.self.inside.listeners c.self.inside.solutions c.add.new.self (record { node = c.args.n; who = c.args.who; reason = c.args.reason })
-    c.self.invariant c.in_default.ensures fits c.in_ok-add.ensures.added).graph
+    (found_by c.self.inside.nodes c.self.inside.strangers c.self.inside.listeners c.self.inside.solutions c.add.new.self c.self.invariant (record { node = c.short.result; who = c.in-Some.number }) c.reason_number-reason.result (c.args.who, c.in-Some.ensures) c.reason_number-reason.ensures.number
+    (record { node = c.args.n; who = c.args.who; reason = c.args.reason })
+    (λ i. record { node = c.short.ensures i; who = entity_is c.self.inside.nodes c.in-Some.number c.args.who c.in-Some.ensures i; reason = c.reason_number-reason.ensures.same i })
+    fits c.add.result c.add.ensures.ok c.add.ensures.growth c.add.ensures.unchanged).graph
 
-pub returns-clause-solves : goal.returns-clause-solves
-returns-clause-solves c =
-    (c.args.reason, pushed_there c.self.inside.solutions c.add.new.self (record { node = c.args.n; who = c.args.who; reason = c.args.reason }) c.in_ok-add.ensures.added)
+pub returns-clause-growth : goal.returns-clause-growth
+returns-clause-growth c =
+    let fits = rw (← c.self.view_is) at c.requires in
+    rw (← c.self.view_is) (found_by c.self.inside.nodes c.self.inside.strangers c.self.inside.listeners c.self.inside.solutions c.add.new.self c.self.invariant (record { node = c.short.result; who = c.in-Some.number }) c.reason_number-reason.result (c.args.who, c.in-Some.ensures) c.reason_number-reason.ensures.number
+    (record { node = c.args.n; who = c.args.who; reason = c.args.reason })
+    (λ i. record { node = c.short.ensures i; who = entity_is c.self.inside.nodes c.in-Some.number c.args.who c.in-Some.ensures i; reason = c.reason_number-reason.ensures.same i })
+    fits c.add.result c.add.ensures.ok c.add.ensures.growth c.add.ensures.unchanged).growth

@@ -1,14 +1,17 @@
-use Rattle.std.proofs.Common.{length, arith}
-use Rattle.cred_graph.proofs.EdgeLemmas.{length-listed_at, listener_is}
+use Rattle.std.proofs.Common.{arith}
+use Rattle.cred_graph.proofs.ReadLemmas.{length-listeners, listener_read, port_read}
 use Rattle.cred_graph.proofs.graphs.Graph.listener.Goals as goal
 
-pub get-asker-requires : goal.get-asker-requires
-get-asker-requires c =
-    let node = rw (← c.self.view_is) at c.requires.node in
-    let place = rw (← c.self.view_is) at c.requires.place in
-    omega (arith, length-listed_at (length c.self.inside.nodes.keys) c.self.inside.listeners c.args.n node)
+pub get-kept-requires : goal.get-kept-requires
+get-kept-requires c =
+    let node = rw (← c.self.view_is, ← c.short.ensures) at c.requires.node in
+    let place = rw (← c.self.view_is, ← c.short.ensures) at c.requires.place in
+    omega (arith, length-listeners c.self.inside.nodes c.self.inside.strangers c.self.inside.listeners c.self.inside.solutions c.short.result node)
+
+pub port_name-port-requires : goal.port_name-port-requires
+port_name-port-requires c = port_read c.self.inside.nodes c.self.inside.strangers c.self.inside.listeners c.self.inside.solutions c.short.result c.args.i c.get-kept.result c.self.invariant c.get-kept.ensures
 
 pub returns : goal.returns
 returns c =
-    let node = rw (← c.self.view_is) at c.requires.node in
-    rw (← c.self.view_is) (listener_is (length c.self.inside.nodes.keys) c.self.inside.listeners c.args.n c.args.i c.get-asker.result node c.get-asker.ensures)
+    let node = rw (← c.self.view_is, ← c.short.ensures) at c.requires.node in
+    rw (← c.self.view_is, ← c.short.ensures, c.port_name-port.ensures) (listener_read c.self.inside.nodes c.self.inside.strangers c.self.inside.listeners c.self.inside.solutions c.short.result c.args.i c.get-kept.result node c.get-kept.ensures)

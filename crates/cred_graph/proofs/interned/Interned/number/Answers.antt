@@ -4,11 +4,11 @@ use Rattle.cred_graph.proofs.Keys.{entities_decided}
 use Rattle.cred_graph.proofs.Tables.{find_is, not_found}
 use Rattle.cred_graph.proofs.interned.Interned.number.Goals as goal
 
-pub returns-in-Some-clause-number : goal.returns-in-Some-clause-number
-returns-in-Some-clause-number c =
+pub returns-in-Some : goal.returns-in-Some
+returns-in-Some c =
     rw (← c.self.view_is)
     (c.in-Some.ensures.stored ∙ ap Some (sym (find_is entity.ghosts.eq entities_decided c.self.inside.names.keys c.args.who.now c.in-Some._name.now (sym c.in-Some.ensures.key))))
 
-pub returns-in-None-clause-number : goal.returns-in-None-clause-number
-returns-in-None-clause-number c =
+pub returns-in-None : goal.returns-in-None
+returns-in-None c =
     rw (← c.self.view_is) (not_found entity.ghosts.eq entities_decided c.self.inside.names.keys c.args.who.now c.in-None.ensures.found)

@@ -1,0 +1,126 @@
+-- Ports and listeners as they are kept: they stay what they are where nodes are added or a stranger joins.
+use Rattle.std.proofs.Common.{ℕ, ◌<◌, ◌≡◌, ◌∙◌, ap, refl, sym, subst, inl, inr, arith, List, [], ◌∷◌, ◌++◌, Some, Contains, length, map, slice_get}
+use Rattle.std.proofs.lemmas.List.{length_push}
+use Rattle.std.proofs.lemmas.List.Elements.{Contains-push_cases}
+use Rattle.std.proofs.lemmas.Option.{get_or_from_slice_get, slice_get-get_or}
+use Rattle.credential_text.specs.declared.exprs.Expr.{Expr}
+use Rattle.credential_text.specs.declared.exprs.Expr.TheVariants.{Ent}
+use Rattle.cred_graph.specs.declared.listeners.Port.TheVariants as port
+use Rattle.cred_graph.specs.declared.listeners.Listening.{Listening}
+use Rattle.cred_graph.specs.declared.listeners.KeptListening.{KeptListening}
+use Rattle.cred_graph.specs.declared.ports.KeptPort.{KeptPort}
+use Rattle.cred_graph.specs.declared.ports.KeptPort.TheVariants as kept
+use Rattle.cred_graph.specs.Interned.{name_at, IsOnce}
+use Rattle.cred_graph.specs.Numbers.{entity_at}
+use Rattle.cred_graph.specs.Kept.{kept_as, IsKept, Joins, listening_as}
+use Rattle.cred_graph.proofs.Growth.{one_place}
+use Rattle.cred_graph.proofs.Lists.{Contains-at_place, place_of_Contains, slice_get_stays, behind_map, seen_at}
+use Rattle.cred_graph.proofs.NumberLemmas.{entity_is, entity_stays}
+
+module _ (nodes more : List Expr) (strangers : List (List ℕ)) where
+  pub kept_with_node : (p : KeptPort) → IsKept nodes strangers p → IsKept (nodes ++ more) strangers p
+  kept_with_node kept.Body is = tt
+  kept_with_node kept.Base is = tt
+  kept_with_node (kept.Via k) (who, at, known) = (who, slice_get_stays nodes more k (Ent who) at, known)
+  kept_with_node (kept.Stranger j) is = is
+  kept_with_node (kept.Part i) is = tt
+
+  pub same_with_node : (p : KeptPort) → IsKept nodes strangers p → kept_as (nodes ++ more) strangers p ≡ kept_as nodes strangers p
+  same_with_node kept.Body is = refl
+  same_with_node kept.Base is = refl
+  same_with_node (kept.Via k) (who, at, known) = ap port.Via (entity_stays nodes more k (who, at))
+  same_with_node (kept.Stranger j) is = refl
+  same_with_node (kept.Part i) is = refl
+
+module _ (nodes : List Expr) (strangers : List (List ℕ)) (x : List ℕ) (out : Contains nodes (Ent x) → ⊥) where
+  kept_with_stranger : (p : KeptPort) → IsKept nodes strangers p → IsKept nodes (strangers ++ x ∷ []) p
+  kept_with_stranger kept.Body is = tt
+  kept_with_stranger kept.Base is = tt
+  kept_with_stranger (kept.Via k) (who, at, known) = (
+    who,
+    at,
+    λ stands. elim (Contains-push_cases strangers x who stands) [
+      | inl before ↦ known before
+      | inr same ↦ out (Contains-at_place nodes k (Ent x) (at ∙ ap (λ (y : List ℕ). Some (Ent y)) (sym same)))
+    ],
+  )
+  kept_with_stranger (kept.Stranger j) is = omega (arith, length_push strangers x)
+  kept_with_stranger (kept.Part i) is = tt
+
+  same_with_stranger : (p : KeptPort) → IsKept nodes strangers p → kept_as nodes (strangers ++ x ∷ []) p ≡ kept_as nodes strangers p
+  same_with_stranger kept.Body is = refl
+  same_with_stranger kept.Base is = refl
+  same_with_stranger (kept.Via k) is = refl
+  same_with_stranger (kept.Stranger j) is =
+      ap port.Via (get_or_from_slice_get (strangers ++ x ∷ []) j (name_at strangers j) [] (slice_get_stays strangers (x ∷ []) j (name_at strangers j) (slice_get-get_or strangers j [] is)))
+  same_with_stranger (kept.Part i) is = refl
+
+pub kept_joined : (nodes : List Expr) (old new : List (List ℕ)) → Joins nodes old new → (p : KeptPort) → IsKept nodes old p → IsKept nodes new p
+kept_joined nodes old new (inl same) p is = subst (λ s. IsKept nodes s p) (sym same) is
+kept_joined nodes old new (inr (x, out, new_name, joined)) p is = subst (λ s. IsKept nodes s p) (sym joined) (kept_with_stranger nodes old x out p is)
+
+pub same_joined : (nodes : List Expr) (old new : List (List ℕ)) → Joins nodes old new → (p : KeptPort) → IsKept nodes old p → kept_as nodes new p ≡ kept_as nodes old p
+same_joined nodes old new (inl same) p is = ap (λ s. kept_as nodes s p) same
+same_joined nodes old new (inr (x, out, new_name, joined)) p is = ap (λ s. kept_as nodes s p) joined ∙ same_with_stranger nodes old x out p is
+
+module _ (nodes : List Expr) (strangers : List (List ℕ)) (one_node : (m n : ℕ) (e : Expr) → slice_get nodes m ≡ Some e → slice_get nodes n ≡ Some e → m ≡ n) (once : IsOnce strangers) where
+  via_stranger : (k j : ℕ) → IsKept nodes strangers (kept.Via k) → j < length strangers → entity_at nodes k ≡ name_at strangers j → ⊥
+  via_stranger k j (who, at, known) within same =
+      known (Contains-at_place strangers j who (slice_get-get_or strangers j [] within ∙ ap Some (sym same ∙ entity_is nodes k who at)))
+
+  kept_once : (p q : KeptPort) → IsKept nodes strangers p → IsKept nodes strangers q → kept_as nodes strangers p ≡ kept_as nodes strangers q → p ≡ q
+  kept_once kept.Body kept.Body is also same = refl
+  kept_once kept.Body kept.Base is also same = cc
+  kept_once kept.Body (kept.Via l) is also same = cc
+  kept_once kept.Body (kept.Stranger l) is also same = cc
+  kept_once kept.Body (kept.Part l) is also same = cc
+  kept_once kept.Base kept.Body is also same = cc
+  kept_once kept.Base kept.Base is also same = refl
+  kept_once kept.Base (kept.Via l) is also same = cc
+  kept_once kept.Base (kept.Stranger l) is also same = cc
+  kept_once kept.Base (kept.Part l) is also same = cc
+  kept_once (kept.Via k) kept.Body is also same = cc
+  kept_once (kept.Via k) kept.Base is also same = cc
+  kept_once (kept.Via k) (kept.Via l) (who, at, known) (other, here, unknown) same =
+      let named : entity_at nodes k ≡ entity_at nodes l = cc in
+      let who_same : other ≡ who = sym (entity_is nodes l other here) ∙ sym named ∙ entity_is nodes k who at in
+      ap kept.Via (one_node k l (Ent who) at (here ∙ ap (λ (y : List ℕ). Some (Ent y)) who_same))
+  kept_once (kept.Via k) (kept.Stranger l) is also same = let named : entity_at nodes k ≡ name_at strangers l = cc in absurd (via_stranger k l is also named)
+  kept_once (kept.Via k) (kept.Part l) is also same = cc
+  kept_once (kept.Stranger k) kept.Body is also same = cc
+  kept_once (kept.Stranger k) kept.Base is also same = cc
+  kept_once (kept.Stranger k) (kept.Via l) is also same = let named : entity_at nodes l ≡ name_at strangers k = cc in absurd (via_stranger l k also is named)
+  kept_once (kept.Stranger k) (kept.Stranger l) is also same =
+      let named : name_at strangers k ≡ name_at strangers l = cc in
+      ap kept.Stranger (once k l (name_at strangers k) (slice_get-get_or strangers k [] is) (slice_get-get_or strangers l [] also ∙ ap Some (sym named)))
+  kept_once (kept.Stranger k) (kept.Part l) is also same = cc
+  kept_once (kept.Part k) kept.Body is also same = cc
+  kept_once (kept.Part k) kept.Base is also same = cc
+  kept_once (kept.Part k) (kept.Via l) is also same = cc
+  kept_once (kept.Part k) (kept.Stranger l) is also same = cc
+  kept_once (kept.Part k) (kept.Part l) is also same = let numbers : k ≡ l = cc in ap kept.Part numbers
+
+  -- two listeners that stand for the same are the same
+  listening_once : (a b : KeptListening) → IsKept nodes strangers a.port → IsKept nodes strangers b.port → listening_as nodes strangers a ≡ listening_as nodes strangers b → a ≡ b
+  listening_once a b is also same =
+      let asker : a.asker ≡ b.asker = ap (λ (l : Listening). l.asker) same in
+      let port : a.port ≡ b.port = kept_once a.port b.port is also (ap (λ (l : Listening). l.port) same) in
+      λ i. record { asker = asker i; port = port i }
+
+  -- a listener is in a list where what it stands for is in what the list stands for
+  pub listens_kept : (list : List KeptListening) → ((l : KeptListening) → Contains list l → IsKept nodes strangers l.port) → (l : KeptListening) → IsKept nodes strangers l.port →
+      Contains (map (listening_as nodes strangers) list) (listening_as nodes strangers l) → Contains list l
+  listens_kept list are l is stands =
+      let at = behind_map (listening_as nodes strangers) list (listening_as nodes strangers l) stands in
+      let same : at.1 ≡ l = listening_once at.1 l (are at.1 (Contains-at_place list at.0 at.1 at.2)) is at.3 in
+      Contains-at_place list at.0 l (at.2 ∙ ap Some same)
+
+pub listens_as : (nodes : List Expr) (strangers : List (List ℕ)) (list : List KeptListening) (l : KeptListening) → Contains list l →
+    Contains (map (listening_as nodes strangers) list) (listening_as nodes strangers l)
+listens_as nodes strangers list l stands =
+    let at = place_of_Contains list l stands in
+    Contains-at_place (map (listening_as nodes strangers) list) at.0 (listening_as nodes strangers l) (seen_at (listening_as nodes strangers) list at.0 l at.1)
+
+pub once_joined : (nodes : List Expr) (old new : List (List ℕ)) → Joins nodes old new → IsOnce old → IsOnce new
+once_joined nodes old new (inl same) once = subst IsOnce (sym same) once
+once_joined nodes old new (inr (x, out, new_name, joined)) once = subst IsOnce (sym joined) (one_place old x new_name once)

@@ -1,0 +1,55 @@
+-- Listeners as a graph keeps them.
+use Rattle.std.specs.Prelude.{ℕ, zero, suc, List, [], ◌∷◌, ◌++◌, ◌≡◌, ◌<◌, ◌↔◌, ◌⊎◌, Bool, true, false, Some}
+use Rattle.std.specs.Prelude.{Contains, drop, length, map, slice_get}
+use Rattle.credential_text.specs.declared.exprs.Expr.{Expr}
+use Rattle.credential_text.specs.declared.exprs.Expr.TheVariants.{Ent}
+use Rattle.cred_graph.specs.declared.listeners.Port.{Port}
+use Rattle.cred_graph.specs.declared.listeners.Port.TheVariants as port
+use Rattle.cred_graph.specs.declared.listeners.Listening.{Listening}
+use Rattle.cred_graph.specs.declared.listeners.KeptListening.{KeptListening}
+use Rattle.cred_graph.specs.declared.listeners.FarListening.{FarListening}
+use Rattle.cred_graph.specs.declared.ports.KeptPort.{KeptPort}
+use Rattle.cred_graph.specs.declared.ports.KeptPort.TheVariants as kept
+use Rattle.cred_graph.specs.Interned.{name_at}
+use Rattle.cred_graph.specs.Numbers.{entity_at}
+use Rattle.cred_graph.specs.NodeLists.{list_at, AddsAt, AreSame}
+
+-- the port that this one stands for
+abbrev pub kept_as : List Expr → List (List ℕ) → KeptPort → Port
+kept_as nodes strangers kept.Body = port.Body
+kept_as nodes strangers kept.Base = port.Base
+kept_as nodes strangers (kept.Via k) = port.Via (entity_at nodes k)
+kept_as nodes strangers (kept.Stranger j) = port.Via (name_at strangers j)
+kept_as nodes strangers (kept.Part i) = port.Part i
+
+-- its number is that of an entity that is no stranger, or of a stranger
+abbrev pub IsKept : List Expr → List (List ℕ) → KeptPort → Type 0
+IsKept nodes strangers kept.Body = Unit {0}
+IsKept nodes strangers kept.Base = Unit {0}
+IsKept nodes strangers (kept.Via k) = (who : List ℕ) × (slice_get nodes k ≡ Some (Ent who)) × (Contains strangers who → ⊥)
+IsKept nodes strangers (kept.Stranger j) = j < length strangers
+IsKept nodes strangers (kept.Part i) = Unit {0}
+
+-- the strangers stay, and may be joined by one more, who has no node
+abbrev pub Joins : List Expr → List (List ℕ) → List (List ℕ) → Type 0
+Joins nodes old new = (new ≡ old) ⊎ ((who : List ℕ) × (Contains nodes (Ent who) → ⊥) × (Contains old who → ⊥) × (new ≡ old ++ who ∷ []))
+
+-- the listener that this one stands for
+abbrev pub listening_as : List Expr → List (List ℕ) → KeptListening → Listening
+listening_as nodes strangers l = record { asker = l.asker; port = kept_as nodes strangers l.port }
+
+-- the listeners of k nodes from the node n on
+abbrev pub lists_from : List Expr → List (List ℕ) → ℕ → ℕ → List (List KeptListening) → List (List Listening)
+lists_from nodes strangers n zero lists = []
+lists_from nodes strangers n (suc k) lists =
+    map (listening_as nodes strangers) (list_at lists n) ∷ lists_from nodes strangers (suc n) k lists
+
+-- a table has the listeners of each node beyond the first 8
+abbrev pub AreFar : List (List KeptListening) → List FarListening → Type 0
+AreFar lists rows =
+    (n : ℕ) (l : KeptListening) → Contains rows (record { asked = n; listening = l }) ↔ Contains (drop 8 (list_at lists n)) l
+
+-- the list of this number has the listener now, and b says whether it is new
+abbrev pub HearsOf : List (List KeptListening) → List (List KeptListening) → ℕ → KeptListening → Bool → Type 0
+HearsOf old new n l true = (Contains (list_at old n) l → ⊥) × AddsAt old new n l
+HearsOf old new n l false = Contains (list_at old n) l × AreSame old new

@@ -1,0 +1,81 @@
+ghost use Rattle.std.specs.Prelude.{◌≡◌, ◌<◌, ◌∷◌, [], ◌++◌, OnOk, OnErr, length, map, slice_set};
+ghost use Rattle.cred_graph.specs.NodeLists.{list_at, AreSame};
+
+use crate::listeners::KeptListening;
+use smallvec::SmallVec;
+use std::alloc::{AllocError, Global};
+use std::marker::Model;
+
+/// The listeners of each node, in order of adding. Four stand in a list itself.
+#[derive(Drop)]
+pub struct ListenerLists {
+    lists: Vec<SmallVec<KeptListening, 4>>,
+}
+
+impl Model for ListenerLists {
+    ghost use Rattle.std.specs.Prelude.{List, map};
+    ghost use Rattle.cred_graph.specs.declared.listeners.KeptListening.{KeptListening};
+
+    ghost Value = { List (List KeptListening) };
+
+    ghost view = { λ l. map (λ v. v.items) l.lists.items };
+}
+
+impl ListenerLists {
+    ghost use Rattle.cred_graph.specs.NodeLists.{AddsAt};
+
+    /// No listener of any node.
+    pub fn new(alloc: Global) -> Self
+        ensures { result ≡ [] }
+    {
+        ListenerLists {
+            lists: Vec::new(alloc),
+        }
+    }
+
+    /// The listeners of the node.
+    pub fn of(&self, n: u32) -> &[KeptListening]
+        ensures { result.now ≡ list_at self.now n }
+    {
+        match self.lists.as_slice().get(n as usize) {
+            Some(list) => list.as_slice(),
+            None => &[],
+        }
+    }
+
+    /// Adds a listener at the end of those of the node.
+    pub fn add(&mut self, n: u32, listening: KeptListening) -> Result<(), AllocError>
+        ensures added { OnOk result (AddsAt self.old self.new n listening) }
+        ensures unchanged { OnErr result (AreSame self.old self.new) }
+    {
+        reach(&mut self.lists, n as usize)?;
+        push_at(&mut self.lists, n as usize, listening)
+    }
+}
+
+/// Makes lists up to the one of this number.
+fn reach(lists: &mut Vec<SmallVec<KeptListening, 4>>, n: usize) -> Result<(), AllocError>
+    ensures same { AreSame (map (λ v. v.items) lists.old.items) (map (λ v. v.items) lists.new.items) }
+    ensures reached { OnOk result (n < length lists.new.items) }
+{
+    let alloc = *lists.allocator();
+    while lists.len() <= n {
+        lists.push(SmallVec::new(alloc))?;
+    }
+    Ok(())
+}
+
+/// Adds a listener at the end of those of the node.
+fn push_at(
+    lists: &mut Vec<SmallVec<KeptListening, 4>>,
+    n: usize,
+    listening: KeptListening,
+) -> Result<(), AllocError>
+    requires { n < length lists.old.items }
+    ensures added { OnOk result (map (λ v. v.items) lists.new.items ≡
+        slice_set (map (λ v. v.items) lists.old.items) n (list_at (map (λ v. v.items) lists.old.items) n ++ listening ∷ [])) }
+    ensures unchanged { OnErr result (map (λ v. v.items) lists.new.items ≡ map (λ v. v.items) lists.old.items) }
+{
+    lists[n].push(listening)?;
+    Ok(())
+}

@@ -1,0 +1,75 @@
+ghost use Rattle.std.specs.Prelude.{◌≡◌, ◌<◌, ◌∷◌, [], ◌++◌, OnOk, OnErr, length, map, slice_set};
+ghost use Rattle.cred_graph.specs.NodeLists.{list_at, AreSame};
+
+use smallvec::SmallVec;
+use std::alloc::{AllocError, Global};
+use std::marker::Model;
+
+/// The numbers of each node's solutions, in order of adding. Four stand in a list itself.
+#[derive(Drop)]
+pub struct MemberLists {
+    lists: Vec<SmallVec<u32, 4>>,
+}
+
+impl Model for MemberLists {
+    ghost use Rattle.std.specs.Prelude.{ℕ, List, map};
+
+    ghost Value = { List (List ℕ) };
+
+    ghost view = { λ l. map (λ v. v.items) l.lists.items };
+}
+
+impl MemberLists {
+    ghost use Rattle.cred_graph.specs.NodeLists.{AddsAt};
+
+    /// No solution of any node.
+    pub fn new(alloc: Global) -> Self
+        ensures { result ≡ [] }
+    {
+        MemberLists {
+            lists: Vec::new(alloc),
+        }
+    }
+
+    /// The numbers of the node's solutions.
+    pub fn of(&self, n: u32) -> &[u32]
+        ensures { result.now ≡ list_at self.now n }
+    {
+        match self.lists.as_slice().get(n as usize) {
+            Some(list) => list.as_slice(),
+            None => &[],
+        }
+    }
+
+    /// Adds an entity at the end of those of the node.
+    pub fn add(&mut self, n: u32, who: u32) -> Result<(), AllocError>
+        ensures added { OnOk result (AddsAt self.old self.new n who) }
+        ensures unchanged { OnErr result (AreSame self.old self.new) }
+    {
+        reach(&mut self.lists, n as usize)?;
+        push_at(&mut self.lists, n as usize, who)
+    }
+}
+
+/// Makes lists up to the one of this number.
+fn reach(lists: &mut Vec<SmallVec<u32, 4>>, n: usize) -> Result<(), AllocError>
+    ensures same { AreSame (map (λ v. v.items) lists.old.items) (map (λ v. v.items) lists.new.items) }
+    ensures reached { OnOk result (n < length lists.new.items) }
+{
+    let alloc = *lists.allocator();
+    while lists.len() <= n {
+        lists.push(SmallVec::new(alloc))?;
+    }
+    Ok(())
+}
+
+/// Adds an entity at the end of those of the node.
+fn push_at(lists: &mut Vec<SmallVec<u32, 4>>, n: usize, who: u32) -> Result<(), AllocError>
+    requires { n < length lists.old.items }
+    ensures added { OnOk result (map (λ v. v.items) lists.new.items ≡
+        slice_set (map (λ v. v.items) lists.old.items) n (list_at (map (λ v. v.items) lists.old.items) n ++ who ∷ [])) }
+    ensures unchanged { OnErr result (map (λ v. v.items) lists.new.items ≡ map (λ v. v.items) lists.old.items) }
+{
+    lists[n].push(who)?;
+    Ok(())
+}

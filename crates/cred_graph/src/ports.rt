@@ -1,0 +1,107 @@
+ghost use Rattle.std.specs.Prelude.{◌≡◌, IfOk, OnErr};
+ghost use Rattle.cred_graph.specs.Numbers.{port_at, IsPort, IsNamed};
+ghost use Rattle.cred_graph.specs.Kept.{kept_as, IsKept, Joins};
+
+use crate::interned::Interned;
+use crate::listeners::Port;
+use crate::nodes::Nodes;
+use std::alloc::AllocError;
+
+/// For what an expression listens to another, with the number of the member of a base.
+#[derive(Clone, Copy, PartialEq, Eq, Hash)]
+pub enum NumberedPort {
+    /// A role, for the body of one of its credentials.
+    Body,
+    /// A linked role, for its base.
+    Base,
+    /// A linked role, for the role that the member of its base of this number gives it.
+    Via(u32),
+    /// An intersection, for its part of this number, counted from 0.
+    Part(u8),
+}
+
+/// A port as a graph keeps it. A member of a base that had no node when it was first named is a stranger, and goes on
+/// to have its number among the strangers.
+#[derive(Clone, Copy, Default, PartialEq, Eq, Hash)]
+pub enum KeptPort {
+    #[default]
+    Body,
+    Base,
+    Via(u32),
+    Stranger(u32),
+    Part(u8),
+}
+
+/// The port as it is kept from now on.
+pub fn keep_port(
+    nodes: &Nodes,
+    strangers: &mut Interned,
+    port: &Port,
+) -> Result<KeptPort, AllocError>
+    ensures kept { IfOk result (λ p. IsKept nodes.now strangers.new p × (kept_as nodes.now strangers.new p ≡ port.now)) }
+    ensures joins { Joins nodes.now strangers.old strangers.new }
+    ensures refused { OnErr result ((p : KeptPort) → IsKept nodes.now strangers.old p → kept_as nodes.now strangers.old p ≡ port.now → ⊥) }
+{
+    Ok(match port {
+        Port::Body => KeptPort::Body,
+        Port::Base => KeptPort::Base,
+        Port::Via(who) => match strangers.number(who) {
+            Some(j) => KeptPort::Stranger(j),
+            None => match nodes.entity_number(who) {
+                Some(k) => KeptPort::Via(k),
+                None => KeptPort::Stranger(strangers.add(*who)?),
+            },
+        },
+        Port::Part(part) => KeptPort::Part(*part),
+    })
+}
+
+/// The port of a number as it is kept.
+pub fn kept_port(nodes: &Nodes, strangers: &Interned, port: NumberedPort) -> KeptPort
+    requires { IsPort nodes.now port }
+    ensures kept { IsKept nodes.now strangers.now result }
+    ensures same { kept_as nodes.now strangers.now result ≡ port_at nodes.now port }
+{
+    match port {
+        NumberedPort::Body => KeptPort::Body,
+        NumberedPort::Base => KeptPort::Base,
+        NumberedPort::Via(k) => match strangers.number(&nodes.entity(k)) {
+            Some(j) => KeptPort::Stranger(j),
+            None => KeptPort::Via(k),
+        },
+        NumberedPort::Part(part) => KeptPort::Part(part),
+    }
+}
+
+/// The port with its name.
+pub fn port_name(nodes: &Nodes, strangers: &Interned, port: KeptPort) -> Port
+    requires { IsKept nodes.now strangers.now port }
+    ensures { result ≡ kept_as nodes.now strangers.now port }
+{
+    match port {
+        KeptPort::Body => Port::Body,
+        KeptPort::Base => Port::Base,
+        KeptPort::Via(k) => Port::Via(nodes.entity(k)),
+        KeptPort::Stranger(j) => Port::Via(strangers.name(j)),
+        KeptPort::Part(part) => Port::Part(part),
+    }
+}
+
+/// The port with the number of its name.
+pub fn port_number(nodes: &Nodes, strangers: &Interned, port: KeptPort) -> NumberedPort
+    requires kept { IsKept nodes.now strangers.now port }
+    requires named { IsNamed nodes.now (kept_as nodes.now strangers.now port) }
+    ensures same { port_at nodes.now result ≡ kept_as nodes.now strangers.now port }
+    ensures number { IsPort nodes.now result }
+{
+    match port {
+        KeptPort::Body => NumberedPort::Body,
+        KeptPort::Base => NumberedPort::Base,
+        KeptPort::Via(k) => NumberedPort::Via(k),
+        KeptPort::Stranger(j) => match nodes.entity_number(&strangers.name(j)) {
+            Some(k) => NumberedPort::Via(k),
+            None => unreachable!(),
+        },
+        KeptPort::Part(part) => NumberedPort::Part(part),
+    }
+}
