@@ -1,5 +1,5 @@
 -- The fields as a computation
-use Rattle.std.proofs.Common.{◌≡◌, ℕ, zero, suc, ◌+◌, ◌<◌, ◌==◌, Bool, false, true, not, List, [], ◌∷◌, Option, Some, None, map, IsSomeAnd, IsTrue, option_map, unwrap_or, refl, sym, ap, ◌∙◌, subst, arith, zero-add}
+use Rattle.std.proofs.Common.{◌≡◌, ℕ, zero, suc, ◌+◌, ◌<◌, ◌==◌, Bool, true, not, List, [], ◌∷◌, Option, Some, None, map, IsSomeAnd, IsTrue, option_map, unwrap_or, refl, sym, ap, ◌∙◌, subst, arith, zero-add}
 use Rattle.std.specs.Ordering.{nat_cmp}
 use Rattle.std.specs.FinMap as fin
 use Rattle.std.specs.FinMap.{FinMap}

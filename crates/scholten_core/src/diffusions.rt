@@ -161,6 +161,16 @@ impl<P: Drop> Diffusion<P> {
         put(&mut self.signals, by);
     }
 
+    /// Gives back the memory of letters and signals, where nothing is outstanding.
+    pub fn give_back(&mut self)
+        ensures { self.new ≡ self.old }
+    {
+        if self.is_complete() {
+            self.letters.give_back();
+            self.signals.shrink_to_fit();
+        }
+    }
+
     /// Whether nothing is outstanding.
     pub fn is_complete(&self) -> bool
         ensures environment { IsTrue result ↔ (deficit_of self.now Parent.Environment ≡ 0) }

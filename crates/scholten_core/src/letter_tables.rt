@@ -226,6 +226,14 @@ impl<P: Drop> LetterTable<P> {
         self.letters.reserve(count)
     }
 
+    /// Gives back the room that no letter takes.
+    pub(crate) fn give_back(&mut self)
+        ensures letters { self.new.letters ≡ self.old.letters }
+        ensures sent { self.new.sent ≡ self.old.sent }
+    {
+        self.letters.shrink_to_fit();
+    }
+
     fn lacks_room(&self, count: usize) -> bool {
         self.letters.capacity() - self.letters.len() < count
     }

@@ -81,7 +81,7 @@ pub(crate) fn receive(
     ensures { OnOk result (Answers snapshot.now.vaults (progress found.old.graph found.old.monitors.items [])
         (progress found.new.graph found.new.monitors.items outs.new.items) held.now.from held.now.to held.now.load) }
 {
-    match held.load {
+    match &held.load {
         Load::Start => {
             open(alloc, found, outs, snapshot, held.to, looked_up)?;
             Ok(())
@@ -89,13 +89,13 @@ pub(crate) fn receive(
         Load::Ask(port) => {
             let asker = sender(held.from);
             asked(
-                alloc, found, outs, snapshot, held.to, asker, &port, looked_up,
+                alloc, found, outs, snapshot, held.to, asker, port, looked_up,
             )?;
             Ok(())
         }
         Load::Tell(port, who) => {
             let teller = sender(held.from);
-            take_in(alloc, found, outs, held.to, teller, &port, who)?;
+            take_in(alloc, found, outs, held.to, teller, port, *who)?;
             Ok(())
         }
     }

@@ -1,4 +1,4 @@
-ghost use Rattle.std.specs.Prelude.{◌≡◌, ◌<◌, ◌↔◌, ℕ, true, false, None, Some, length, slice_get, IsTrue, IfOk, IfSome, OnErr, MatchOption};
+ghost use Rattle.std.specs.Prelude.{◌≡◌, ◌<◌, ◌↔◌, ℕ, true, false, [], None, Some, length, slice_get, IsTrue, IfOk, IfSome, OnErr, MatchOption};
 ghost use Rattle.std.specs.Arc.{arc_value};
 ghost use Rattle.names.specs.declared.roles.Role.{Role};
 ghost use Rattle.credential_text.specs.declared.exprs.Expr.{Expr};
@@ -38,7 +38,7 @@ pub struct Search {
     snapshot: Arc<Snapshot>,
     found: Findings,
     stage: Stage,
-    // What a receiver answers, until it is sent; the list's memory serves each receipt.
+    // What a receiver answers, until it is sent. A list that isn't long serves the next receipt.
     answers: VecDeque<(u64, Load)>,
     alloc: Global,
 }
@@ -239,7 +239,7 @@ impl Search {
         ensures settles { Settles self.old self.new }
     {
         let _asker = self.snapshot.asker();
-        self.answers.clear();
+        empty(self.alloc, &mut self.answers);
         let received = receive(
             self.alloc,
             &mut self.found,
@@ -297,6 +297,20 @@ impl Search {
             → IsJustified (rows_of self.now) (asked_role self.now.query) self.now.graph }
     {
         &self.found.graph
+    }
+}
+
+/// A list of answers with more room than this is given back.
+const MOST_ROOM: usize = 8;
+
+// The list of answers is empty, with the room that it had if that isn't much.
+fn empty(alloc: Global, answers: &mut VecDeque<(u64, Load)>)
+    ensures { answers.new.items ≡ [] }
+{
+    if answers.capacity() > MOST_ROOM {
+        *answers = VecDeque::new(alloc);
+    } else {
+        answers.clear();
     }
 }
 

@@ -118,7 +118,7 @@ pub(crate) fn signals_under_way(stage: &Stage) -> u64
     }
 }
 
-// The signal at that place is delivered, where there is one.
+// The signal at that place is delivered, where there is one. With the last one the memory of letters is given back.
 pub(crate) fn deliver(stage: &mut Stage, place: u64) -> bool
     ensures { Delivers stage.old stage.new place result }
 {
@@ -129,6 +129,7 @@ pub(crate) fn deliver(stage: &mut Stage, place: u64) -> bool
         return false;
     }
     running.signal(place);
+    running.give_back();
     true
 }
 

@@ -1,4 +1,4 @@
-use Rattle.std.proofs.Common.{ℕ, ◌+◌, ◌++◌, ◌==◌, not, filter, length, option_to_list, refl, sym, ap, subst, ◌∙◌, arith}
+use Rattle.std.proofs.Common.{ℕ, ◌+◌, ◌++◌, ◌==◌, not, filter, option_to_list, refl, sym, ap, subst, ◌∙◌, arith}
 use Rattle.std.specs.Map.{lookup}
 use Rattle.scholten_core.specs.declared.parents.Parent.TheVariants.{Node}
 use Rattle.scholten_core.specs.Kept.{Receives, held_in}

@@ -1,4 +1,4 @@
-use Rattle.std.proofs.Common.{◌≡◌, ◌+◌, ◌≤◌, ◌++◌, ◌^◌, ◌<◌, length}
+use Rattle.std.proofs.Common.{◌≡◌, ◌+◌, ◌≤◌, ◌++◌, ◌^◌, ◌<◌}
 use Rattle.std.specs.VecDeque.{deque_len}
 use Rattle.scholten_core.specs.Step.{numbered}
 use Rattle.scholten_core.proofs.letter_tables.LetterTable.send.Given as goal
