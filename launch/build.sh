@@ -153,7 +153,6 @@ begin() {
         trap - EXIT INT TERM HUP
         cd "$root/crates/$crate" || exit 1
         if [ "$crate" = "${crates[-1]}" ]; then
-            rm -f "out/$crate"
             exec rt run --jobs "$jobs"
         fi
         exec rt lib --jobs "$jobs"
@@ -175,8 +174,7 @@ end() {
     wait "${runs[$crate]}" || status=$?
     unset "runs[$crate]" "jobs_of[$crate]"
     [ -z "$has_rooms" ] || leave_room "$crate"
-    # (the run that follows the program's own build has no words, so its status is no news)
-    if [ "$status" -ne 0 ] && ! { [ "$crate" = "${crates[-1]}" ] && [ -x "${left_by[$crate]}" ]; }; then
+    if [ "$status" -ne 0 ] && ! is_program_built "$crate"; then
         cat "$logs/$crate" >&2
         fail 125 "$crate is not proved"
     fi
@@ -184,6 +182,13 @@ end() {
     touch -c -r "$logs/$crate.begun" "${left_by[$crate]}"
     phase[$crate]=proved
     say "$crate is proved"
+}
+
+# Whether the crate is the program, and it is built. (The run that follows has no words, so its status is no news.) `rt`
+# takes the program's stamp away before it builds it anew.
+is_program_built() {
+    local program=${left_by[$1]}
+    [ "$1" = "${crates[-1]}" ] && { [ -e "$program.stamp" ] || [ "$program" -nt "$logs/$1.begun" ]; }
 }
 
 say() {

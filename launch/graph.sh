@@ -1,6 +1,5 @@
 # The crates of crates.txt: which stands on which, and which have to be proved again. `here` is the repository.
 
-sources=(src specs proofs)
 declare -a crates=()           # a crate and all below it, each after those that it stands on
 declare -A stands_on=()        # the crates that a crate names
 declare -A all_below=()        # those and the ones below them, each once and after those that it stands on
@@ -55,7 +54,7 @@ mark_stale() {
     for crate in "${crates[@]}"; do
         left=${left_by[$crate]}
         if [ "$crate" = "${crates[-1]}" ] || [ ! -e "$left" ] ||
-            has_newer "$left" "$here/crates.txt" "${sources[@]/#/$here/crates/$crate/}"; then
+            has_newer "$left" "$here/crates.txt" "$here/crates/$crate"/{src,specs,proofs}; then
             is_stale[$crate]=1
         fi
         for below in ${all_below[$crate]}; do

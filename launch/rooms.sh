@@ -2,14 +2,15 @@
 # further names of the same files. `rt` locks every crate below the one that it proves, so in one tree two crates that
 # stand on `names` would wait for each other; in rooms they don't. What the crate leaves goes back to its own folder.
 #
-# The rooms stand in .git, since `rt ci` wants no sources but those of the crates anywhere else in the repository.
+# The rooms stand in .git, since `rt ci` wants no sources but those of the crates anywhere else in the repository, and
+# beside a file MODULE.bazel, at which `rt` looks for crates no further.
 rooms=$here/.git/rooms
 declare -a locks=()
 
 # Whether there can be rooms: the folder .git, a place for a file's second name, and the command that locks a folder.
 can_have_rooms() {
     [ -d "$here/.git" ] && command -v flock >/dev/null && mkdir -p "$rooms" 2>/dev/null &&
-        ln -f "$here/crates.txt" "$rooms/crates.txt" 2>/dev/null
+        touch "$rooms/MODULE.bazel" 2>/dev/null && ln -f "$here/crates.txt" "$rooms/second-name" 2>/dev/null
 }
 
 # Locks the crates' folders as `rt` does, in the same order, so that no other launcher or `rt` works in them meanwhile.
