@@ -77,6 +77,7 @@ fn answer_arrivals<L: Ledger + Send + Sync, R: Threads + Wait + Clock + Sync>(
 ) -> Result<u64, ServeFault>
     requires tenants { desk.now ≡ names_of roster.now }
     requires sessions { (1 ≤ options.sessions) × (options.sessions ≤ 64) }
+    requires idle { arrivals.now.bounds.idle_seconds ≡ options.idle_seconds }
     ensures { Answered options.accept result }
 {
     let ServeOptions {
