@@ -1,5 +1,5 @@
 -- A held letter is finished with a hint that is right for it, and waits again with another.
-use Rattle.std.proofs.Common.{◌∙◌, Option, false, refl, sym, ap, subst}
+use Rattle.std.proofs.Common.{◌∙◌, Option, false, sym, ap, subst}
 use Rattle.std.proofs.lemmas.Bool.{false≢true}
 use Rattle.credential_text.specs.declared.exprs.Expr.{Expr}
 use Rattle.cred_graph.specs.GraphState.{IsNode}

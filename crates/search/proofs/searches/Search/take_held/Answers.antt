@@ -1,6 +1,6 @@
 -- A letter that waits goes to a node, and says the same where it is held.
 use Rattle.std.proofs.Common.{subst}
-use Rattle.search.specs.Search.{SearchState, IsKept, Settles}
+use Rattle.search.specs.Search.{SearchState, Settles}
 use Rattle.search.specs.contracts.searches.Search.{the_view}
 use Rattle.search.proofs.Taking.{TakenOrNot, MayTake, taken_or_not}
 use Rattle.search.proofs.searches.Search.take_held.Goals as goal
