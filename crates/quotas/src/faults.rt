@@ -8,7 +8,7 @@ pub enum QuotaFault {
     /// The tenant holds as many credentials as it may.
     #[error("creds limit")]
     Creds,
-    /// The tenant lets as many readers read its vault as it may.
+    /// As many grants of the tenant stand as may.
     #[error("grants limit")]
     Grants,
     /// The tenant has as many searches that it has not ended as it may.

@@ -48,7 +48,7 @@ impl Model for Limits {
     } };
 }
 
-/// What a tenant uses of its limits: the credentials that it holds, the readers that it has granted, the searches that
+/// What a tenant uses of its limits: the credentials that it holds, the grants that stand, the searches that
 /// it has not ended, its accepted changes, and the searches that it has opened so far.
 #[derive(Clone, Copy, Debug, PartialEq, Eq)]
 pub struct Used {
@@ -115,7 +115,7 @@ impl Limits {
         self.creds
     }
 
-    /// How many readers the tenant may let read its vault.
+    /// How many grants of the tenant may stand: one for each reader, and one where its vault is public.
     pub fn grants(&self) -> u64
         ensures limit { result ≡ self.now.grants }
         ensures range { IsQuota self.now }
@@ -163,7 +163,7 @@ impl Limits {
         below(used.creds, self.creds, QuotaFault::Creds)
     }
 
-    /// Whether the tenant may let one reader more read its vault.
+    /// Whether one grant more of the tenant may stand.
     pub fn may_grant(&self, used: &Used) -> Result<(), QuotaFault>
         ensures ok { IsOk result ↔ (used.now.grants < self.now.grants) }
         ensures full { IsErrOf result QuotaFault.Grants ↔ (self.now.grants ≤ used.now.grants) }
