@@ -49,6 +49,7 @@ parts_text [] = []
 parts_text (p ∷ []) = part_text p
 parts_text (p ∷ q ∷ ps) = part_text p ++ codes " & " ++ parts_text (q ∷ ps)
 
+-- an expression as text: its parts, with ` & ` between them
 abbrev pub expr_text : Expr → List ℕ
 expr_text e = parts_text (expr_parts e)
 

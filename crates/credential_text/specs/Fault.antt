@@ -4,6 +4,7 @@ use Rattle.names.specs.Fault.{name_fault_number}
 use Rattle.credential_text.specs.declared.faults.CredFault.{CredFault}
 use Rattle.credential_text.specs.declared.faults.CredFault.TheVariants.{Long, NoArrow, Head, BodyEmpty, Dots, LinkBase, Parts, Name, Memory}
 
+-- the number of each fault
 abbrev pub cred_fault_number : CredFault → ℕ
 cred_fault_number NoArrow = 21
 cred_fault_number Head = 22

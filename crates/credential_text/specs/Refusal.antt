@@ -21,6 +21,7 @@ split_arrow [] = None
 split_arrow (b ∷ []) = None
 split_arrow (b ∷ c ∷ bs) = if (b == 60) && (c == 45) then Some ([], bs) else put_before b (split_arrow (c ∷ bs))
 
+-- the fault of a name, as one of a credential
 abbrev pub as_cred_fault : Option NameFault → Option CredFault
 as_cred_fault None = None
 as_cred_fault (Some fault) = Some (faults.Name fault)
@@ -31,6 +32,7 @@ head_fault_of None = None
 head_fault_of (Some name.NotRole) = Some faults.Head
 head_fault_of (Some fault) = Some (faults.Name fault)
 
+-- the first fault of a text as a head
 abbrev pub head_fault : List ℕ → Option CredFault
 head_fault head = head_fault_of (role_fault head)
 
@@ -44,6 +46,7 @@ part_fault_of owner (a ∷ b ∷ c ∷ []) =
     (if is_same a owner then None else Some faults.LinkBase)
 part_fault_of owner (a ∷ b ∷ c ∷ d ∷ more) = Some faults.Dots
 
+-- the first fault of a text as a part of a body whose head is this owner's
 abbrev pub part_fault : List ℕ → List ℕ → Option CredFault
 part_fault owner part = part_fault_of owner (pieces dot part)
 
@@ -52,6 +55,7 @@ abbrev pub first_part_fault : List ℕ → List (List ℕ) → Option CredFault
 first_part_fault owner [] = None
 first_part_fault owner (part ∷ parts) = or_then (part_fault owner part) (first_part_fault owner parts)
 
+-- no byte stands there
 abbrev pub is_empty : List ℕ → Bool
 is_empty [] = true
 is_empty (b ∷ bs) = false
@@ -66,11 +70,13 @@ parts_fault owner parts =
     if nat_lt 8 (length parts) || list_any is_empty parts then Some faults.Parts
     else first_part_fault owner parts
 
+-- nothing but spaces, then the faults of the parts
 abbrev pub body_fault : List ℕ → List ℕ → Option CredFault
 body_fault owner body =
     if is_blank body then Some faults.BodyEmpty
     else parts_fault owner (part_texts body)
 
+-- the first of the pieces, or nothing
 abbrev pub first_piece : List (List ℕ) → List ℕ
 first_piece [] = []
 first_piece (piece ∷ more) = piece
@@ -79,6 +85,7 @@ first_piece (piece ∷ more) = piece
 abbrev pub owner_text : List ℕ → List ℕ
 owner_text head = first_piece (pieces dot head)
 
+-- no arrow, or the first fault of what stands before it and then of what stands after it
 abbrev pub fault_round : Option (List ℕ × List ℕ) → Option CredFault
 fault_round None = Some faults.NoArrow
 fault_round (Some (before, after)) = or_then (head_fault (trim before)) (body_fault (owner_text (trim before)) after)

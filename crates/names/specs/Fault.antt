@@ -27,6 +27,7 @@ role_fault_of (owner ∷ []) = Some NotRole
 role_fault_of (owner ∷ name ∷ []) = or_then (name_fault owner) (name_fault name)
 role_fault_of (owner ∷ name ∷ other ∷ others) = Some NotRole
 
+-- the first fault of a text as a role: not one dot between two texts, then those of the owner, then those of the role name
 abbrev pub role_fault : List ℕ → Option NameFault
 role_fault text = role_fault_of (pieces dot text)
 

@@ -14,8 +14,10 @@ FaultlessAreNames = (text : List ℕ) → (name_fault text ≡ None) ↔ IsName 
 abbrev pub FaultlessAreRoles : Type 0
 FaultlessAreRoles = (text : List ℕ) → (role_fault text ≡ None) ↔ ((r : Role) × SpellsRole text r)
 
+-- the order of names is one
 abbrev pub NamesInOrder : Type 0
 NamesInOrder = IsOrder name_order
 
+-- the order of roles is one
 abbrev pub RolesInOrder : Type 0
 RolesInOrder = IsOrder role_order

@@ -22,6 +22,7 @@ abbrev pub is_name : List ℕ → Bool
 is_name [] = false
 is_name (b ∷ bs) = is_letter b && list_all is_name_byte bs && nat_le (length (b ∷ bs)) 64
 
+-- the text is a name
 abbrev pub IsName : List ℕ → Type 0
 IsName text = IsTrue (is_name text)
 

@@ -10,6 +10,7 @@ dot = 46
 abbrev pub pieces : ℕ → List ℕ → List (List ℕ)
 pieces byte text = slice_split (λ b. b == byte) text
 
+-- a space is the byte 32
 abbrev pub is_space : ℕ → Bool
 is_space b = b == 32
 

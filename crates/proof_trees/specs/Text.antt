@@ -13,6 +13,7 @@ abbrev pub claim_text : Option Step → List ℕ
 claim_text None = []
 claim_text (Some s) = expr_text s.claim
 
+-- the claim of the step at a place
 abbrev pub claim_at : List Step → ℕ → List ℕ
 claim_at steps place = claim_text (slice_get steps place)
 
@@ -44,5 +45,6 @@ abbrev pub lines_from : List Step → ℕ → List Step → List ℕ
 lines_from steps number [] = []
 lines_from steps number (s ∷ rest) = line_text steps number s ++ lines_from steps (number + 1) rest
 
+-- the lines of a proof, one for each step, counted from 1
 abbrev pub proof_text : List Step → List ℕ
 proof_text steps = lines_from steps 1 steps

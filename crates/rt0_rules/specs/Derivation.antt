@@ -1,4 +1,4 @@
--- Which entities are in an expression, by the rules of RT0.
+-- Which entities are in an expression, by the rules of RT0 (Li, Winsborough and Mitchell, 2003).
 use Rattle.std.specs.Prelude.{ℕ, List, [], ◌∷◌, ◌≡◌, Contains}
 use Rattle.names.specs.declared.roles.Role.{Role}
 use Rattle.credential_text.specs.declared.credentials.Credential.{Credential}
