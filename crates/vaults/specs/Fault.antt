@@ -4,6 +4,7 @@ use Rattle.vaults.specs.declared.faults.VaultFault.{VaultFault}
 use Rattle.vaults.specs.declared.faults.VaultFault.TheVariants.{NotIssuer, AlreadyHeld, NotHeld}
 use Rattle.vaults.specs.declared.faults.VaultFault.TheVariants.{AlreadyGranted, NotGranted, GrantSelf, Memory}
 
+-- the number of each fault of the journal
 abbrev pub vault_fault_number : VaultFault → ℕ
 vault_fault_number NotIssuer = 31
 vault_fault_number AlreadyHeld = 32

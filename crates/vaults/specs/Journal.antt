@@ -55,6 +55,7 @@ change_credential (Revoke reader) = None
 change_credential GrantAll = None
 change_credential RevokeAll = None
 
+-- the credential that an entry uploads or withdraws
 abbrev pub moved_credential : Entry → Option Credential
 moved_credential e = change_credential e.change
 
@@ -67,6 +68,7 @@ change_reader (Revoke reader) = Some reader
 change_reader GrantAll = None
 change_reader RevokeAll = None
 
+-- the reader whom an entry grants or revokes
 abbrev pub named_reader : Entry → Option (List ℕ)
 named_reader e = change_reader e.change
 
@@ -75,6 +77,7 @@ abbrev pub entry_is : (Change → Bool) → Option Entry → Bool
 entry_is kind None = false
 entry_is kind (Some e) = kind e.change
 
+-- the change is an upload
 abbrev pub uploads : Change → Bool
 uploads (Upload c) = true
 uploads (Withdraw c) = false
@@ -83,6 +86,7 @@ uploads (Revoke reader) = false
 uploads GrantAll = false
 uploads RevokeAll = false
 
+-- the change grants to one reader
 abbrev pub grants : Change → Bool
 grants (Upload c) = false
 grants (Withdraw c) = false
@@ -91,6 +95,7 @@ grants (Revoke reader) = false
 grants GrantAll = false
 grants RevokeAll = false
 
+-- the change grants to all readers
 abbrev pub grants_all : Change → Bool
 grants_all (Upload c) = false
 grants_all (Withdraw c) = false

@@ -79,27 +79,33 @@ abbrev pub GrantedAreOthers : Type 0
 GrantedAreOthers = (journal : List Entry) (owner reader : List ℕ) → AreAccepted journal →
     IsTrue (granted journal owner reader) → reader ≢ owner
 
--- each of these functions says the same of a tenant's own entries as of the journal
+-- whether a tenant holds a credential is said by its own entries alone
 abbrev pub HoldingIsOwn : Type 0
 HoldingIsOwn = (journal : List Entry) (tenant : List ℕ) (c : Credential) →
     holds (entries_of tenant journal) tenant c ≡ holds journal tenant c
 
+-- whether it granted a reader, by its own entries alone
 abbrev pub GrantingIsOwn : Type 0
 GrantingIsOwn = (journal : List Entry) (tenant reader : List ℕ) →
     granted (entries_of tenant journal) tenant reader ≡ granted journal tenant reader
 
+-- whether its vault is public, by its own entries alone
 abbrev pub PublishingIsOwn : Type 0
 PublishingIsOwn = (journal : List Entry) (tenant : List ℕ) → is_public (entries_of tenant journal) tenant ≡ is_public journal tenant
 
+-- its vault, by its own entries alone
 abbrev pub VaultsAreOwn : Type 0
 VaultsAreOwn = (journal : List Entry) (tenant : List ℕ) → vault (entries_of tenant journal) tenant ≡ vault journal tenant
 
+-- whom it granted, by its own entries alone
 abbrev pub ReadersAreOwn : Type 0
 ReadersAreOwn = (journal : List Entry) (tenant : List ℕ) → readers (entries_of tenant journal) tenant ≡ readers journal tenant
 
+-- how many of its grants stand, by its own entries alone
 abbrev pub GrantCountsAreOwn : Type 0
 GrantCountsAreOwn = (journal : List Entry) (tenant : List ℕ) → grant_count (entries_of tenant journal) tenant ≡ grant_count journal tenant
 
+-- what a change of it is refused for, by its own entries alone
 abbrev pub RefusalsAreOwn : Type 0
 RefusalsAreOwn = (journal : List Entry) (tenant : List ℕ) (change : Change) →
     refusal (entries_of tenant journal) tenant change ≡ refusal journal tenant change

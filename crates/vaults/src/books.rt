@@ -88,7 +88,8 @@ impl Book {
         Ok(count)
     }
 
-    fn refusal_of(&self, who: &Entity, change: &Change) -> Option<VaultFault>
+    /// The refusal that the change of the tenant is due, if there is one; want of memory is none.
+    pub fn refusal_of(&self, who: &Entity, change: &Change) -> Option<VaultFault>
         ensures { result ≡ refusal self.now who.now change.now }
     {
         let fault = match change {
