@@ -189,6 +189,14 @@ impl Graph {
         }
     }
 
+    /// The node's number in 32 bits.
+    pub fn short(&self, n: u64) -> u32
+        requires { n < length self.now.nodes }
+        ensures { result ≡ n }
+    {
+        self.nodes.short(n)
+    }
+
     /// The entity of this number.
     pub fn entity(&self, k: u32) -> Entity
         requires { IsEntity self.now.nodes k }

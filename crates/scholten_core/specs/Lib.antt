@@ -3,6 +3,7 @@ pub mod Code
 pub mod Computation
 pub mod Kept
 pub mod LetterTable
+pub mod Named
 pub mod Settled
 pub mod Sound
 pub mod Step

@@ -18,7 +18,8 @@ use Rattle.search.specs.declared.outcomes.Status.{Status}
 use Rattle.search.specs.declared.outcomes.Status.TheVariants as status
 use Rattle.search.specs.declared.stages.Stage.{Stage}
 use Rattle.search.specs.declared.stages.Stage.TheVariants as stage
-use Rattle.search.specs.Ending.{Nothing, Yes, No, IsAnswered, status_of, found, come_to}
+use Rattle.search.specs.Ending.{Nothing, Yes, No}
+use Rattle.search.specs.Found.{IsAnswered, status_of, found, come_to}
 use Rattle.search.specs.Stage.{waiting_in, held_in, if_held, Delivers}
 use Rattle.search.specs.Search.{SearchState, IsOutstanding, IsCompleted, settled_of}
 use Rattle.search.proofs.Solve.{solution_of_member, member_of_solution}

@@ -1,16 +1,13 @@
 -- What a loop that asks each expression of a list has asked so far.
-use Rattle.std.proofs.Common.{ℕ, zero, suc, ◌+◌, ◌≤◌, ◌≡◌, ◌∙◌, inl, inr, refl, sym, subst, ap, List, [], ◌∷◌, ◌++◌, Some, length, take, slice_get, arith, add-one}
+use Rattle.std.proofs.Common.{ℕ, zero, suc, ◌+◌, ◌≡◌, ◌∙◌, refl, sym, subst, ap, List, [], ◌∷◌, ◌++◌, Some, length, take, slice_get, arith, add-one}
 use Rattle.std.proofs.lemmas.Option.{same_Some}
-use Rattle.std.proofs.lemmas.List.{length_push}
 use Rattle.credential_text.specs.declared.credentials.Credential.{Credential}
 use Rattle.credential_text.specs.declared.intersections.Part.{Part}
 use Rattle.credential_text.specs.declared.exprs.Expr.{Expr}
-use Rattle.credential_text.specs.declared.exprs.Expr.TheVariants.{Ent, Rol, Link, Meet}
 use Rattle.credential_text.specs.Expr.{part_expr}
 use Rattle.cred_graph.specs.declared.listeners.Port.{Port}
 use Rattle.cred_graph.specs.declared.listeners.Port.TheVariants as port
-use Rattle.cred_graph.specs.GraphState.{GraphState}
-use Rattle.search.specs.Answers.{Progress, AsksFor, AsksEach, Opens, row_asks, part_asks}
+use Rattle.search.specs.Answers.{Progress, AsksFor, AsksEach, row_asks, part_asks}
 
 take_more : {A : Type 0} (xs : List A) (k : ℕ) (x : A) → slice_get xs k ≡ Some x → take (suc k) xs ≡ take k xs ++ x ∷ []
 take_more [] k x at = cc
@@ -59,19 +56,3 @@ part_asks_from i (p ∷ parts) = omega (arith, part_asks_from (i + 1) parts)
 
 pub part_asks_count : (parts : List Part) → length (part_asks 0 parts) ≡ length parts
 part_asks_count parts = part_asks_from 0 parts
-
--- nodes are added alone
-ask_nodes : (s t : Progress) (e : Expr) (p : Port) → AsksFor s t e p → length s.graph.nodes ≤ length t.graph.nodes
-ask_nodes s t e p (to, outs, inl had) = let same = ap (λ (g : GraphState). length g.nodes) had.1 in omega (arith, same)
-ask_nodes s t e p (to, outs, inr new) = let same = ap (λ (g : GraphState). length g.nodes) new.3 in omega (arith, same, length_push s.graph.nodes e)
-
-pub asks_nodes : (ws : List (Expr × Port)) (s t : Progress) → AsksEach s ws t → length s.graph.nodes ≤ length t.graph.nodes
-asks_nodes [] s t same = let e = ap (λ (u : Progress). length u.graph.nodes) same in omega (arith, e)
-asks_nodes (w ∷ ws) s t (mid, first, later) = omega (arith, ask_nodes s mid w.0 w.1 first, asks_nodes ws mid t later)
-
-pub opens_nodes : (rows : List Credential) (s t : Progress) (n : ℕ) (e : Expr) → Opens rows s t n e → length s.graph.nodes ≤ length t.graph.nodes
-opens_nodes rows s t n (Ent d) (monitors, inl had) = let same = ap (λ (g : GraphState). length g.nodes) had.1 in omega (arith, same)
-opens_nodes rows s t n (Ent d) (monitors, inr new) = let same = ap (λ (g : GraphState). length g.nodes) new.1 in omega (arith, same)
-opens_nodes rows s t n (Rol r) step = asks_nodes (row_asks rows) s t step
-opens_nodes rows s t n (Link r name) step = asks_nodes ((Rol r, port.Base) ∷ []) s t step
-opens_nodes rows s t n (Meet parts) step = asks_nodes (part_asks 0 parts) s t step

@@ -200,7 +200,7 @@ same_search s t st g ms q = λ i. record {
 }
 
 -- the first letter is taken and received
-pub finishes_first : (s same held t : SearchState) (number : ℕ) (h : Held) (told : Finished) → length (signals_in s.stage) ≤ 0 → same ≡ s →
+pub finishes_first : (s same held t : SearchState) (number : ℕ) (h : Held Load) (told : Finished) → length (signals_in s.stage) ≤ 0 → same ≡ s →
     TakesHeld same held 0 number h → Settles same held → Receives held t number (letter_in h) told → Settles held t → (x : DriveStep) × Makes s x t
 finishes_first s same held t number h told few is takes takes_settles receives finish_settles =
     let takes' = subst (λ (x : SearchState). TakesHeld x held 0 number h) is takes in

@@ -22,7 +22,8 @@ use Rattle.search.specs.declared.queries.Query.{Query}
 use Rattle.search.specs.declared.queries.Query.TheVariants as query
 use Rattle.search.specs.declared.stages.Stage.{Stage}
 use Rattle.search.specs.declared.stages.Stage.TheVariants as stage
-use Rattle.search.specs.Ending.{Settled, IsTruth, IsEnding, MaySettle, found, come_to, Nothing, Members, answers, spends, breaks}
+use Rattle.search.specs.Ending.{Settled, IsTruth, IsEnding, MaySettle, Nothing, Members, answers, spends, breaks}
+use Rattle.search.specs.Found.{found, come_to}
 use Rattle.search.specs.Stage.{Delivers}
 use Rattle.search.specs.Search.{SearchState, SameQuestion, Settles, KeptBy, IsKept, IsOutstanding, IsCompleted, settled_of, rows_of, asked_role}
 use Rattle.search.proofs.Searching.{delivered_kept, no_letters, member_found, found_member, completed_members}

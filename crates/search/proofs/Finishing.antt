@@ -35,12 +35,12 @@ use Rattle.search.proofs.Holding.{same_running}
 use Rattle.search.proofs.Ended.{same_question}
 
 -- the letter in hand is the held letter of its number
-pub held_letter_is : (st : Stage) (number : ℕ) (h : Held) → HoldsLetter st number h → held_in st number ≡ Some (letter_in h)
+pub held_letter_is : (st : Stage) (number : ℕ) (h : Held Load) → HoldsLetter st number h → held_in st number ≡ Some (letter_in h)
 held_letter_is st number h held =
     subst (λ (s : Stage). held_in s number ≡ Some (letter_in h)) (sym held.runs) (ap if_held held.letter)
 
 -- the hint is right for the need of the letter, whatever is known of its receiver
-pub rightly : (s : SearchState) (number : ℕ) (hint : Hint) (h : Held) (view : SnapshotState) → view ≡ s.snapshot → HoldsLetter s.stage number h →
+pub rightly : (s : SearchState) (number : ℕ) (hint : Hint) (h : Held Load) (view : SnapshotState) → view ≡ s.snapshot → HoldsLetter s.stage number h →
     ((e : Expr) → IsNode s.graph h.to e → hint ≡ right_hint view.vaults (need_of e h.load)) → IsRightly s number hint (letter_in h)
 rightly s number hint h view same held right = record {
   held = held_letter_is s.stage number h held;
@@ -49,7 +49,7 @@ rightly s number hint h view same held right = record {
 }
 
 -- what the snapshot says of the need of the letter in hand is right for it
-pub rightly_needed : (s : SearchState) (number : ℕ) (h : Held) (e : Expr) → IsNode s.graph h.to e → HoldsLetter s.stage number h → IsRightly s number (right_hint s.snapshot.vaults (need_of e h.load)) (letter_in h)
+pub rightly_needed : (s : SearchState) (number : ℕ) (h : Held Load) (e : Expr) → IsNode s.graph h.to e → HoldsLetter s.stage number h → IsRightly s number (right_hint s.snapshot.vaults (need_of e h.load)) (letter_in h)
 rightly_needed s number h e at held = record {
   held = held_letter_is s.stage number h held;
   hint_is = λ need needs.
@@ -102,7 +102,7 @@ spent_from old new work number outs finished.Broken (c, ran, within, is) now = l
 spent_from old new work number outs finished.BadHint sent now = absurd sent
 spent_from old new work number outs finished.NotHeld sent now = absurd sent
 
-module _ (s : SearchState) (number : ℕ) (h : Held) (held : HoldsLetter s.stage number h)
+module _ (s : SearchState) (number : ℕ) (h : Held Load) (held : HoldsLetter s.stage number h)
     (g : GraphState) (ms : List Monitor) (outs : List (ℕ × Load)) (row : Answers s.snapshot.vaults (progress s.graph s.monitors []) (progress g ms outs) h.from h.to h.load) where
   abbrev after : Stage → SearchState
   after st = record s { graph = g; monitors = ms; stage = st }
@@ -151,7 +151,7 @@ module _ (s : SearchState) (number : ℕ) (h : Held) (held : HoldsLetter s.stage
     }
 
 -- a hint that isn't right for the need of the letter
-pub wrongly : (s : SearchState) (number : ℕ) (hint : Hint) (h : Held) (view : SnapshotState) (st : Stage) → view ≡ s.snapshot → HoldsLetter s.stage number h → h.to < length s.graph.nodes →
+pub wrongly : (s : SearchState) (number : ℕ) (hint : Hint) (h : Held Load) (view : SnapshotState) (st : Stage) → view ≡ s.snapshot → HoldsLetter s.stage number h → h.to < length s.graph.nodes →
     (((e : Expr) → IsNode s.graph h.to e → hint ≡ right_hint view.vaults (need_of e h.load)) → ⊥) → st ≡ stage_marked number false s.stage → Finishes s (record s { stage = st }) number hint finished.BadHint
 wrongly s number hint h view st same held node_in wrong is =
     let e : Expr = get_or s.graph.nodes h.to (Ent []) in

@@ -30,5 +30,6 @@ pub mod Answered
 pub mod Ended
 pub mod ByNumber
 pub mod InHand
+pub mod Numbered
 pub mod StepsLeft
 pub mod Driven

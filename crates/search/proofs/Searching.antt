@@ -14,8 +14,8 @@ use Rattle.rt0_rules.proofs.Distinct.{filtered}
 use Rattle.rt0_rules.proofs.Unknown.{Contains-map}
 use Rattle.cred_graph.proofs.Lists.{Contains-at_place}
 use Rattle.cred_graph.specs.declared.listeners.Port.{Port}
-use Rattle.cred_graph.specs.GraphState.{GraphState, IsNode, IsSolution, Known, Listens, members_of, empty_graph}
-use Rattle.cred_graph.specs.Graph.{IsGraph, NodeGiven}
+use Rattle.cred_graph.specs.GraphState.{GraphState, IsNode, IsSolution, Known, Listens, members_of}
+use Rattle.cred_graph.specs.Graph.{IsGraph}
 use Rattle.scholten_core.specs.declared.parents.Parent.TheVariants.{Environment}
 use Rattle.scholten_core.specs.declared.letters.Letter.{Letter}
 use Rattle.scholten_core.specs.Computation.{Computation, outstanding, waiting}
@@ -43,10 +43,6 @@ use Rattle.search.proofs.Holding.{same_running}
 -- the graph of a search just opened
 abbrev pub first_graph : Role → GraphState
 first_graph role = record { nodes = Rol role ∷ []; listeners = [] ∷ []; solutions = [] }
-
-pub first_graph_is : (g : GraphState) (role : Role) (n : ℕ) (new : Bool) → NodeGiven empty_graph g (Rol role) n new → g ≡ first_graph role
-first_graph_is g role n true (absent, range, at, is) = is
-first_graph_is g role n false (at, is) = cc
 
 module _ (rows : List Credential) (role : Role) where
   abbrev start : Sent
@@ -143,7 +139,7 @@ broken_kept s broken = record {
     other e = cc
 
 -- a held letter is awaited
-pub held_awaits : (s : SearchState) → KeepsRules s → (number : ℕ) (h : Held) → (held : HoldsLetter s.stage number h) → Awaits (rows_of s) (asked_role s.query) s.graph s.monitors (sent_of held.running.letters) h.from h.to h.load
+pub held_awaits : (s : SearchState) → KeepsRules s → (number : ℕ) (h : Held Load) → (held : HoldsLetter s.stage number h) → Awaits (rows_of s) (asked_role s.query) s.graph s.monitors (sent_of held.running.letters) h.from h.to h.load
 held_awaits s kept number h held = awaits_letter (kept held.running held.runs) held.by_number number (letter_in h) held.letter
 
 module _ (rows : List Credential) (role : Role) (work : ℕ) (g : GraphState) (ms : List Monitor) (c : Computation Load) (kept : KeptBy rows role work g ms c) where
@@ -250,7 +246,7 @@ waiting_to s (stage.Running c) place number l kept runs at =
 waiting_to s stage.Spent place number l kept runs at = cc
 waiting_to s stage.Broken place number l kept runs at = cc
 
-pub taken_to : (s : SearchState) (st : Stage) (place number : ℕ) (h : Held) → KeepsRules s → Holds s.stage st place number h → h.to < length s.graph.nodes
+pub taken_to : (s : SearchState) (st : Stage) (place number : ℕ) (h : Held Load) → KeepsRules s → Holds s.stage st place number h → h.to < length s.graph.nodes
 taken_to s st place number h kept holds =
     subst (λ (n : ℕ). n < length s.graph.nodes) (ap (λ (l : Letter Load). l.to) holds.taken) (waiting_to s s.stage place number holds.letter kept refl holds.waited)
 

@@ -18,17 +18,17 @@ use Rattle.search.proofs.Answered.{waits_outstanding}
 use Rattle.search.proofs.Ended.{same_question, settles}
 
 -- there is no letter at the place, or it is taken
-abbrev pub MayTake : SearchState → SearchState → ℕ → Option (ℕ × Held) → Type 0
+abbrev pub MayTake : SearchState → SearchState → ℕ → Option (ℕ × Held Load) → Type 0
 MayTake s t place r = MatchOption r ((slice_get (waiting_in s.stage) place ≡ None) × (t ≡ s)) (λ x. TakesHeld s t place x.0 x.1)
 
 -- what a search is then
-pub record TakenOrNot (s : SearchState) (st : Stage) (place : ℕ) (r : Option (ℕ × Held)) : Type 0 where
+pub record TakenOrNot (s : SearchState) (st : Stage) (place : ℕ) (r : Option (ℕ × Held Load)) : Type 0 where
   pub taken : MayTake s (record s { stage = st }) place r
   pub kept : IsKept (record s { stage = st })
   pub settles : Settles s (record s { stage = st })
 
 module _ (s : SearchState) (st : Stage) (place : ℕ) (kept : IsKept s) where
-  some_taken : (number : ℕ) (h : Held) → Holds s.stage st place number h → TakenOrNot s st place (Some (number, h))
+  some_taken : (number : ℕ) (h : Held Load) → Holds s.stage st place number h → TakenOrNot s st place (Some (number, h))
   some_taken number h holds =
       let e : Expr = get_or s.graph.nodes h.to (Ent []) in
       let at : IsNode s.graph h.to e = slice_get-get_or s.graph.nodes h.to (Ent []) (taken_to s st place number h kept.rules holds) in
@@ -62,6 +62,6 @@ module _ (s : SearchState) (st : Stage) (place : ℕ) (kept : IsKept s) where
         settles = inl (ap settled_of is);
       }
 
-pub taken_or_not : (s : SearchState) (st : Stage) (place : ℕ) (r : Option (ℕ × Held)) → IsKept s → MatchOption r ((slice_get (waiting_in s.stage) place ≡ None) × (st ≡ s.stage)) (λ x. Holds s.stage st place x.0 x.1) → TakenOrNot s st place r
+pub taken_or_not : (s : SearchState) (st : Stage) (place : ℕ) (r : Option (ℕ × Held Load)) → IsKept s → MatchOption r ((slice_get (waiting_in s.stage) place ≡ None) × (st ≡ s.stage)) (λ x. Holds s.stage st place x.0 x.1) → TakenOrNot s st place r
 taken_or_not s st place None kept (none, same) = none_taken s st place kept none same
 taken_or_not s st place (Some (number, h)) kept holds = some_taken s st place kept number h holds

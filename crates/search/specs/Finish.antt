@@ -31,7 +31,7 @@ pub record Takes (s t : SearchState) (place number : ℕ) (need : Need) : Type 0
   pub held : held_in t.stage number ≡ Some (record letter { held = true })
 
 -- the same of a letter in hand: its receiver is a node, whose expression says what it needs
-pub record TakesHeld (s t : SearchState) (place number : ℕ) (h : Held) : Type 0 where
+pub record TakesHeld (s t : SearchState) (place number : ℕ) (h : Held Load) : Type 0 where
   pub expr : Expr
   pub node : IsNode s.graph h.to expr
   pub takes : Takes s t place number (need_of expr h.load)

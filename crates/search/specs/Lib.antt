@@ -7,7 +7,9 @@ pub mod Search
 pub mod Need
 pub mod Finish
 pub mod Ending
+pub mod Found
 pub mod Counted
 pub mod Laws
 pub mod Quiet
 pub mod Driven
+pub mod Numbered

@@ -10,6 +10,7 @@ use Rattle.cred_graph.specs.GraphState.{GraphState}
 use Rattle.scholten_core.specs.declared.parents.Parent.TheVariants.{Environment}
 use Rattle.scholten_core.specs.declared.letters.Letter.{Letter}
 use Rattle.scholten_core.specs.Computation.{Computation, outstanding}
+use Rattle.scholten_core.specs.Sound.{IsSound}
 use Rattle.scholten_core.specs.Step.{started}
 use Rattle.search.specs.declared.letters.Load.{Load}
 use Rattle.search.specs.declared.letters.Load.TheVariants as load
@@ -18,7 +19,8 @@ use Rattle.search.specs.declared.findings.Monitor.TheVariants as monitor
 use Rattle.search.specs.declared.queries.Query.{Query}
 use Rattle.search.specs.declared.stages.Stage.{Stage}
 use Rattle.search.specs.declared.stages.Stage.TheVariants as stage
-use Rattle.search.specs.Ending.{Settled, MaySettle, come_to}
+use Rattle.search.specs.Ending.{Settled, MaySettle}
+use Rattle.search.specs.Found.{come_to}
 pub use Rattle.search.specs.Ending.{asked_role}
 use Rattle.search.specs.Net.{Net, IsPendingStart, sent_of}
 use Rattle.search.specs.Steady.{IsSteady}
@@ -51,6 +53,12 @@ abbrev pub IsCompleted : Stage → Type 0
 IsCompleted (stage.Running c) = outstanding c ≡ 0
 IsCompleted stage.Spent = ⊥
 IsCompleted stage.Broken = ⊥
+
+-- where a search runs, its computation keeps the laws of a diffusing computation
+abbrev pub IsSoundStage : Stage → Type 0
+IsSoundStage (stage.Running c) = IsSound c
+IsSoundStage stage.Spent = Unit {0}
+IsSoundStage stage.Broken = Unit {0}
 
 -- the letter to the asked role waits, and nothing else was done
 pub record IsNew (s : SearchState) (query : Query) (work : ℕ) (snapshot : SnapshotState) : Type 0 where

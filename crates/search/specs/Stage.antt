@@ -36,11 +36,11 @@ held_in stage.Spent number = None
 held_in stage.Broken number = None
 
 -- the letter in the hands of who finishes it
-abbrev pub letter_in : Held → Letter Load
+abbrev pub letter_in : Held Load → Letter Load
 letter_in h = record { from = h.from; to = h.to; held = true; load = h.load }
 
 -- this letter is held, in this computation
-pub record HoldsLetter (old : Stage) (number : ℕ) (h : Held) : Type 0 where
+pub record HoldsLetter (old : Stage) (number : ℕ) (h : Held Load) : Type 0 where
   pub running : Computation Load
   pub runs : old ≡ stage.Running running
   pub letter : letter_of running number ≡ Some (letter_in h)
@@ -55,7 +55,7 @@ stage_marked number held stage.Spent = stage.Spent
 stage_marked number held stage.Broken = stage.Broken
 
 -- the waiting letter at a place, which nobody held, is held from now on
-pub record Holds (old new : Stage) (place number : ℕ) (h : Held) : Type 0 where
+pub record Holds (old new : Stage) (place number : ℕ) (h : Held Load) : Type 0 where
   pub letter : Letter Load
   pub waited : slice_get (waiting_in old) place ≡ Some (number, letter)
   pub taken : record letter { held = true } ≡ letter_in h

@@ -1,14 +1,14 @@
 //! How a node asks: an expression gets a node and a monitor if it has none, and an Ask goes to its node.
 ghost use Rattle.std.specs.Prelude.{◌≡◌, OnOk};
-ghost use Rattle.search.specs.Answers.{progress, new_monitor, AsksFor};
+ghost use Rattle.cred_graph.specs.Numbers.{IsPort, port_at};
+ghost use Rattle.search.specs.Answers.{new_monitor, AsksFor};
 
 use crate::findings::{Findings, Monitor};
-use crate::letters::Load;
-use cred_graph::Port;
+use crate::letters::NumberedLoad;
+use cred_graph::NumberedPort;
 use credential_text::Expr;
 use monitors::{LinkMonitor, MeetMonitor};
 use std::alloc::{AllocError, Global};
-use std::collections::VecDeque;
 
 // What the node of the expression remembers before it is told anything.
 fn monitor_for(alloc: Global, expr: &Expr) -> Monitor
@@ -26,17 +26,16 @@ fn monitor_for(alloc: Global, expr: &Expr) -> Monitor
 pub(crate) fn ask(
     alloc: Global,
     found: &mut Findings,
-    outs: &mut VecDeque<(u64, Load)>,
     expr: &Expr,
-    port: &Port,
+    port: NumberedPort,
 ) -> Result<(), AllocError>
-    ensures { OnOk result (AsksFor (progress found.old.graph found.old.monitors.items outs.old.items)
-        (progress found.new.graph found.new.monitors.items outs.new.items) expr.now port.now) }
+    requires { IsPort found.old.graph.nodes port }
+    ensures { OnOk result (AsksFor found.old found.new expr.now (port_at found.old.graph.nodes port)) }
 {
     let (node, is_new) = found.graph.node_of(expr)?;
-    if is_new {
-        found.monitors.push(monitor_for(alloc, expr))?;
+    if !is_new {
+        return found.send(node, NumberedLoad::Ask(port));
     }
-    outs.push_back((node, Load::Ask(*port)))?;
-    Ok(())
+    found.monitors.push(monitor_for(alloc, expr))?;
+    found.send(node, NumberedLoad::Ask(port))
 }

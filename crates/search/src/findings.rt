@@ -1,12 +1,15 @@
-ghost use Rattle.std.specs.Prelude.{◌≡◌, [], ◌∷◌, IfOk};
+ghost use Rattle.std.specs.Prelude.{◌≡◌, [], ◌∷◌, ◌++◌, IfOk, OnOk, OnErr};
 ghost use Rattle.credential_text.specs.declared.exprs.Expr.TheVariants as exprs;
 ghost use Rattle.cred_graph.specs.Graph.{IsGraph};
 
+use crate::letters::NumberedLoad;
 use cred_graph::{Graph, Port};
 use credential_text::Expr;
 use monitors::{LinkMonitor, MeetMonitor};
 use names::Role;
 use std::alloc::{AllocError, Global};
+use std::collections::VecDeque;
+use std::marker::Model;
 
 /// What a node remembers of what it was told.
 #[derive(Drop)]
@@ -17,23 +20,82 @@ pub enum Monitor {
     Meet(MeetMonitor),
 }
 
-/// What a search has found: the graph, and beside each node its monitor.
+/// What a search has found: the graph, and beside each node its monitor. And what a receiver answers, until it is sent,
+/// in a list that serves the next receipt too, where it isn't long. Contracts see its letters with names.
 #[derive(Drop)]
 pub struct Findings {
-    pub graph: Graph,
-    pub monitors: Vec<Monitor>,
+    pub(crate) graph: Graph,
+    pub(crate) monitors: Vec<Monitor>,
+    pub(crate) outs: VecDeque<(u64, NumberedLoad)>,
 }
 
-// What a search for the role has found before its first letter is received: the role's node.
-pub(crate) fn first_findings(alloc: Global, role: Role) -> Result<Findings, AllocError>
-    ensures graph { IfOk result (λ f. f.graph ≡ record { nodes = exprs.Rol role ∷ []; listeners = [] ∷ []; solutions = [] }) }
-    ensures laws { IfOk result (λ f. IsGraph f.graph) }
-    ensures monitors { IfOk result (λ f. f.monitors.items ≡ Monitor.Plain ∷ []) }
-{
-    let mut graph = Graph::new(alloc);
-    graph.node_of(&Expr::Rol(role))?;
-    let mut monitors = Vec::new(alloc);
-    monitors.push(Monitor::Plain)?;
-    let _ports: Option<Port> = None;
-    Ok(Findings { graph, monitors })
+impl Model for Findings {
+    ghost use Rattle.std.specs.Coded.{codes};
+    ghost use Rattle.search.specs.contracts.letters.Load as said;
+    ghost use Rattle.search.specs.contracts.findings.Monitor as memory;
+    ghost use Rattle.search.specs.Answers.{Progress};
+    ghost use Rattle.search.specs.Numbered.{AreNumbered, progress_at};
+
+    ghost Value = { Progress };
+
+    ghost coded = { Prim.hlevel (codes, said.the_row.coded, memory.the_row.coded) };
+
+    ghost view = { λ f. progress_at f.graph f.monitors.items f.outs.items };
+
+    ghost invariant = { λ f. AreNumbered f.graph f.outs.items };
+}
+
+/// A list of answers with more room than this is given back.
+const MOST_ROOM: usize = 8;
+
+impl Findings {
+    ghost use Rattle.search.specs.Answers.{progress};
+    ghost use Rattle.search.specs.Numbered.{IsLoad, load_at};
+
+    // What a search for the role has found before its first letter is received: the role's node.
+    pub(crate) fn first(alloc: Global, role: Role) -> Result<Self, AllocError>
+        ensures found { IfOk result (λ f. f
+            ≡ progress (record { nodes = exprs.Rol role ∷ []; listeners = [] ∷ []; solutions = [] }) (Monitor.Plain ∷ []) []) }
+        ensures laws { IfOk result (λ f. IsGraph f.graph) }
+    {
+        let mut graph = Graph::new(alloc);
+        graph.node_of(&Expr::Rol(role))?;
+        let mut monitors = Vec::new(alloc);
+        monitors.push(Monitor::Plain)?;
+        let _ports: Option<Port> = None;
+        Ok(Findings {
+            graph,
+            monitors,
+            outs: VecDeque::new(alloc),
+        })
+    }
+
+    // The graph.
+    pub(crate) fn graph(&self) -> &Graph
+        ensures { result.now ≡ self.now.graph }
+    {
+        &self.graph
+    }
+
+    // A letter for the node goes to the end of the list of answers.
+    pub(crate) fn send(&mut self, to: u64, load: NumberedLoad) -> Result<(), AllocError>
+        requires { IsLoad self.old.graph.nodes load }
+        ensures sent { OnOk result (self.new
+            ≡ record self.old { outs = self.old.outs ++ (to, load_at self.old.graph.nodes load) ∷ [] }) }
+        ensures unchanged { OnErr result (self.new ≡ self.old) }
+    {
+        self.outs.push_back((to, load))?;
+        Ok(())
+    }
+
+    // The list of answers is empty, with the room that it had if that isn't much.
+    pub(crate) fn clear(&mut self, alloc: Global)
+        ensures { self.new ≡ record self.old { outs = [] } }
+    {
+        if self.outs.capacity() > MOST_ROOM {
+            self.outs = VecDeque::new(alloc);
+        } else {
+            self.outs.clear();
+        }
+    }
 }

@@ -1,32 +1,47 @@
 //! How a node hears an Ask: the asker listens to it from then on, and is told each solution that is known.
-ghost use Rattle.std.specs.Prelude.{◌<◌, length, OnOk};
-ghost use Rattle.search.specs.Answers.{progress, HearsAsk};
+ghost use Rattle.std.specs.Prelude.{◌≡◌, ◌<◌, ◌++◌, length, OnOk};
+ghost use Rattle.cred_graph.specs.Numbers.{IsPort, port_at};
+ghost use Rattle.search.specs.Answers.{HearsAsk, known_tells};
 
 use crate::findings::Findings;
-use crate::letters::Load;
-use cred_graph::Port;
+use crate::letters::NumberedLoad;
+use cred_graph::NumberedPort;
 use std::alloc::AllocError;
-use std::collections::VecDeque;
+
+// The asker is told each solution of the node.
+fn tell_known(
+    found: &mut Findings,
+    node: u64,
+    asker: u64,
+    port: NumberedPort,
+) -> Result<(), AllocError>
+    requires node { node < length found.old.graph.nodes }
+    requires port { IsPort found.old.graph.nodes port }
+    ensures { OnOk result (found.new ≡ record found.old {
+      outs = found.old.outs ++ known_tells found.old.graph node asker (port_at found.old.graph.nodes port);
+    }) }
+{
+    for place in 0..found.graph.solutions(node) {
+        let who = found.graph.numbered_solution(node, place);
+        found.send(asker, NumberedLoad::Tell(port, who))?;
+    }
+    Ok(())
+}
 
 // The asker listens to the node on the port; where that is new, it is told each solution of the node.
 pub(crate) fn hear_ask(
     found: &mut Findings,
-    outs: &mut VecDeque<(u64, Load)>,
     node: u64,
     asker: u64,
-    port: &Port,
+    port: NumberedPort,
 ) -> Result<(), AllocError>
     requires node { node < length found.old.graph.nodes }
     requires asker { asker < length found.old.graph.nodes }
-    ensures { OnOk result (HearsAsk (progress found.old.graph found.old.monitors.items outs.old.items)
-        (progress found.new.graph found.new.monitors.items outs.new.items) node asker port.now) }
+    requires port { IsPort found.old.graph.nodes port }
+    ensures { OnOk result (HearsAsk found.old found.new node asker (port_at found.old.graph.nodes port)) }
 {
-    if !found.graph.add_listener(node, asker, *port)? {
+    if !found.graph.add_numbered_listener(node, asker, port)? {
         return Ok(());
     }
-    for place in 0..found.graph.solutions(node) {
-        let who = found.graph.solution(node, place);
-        outs.push_back((asker, Load::Tell(*port, who)))?;
-    }
-    Ok(())
+    tell_known(found, node, asker, port)
 }

@@ -4,8 +4,9 @@ ghost use Rattle.credential_text.specs.declared.exprs.Expr.{Expr};
 ghost use Rattle.cred_graph.specs.GraphState.{IsNode};
 ghost use Rattle.snapshots.specs.Snapshot.{IsOrdered};
 ghost use Rattle.search.specs.Need.{rows_for, need_of, right_hint};
+ghost use Rattle.search.specs.Numbered.{load_at};
 
-use crate::letters::{Held, Load};
+use crate::letters::{Held, NumberedLoad};
 use crate::queries::{Hint, Need};
 use crate::rows_checks::is_span_of;
 use cred_graph::Graph;
@@ -24,15 +25,15 @@ fn rows_needed(expr: &Expr) -> Need
 }
 
 // Rows are needed by a letter that asks a role, and by no other.
-pub(crate) fn needed(graph: &Graph, held: &Held) -> Need
+pub(crate) fn needed(graph: &Graph, held: &Held<NumberedLoad>) -> Need
     requires { held.now.to < length graph.now.nodes }
-    ensures { (e : Expr) × IsNode graph.now held.now.to e × (result ≡ need_of e held.now.load) }
+    ensures { (e : Expr) × IsNode graph.now held.now.to e × (result ≡ need_of e (load_at graph.now.nodes held.now.load)) }
 {
     let expr = graph.expr(held.to);
     match held.load {
-        Load::Start => rows_needed(expr),
-        Load::Ask(_port) => rows_needed(expr),
-        Load::Tell(_port, _who) => Need::Nothing,
+        NumberedLoad::Start => rows_needed(expr),
+        NumberedLoad::Ask(_port) => rows_needed(expr),
+        NumberedLoad::Tell(_port, _who) => Need::Nothing,
     }
 }
 
@@ -53,11 +54,16 @@ fn meets(snapshot: &Snapshot, need: &Need, hint: &Hint) -> bool
 }
 
 // Whether the hint is the one that the letter needs.
-pub(crate) fn hint_is_right(graph: &Graph, snapshot: &Snapshot, held: &Held, hint: &Hint) -> bool
+pub(crate) fn hint_is_right(
+    graph: &Graph,
+    snapshot: &Snapshot,
+    held: &Held<NumberedLoad>,
+    hint: &Hint,
+) -> bool
     requires { held.now.to < length graph.now.nodes }
     ensures right { IsTrue result
         ↔ ((e : Expr) → IsNode graph.now held.now.to e
-        → hint.now ≡ right_hint snapshot.now.vaults (need_of e held.now.load)) }
+        → hint.now ≡ right_hint snapshot.now.vaults (need_of e (load_at graph.now.nodes held.now.load))) }
     ensures ordered { IsOrdered snapshot.now.vaults }
 {
     let _asker = snapshot.asker();

@@ -1,8 +1,8 @@
-use cred_graph::Port;
+use cred_graph::{NumberedPort, Port};
 use names::Entity;
 use scholten_core::Parent;
 
-/// What a letter of a search says. Who says it to whom is the letter's.
+/// What a letter of a search says, as contracts see it. Who says it to whom is the letter's.
 #[derive(Clone, Copy)]
 pub enum Load {
     /// The environment asks the role that the search is for.
@@ -13,10 +13,18 @@ pub enum Load {
     Tell(Port, Entity),
 }
 
+/// The same with the number of each entity.
+#[derive(Clone, Copy)]
+pub enum NumberedLoad {
+    Start,
+    Ask(NumberedPort),
+    Tell(NumberedPort, u32),
+}
+
 /// A letter in the hands of who finishes it.
 #[derive(Clone, Copy)]
-pub struct Held {
+pub struct Held<L> {
     pub from: Parent,
     pub to: u64,
-    pub load: Load,
+    pub load: L,
 }

@@ -3,54 +3,43 @@ ghost use Rattle.std.specs.Prelude.{◌≡◌, ◌<◌, ◌≤◌, length, OnOk}
 ghost use Rattle.credential_text.specs.declared.exprs.Expr.{Expr};
 ghost use Rattle.snapshots.specs.Span.{role_rows, span_of};
 ghost use Rattle.cred_graph.specs.GraphState.{IsNode};
-ghost use Rattle.search.specs.Answers.{progress, AsksEach, row_asks, part_asks, own_rows, Opens};
+ghost use Rattle.search.specs.Answers.{AsksEach, row_asks, part_asks, own_rows, Opens};
 ghost use Rattle.search.specs.Need.{IsSpanFor};
 
 use crate::asking::ask;
 use crate::findings::Findings;
-use crate::letters::Load;
 use crate::solving::solve;
-use cred_graph::{Port, Reason};
+use cred_graph::{NumberedPort, NumberedReason};
 use credential_text::{Expr, Part};
 use names::Role;
 use snapshots::{Snapshot, Span};
 use std::alloc::{AllocError, Global};
-use std::collections::VecDeque;
 
 // A role asks the body of each of its rows.
 fn ask_rows(
     alloc: Global,
     found: &mut Findings,
-    outs: &mut VecDeque<(u64, Load)>,
     snapshot: &Snapshot,
     role: &Role,
     span: Span,
 ) -> Result<(), AllocError>
     requires { span ≡ span_of snapshot.now.vaults role.now }
-    ensures { OnOk result (AsksEach
-        (progress found.old.graph found.old.monitors.items outs.old.items) (row_asks (role_rows snapshot.now.vaults role.now))
-        (progress found.new.graph found.new.monitors.items outs.new.items)) }
+    ensures { OnOk result (AsksEach found.old (row_asks (role_rows snapshot.now.vaults role.now)) found.new) }
 {
     for place in 0..span.hi - span.lo {
         let row = snapshot.row(span, place);
-        ask(alloc, found, outs, &row.body, &Port::Body)?;
+        ask(alloc, found, &row.body, NumberedPort::Body)?;
     }
     Ok(())
 }
 
 // An intersection asks each of its parts.
-fn ask_parts(
-    alloc: Global,
-    found: &mut Findings,
-    outs: &mut VecDeque<(u64, Load)>,
-    parts: &[Part],
-) -> Result<(), AllocError>
+fn ask_parts(alloc: Global, found: &mut Findings, parts: &[Part]) -> Result<(), AllocError>
     requires { length parts.now ≤ 8 }
-    ensures { OnOk result (AsksEach (progress found.old.graph found.old.monitors.items outs.old.items) (part_asks 0 parts.now)
-        (progress found.new.graph found.new.monitors.items outs.new.items)) }
+    ensures { OnOk result (AsksEach found.old (part_asks 0 parts.now) found.new) }
 {
     for (place, part) in parts.iter().enumerate() {
-        ask(alloc, found, outs, &part.expr(), &Port::Part(place as u8))?;
+        ask(alloc, found, &part.expr(), NumberedPort::Part(place as u8))?;
     }
     Ok(())
 }
@@ -59,7 +48,6 @@ fn ask_parts(
 fn open_as(
     alloc: Global,
     found: &mut Findings,
-    outs: &mut VecDeque<(u64, Load)>,
     snapshot: &Snapshot,
     node: u64,
     expr: &Expr,
@@ -68,17 +56,19 @@ fn open_as(
     requires node { node < length found.old.graph.nodes }
     requires expr { IsNode found.old.graph node expr.now }
     requires span { IsSpanFor snapshot.now.vaults expr.now looked_up }
-    ensures { OnOk result (Opens (own_rows snapshot.now.vaults expr.now) (progress found.old.graph found.old.monitors.items outs.old.items)
-        (progress found.new.graph found.new.monitors.items outs.new.items) node expr.now) }
+    ensures { OnOk result (Opens (own_rows snapshot.now.vaults expr.now) found.old found.new node expr.now) }
 {
     match expr {
-        Expr::Ent(who) => solve(found, outs, node, *who, &Reason::Leaf),
+        Expr::Ent(_who) => {
+            let who = found.graph.short(node);
+            solve(found, node, who, NumberedReason::Leaf)
+        }
         Expr::Rol(role) => {
             let span = looked_up.unwrap_or_else(|| snapshot.find(role));
-            ask_rows(alloc, found, outs, snapshot, role, span)
+            ask_rows(alloc, found, snapshot, role, span)
         }
-        Expr::Link(base, _name) => ask(alloc, found, outs, &Expr::Rol(*base), &Port::Base),
-        Expr::Meet(parts) => ask_parts(alloc, found, outs, parts.as_slice()),
+        Expr::Link(base, _name) => ask(alloc, found, &Expr::Rol(*base), NumberedPort::Base),
+        Expr::Meet(parts) => ask_parts(alloc, found, parts.as_slice()),
     }
 }
 
@@ -86,17 +76,15 @@ fn open_as(
 pub(crate) fn open(
     alloc: Global,
     found: &mut Findings,
-    outs: &mut VecDeque<(u64, Load)>,
     snapshot: &Snapshot,
     node: u64,
     looked_up: Option<Span>,
 ) -> Result<(), AllocError>
     requires node { node < length found.old.graph.nodes }
     requires span { (e : Expr) → IsNode found.old.graph node e → IsSpanFor snapshot.now.vaults e looked_up }
-    ensures { OnOk result ((e : Expr) → IsNode found.old.graph node e → Opens (own_rows snapshot.now.vaults e)
-        (progress found.old.graph found.old.monitors.items outs.old.items)
-        (progress found.new.graph found.new.monitors.items outs.new.items) node e) }
+    ensures { OnOk result ((e : Expr) → IsNode found.old.graph node e
+        → Opens (own_rows snapshot.now.vaults e) found.old found.new node e) }
 {
     let expr = found.graph.expr(node).try_clone()?;
-    open_as(alloc, found, outs, snapshot, node, &expr, looked_up)
+    open_as(alloc, found, snapshot, node, &expr, looked_up)
 }

@@ -6,19 +6,20 @@ ghost use Rattle.vaults.specs.Journal.{credentials};
 ghost use Rattle.cred_graph.specs.GraphState.{IsNode};
 ghost use Rattle.search.specs.Net.{Sent};
 ghost use Rattle.search.specs.Receipt.{Awaits};
+ghost use Rattle.cred_graph.specs.Numbers.{IsPort, port_at};
 ghost use Rattle.search.specs.Answers.{progress, IsOpenAt, AnswersAsk, Answers};
 ghost use Rattle.search.specs.Need.{IsSpanFor};
+ghost use Rattle.search.specs.Numbered.{IsLoad, load_at};
 
 use crate::findings::Findings;
 use crate::hearing::hear_ask;
-use crate::letters::{Held, Load};
+use crate::letters::{Held, NumberedLoad};
 use crate::opening::open;
 use crate::telling::take_in;
-use cred_graph::{Graph, Port};
+use cred_graph::{Graph, NumberedPort};
 use scholten_core::Parent;
 use snapshots::{Snapshot, Span};
 use std::alloc::{AllocError, Global};
-use std::collections::VecDeque;
 
 // Whether the node was asked before: the asked role's by the environment, any other by a listener.
 fn is_open(graph: &Graph, node: u64) -> bool
@@ -44,59 +45,51 @@ fn sender(from: Parent) -> u64
 fn asked(
     alloc: Global,
     found: &mut Findings,
-    outs: &mut VecDeque<(u64, Load)>,
     snapshot: &Snapshot,
     node: u64,
     asker: u64,
-    port: &Port,
+    port: NumberedPort,
     looked_up: Option<Span>,
 ) -> Result<(), AllocError>
     requires node { node < length found.old.graph.nodes }
     requires asker { asker < length found.old.graph.nodes }
+    requires port { IsPort found.old.graph.nodes port }
     requires span { (e : Expr) → IsNode found.old.graph node e → IsSpanFor snapshot.now.vaults e looked_up }
-    ensures { OnOk result (AnswersAsk snapshot.now.vaults (progress found.old.graph found.old.monitors.items outs.old.items)
-        (progress found.new.graph found.new.monitors.items outs.new.items) node asker port.now) }
+    ensures { OnOk result (AnswersAsk snapshot.now.vaults found.old found.new node asker (port_at found.old.graph.nodes port)) }
 {
     if is_open(&found.graph, node) {
-        return hear_ask(found, outs, node, asker, port);
+        return hear_ask(found, node, asker, port);
     }
-    open(alloc, found, outs, snapshot, node, looked_up)?;
-    hear_ask(found, outs, node, asker, port)
+    open(alloc, found, snapshot, node, looked_up)?;
+    hear_ask(found, node, asker, port)
 }
 
 // The receiver of the letter receives it, with the rows that its finisher looked up, and puts what it sends into the list.
 pub(crate) fn receive(
     alloc: Global,
     found: &mut Findings,
-    outs: &mut VecDeque<(u64, Load)>,
     snapshot: &Snapshot,
-    held: &Held,
+    held: &Held<NumberedLoad>,
     looked_up: Option<Span>,
 ) -> Result<(), AllocError>
-    requires none { outs.old.items ≡ [] }
+    requires none { found.old.outs ≡ [] }
+    requires load { IsLoad found.old.graph.nodes held.now.load }
     requires awaits { (role : Role) × (rest : List Sent)
-        × Awaits (credentials snapshot.now.vaults) role found.old.graph found.old.monitors.items rest
-        held.now.from held.now.to held.now.load }
+        × Awaits (credentials snapshot.now.vaults) role found.old.graph found.old.monitors rest
+        held.now.from held.now.to (load_at found.old.graph.nodes held.now.load) }
     requires span { (e : Expr) → IsNode found.old.graph held.now.to e → IsSpanFor snapshot.now.vaults e looked_up }
-    ensures { OnOk result (Answers snapshot.now.vaults (progress found.old.graph found.old.monitors.items [])
-        (progress found.new.graph found.new.monitors.items outs.new.items) held.now.from held.now.to held.now.load) }
+    ensures { OnOk result (Answers snapshot.now.vaults (progress found.old.graph found.old.monitors []) found.new
+        held.now.from held.now.to (load_at found.old.graph.nodes held.now.load)) }
 {
-    match &held.load {
-        Load::Start => {
-            open(alloc, found, outs, snapshot, held.to, looked_up)?;
-            Ok(())
-        }
-        Load::Ask(port) => {
+    match held.load {
+        NumberedLoad::Start => open(alloc, found, snapshot, held.to, looked_up),
+        NumberedLoad::Ask(port) => {
             let asker = sender(held.from);
-            asked(
-                alloc, found, outs, snapshot, held.to, asker, port, looked_up,
-            )?;
-            Ok(())
+            asked(alloc, found, snapshot, held.to, asker, port, looked_up)
         }
-        Load::Tell(port, who) => {
+        NumberedLoad::Tell(port, who) => {
             let teller = sender(held.from);
-            take_in(alloc, found, outs, held.to, teller, port, *who)?;
-            Ok(())
+            take_in(alloc, found, held.to, teller, port, who)
         }
     }
 }

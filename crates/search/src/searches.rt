@@ -1,4 +1,4 @@
-ghost use Rattle.std.specs.Prelude.{◌≡◌, ◌<◌, ◌↔◌, ℕ, true, false, [], None, Some, length, slice_get};
+ghost use Rattle.std.specs.Prelude.{◌≡◌, ◌<◌, ◌≤◌, ◌↔◌, ℕ, List, true, false, [], None, Some, length, slice_get};
 ghost use Rattle.std.specs.Prelude.{IsTrue, IfOk, IfSome, OnErr, MatchOption};
 ghost use Rattle.std.specs.Arc.{arc_value};
 ghost use Rattle.names.specs.declared.roles.Role.{Role};
@@ -7,28 +7,31 @@ ghost use Rattle.rt0_rules.specs.Membership.{AreMembers};
 ghost use Rattle.rt0_rules.specs.FixedPoint.{IsExact};
 ghost use Rattle.cred_graph.specs.GraphState.{GraphState, IsNode, Known};
 ghost use Rattle.scholten_core.specs.declared.letters.Letter.{Letter};
-ghost use Rattle.scholten_core.specs.Computation.{Computation};
+ghost use Rattle.scholten_core.specs.Computation.{Computation, IsHeld};
 ghost use Rattle.search.specs.declared.letters.Load.{Load};
 ghost use Rattle.search.specs.Steady.{OwesRules, IsJustified};
-ghost use Rattle.search.specs.Ending.{MaySettle, Nothing, Members, IsAnswered, status_of, found, come_to};
+ghost use Rattle.search.specs.Ending.{MaySettle, Nothing, Members};
+ghost use Rattle.search.specs.Found.{IsAnswered, status_of, found, come_to};
+ghost use Rattle.search.specs.Numbered.{IsLoad, IsStage, held_at, stage_at};
+ghost use Rattle.search.specs.Search.{IsSoundStage};
+ghost use Rattle.search.specs.Stage.{Sends};
 
-use crate::findings::{Findings, first_findings};
+use crate::findings::Findings;
 use crate::hints::{hint_is_right, needed};
-use crate::letters::{Held, Load};
+use crate::letters::{Held, NumberedLoad};
 use crate::members::solutions_in_order;
 use crate::outcomes::{Finished, Status};
 use crate::queries::{Hint, Need, Query, Task};
 use crate::receiving::receive;
 use crate::stages::{
-    Stage, deliver, held_letter, hold, nothing_moves, send, signals_under_way, wait_again,
-    waiting_letters,
+    NumberedStage, Stage, deliver, held_letter, hold, nothing_moves, send, signals_under_way,
+    wait_again, waiting_letters,
 };
 use cred_graph::{Graph, Port};
 use names::Entity;
 use scholten_core::Diffusion;
 use snapshots::{Snapshot, Span};
 use std::alloc::{AllocError, Global};
-use std::collections::VecDeque;
 use std::marker::Model;
 use std::sync::Arc;
 
@@ -38,9 +41,7 @@ pub struct Search {
     work: u64,
     snapshot: Arc<Snapshot>,
     found: Findings,
-    stage: Stage,
-    // What a receiver answers, until it is sent. A list that isn't long serves the next receipt.
-    answers: VecDeque<(u64, Load)>,
+    stage: NumberedStage,
     alloc: Global,
 }
 
@@ -50,6 +51,7 @@ impl Model for Search {
     ghost use Rattle.search.specs.contracts.stages.Stage as running;
     ghost use Rattle.search.specs.contracts.findings.Monitor as memory;
     ghost use Rattle.search.specs.Search.{SearchState, IsKept};
+    ghost use Rattle.search.specs.Numbered.{IsStage, stage_at};
 
     ghost Value = { SearchState };
 
@@ -60,8 +62,8 @@ impl Model for Search {
       work = s.work;
       snapshot = arc_value s.snapshot;
       graph = s.found.graph;
-      monitors = s.found.monitors.items;
-      stage = s.stage;
+      monitors = s.found.monitors;
+      stage = stage_at s.found.graph.nodes s.stage;
     } };
 
     ghost invariant = { λ s. IsKept (record {
@@ -69,9 +71,9 @@ impl Model for Search {
       work = s.work;
       snapshot = arc_value s.snapshot;
       graph = s.found.graph;
-      monitors = s.found.monitors.items;
-      stage = s.stage;
-    }) };
+      monitors = s.found.monitors;
+      stage = stage_at s.found.graph.nodes s.stage;
+    }) × IsStage s.found.graph.nodes s.stage };
 }
 
 impl Drop for Search {
@@ -82,7 +84,6 @@ impl Drop for Search {
             snapshot: _snapshot,
             found: _found,
             stage: _stage,
-            answers: _answers,
             alloc: _alloc,
         } = self;
     }
@@ -106,16 +107,15 @@ impl Search {
         requires { 0 < work }
         ensures { IfOk result (λ s. IsNew s query work (arc_value snapshot)) }
     {
-        let found = first_findings(alloc, query.role())?;
-        let running = Diffusion::start(alloc, 0, Load::Start)?;
+        let found = Findings::first(alloc, query.role())?;
+        let running = Diffusion::start(alloc, 0, NumberedLoad::Start)?;
         let _ports: Option<Port> = None;
         Ok(Search {
             query,
             work,
             snapshot,
             found,
-            stage: Stage::Running(running),
-            answers: VecDeque::new(alloc),
+            stage: NumberedStage::Running(running),
             alloc,
         })
     }
@@ -139,6 +139,7 @@ impl Search {
         ensures is { result ≡ status_of (settled_of self.now) }
         ensures working { (result ≡ Status.Working) ↔ IsOutstanding self.now.stage }
         ensures completed { IsAnswered result ↔ IsCompleted self.now.stage }
+        ensures sound { IsSoundStage self.now.stage }
         ensures ending { MaySettle self.now.work (rows_of self.now) self.now.query Nothing (settled_of self.now) }
         ensures exact { IsCompleted self.now.stage → IsExact (rows_of self.now) (asked_role self.now.query) (Known self.now.graph) }
         ensures rules { (c : Computation Load) → self.now.stage ≡ Stage.Running c
@@ -146,7 +147,7 @@ impl Search {
             (asked_role self.now.query) (net_of self.now.graph self.now.monitors c) }
     {
         let _work = self.work;
-        status_at(&self.stage, &self.found.graph, &self.query)
+        status_at(&self.stage, self.found.graph(), &self.query)
     }
 
     /// The members of the asked role, in order, each once. A completed search has them.
@@ -156,7 +157,7 @@ impl Search {
         ensures settled { IfOk result (λ members.
             (role : Role) → self.now.query ≡ Query.Who role → settled_of self.now ≡ Members members.items) }
     {
-        solutions_in_order(self.alloc, &self.found.graph, 0)
+        solutions_in_order(self.alloc, self.found.graph(), 0)
     }
 
     /// Takes the waiting letter at that place, in order of sending, without the snapshot: its number, and what it
@@ -169,7 +170,7 @@ impl Search {
         let Some((number, held)) = hold(&mut self.stage, place) else {
             return None;
         };
-        Some((number, needed(&self.found.graph, &held)))
+        Some((number, needed(self.found.graph(), &held)))
     }
 
     /// Takes the waiting letter at that place, in order of sending. Want of memory changes nothing.
@@ -210,7 +211,7 @@ impl Search {
         let Some(held) = held_letter(&self.stage, letter) else {
             return Finished::NotHeld;
         };
-        if !hint_is_right(&self.found.graph, &self.snapshot, &held, &hint) {
+        if !hint_is_right(self.found.graph(), &self.snapshot, &held, &hint) {
             wait_again(&mut self.stage, letter);
             return Finished::BadHint;
         }
@@ -218,9 +219,10 @@ impl Search {
     }
 
     // Takes the waiting letter at that place, in order of sending: its number, and what it says.
-    pub(crate) fn take_held(&mut self, place: u64) -> Option<(u64, Held)>
+    pub(crate) fn take_held(&mut self, place: u64) -> Option<(u64, Held<NumberedLoad>)>
         ensures taken { MatchOption result ((slice_get (waiting_in self.old.stage) place ≡ None) × (self.new ≡ self.old))
-            (λ r. TakesHeld self.old self.new place r.0 r.1) }
+            (λ r. TakesHeld self.old self.new place r.0 (held_at self.old.graph.nodes r.1)) }
+        ensures load { IfSome result (λ r. IsLoad self.old.graph.nodes r.1.load) }
         ensures settles { Settles self.old self.new }
     {
         hold(&mut self.stage, place)
@@ -231,28 +233,22 @@ impl Search {
     pub(crate) fn receive_held(
         &mut self,
         letter: u64,
-        held: &Held,
+        held: &Held<NumberedLoad>,
         looked_up: Option<Span>,
     ) -> Finished
-        requires held { HoldsLetter self.old.stage letter held.now }
+        requires held { HoldsLetter self.old.stage letter (held_at self.old.graph.nodes held.now) }
+        requires load { IsLoad self.old.graph.nodes held.now.load }
         requires span { (e : Expr) → IsNode self.old.graph held.now.to e → IsSpanFor self.old.snapshot.vaults e looked_up }
-        ensures receives { Receives self.old self.new letter (letter_in held.now) result }
+        ensures receives { Receives self.old self.new letter (letter_in (held_at self.old.graph.nodes held.now)) result }
         ensures settles { Settles self.old self.new }
     {
         let _asker = self.snapshot.asker();
-        empty(self.alloc, &mut self.answers);
-        let received = receive(
-            self.alloc,
-            &mut self.found,
-            &mut self.answers,
-            &self.snapshot,
-            held,
-            looked_up,
-        );
+        self.found.clear(self.alloc);
+        let received = receive(self.alloc, &mut self.found, &self.snapshot, held, looked_up);
         match received {
-            Ok(()) => send(&mut self.stage, self.work, letter, &mut self.answers),
+            Ok(()) => send_found(&mut self.stage, self.work, letter, &mut self.found),
             Err(_refusal) => {
-                self.stage = Stage::Broken;
+                self.stage = NumberedStage::Broken;
                 Finished::Broken
             }
         }
@@ -297,32 +293,31 @@ impl Search {
         ensures reasons { (c : Computation Load) → self.now.stage ≡ Stage.Running c
             → IsJustified (rows_of self.now) (asked_role self.now.query) self.now.graph }
     {
-        &self.found.graph
+        self.found.graph()
     }
 }
 
-/// A list of answers with more room than this is given back.
-const MOST_ROOM: usize = 8;
-
-// The list of answers is empty, with the room that it had if that isn't much.
-fn empty(alloc: Global, answers: &mut VecDeque<(u64, Load)>)
-    ensures { answers.new.items ≡ [] }
+// What the receiver of the held letter of that number answers is sent, where the work limit allows it.
+fn send_found(stage: &mut NumberedStage, work: u64, number: u64, found: &mut Findings) -> Finished
+    requires { (nodes : List Expr) × (c : Computation Load) × (stage_at nodes stage.old ≡ Stage.Running c)
+        × IsHeld c number × (c.sent ≤ work) }
+    ensures sends { Sends (stage_at found.old.graph.nodes stage.old) (stage_at found.old.graph.nodes stage.new) work number
+        found.old.outs result }
+    ensures findings { (found.new.graph ≡ found.old.graph) × (found.new.monitors ≡ found.old.monitors) }
+    ensures loads { IsStage found.old.graph.nodes stage.old → IsStage found.old.graph.nodes stage.new }
 {
-    if answers.capacity() > MOST_ROOM {
-        *answers = VecDeque::new(alloc);
-    } else {
-        answers.clear();
-    }
+    send(stage, work, number, &mut found.outs)
 }
 
 // What a search of this stage has come to, whose graph is this.
-fn status_at(stage: &Stage, graph: &Graph, query: &Query) -> Status
-    ensures { result ≡ status_of (come_to stage.now graph.now query.now) }
+fn status_at(stage: &NumberedStage, graph: &Graph, query: &Query) -> Status
+    ensures is { (nodes : List Expr) → result ≡ status_of (come_to (stage_at nodes stage.now) graph.now query.now) }
+    ensures sound { (nodes : List Expr) → IsSoundStage (stage_at nodes stage.now) }
 {
     match stage {
-        Stage::Spent => Status::Spent,
-        Stage::Broken => Status::Broken,
-        Stage::Running(running) => {
+        NumberedStage::Spent => Status::Spent,
+        NumberedStage::Broken => Status::Broken,
+        NumberedStage::Running(running) => {
             if running.is_complete() {
                 answer(graph, query)
             } else {

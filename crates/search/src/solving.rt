@@ -1,34 +1,45 @@
 //! How a node finds a solution: every listener is told of a new one.
-ghost use Rattle.std.specs.Prelude.{◌<◌, length, OnOk};
+ghost use Rattle.std.specs.Prelude.{◌≡◌, ◌<◌, ◌++◌, length, OnOk};
+ghost use Rattle.cred_graph.specs.Numbers.{IsEntity, IsReason, entity_at, reason_at};
 ghost use Rattle.cred_graph.specs.Reason.{Fits};
-ghost use Rattle.search.specs.Answers.{progress, Solves};
+ghost use Rattle.search.specs.Answers.{Solves, new_tells};
 
 use crate::findings::Findings;
-use crate::letters::Load;
-use cred_graph::Reason;
-use names::Entity;
+use crate::letters::NumberedLoad;
+use cred_graph::NumberedReason;
 use std::alloc::AllocError;
-use std::collections::VecDeque;
+
+// Each listener of the node is told of the entity.
+fn tell_listeners(found: &mut Findings, node: u64, who: u32) -> Result<(), AllocError>
+    requires node { node < length found.old.graph.nodes }
+    requires entity { IsEntity found.old.graph.nodes who }
+    ensures { OnOk result (found.new ≡ record found.old {
+      outs = found.old.outs ++ new_tells found.old.graph node (entity_at found.old.graph.nodes who);
+    }) }
+{
+    for place in 0..found.graph.listeners(node) {
+        let (asker, port) = found.graph.numbered_listener(node, place);
+        found.send(asker, NumberedLoad::Tell(port, who))?;
+    }
+    Ok(())
+}
 
 // The entity is a solution of the node; where that is new, each listener is told.
 pub(crate) fn solve(
     found: &mut Findings,
-    outs: &mut VecDeque<(u64, Load)>,
     node: u64,
-    who: Entity,
-    reason: &Reason,
+    who: u32,
+    reason: NumberedReason,
 ) -> Result<(), AllocError>
     requires node { node < length found.old.graph.nodes }
-    requires fits { Fits found.old.graph node who reason.now }
-    ensures { OnOk result (Solves (progress found.old.graph found.old.monitors.items outs.old.items)
-        (progress found.new.graph found.new.monitors.items outs.new.items) node who reason.now) }
+    requires entity { IsEntity found.old.graph.nodes who }
+    requires reason { IsReason found.old.graph.nodes reason }
+    requires fits { Fits found.old.graph node (entity_at found.old.graph.nodes who) (reason_at found.old.graph.nodes reason) }
+    ensures { OnOk result (Solves found.old found.new node
+        (entity_at found.old.graph.nodes who) (reason_at found.old.graph.nodes reason)) }
 {
-    if !found.graph.add_solution(node, who, *reason)? {
+    if !found.graph.add_numbered_solution(node, who, reason)? {
         return Ok(());
     }
-    for place in 0..found.graph.listeners(node) {
-        let (asker, port) = found.graph.listener(node, place);
-        outs.push_back((asker, Load::Tell(port, who)))?;
-    }
-    Ok(())
+    tell_listeners(found, node, who)
 }

@@ -1,16 +1,18 @@
 //! Where a search stands, and the steps of its computation.
-ghost use Rattle.std.specs.Prelude.{◌≡◌, ◌<◌, ◌≤◌, ◌↔◌, ℕ, false, None, length, slice_get, IsTrue, MatchOption};
+ghost use Rattle.std.specs.Prelude.{◌≡◌, ◌≤◌, ◌↔◌, false, List, None, length, slice_get, IsTrue, IfSome, MatchOption};
 ghost use Rattle.scholten_core.specs.Computation.{Computation, IsHeld};
 ghost use Rattle.search.specs.Stage.{waiting_in, signals_in, held_in, HoldsLetter, Holds, stage_marked, Sends, Delivers};
 ghost use Rattle.search.specs.Quiet.{IsQuiet, NoneHeld};
 ghost use Rattle.search.specs.Search.{IsOutstanding};
+ghost use Rattle.credential_text.specs.declared.exprs.Expr.{Expr};
+ghost use Rattle.search.specs.Numbered.{AreLoads, IsLoad, IsStage, held_at, outs_at, stage_at};
 
-use crate::letters::{Held, Load};
+use crate::letters::{Held, Load, NumberedLoad};
 use crate::outcomes::Finished;
 use scholten_core::Diffusion;
 use std::collections::VecDeque;
 
-/// Where a search stands.
+/// Where a search stands, as contracts see it.
 #[derive(Drop)]
 pub enum Stage {
     /// It runs, or ran until nothing was outstanding.
@@ -21,14 +23,26 @@ pub enum Stage {
     Broken,
 }
 
+/// The same with numbers for names.
+#[derive(Drop)]
+pub enum NumberedStage {
+    Running(Diffusion<NumberedLoad>),
+    Spent,
+    Broken,
+}
+
 // The held letter of that number.
-pub(crate) fn held_letter(stage: &Stage, number: u64) -> Option<Held>
-    ensures { MatchOption result (held_in stage.now number ≡ None) (λ h. HoldsLetter stage.now number h) }
+pub(crate) fn held_letter(stage: &NumberedStage, number: u64) -> Option<Held<NumberedLoad>>
+    ensures held { (nodes : List Expr) → MatchOption result (held_in (stage_at nodes stage.now) number ≡ None)
+        (λ h. HoldsLetter (stage_at nodes stage.now) number (held_at nodes h)) }
+    ensures load { (nodes : List Expr) → IsStage nodes stage.now → IfSome result (λ h. IsLoad nodes h.load) }
 {
-    let Stage::Running(running) = stage else {
+    let NumberedStage::Running(running) = stage else {
         return None;
     };
-    let letter = running.letter(number)?;
+    let Some(letter) = running.letter(number) else {
+        return None;
+    };
     if !letter.held {
         return None;
     }
@@ -40,11 +54,14 @@ pub(crate) fn held_letter(stage: &Stage, number: u64) -> Option<Held>
 }
 
 // The waiting letter at that place is held from now on; its number and what it says.
-pub(crate) fn hold(stage: &mut Stage, place: u64) -> Option<(u64, Held)>
-    ensures { MatchOption result ((slice_get (waiting_in stage.old) place ≡ None) × (stage.new ≡ stage.old))
-        (λ r. Holds stage.old stage.new place r.0 r.1) }
+pub(crate) fn hold(stage: &mut NumberedStage, place: u64) -> Option<(u64, Held<NumberedLoad>)>
+    ensures held { (nodes : List Expr) → MatchOption result
+        ((slice_get (waiting_in (stage_at nodes stage.old)) place ≡ None) × (stage_at nodes stage.new ≡ stage_at nodes stage.old))
+        (λ r. Holds (stage_at nodes stage.old) (stage_at nodes stage.new) place r.0 (held_at nodes r.1)) }
+    ensures load { (nodes : List Expr) → IsStage nodes stage.old → IfSome result (λ r. IsLoad nodes r.1.load) }
+    ensures loads { (nodes : List Expr) → IsStage nodes stage.old → IsStage nodes stage.new }
 {
-    let Stage::Running(running) = stage else {
+    let NumberedStage::Running(running) = stage else {
         return None;
     };
     if place >= running.waiting() {
@@ -61,68 +78,74 @@ pub(crate) fn hold(stage: &mut Stage, place: u64) -> Option<(u64, Held)>
 }
 
 // The held letter of that number waits again.
-pub(crate) fn wait_again(stage: &mut Stage, number: u64)
-    requires { (c : Computation Load) × (stage.old ≡ Stage.Running c) × IsHeld c number }
-    ensures { stage.new ≡ stage_marked number false stage.old }
+pub(crate) fn wait_again(stage: &mut NumberedStage, number: u64)
+    requires { (nodes : List Expr) × (c : Computation Load) × (stage_at nodes stage.old ≡ Stage.Running c) × IsHeld c number }
+    ensures waits { (nodes : List Expr) → stage_at nodes stage.new ≡ stage_marked number false (stage_at nodes stage.old) }
+    ensures loads { (nodes : List Expr) → IsStage nodes stage.old → IsStage nodes stage.new }
 {
-    if let Stage::Running(running) = stage {
+    if let NumberedStage::Running(running) = stage {
         running.put_back(number);
     }
 }
 
 // The held letter of that number is finished, and its receiver sends these, where the work limit allows it.
 pub(crate) fn send(
-    stage: &mut Stage,
+    stage: &mut NumberedStage,
     work: u64,
     number: u64,
-    outs: &mut VecDeque<(u64, Load)>,
+    outs: &mut VecDeque<(u64, NumberedLoad)>,
 ) -> Finished
-    requires { (c : Computation Load) × (stage.old ≡ Stage.Running c) × IsHeld c number × (c.sent ≤ work) }
-    ensures { Sends stage.old stage.new work number outs.old.items result }
+    requires { (nodes : List Expr) × (c : Computation Load) × (stage_at nodes stage.old ≡ Stage.Running c)
+        × IsHeld c number × (c.sent ≤ work) }
+    ensures sends { (nodes : List Expr)
+        → Sends (stage_at nodes stage.old) (stage_at nodes stage.new) work number (outs_at nodes outs.old.items) result }
+    ensures loads { (nodes : List Expr) → IsStage nodes stage.old → AreLoads nodes outs.old.items → IsStage nodes stage.new }
+    ensures left { (nodes : List Expr) → AreLoads nodes outs.old.items → AreLoads nodes outs.new.items }
 {
-    let Stage::Running(running) = stage else {
+    let NumberedStage::Running(running) = stage else {
         unreachable!()
     };
     if work - running.sent() < outs.len() as u64 {
-        *stage = Stage::Spent;
+        *stage = NumberedStage::Spent;
         return Finished::Spent;
     }
     match running.finish_with(number, outs) {
         Ok(()) => Finished::Done,
         Err(_refusal) => {
-            *stage = Stage::Broken;
+            *stage = NumberedStage::Broken;
             Finished::Broken
         }
     }
 }
 
 // How many letters wait.
-pub(crate) fn waiting_letters(stage: &Stage) -> u64
-    ensures { result ≡ length (waiting_in stage.now) }
+pub(crate) fn waiting_letters(stage: &NumberedStage) -> u64
+    ensures { (nodes : List Expr) → result ≡ length (waiting_in (stage_at nodes stage.now)) }
 {
     match stage {
-        Stage::Running(running) => running.waiting(),
-        Stage::Spent => 0,
-        Stage::Broken => 0,
+        NumberedStage::Running(running) => running.waiting(),
+        NumberedStage::Spent => 0,
+        NumberedStage::Broken => 0,
     }
 }
 
 // How many signals are under way.
-pub(crate) fn signals_under_way(stage: &Stage) -> u64
-    ensures { result ≡ length (signals_in stage.now) }
+pub(crate) fn signals_under_way(stage: &NumberedStage) -> u64
+    ensures { (nodes : List Expr) → result ≡ length (signals_in (stage_at nodes stage.now)) }
 {
     match stage {
-        Stage::Running(running) => running.signals(),
-        Stage::Spent => 0,
-        Stage::Broken => 0,
+        NumberedStage::Running(running) => running.signals(),
+        NumberedStage::Spent => 0,
+        NumberedStage::Broken => 0,
     }
 }
 
 // The signal at that place is delivered, where there is one. With the last one the memory of letters is given back.
-pub(crate) fn deliver(stage: &mut Stage, place: u64) -> bool
-    ensures { Delivers stage.old stage.new place result }
+pub(crate) fn deliver(stage: &mut NumberedStage, place: u64) -> bool
+    ensures delivers { (nodes : List Expr) → Delivers (stage_at nodes stage.old) (stage_at nodes stage.new) place result }
+    ensures loads { (nodes : List Expr) → IsStage nodes stage.old → IsStage nodes stage.new }
 {
-    let Stage::Running(running) = stage else {
+    let NumberedStage::Running(running) = stage else {
         return false;
     };
     if place >= running.signals() {
@@ -134,15 +157,16 @@ pub(crate) fn deliver(stage: &mut Stage, place: u64) -> bool
 }
 
 // Whether nothing moves before a held letter comes back: no letter waits and no signal is under way.
-pub(crate) fn nothing_moves(stage: &Stage) -> bool
-    ensures quiet { IsTrue result ↔ IsQuiet stage.now }
-    ensures settled { IsQuiet stage.now → NoneHeld stage.now → IsOutstanding stage.now → ⊥ }
+pub(crate) fn nothing_moves(stage: &NumberedStage) -> bool
+    ensures quiet { (nodes : List Expr) → IsTrue result ↔ IsQuiet (stage_at nodes stage.now) }
+    ensures settled { (nodes : List Expr) → IsQuiet (stage_at nodes stage.now) → NoneHeld (stage_at nodes stage.now)
+        → IsOutstanding (stage_at nodes stage.now) → ⊥ }
 {
     match stage {
-        Stage::Running(running) => {
+        NumberedStage::Running(running) => {
             running.is_complete() || (running.waiting() == 0 && running.signals() == 0)
         }
-        Stage::Spent => true,
-        Stage::Broken => true,
+        NumberedStage::Spent => true,
+        NumberedStage::Broken => true,
     }
 }

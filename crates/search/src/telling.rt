@@ -3,20 +3,18 @@ ghost use Rattle.std.specs.Prelude.{◌≡◌, ◌<◌, ℕ, List, Some, length,
 ghost use Rattle.names.specs.declared.roles.Role.{Role};
 ghost use Rattle.credential_text.specs.declared.exprs.Expr.TheVariants as exprs;
 ghost use Rattle.cred_graph.specs.GraphState.{GraphState, IsNode};
-ghost use Rattle.cred_graph.specs.Reason.{Fits};
+ghost use Rattle.cred_graph.specs.Numbers.{IsEntity, IsPort, entity_at, port_at};
 ghost use Rattle.monitors.specs.LinkMonitor.{LinkTold};
 ghost use Rattle.monitors.specs.MeetMonitor.{MeetTold};
-ghost use Rattle.search.specs.Answers.{progress, BaseHeard, PartHeard, TellsLast, TellsBase, TellsPart, MayTakeIn, TakesIn};
+ghost use Rattle.search.specs.Answers.{BaseHeard, PartHeard, TellsLast, TellsBase, TellsPart, MayTakeIn, TakesIn};
 
 use crate::asking::ask;
 use crate::findings::{Findings, Monitor};
-use crate::letters::Load;
 use crate::solving::solve;
-use cred_graph::{Graph, Port, Reason};
+use cred_graph::{Graph, NumberedPort, NumberedReason};
 use credential_text::Expr;
 use names::{Entity, Role};
 use std::alloc::{AllocError, Global};
-use std::collections::VecDeque;
 
 // The monitor of a linked role hears a member of its base, and answers whether that is new.
 fn hear_base(monitors: &mut Vec<Monitor>, node: u64, base: Entity) -> Result<bool, AllocError>
@@ -63,64 +61,59 @@ fn given_role(graph: &Graph, node: u64, base: Entity) -> Expr
 }
 
 // A linked role hears a member of its base; where that is new, it asks the member's role.
-fn told_base(
-    alloc: Global,
-    found: &mut Findings,
-    outs: &mut VecDeque<(u64, Load)>,
-    node: u64,
-    base: Entity,
-) -> Result<(), AllocError>
+fn told_base(alloc: Global, found: &mut Findings, node: u64, base: u32) -> Result<(), AllocError>
+    requires entity { IsEntity found.old.graph.nodes base }
     requires link { (r : Role) × (name : List ℕ) × IsNode found.old.graph node (exprs.Link r name) }
-    requires monitor { (x : LinkTold) × (slice_get found.old.monitors.items node ≡ Some (Monitor.Link x)) }
-    ensures { OnOk result (TellsBase (progress found.old.graph found.old.monitors.items outs.old.items)
-        (progress found.new.graph found.new.monitors.items outs.new.items) node base) }
+    requires monitor { (x : LinkTold) × (slice_get found.old.monitors node ≡ Some (Monitor.Link x)) }
+    ensures { OnOk result (TellsBase found.old found.new node (entity_at found.old.graph.nodes base)) }
 {
-    if !hear_base(&mut found.monitors, node, base)? {
+    let who = found.graph.entity(base);
+    if !hear_base(&mut found.monitors, node, who)? {
         return Ok(());
     }
-    let role = given_role(&found.graph, node, base);
-    ask(alloc, found, outs, &role, &Port::Via(base))
+    let role = given_role(&found.graph, node, who);
+    ask(alloc, found, &role, NumberedPort::Via(base))
 }
 
 // An intersection hears that a part told the entity; with the last part it is a solution.
-fn told_part(
-    found: &mut Findings,
-    outs: &mut VecDeque<(u64, Load)>,
-    node: u64,
-    part: u8,
-    who: Entity,
-) -> Result<(), AllocError>
+fn told_part(found: &mut Findings, node: u64, part: u8, who: u32) -> Result<(), AllocError>
     requires node { node < length found.old.graph.nodes }
-    requires monitor { (x : MeetTold) × (slice_get found.old.monitors.items node ≡ Some (Monitor.Meet x)) × (part < x.parts) }
-    requires last { TellsLast found.old.graph found.old.monitors.items node part who }
-    ensures { OnOk result (TellsPart (progress found.old.graph found.old.monitors.items outs.old.items)
-        (progress found.new.graph found.new.monitors.items outs.new.items) node part who) }
+    requires entity { IsEntity found.old.graph.nodes who }
+    requires monitor { (x : MeetTold) × (slice_get found.old.monitors node ≡ Some (Monitor.Meet x)) × (part < x.parts) }
+    requires last { TellsLast found.old.graph found.old.monitors node part (entity_at found.old.graph.nodes who) }
+    ensures { OnOk result (TellsPart found.old found.new node part (entity_at found.old.graph.nodes who)) }
 {
-    if !hear_part(&mut found.monitors, node, part, who)? {
+    let name = found.graph.entity(who);
+    if !hear_part(&mut found.monitors, node, part, name)? {
         return Ok(());
     }
-    solve(found, outs, node, who, &Reason::Parts)
+    solve(found, node, who, NumberedReason::Parts)
 }
 
 // The node is told on a port, by the node that it listens to, that the entity is a member.
 pub(crate) fn take_in(
     alloc: Global,
     found: &mut Findings,
-    outs: &mut VecDeque<(u64, Load)>,
     node: u64,
     from: u64,
-    port: &Port,
-    who: Entity,
+    port: NumberedPort,
+    who: u32,
 ) -> Result<(), AllocError>
     requires node { node < length found.old.graph.nodes }
-    requires may { MayTakeIn found.old.graph found.old.monitors.items node from port.now who }
-    ensures { OnOk result (TakesIn (progress found.old.graph found.old.monitors.items outs.old.items)
-        (progress found.new.graph found.new.monitors.items outs.new.items) node from port.now who) }
+    requires port { IsPort found.old.graph.nodes port }
+    requires entity { IsEntity found.old.graph.nodes who }
+    requires may { MayTakeIn found.old.graph found.old.monitors node from
+        (port_at found.old.graph.nodes port) (entity_at found.old.graph.nodes who) }
+    ensures { OnOk result (TakesIn found.old found.new node from
+        (port_at found.old.graph.nodes port) (entity_at found.old.graph.nodes who)) }
 {
     match port {
-        Port::Body => solve(found, outs, node, who, &Reason::Body(from)),
-        Port::Via(base) => solve(found, outs, node, who, &Reason::Via(*base)),
-        Port::Base => told_base(alloc, found, outs, node, who),
-        Port::Part(part) => told_part(found, outs, node, *part, who),
+        NumberedPort::Body => {
+            let body = found.graph.short(from);
+            solve(found, node, who, NumberedReason::Body(body))
+        }
+        NumberedPort::Via(base) => solve(found, node, who, NumberedReason::Via(base)),
+        NumberedPort::Base => told_base(alloc, found, node, who),
+        NumberedPort::Part(part) => told_part(found, node, part, who),
     }
 }

@@ -1,10 +1,29 @@
--- The asker was told of one more solution.
-use Rattle.std.proofs.Common.{ℕ, List, ◌∙◌}
-use Rattle.cred_graph.specs.GraphState.{members_of}
-use Rattle.search.specs.declared.letters.Load.TheVariants as load
-use Rattle.search.proofs.Loops.{sent_next}
+-- The asker listens, and where that is new it is told what is known.
+use Rattle.std.proofs.Common.{◌<◌, length, sym, subst}
+use Rattle.std.proofs.lemmas.Result.{on_ok_weaker}
+use Rattle.cred_graph.specs.Graph.{ListenerGiven}
+use Rattle.cred_graph.specs.Numbers.{IsPort, port_at}
+use Rattle.search.specs.Answers.{Progress}
+use Rattle.search.proofs.Numbered.{numbered_listened, hears_old, hears_new}
 use Rattle.search.proofs.hearing.hear_ask.Goals as goal
 
-pub loop-place-preserved : goal.loop-place-preserved
-loop-place-preserved c =
-    c.in_ok-push_back.ensures.items ∙ sent_next (λ (who : List ℕ). (c.args.asker, load.Tell c.args.port.now who)) (members_of c.add_listener.new.self c.args.node) c.loop-place.place c.solution-who.result c.args.outs.now.items c.loop-place.outs.items c.solution-who.ensures c.loop-place.invariant
+pub returns-then-not-branch : goal.returns-then-not-branch
+returns-then-not-branch c =
+    let old = c.found.inside in
+    hears_old c.args.found.now old.graph c.add_numbered_listener.new.self old.monitors.items old.outs.items c.found.view_is c.args.node c.args.asker c.args.port
+    (subst (ListenerGiven old.graph c.add_numbered_listener.new.self c.args.node (record { asker = c.args.asker; port = port_at old.graph.nodes c.args.port })) c.if-not-branch.true c.in_ok-add_numbered_listener.ensures.ok)
+
+pub invariant_of-found-2 : goal.invariant_of-found-2
+invariant_of-found-2 c =
+    let old = c.found.inside in
+    numbered_listened old.graph c.add_numbered_listener.new.self c.args.node c.args.asker c.args.port c.in_ok-add_numbered_listener.field-0 old.outs.items c.in_ok-add_numbered_listener.ensures.ok
+    (subst (λ (s : Progress). c.args.node < length s.graph.nodes) (sym c.found.view_is) c.requires.node) c.add_numbered_listener.ensures.graph
+    (subst (λ (s : Progress). IsPort s.graph.nodes c.args.port) (sym c.found.view_is) c.requires.port) c.found.invariant
+
+pub returns : goal.returns
+returns c =
+    let old = c.found.inside in
+    on_ok_weaker c.tell_known.result
+    (hears_new c.args.found.now old.graph c.add_numbered_listener.new.self old.monitors.items old.outs.items c.found.view_is c.tell_known.new.found c.args.node c.args.asker c.args.port
+    (subst (ListenerGiven old.graph c.add_numbered_listener.new.self c.args.node (record { asker = c.args.asker; port = port_at old.graph.nodes c.args.port })) c.if-not-branch.false c.in_ok-add_numbered_listener.ensures.ok))
+    c.tell_known.ensures

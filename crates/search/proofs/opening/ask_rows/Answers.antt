@@ -3,7 +3,7 @@ use Rattle.std.proofs.Common.{ap, arith}
 use Rattle.cred_graph.specs.declared.listeners.Port.TheVariants as port
 use Rattle.snapshots.specs.declared.spans.Span.{Span}
 use Rattle.snapshots.specs.Span.{role_rows}
-use Rattle.search.specs.Answers.{progress, row_asks}
+use Rattle.search.specs.Answers.{row_asks}
 use Rattle.search.proofs.AskLoops.{asks_next, asks_all, row_ask_at, row_asks_count}
 use Rattle.search.proofs.Rows.{span_length}
 use Rattle.search.proofs.opening.ask_rows.Goals as goal
@@ -18,11 +18,11 @@ pub loop-place-preserved : goal.loop-place-preserved
 loop-place-preserved c =
     let rows = role_rows c.args.snapshot.now.vaults c.args.role.now in
     let at = c.row-row.ensures c.args.role.now c.requires in
-    asks_next (row_asks rows) c.loop-place.place (progress c.args.found.now.graph c.args.found.now.monitors.items c.args.outs.now.items) (progress c.loop-place.found.graph c.loop-place.found.monitors.items c.loop-place.outs.items) (progress c.ask.new.found.graph c.ask.new.found.monitors.items c.ask.new.outs.items) c.row-row.result.now.body port.Body c.loop-place.invariant (row_ask_at rows c.loop-place.place c.row-row.result.now at) c.in_ok-ask.ensures
+    asks_next (row_asks rows) c.loop-place.place c.args.found.now c.loop-place.found c.ask.new.found c.row-row.result.now.body port.Body c.loop-place.invariant (row_ask_at rows c.loop-place.place c.row-row.result.now at) c.in_ok-ask.ensures
 
 pub returns : goal.returns
 returns c =
     let rows = role_rows c.args.snapshot.now.vaults c.args.role.now in
     let lo = ap (λ (s : Span). s.lo) c.requires in
     let hi = ap (λ (s : Span). s.hi) c.requires in
-    asks_all (row_asks rows) c.loop-place.place (progress c.args.found.now.graph c.args.found.now.monitors.items c.args.outs.now.items) (progress c.loop-place.found.graph c.loop-place.found.monitors.items c.loop-place.outs.items) (omega (arith, lo, hi, span_length c.args.snapshot.now.vaults c.args.role.now, row_asks_count rows)) c.loop-place.invariant
+    asks_all (row_asks rows) c.loop-place.place c.args.found.now c.loop-place.found (omega (arith, lo, hi, span_length c.args.snapshot.now.vaults c.args.role.now, row_asks_count rows)) c.loop-place.invariant

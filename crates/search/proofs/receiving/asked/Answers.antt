@@ -1,22 +1,44 @@
--- What opens adds nodes, so the node and its asker are there still.
-use Rattle.std.proofs.Common.{[], get_or, arith}
+-- What opens adds nodes, so the node and its asker are there still, and the port stays what it is.
+use Rattle.std.proofs.Common.{[], inr, get_or, sym, subst, arith, ◌∙◌}
+use Rattle.std.proofs.lemmas.Bool.{false≢true}
 use Rattle.std.proofs.lemmas.Option.{slice_get-get_or}
+use Rattle.std.proofs.lemmas.Result.{on_ok_weaker}
 use Rattle.credential_text.specs.declared.exprs.Expr.{Expr}
 use Rattle.credential_text.specs.declared.exprs.Expr.TheVariants.{Ent}
-use Rattle.search.specs.Answers.{progress, own_rows}
-use Rattle.search.proofs.AskLoops.{opens_nodes}
+use Rattle.search.specs.Answers.{Progress, HearsAsk, IsOpenAt, own_rows}
+use Rattle.search.proofs.Numbered.{opens_more, more_count, more_port, more_port_same}
 use Rattle.search.proofs.receiving.asked.Goals as goal
 
 pub hear_ask-requires-2-clause-node : goal.hear_ask-requires-2-clause-node
 hear_ask-requires-2-clause-node c =
     let nodes = c.args.found.now.graph.nodes in
     let e : Expr = get_or nodes c.args.node (Ent []) in
-    let more = opens_nodes (own_rows c.args.snapshot.now.vaults e) (progress c.args.found.now.graph c.args.found.now.monitors.items c.args.outs.now.items) (progress c.open.new.found.graph c.open.new.found.monitors.items c.open.new.outs.items) c.args.node e (c.in_ok-open.ensures e (slice_get-get_or nodes c.args.node (Ent []) c.requires.node)) in
-    omega (arith, more, c.requires.node)
+    let more = opens_more (own_rows c.args.snapshot.now.vaults e) c.args.found.now c.open.new.found c.args.node e (c.in_ok-open.ensures e (slice_get-get_or nodes c.args.node (Ent []) c.requires.node)) in
+    omega (arith, more_count nodes c.open.new.found.graph.nodes more, c.requires.node)
 
 pub hear_ask-requires-2-clause-asker : goal.hear_ask-requires-2-clause-asker
 hear_ask-requires-2-clause-asker c =
     let nodes = c.args.found.now.graph.nodes in
     let e : Expr = get_or nodes c.args.node (Ent []) in
-    let more = opens_nodes (own_rows c.args.snapshot.now.vaults e) (progress c.args.found.now.graph c.args.found.now.monitors.items c.args.outs.now.items) (progress c.open.new.found.graph c.open.new.found.monitors.items c.open.new.outs.items) c.args.node e (c.in_ok-open.ensures e (slice_get-get_or nodes c.args.node (Ent []) c.requires.node)) in
-    omega (arith, more, c.requires.asker)
+    let more = opens_more (own_rows c.args.snapshot.now.vaults e) c.args.found.now c.open.new.found c.args.node e (c.in_ok-open.ensures e (slice_get-get_or nodes c.args.node (Ent []) c.requires.node)) in
+    omega (arith, more_count nodes c.open.new.found.graph.nodes more, c.requires.asker)
+
+pub hear_ask-requires-2-clause-port : goal.hear_ask-requires-2-clause-port
+hear_ask-requires-2-clause-port c =
+    let nodes = c.args.found.now.graph.nodes in
+    let e : Expr = get_or nodes c.args.node (Ent []) in
+    let more = opens_more (own_rows c.args.snapshot.now.vaults e) c.args.found.now c.open.new.found c.args.node e (c.in_ok-open.ensures e (slice_get-get_or nodes c.args.node (Ent []) c.requires.node)) in
+    more_port nodes c.open.new.found.graph.nodes c.args.port more c.requires.port
+
+pub returns : goal.returns
+returns c =
+    let nodes = c.args.found.now.graph.nodes in
+    let e : Expr = get_or nodes c.args.node (Ent []) in
+    let more = opens_more (own_rows c.args.snapshot.now.vaults e) c.args.found.now c.open.new.found c.args.node e (c.in_ok-open.ensures e (slice_get-get_or nodes c.args.node (Ent []) c.requires.node)) in
+    on_ok_weaker c.hear_ask-2.result
+    (λ hears. (
+      c.open.new.found,
+      inr (λ before. false≢true (sym c.if-is_open.false ∙ c.is_open.ensures.1 (subst (λ (s : Progress). IsOpenAt s.graph c.args.node) (sym c.found.view_is) before)), c.in_ok-open.ensures),
+      subst (HearsAsk c.open.new.found c.hear_ask-2.new.found c.args.node c.args.asker) (more_port_same nodes c.open.new.found.graph.nodes c.args.port more c.requires.port) hears,
+    ))
+    c.hear_ask-2.ensures

@@ -1,11 +1,36 @@
--- One more listener was told.
-use Rattle.std.proofs.Common.{◌∙◌}
-use Rattle.cred_graph.specs.declared.listeners.Listening.{Listening}
-use Rattle.cred_graph.specs.GraphState.{listeners_of}
-use Rattle.search.specs.declared.letters.Load.TheVariants as load
-use Rattle.search.proofs.Loops.{sent_next}
+-- The entity is a solution, and where that is new each listener is told.
+use Rattle.std.proofs.Common.{sym, subst}
+use Rattle.std.proofs.lemmas.Result.{on_ok_weaker}
+use Rattle.cred_graph.specs.declared.solutions.Solution.{Solution}
+use Rattle.cred_graph.specs.Graph.{SolutionGiven}
+use Rattle.cred_graph.specs.Numbers.{entity_at, reason_at}
+use Rattle.cred_graph.specs.Reason.{Fits}
+use Rattle.search.specs.Answers.{Progress}
+use Rattle.search.proofs.Numbered.{numbered_solved, solves_old, solves_new}
 use Rattle.search.proofs.solving.solve.Goals as goal
 
-pub loop-place-preserved : goal.loop-place-preserved
-loop-place-preserved c =
-    c.in_ok-push_back.ensures.items ∙ sent_next (λ (l : Listening). (l.asker, load.Tell l.port c.args.who)) (listeners_of c.add_solution.new.self c.args.node) c.loop-place.place (record { asker = c.listener-asker.result.0; port = c.listener-asker.result.1 }) c.args.outs.now.items c.loop-place.outs.items c.listener-asker.ensures c.loop-place.invariant
+pub add_numbered_solution-requires-clause-fits : goal.add_numbered_solution-requires-clause-fits
+add_numbered_solution-requires-clause-fits c =
+    subst (λ (s : Progress). Fits s.graph c.args.node (entity_at s.graph.nodes c.args.who) (reason_at s.graph.nodes c.args.reason)) (sym c.found.view_is) c.requires.fits
+
+pub returns-then-not-branch : goal.returns-then-not-branch
+returns-then-not-branch c =
+    let old = c.found.inside in
+    let given : Solution = record { node = c.args.node; who = entity_at old.graph.nodes c.args.who; reason = reason_at old.graph.nodes c.args.reason } in
+    solves_old c.args.found.now old.graph c.add_numbered_solution.new.self old.monitors.items old.outs.items c.found.view_is c.args.node c.args.who c.args.reason
+    (subst (SolutionGiven old.graph c.add_numbered_solution.new.self given) c.if-not-branch.true c.in_ok-add_numbered_solution.ensures.ok)
+
+pub invariant_of-found-2 : goal.invariant_of-found-2
+invariant_of-found-2 c =
+    let old = c.found.inside in
+    let given : Solution = record { node = c.args.node; who = entity_at old.graph.nodes c.args.who; reason = reason_at old.graph.nodes c.args.reason } in
+    numbered_solved old.graph c.add_numbered_solution.new.self given c.in_ok-add_numbered_solution.field-0 old.outs.items c.in_ok-add_numbered_solution.ensures.ok c.found.invariant
+
+pub returns : goal.returns
+returns c =
+    let old = c.found.inside in
+    let given : Solution = record { node = c.args.node; who = entity_at old.graph.nodes c.args.who; reason = reason_at old.graph.nodes c.args.reason } in
+    on_ok_weaker c.tell_listeners.result
+    (solves_new c.args.found.now old.graph c.add_numbered_solution.new.self old.monitors.items old.outs.items c.found.view_is c.tell_listeners.new.found c.args.node c.args.who c.args.reason
+    (subst (SolutionGiven old.graph c.add_numbered_solution.new.self given) c.if-not-branch.false c.in_ok-add_numbered_solution.ensures.ok))
+    c.tell_listeners.ensures

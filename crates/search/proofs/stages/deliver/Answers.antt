@@ -1,16 +1,23 @@
 -- The signal at the place is delivered.
-use Rattle.std.proofs.Common.{ℕ, ◌<◌, refl, sym, subst}
+use Rattle.std.proofs.Common.{ℕ, List, ◌<◌, refl, sym, subst}
+use Rattle.credential_text.specs.declared.exprs.Expr.{Expr}
 use Rattle.scholten_core.specs.Computation.{Computation}
 use Rattle.scholten_core.specs.Call.{DeliversSignal}
-use Rattle.search.specs.declared.letters.Load.{Load}
+use Rattle.scholten_core.specs.Named.{named_with}
+use Rattle.scholten_core.proofs.Named.{delivers-named}
+use Rattle.search.specs.declared.letters.NumberedLoad.{NumberedLoad}
+use Rattle.search.specs.Numbered.{load_at}
+use Rattle.search.proofs.Numbered.{shown, shows}
 use Rattle.search.proofs.stages.deliver.Goals as goal
 
-pub returns : goal.returns
-returns c = (
-  c.in-Running.running,
-  c.give_back.new.self,
-  c.in-Running.is,
-  refl,
-  subst (λ (n : ℕ). c.args.place < n) c.signals.ensures c.if-place-signals.false,
-  subst (λ (d : Computation Load). DeliversSignal c.in-Running.running c.args.place d) (sym c.give_back.ensures) c.signal.ensures,
-)
+pub returns-clause-delivers : goal.returns-clause-delivers
+returns-clause-delivers c =
+    λ (nodes : List Expr).
+    let d = c.in-Running.running in (
+      shown nodes c.args.stage.now d c.in-Running.is,
+      named_with (load_at nodes) c.give_back.new.self,
+      shows nodes c.args.stage.now d c.in-Running.is,
+      refl,
+      subst (λ (n : ℕ). c.args.place < n) c.signals.ensures c.if-place-signals.false,
+      delivers-named (load_at nodes) d c.give_back.new.self c.args.place (subst (λ (e : Computation NumberedLoad). DeliversSignal d c.args.place e) (sym c.give_back.ensures) c.signal.ensures),
+    )

@@ -1,7 +1,40 @@
 -- The letter that was taken is in hand.
+use Rattle.std.proofs.Common.{◌∙◌, List, ap, sym, subst, true}
+use Rattle.std.specs.Option.{option_map}
+use Rattle.credential_text.specs.declared.exprs.Expr.{Expr}
+use Rattle.scholten_core.specs.Computation.{Computation}
+use Rattle.scholten_core.specs.Named.{letter_with, named_with}
+use Rattle.scholten_core.proofs.Named.{by_number-named, letter_of-named, letter_says, marked_say, takes-named}
+use Rattle.search.specs.declared.letters.NumberedLoad.{NumberedLoad}
+use Rattle.search.specs.Numbered.{AreLetters, IsLoad, load_at, stage_at}
 use Rattle.search.proofs.InHand.{holds_taken}
+use Rattle.search.proofs.Numbered.{shown, shows, loads_shown, past_waiting}
 use Rattle.search.proofs.stages.hold.Goals as goal
 
-pub returns : goal.returns
-returns c =
-    holds_taken c.args.stage.now c.in-Running.running c.take-number.new.self c.args.place c.take-number.result c.in_ok-letter.letter.now c.in-Running.is c.take-number.ensures c.in_ok-letter.ensures.letter c.in_ok-letter.ensures.by_number
+pub returns-then-place-waiting-clause-held : goal.returns-then-place-waiting-clause-held
+returns-then-place-waiting-clause-held c =
+    λ (nodes : List Expr). (past_waiting nodes c.args.stage.now c.in-Running.running c.in-Running.is c.args.place c.waiting.result c.waiting.ensures c.if-place-waiting.true, ap (stage_at nodes) (sym c.in-Running.is))
+
+pub returns-clause-held : goal.returns-clause-held
+returns-clause-held c =
+    λ (nodes : List Expr).
+    let st = c.args.stage.now in
+    let d = c.in-Running.running in
+    let e = c.take-number.new.self in
+    holds_taken (stage_at nodes st) (shown nodes st d c.in-Running.is) (named_with (load_at nodes) e) c.args.place c.take-number.result (letter_with (load_at nodes) c.in_ok-letter.letter.now) (shows nodes st d c.in-Running.is)
+    (takes-named (load_at nodes) d e c.args.place c.take-number.result c.take-number.ensures)
+    (ap (option_map (letter_with (load_at nodes))) c.in_ok-letter.ensures.letter ∙ sym (letter_of-named (load_at nodes) e c.take-number.result))
+    (by_number-named (load_at nodes) e c.take-number.ensures.sound)
+
+pub returns-clause-loads : goal.returns-clause-loads
+returns-clause-loads c =
+    λ (nodes : List Expr) are.
+    subst (λ (e : Computation NumberedLoad). AreLetters nodes e.letters) (sym c.take-number.ensures.marked)
+    (marked_say (IsLoad nodes) c.in-Running.running c.take-number.result true (loads_shown nodes c.args.stage.now c.in-Running.running c.in-Running.is are))
+
+pub returns-clause-load : goal.returns-clause-load
+returns-clause-load c =
+    λ (nodes : List Expr) are.
+    let all = subst (λ (e : Computation NumberedLoad). AreLetters nodes e.letters) (sym c.take-number.ensures.marked)
+    (marked_say (IsLoad nodes) c.in-Running.running c.take-number.result true (loads_shown nodes c.args.stage.now c.in-Running.running c.in-Running.is are)) in
+    letter_says (IsLoad nodes) c.take-number.new.self c.take-number.result c.in_ok-letter.letter.now all (sym c.in_ok-letter.ensures.letter)

@@ -1,8 +1,32 @@
 -- Where no letter is left and no signal is under way, nothing is outstanding.
-use Rattle.search.proofs.InHand.{settles}
+use Rattle.std.proofs.Common.{List, ◌∙◌, sym, arith, eq-eqb}
+use Rattle.std.proofs.lemmas.Map.Views.{exact_unsigned_eq}
+use Rattle.credential_text.specs.declared.exprs.Expr.{Expr}
+use Rattle.search.proofs.Numbered.{none_waits, waits_none, no_signal, signals_none, settles_shown}
 use Rattle.search.proofs.stages.nothing_moves.Goals as goal
+
+pub returns-then-waiting-eq0-clause-quiet : goal.returns-then-waiting-eq0-clause-quiet
+returns-then-waiting-eq0-clause-quiet c =
+    λ (nodes : List Expr).
+    let st = c.args.stage.now in
+    let d = c.in-Running.running in
+    let is = c.in-Running.is in (
+      λ none. (none_waits nodes st d is (omega (arith, c.if-waiting-eq0.true, c.waiting.ensures)), no_signal nodes st d is (sym c.signals.ensures ∙ exact_unsigned_eq c.signals.result 0 none)),
+      λ quiet. eq-eqb c.signals.result 0 (c.signals.ensures ∙ signals_none nodes st d is quiet.1),
+    )
+
+pub returns-else-waiting-eq0-clause-quiet : goal.returns-else-waiting-eq0-clause-quiet
+returns-else-waiting-eq0-clause-quiet c =
+    λ (nodes : List Expr).
+    let none = waits_none nodes c.args.stage.now c.in-Running.running c.in-Running.is in (
+      λ no_letter. absurd (c.if-waiting-eq0.false (exact_unsigned_eq c.waiting.result 0 no_letter)),
+      λ quiet. eq-eqb c.waiting.result 0 (c.waiting.ensures ∙ none quiet.0),
+    )
 
 pub returns-then-waiting-eq0-clause-settled : goal.returns-then-waiting-eq0-clause-settled
 returns-then-waiting-eq0-clause-settled c =
-    settles c.args.stage.now c.in-Running.running c.in-Running.is
-    (λ letters signals. c.is_complete.ensures.complete.0 (c.is_complete.ensures.never_stuck letters signals))
+    λ (nodes : List Expr). settles_shown nodes c.args.stage.now c.in-Running.running c.in-Running.is (λ letters signals. c.is_complete.ensures.complete.0 (c.is_complete.ensures.never_stuck letters signals))
+
+pub returns-else-waiting-eq0-clause-settled : goal.returns-else-waiting-eq0-clause-settled
+returns-else-waiting-eq0-clause-settled c =
+    λ (nodes : List Expr). settles_shown nodes c.args.stage.now c.in-Running.running c.in-Running.is (λ letters signals. c.is_complete.ensures.complete.0 (c.is_complete.ensures.never_stuck letters signals))

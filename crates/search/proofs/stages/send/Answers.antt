@@ -1,24 +1,45 @@
 -- The letters sent with these are compared with the work limit.
-use Rattle.std.proofs.Common.{◌≤◌, ◌≡◌, ◌∙◌, refl, sym, subst, length, arith}
+use Rattle.std.proofs.Common.{List, ◌≤◌, ◌≡◌, ◌∙◌, refl, sym, subst, length, arith}
+use Rattle.credential_text.specs.declared.exprs.Expr.{Expr}
 use Rattle.scholten_core.specs.Computation.{Computation}
+use Rattle.scholten_core.specs.Named.{named_with}
+use Rattle.scholten_core.proofs.Named.{finishes_say, finishing-named}
 use Rattle.search.specs.declared.letters.Load.{Load}
-use Rattle.search.proofs.Holding.{same_running}
+use Rattle.search.specs.Numbered.{IsLoad, load_at}
+use Rattle.search.proofs.Numbered.{held_shown, loads_shown, outs_count, shown, shown_is, shows}
 use Rattle.search.proofs.stages.send.Goals as goal
 
-pub returns-then-work-sent : goal.returns-then-work-sent
-returns-then-work-sent c =
-    let within : c.in-Running.running.sent ≤ c.args.work = subst (λ (d : Computation Load). d.sent ≤ c.args.work) (same_running c.requires.0 c.in-Running.running (sym c.requires.1 ∙ c.in-Running.is)) c.requires.3 in
-    let count : c.len.result ≡ length c.args.outs.now.items = c.len.ensures ∙ c.args.outs.now.ok.0 in
-    (c.in-Running.running, c.in-Running.is, omega (arith, c.if-work-sent.true, c.sent.ensures), refl)
+pub finish_with-requires-clause-held : goal.finish_with-requires-clause-held
+finish_with-requires-clause-held c = held_shown c.requires.0 c.args.stage.now c.in-Running.running c.in-Running.is c.requires.1 c.args.number c.requires.2 c.requires.3
 
-pub returns-in-Ok : goal.returns-in-Ok
-returns-in-Ok c =
-    let within : c.in-Running.running.sent ≤ c.args.work = subst (λ (d : Computation Load). d.sent ≤ c.args.work) (same_running c.requires.0 c.in-Running.running (sym c.requires.1 ∙ c.in-Running.is)) c.requires.3 in
+pub returns-then-work-sent-clause-sends : goal.returns-then-work-sent-clause-sends
+returns-then-work-sent-clause-sends c =
+    λ (nodes : List Expr).
+    let within : c.in-Running.running.sent ≤ c.args.work = subst (λ (d : Computation Load). d.sent ≤ c.args.work) (sym (shown_is c.requires.0 c.args.stage.now c.in-Running.running c.in-Running.is c.requires.1 c.requires.2)) c.requires.4 in
     let count : c.len.result ≡ length c.args.outs.now.items = c.len.ensures ∙ c.args.outs.now.ok.0 in
-    (c.in-Running.running, c.finish_with.new.self, c.in-Running.is, refl, omega (arith, c.if-work-sent.false, c.sent.ensures), c.in-Ok.ensures.finished)
+    (shown nodes c.args.stage.now c.in-Running.running c.in-Running.is, shows nodes c.args.stage.now c.in-Running.running c.in-Running.is, omega (arith, c.if-work-sent.true, c.sent.ensures, outs_count nodes c.args.outs.now.items), refl)
 
-pub returns-in-Err : goal.returns-in-Err
-returns-in-Err c =
-    let within : c.in-Running.running.sent ≤ c.args.work = subst (λ (d : Computation Load). d.sent ≤ c.args.work) (same_running c.requires.0 c.in-Running.running (sym c.requires.1 ∙ c.in-Running.is)) c.requires.3 in
+pub returns-in-Ok-clause-sends : goal.returns-in-Ok-clause-sends
+returns-in-Ok-clause-sends c =
+    λ (nodes : List Expr).
+    let within : c.in-Running.running.sent ≤ c.args.work = subst (λ (d : Computation Load). d.sent ≤ c.args.work) (sym (shown_is c.requires.0 c.args.stage.now c.in-Running.running c.in-Running.is c.requires.1 c.requires.2)) c.requires.4 in
+    let count : c.len.result ≡ length c.args.outs.now.items = c.len.ensures ∙ c.args.outs.now.ok.0 in (
+      shown nodes c.args.stage.now c.in-Running.running c.in-Running.is,
+      named_with (load_at nodes) c.finish_with.new.self,
+      shows nodes c.args.stage.now c.in-Running.running c.in-Running.is,
+      refl,
+      omega (arith, c.if-work-sent.false, c.sent.ensures, outs_count nodes c.args.outs.now.items),
+      finishing-named (load_at nodes) c.in-Running.running c.finish_with.new.self c.args.number c.args.outs.now.items c.in-Ok.ensures.finished,
+    )
+
+pub returns-in-Ok-clause-loads : goal.returns-in-Ok-clause-loads
+returns-in-Ok-clause-loads c =
+    λ (nodes : List Expr) are outs.
+    finishes_say (IsLoad nodes) c.in-Running.running c.finish_with.new.self c.args.number c.args.outs.now.items c.in-Ok.ensures.finished (loads_shown nodes c.args.stage.now c.in-Running.running c.in-Running.is are) outs
+
+pub returns-in-Err-clause-sends : goal.returns-in-Err-clause-sends
+returns-in-Err-clause-sends c =
+    λ (nodes : List Expr).
+    let within : c.in-Running.running.sent ≤ c.args.work = subst (λ (d : Computation Load). d.sent ≤ c.args.work) (sym (shown_is c.requires.0 c.args.stage.now c.in-Running.running c.in-Running.is c.requires.1 c.requires.2)) c.requires.4 in
     let count : c.len.result ≡ length c.args.outs.now.items = c.len.ensures ∙ c.args.outs.now.ok.0 in
-    (c.in-Running.running, c.in-Running.is, omega (arith, c.if-work-sent.false, c.sent.ensures), refl)
+    (shown nodes c.args.stage.now c.in-Running.running c.in-Running.is, shows nodes c.args.stage.now c.in-Running.running c.in-Running.is, omega (arith, c.if-work-sent.false, c.sent.ensures, outs_count nodes c.args.outs.now.items), refl)

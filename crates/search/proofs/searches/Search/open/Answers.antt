@@ -1,11 +1,21 @@
 -- A new search keeps what it has to.
-use Rattle.std.proofs.Common.{◌∙◌, ap}
+use Rattle.std.proofs.Common.{◌∙◌, ap, sym, subst}
 use Rattle.std.specs.Arc.{arc_value}
+use Rattle.scholten_core.specs.Computation.{Computation}
+use Rattle.scholten_core.specs.Named.{named_with}
+use Rattle.search.specs.declared.letters.NumberedLoad.{NumberedLoad}
 use Rattle.search.specs.declared.stages.Stage.TheVariants as stage
+use Rattle.search.specs.Answers.{Progress}
+use Rattle.search.specs.Numbered.{AreLetters, load_at}
 use Rattle.search.proofs.Searching.{first_graph, opened_kept}
+use Rattle.search.proofs.Numbered.{start_says}
 use Rattle.search.proofs.searches.Search.open.Goals as goal
 
 pub invariant_of-result : goal.invariant_of-result
 invariant_of-result c =
-    opened_kept (record { query = c.args.query; work = c.args.work; snapshot = arc_value c.args.snapshot; graph = c.in_ok-found.found.graph; monitors = c.in_ok-found.found.monitors.items; stage = stage.Running c.in_ok-running.running })
-    (c.in_ok-found.ensures.graph ∙ ap first_graph c.role.ensures) c.in_ok-found.ensures.monitors (ap stage.Running c.in_ok-running.ensures.started) c.requires c.in_ok-found.ensures.laws
+    let found = c.in_ok-found.found in
+    let runs = ap (λ (d : Computation NumberedLoad). stage.Running (named_with (load_at found.graph.nodes) d)) c.in_ok-running.ensures.started in (
+      opened_kept (record { query = c.args.query; work = c.args.work; snapshot = arc_value c.args.snapshot; graph = found.graph; monitors = found.monitors; stage = stage.Running (named_with (load_at found.graph.nodes) c.in_ok-running.running) })
+          (ap (λ (s : Progress). s.graph) c.in_ok-found.ensures.found ∙ ap first_graph c.role.ensures) (ap (λ (s : Progress). s.monitors) c.in_ok-found.ensures.found) runs c.requires c.in_ok-found.ensures.laws,
+      subst (λ (d : Computation NumberedLoad). AreLetters found.graph.nodes d.letters) (sym c.in_ok-running.ensures.started) (start_says found.graph.nodes 0),
+    )

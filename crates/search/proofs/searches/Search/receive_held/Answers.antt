@@ -1,78 +1,133 @@
 -- A held letter is awaited by its receiver, whose receipt keeps what a search keeps.
-use Rattle.std.proofs.Common.{ℕ, ◌≡◌, refl, sym, subst, []}
+use Rattle.std.proofs.Common.{◌≡◌, refl, sym, subst, ap, []}
 use Rattle.vaults.specs.Journal.{credentials}
 use Rattle.snapshots.specs.Snapshot.{SnapshotState, IsOrdered}
+use Rattle.cred_graph.specs.GraphState.{GraphState}
+use Rattle.search.specs.declared.letters.Load.{Load}
 use Rattle.search.specs.declared.letters.Held.{Held}
+use Rattle.search.specs.declared.stages.Stage.{Stage}
 use Rattle.search.specs.declared.stages.Stage.TheVariants as stage
 use Rattle.search.specs.Net.{sent_of}
 use Rattle.search.specs.Receipt.{Awaits}
-use Rattle.search.specs.Answers.{progress, Answers}
-use Rattle.search.specs.Stage.{HoldsLetter, letter_in}
-use Rattle.search.specs.Search.{SearchState, asked_role}
+use Rattle.search.specs.Answers.{Progress, progress, Answers}
+use Rattle.search.specs.Stage.{HoldsLetter, Sends, letter_in}
+use Rattle.search.specs.Search.{SearchState, IsKept, asked_role}
 use Rattle.search.specs.Finish.{Receives}
+use Rattle.search.specs.Numbered.{IsLoad, IsStage, held_at, load_at, stage_at}
 use Rattle.search.specs.contracts.searches.Search.{the_view}
+use Rattle.search.proofs.Arms.{node_in}
 use Rattle.search.proofs.Searching.{held_awaits, broken_kept}
 use Rattle.search.proofs.Answered.{held_outstanding}
 use Rattle.search.proofs.Ended.{same_question, settles}
 use Rattle.search.proofs.Finishing.{held_letter_is, sent_receives, sent_kept}
+use Rattle.search.proofs.Numbered.{HasMore, answers_more, more_stage, more_stage_same}
 use Rattle.search.proofs.searches.Search.receive_held.Goals as goal
-use Rattle.search.proofs.searches.Search.receive_held.Goals.{After-send}
+use Rattle.search.proofs.searches.Search.receive_held.Goals.{After-clear, After-send_found}
 
--- the letter is in hand
-in_hand : (s x : SearchState) (number : ℕ) (h : Held) → s ≡ x → HoldsLetter x.stage number h → HoldsLetter s.stage number h
-in_hand s x number h same = subst (λ (y : SearchState). HoldsLetter y.stage number h) (sym same)
+-- the letter in hand, in words
+abbrev in_words : (c : After-clear) → Held Load
+in_words c = held_at c.self.inside.found.graph.nodes c.args.held.now
+
+in_hand : (c : After-clear) → HoldsLetter (the_view c.self.inside).stage c.args.letter (in_words c)
+in_hand c = subst (λ (x : SearchState). HoldsLetter x.stage c.args.letter (held_at x.graph.nodes c.args.held.now)) (sym c.self.view_is) c.requires.held
+
+pub receive-received-requires-clause-load : goal.receive-received-requires-clause-load
+receive-received-requires-clause-load c =
+    subst (λ (x : Progress). IsLoad x.graph.nodes c.args.held.now.load) (sym c.clear.ensures)
+    (subst (λ (x : SearchState). IsLoad x.graph.nodes c.args.held.now.load) (sym c.self.view_is) c.requires.load)
+
+pub receive-received-requires-clause-none : goal.receive-received-requires-clause-none
+receive-received-requires-clause-none c = ap (λ (x : Progress). x.outs) c.clear.ensures
 
 pub receive-received-requires-clause-awaits : goal.receive-received-requires-clause-awaits
 receive-received-requires-clause-awaits c =
-    let s = the_view c.self.inside in
-    let h = c.args.held.now in
-    let held = in_hand s c.args.self.now c.args.letter h c.self.view_is c.requires.held in (
+    let after = (goal.at.receive-received-requires-clause-awaits c).After-clear in
+    let h = in_words after in
+    let held = in_hand after in (
       asked_role c.self.inside.query,
       sent_of held.running.letters,
-      subst (λ (v : SnapshotState). Awaits (credentials v.vaults) (asked_role c.self.inside.query) c.self.inside.found.graph c.self.inside.found.monitors.items (sent_of held.running.letters) h.from h.to h.load)
-          (sym c.deref-2.ensures) (held_awaits s c.self.invariant.rules c.args.letter h held),
+      subst (λ (v : SnapshotState). Awaits (credentials v.vaults) (asked_role c.self.inside.query) c.clear.new.self.graph c.clear.new.self.monitors (sent_of held.running.letters) h.from h.to (load_at c.clear.new.self.graph.nodes c.args.held.now.load)) (sym c.deref-2.ensures)
+          (subst (λ (x : Progress). Awaits (credentials (the_view c.self.inside).snapshot.vaults) (asked_role c.self.inside.query) x.graph x.monitors (sent_of held.running.letters) h.from h.to (load_at x.graph.nodes c.args.held.now.load)) (sym c.clear.ensures)
+          (held_awaits (the_view c.self.inside) c.self.invariant.0.rules c.args.letter h held)),
     )
 
-pub send-requires : goal.send-requires
-send-requires c =
-    let held = in_hand (the_view c.self.inside) c.args.self.now c.args.letter c.args.held.now c.self.view_is c.requires.held in
-    (held.running, held.runs, held.held, (c.self.invariant.rules held.running held.runs).within)
+pub send_found-requires : goal.send_found-requires
+send_found-requires c =
+    let held = in_hand (goal.at.send_found-requires c).After-clear in
+    (c.self.inside.found.graph.nodes, held.running, held.runs, held.held, (c.self.invariant.0.rules held.running held.runs).within)
 
--- the receipt's row, by what the search reads
-row : (c : After-send) → Answers (the_view c.self.inside).snapshot.vaults (progress c.self.inside.found.graph c.self.inside.found.monitors.items []) (progress c.receive-received.new.found.graph c.receive-received.new.found.monitors.items c.receive-received.new.outs.items) c.args.held.now.from c.args.held.now.to c.args.held.now.load
+-- the receipt's row, by what the search reads and in words
+row : (c : After-send_found) → Answers (the_view c.self.inside).snapshot.vaults (progress c.self.inside.found.graph c.self.inside.found.monitors []) c.receive-received.new.found c.args.held.now.from c.args.held.now.to (load_at c.self.inside.found.graph.nodes c.args.held.now.load)
 row c =
-    let h = c.args.held.now in
-    subst (λ (v : SnapshotState). Answers v.vaults (progress c.self.inside.found.graph c.self.inside.found.monitors.items []) (progress c.receive-received.new.found.graph c.receive-received.new.found.monitors.items c.receive-received.new.outs.items) h.from h.to h.load) c.deref-2.ensures c.in-Ok.ensures
+    let t = c.receive-received.new.found in
+    let k = c.args.held.now in
+    subst (λ (v : SnapshotState). Answers v.vaults (progress c.self.inside.found.graph c.self.inside.found.monitors []) t k.from k.to (load_at c.self.inside.found.graph.nodes k.load)) c.deref-2.ensures
+    (subst (λ (x : Progress). Answers c.deref-2.result.now.vaults (progress x.graph x.monitors []) t k.from k.to (load_at x.graph.nodes k.load)) c.clear.ensures c.in-Ok.ensures)
+
+-- nodes were added alone
+more : (c : After-send_found) → HasMore c.self.inside.found.graph.nodes c.receive-received.new.found.graph.nodes
+more c =
+    let s = the_view c.self.inside in
+    let h = held_at c.self.inside.found.graph.nodes c.args.held.now in
+    let held = subst (λ (x : SearchState). HoldsLetter x.stage c.args.letter (held_at x.graph.nodes c.args.held.now)) (sym c.self.view_is) c.requires.held in
+    answers_more s.snapshot.vaults (progress s.graph s.monitors []) c.receive-received.new.found h.from h.to h.load (node_in (held_awaits s c.self.invariant.0.rules c.args.letter h held)) (row c)
+
+-- what was sent, by what the stage is seen as
+sends : (c : After-send_found) → Sends (the_view c.self.inside).stage (stage_at c.receive-received.new.found.graph.nodes c.send_found.new.stage) (the_view c.self.inside).work c.args.letter c.receive-received.new.found.outs c.send_found.result
+sends c =
+    let nodes = c.receive-received.new.found.graph.nodes in
+    subst (λ (st : Stage). Sends st (stage_at nodes c.send_found.new.stage) c.self.inside.work c.args.letter c.receive-received.new.found.outs c.send_found.result)
+    (more_stage_same c.self.inside.found.graph.nodes nodes c.self.inside.stage (more c) c.self.invariant.1) c.send_found.ensures.sends
+
+-- what a search is seen as once the answers are sent
+abbrev sent_as : After-send_found → SearchState
+sent_as c = record (the_view c.self.inside) { graph = c.receive-received.new.found.graph; monitors = c.receive-received.new.found.monitors; stage = stage_at c.receive-received.new.found.graph.nodes c.send_found.new.stage }
+
+sent_is : (c : After-send_found) → record (the_view c.self.inside) { graph = c.send_found.new.found.graph; monitors = c.send_found.new.found.monitors; stage = stage_at c.send_found.new.found.graph.nodes c.send_found.new.stage } ≡ sent_as c
+sent_is c = λ i. record (the_view c.self.inside) { graph = c.send_found.ensures.findings.0 i; monitors = c.send_found.ensures.findings.1 i; stage = stage_at (c.send_found.ensures.findings.0 i).nodes c.send_found.new.stage }
+
+held_of : (c : After-send_found) → HoldsLetter (the_view c.self.inside).stage c.args.letter (held_at c.self.inside.found.graph.nodes c.args.held.now)
+held_of c = subst (λ (x : SearchState). HoldsLetter x.stage c.args.letter (held_at x.graph.nodes c.args.held.now)) (sym c.self.view_is) c.requires.held
+
+kept : (c : After-send_found) → IsKept (sent_as c)
+kept c =
+    let s = the_view c.self.inside in
+    let t = c.receive-received.new.found in
+    let ordered = subst (λ (v : SnapshotState). IsOrdered v.vaults) c.deref.ensures c.asker-asker.ensures.ordered in
+    sent_kept s c.args.letter (held_at c.self.inside.found.graph.nodes c.args.held.now) (held_of c) t.graph t.monitors t.outs (row c) c.self.invariant.0 ordered (sent_as c).stage c.send_found.result (sends c)
 
 pub invariant_of-self : goal.invariant_of-self
 invariant_of-self c =
-    let s = the_view c.self.inside in
-    let h = c.args.held.now in
-    let held = in_hand s c.args.self.now c.args.letter h c.self.view_is c.requires.held in
-    let ordered = subst (λ (v : SnapshotState). IsOrdered v.vaults) c.deref.ensures c.asker-asker.ensures.ordered in
-    sent_kept s c.args.letter h held c.receive-received.new.found.graph c.receive-received.new.found.monitors.items c.receive-received.new.outs.items (row c) c.self.invariant ordered c.send.new.stage c.send.result c.send.ensures
+    let after = (goal.at.invariant_of-self c).After-send_found in
+    let old = c.self.inside.found.graph.nodes in
+    let new = c.receive-received.new.found.graph.nodes in (
+      subst IsKept (sym (sent_is after)) (kept after),
+      subst (λ (g : GraphState). IsStage g.nodes c.send_found.new.stage) (sym c.send_found.ensures.findings.0) (c.send_found.ensures.loads (more_stage old new c.self.inside.stage (more after) c.self.invariant.1)),
+    )
 
 pub returns-in-Ok-clause-receives : goal.returns-in-Ok-clause-receives
 returns-in-Ok-clause-receives c =
+    let after = (goal.at.returns-in-Ok-clause-receives c).After-send_found in
     let s = the_view c.self.inside in
-    let h = c.args.held.now in
-    let held = in_hand s c.args.self.now c.args.letter h c.self.view_is c.requires.held in
-    subst (λ (x : SearchState). Receives x (record s { graph = c.receive-received.new.found.graph; monitors = c.receive-received.new.found.monitors.items; stage = c.send.new.stage }) c.args.letter (letter_in h) c.send.result) c.self.view_is
-    (sent_receives s c.args.letter h held c.receive-received.new.found.graph c.receive-received.new.found.monitors.items c.receive-received.new.outs.items (row c) c.send.new.stage c.send.result c.send.ensures)
+    let t = c.receive-received.new.found in
+    let received = sent_receives s c.args.letter (held_at c.self.inside.found.graph.nodes c.args.held.now) (held_of after) t.graph t.monitors t.outs (row after) (sent_as after).stage c.send_found.result (sends after) in
+    subst (λ (x : SearchState). Receives x (record s { graph = c.send_found.new.found.graph; monitors = c.send_found.new.found.monitors; stage = stage_at c.send_found.new.found.graph.nodes c.send_found.new.stage }) c.args.letter (letter_in (held_at x.graph.nodes c.args.held.now)) c.send_found.result) c.self.view_is
+    (subst (λ (x : SearchState). Receives s x c.args.letter (letter_in (held_at c.self.inside.found.graph.nodes c.args.held.now)) c.send_found.result) (sym (sent_is after)) received)
 
 pub returns-in-Ok-clause-settles : goal.returns-in-Ok-clause-settles
 returns-in-Ok-clause-settles c =
+    let after = (goal.at.returns-in-Ok-clause-settles c).After-send_found in
     let s = the_view c.self.inside in
-    let h = c.args.held.now in
-    let held = in_hand s c.args.self.now c.args.letter h c.self.view_is c.requires.held in
-    settles c.self.view_is (same_question s c.receive-received.new.found.graph c.receive-received.new.found.monitors.items c.send.new.stage) (invariant_of-self c)
-    (held_outstanding s.stage c.args.letter (letter_in h) (held_letter_is s.stage c.args.letter h held))
+    let h = held_at c.self.inside.found.graph.nodes c.args.held.now in
+    let t : SearchState = record s { graph = c.send_found.new.found.graph; monitors = c.send_found.new.found.monitors; stage = stage_at c.send_found.new.found.graph.nodes c.send_found.new.stage } in
+    settles c.self.view_is (same_question s t.graph t.monitors t.stage) (subst IsKept (sym (sent_is after)) (kept after))
+    (held_outstanding s.stage c.args.letter (letter_in h) (held_letter_is s.stage c.args.letter h (held_of after)))
 
 pub returns-in-Err-clause-settles : goal.returns-in-Err-clause-settles
 returns-in-Err-clause-settles c =
+    let after = (goal.at.returns-in-Err-clause-settles c).After-clear in
     let s = the_view c.self.inside in
-    let h = c.args.held.now in
-    let held = in_hand s c.args.self.now c.args.letter h c.self.view_is c.requires.held in
-    let t : SearchState = record s { graph = c.receive-received.new.found.graph; monitors = c.receive-received.new.found.monitors.items; stage = stage.Broken } in
+    let h = in_words after in
+    let t : SearchState = record s { graph = c.receive-received.new.found.graph; monitors = c.receive-received.new.found.monitors; stage = stage.Broken } in
     settles c.self.view_is (same_question s t.graph t.monitors stage.Broken) (broken_kept t refl)
-    (held_outstanding s.stage c.args.letter (letter_in h) (held_letter_is s.stage c.args.letter h held))
+    (held_outstanding s.stage c.args.letter (letter_in h) (held_letter_is s.stage c.args.letter h (in_hand after)))

@@ -1,0 +1,310 @@
+-- What the numbers in letters stand for goes on while nodes are added.
+use Rattle.std.proofs.Common.{ℕ, ◌+◌, ◌<◌, ◌≤◌, get_or, Option, None, MatchOption, length, arith, ◌≡◌, ◌∙◌, Some, map, take, slice_get, Bool, true, false, Contains, refl, sym, subst, ap, List, [], ◌∷◌, ◌++◌, inl, inr, append-nil, append_assoc}
+use Rattle.std.proofs.lemmas.List.Elements.{All-cons, All-nil, All-weaker, Contains-push_cases}
+use Rattle.std.specs.Option.{option_map}
+use Rattle.std.proofs.lemmas.Option.{slice_get-get_or, slice_get_past}
+use Rattle.std.proofs.lemmas.List.{length-append, length-map, length-set, nil_from_length}
+use Rattle.credential_text.specs.declared.exprs.Expr.{Expr}
+use Rattle.credential_text.specs.declared.exprs.Expr.TheVariants.{Ent, Rol, Link, Meet}
+use Rattle.credential_text.specs.declared.credentials.Credential.{Credential}
+use Rattle.vaults.specs.Journal.{Vault}
+use Rattle.cred_graph.specs.declared.listeners.Listening.{Listening}
+use Rattle.cred_graph.specs.declared.listeners.Port.{Port}
+use Rattle.cred_graph.specs.declared.listeners.Port.TheVariants as port
+use Rattle.cred_graph.specs.declared.solutions.Reason.{Reason}
+use Rattle.cred_graph.specs.declared.solutions.Reason.TheVariants as reason
+use Rattle.scholten_core.specs.declared.parents.Parent.{Parent}
+use Rattle.scholten_core.specs.declared.parents.Parent.TheVariants.{Neutral, Environment, Node}
+use Rattle.cred_graph.specs.GraphState.{GraphState, listed_at, listed_with}
+use Rattle.cred_graph.specs.Graph.{IsGraph, NodeGiven, ListenerGiven, SolutionGiven}
+use Rattle.cred_graph.specs.declared.reasons.NumberedReason.{NumberedReason}
+use Rattle.cred_graph.specs.declared.solutions.Solution.{Solution}
+use Rattle.cred_graph.specs.declared.ports.NumberedPort.{NumberedPort}
+use Rattle.cred_graph.specs.Numbers.{IsNamed, IsPort, entity_at, port_at, reason_at}
+use Rattle.cred_graph.proofs.Growth.{listed_at-pushed, listed_with_cases}
+use Rattle.cred_graph.proofs.NumberLemmas.{entity_goes_on, entity_stays, named_goes_on, port_goes_on, port_named, port_stays}
+use Rattle.scholten_core.specs.declared.letters.Letter.{Letter}
+use Rattle.scholten_core.specs.Computation.{Computation, IsHeld, outstanding, waiting}
+use Rattle.scholten_core.specs.Step.{started}
+use Rattle.scholten_core.specs.Named.{entry_with, named_with}
+use Rattle.scholten_core.proofs.Named.{held-unnamed, map_alike, named_alike, outstanding-named, waiting-named, waits-named}
+use Rattle.search.specs.Stage.{signals_in, waiting_in}
+use Rattle.search.specs.Quiet.{IsQuiet, NoneHeld}
+use Rattle.search.specs.Search.{IsOutstanding}
+use Rattle.search.proofs.Holding.{same_running}
+use Rattle.search.proofs.InHand.{settles}
+use Rattle.search.specs.declared.letters.Load.{Load}
+use Rattle.search.specs.declared.letters.Load.TheVariants as load
+use Rattle.search.specs.declared.letters.NumberedLoad.{NumberedLoad}
+use Rattle.search.specs.declared.letters.NumberedLoad.TheVariants as numbered
+use Rattle.search.specs.declared.letters.Held.{Held}
+use Rattle.search.specs.declared.stages.NumberedStage.{NumberedStage}
+use Rattle.search.specs.declared.stages.NumberedStage.TheVariants as numbered_stage
+use Rattle.search.specs.declared.stages.Stage.{Stage}
+use Rattle.search.specs.declared.stages.Stage.TheVariants as stage
+use Rattle.search.specs.declared.findings.Monitor.{Monitor}
+use Rattle.search.specs.Answers.{Progress, Answers, AsksFor, AsksEach, HearsAsk, Opens, Solves, TakesIn, own_rows, known_tells, new_monitor, new_tells, row_asks, part_asks}
+use Rattle.search.proofs.Loops.{sent_next}
+use Rattle.search.specs.Numbered.{AreLetters, AreLoads, AreNumbered, IsLoad, IsStage, held_at, load_at, outs_at, progress_at, stage_at}
+
+module _ (nodes more : List Expr) where
+  pub load_goes_on : (l : NumberedLoad) → IsLoad nodes l → IsLoad (nodes ++ more) l
+  load_goes_on numbered.Start is = tt
+  load_goes_on (numbered.Ask p) is = port_goes_on nodes more p is
+  load_goes_on (numbered.Tell p k) is = (port_goes_on nodes more p is.0, entity_goes_on nodes more k is.1)
+
+  pub load_stays : (l : NumberedLoad) → IsLoad nodes l → load_at (nodes ++ more) l ≡ load_at nodes l
+  load_stays numbered.Start is = refl
+  load_stays (numbered.Ask p) is = ap load.Ask (port_stays nodes more p is)
+  load_stays (numbered.Tell p k) is = λ i. load.Tell (port_stays nodes more p is.0 i) (entity_stays nodes more k is.1 i)
+
+  pub loads_go_on : (outs : List (ℕ × NumberedLoad)) → AreLoads nodes outs → AreLoads (nodes ++ more) outs
+  loads_go_on outs are = All-weaker (λ (o : ℕ × NumberedLoad). IsLoad nodes o.1) (λ o. IsLoad (nodes ++ more) o.1) (λ o is. load_goes_on o.1 is) outs are
+
+  pub outs_stay : (outs : List (ℕ × NumberedLoad)) → AreLoads nodes outs → outs_at (nodes ++ more) outs ≡ outs_at nodes outs
+  outs_stay outs are =
+      map_alike (λ (o : ℕ × NumberedLoad). (o.0, load_at (nodes ++ more) o.1)) (λ o. (o.0, load_at nodes o.1)) (λ o. IsLoad nodes o.1) (λ o is i. (o.0, load_stays o.1 is i)) outs are
+
+  pub stage_goes_on : (st : NumberedStage) → IsStage nodes st → IsStage (nodes ++ more) st
+  stage_goes_on (numbered_stage.Running c) are =
+      All-weaker (λ (l : ℕ × Letter NumberedLoad). IsLoad nodes l.1.load) (λ l. IsLoad (nodes ++ more) l.1.load) (λ l is. load_goes_on l.1.load is) c.letters are
+  stage_goes_on numbered_stage.Spent are = tt
+  stage_goes_on numbered_stage.Broken are = tt
+
+  pub stage_stays : (st : NumberedStage) → IsStage nodes st → stage_at (nodes ++ more) st ≡ stage_at nodes st
+  stage_stays (numbered_stage.Running c) are =
+      ap stage.Running (named_alike (load_at (nodes ++ more)) (load_at nodes) (IsLoad nodes) load_stays c are)
+  stage_stays numbered_stage.Spent are = refl
+  stage_stays numbered_stage.Broken are = refl
+
+-- a node is added
+pub numbered_with_node : (g : GraphState) (e : Expr) (outs : List (ℕ × NumberedLoad)) → AreNumbered g outs → AreNumbered (record g { nodes = g.nodes ++ e ∷ []; listeners = g.listeners ++ [] ∷ [] }) outs
+numbered_with_node g e outs are = record {
+  loads = loads_go_on g.nodes (e ∷ []) outs are.loads;
+  ports = λ n l listens. named_goes_on g.nodes (e ∷ []) l.port (are.ports n l (subst (λ ls. Contains ls l) (listed_at-pushed g.listeners n) listens));
+}
+
+-- nodes are added alone
+abbrev pub HasMore : List Expr → List Expr → Type 0
+HasMore old new = (more : List Expr) × (new ≡ old ++ more)
+
+same_nodes : (s t : Progress) → t.graph.nodes ≡ s.graph.nodes → HasMore s.graph.nodes t.graph.nodes
+same_nodes s t same = ([], same ∙ sym (append-nil s.graph.nodes))
+
+then_more : (a b c : List Expr) → HasMore a b → HasMore b c → HasMore a c
+then_more a b c (x, ab) (y, bc) = (x ++ y, bc ∙ ap (λ l. l ++ y) ab ∙ append_assoc a x y)
+
+ask_more : (s t : Progress) (e : Expr) (p : Port) → AsksFor s t e p → HasMore s.graph.nodes t.graph.nodes
+ask_more s t e p (to, outs, inl (node, graph, monitors)) = same_nodes s t (ap (λ (g : GraphState). g.nodes) graph)
+ask_more s t e p (to, outs, inr (absent, range, is, graph, monitors)) = (e ∷ [], ap (λ (g : GraphState). g.nodes) graph)
+
+asks_more : (ws : List (Expr × Port)) (s t : Progress) → AsksEach s ws t → HasMore s.graph.nodes t.graph.nodes
+asks_more [] s t same = same_nodes s t (ap (λ (u : Progress). u.graph.nodes) same)
+asks_more (w ∷ ws) s t (mid, first, later) =
+    then_more s.graph.nodes mid.graph.nodes t.graph.nodes (ask_more s mid w.0 w.1 first) (asks_more ws mid t later)
+
+pub opens_more : (rows : List Credential) (s t : Progress) (n : ℕ) (e : Expr) → Opens rows s t n e → HasMore s.graph.nodes t.graph.nodes
+opens_more rows s t n (Ent d) (monitors, inl had) = same_nodes s t (ap (λ (g : GraphState). g.nodes) had.1)
+opens_more rows s t n (Ent d) (monitors, inr new) = same_nodes s t (ap (λ (g : GraphState). g.nodes) new.1)
+opens_more rows s t n (Rol r) step = asks_more (row_asks rows) s t step
+opens_more rows s t n (Link r name) step = asks_more ((Rol r, port.Base) ∷ []) s t step
+opens_more rows s t n (Meet parts) step = asks_more (part_asks 0 parts) s t step
+
+pub numbered_given : (g h : GraphState) (e : Expr) (n : ℕ) (b : Bool) (outs : List (ℕ × NumberedLoad)) → NodeGiven g h e n b → AreNumbered g outs → AreNumbered h outs
+numbered_given g h e n true outs (absent, range, is, with) are = subst (λ x. AreNumbered x outs) (sym with) (numbered_with_node g e outs are)
+numbered_given g h e n false outs (node, same) are = subst (λ x. AreNumbered x outs) (sym same) are
+
+-- the new node is asked, where the letters before it stay what they are
+pub asks_new : (s t : Progress) (g h : GraphState) (ms ms' : List Monitor) (outs : List (ℕ × NumberedLoad)) (e : Expr) (n : ℕ) (p : NumberedPort) → progress_at g ms outs ≡ s → AreNumbered g outs → IsPort g.nodes p →
+    NodeGiven g h e n true → ms' ≡ ms ++ new_monitor e ∷ [] → t ≡ record (progress_at h ms' outs) { outs = outs_at h.nodes outs ++ (n, load.Ask (port_at h.nodes p)) ∷ [] } → AsksFor s t e (port_at s.graph.nodes p)
+asks_new s t g h ms ms' outs e n p is are port (absent, range, at, with) monitors done =
+    subst (λ (x : Progress). AsksFor x t e (port_at x.graph.nodes p)) is (
+      n,
+      ap (λ (x : Progress). x.outs) done ∙ ap (λ (k : GraphState). outs_at k.nodes outs ++ (n, load.Ask (port_at k.nodes p)) ∷ []) with ∙ (λ i. outs_stay g.nodes (e ∷ []) outs are.loads i ++ (n, load.Ask (port_stays g.nodes (e ∷ []) p port i)) ∷ []),
+      inr (absent, range, at, ap (λ (x : Progress). x.graph) done ∙ with, ap (λ (x : Progress). x.monitors) done ∙ monitors),
+    )
+
+pub asks_old : (s t : Progress) (g h : GraphState) (ms : List Monitor) (outs : List (ℕ × NumberedLoad)) (e : Expr) (n : ℕ) (p : NumberedPort) → progress_at g ms outs ≡ s →
+    NodeGiven g h e n false → t ≡ record (progress_at h ms outs) { outs = outs_at h.nodes outs ++ (n, load.Ask (port_at h.nodes p)) ∷ [] } → AsksFor s t e (port_at s.graph.nodes p)
+asks_old s t g h ms outs e n p is (node, same) done =
+    subst (λ (x : Progress). AsksFor x t e (port_at x.graph.nodes p)) is (
+      n,
+      ap (λ (x : Progress). x.outs) done ∙ ap (λ (k : GraphState). outs_at k.nodes outs ++ (n, load.Ask (port_at k.nodes p)) ∷ []) same,
+      inl (node, ap (λ (x : Progress). x.graph) done ∙ same, ap (λ (x : Progress). x.monitors) done),
+    )
+
+pub port_given : (g h : GraphState) (e : Expr) (n : ℕ) (b : Bool) (p : NumberedPort) → NodeGiven g h e n b → IsPort g.nodes p → IsPort h.nodes p
+port_given g h e n true p (absent, range, is, with) port = subst (λ (x : GraphState). IsPort x.nodes p) (sym with) (port_goes_on g.nodes (e ∷ []) p port)
+port_given g h e n false p (node, same) port = subst (λ (x : GraphState). IsPort x.nodes p) (sym same) port
+
+-- one more letter was sent of those that tell each element of a list of the graph
+pub tells_on : {A : Type 0} (f : GraphState → A → ℕ × Load) (xs : GraphState → List A) (x : GraphState → A) (s now mid next : Progress) (k : ℕ) → now ≡ record s { outs = s.outs ++ take k (map (f s.graph) (xs s.graph)) } → mid ≡ now →
+    slice_get (xs mid.graph) k ≡ Some (x mid.graph) → next ≡ record now { outs = now.outs ++ f now.graph (x now.graph) ∷ [] } → next ≡ record s { outs = s.outs ++ take (k + 1) (map (f s.graph) (xs s.graph)) }
+tells_on f xs x s now mid next k so_far is at done =
+    done ∙ ap (λ (u : Progress). record u { outs = u.outs ++ f u.graph (x u.graph) ∷ [] }) so_far
+    ∙ ap (λ (os : List (ℕ × Load)). record s { outs = os }) (sent_next (f s.graph) (xs s.graph) k (x s.graph) s.outs (s.outs ++ take k (map (f s.graph) (xs s.graph))) (subst (λ (u : Progress). slice_get (xs u.graph) k ≡ Some (x u.graph)) (is ∙ so_far) at) refl)
+
+-- a listener is added, on a port whose number is an entity's
+pub numbered_listened : (g h : GraphState) (n m : ℕ) (p : NumberedPort) (b : Bool) (outs : List (ℕ × NumberedLoad)) → ListenerGiven g h n (record { asker = m; port = port_at g.nodes p }) b → n < length g.nodes → IsGraph h → IsPort g.nodes p → AreNumbered g outs → AreNumbered h outs
+numbered_listened g h n m p false outs (listens, same) node graph port are = subst (λ (k : GraphState). AreNumbered k outs) (sym same) are
+numbered_listened g h n m p true outs (new, with) node graph port are =
+    subst (λ (k : GraphState). AreNumbered k outs) (sym with) (record { loads = are.loads; ports = ports })
+  where
+    added : Listening
+    added = record { asker = m; port = port_at g.nodes p }
+
+    list_there : n < length g.listeners
+    list_there =
+        let lists : length (listed_with g.listeners n added) ≡ length g.nodes = ap (λ (k : GraphState). length k.listeners) (sym with) ∙ graph.one_list_each ∙ ap (λ (k : GraphState). length k.nodes) with in
+        omega (arith, node, lists, length-set g.listeners n (listed_at g.listeners n ++ added ∷ []))
+
+    ports : (k : ℕ) (l : Listening) → Contains (listed_at (listed_with g.listeners n added) k) l → IsNamed g.nodes l.port
+    ports k l listens =
+        elim (listed_with_cases g.listeners n added k list_there) [
+          | inl here ↦ elim (Contains-push_cases (listed_at g.listeners k) added l (subst (λ ls. Contains ls l) here.1 listens)) [
+            | inl before ↦ are.ports k l before
+            | inr this ↦ subst (λ (x : Listening). IsNamed g.nodes x.port) this (port_named g.nodes p port)
+          ]
+          | inr other ↦ are.ports k l (subst (λ ls. Contains ls l) other listens)
+        ]
+
+pub numbered_solved : (g h : GraphState) (s : Solution) (b : Bool) (outs : List (ℕ × NumberedLoad)) → SolutionGiven g h s b → AreNumbered g outs → AreNumbered h outs
+numbered_solved g h s false outs (has, same) are = subst (λ (k : GraphState). AreNumbered k outs) (sym same) are
+numbered_solved g h s true outs (new, with) are =
+    subst (λ (k : GraphState). AreNumbered k outs) (sym with) (record { loads = are.loads; ports = are.ports })
+
+module _ (s : Progress) (g h : GraphState) (ms : List Monitor) (outs : List (ℕ × NumberedLoad)) (is : progress_at g ms outs ≡ s) where
+  pub hears_old : (n m : ℕ) (p : NumberedPort) → ListenerGiven g h n (record { asker = m; port = port_at g.nodes p }) false → HearsAsk s (progress_at h ms outs) n m (port_at s.graph.nodes p)
+  hears_old n m p (listens, same) =
+      subst (λ (x : Progress). HearsAsk x (progress_at h ms outs) n m (port_at x.graph.nodes p)) is (refl, inl (listens, same, ap (λ (k : GraphState). outs_at k.nodes outs) same))
+
+  pub hears_new : (t : Progress) (n m : ℕ) (p : NumberedPort) → ListenerGiven g h n (record { asker = m; port = port_at g.nodes p }) true →
+      t ≡ record (progress_at h ms outs) { outs = outs_at h.nodes outs ++ known_tells h n m (port_at h.nodes p) } → HearsAsk s t n m (port_at s.graph.nodes p)
+  hears_new t n m p (new, with) done =
+      subst (λ (x : Progress). HearsAsk x t n m (port_at x.graph.nodes p)) is (
+        ap (λ (x : Progress). x.monitors) done,
+        inr (new, ap (λ (x : Progress). x.graph) done ∙ with, ap (λ (x : Progress). x.outs) done ∙ ap (λ (k : GraphState). outs_at k.nodes outs ++ known_tells k n m (port_at k.nodes p)) with),
+      )
+
+  pub solves_old : (n k : ℕ) (r : NumberedReason) → SolutionGiven g h (record { node = n; who = entity_at g.nodes k; reason = reason_at g.nodes r }) false →
+      Solves s (progress_at h ms outs) n (entity_at s.graph.nodes k) (reason_at s.graph.nodes r)
+  solves_old n k r (has, same) =
+      subst (λ (x : Progress). Solves x (progress_at h ms outs) n (entity_at x.graph.nodes k) (reason_at x.graph.nodes r)) is (refl, inl (has, same, ap (λ (y : GraphState). outs_at y.nodes outs) same))
+
+  pub solves_new : (t : Progress) (n k : ℕ) (r : NumberedReason) → SolutionGiven g h (record { node = n; who = entity_at g.nodes k; reason = reason_at g.nodes r }) true →
+      t ≡ record (progress_at h ms outs) { outs = outs_at h.nodes outs ++ new_tells h n (entity_at h.nodes k) } → Solves s t n (entity_at s.graph.nodes k) (reason_at s.graph.nodes r)
+  solves_new t n k r (new, with) done =
+      subst (λ (x : Progress). Solves x t n (entity_at x.graph.nodes k) (reason_at x.graph.nodes r)) is (
+        ap (λ (x : Progress). x.monitors) done,
+        inr (new, ap (λ (x : Progress). x.graph) done ∙ with, ap (λ (x : Progress). x.outs) done ∙ ap (λ (y : GraphState). outs_at y.nodes outs ++ new_tells y n (entity_at y.nodes k)) with),
+      )
+
+-- a port stays what it is where nodes are added
+pub more_port : (old new : List Expr) (p : NumberedPort) → HasMore old new → IsPort old p → IsPort new p
+more_port old new p (more, with) port = subst (λ (nodes : List Expr). IsPort nodes p) (sym with) (port_goes_on old more p port)
+
+pub more_port_same : (old new : List Expr) (p : NumberedPort) → HasMore old new → IsPort old p → port_at new p ≡ port_at old p
+more_port_same old new p (more, with) port = ap (λ (nodes : List Expr). port_at nodes p) with ∙ port_stays old more p port
+
+-- where a search stands, by its computation of numbers
+module _ (nodes : List Expr) (st : NumberedStage) (d : Computation NumberedLoad) (runs : st ≡ numbered_stage.Running d) where
+  abbrev pub shown : Computation Load
+  shown = named_with (load_at nodes) d
+
+  pub shows : stage_at nodes st ≡ stage.Running shown
+  shows = ap (stage_at nodes) runs
+
+  -- what is shown to run
+  pub shown_is : (c : Computation Load) → stage_at nodes st ≡ stage.Running c → shown ≡ c
+  shown_is c is = same_running shown c (sym shows ∙ is)
+
+  pub held_shown : (c : Computation Load) (number : ℕ) → stage_at nodes st ≡ stage.Running c → IsHeld c number → IsHeld d number
+  held_shown c number is held = held-unnamed (load_at nodes) d number (subst (λ (x : Computation Load). IsHeld x number) (sym (shown_is c is)) held)
+
+  pub loads_shown : IsStage nodes st → AreLetters nodes d.letters
+  loads_shown are = subst (IsStage nodes) runs are
+
+  pub waiting_count : length (waiting_in (stage_at nodes st)) ≡ length (waiting d)
+  waiting_count = ap (λ (s : Stage). length (waiting_in s)) shows ∙ ap length (waiting-named (load_at nodes) d) ∙ length-map (waiting d) (entry_with (load_at nodes))
+
+  pub none_waits : length (waiting d) ≡ 0 → waiting_in (stage_at nodes st) ≡ []
+  none_waits none = nil_from_length (waiting_in (stage_at nodes st)) (waiting_count ∙ none)
+
+  pub waits_none : waiting_in (stage_at nodes st) ≡ [] → length (waiting d) ≡ 0
+  waits_none none = sym waiting_count ∙ ap length none
+
+  pub no_signal : length d.signals ≡ 0 → signals_in (stage_at nodes st) ≡ []
+  no_signal none = ap signals_in shows ∙ nil_from_length d.signals none
+
+  pub signals_none : signals_in (stage_at nodes st) ≡ [] → length d.signals ≡ 0
+  signals_none none = ap length (ap signals_in (sym shows) ∙ none)
+
+  pub settles_shown : (d.letters ≡ [] → d.signals ≡ [] → outstanding d ≡ 0) → IsQuiet (stage_at nodes st) → NoneHeld (stage_at nodes st) → IsOutstanding (stage_at nodes st) → ⊥
+  settles_shown ends =
+      settles (stage_at nodes st) shown shows
+      (λ letters signals. outstanding-named (load_at nodes) d ∙ ends (nil_from_length d.letters (sym (length-map d.letters (entry_with (load_at nodes))) ∙ ap length letters)) signals)
+
+  pub past_waiting : (place count : ℕ) → count ≡ length (waiting d) → count ≤ place → slice_get (waiting_in (stage_at nodes st)) place ≡ None
+  past_waiting place count is past =
+      ap (λ (s : Stage). slice_get (waiting_in s) place) shows ∙ waits-named (load_at nodes) d place ∙ ap (option_map (entry_with (load_at nodes))) (slice_get_past (waiting d) place (omega (arith, is, past)))
+
+pub outs_count : (nodes : List Expr) (outs : List (ℕ × NumberedLoad)) → length (outs_at nodes outs) ≡ length outs
+outs_count nodes outs = length-map {B = ℕ × Load} outs (λ o. (o.0, load_at nodes o.1))
+
+-- the environment's letter says no number
+pub start_says : (nodes : List Expr) (root : ℕ) → AreLetters nodes (started root numbered.Start).letters
+start_says nodes root = All-cons (λ (l : ℕ × Letter NumberedLoad). IsLoad nodes l.1.load) _ [] tt (All-nil (λ (l : ℕ × Letter NumberedLoad). IsLoad nodes l.1.load))
+
+-- what was taken, in words
+abbrev pub taken_as : List Expr → Option (ℕ × Held NumberedLoad) → Option (ℕ × Held Load)
+taken_as nodes None = None
+taken_as nodes (Some r) = Some (r.0, held_at nodes r.1)
+
+pub taken_holds : (nodes : List Expr) (P : Type 0) (Q : ℕ → Held Load → Type 0) (r : Option (ℕ × Held NumberedLoad)) → MatchOption r P (λ x. Q x.0 (held_at nodes x.1)) → MatchOption (taken_as nodes r) P (λ x. Q x.0 x.1)
+taken_holds nodes P Q None holds = holds
+taken_holds nodes P Q (Some r) holds = holds
+
+solves_more : (s t : Progress) (n : ℕ) (who : List ℕ) (why : Reason) → Solves s t n who why → HasMore s.graph.nodes t.graph.nodes
+solves_more s t n who why (monitors, inl had) = same_nodes s t (ap (λ (g : GraphState). g.nodes) had.1)
+solves_more s t n who why (monitors, inr new) = same_nodes s t (ap (λ (g : GraphState). g.nodes) new.1)
+
+hears_more : (s t : Progress) (n m : ℕ) (p : Port) → HearsAsk s t n m p → HasMore s.graph.nodes t.graph.nodes
+hears_more s t n m p (monitors, inl had) = same_nodes s t (ap (λ (g : GraphState). g.nodes) had.1)
+hears_more s t n m p (monitors, inr new) = same_nodes s t (ap (λ (g : GraphState). g.nodes) new.1)
+
+takes_more : (s t : Progress) (n m : ℕ) (p : Port) (who : List ℕ) → TakesIn s t n m p who → HasMore s.graph.nodes t.graph.nodes
+takes_more s t n m port.Body who solves = solves_more s t n who (reason.Body m) solves
+takes_more s t n m port.Base who (r, name, node, (new, ms, heard, inl (known, same))) = same_nodes s t (ap (λ (u : Progress). u.graph.nodes) same)
+takes_more s t n m port.Base who (r, name, node, (new, ms, heard, inr (fresh, asks))) =
+    ask_more (record s { monitors = ms }) t (Rol (record { owner = who; name = name })) (port.Via who) asks
+takes_more s t n m (port.Via b) who solves = solves_more s t n who (reason.Via b) solves
+takes_more s t n m (port.Part i) who (last, ms, heard, inl (others, same)) = same_nodes s t (ap (λ (u : Progress). u.graph.nodes) same)
+takes_more s t n m (port.Part i) who (last, ms, heard, inr (all, solves)) = solves_more (record s { monitors = ms }) t n who reason.Parts solves
+
+-- to answer a letter adds nodes alone
+pub answers_more : (view : List Vault) (s t : Progress) (from : Parent) (to : ℕ) (l : Load) → to < length s.graph.nodes → Answers view s t from to l → HasMore s.graph.nodes t.graph.nodes
+answers_more view s t Neutral to load.Start there answers = absurd answers
+answers_more view s t Neutral to (load.Ask p) there answers = absurd answers
+answers_more view s t Neutral to (load.Tell p who) there answers = absurd answers
+answers_more view s t Environment to load.Start there opens =
+    let e : Expr = get_or s.graph.nodes to (Ent []) in
+    opens_more (own_rows view e) s t to e (opens e (slice_get-get_or s.graph.nodes to (Ent []) there))
+answers_more view s t Environment to (load.Ask p) there answers = absurd answers
+answers_more view s t Environment to (load.Tell p who) there answers = absurd answers
+answers_more view s t (Node m) to load.Start there answers = absurd answers
+answers_more view s t (Node m) to (load.Ask p) there (mid, inl (was, same), hears) =
+    then_more s.graph.nodes mid.graph.nodes t.graph.nodes (same_nodes s mid (ap (λ (u : Progress). u.graph.nodes) same)) (hears_more mid t to m p hears)
+answers_more view s t (Node m) to (load.Ask p) there (mid, inr (first, opens), hears) =
+    let e : Expr = get_or s.graph.nodes to (Ent []) in
+    then_more s.graph.nodes mid.graph.nodes t.graph.nodes (opens_more (own_rows view e) s mid to e (opens e (slice_get-get_or s.graph.nodes to (Ent []) there))) (hears_more mid t to m p hears)
+answers_more view s t (Node m) to (load.Tell p who) there takes = takes_more s t to m p who takes
+
+-- where nodes are added a search stands where it stood
+pub more_stage : (old new : List Expr) (st : NumberedStage) → HasMore old new → IsStage old st → IsStage new st
+more_stage old new st (more, with) are = subst (λ (nodes : List Expr). IsStage nodes st) (sym with) (stage_goes_on old more st are)
+
+pub more_stage_same : (old new : List Expr) (st : NumberedStage) → HasMore old new → IsStage old st → stage_at new st ≡ stage_at old st
+more_stage_same old new st (more, with) are = ap (λ (nodes : List Expr). stage_at nodes st) with ∙ stage_stays old more st are
+
+pub more_count : (old new : List Expr) → HasMore old new → length old ≤ length new
+more_count old new (more, with) = omega (arith, ap length with, length-append old more)

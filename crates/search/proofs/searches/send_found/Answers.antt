@@ -1,0 +1,16 @@
+-- The answers are sent in words as with numbers.
+use Rattle.std.proofs.Common.{subst}
+use Rattle.search.specs.Answers.{Progress}
+use Rattle.search.specs.Stage.{Sends}
+use Rattle.search.specs.Numbered.{stage_at}
+use Rattle.search.proofs.searches.send_found.Goals as goal
+
+pub invariant_of-found : goal.invariant_of-found
+invariant_of-found c = record {
+  loads = c.send.ensures.left c.found.inside.graph.nodes c.found.invariant.loads;
+  ports = c.found.invariant.ports;
+}
+
+pub returns-clause-sends : goal.returns-clause-sends
+returns-clause-sends c =
+    subst (λ (x : Progress). Sends (stage_at x.graph.nodes c.args.stage.now) (stage_at x.graph.nodes c.send.new.stage) c.args.work c.args.number x.outs c.send.result) c.found.view_is (c.send.ensures.sends c.found.inside.graph.nodes)
