@@ -1,5 +1,5 @@
 -- Lists of which at most one element is changed, and lists that are related place by place.
-use Rattle.std.proofs.Common.{Bool, true, false, cond, List, [], ◌∷◌, ◌++◌, ◌≡◌, ◌∙◌, sym, ap, refl, subst, filter, find, map, Option, Some, None, option_map}
+use Rattle.std.proofs.Common.{[], Bool, true, false, cond, List, ◌∷◌, ◌++◌, ◌≡◌, ◌∙◌, sym, ap, refl, subst, filter, find, map, Option, Some, None, option_map}
 use Rattle.std.specs.List.{AllByRecursion, AllZip}
 use Rattle.std.proofs.lemmas.Bool.{false≢true}
 use Rattle.std.proofs.lemmas.List.Elements.{All-from_recursion, recursion_from_All, All-filter, All-push, All-weaker}
@@ -71,30 +71,6 @@ Both R None (Some y) = ⊥
 Both R (Some x) None = ⊥
 Both R (Some x) (Some y) = R x y
 
-pub find_both : {X Y : Type 0} (R : X → Y → Type 0) (p : X → Bool) (q : Y → Bool) → ((x : X) (y : Y) → R x y → q y ≡ p x) →
-    (xs : List X) (ys : List Y) → AllZip R xs ys → Both R (find p xs) (find q ys)
-find_both R p q agree [] [] zip = tt
-find_both R p q agree [] (y ∷ ys) zip = absurd zip
-find_both R p q agree (x ∷ xs) [] zip = absurd zip
-find_both {X} {Y} R p q agree (x ∷ xs) (y ∷ ys) zip =
-    subst (λ (b : Bool). Both R (find p (x ∷ xs)) (cond b (Some y) (find q ys))) (sym (agree x y zip.0)) (by (p x) (find_both R p q agree xs ys zip.1))
-  where
-    by : (b : Bool) → Both R (find p xs) (find q ys) → Both R (cond b (Some x) (find p xs)) (cond b (Some y) (find q ys))
-    by true rest = zip.0
-    by false rest = rest
-
-pub filter_zip : {X Y : Type 0} (R : X → Y → Type 0) (p : X → Bool) (q : Y → Bool) → ((x : X) (y : Y) → R x y → q y ≡ p x) →
-    (xs : List X) (ys : List Y) → AllZip R xs ys → AllZip R (filter p xs) (filter q ys)
-filter_zip R p q agree [] [] zip = tt
-filter_zip R p q agree [] (y ∷ ys) zip = absurd zip
-filter_zip R p q agree (x ∷ xs) [] zip = absurd zip
-filter_zip {X} {Y} R p q agree (x ∷ xs) (y ∷ ys) zip =
-    subst (λ (b : Bool). AllZip R (filter p (x ∷ xs)) (cond b (y ∷ filter q ys) (filter q ys))) (sym (agree x y zip.0)) (by (p x) (filter_zip R p q agree xs ys zip.1))
-  where
-    by : (b : Bool) → AllZip R (filter p xs) (filter q ys) → AllZip R (cond b (x ∷ filter p xs) (filter p xs)) (cond b (y ∷ filter q ys) (filter q ys))
-    by true rest = (zip.0, rest)
-    by false rest = rest
-
 pub find-map : {X Y : Type 0} (q : Y → Bool) (p : X → Bool) (g : X → Y) → ((x : X) → q (g x) ≡ p x) → (xs : List X) → find q (map g xs) ≡ option_map g (find p xs)
 find-map q p g agree [] = refl
 find-map {X} {Y} q p g agree (x ∷ xs) = ap (λ (b : Bool). cond b (Some (g x)) (find q (map g xs))) (agree x) ∙ by (p x) (find-map q p g agree xs)
@@ -111,36 +87,6 @@ filter-map {X} {Y} q p g agree (x ∷ xs) = ap (λ (b : Bool). cond b (g x ∷ f
     by true rest = ap (λ (l : List Y). g x ∷ l) rest
     by false rest = rest
 
-pub zip_mapped : {X Y V W : Type 0} (R : X → Y → Type 0) (S : V → W → Type 0) (f : X → V) (g : Y → W) → ((x : X) (y : Y) → R x y → S (f x) (g y)) →
-    (xs : List X) (ys : List Y) → AllZip R xs ys → AllZip S (map f xs) (map g ys)
-zip_mapped R S f g over [] [] zip = tt
-zip_mapped R S f g over [] (y ∷ ys) zip = absurd zip
-zip_mapped R S f g over (x ∷ xs) [] zip = absurd zip
-zip_mapped R S f g over (x ∷ xs) (y ∷ ys) zip = (over x y zip.0, zip_mapped R S f g over xs ys zip.1)
-
-pub zip_turned : {X Y : Type 0} (R : X → Y → Type 0) (xs : List X) (ys : List Y) → AllZip R xs ys → AllZip (λ y x. R x y) ys xs
-zip_turned R [] [] zip = tt
-zip_turned R [] (y ∷ ys) zip = absurd zip
-zip_turned R (x ∷ xs) [] zip = absurd zip
-zip_turned R (x ∷ xs) (y ∷ ys) zip = (zip.0, zip_turned R xs ys zip.1)
-
--- two lists that are related to one between them
-pub zip_joined : {X Y Z : Type 0} (R : X → Y → Type 0) (S : Y → Z → Type 0) (Q : X → Z → Type 0) → ((x : X) (y : Y) (z : Z) → R x y → S y z → Q x z) →
-    (xs : List X) (ys : List Y) (zs : List Z) → AllZip R xs ys → AllZip S ys zs → AllZip Q xs zs
-zip_joined R S Q joins [] [] [] left right = tt
-zip_joined R S Q joins [] [] (z ∷ zs) left right = absurd right
-zip_joined R S Q joins [] (y ∷ ys) zs left right = absurd left
-zip_joined R S Q joins (x ∷ xs) [] zs left right = absurd left
-zip_joined R S Q joins (x ∷ xs) (y ∷ ys) [] left right = absurd right
-zip_joined R S Q joins (x ∷ xs) (y ∷ ys) (z ∷ zs) left right = (joins x y z left.0 right.0, zip_joined R S Q joins xs ys zs left.1 right.1)
-
-pub both_mapped : {X Y V W : Type 0} (R : X → Y → Type 0) (S : V → W → Type 0) (f : X → V) (g : Y → W) → ((x : X) (y : Y) → R x y → S (f x) (g y)) →
-    (o : Option X) (p : Option Y) → Both R o p → Both S (option_map f o) (option_map g p)
-both_mapped R S f g over None None both = tt
-both_mapped R S f g over None (Some y) both = absurd both
-both_mapped R S f g over (Some x) None both = absurd both
-both_mapped R S f g over (Some x) (Some y) both = over x y both
-
 -- what a filter keeps of what is found
 pub find-filter : {X : Type 0} (p keep : X → Bool) (xs : List X) → ((y : X) → p y ≡ true → keep y ≡ true) → find p (filter keep xs) ≡ find p xs
 find-filter p keep [] kept = refl
@@ -151,3 +97,10 @@ find-filter {X} p keep (y ∷ ys) kept = by (keep y) (p y) refl refl (find-filte
     by true false k e rest = ap (λ (b : Bool). cond b (Some y) (find p (filter keep ys))) e ∙ rest
     by false false k e rest = rest
     by false true k e rest = absurd (false≢true (sym k ∙ kept y e))
+
+pub zip_mapped : {X Y V W : Type 0} (R : X → Y → Type 0) (S : V → W → Type 0) (f : X → V) (g : Y → W) → ((x : X) (y : Y) → R x y → S (f x) (g y)) →
+    (xs : List X) (ys : List Y) → AllZip R xs ys → AllZip S (map f xs) (map g ys)
+zip_mapped R S f g over [] [] zip = tt
+zip_mapped R S f g over [] (y ∷ ys) zip = absurd zip
+zip_mapped R S f g over (x ∷ xs) [] zip = absurd zip
+zip_mapped R S f g over (x ∷ xs) (y ∷ ys) zip = (over x y zip.0, zip_mapped R S f g over xs ys zip.1)

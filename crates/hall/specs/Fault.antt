@@ -11,6 +11,7 @@ use Rattle.quotas.specs.declared.faults.QuotaFault.TheVariants as quota
 use Rattle.proof_trees.specs.declared.faults.ProofFault.{ProofFault}
 use Rattle.proof_trees.specs.declared.faults.ProofFault.TheVariants as proof
 
+-- the number of each fault
 abbrev pub fault_number : Fault → ℕ
 fault_number NotIssuer = 31
 fault_number AlreadyHeld = 32

@@ -1,4 +1,10 @@
 pub mod Fault
 pub mod Query
 pub mod Text
+pub mod Account
+pub mod Answers
+pub mod Run
+pub mod Hall
+pub mod Laws
+pub mod Visits
 pub mod halls

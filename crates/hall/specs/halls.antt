@@ -2,12 +2,8 @@ pub mod Searches
 pub mod Holder
 pub mod Account
 pub mod State
+pub mod Mapped
 pub mod Run
-pub mod Agree
 pub mod Calls
-pub mod Answers
-pub mod Deeds
-pub mod Turns
-pub mod Laws
 pub mod Visits
 pub mod Kept

@@ -20,7 +20,7 @@ pub struct Job {
 
 impl Model for Job {
     ghost use Rattle.std.specs.Arc.{arc_value};
-    ghost use Rattle.hall.specs.halls.Calls.{TakenLetter};
+    ghost use Rattle.hall.specs.Visits.{TakenLetter};
 
     ghost Value = { TakenLetter };
 

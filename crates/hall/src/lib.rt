@@ -24,6 +24,7 @@ pub use lists::{Names, Rows, Sights};
 pub use proof_trees::{Proof, write_proof};
 pub use registry::Hall;
 pub use run_laws::{
-    answers_are_true, deeds_are_allowed, deeds_are_fixed, runs_are_allowed, two_halls, two_worlds,
+    answers_are_true, refusals_come_first, runs_are_allowed, scripts_are_exact,
+    scripts_are_isolated, two_worlds,
 };
 pub use search::Query;

@@ -1,10 +1,13 @@
 //! The hall of all tenants.
-ghost use Rattle.std.specs.Prelude.{◌≡◌, ◌↔◌, None, IfSome, IfOk, IfErr, OnErr, option_copied, option_map, position, map, length};
+ghost use Rattle.std.specs.Prelude.{◌≡◌, ◌↔◌, None, IfSome, IfOk, IfErr, OnOk, OnErr, is_some, option_copied, option_map, position, map, length};
+ghost use Rattle.std.specs.FinMap.{get};
+ghost use Rattle.std.specs.List.{IsDistinct};
 ghost use Rattle.names.specs.Name.{is_same};
+ghost use Rattle.hall.specs.declared.faults.Fault.TheVariants as faults;
 ghost use Rattle.hall.specs.declared.calls.requests.Request.TheVariants as request;
-ghost use Rattle.hall.specs.halls.Calls.{counted, opened_number, answered, closing, rows_seen, names_seen};
-ghost use Rattle.hall.specs.halls.State.{AreDistinct, IsSound, is_tenant, new_tenant, new_hall, search_at};
-ghost use Rattle.hall.specs.halls.Run.{IsServed, RefusedLast};
+ghost use Rattle.hall.specs.declared.calls.replies.Reply.TheVariants as reply;
+ghost use Rattle.hall.specs.Hall.{IsSound, IsServed, told_as, new_hall, search_at};
+ghost use Rattle.hall.specs.halls.State.{new_tenant};
 
 use crate::calls::{Answer, Step, Stepped};
 use crate::copies::copy_of;
@@ -33,16 +36,18 @@ pub struct Hall {
 
 impl Model for Hall {
     ghost use Rattle.std.specs.Coded.{codes};
+    ghost use Rattle.std.specs.FinMap as fin;
     ghost use Rattle.search.specs.contracts.stages.Stage as running;
     ghost use Rattle.search.specs.contracts.findings.Monitor as memory;
-    ghost use Rattle.hall.specs.halls.State.{HallState};
+    ghost use Rattle.hall.specs.Hall.{HallState};
     ghost use Rattle.hall.specs.halls.Kept.{IsKept};
+    ghost use Rattle.hall.specs.halls.Mapped.{state_of};
 
     ghost Value = { HallState };
 
-    ghost coded = { Prim.hlevel (codes, running.the_row.coded, memory.the_row.coded) };
+    ghost coded = { Prim.hlevel (codes, fin.code, running.the_row.coded, memory.the_row.coded) };
 
-    ghost view = { λ h. record { journal = h.book; tenants = h.seats.items } };
+    ghost view = { λ h. state_of (record { journal = h.book; tenants = h.seats.items }) };
 
     ghost invariant = { λ h. IsKept h.names.keys (record { journal = h.book; tenants = h.seats.items }) };
 }
@@ -50,7 +55,7 @@ impl Model for Hall {
 impl Hall {
     /// The hall of these tenants, where nothing was done yet.
     pub fn make(alloc: Global, roster: Vec<(Entity, Limits)>) -> Result<Hall, Fault>
-        requires { AreDistinct (new_hall roster.items).tenants }
+        requires { IsDistinct is_same (map (λ row. row.0) roster.items) }
         ensures hall { IfOk result (λ h. h ≡ new_hall roster.items) }
         ensures only_memory { IfErr result (λ f. f ≡ Fault.Memory) }
     {
@@ -67,7 +72,7 @@ impl Hall {
 
     /// Whether the name stands in the roster.
     pub fn has(&self, who: Entity) -> bool
-        ensures { result ≡ is_tenant self.now who }
+        ensures { result ≡ is_some (get self.now.tenants who) }
     {
         let _ = &self.seats;
         place_of(&self.names, &who).is_some()
@@ -94,8 +99,7 @@ impl Hall {
     /// then 44 of all changes, 41 of an upload and 42 of a grant to one reader or to all, then the journal's own (31 to
     /// 36), and want of memory.
     pub fn change(&mut self, who: Entity, change: Change) -> Result<u64, Fault>
-        ensures served { IsServed self.old who (request.Alter change) (counted result) self.new }
-        ensures memory_last { RefusedLast self.old who (request.Alter change) (counted result) }
+        ensures served { IsServed self.old who (request.Alter change) (told_as reply.Counted result) self.new }
     {
         let Some(place) = place_of(&self.names, &who) else {
             return Err(Fault::NoTenant);
@@ -104,11 +108,26 @@ impl Hall {
         Ok(self.book.change(who, change)?)
     }
 
+    /// Whether the tenant may make the change now, for which memory alone may lack then. The order of refusals is that of
+    /// `change`.
+    pub(crate) fn may_change(&self, who: Entity, change: &Change) -> Result<(), Fault>
+        ensures refused { IfErr result (λ f. IsServed self.now who (request.Alter change.now) (reply.Refused f) self.now) }
+        ensures allowed { OnOk result (IsServed self.now who (request.Alter change.now) (reply.Refused faults.Memory) self.now) }
+    {
+        let Some(place) = place_of(&self.names, &who) else {
+            return Err(Fault::NoTenant);
+        };
+        self.seats[place].may_alter(&self.book, change)?;
+        match self.book.refusal_of(&who, change) {
+            Some(fault) => Err(Fault::from(fault)),
+            None => Ok(()),
+        }
+    }
+
     /// Opens a search over what the tenant sees now, and answers its number. The order of refusals: 62, 43, 45, and want
     /// of memory.
     pub fn open(&mut self, who: Entity, query: Query) -> Result<u64, Fault>
-        ensures served { IsServed self.old who (request.Seek query) (opened_number result) self.new }
-        ensures memory_last { RefusedLast self.old who (request.Seek query) (opened_number result) }
+        ensures served { IsServed self.old who (request.Seek query) (told_as reply.Opened result) self.new }
     {
         let Some(place) = place_of(&self.names, &who) else {
             return Err(Fault::NoTenant);
@@ -119,8 +138,7 @@ impl Hall {
 
     /// What the tenant's search of the number has come to.
     pub fn poll(&self, who: Entity, number: u64) -> Result<Answer, Fault>
-        ensures served { IsServed self.now who (request.Poll number) (answered result) self.now }
-        ensures memory_last { RefusedLast self.now who (request.Poll number) (answered result) }
+        ensures served { IsServed self.now who (request.Poll number) (told_as reply.Answered result) self.now }
     {
         let Some(place) = place_of(&self.names, &who) else {
             return Err(Fault::NoTenant);
@@ -130,8 +148,7 @@ impl Hall {
 
     /// Ends the tenant's search of the number. It takes no memory.
     pub fn end(&mut self, who: Entity, number: u64) -> Result<(), Fault>
-        ensures served { IsServed self.old who (request.Close number) (closing result) self.new }
-        ensures memory_last { RefusedLast self.old who (request.Close number) (closing result) }
+        ensures served { IsServed self.old who (request.Close number) (told_as (λ u. reply.Closed) result) self.new }
     {
         let Some(place) = place_of(&self.names, &who) else {
             return Err(Fault::NoTenant);
@@ -142,8 +159,7 @@ impl Hall {
 
     /// The credentials that the tenant issues and holds, in order.
     pub fn vault(&self, who: Entity) -> Result<Rows, Fault>
-        ensures served { IsServed self.now who request.Vault (rows_seen result) self.now }
-        ensures memory_last { RefusedLast self.now who request.Vault (rows_seen result) }
+        ensures served { IsServed self.now who request.Vault (told_as reply.Vault result) self.now }
     {
         if !self.has(who) {
             return Err(Fault::NoTenant);
@@ -155,8 +171,7 @@ impl Hall {
     /// The names whose vaults the tenant reads, in order, its own among them, each with the mark whether every tenant
     /// reads it.
     pub fn sees(&self, who: Entity) -> Result<Sights, Fault>
-        ensures served { IsServed self.now who request.Sees (names_seen result) self.now }
-        ensures memory_last { RefusedLast self.now who request.Sees (names_seen result) }
+        ensures served { IsServed self.now who request.Sees (told_as reply.Sees result) self.now }
     {
         if !self.has(who) {
             return Err(Fault::NoTenant);
@@ -168,12 +183,10 @@ impl Hall {
 
 impl Hall {
     ghost use Rattle.hall.specs.declared.calls.steps.Step.TheVariants as step;
-    ghost use Rattle.hall.specs.halls.Run.{IsStepped, step_name, step_search};
-    ghost use Rattle.hall.specs.halls.Calls.{IsTaken};
     ghost use Rattle.std.specs.Prelude.{◌+◌, ◌≤◌, vec_len, vec_capacity};
-    ghost use Rattle.hall.specs.halls.Deeds.{IsDriven};
-    ghost use Rattle.hall.specs.halls.Visits.{IsVisited};
-    ghost use Rattle.hall.specs.halls.Calls.{SearchIsQuiet, CanBeMade, NothingToDo};
+    ghost use Rattle.hall.specs.Run.{waits};
+    ghost use Rattle.hall.specs.Hall.{IsStepped, CarriesOut, step_name, step_search};
+    ghost use Rattle.hall.specs.Visits.{IsTaken, IsVisited, SearchIsQuiet, CanBeMade, NothingToDo};
 
     /// Makes the step of the search that it names. It takes no memory that it couldn't do without: where a search lacks
     /// it, that search alone is broken.
@@ -243,9 +256,8 @@ impl Hall {
     /// Carries the tenant's search of the number on until nothing more of it can be, and tells what it has come to. The
     /// order of refusals: 62, 51, and want of memory, for which the answer alone can lack.
     pub fn drive(&mut self, who: Entity, number: u64) -> Result<Answer, Fault>
-        ensures driven { IsDriven self.old who number (answered result) self.new }
+        ensures driven { CarriesOut self.old who (waits number) (told_as reply.Answered result) self.new }
         ensures quiet { SearchIsQuiet self.new who number }
-        ensures memory_last { RefusedLast self.old who (request.Poll number) (answered result) }
     {
         let Some(place) = place_of(&self.names, &who) else {
             return Err(Fault::NoTenant);
@@ -288,7 +300,7 @@ fn place_of(names: &IndexSet<Entity>, who: &Entity) -> Option<usize>
 
 /// The names of the roster.
 fn names_of(alloc: Global, roster: &[(Entity, Limits)]) -> Result<IndexSet<Entity>, AllocError>
-    requires { AreDistinct (new_hall roster.now).tenants }
+    requires { IsDistinct is_same (map (λ row. row.0) roster.now) }
     ensures { IfOk result (λ names. names.keys ≡ map (λ row. row.0) roster.now) }
 {
     let mut names = IndexSet::new(alloc);

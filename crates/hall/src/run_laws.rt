@@ -1,47 +1,41 @@
-//! What holds of a hall that runs searches.
-ghost use Rattle.hall.specs.halls.Agree.{TwoWorlds, TwoHalls};
-ghost use Rattle.hall.specs.halls.Answers.{AnswersAreTrue};
-ghost use Rattle.hall.specs.halls.Deeds.{DeedsAreAllowed, DeedAnswersAreTrue, DeedsAreTimely};
-ghost use Rattle.hall.specs.halls.Laws.{NewHallsAreSound, EventsKeepSoundness, RunsAreAllowed};
-ghost use Rattle.hall.specs.halls.Turns.{DeedsAreExact, DeedsAreFixed};
+//! What holds of all runs, by their definitions alone: of one tenant's, whatever a hall is, and of a hall's.
+ghost use Rattle.hall.specs.Laws.{TwoWorlds, ScriptsAreIsolated, AnswersAreTrue, RefusalsComeFirst};
+ghost use Rattle.hall.specs.Laws.{RunsAreAllowed, EventsKeepSoundness, NewHallsAreSound, ScriptsAreExact};
 
-/// Whatever else happens in two worlds: two allowed runs from one account over one trace give a tenant equal answers,
-/// place by place, where no reply lacked memory. That a search still works is no answer, and two proofs may differ.
+/// Two runs of a tenant from one account, in which it does the same and has the same in sight, give it replies that agree:
+/// equal ones, or two proofs of one membership, but for want of memory. Where searches may settle at any time, one of the
+/// two may say that a search still works or is not done.
 pub fn two_worlds()
     ensures { TwoWorlds }
 {}
 
-/// Each run of a hall is an allowed run to each tenant over its own trace, and what holds of a new hall stays.
+/// What two scripts tell a tenant that has the same limits in both, does the same and sees the same agrees, whatever
+/// other tenants hold and do.
+pub fn scripts_are_isolated()
+    ensures { ScriptsAreIsolated }
+{}
+
+/// A refusal that is due is told in any case, and nothing else happens: memory lacks only where none is due.
+pub fn refusals_come_first()
+    ensures { RefusalsComeFirst }
+{}
+
+/// Each reply of a tenant's run that begins with nothing done is right: that a search ended is told of as it did, over what
+/// its opening had in sight; a proof is one; and where there is none the entity is no member.
+pub fn answers_are_true()
+    ensures { AnswersAreTrue }
+{}
+
+/// To each tenant a run of a hall is a run of its own turns, in which searches settle at any time; and what holds of a new
+/// hall stays.
 pub fn runs_are_allowed()
     ensures allowed { RunsAreAllowed }
     ensures kept { EventsKeepSoundness }
     ensures begun { NewHallsAreSound }
 {}
 
-/// The law of two worlds for two halls and two lists of events, whatever other tenants hold and do in them, and in
-/// whatever order the steps of searches come.
-pub fn two_halls()
-    ensures { TwoHalls }
-{}
-
-/// In each run from a new hall a poll that is answered yes, no or with members tells the truth of the query that opened
-/// the search, over what its asker could read then.
-pub fn answers_are_true()
-    ensures { AnswersAreTrue }
-{}
-
-/// What tenants are told one after another is allowed to each of them over its own trace, a wait counting as a poll; its
-/// answers are true; and from a new hall on it is timely: a wait never says that its search still works, and a poll says
-/// so exactly before the search came to its end.
-pub fn deeds_are_allowed()
-    ensures allowed { DeedsAreAllowed }
-    ensures truth { DeedAnswersAreTrue }
-    ensures timely { DeedsAreTimely }
-{}
-
-/// From a new hall on, what a tenant is told one deed after another follows from its own account, its own deeds and what
-/// these look at, but for want of memory and the choice of proofs.
-pub fn deeds_are_fixed()
-    ensures exact { DeedsAreExact }
-    ensures fixed { DeedsAreFixed }
+/// From a new hall on, what a tenant is told one deed after another is a run of its own turns, in which a search settles
+/// where its tenant waits for it, and nowhere else.
+pub fn scripts_are_exact()
+    ensures { ScriptsAreExact }
 {}

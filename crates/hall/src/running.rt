@@ -1,12 +1,12 @@
 //! What happens to a hall, one event after another.
-ghost use Rattle.std.specs.Prelude.{◌≡◌, IfOk, IfErr, OnErr};
+ghost use Rattle.std.specs.Prelude.{◌≡◌, ℕ, List, IfOk, IfErr, OnErr};
 ghost use Rattle.hall.specs.declared.calls.requests.Request.TheVariants as request;
-ghost use Rattle.hall.specs.halls.Calls.{counted, opened_number, answered, closing, rows_seen, names_seen, proof_seen};
-ghost use Rattle.hall.specs.halls.Run.{IsServed, RefusedLast, Happens, Run, IsAllowedToEach};
+ghost use Rattle.hall.specs.declared.calls.replies.Reply.TheVariants as reply;
+ghost use Rattle.hall.specs.Run.{any_time, told_in, told_to, IsRunOf};
+ghost use Rattle.hall.specs.Hall.{account_of, IsServed, told_as, Happens, Run};
 
-use crate::calls::{Answer, Event, Reply, Request};
+use crate::calls::{Event, Reply, Request};
 use crate::faults::Fault;
-use crate::lists::{Rows, Sights};
 use crate::registry::Hall;
 use names::Entity;
 use proof_trees::{Proof, proof_of};
@@ -17,8 +17,7 @@ impl Hall {
     /// Why the entity is a member of the role that the tenant's search of the number asked about. The order of refusals:
     /// 62, 51, 52, 53, and want of memory.
     pub fn proof(&self, who: Entity, number: u64, member: Entity) -> Result<Proof, Fault>
-        ensures served { IsServed self.now who (request.Proof number member) (proof_seen result) self.now }
-        ensures memory_last { RefusedLast self.now who (request.Proof number member) (proof_seen result) }
+        ensures served { IsServed self.now who (request.Proof number member) (told_as reply.Proof result) self.now }
     {
         let alloc = self.alloc();
         if !self.has(who) {
@@ -32,7 +31,9 @@ impl Hall {
 
     /// Lets the events happen one after another, and answers a reply for each. Room for the replies is taken first.
     pub fn run(&mut self, events: &[Event]) -> Result<Vec<Reply>, Fault>
-        ensures tenants { IfOk result (λ replies. IsAllowedToEach self.old events.now replies.items self.new) }
+        ensures tenants { IfOk result (λ replies. (tenant : List ℕ)
+            → IsRunOf any_time tenant (account_of self.old tenant) (told_to tenant self.old.journal (told_in events.now replies.items))
+            (account_of self.new tenant)) }
         ensures events { IfOk result (λ replies. Run self.old events.now replies.items self.new) }
         ensures refused { IfErr result (λ f. f ≡ Fault.Memory) }
         ensures unchanged { OnErr result (self.new ≡ self.old) }
@@ -45,42 +46,59 @@ impl Hall {
         Ok(replies)
     }
 
+    /// Serves the tenant's request, of whatever kind.
+    pub fn ask(&mut self, who: Entity, request: Request) -> Result<Reply, Fault>
+        ensures served { IsServed self.old who request (told_as (λ r. r) result) self.new }
+    {
+        Ok(match request {
+            Request::Alter(change) => Reply::Counted(self.change(who, change)?),
+            Request::Seek(query) => Reply::Opened(self.open(who, query)?),
+            Request::Poll(number) => Reply::Answered(self.poll(who, number)?),
+            Request::Close(number) => {
+                self.end(who, number)?;
+                Reply::Closed
+            }
+            Request::Vault => Reply::Vault(self.vault(who)?),
+            Request::Sees => Reply::Sees(self.sees(who)?),
+            Request::Proof(number, member) => Reply::Proof(self.proof(who, number, member)?),
+        })
+    }
+
     /// Lets the event happen.
     fn happen(&mut self, event: &Event) -> Reply
         ensures { Happens self.old event.now result self.new }
     {
         match event {
-            Event::Request(who, request) => self.serve(*who, request),
+            Event::Request(who, request) => match self.serve(*who, request) {
+                Ok(reply) => reply,
+                Err(fault) => Reply::Refused(fault),
+            },
             Event::Step(step) => Reply::Stepped(self.step(*step)),
         }
     }
 
-    /// Serves the tenant's request.
-    fn serve(&mut self, who: Entity, request: &Request) -> Reply
-        ensures { IsServed self.old who request.now result self.new }
+    /// Serves the tenant's request, which stays the caller's.
+    fn serve(&mut self, who: Entity, request: &Request) -> Result<Reply, Fault>
+        ensures served { IsServed self.old who request.now (told_as (λ r. r) result) self.new }
     {
         match request {
             Request::Alter(change) => self.alter(who, change),
-            Request::Seek(query) => tell_opened(self.open(who, *query)),
-            Request::Poll(number) => tell_answer(self.poll(who, *number)),
-            Request::Close(number) => tell_closed(self.end(who, *number)),
-            Request::Vault => tell_rows(self.vault(who)),
-            Request::Sees => tell_sights(self.sees(who)),
-            Request::Proof(number, member) => tell_proof(self.proof(who, *number, *member)),
+            Request::Seek(query) => self.ask(who, Request::Seek(*query)),
+            Request::Poll(number) => self.ask(who, Request::Poll(*number)),
+            Request::Close(number) => self.ask(who, Request::Close(*number)),
+            Request::Vault => self.ask(who, Request::Vault),
+            Request::Sees => self.ask(who, Request::Sees),
+            Request::Proof(number, member) => self.ask(who, Request::Proof(*number, *member)),
         }
     }
 
-    /// Enters a copy of the change.
-    fn alter(&mut self, who: Entity, change: &Change) -> Reply
-        ensures { IsServed self.old who (request.Alter change.now) result self.new }
+    /// Enters a copy of the change. It is copied where no refusal is due.
+    fn alter(&mut self, who: Entity, change: &Change) -> Result<Reply, Fault>
+        ensures served { IsServed self.old who (request.Alter change.now) (told_as (λ r. r) result) self.new }
     {
-        if !self.has(who) {
-            return Reply::Refused(Fault::NoTenant);
-        }
-        match same_change(change) {
-            Ok(copy) => tell_count(self.change(who, copy)),
-            Err(_) => Reply::Refused(Fault::Memory),
-        }
+        self.may_change(who, change)?;
+        let copy = same_change(change)?;
+        self.ask(who, Request::Alter(copy))
     }
 }
 
@@ -96,67 +114,4 @@ fn same_change(change: &Change) -> Result<Change, AllocError>
         Change::GrantAll => Change::GrantAll,
         Change::RevokeAll => Change::RevokeAll,
     })
-}
-
-fn tell_count(told: Result<u64, Fault>) -> Reply
-    ensures { result ≡ counted told }
-{
-    match told {
-        Ok(count) => Reply::Counted(count),
-        Err(fault) => Reply::Refused(fault),
-    }
-}
-
-fn tell_opened(told: Result<u64, Fault>) -> Reply
-    ensures { result ≡ opened_number told }
-{
-    match told {
-        Ok(number) => Reply::Opened(number),
-        Err(fault) => Reply::Refused(fault),
-    }
-}
-
-fn tell_answer(told: Result<Answer, Fault>) -> Reply
-    ensures { result ≡ answered told }
-{
-    match told {
-        Ok(answer) => Reply::Answered(answer),
-        Err(fault) => Reply::Refused(fault),
-    }
-}
-
-fn tell_closed(told: Result<(), Fault>) -> Reply
-    ensures { result ≡ closing told }
-{
-    match told {
-        Ok(()) => Reply::Closed,
-        Err(fault) => Reply::Refused(fault),
-    }
-}
-
-fn tell_rows(told: Result<Rows, Fault>) -> Reply
-    ensures { result ≡ rows_seen told }
-{
-    match told {
-        Ok(rows) => Reply::Vault(rows),
-        Err(fault) => Reply::Refused(fault),
-    }
-}
-
-fn tell_sights(told: Result<Sights, Fault>) -> Reply
-    ensures { result ≡ names_seen told }
-{
-    match told {
-        Ok(sights) => Reply::Sees(sights),
-        Err(fault) => Reply::Refused(fault),
-    }
-}
-
-fn tell_proof(told: Result<Proof, Fault>) -> Reply
-    ensures { result ≡ proof_seen told }
-{
-    match told {
-        Ok(proof) => Reply::Proof(proof),
-        Err(fault) => Reply::Refused(fault),
-    }
 }

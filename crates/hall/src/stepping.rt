@@ -1,7 +1,8 @@
 //! The steps of one search, and what is told of it.
-ghost use Rattle.std.specs.Prelude.{◌≡◌, ◌⊎◌, IfOk};
+ghost use Rattle.std.specs.Prelude.{◌≡◌, ◌⊎◌, IfOk, OnErr};
 ghost use Rattle.hall.specs.halls.Account.{answer_of};
 ghost use Rattle.hall.specs.halls.Searches.{settled_of, StepsSearch, finish_answer};
+ghost use Rattle.hall.specs.halls.Kept.{ListsMembers};
 
 use crate::calls::{Answer, Step, Stepped};
 use crate::lists::Names;
@@ -10,7 +11,8 @@ use std::alloc::AllocError;
 
 /// What is told of the search.
 pub(crate) fn told_of(search: &Search) -> Result<Answer, AllocError>
-    ensures { IfOk result (λ told. told ≡ answer_of (settled_of search.now)) }
+    ensures told { IfOk result (λ told. told ≡ answer_of (settled_of search.now)) }
+    ensures memory { OnErr result (ListsMembers (settled_of search.now)) }
 {
     match search.status() {
         Status::Working => Ok(Answer::Working),

@@ -1,13 +1,15 @@
 //! Faults, lists, the laws, jobs, whole runs of events, public reading, and halls compared with the plain program.
 mod acts;
+mod explained;
 mod jobs;
+mod letters;
 mod public_reading;
 mod runs;
 mod worlds;
 
 use crate::{
-    Fault, Names, Rows, Sights, answers_are_true, deeds_are_allowed, deeds_are_fixed,
-    runs_are_allowed, two_halls, two_worlds,
+    Fault, Names, Rows, Sights, answers_are_true, refusals_come_first, runs_are_allowed,
+    scripts_are_exact, scripts_are_isolated, two_worlds,
 };
 use credential_text::{Credential, Expr};
 use names::{Entity, Role};
@@ -137,9 +139,9 @@ fn sights_as_they_were_given(rt: HostRuntime) -> Result<(), Fail> {
 #[test]
 fn each_law_once(_rt: HostRuntime) {
     two_worlds();
-    runs_are_allowed();
-    two_halls();
+    scripts_are_isolated();
+    refusals_come_first();
     answers_are_true();
-    deeds_are_allowed();
-    deeds_are_fixed();
+    runs_are_allowed();
+    scripts_are_exact();
 }

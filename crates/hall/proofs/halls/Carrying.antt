@@ -1,12 +1,10 @@
--- A search that is driven makes steps of the hall.
-use Rattle.std.proofs.Common.{◌≡◌, ◌∙◌, ℕ, Bool, true, false, cond, List, [], ◌∷◌, map, find, ap, sym, refl, subst, Option, Some, None, option_map, position, Result, Ok, Err, is_some, if◌then◌else◌}
-use Rattle.std.specs.List.{AllByRecursion}
+-- A search that goes on in its hall, step by step, keeps the hall sound.
+use Rattle.std.proofs.Common.{◌≡◌, ◌∙◌, ℕ, Bool, true, false, cond, List, [], ◌∷◌, map, find, ap, sym, refl, subst, Option, Some, None, option_map, position, Result, Err, if◌then◌else◌}
 use Rattle.std.specs.Option.{MatchOption}
 use Rattle.std.proofs.lemmas.Simd.{map-map}
 use Rattle.names.specs.Name.{is_same}
-use Rattle.names.proofs.SameNames.{is_same_itself}
 use Rattle.rt0_rules.proofs.Elements.{find-Some}
-use Rattle.search.specs.Search.{SearchState, IsOutstanding}
+use Rattle.search.specs.Search.{SearchState}
 use Rattle.search.specs.Need.{right_hint}
 use Rattle.search.specs.Driven.{DriveStep, a_signal, a_letter, MakesEach}
 use Rattle.hall.specs.declared.calls.steps.Step.{Step}
@@ -16,30 +14,20 @@ use Rattle.hall.specs.declared.calls.steps.Stepped.TheVariants as stepped
 use Rattle.hall.specs.declared.faults.Fault.{Fault}
 use Rattle.hall.specs.declared.faults.Fault.TheVariants as fault
 use Rattle.hall.specs.declared.calls.answers.Answer.{Answer}
-use Rattle.hall.specs.declared.calls.answers.Answer.TheVariants as answer
-use Rattle.hall.specs.declared.calls.requests.Request.TheVariants as request
-use Rattle.hall.specs.declared.calls.events.Event.{Event}
-use Rattle.hall.specs.declared.calls.events.Event.TheVariants as event
-use Rattle.hall.specs.declared.calls.replies.Reply.{Reply}
-use Rattle.hall.specs.declared.calls.replies.Reply.TheVariants as reply
-use Rattle.search.specs.Quiet.{NoneHeld, IsQuiet}
-use Rattle.hall.specs.halls.Searches.{StepsSearch, finish_answer, settled_of}
+use Rattle.search.specs.Quiet.{IsQuiet}
+use Rattle.hall.specs.halls.Searches.{StepsSearch, finish_answer}
 use Rattle.hall.specs.halls.Holder.{Holder, Numbered, is_number, at_number, search_in, going_on}
 use Rattle.hall.specs.halls.State.{Running, Tenant, HallState, tenant_named, at_name, with_holder, search_at, running_of, IsSound}
-use Rattle.hall.specs.halls.Run.{IsStepped, StepsRunning, Run, stepping, IsServed, RefusedLast}
-use Rattle.hall.specs.halls.Deeds.{IsStepOf, IsDriven}
-use Rattle.hall.specs.halls.Calls.{answered, IfRunning, SearchIsQuiet}
-use Rattle.hall.specs.halls.Kept.{GoesAt, DrivesTo, IsToldOf}
+use Rattle.hall.specs.halls.Run.{IsStepped, StepsRunning, stepping, step_name, step_search}
+use Rattle.hall.specs.halls.Calls.{IfRunning, SearchIsQuiet}
+use Rattle.hall.specs.halls.Kept.{GoesAt, DrivesTo}
 use Rattle.hall.proofs.Elements.{find-map}
 use Rattle.hall.proofs.halls.Holders.{once_numbered}
 use Rattle.hall.proofs.halls.Named.{named_changed, once_named}
-use Rattle.hall.proofs.halls.Sound.{events_keep}
-use Rattle.hall.proofs.halls.Finding.{changed_same, find-nowhere, placed}
-use Rattle.hall.proofs.halls.Seated.{Stands, after, put_back, account_nobody, sound_there}
-use Rattle.hall.proofs.halls.Served.{nobody_served}
-use Rattle.hall.proofs.halls.Going.{went_on, search_nowhere}
-use Rattle.hall.proofs.halls.Polling.{poll_served, poll_last}
-use Rattle.hall.proofs.halls.Telling.{works}
+use Rattle.hall.proofs.halls.Sound.{stepped_sound}
+use Rattle.hall.proofs.halls.Finding.{changed_same}
+use Rattle.hall.proofs.halls.Seated.{Stands, after, put_back, sound_there}
+use Rattle.hall.proofs.halls.Going.{went_on}
 
 -- the number stays
 number_kept : (k at : ℕ) (r : Running) (s : Numbered Running) → is_number k (at_number at r s) ≡ is_number k s
@@ -113,34 +101,25 @@ module _ (h : HallState) (who : List ℕ) (k : ℕ) (r : Running) (t : Tenant) (
   steps_finish letter hint answer s u steps =
       subst (λ (o : Option Running). StepsRunning (state s) o (Finish who k letter hint) answer (state u)) (sym (found_state s)) (u, steps, sym (twice_state s u))
 
-  pub steps_of_drive : (steps : List DriveStep) (s u : SearchState) → MakesEach s steps u →
-      (made : List Step) × (told : List Reply) × AllByRecursion (IsStepOf who k) made × Run (state s) (map event.Step made) told (state u)
-  steps_of_drive [] s u is = ([], [], tt, ap state is)
-  steps_of_drive (a_signal ∷ steps) s u (mid, first, rest) =
-      let (made, told, own, run) = steps_of_drive steps mid u rest in
+  step_keeps : (made : Step) (answer : Stepped) (s u : SearchState) → IsStepped (state s) made answer (state u) → IsSound (state s) → IsSound (state u)
+  step_keeps made answer s u steps sound = stepped_sound (state s) (state u) made answer (search_at (state s) (step_name made) (step_search made)) refl sound steps
+
+  -- a search that is driven keeps the hall sound
+  drive_keeps : (steps : List DriveStep) (s u : SearchState) → MakesEach s steps u → IsSound (state s) → IsSound (state u)
+  drive_keeps [] s u is sound = subst (λ (v : SearchState). IsSound (state v)) (sym is) sound
+  drive_keeps (a_signal ∷ steps) s u (mid, first, rest) sound =
       let step : StepsSearch s (Signal who k 0) stepped.Signalled mid = record {
         is_made = (true, record { delivers = first.delivered; graph = first.graph; monitors = first.monitors; question = first.question }, refl);
         settles = first.settles;
-      } in (
-        Signal who k 0 ∷ made,
-        reply.Stepped stepped.Signalled ∷ told,
-        ((refl, refl), own),
-        (state mid, (stepped.Signalled, refl, steps_signal 0 stepped.Signalled s mid step), run),
-      )
-  steps_of_drive (a_letter number need finished ∷ steps) s u (mid, first, rest) =
-      let (made, told, own, run) = steps_of_drive steps mid u rest in
+      } in
+      drive_keeps steps mid u rest (step_keeps (Signal who k 0) stepped.Signalled s mid (steps_signal 0 stepped.Signalled s mid step) sound)
+  drive_keeps (a_letter number need finished ∷ steps) s u (mid, first, rest) sound =
       let hint = right_hint s.snapshot.vaults need in
       let taken : StepsSearch s (Take who k 0) (stepped.Took number need) first.held = record { is_made = (Some (number, need), first.takes, refl); settles = first.takes_settles } in
-      let done : StepsSearch first.held (Finish who k number hint) (finish_answer finished) mid = record { is_made = (finished, first.finishes, refl); settles = first.finish_settles } in (
-        Take who k 0 ∷ Finish who k number hint ∷ made,
-        reply.Stepped (stepped.Took number need) ∷ reply.Stepped (finish_answer finished) ∷ told,
-        ((refl, refl), ((refl, refl), own)),
-        (
-          state first.held,
-          (stepped.Took number need, refl, steps_take 0 (stepped.Took number need) s first.held taken),
-          (state mid, (finish_answer finished, refl, steps_finish number hint (finish_answer finished) first.held mid done), run),
-        ),
-      )
+      let done : StepsSearch first.held (Finish who k number hint) (finish_answer finished) mid = record { is_made = (finished, first.finishes, refl); settles = first.finish_settles } in
+      let held = step_keeps (Take who k 0) (stepped.Took number need) s first.held (steps_take 0 (stepped.Took number need) s first.held taken) sound in
+      drive_keeps steps mid u rest
+      (step_keeps (Finish who k number hint) (finish_answer finished) first.held mid (steps_finish number hint (finish_answer finished) first.held mid done) held)
 
 module _ (h : HallState) (who : List ℕ) (k : ℕ) (place : ℕ) (t : Tenant) (here : Stands who h.tenants place t) (r : Running) (found : search_at h who k ≡ Some r) where
   pub runs_there : search_in k t.holder ≡ Some r
@@ -166,116 +145,20 @@ module _ (h : HallState) (who : List ℕ) (k : ℕ) (place : ℕ) (t : Tenant) (
         (changed_same (λ (u : Tenant). is_same u.name who) (λ (u : Tenant). record { name = u.name; holder = stepping k r r.search u.holder }) h.tenants t (once_named who h.tenants sound.names) here.found
         (ap (λ (o : Holder Running). record { name = t.name; holder = o }) same_holder))
 
--- what runs keeps a hall sound
-pub run_sound : (old new : HallState) (events : List Event) (replies : List Reply) → IsSound old → Run old events replies new → IsSound new
-run_sound old new [] [] sound run = subst IsSound (sym run) sound
-run_sound old new [] (told ∷ replies) sound run = absurd run
-run_sound old new (e ∷ events) [] sound run = absurd run
-run_sound old new (e ∷ events) (told ∷ replies) sound (mid, happens, run) = run_sound mid new events replies (events_keep old mid e told sound happens) run
-
 module _ (h : HallState) (who : List ℕ) (k : ℕ) where
   pub nobody_quiet : tenant_named who h.tenants ≡ None → SearchIsQuiet h who k
   nobody_quiet none = subst (λ (o : Option Tenant). IfRunning IsQuiet (running_of k o)) (sym none) tt
 
-  pub nobody_driven : tenant_named who h.tenants ≡ None → IsDriven h who k (reply.Refused fault.NoTenant) h
-  nobody_driven none = record {
-    steps = [];
-    outcomes = [];
-    own = tt;
-    made = refl;
-    polled = nobody_served h who (request.Poll k) (account_nobody h who none);
-    back = λ held. held;
-    answers = λ held e. cc;
-  }
-
-  module _ (place : ℕ) (t : Tenant) (here : Stands who h.tenants place t) (sound : IsSound h) (told : Result Answer Fault) (new : Tenant)
-      (goes : MatchOption (position (is_number k) t.holder.searches) ((told ≡ Err fault.NoSuchSearch) × (new ≡ t)) (λ i. GoesAt (λ s u. DrivesTo s told u) i t new)) where
-    abbrev after_it : HallState
-    after_it = after h who place t new here
-
-    stays : position (is_number k) t.holder.searches ≡ None → (told ≡ Err fault.NoSuchSearch) × (new ≡ t)
-    stays none = subst (λ (o : Option ℕ). MatchOption o ((told ≡ Err fault.NoSuchSearch) × (new ≡ t)) (λ i. GoesAt (λ s u. DrivesTo s told u) i t new)) none goes
-
-    -- the search that was driven
-    module _ (r : Running) (s : SearchState) (found : search_at h who k ≡ Some r) (drives : DrivesTo r.search told s)
-        (is : after h who place t new here ≡ with_holder h who (stepping k r s)) where
-      at : search_in k t.holder ≡ Some r
-      at = runs_there h who k place t here r found
-
-      found_after : search_at (after h who place t new here) who k ≡ Some (record { opened_at = r.opened_at; search = s })
-      found_after = ap (λ (g : HallState). search_at g who k) is ∙ found_state h who k r t here.found at s
-
-      driven_there : IsDriven h who k (answered told) (after h who place t new here)
-      driven_there =
-          let (made, outcomes, own, run) = steps_of_drive h who k r t here.found at drives.driven.0 r.search s drives.driven.1 in
-          record {
-            steps = made;
-            outcomes = outcomes;
-            own = own;
-            made = subst (λ (g : HallState). Run h (map event.Step made) outcomes g) (sym is) (subst (λ (g : HallState). Run g (map event.Step made) outcomes (with_holder h who (stepping k r s))) (same_state h who k place t here r found sound) run);
-            polled = told_polled;
-            back = λ held. subst (IfRunning NoneHeld) (sym found_after) (drives.none_held (subst (IfRunning NoneHeld) found held));
-            answers = λ held e. no_answer told drives.tells (drives.settled (subst (IfRunning NoneHeld) found held)) e;
-          }
-        where
-          no_answer : (q : Result Answer Fault) → IsToldOf (settled_of s) q → (IsOutstanding s.stage → ⊥) → answered q ≡ reply.Answered answer.Working → ⊥
-          no_answer (Ok a) is settled e = settled (works s (told_working a e ∙ is))
-            where
-              told_working : (a : Answer) → reply.Answered a ≡ reply.Answered answer.Working → answer.Working ≡ a
-              told_working a e = cc
-          no_answer (Err f) is settled e = cc
-
-          told_polled : IsServed (after h who place t new here) who (request.Poll k) (answered told) (after h who place t new here)
-          told_polled = subst (λ (g : HallState). IsServed g who (request.Poll k) (answered told) g) (sym is)
-              (poll_served (with_holder h who (stepping k r s)) who k (record { name = t.name; holder = stepping k r s t.holder })
-              (named_changed who who (stepping k r s) h.tenants ∙ ap (option_map (at_name who (stepping k r s))) here.found
-              ∙ ap (λ (b : Bool). Some (if b then record { name = t.name; holder = stepping k r s t.holder } else t)) (is_same_itself t.name who here.named))
-              told (by (find (is_number k) (stepping k r s t.holder).searches) (found_going k r (record { opened_at = r.opened_at; search = s }) t.holder at)))
-            where
-              by : (o : Option (Numbered Running)) → option_map (λ (x : Numbered Running). x.of) o ≡ Some (record { opened_at = r.opened_at; search = s }) →
-                  MatchOption o (told ≡ Err fault.NoSuchSearch) (λ x. IsToldOf (settled_of x.of.search) told)
-              by None is = cc
-              by (Some x) is = let of : x.of ≡ record { opened_at = r.opened_at; search = s } = cc in subst (λ (q : Running). IsToldOf (settled_of q.search) told) (sym of) drives.tells
-
-    pub drive_driven : IsDriven h who k (answered told) (after h who place t new here)
-    drive_driven = by (position (is_number k) t.holder.searches) refl goes
-      where
-        by : (o : Option ℕ) → position (is_number k) t.holder.searches ≡ o → MatchOption o ((told ≡ Err fault.NoSuchSearch) × (new ≡ t)) (λ i. GoesAt (λ s u. DrivesTo s told u) i t new) →
-            IsDriven h who k (answered told) (after h who place t new here)
-        by None none gone = subst (IsDriven h who k (answered told)) (sym (put_back h who place t new here gone.1)) (record {
-          steps = [];
-          outcomes = [];
-          own = tt;
-          made = refl;
-          polled = poll_served h who k t here.found told
-              (subst (λ (o : Option (Numbered Running)). MatchOption o (told ≡ Err fault.NoSuchSearch) (λ x. IsToldOf (settled_of x.of.search) told)) (sym (find-nowhere (is_number k) t.holder.searches none)) gone.0);
-          back = λ held. held;
-          answers = λ held e. refused (sym (ap answered gone.0) ∙ e);
-        })
-          where
-            refused : answered (Err fault.NoSuchSearch) ≡ reply.Answered answer.Working → ⊥
-            refused e = cc
-        by (Some i) at goes = let (r, s, found, drives, is) = went_on h who k place t here sound (λ s u. DrivesTo s told u) i new at goes in driven_there r s found drives is
-
-    pub drive_sound : IsSound (after h who place t new here)
-    drive_sound = run_sound h (after h who place t new here) (map event.Step drive_driven.steps) drive_driven.outcomes sound drive_driven.made
-
-    pub drive_quiet : SearchIsQuiet (after h who place t new here) who k
-    drive_quiet = by (position (is_number k) t.holder.searches) refl goes
-      where
-        by : (o : Option ℕ) → position (is_number k) t.holder.searches ≡ o → MatchOption o ((told ≡ Err fault.NoSuchSearch) × (new ≡ t)) (λ i. GoesAt (λ s u. DrivesTo s told u) i t new) →
-            SearchIsQuiet (after h who place t new here) who k
-        by None none gone =
-            subst (λ (g : HallState). SearchIsQuiet g who k) (sym (put_back h who place t new here gone.1)) (subst (IfRunning IsQuiet) (sym (search_nowhere h who k place t here none)) tt)
-        by (Some i) at goes =
-            let (r, s, found, drives, is) = went_on h who k place t here sound (λ s u. DrivesTo s told u) i new at goes in subst (IfRunning IsQuiet) (sym (found_after r s found drives is)) drives.quiet
-
-    pub drive_last : RefusedLast h who (request.Poll k) (answered told)
-    drive_last = poll_last h who k t here.found told (λ none. by (position (is_number k) t.holder.searches) refl none)
-      where
-        by : (o : Option ℕ) → position (is_number k) t.holder.searches ≡ o → find (is_number k) t.holder.searches ≡ None → told ≡ Err fault.NoSuchSearch
-        by None at none = (stays at).0
-        by (Some i) at none = absurd (some_none (sym (ap is_some at) ∙ placed (is_number k) t.holder.searches ∙ ap is_some none))
-          where
-            some_none : true ≡ false → ⊥
-            some_none e = cc
+  pub drive_sound : (place : ℕ) (t : Tenant) (here : Stands who h.tenants place t) (told : Result Answer Fault) (new : Tenant) → IsSound h →
+      MatchOption (position (is_number k) t.holder.searches) ((told ≡ Err fault.NoSuchSearch) × (new ≡ t)) (λ i. GoesAt (λ s u. DrivesTo s told u) i t new) →
+      IsSound (after h who place t new here)
+  drive_sound place t here told new sound goes = by (position (is_number k) t.holder.searches) refl goes
+    where
+      by : (o : Option ℕ) → position (is_number k) t.holder.searches ≡ o → MatchOption o ((told ≡ Err fault.NoSuchSearch) × (new ≡ t)) (λ i. GoesAt (λ s u. DrivesTo s told u) i t new) →
+          IsSound (after h who place t new here)
+      by None none gone = subst IsSound (sym (put_back h who place t new here gone.1)) sound
+      by (Some i) at goes =
+          let (r, s, found, drives, is) = went_on h who k place t here sound (λ s u. DrivesTo s told u) i new at goes in
+          let runs = runs_there h who k place t here r found in
+          subst IsSound (sym is)
+          (drive_keeps h who k r t here.found runs drives.driven.0 r.search s drives.driven.1 (subst IsSound (sym (same_state h who k place t here r found sound)) sound))

@@ -1,9 +1,8 @@
 -- Elements of a list by their place, and the one element that passes a test.
-use Rattle.std.proofs.Common.{◌≡◌, ◌∙◌, ◌+◌, ℕ, zero, suc, ◌≤◌, not, Bool, true, false, cond, List, [], ◌∷◌, ap, sym, refl, subst, length, map, set}
+use Rattle.std.proofs.Common.{[], ◌≡◌, ◌∙◌, ◌+◌, ℕ, zero, suc, ◌≤◌, not, Bool, true, false, cond, List, ◌∷◌, ap, sym, refl, subst, length, map, set}
 use Rattle.std.proofs.Common.{Option, is_some, Some, None, find, position, slice_get, nat_lt}
 use Rattle.std.specs.List.{position_or_len, AllByRecursion}
 use Rattle.std.proofs.lemmas.Bool.{ltb-false}
-use Rattle.std.proofs.lemmas.List.Elements.{All-from_recursion, recursion_from_All, All-set}
 use Rattle.std.proofs.lemmas.List.Folds.{find_at}
 use Rattle.std.proofs.lemmas.List.Quantifiers.{position-Some}
 use Rattle.std.proofs.lemmas.List.{length-map}
@@ -39,9 +38,6 @@ pub all_at : {X : Type 0} (P : X → Type 0) (xs : List X) (i : ℕ) (x : X) →
 all_at P [] i x all there = cc
 all_at P (y ∷ xs) zero x all there = subst P (cc) all.0
 all_at P (y ∷ xs) (suc i) x all there = all_at P xs i x all.1 there
-
-pub all_set : {X : Type 0} (P : X → Type 0) (xs : List X) (i : ℕ) (x : X) → AllByRecursion P xs → P x → AllByRecursion P (set xs i x)
-all_set P xs i x all here = recursion_from_All P (set xs i x) (All-set P xs i x here (All-from_recursion P xs all))
 
 -- where none is found, none stands at any place
 none_at : {X : Type 0} (p : X → Bool) (xs : List X) (i : ℕ) (x : X) → find p xs ≡ None → slice_get xs i ≡ Some x → p x ≡ true → ⊥

@@ -1,16 +1,14 @@
 -- What is done to what a tenant holds of searches: seen otherwise, and beside another's.
-use Rattle.std.proofs.Common.{ℕ, ◌+◌, ◌≤◌, ◌<◌, ◌==◌, nat_le, Bool, true, false, cond, not, List, [], ◌∷◌, ◌++◌, length, ◌≡◌, ◌∙◌, sym, ap, refl, subst, filter, find, map, Option, Some, None, option_map, arith, ne_eqb, eqb-true}
+use Rattle.std.proofs.Common.{[], ℕ, ◌+◌, ◌≤◌, ◌<◌, nat_le, Bool, true, false, cond, not, List, ◌∷◌, ◌++◌, ◌≡◌, ◌∙◌, sym, ap, refl, subst, filter, find, map, Option, Some, None, option_map, arith, ne_eqb, eqb-true}
 use Rattle.std.specs.List.{AllZip, AllByRecursion}
 use Rattle.std.proofs.lemmas.List.{map-append, length-map}
-use Rattle.std.proofs.lemmas.Slice.Zip.{all_zipped_more, AllZip-long}
 use Rattle.std.proofs.lemmas.List.Elements.{All-from_recursion, All-contains}
 use Rattle.rt0_rules.proofs.Elements.{find-Some}
 use Rattle.quotas.specs.Quota.{Quota}
 use Rattle.hall.specs.declared.faults.Fault.{Fault}
 use Rattle.hall.specs.declared.faults.Fault.TheVariants as fault
 use Rattle.hall.specs.halls.Holder.{Numbered, Holder, is_number, search_in, opening, ending, going_on, seek_refusal, AreNumbered, map_numbered, map_holder, SameNumber, Beside, at_number}
-use Rattle.hall.proofs.Elements.{IsOnce, Both, find-map, filter-map, find_both, both_mapped, filter_zip, zip_same, zip_changed, zip_mapped, zip_turned, zip_joined, all_over, all_pushed, all_filtered}
-use Rattle.hall.proofs.halls.Lists.{zip_weaker}
+use Rattle.hall.proofs.Elements.{IsOnce, find-map, filter-map, zip_changed, all_over, all_pushed, all_filtered}
 
 -- the search of a number, seen otherwise
 pub search_mapped : {S T : Type 0} (f : S → T) (k : ℕ) (h : Holder S) → search_in k (map_holder f h) ≡ option_map f (search_in k h)
@@ -37,69 +35,6 @@ refuses limits searches opens = cond (nat_le limits.searches searches) (Some fau
 pub seek_mapped : {S T : Type 0} (f : S → T) (h : Holder S) → seek_refusal (map_holder f h) ≡ seek_refusal h
 unfolding refuses
 seek_mapped {S} {T} f h = ap (λ (n : ℕ). refuses h.limits n h.opens) (length-map h.searches (map_numbered f))
-
--- a holder beside itself
-pub beside_itself : {S : Type 0} (R : S → S → Type 0) → ((s : S) → R s s) → (h : Holder S) → Beside R h h
-beside_itself R related h = record {
-  limits = refl;
-  opens = refl;
-  searches = zip_same (SameNumber R) (λ s. record { number = refl; related = related s.of }) h.searches;
-}
-
-pub beside_opening : {S T : Type 0} (R : S → T → Type 0) (n : ℕ) (s : S) (t : T) (a : Holder S) (b : Holder T) → Beside R a b → R s t →
-    Beside R (opening n s a) (opening n t b)
-beside_opening R n s t a b beside related = record {
-  limits = beside.limits;
-  opens = refl;
-  searches = all_zipped_more (SameNumber R) a.searches b.searches (record { number = n; of = s }) (record { number = n; of = t }) beside.searches (record { number = refl; related = related });
-}
-
-pub beside_ending : {S T : Type 0} (R : S → T → Type 0) (k : ℕ) (a : Holder S) (b : Holder T) → Beside R a b → Beside R (ending k a) (ending k b)
-beside_ending R k a b beside = record {
-  limits = beside.limits;
-  opens = beside.opens;
-  searches = filter_zip (SameNumber R) (λ s. not (is_number k s)) (λ t. not (is_number k t)) (λ s t same. ap (λ (n : ℕ). not (n == k)) same.number) a.searches b.searches beside.searches;
-}
-
-pub beside_search : {S T : Type 0} (R : S → T → Type 0) (k : ℕ) (a : Holder S) (b : Holder T) → Beside R a b → Both R (search_in k a) (search_in k b)
-beside_search R k a b beside =
-    both_mapped (SameNumber R) R (λ s. s.of) (λ t. t.of) (λ s t same. same.related) (find (is_number k) a.searches) (find (is_number k) b.searches)
-    (find_both (SameNumber R) (is_number k) (is_number k) (λ s t same. ap (λ (n : ℕ). n == k) same.number) a.searches b.searches beside.searches)
-
-pub beside_seek : {S T : Type 0} (R : S → T → Type 0) (a : Holder S) (b : Holder T) → Beside R a b → seek_refusal b ≡ seek_refusal a
-unfolding refuses
-beside_seek R a b beside =
-    let long : length b.searches ≡ length a.searches = AllZip-long (SameNumber R) a.searches b.searches beside.searches in
-    λ i. refuses (beside.limits i) (long i) (beside.opens i)
-
-pub beside_turned : {S T : Type 0} (R : S → T → Type 0) (a : Holder S) (b : Holder T) → Beside R a b → Beside (λ t s. R s t) b a
-beside_turned R a b beside = record {
-  limits = sym beside.limits;
-  opens = sym beside.opens;
-  searches = zip_weaker (λ t s. SameNumber R s t) (SameNumber (λ t s. R s t)) (λ t s same. record { number = sym same.number; related = same.related }) b.searches a.searches
-      (zip_turned (SameNumber R) a.searches b.searches beside.searches);
-}
-
--- two holders beside one between them
-pub beside_joined : {S T U : Type 0} (R : S → T → Type 0) (Q : T → U → Type 0) (P : S → U → Type 0) → ((s : S) (t : T) (u : U) → R s t → Q t u → P s u) →
-    (a : Holder S) (b : Holder T) (c : Holder U) → Beside R a b → Beside Q b c → Beside P a c
-beside_joined R Q P joins a b c first second = record {
-  limits = second.limits ∙ first.limits;
-  opens = second.opens ∙ first.opens;
-  searches = zip_joined (SameNumber R) (SameNumber Q) (SameNumber P)
-      (λ s t u left right. record { number = right.number ∙ left.number; related = joins s.of t.of u.of left.related right.related })
-      a.searches b.searches c.searches first.searches second.searches;
-}
-
--- and both seen otherwise
-pub beside_mapped : {S T V W : Type 0} (R : S → T → Type 0) (Q : V → W → Type 0) (f : S → V) (g : T → W) → ((s : S) (t : T) → R s t → Q (f s) (g t)) →
-    (a : Holder S) (b : Holder T) → Beside R a b → Beside Q (map_holder f a) (map_holder g b)
-beside_mapped R Q f g over a b beside = record {
-  limits = beside.limits;
-  opens = beside.opens;
-  searches = zip_mapped (SameNumber R) (SameNumber Q) (map_numbered f) (map_numbered g) (λ s t same. record { number = same.number; related = over s.of t.of same.related })
-      a.searches b.searches beside.searches;
-}
 
 none_later : {S : Type 0} (k n : ℕ) (ss : List (Numbered S)) → n ≡ k → AllByRecursion (λ (s : Numbered S). n < s.number) ss → find (is_number k) ss ≡ None
 none_later k n [] e later = refl

@@ -1,14 +1,11 @@
 -- Searches found by their number after one more was opened, one was ended, or one went on.
-use Rattle.std.proofs.Common.{ℕ, ◌≤◌, ◌==◌, Bool, true, false, cond, not, List, [], ◌∷◌, ◌≡◌, ◌∙◌, ◌⊎◌, inl, inr, sym, ap, refl, subst, filter, find, map, Option, Some, None, option_map}
-use Rattle.std.specs.Option.{option_or}
+use Rattle.std.proofs.Common.{[], ℕ, ◌≤◌, Bool, true, false, cond, not, List, ◌∷◌, ◌≡◌, ◌∙◌, sym, ap, refl, subst, filter, find, map, Option, Some, None, option_map}
 use Rattle.std.proofs.lemmas.Bool.{false≢true}
 use Rattle.std.proofs.lemmas.Bool.Decides.{Decides-eqb}
-use Rattle.std.proofs.lemmas.List.Folds.{find-append}
-use Rattle.std.proofs.lemmas.List.Elements.{filter_passes, All-contains, same_from_all_zip}
+use Rattle.std.proofs.lemmas.List.Elements.{filter_passes, All-contains}
 use Rattle.rt0_rules.proofs.Elements.{find-Some}
-use Rattle.hall.specs.halls.Holder.{Numbered, Holder, is_number, search_in, opening, ending, going_on, at_number, AreNumbered, map_numbered, map_holder}
-use Rattle.hall.proofs.Elements.{find-map, zip_changed, find-filter}
-use Rattle.hall.proofs.halls.Holders.{found_one, once_numbered}
+use Rattle.hall.specs.halls.Holder.{Numbered, Holder, is_number, search_in, ending, going_on, at_number, AreNumbered}
+use Rattle.hall.proofs.Elements.{find-map, find-filter}
 
 given_among : {S : Type 0} (k opens : ℕ) (of : S) (ss : List (Numbered S)) → AreNumbered opens ss → option_map (λ (s : Numbered S). s.of) (find (is_number k) ss) ≡ Some of → (1 ≤ k) × (k ≤ opens)
 given_among k opens of [] numbers at = cc
@@ -22,19 +19,6 @@ given_among {S} k opens of (s ∷ ss) numbers at = by (is_number k s) refl at (g
 -- the number of a search was given
 pub number_given : {S : Type 0} (k : ℕ) (of : S) (h : Holder S) → AreNumbered h.opens h.searches → search_in k h ≡ Some of → (1 ≤ k) × (k ≤ h.opens)
 number_given k of h numbers at = given_among k h.opens of h.searches numbers at
-
--- after an opening there is what there was, and the search that was opened
-pub search_opening : {S : Type 0} (k n : ℕ) (new of : S) (h : Holder S) → search_in k (opening n new h) ≡ Some of → (search_in k h ≡ Some of) ⊎ ((n ≡ k) × (of ≡ new))
-search_opening {S} k n new of h at = by (find (is_number k) h.searches) refl (sym (ap (option_map (λ (s : Numbered S). s.of)) (find-append (is_number k) h.searches (record { number = n; of = new } ∷ []))) ∙ at)
-  where
-    by : (o : Option (Numbered S)) → find (is_number k) h.searches ≡ o →
-        option_map (λ (s : Numbered S). s.of) (option_or o (cond (n == k) (Some (record { number = n; of = new })) None)) ≡ Some of → (search_in k h ≡ Some of) ⊎ ((n ≡ k) × (of ≡ new))
-    by (Some s) found is = inl (ap (option_map (λ (s : Numbered S). s.of)) found ∙ is)
-    by None none is = last (n == k) refl is
-      where
-        last : (b : Bool) → (n == k) ≡ b → option_map (λ (s : Numbered S). s.of) (cond b (Some (record { number = n; of = new })) None) ≡ Some of → (search_in k h ≡ Some of) ⊎ ((n ≡ k) × (of ≡ new))
-        last true same is = inr ((Decides-eqb n k).0 same, cc)
-        last false apart is = cc
 
 -- no search of the number is left, and the others are
 none_left : {S : Type 0} (k : ℕ) (ss : List (Numbered S)) (s : Numbered S) → find (is_number k) (filter (λ s. not (is_number k s)) ss) ≡ Some s → ⊥
@@ -59,14 +43,6 @@ search_ending {S} k of h at = by (find (is_number k) (filter (λ (s : Numbered S
     by : (o : Option (Numbered S)) → find (is_number k) (filter (λ (s : Numbered S). not (is_number k s)) h.searches) ≡ o → option_map (λ (s : Numbered S). s.of) o ≡ Some of → ⊥
     by None none e = cc
     by (Some s) found e = none_left k h.searches s found
-
--- what is there after an ending was there
-pub search_was : {S : Type 0} (k gone : ℕ) (of : S) (h : Holder S) → search_in k (ending gone h) ≡ Some of → search_in k h ≡ Some of
-search_was {S} k gone of h at = by (gone == k) refl
-  where
-    by : (b : Bool) → (gone == k) ≡ b → search_in k h ≡ Some of
-    by true same = absurd (search_ending k of h (subst (λ (n : ℕ). search_in k (ending n h) ≡ Some of) ((Decides-eqb gone k).0 same) at))
-    by false apart = sym (search_ended k gone h (λ same. false≢true (sym apart ∙ (Decides-eqb gone k).1 same))) ∙ at
 
 -- what is found after one search went on
 found_passing : {S : Type 0} (k at : ℕ) (new : S) (ss : List (Numbered S)) → find (is_number k) (map (at_number at new) ss) ≡ option_map (at_number at new) (find (is_number k) ss)
@@ -99,38 +75,3 @@ search_gone {S} k old new h at = ap (option_map (λ (s : Numbered S). s.of)) (fo
         option_map (λ (s : Numbered S). s.of) (option_map (at_number k new) o) ≡ Some new
     by None none is = cc
     by (Some s) found is = ap (λ (b : Bool). Some (cond b (record { number = s.number; of = new }) s).of) (find-Some (is_number k) h.searches s found).1
-
--- a search that goes on twice
-pub going_twice : {S : Type 0} (k : ℕ) (first second : S) (h : Holder S) → going_on k second (going_on k first h) ≡ going_on k second h
-going_twice {S} k first second h = ap (λ (l : List (Numbered S)). record h { searches = l }) (each h.searches)
-  where
-    one : (s : Numbered S) (b : Bool) → is_number k s ≡ b → at_number k second (cond b (record { number = s.number; of = first }) s) ≡ at_number k second s
-    one s true is =
-        ap (λ (b : Bool). cond b (record { number = s.number; of = second }) (record { number = s.number; of = first })) is
-        ∙ sym (ap (λ (b : Bool). cond b (record { number = s.number; of = second }) s) is)
-    one s false is = refl
-
-    each : (ss : List (Numbered S)) → map (at_number k second) (map (at_number k first) ss) ≡ map (at_number k second) ss
-    each [] = refl
-    each (s ∷ ss) = λ i. one s (is_number k s) refl i ∷ each ss i
-
--- the same, seen otherwise
-pub going_mapped : {S T : Type 0} (f : S → T) (k : ℕ) (new : S) (h : Holder S) → map_holder f (going_on k new h) ≡ going_on k (f new) (map_holder f h)
-going_mapped {S} {T} f k new h = ap (λ (l : List (Numbered T)). record (map_holder f h) { searches = l }) (each h.searches)
-  where
-    one : (s : Numbered S) (b : Bool) → map_numbered f (cond b (record { number = s.number; of = new }) s) ≡ cond b (record { number = s.number; of = f new }) (map_numbered f s)
-    one s true = refl
-    one s false = refl
-
-    each : (ss : List (Numbered S)) → map (map_numbered f) (map (at_number k new) ss) ≡ map (at_number k (f new)) (map (map_numbered f) ss)
-    each [] = refl
-    each (s ∷ ss) = λ i. one s (is_number k s) i ∷ each ss i
-
--- a search that goes on as it is
-pub going_nowhere : {S : Type 0} (k : ℕ) (of : S) (h : Holder S) → AreNumbered h.opens h.searches → search_in k h ≡ Some of → going_on k of h ≡ h
-going_nowhere {S} k of h numbers at =
-    ap (λ (l : List (Numbered S)). record h { searches = l })
-    (same_from_all_zip (λ (x y : Numbered S). y ≡ x) h.searches (map (at_number k of) h.searches)
-    (zip_changed (λ (x y : Numbered S). y ≡ x) (is_number k) (λ s. record { number = s.number; of = of }) (λ s. refl) h.searches (once_numbered k h.opens h.searches numbers)
-    (λ s found i. record { number = s.number; of = found_one k of s h at found i }))
-    (λ x y same. same))

@@ -1,15 +1,44 @@
 -- The hall of a roster.
 use Rattle.std.proofs.Common.{◌≡◌, ◌∙◌, ◌||◌, ℕ, ◌+◌, ◌<◌, ◌++◌, length, get_or, zero, suc, Bool, true, false, cond, List, [], ◌∷◌, map, take, ap, sym, refl, slice_get, Some, None}
-use Rattle.std.specs.List.{list_any}
+use Rattle.std.specs.List.{list_any, AllByRecursion, IsDistinct}
 use Rattle.std.proofs.lemmas.List.{map-append, take_more}
 use Rattle.std.proofs.lemmas.Option.{slice_get_read}
+use Rattle.std.proofs.lemmas.Map.Keys.{IsDistinct-head, IsDistinct-tail}
 use Rattle.indexmap.specs.IndexSet.{insert_key}
 use Rattle.quotas.specs.Quota.{Quota}
 use Rattle.names.specs.Name.{is_same}
 use Rattle.vaults.specs.declared.changes.Entry.{Entry}
 use Rattle.hall.specs.halls.State.{Tenant, AreDistinct, tenant_named, new_tenant, new_hall}
 use Rattle.hall.specs.halls.Kept.{IsKept}
+use Rattle.hall.proofs.halls.Seated.{same_either}
 use Rattle.hall.proofs.halls.Sound.{new_sound}
+
+-- names that stand once are those of tenants that do
+no_tenant : (name : List ℕ) (roster : List (List ℕ × Quota)) → AllByRecursion (λ other. is_same name other ≡ false) (map (λ (row : List ℕ × Quota). row.0) roster) →
+    tenant_named name (map new_tenant roster) ≡ None
+no_tenant name [] all = refl
+no_tenant name (row ∷ roster) all =
+    ap (λ (b : Bool). cond b (Some (new_tenant row)) (tenant_named name (map new_tenant roster))) (same_either row.0 name ∙ all.0) ∙ no_tenant name roster all.1
+
+pub distinct_for : (roster : List (List ℕ × Quota)) → IsDistinct is_same (map (λ (row : List ℕ × Quota). row.0) roster) → AreDistinct (map new_tenant roster)
+distinct_for [] distinct = tt
+distinct_for (row ∷ roster) distinct =
+    let names : List (List ℕ) = map (λ (r : List ℕ × Quota). r.0) roster in
+    (no_tenant row.0 roster (IsDistinct-head is_same row.0 names distinct), distinct_for roster (IsDistinct-tail is_same row.0 names distinct))
+
+-- no name is that of a later one
+abbrev pub AreApart : List (List ℕ) → Type 0
+AreApart [] = Unit {0}
+AreApart (name ∷ names) = AllByRecursion (λ other. is_same other name ≡ false) names × AreApart names
+
+turned : (name : List ℕ) (names : List (List ℕ)) → AllByRecursion (λ other. is_same other name ≡ false) names → AllByRecursion (λ other. is_same name other ≡ false) names
+turned name [] all = tt
+turned name (other ∷ names) all = (same_either name other ∙ all.0, turned name names all.1)
+
+pub apart_distinct : (names : List (List ℕ)) → AreApart names → IsDistinct is_same names
+unfolding IsDistinct
+apart_distinct [] apart = tt
+apart_distinct (name ∷ names) apart = (turned name names apart.0, apart_distinct names apart.1)
 
 names_for : (roster : List (List ℕ × Quota)) → map (λ row. row.0) roster ≡ map (λ (t : Tenant). t.name) (map new_tenant roster)
 names_for [] = refl

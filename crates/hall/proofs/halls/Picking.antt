@@ -1,5 +1,5 @@
 -- The step that is picked goes on with a search, and there is one where anything of a search can go on.
-use Rattle.std.proofs.Common.{◌≡◌, ◌∙◌, ◌≤◌, ◌↔◌, ℕ, Bool, true, false, cond, List, [], ◌∷◌, length, ap, sym, refl, subst, arith, inl, inr, Option, Some, None, option_map, find, slice_get, IfSome}
+use Rattle.std.proofs.Common.{[], ◌≡◌, ◌∙◌, ◌≤◌, ℕ, Bool, true, false, cond, List, ◌∷◌, length, ap, sym, refl, subst, arith, inl, inr, Option, Some, None, option_map, find, slice_get, IfSome}
 use Rattle.std.specs.List.{AllByRecursion, Contains}
 use Rattle.std.specs.Option.{MatchOption}
 use Rattle.std.proofs.lemmas.Bool.Decides.{Decides-eqb}
@@ -17,7 +17,7 @@ use Rattle.hall.specs.halls.Searches.{TakesAt, Signals, took, signalled}
 use Rattle.hall.specs.halls.Holder.{Numbered, is_number, AreNumbered}
 use Rattle.hall.specs.halls.State.{Running, Tenant, HallState, tenant_named, running_of, search_at, IsSound, IsSoundTenant}
 use Rattle.hall.specs.halls.Run.{StepsRunning, step_name, step_search}
-use Rattle.hall.specs.halls.Calls.{IfRunning, SearchIsQuiet, IsStill, IsIdle, NothingToDo, MadeProgress, CanBeMade}
+use Rattle.hall.specs.halls.Calls.{IfRunning, SearchIsQuiet, IsStill, IsIdle, MadeProgress, CanBeMade}
 use Rattle.hall.specs.halls.Kept.{IsNext, IsNextOfAny}
 use Rattle.hall.proofs.Elements.{IsOnce}
 use Rattle.hall.proofs.halls.Named.{once_named}
@@ -99,11 +99,6 @@ module _ (h : HallState) (sound : IsSound h) (t : Tenant) (s : Numbered Running)
   is_left (step.GiveBack name k letter) next quiet = next
   is_left (step.Finish name k letter hint) next quiet = next
 
-busy : (h : HallState) (made : Step) → IsNextOfAny h.tenants made → NothingToDo h → ⊥
-busy h made (t, there, (s, among, next)) nothing =
-    let idle : IsIdle t = All-contains IsIdle h.tenants t (All-from_recursion IsIdle h.tenants nothing) there in
-    moves t.name s made next (All-contains IsStill t.holder.searches s (All-from_recursion IsStill t.holder.searches idle) among)
-
 module _ (h : HallState) where
   pub picked_progress : IsSound h → (o : Option Step) → MatchOption o (AllByRecursion IsIdle h.tenants) (IsNextOfAny h.tenants) → IfSome o (λ made. CanBeMade h made)
   picked_progress sound None idle = tt
@@ -113,10 +108,3 @@ module _ (h : HallState) where
       IfSome o (λ made. SearchIsQuiet h (step_name made) (step_search made) → ⊥)
   picked_left sound None idle = tt
   picked_left sound (Some made) (t, there, (s, among, next)) = is_left h sound t s there among made next
-
-  pub picked_none : (o : Option Step) → MatchOption o (AllByRecursion IsIdle h.tenants) (IsNextOfAny h.tenants) → (o ≡ None) ↔ NothingToDo h
-  picked_none None idle = (λ none. idle, λ nothing. refl)
-  picked_none (Some made) next = (λ none. clash none, λ nothing. absurd (busy h made next nothing))
-    where
-      clash : Some made ≡ None → NothingToDo h
-      clash e = cc

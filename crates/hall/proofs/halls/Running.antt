@@ -3,8 +3,7 @@ use Rattle.std.proofs.Common.{◌≡◌, ◌∙◌, ◌+◌, ◌<◌, ◌≤◌,
 use Rattle.std.proofs.lemmas.List.{take_more, take_all}
 use Rattle.hall.specs.declared.calls.replies.Reply.{Reply}
 use Rattle.hall.specs.declared.calls.events.Event.{Event}
-use Rattle.hall.specs.halls.State.{HallState, IsSound}
-use Rattle.hall.specs.halls.Run.{Happens, Run}
+use Rattle.hall.specs.Hall.{HallState, IsSound, Happens, Run}
 
 -- the first events have happened, and each has its reply
 pub record RunsSoFar (start : HallState) (events : List Event) (count : ℕ) (replies : List Reply) (now : HallState) : Type 0 where

@@ -21,7 +21,7 @@ pub record Stands (who : List ℕ) (ts : List Tenant) (place : ℕ) (t : Tenant)
   pub found : tenant_named who ts ≡ Some t
   pub named : t.name ≡ who
 
-same_either : (a b : List ℕ) → is_same a b ≡ is_same b a
+pub same_either : (a b : List ℕ) → is_same a b ≡ is_same b a
 same_either a b = by (is_same a b) (is_same b a) refl refl
   where
     by : (x y : Bool) → is_same a b ≡ x → is_same b a ≡ y → is_same a b ≡ is_same b a
@@ -44,9 +44,6 @@ module _ (who : List ℕ) (names : List (List ℕ)) (ts : List Tenant) (in_place
       record { there = there; found = is; named = same_from_is_same t.name who (find-Some (is_called who) ts t is).1 }
 
 module _ (h : HallState) (who : List ℕ) where
-  pub account_nobody : tenant_named who h.tenants ≡ None → account_of h who ≡ None
-  account_nobody none = ap (option_map (account h.journal)) none
-
   pub account_found : (t : Tenant) → tenant_named who h.tenants ≡ Some t → account_of h who ≡ Some (account h.journal t)
   account_found t found = ap (option_map (account h.journal)) found
 

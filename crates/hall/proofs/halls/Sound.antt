@@ -1,5 +1,5 @@
 -- Each event keeps what holds of every hall.
-use Rattle.std.proofs.Common.{ℕ, not, List, [], ◌∷◌, ◌++◌, length, ◌≡◌, ◌∙◌, ◌+◌, inl, inr, sym, ap, refl, subst, subst₂, map, Option, Some, None, option_map, arith, length-append, le_refl}
+use Rattle.std.proofs.Common.{[], ℕ, not, List, ◌∷◌, ◌++◌, length, ◌≡◌, ◌∙◌, ◌+◌, inl, inr, sym, ap, refl, subst, subst₂, map, Option, Some, None, option_map, arith, length-append, le_refl}
 use Rattle.std.specs.List.{AllByRecursion}
 use Rattle.std.proofs.lemmas.List.{take-append-le, take_all}
 use Rattle.names.specs.Name.{is_same}
@@ -18,16 +18,14 @@ use Rattle.hall.specs.declared.calls.replies.Reply.{Reply}
 use Rattle.hall.specs.declared.calls.replies.Reply.TheVariants.{Counted, Opened, Closed}
 use Rattle.hall.specs.declared.calls.steps.Step.{Step}
 use Rattle.hall.specs.declared.calls.steps.Stepped.{Stepped}
-use Rattle.hall.specs.declared.calls.events.Event.TheVariants as event
 use Rattle.hall.specs.halls.Searches.{settled_of, just_opened}
 use Rattle.hall.specs.halls.Holder.{Holder, Numbered, is_number, ending, seek_refusal}
 use Rattle.hall.specs.halls.Account.{Account, unless_refused}
-use Rattle.hall.specs.halls.State.{Running, Tenant, HallState, tenant_named, account, account_of, with_holder, running_of, search_at, IsSoundSearch, IsSoundTenant, IsSound, new_tenant}
+use Rattle.hall.specs.halls.State.{Running, Tenant, HallState, tenant_named, account, account_of, with_holder, search_at, IsSoundSearch, IsSoundTenant, IsSound, IsNewHall, new_tenant}
 use Rattle.hall.specs.halls.Run.{entered, beginning, starting, opened, closed, MayReplyTo, IsServed, StepsRunning, step_name, step_search, stepping}
-use Rattle.hall.specs.halls.Laws.{NewHallsAreSound, EventsKeepSoundness}
 use Rattle.hall.proofs.Elements.{all_changed, all_weaker, all_filtered, all_pushed}
 use Rattle.hall.proofs.halls.Named.{distinct_kept, once_named, found_tenant, running_at}
-use Rattle.hall.proofs.halls.Holders.{found_in, numbered_pushed, numbered_filtered, all_going_on, numbered_going_on}
+use Rattle.hall.proofs.halls.Holders.{numbered_pushed, numbered_filtered, all_going_on, numbered_going_on}
 use Rattle.hall.proofs.halls.Truths.{settles_twice}
 use Rattle.hall.proofs.halls.Stepping.{SearchGoesOn, step_goes_on, nothing_yet}
 
@@ -137,17 +135,6 @@ search_steps journal name limit r s goes sound = record {
         subst (λ (x : SnapshotState). MaySettle s.work (credentials x.vaults) s.query Nothing (settled_of s)) (sym goes.question.snapshot)
         (subst₂ (λ (n : ℕ) (q : Query). MaySettle n (credentials r.search.snapshot.vaults) q Nothing (settled_of s)) (sym goes.question.work) (sym goes.question.query) may)
 
--- a search of a sound hall is sound
-pub sound_at : (h : HallState) (name : List ℕ) (k : ℕ) (r : Running) → IsSound h → search_at h name k ≡ Some r →
-    (t : Tenant) × (tenant_named name h.tenants ≡ Some t) × IsSoundSearch h.journal name t.holder.limits.work r
-sound_at h name k r sound at = by (tenant_named name h.tenants) refl at
-  where
-    by : (o : Option Tenant) → tenant_named name h.tenants ≡ o → running_of k o ≡ Some r → (t : Tenant) × (tenant_named name h.tenants ≡ Some t) × IsSoundSearch h.journal name t.holder.limits.work r
-    by None none found = cc
-    by (Some t) is found =
-        let this : IsSoundTenant h.journal t × (t.name ≡ name) = found_tenant (IsSoundTenant h.journal) name h.tenants sound.tenants t is in
-        (t, is, subst (λ (n : List ℕ). IsSoundSearch h.journal n t.holder.limits.work r) this.1 (found_in (IsSoundSearch h.journal t.name t.holder.limits.work) k r t.holder found this.0.searches))
-
 pub stepped_sound : (old new : HallState) (made : Step) (answer : Stepped) (o : Option Running) → search_at old (step_name made) (step_search made) ≡ o → IsSound old →
     StepsRunning old o made answer new → IsSound new
 stepped_sound old new made answer None is sound steps = subst IsSound (sym steps.1) sound
@@ -160,14 +147,10 @@ stepped_sound old new made answer (Some r) is sound (s, steps, after) =
           (search_steps old.journal t.name t.holder.limits.work r s (step_goes_on r.search s made answer steps)) sound_here.searches;
     }))
 
-pub events_keep : EventsKeepSoundness
-events_keep old new (event.Request name q) told sound served = served_sound old new name q told sound served
-events_keep old new (event.Step made) told sound (answer, is, stepped) = stepped_sound old new made answer (search_at old (step_name made) (step_search made)) refl sound stepped
-
 -- nobody has done anything in a new hall
 fresh_tenants : (journal : List Entry) (rows : List (List ℕ × Quota)) → AllByRecursion (IsSoundTenant journal) (map new_tenant rows)
 fresh_tenants journal [] = tt
 fresh_tenants journal (row ∷ rows) = (record { numbers = tt; searches = tt }, fresh_tenants journal rows)
 
-pub new_sound : NewHallsAreSound
+pub new_sound : (h : HallState) → IsNewHall h → IsSound h
 new_sound h (roster, distinct, is) = subst IsSound (sym is) (record { names = distinct; tenants = fresh_tenants [] roster })

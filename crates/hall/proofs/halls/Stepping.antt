@@ -11,7 +11,8 @@ use Rattle.scholten_core.specs.Step.{started}
 use Rattle.credential_text.specs.declared.exprs.Expr.TheVariants.{Rol}
 use Rattle.search.specs.declared.letters.Load.TheVariants as load
 use Rattle.search.specs.declared.stages.Stage.{Stage}
-use Rattle.search.specs.Ending.{Settled, Nothing, MaySettle, asked_role, found}
+use Rattle.search.specs.Ending.{Settled, Nothing, MaySettle, asked_role}
+use Rattle.search.specs.Found.{found}
 use Rattle.search.specs.Search.{SearchState, SameQuestion, settled_of}
 use Rattle.search.specs.Quiet.{NoneHeld}
 use Rattle.search.specs.Finish.{Finishes}
@@ -28,14 +29,14 @@ pub record SearchGoesOn (old new : SearchState) : Type 0 where
   pub settles : MaySettle old.work (credentials old.snapshot.vaults) old.query (settled_of old) (settled_of new)
 
 -- another stage is no other question
-staged : (old new : SearchState) (at : Stage) → new ≡ record old { stage = at } → SameQuestion old new
+pub staged : (old new : SearchState) (at : Stage) → new ≡ record old { stage = at } → SameQuestion old new
 staged old new at is = record {
   query = ap (λ (s : SearchState). s.query) is;
   work = ap (λ (s : SearchState). s.work) is;
   snapshot = ap (λ (s : SearchState). s.snapshot) is;
 }
 
-finish_keeps : (old new : SearchState) (letter : ℕ) (hint : Hint) (f : Finished) → Finishes old new letter hint f → SameQuestion old new
+pub finish_keeps : (old new : SearchState) (letter : ℕ) (hint : Hint) (f : Finished) → Finishes old new letter hint f → SameQuestion old new
 finish_keeps old new letter hint finished.NotHeld finishes = staged old new old.stage finishes.1
 finish_keeps old new letter hint finished.BadHint (l, need, held, needs, wrong, is) = staged old new _ is
 finish_keeps old new letter hint finished.Done (l, rightly, received, question) = question

@@ -1,9 +1,8 @@
 -- What is told of a search, by its status.
-use Rattle.std.proofs.Common.{◌≡◌, ◌==◌, ℕ, Bool, true, false, cond, List, ap, sym, refl}
+use Rattle.std.proofs.Common.{◌≡◌, ◌==◌, Bool, true, false, cond, refl}
 use Rattle.std.specs.List.{list_any}
 use Rattle.std.proofs.lemmas.Bool.Decides.{Decides-eqb}
 use Rattle.names.specs.Name.{is_same}
-use Rattle.names.specs.declared.roles.Role.{Role}
 use Rattle.cred_graph.specs.GraphState.{GraphState, members_of}
 use Rattle.scholten_core.specs.Computation.{outstanding}
 use Rattle.search.specs.declared.outcomes.Status.TheVariants as status
@@ -11,7 +10,8 @@ use Rattle.search.specs.declared.queries.Query.{Query}
 use Rattle.search.specs.declared.queries.Query.TheVariants.{Ask, Who}
 use Rattle.search.specs.declared.stages.Stage.{Stage}
 use Rattle.search.specs.declared.stages.Stage.TheVariants as stage
-use Rattle.search.specs.Ending.{Nothing, Yes, No, Members, status_of, found, come_to}
+use Rattle.search.specs.Ending.{Nothing, Yes, No}
+use Rattle.search.specs.Found.{status_of, found, come_to}
 use Rattle.search.specs.Search.{SearchState, settled_of, IsCompleted, IsOutstanding}
 use Rattle.hall.specs.declared.calls.answers.Answer.TheVariants as answer
 use Rattle.hall.specs.halls.Account.{answer_of}
@@ -29,26 +29,6 @@ completed_at stage.Broken g q is = cc
 pub completed : (s : SearchState) → status.Members ≡ status_of (settled_of s) → IsCompleted s.stage
 unfolding settled_of
 completed s is = completed_at s.stage s.graph s.query is
-
-asked_no_members : (g : GraphState) (role : Role) (who : List ℕ) (st : Stage) → status.Members ≡ status_of (come_to st g (Ask role who)) → ⊥
-asked_no_members g role who (stage.Running c) is = by (outstanding c == 0) (list_any (is_same who) (members_of g 0)) is
-  where
-    by : (b d : Bool) → status.Members ≡ status_of (cond b (cond d Yes No) Nothing) → ⊥
-    by true true is = cc
-    by true false is = cc
-    by false d is = cc
-asked_no_members g role who stage.Spent is = cc
-asked_no_members g role who stage.Broken is = cc
-
-members_at : (st : Stage) (g : GraphState) (q : Query) (names : List (List ℕ)) → status.Members ≡ status_of (come_to st g q) →
-    ((role : Role) → q ≡ Who role → come_to st g q ≡ Members names) → answer.Members names ≡ answer_of (come_to st g q)
-members_at st g (Ask role who) names is listed = absurd (asked_no_members g role who st is)
-members_at st g (Who role) names is listed = sym (ap answer_of (listed role refl))
-
-pub members_told : (s : SearchState) (names : List (List ℕ)) → status.Members ≡ status_of (settled_of s) →
-    ((role : Role) → s.query ≡ Who role → settled_of s ≡ Members names) → answer.Members names ≡ answer_of (settled_of s)
-unfolding settled_of
-members_told s names is listed = members_at s.stage s.graph s.query names is listed
 
 -- what is told of a search that still works is that something is outstanding
 works_at : (st : Stage) (g : GraphState) (q : Query) → answer.Working ≡ answer_of (come_to st g q) → IsOutstanding st

@@ -14,10 +14,10 @@ settles_twice limit C q a b c (inl e) (inr f) = inr (sym e ∙ f.0, f.1)
 settles_twice limit C q a b c (inr e) (inl f) = inr (e.0, subst (IsEnding limit C q) (sym f) e.1)
 settles_twice limit C q a b c (inr e) (inr f) = inr (e.0, f.1)
 
--- what was come to stays
-pub settled_stays : {limit : ℕ} {C : List Credential} {q : Query} {a b : Settled} → MaySettle limit C q a b → a ≢ Nothing → b ≡ a
-settled_stays (inl same) some = same
-settled_stays (inr was) some = absurd (some was.0)
+-- a search that has come to something has come to an end
+pub came_to_end : (limit : ℕ) (C : List Credential) (q : Query) (a : Settled) → MaySettle limit C q Nothing a → a ≢ Nothing → IsEnding limit C q a
+came_to_end limit C q a (inl e) some = absurd (some e)
+came_to_end limit C q a (inr end) some = end.1
 
 -- a query has one truth over some credentials
 pub truth_unique : (C : List Credential) (q : Query) (a b : Settled) → IsTruth C q a → IsTruth C q b → a ≡ b

@@ -1,23 +1,17 @@
 -- What a tenant is told of its view.
-use Rattle.std.proofs.Common.{◌≡◌, ◌∙◌, ◌||◌, ℕ, Bool, true, false, List, find, is_some, position, map, ap, sym, refl, Option, Some, None, option_map}
+use Rattle.std.proofs.Common.{◌≡◌, ◌∙◌, ◌||◌, ℕ, Bool, true, false, List, find, is_some, position, map, ap, refl, Option, Some, None, option_map}
 use Rattle.std.proofs.lemmas.List.Elements.{All-contains}
 use Rattle.rt0_rules.proofs.Elements.{find-Some, find-None}
-use Rattle.credential_text.specs.declared.credentials.Credential.{Credential}
 use Rattle.vaults.specs.declared.changes.Entry.{Entry}
-use Rattle.vaults.specs.declared.marks.Seen.{Seen}
 use Rattle.names.specs.Name.{is_same}
-use Rattle.vaults.specs.Journal.{reads, granted, is_public, vault, names_read, marked_names, vault_record, view, marked_view, unmarked}
+use Rattle.vaults.specs.Journal.{reads, granted, is_public, vault, names_read, vault_record, view, marked_view, unmarked}
 use Rattle.vaults.proofs.Exactness.{names_read_exact, marked_views_exact}
 use Rattle.names.proofs.SameNames.{same_from_is_same, is_same_itself}
-use Rattle.hall.specs.declared.calls.requests.Request.TheVariants as request
-use Rattle.hall.specs.declared.calls.replies.Reply.TheVariants as reply
 use Rattle.hall.specs.halls.Account.{Account, rows_in, rows_of}
 use Rattle.hall.specs.halls.State.{Tenant, HallState, is_tenant, tenant_named, account, account_of}
-use Rattle.hall.specs.halls.Run.{IsServed}
 use Rattle.hall.proofs.Elements.{find-map}
 use Rattle.hall.proofs.halls.Seated.{is_called, place_is}
 use Rattle.hall.proofs.halls.Finding.{placed}
-use Rattle.hall.proofs.halls.Served.{told_served}
 
 -- a name has a place exactly where it is a tenant's
 pub tenant_is_found : (h : HallState) (names : List (List ℕ)) (who : List ℕ) → names ≡ map (λ t. t.name) h.tenants → is_some (position (is_same who) names) ≡ is_tenant h who
@@ -39,7 +33,7 @@ own_name journal who = by (find (λ o. is_same o who) (names_read journal who)) 
     by (Some owner) found = ap Some (same_from_is_same owner who (find-Some (λ (o : List ℕ). is_same o who) (names_read journal who) owner found).1)
 
 -- the view lists the reader's own vault
-own_rows : (journal : List Entry) (who : List ℕ) → rows_of who (unmarked (marked_view journal who)) ≡ vault journal who
+pub own_rows : (journal : List Entry) (who : List ℕ) → rows_of who (unmarked (marked_view journal who)) ≡ vault journal who
 unfolding view
 own_rows journal who =
     ap (rows_of who) (marked_views_exact journal who).0
@@ -53,9 +47,3 @@ module _ (h : HallState) (who : List ℕ) where
       by : (o : Option Tenant) → tenant_named who h.tenants ≡ o → is_some o ≡ true → (a : Account) × (account_of h who ≡ Some a)
       by None found is = cc
       by (Some t) found is = (account h.journal t, ap (option_map (account h.journal)) found)
-
-  pub vault_served : (rows : List Credential) → is_tenant h who ≡ true → rows ≡ vault h.journal who → IsServed h who request.Vault (reply.Vault rows) h
-  vault_served rows is own = told_served h who request.Vault (known is).0 (known is).1 (reply.Vault rows) h (ap reply.Vault (own ∙ sym (own_rows h.journal who))) refl
-
-  pub sees_served : (names : List Seen) → is_tenant h who ≡ true → names ≡ marked_names h.journal who → IsServed h who request.Sees (reply.Sees names) h
-  sees_served names is read = told_served h who request.Sees (known is).0 (known is).1 (reply.Sees names) h (ap reply.Sees (read ∙ sym (marked_views_exact h.journal who).1)) refl

@@ -25,7 +25,7 @@ nothing_left : {E : Type 0} (most n : ℕ) (quiet : Type 0) (result : Result (Un
 nothing_left most n quiet (Ok done) left = inr left
 nothing_left most n quiet (Err lacked) left = tt
 
-whole_by : {E : Type 0} (most n : ℕ) (P Q : Type 0) (result : Result (Unit {0}) E) → (P → Q) → IsWhole most n P result → IsWhole most n Q result
+pub whole_by : {E : Type 0} (most n : ℕ) (P Q : Type 0) (result : Result (Unit {0}) E) → (P → Q) → IsWhole most n P result → IsWhole most n Q result
 whole_by most n P Q (Ok done) by (inl all) = inl all
 whole_by most n P Q (Ok done) by (inr left) = inr (by left)
 whole_by most n P Q (Err lacked) by whole = tt

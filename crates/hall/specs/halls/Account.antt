@@ -1,5 +1,5 @@
 -- What one tenant may be told: by its own account and view alone. No other tenant stands in these definitions.
-use Rattle.std.specs.Prelude.{◌≡◌, ◌⊎◌, ℕ, ◌+◌, nat_le, List, [], ◌∷◌, ◌++◌, length, map, find, Option, None, Some}
+use Rattle.std.specs.Prelude.{[], ◌≡◌, ◌⊎◌, ℕ, ◌+◌, nat_le, List, ◌∷◌, ◌++◌, length, map, find, Option, None, Some}
 use Rattle.std.specs.Prelude.{if◌then◌else◌, option_map}
 use Rattle.credential_text.specs.declared.credentials.Credential.{Credential}
 use Rattle.quotas.specs.Quota.{Quota}
@@ -10,48 +10,24 @@ use Rattle.vaults.specs.declared.changes.Change.TheVariants.{Upload, Withdraw, G
 use Rattle.vaults.specs.declared.changes.Entry.{Entry}
 use Rattle.vaults.specs.Journal.{vault, grant_count, refusal, Vault, Marked, unmarked, seen_of, credentials}
 use Rattle.search.specs.declared.queries.Query.{Query}
-use Rattle.search.specs.Ending.{Settled, Nothing, Yes, No, Members, Spent, Broken, MaySettle, asked_role}
+use Rattle.search.specs.Ending.{Nothing, MaySettle, asked_role}
 use Rattle.proof_trees.specs.declared.steps.Step.{Step as ProofStep}
 use Rattle.proof_trees.specs.Proof.{IsProof}
 use Rattle.hall.specs.declared.faults.Fault.{Fault}
 use Rattle.hall.specs.declared.faults.Fault.TheVariants as fault
 use Rattle.hall.specs.declared.calls.requests.Request.{Request}
 use Rattle.hall.specs.declared.calls.requests.Request.TheVariants as request
-use Rattle.hall.specs.declared.calls.answers.Answer.{Answer}
-use Rattle.hall.specs.declared.calls.answers.Answer.TheVariants as answer
 use Rattle.hall.specs.declared.calls.replies.Reply.{Reply}
 use Rattle.hall.specs.declared.calls.replies.Reply.TheVariants as reply
 use Rattle.hall.specs.Fault.{vault_fault}
-use Rattle.hall.specs.halls.Holder.{Holder, search_in, opening, ending, seek_refusal, Beside}
-
--- a search that has not ended, as its asker knows it: what was asked, over which view, marks left out, and what it has come to
-pub record Asked : Type 0 where
-  pub query : Query
-  pub view : List Vault
-  pub settled : Settled
+pub use Rattle.hall.specs.Account.{Asked}
+pub use Rattle.hall.specs.Answers.{answer_of, IsAnswer}
+use Rattle.hall.specs.halls.Holder.{Holder, search_in, opening, ending, seek_refusal}
 
 -- all that a tenant's replies depend on, but for its view: its own entries of the journal, and what it holds of searches
 pub record Account : Type 0 where
   pub entries : List Entry
   pub holder : Holder Asked
-
--- what is told of a search
-abbrev pub answer_of : Settled → Answer
-answer_of Nothing = answer.Working
-answer_of Yes = answer.Yes
-answer_of No = answer.No
-answer_of (Members names) = answer.Members names
-answer_of Spent = answer.Spent
-answer_of Broken = answer.Broken
-
--- the query is answered
-abbrev pub IsAnswer : Settled → Type 0
-IsAnswer Nothing = ⊥
-IsAnswer Yes = Unit {0}
-IsAnswer No = Unit {0}
-IsAnswer (Members names) = Unit {0}
-IsAnswer Spent = ⊥
-IsAnswer Broken = ⊥
 
 -- the first of two refusals
 abbrev pub first_of_two : Option Fault → Option Fault → Option Fault
@@ -172,32 +148,8 @@ sight view request.Vault = view
 sight view request.Sees = view
 sight view (request.Proof k who) = []
 
--- a request, with what it looks at of what its tenant sees just before it
-pub record Moment : Type 0 where
-  pub view : List Marked
-  pub request : Request
-
--- an allowed reply, and what it leaves
-pub record Allowed (tenant : List ℕ) (moment : Moment) (old : Account) (told : Reply) (new : Account) : Type 0 where
-  pub may_reply : MayReply tenant moment.view old moment.request told
-  pub after : new ≡ account_after tenant moment.view old moment.request told
-
 -- the search goes on, and may settle
 pub record GoesOn (limit : ℕ) (old new : Asked) : Type 0 where
   pub query : new.query ≡ old.query
   pub view : new.view ≡ old.view
   pub settled : MaySettle limit (credentials old.view) old.query old.settled new.settled
-
--- between two requests searches may settle, and nothing else happens to an account
-pub record Waits (old new : Account) : Type 0 where
-  pub entries : new.entries ≡ old.entries
-  pub holder : Beside (GoesOn old.holder.limits.work) old.holder new.holder
-
--- the replies to the requests of a trace, one after another, are allowed ones
-abbrev pub AllowedRun : List ℕ → Account → List Moment → List Reply → Account → Type 0
-AllowedRun tenant old [] [] new = Waits old new
-AllowedRun tenant old (moment ∷ moments) (told ∷ replies) new =
-    (before : Account) × (after : Account) × Waits old before × Allowed tenant moment before told after
-    × AllowedRun tenant after moments replies new
-AllowedRun tenant old [] (told ∷ replies) new = ⊥
-AllowedRun tenant old (moment ∷ moments) [] new = ⊥

@@ -2,7 +2,7 @@
 use Rattle.std.specs.Prelude.{◌≡◌, ◌≤◌, ◌+◌, ◌++◌, ◌∷◌, ◌⊎◌, ℕ, Bool, true, false, List, [], map, slice_set, slice_get}
 use Rattle.std.specs.Prelude.{Option, None, Some, Result, Ok, Err}
 use Rattle.std.specs.List.{Contains}
-use Rattle.search.specs.Ending.{Settled}
+use Rattle.search.specs.Ending.{Settled, Members}
 use Rattle.search.specs.Search.{SearchState, Settles, IsOutstanding, settled_of}
 use Rattle.search.specs.Stage.{waiting_in, signals_in}
 use Rattle.search.specs.Finish.{Takes}
@@ -16,18 +16,21 @@ use Rattle.hall.specs.declared.calls.steps.Step.TheVariants.{Take, Signal}
 use Rattle.hall.specs.halls.Holder.{Numbered}
 use Rattle.hall.specs.halls.Account.{answer_of}
 use Rattle.hall.specs.halls.State.{Running, Tenant, HallState, IsSound}
-use Rattle.hall.specs.halls.Calls.{TakenLetter}
-use Rattle.hall.specs.halls.Visits.{IsWhole}
+use Rattle.hall.specs.Visits.{TakenLetter, IsWhole}
 
 -- the tenants' names stand as the tenants do, and the hall is sound
 pub record IsKept (names : List (List ℕ)) (h : HallState) : Type 0 where
   pub in_place : names ≡ map (λ t. t.name) h.tenants
   pub sound : IsSound h
 
--- what it has come to is told, where there is memory to tell it
+-- it lists members
+abbrev pub ListsMembers : Settled → Type 0
+ListsMembers s = (names : List (List ℕ)) × (s ≡ Members names)
+
+-- what it has come to is told; memory may lack where that lists members
 abbrev pub IsToldOf : Settled → Result Answer Fault → Type 0
 IsToldOf s (Ok told) = told ≡ answer_of s
-IsToldOf s (Err f) = f ≡ Memory
+IsToldOf s (Err f) = (f ≡ Memory) × ListsMembers s
 
 -- the same, with this search in its place
 abbrev pub with_search : SearchState → Numbered Running → Numbered Running

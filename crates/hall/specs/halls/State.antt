@@ -7,15 +7,10 @@ use Rattle.names.specs.Name.{is_same}
 use Rattle.vaults.specs.declared.changes.Entry.{Entry}
 use Rattle.vaults.specs.Journal.{entries_of, view, credentials}
 use Rattle.search.specs.Ending.{Nothing, MaySettle}
-use Rattle.search.specs.Search.{SearchState}
+pub use Rattle.hall.specs.Hall.{Running}
 use Rattle.hall.specs.halls.Searches.{settled_of}
 use Rattle.hall.specs.halls.Holder.{Holder, Numbered, AreNumbered, search_in, map_holder}
 use Rattle.hall.specs.halls.Account.{Asked, Account}
-
--- a search, with the journal's length at its opening
-pub record Running : Type 0 where
-  pub opened_at : ℕ
-  pub search : SearchState
 
 pub record Tenant : Type 0 where
   pub name : List ℕ

@@ -1,7 +1,8 @@
 -- What somebody who works for a hall does to one search in a row.
-use Rattle.std.specs.Prelude.{◌≡◌, ◌≤◌, ◌+◌, ◌++◌, ◌∷◌, ◌⊎◌, ℕ, List, [], Some, Result, Ok, Err}
+use Rattle.std.specs.Prelude.{◌≡◌, ◌≤◌, ◌+◌, ◌++◌, ◌∷◌, ℕ, List, [], Some, Result}
 use Rattle.hall.specs.declared.calls.steps.Step.TheVariants.{Signal}
 use Rattle.hall.specs.declared.calls.steps.Stepped.TheVariants.{Signalled}
+pub use Rattle.hall.specs.Visits.{IsWhole}
 use Rattle.hall.specs.halls.State.{HallState}
 use Rattle.hall.specs.halls.Run.{IsStepped}
 use Rattle.hall.specs.halls.Calls.{TakenLetter, IsTaken, SearchIsQuiet}
@@ -14,11 +15,6 @@ pub data IsWorkedOn (who : List ℕ) (number : ℕ) (old : HallState) : ℕ → 
       IsStepped middle (Signal who number 0) Signalled new → IsWorkedOn who number old (n + 1) taken new
   letter : {n : ℕ} {taken : List TakenLetter} {job : TakenLetter} {middle new : HallState} → IsWorkedOn who number old n taken middle →
       IsTaken middle who number 0 (Some job) new → IsWorkedOn who number old (n + 1) (taken ++ job ∷ []) new
-
--- so many steps are all that may be made, or nothing was left to do; where memory lacked there may be fewer
-abbrev pub IsWhole : {E : Type 0} → ℕ → ℕ → Type 0 → Result (Unit {0}) E → Type 0
-IsWhole most n nothing_left (Ok done) = (n ≡ most) ⊎ nothing_left
-IsWhole most n nothing_left (Err lacked) = Unit {0}
 
 -- at most so many such steps are made, fewer only where nothing of the search is left to do or memory lacks, and the letters
 -- stand behind those that are held

@@ -17,7 +17,7 @@ pub enum Step {
 
 impl Step {
     ghost use Rattle.std.specs.Prelude.{◌≡◌};
-    ghost use Rattle.hall.specs.halls.Run.{step_name, step_search};
+    ghost use Rattle.hall.specs.Hall.{step_name, step_search};
 
     /// Whose search it is made of.
     pub(crate) fn who(&self) -> Entity

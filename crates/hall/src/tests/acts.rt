@@ -1,6 +1,7 @@
 //! Events as a table writes them, and what a table wants each to be answered.
 use super::entity;
-use crate::{Answer, Event, Fault, Hall, Names, Query, Reply, Request, Sights, Step, Stepped};
+use crate::{Answer, Event, Fault, Hall, Names, Query, Reply, Request, Rows, Sights, Step, Stepped};
+use crate::{Proof, write_proof};
 use credential_text::read_credential;
 use names::Role;
 use search::{Hint, Need};
@@ -30,7 +31,10 @@ pub(super) enum Act {
     Who(&'static str, &'static str),
     Poll(&'static str, u64),
     Close(&'static str, u64),
+    Vault(&'static str),
     Sees(&'static str),
+    /// Why is the entity a member of the role that the search of this number asked about?
+    Proof(&'static str, u64, &'static str),
     /// The waiting letter at this place is taken.
     Take(&'static str, u64, u64),
     /// The letter of this number is given back.
@@ -51,6 +55,10 @@ pub(super) enum Told {
     No,
     Members(&'static [&'static str]),
     Closed,
+    /// The credentials that these texts spell.
+    Vault(&'static [&'static str]),
+    /// These lines.
+    Proof(&'static str),
     /// These names, each with whether its vault is read by every tenant.
     Sees(&'static [(&'static str, bool)]),
     /// Refused by the fault of this number.
@@ -99,7 +107,11 @@ fn event(alloc: Global, act: &Act) -> Result<Event, Fail> {
         }
         Act::Poll(who, number) => Event::Request(entity(who)?, Request::Poll(*number)),
         Act::Close(who, number) => Event::Request(entity(who)?, Request::Close(*number)),
+        Act::Vault(who) => Event::Request(entity(who)?, Request::Vault),
         Act::Sees(who) => Event::Request(entity(who)?, Request::Sees),
+        Act::Proof(who, number, member) => {
+            Event::Request(entity(who)?, Request::Proof(*number, entity(member)?))
+        }
         Act::Take(who, number, place) => Event::Step(Step::Take(entity(who)?, *number, *place)),
         Act::GiveBack(who, number, letter) => {
             Event::Step(Step::GiveBack(entity(who)?, *number, *letter))
@@ -129,6 +141,25 @@ fn are_named(names: &Names, wanted: &[&str]) -> bool {
             .iter()
             .zip(wanted)
             .all(|(name, text)| name.bytes() == text.as_bytes())
+}
+
+/// Whether these are the credentials that the texts spell, in this order.
+fn are_spelled(alloc: Global, rows: &Rows, wanted: &[&str]) -> Result<bool, Fail> {
+    let rows = rows.as_slice();
+    let mut are = rows.len() == wanted.len();
+    for (row, text) in rows.iter().zip(wanted) {
+        are &= row
+            .compare(&read_credential(alloc, text.as_bytes())?)
+            .is_eq();
+    }
+    Ok(are)
+}
+
+/// Whether the proof is written in these lines.
+fn is_written(alloc: Global, proof: &Proof, wanted: &str) -> Result<bool, AllocError> {
+    let mut lines = Vec::new(alloc);
+    write_proof(proof, &mut lines)?;
+    Ok(lines.as_slice() == wanted.as_bytes())
 }
 
 /// Whether these are the names with their marks, in this order.
@@ -172,14 +203,16 @@ fn came_to(answer: &Answer, wanted: &Told) -> Result<bool, Fail> {
 }
 
 /// Whether the reply is the one that is wanted. Where memory was refused, that is the fault.
-fn is_told(reply: &Reply, wanted: &Told) -> Result<bool, Fail> {
+fn is_told(alloc: Global, reply: &Reply, wanted: &Told) -> Result<bool, Fail> {
     Ok(match (reply, wanted) {
         (Reply::Refused(Fault::Memory), _) => Err(AllocError)?,
         (Reply::Refused(fault), Told::Refused(number)) => fault.number() == *number,
         (Reply::Counted(count), Told::Counted(wanted)) => count == wanted,
         (Reply::Opened(number), Told::Opened(wanted)) => number == wanted,
         (Reply::Closed, Told::Closed) => true,
+        (Reply::Vault(rows), Told::Vault(wanted)) => are_spelled(alloc, rows, wanted)?,
         (Reply::Sees(sights), Told::Sees(wanted)) => are_seen(sights, wanted),
+        (Reply::Proof(proof), Told::Proof(wanted)) => is_written(alloc, proof, wanted)?,
         (Reply::Answered(answer), _) => came_to(answer, wanted)?,
         (Reply::Stepped(stepped), _) => went(stepped, wanted)?,
         _ => false,
@@ -206,7 +239,7 @@ pub(super) fn first_wrong(
         return Err("one reply for each event")?;
     }
     for (place, (reply, told)) in replies.iter().zip(&wanted).enumerate() {
-        if !is_told(reply, told)? {
+        if !is_told(alloc, reply, told)? {
             return Ok(Some(place));
         }
     }

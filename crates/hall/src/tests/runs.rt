@@ -9,7 +9,7 @@ use std::alloc::Global;
 use std::test::Fail;
 
 /// The hall of tenants A and B, who have done nothing.
-fn two_tenants(alloc: Global) -> Result<Hall, Fail> {
+pub(super) fn two_tenants(alloc: Global) -> Result<Hall, Fail> {
     let (a, b) = (entity("A")?, entity("B")?);
     if a == b {
         return Err("two names")?;
@@ -42,7 +42,7 @@ const NONE: Hint = Hint::Rows(Span {
 });
 
 /// A holds that D is in A.r, asks about D, and the first letter is taken. A name that is no tenant's is refused.
-static ASKED: [(Act, Told); 4] = [
+pub(super) static ASKED: [(Act, Told); 4] = [
     (Act::Put("A", "A.r <- D"), Told::Counted(1)),
     (Act::Sees("Z"), Told::Refused(62)),
     (Act::Ask("A", "A.r", "D"), Told::Opened(1)),
@@ -50,7 +50,7 @@ static ASKED: [(Act, Told); 4] = [
 ];
 
 /// The search goes on with its first letter, to its answer.
-static ANSWERED: [(Act, Told); 12] = [
+pub(super) static ANSWERED: [(Act, Told); 12] = [
     (Act::Poll("A", 1), Told::Working),
     (Act::Finish("A", 1, 1, FIRST), Told::Done),
     (Act::Take("A", 1, 0), Told::Took(2)),

@@ -1,4 +1,4 @@
-use Rattle.hall.proofs.halls.TrueAnswers.{answers_true}
+use Rattle.hall.proofs.laws.RightAnswers.{answers_true}
 use Rattle.hall.proofs.run_laws.answers_are_true.Goals as goal
 
 pub returns : goal.returns

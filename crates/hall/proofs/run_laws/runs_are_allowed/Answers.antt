@@ -1,5 +1,5 @@
-use Rattle.hall.proofs.halls.Sound.{events_keep, new_sound}
-use Rattle.hall.proofs.halls.Runs.{runs_allowed}
+use Rattle.hall.proofs.laws.HallSound.{events_keep, new_sound}
+use Rattle.hall.proofs.laws.HallRuns.{runs_allowed}
 use Rattle.hall.proofs.run_laws.runs_are_allowed.Goals as goal
 
 pub returns-clause-allowed : goal.returns-clause-allowed

@@ -1,25 +1,21 @@
 use Rattle.std.proofs.Common.{◌∙◌, sym}
 use Rattle.std.proofs.lemmas.Result.{err_from_is_err_and}
-use Rattle.hall.proofs.halls.Explaining.{nothing_explained, proof_served, refusal_served, refusal_last}
+use Rattle.hall.proofs.bridge.Viewed.{nothing_proved, proof_told, proof_refused}
 use Rattle.hall.proofs.registry.Hall.proof.Goals as goal
 
-pub returns-in_default-clause-served : goal.returns-in_default-clause-served
-returns-in_default-clause-served c =
-    nothing_explained c.args.self.now c.args.who c.args.number c.args.member c.alloc-alloc.ensures.sound (sym c.has.ensures ∙ c.if-not-has.false) c.in_default.ensures
+pub returns-in_default : goal.returns-in_default
+returns-in_default c = record { served = nothing_proved c.args.self.now c.args.who (sym c.has.ensures ∙ c.if-not-has.false) c.args.number c.args.member c.in_default.ensures }
 
-pub returns-in_err-proof_of-clause-served : goal.returns-in_err-proof_of-clause-served
-returns-in_err-proof_of-clause-served c =
+pub returns-in_err-proof_of : goal.returns-in_err-proof_of
+returns-in_err-proof_of c =
     let p = err_from_is_err_and c.from_residual.result c.from_residual.ensures.1 in
-    rw p.1 (refusal_served c.args.self.now c.args.who c.args.number c.args.member c.alloc-alloc.ensures.sound (sym c.has.ensures ∙ c.if-not-has.false)
-    c.in-Some.search.now c.in-Some.ensures c.in_err-proof_of.field-0.0 p.0 p.2 c.in_err-proof_of.ensures.refused)
+    rw p.1 record {
+      served = proof_refused c.args.self.now c.args.who (sym c.has.ensures ∙ c.if-not-has.false) c.args.number c.args.member
+          c.in-Some.search.now c.in-Some.ensures c.in_err-proof_of.field-0.0 p.0 p.2 c.in_err-proof_of.ensures.refused;
+    }
 
-pub returns-in_err-proof_of-clause-memory_last : goal.returns-in_err-proof_of-clause-memory_last
-returns-in_err-proof_of-clause-memory_last c =
-    let p = err_from_is_err_and c.from_residual.result c.from_residual.ensures.1 in
-    rw p.1 (refusal_last c.args.self.now c.args.who c.args.number c.args.member c.alloc-alloc.ensures.sound (sym c.has.ensures ∙ c.if-not-has.false)
-    c.in-Some.search.now c.in-Some.ensures c.in_err-proof_of.field-0.0 p.0 p.2 c.in_err-proof_of.ensures.refused)
-
-pub returns-clause-served : goal.returns-clause-served
-returns-clause-served c =
-    proof_served c.args.self.now c.args.who c.args.number c.args.member c.alloc-alloc.ensures.sound (sym c.has.ensures ∙ c.if-not-has.false)
-    c.in-Some.search.now c.in-Some.ensures c.in_ok-proof_of.field-0 c.in_ok-proof_of.ensures.completed c.in_ok-proof_of.ensures.proof
+pub returns : goal.returns
+returns c = record {
+  served = proof_told c.args.self.now c.args.who (sym c.has.ensures ∙ c.if-not-has.false) c.args.number c.args.member
+      c.in-Some.search.now c.in-Some.ensures c.in_ok-proof_of.field-0 c.in_ok-proof_of.ensures.completed c.in_ok-proof_of.ensures.proof;
+}

@@ -1,0 +1,10 @@
+pub mod Found
+pub mod Polled
+pub mod Viewed
+pub mod State
+pub mod Requests
+pub mod Calls
+pub mod Steps
+pub mod Visits
+pub mod Drive
+pub mod Pick

@@ -1,0 +1,16 @@
+pub mod HallChanges
+pub mod HallSteps
+pub mod HallRequests
+pub mod HallSound
+pub mod HallTurns
+pub mod HallAccounts
+pub mod HallRuns
+pub mod ExactHeld
+pub mod ExactWaits
+pub mod ExactRuns
+pub mod AccountsAlike
+pub mod AccountReplies
+pub mod Worlds
+pub mod RefusedFirst
+pub mod RightOpenings
+pub mod RightAnswers

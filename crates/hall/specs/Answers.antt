@@ -1,0 +1,104 @@
+-- What answers a request of one tenant: its own account, and what it has in sight, alone.
+use Rattle.std.specs.Prelude.{◌≡◌, ◌⊎◌, ℕ, ◌+◌, List, [], ◌∷◌, ◌++◌, length, map, Option, None, Some}
+use Rattle.std.specs.FinMap.{get, insert, remove}
+use Rattle.rt0_rules.specs.Membership.{IsMember}
+use Rattle.vaults.specs.declared.marks.Seen.{Seen}
+use Rattle.vaults.specs.Journal.{Vault, Marked, vault, unmarked, seen_of, credentials}
+use Rattle.search.specs.Ending.{Settled, Nothing, Yes, No, Members, Spent, Broken, asked_role}
+use Rattle.proof_trees.specs.declared.steps.Step.{Step as ProofStep}
+use Rattle.proof_trees.specs.Proof.{IsProof}
+use Rattle.hall.specs.declared.faults.Fault.{Fault}
+use Rattle.hall.specs.declared.faults.Fault.TheVariants as fault
+use Rattle.hall.specs.declared.calls.requests.Request.{Request}
+use Rattle.hall.specs.declared.calls.requests.Request.TheVariants as request
+use Rattle.hall.specs.declared.calls.answers.Answer.{Answer}
+use Rattle.hall.specs.declared.calls.answers.Answer.TheVariants as answer
+use Rattle.hall.specs.declared.calls.replies.Reply.{Reply}
+use Rattle.hall.specs.declared.calls.replies.Reply.TheVariants as reply
+use Rattle.hall.specs.Account.{Asked, Account, alter_refusal, seek_refusal}
+
+-- what a request looks at of what others hold: the vaults that its tenant reads, or their names with the marks
+pub record Sight : Type 0 where
+  pub vaults : List Vault
+  pub names : List Seen
+
+-- an opening looks at the vaults, marks left out, `sees` at the names, and no other request at anything
+abbrev pub sight : List Marked → Request → Sight
+sight view (request.Seek query) = record { vaults = unmarked view; names = [] }
+sight view request.Sees = record { vaults = []; names = map seen_of view }
+sight view _ = record { vaults = []; names = [] }
+
+-- what is told of a search
+abbrev pub answer_of : Settled → Answer
+answer_of Nothing = answer.Working
+answer_of Yes = answer.Yes
+answer_of No = answer.No
+answer_of (Members names) = answer.Members names
+answer_of Spent = answer.Spent
+answer_of Broken = answer.Broken
+
+-- the query is answered
+abbrev pub IsAnswer : Settled → Type 0
+IsAnswer Nothing = ⊥
+IsAnswer Yes = Unit {0}
+IsAnswer No = Unit {0}
+IsAnswer (Members names) = Unit {0}
+IsAnswer Spent = ⊥
+IsAnswer Broken = ⊥
+
+-- the search isn't there, has no answer, or the entity is no member
+abbrev pub RefusesProof : Option Asked → List ℕ → Fault → Type 0
+RefusesProof None who f = f ≡ fault.NoSuchSearch
+RefusesProof (Some s) who f =
+    ((f ≡ fault.NotDone) × (IsAnswer s.settled → ⊥))
+    ⊎ ((f ≡ fault.NoProof) × IsAnswer s.settled × (IsMember (credentials s.view) who (asked_role s.query) → ⊥))
+
+-- the request is due this refusal
+abbrev pub Refuses : List ℕ → Account → Request → Fault → Type 0
+Refuses tenant a (request.Alter change) f = alter_refusal a tenant change ≡ Some f
+Refuses tenant a (request.Seek query) f = seek_refusal a ≡ Some f
+Refuses tenant a (request.Poll k) f = (get a.searches k ≡ None) × (f ≡ fault.NoSuchSearch)
+Refuses tenant a (request.Close k) f = (get a.searches k ≡ None) × (f ≡ fault.NoSuchSearch)
+Refuses tenant a request.Vault f = ⊥
+Refuses tenant a request.Sees f = ⊥
+Refuses tenant a (request.Proof k who) f = RefusesProof (get a.searches k) who f
+
+-- the account with one more search, of the next number, which has come to nothing yet
+abbrev pub opened : Account → Asked → Account
+opened a s = record a { opens = a.opens + 1; searches = insert a.searches (a.opens + 1) s }
+
+-- the reply to the request where no refusal is due, and the account after it
+abbrev pub Grants : List ℕ → Sight → Account → Request → Reply → Account → Type 0
+Grants tenant sees a (request.Alter change) told b =
+    (told ≡ reply.Counted (length a.entries + 1))
+    × (b ≡ record a { entries = a.entries ++ record { tenant = tenant; change = change } ∷ [] })
+Grants tenant sees a (request.Seek query) told b =
+    (told ≡ reply.Opened (a.opens + 1)) × (b ≡ opened a (record { query = query; view = sees.vaults; settled = Nothing }))
+Grants tenant sees a (request.Poll k) told b =
+    (s : Asked) × (get a.searches k ≡ Some s) × (told ≡ reply.Answered (answer_of s.settled)) × (b ≡ a)
+Grants tenant sees a (request.Close k) told b = (told ≡ reply.Closed) × (b ≡ record a { searches = remove a.searches k })
+Grants tenant sees a request.Vault told b = (told ≡ reply.Vault (vault a.entries tenant)) × (b ≡ a)
+Grants tenant sees a request.Sees told b = (told ≡ reply.Sees sees.names) × (b ≡ a)
+Grants tenant sees a (request.Proof k who) told b =
+    (s : Asked) × (steps : List ProofStep) × (get a.searches k ≡ Some s)
+    × IsProof (credentials s.view) (asked_role s.query) who steps × (told ≡ reply.Proof steps) × (b ≡ a)
+
+-- memory may lack for each request but an ending, and for a poll only where it lists members
+abbrev pub MayLack : Account → Request → Type 0
+MayLack a (request.Alter change) = Unit {0}
+MayLack a (request.Seek query) = Unit {0}
+MayLack a (request.Poll k) = (s : Asked) × (names : List (List ℕ)) × (get a.searches k ≡ Some s) × (s.settled ≡ Members names)
+MayLack a (request.Close k) = ⊥
+MayLack a request.Vault = Unit {0}
+MayLack a request.Sees = Unit {0}
+MayLack a (request.Proof k who) = Unit {0}
+
+-- no refusal is due
+abbrev pub IsClear : List ℕ → Account → Request → Type 0
+IsClear tenant a q = (f : Fault) → Refuses tenant a q f → ⊥
+
+-- the reply to a request and the account after it: a refusal that is due, else what was asked for, or that memory lacked
+pub data Answers (tenant : List ℕ) (sees : Sight) (a : Account) (q : Request) : Reply → Account → Type 0 where
+  refuses : (f : Fault) → Refuses tenant a q f → Answers tenant sees a q (reply.Refused f) a
+  grants : {told : Reply} {b : Account} → IsClear tenant a q → Grants tenant sees a q told b → Answers tenant sees a q told b
+  lacks : IsClear tenant a q → MayLack a q → Answers tenant sees a q (reply.Refused fault.Memory) a

@@ -1,0 +1,186 @@
+-- A whole hall, with how its searches stand: each event is what one account is answered, or a step of one search.
+use Rattle.std.specs.Prelude.{◌≡◌, ◌≢◌, ℕ, ◌≤◌, List, [], ◌∷◌, ◌++◌, length, map, take, Option, None, Some, Result, Ok, Err, option_map}
+use Rattle.std.specs.Ordering.{nat_cmp}
+use Rattle.std.specs.FinMap.{FinMap, empty, get, insert, remove, entries, from_entries}
+use Rattle.quotas.specs.Quota.{Quota}
+use Rattle.names.specs.Name.{name_order}
+use Rattle.vaults.specs.declared.changes.Entry.{Entry}
+use Rattle.vaults.specs.Journal.{entries_of, view, marked_view, credentials}
+use Rattle.search.specs.declared.queries.Query.{Query}
+use Rattle.search.specs.Ending.{Nothing, MaySettle}
+use Rattle.search.specs.Search.{SearchState, settled_of}
+use Rattle.search.specs.Driven.{IsDriven}
+use Rattle.search.specs.Quiet.{NoneHeld, IsQuiet}
+use Rattle.hall.specs.declared.faults.Fault.{Fault}
+use Rattle.hall.specs.declared.faults.Fault.TheVariants.{NoTenant}
+use Rattle.hall.specs.declared.calls.requests.Request.{Request}
+use Rattle.hall.specs.declared.calls.requests.Request.TheVariants.{Alter, Seek, Poll, Close}
+use Rattle.hall.specs.declared.calls.replies.Reply.{Reply}
+use Rattle.hall.specs.declared.calls.replies.Reply.TheVariants.{Counted, Opened, Closed, Refused, Stepped as Reported}
+use Rattle.hall.specs.declared.calls.steps.Step.{Step}
+use Rattle.hall.specs.declared.calls.steps.Step.TheVariants as step
+use Rattle.hall.specs.declared.calls.steps.Stepped.{Stepped}
+use Rattle.hall.specs.declared.calls.steps.Stepped.TheVariants.{Gone}
+use Rattle.hall.specs.declared.calls.events.Event.{Event}
+use Rattle.hall.specs.declared.calls.events.Event.TheVariants as event
+use Rattle.hall.specs.halls.Searches.{just_opened, StepsSearch}
+use Rattle.hall.specs.Account.{Asked, Account}
+use Rattle.hall.specs.Answers.{sight, Answers}
+use Rattle.hall.specs.Run.{Deed, asks, waits, Told}
+
+-- a search, with the journal's length at its opening
+pub record Running : Type 0 where
+  pub opened_at : ℕ
+  pub search : SearchState
+
+-- what a tenant may use, how many searches it opened, and those that have not ended
+pub record Tenant : Type 0 where
+  pub limits : Quota
+  pub opens : ℕ
+  pub searches : FinMap nat_cmp Running
+
+-- the journal, and the tenants by name
+pub record HallState : Type 0 where
+  pub journal : List Entry
+  pub tenants : FinMap name_order Tenant
+
+-- a search as its asker knows it
+abbrev pub seen : Running → Asked
+seen r = record { query = r.search.query; view = r.search.snapshot.vaults; settled = settled_of r.search }
+
+-- a tenant's account
+abbrev pub account : List Entry → List ℕ → Tenant → Account
+account journal name t = record {
+  limits = t.limits;
+  entries = entries_of name journal;
+  opens = t.opens;
+  searches = from_entries (map (λ e. (e.0, seen e.1)) (entries t.searches));
+}
+
+-- the account of a name, where it is a tenant's
+abbrev pub account_of : HallState → List ℕ → Option Account
+account_of h name = option_map (account h.journal name) (get h.tenants name)
+
+-- the tenant of that name is changed, if there is one
+abbrev pub changed_by : HallState → List ℕ → (Tenant → Tenant) → Option Tenant → HallState
+changed_by h name change None = h
+changed_by h name change (Some t) = record h { tenants = insert h.tenants name (change t) }
+
+abbrev pub with_tenant : HallState → List ℕ → (Tenant → Tenant) → HallState
+with_tenant h name change = changed_by h name change (get h.tenants name)
+
+-- the tenant's search of that number, if it has not ended
+abbrev pub search_of : ℕ → Option Tenant → Option Running
+search_of k None = None
+search_of k (Some t) = get t.searches k
+
+abbrev pub search_at : HallState → List ℕ → ℕ → Option Running
+search_at h name k = search_of k (get h.tenants name)
+
+-- the search of that number is this one from now on
+abbrev pub with_search : HallState → List ℕ → ℕ → Running → HallState
+with_search h name k r = with_tenant h name (λ t. record t { searches = insert t.searches k r })
+
+-- a search that is opened now: its first letter waits, and nothing else is outstanding
+abbrev pub beginning : List Entry → List ℕ → Query → ℕ → Running
+beginning journal name query work = record { opened_at = length journal; search = just_opened name (view journal name) query work }
+
+-- the hall after a request and its reply: an accepted change is entered, an opened search begins, an ended one is gone
+abbrev pub hall_after : HallState → List ℕ → Request → Reply → HallState
+hall_after h name (Alter change) (Counted n) = record h { journal = h.journal ++ record { tenant = name; change = change } ∷ [] }
+hall_after h name (Seek query) (Opened n) =
+    with_tenant h name (λ t. record t { opens = n; searches = insert t.searches n (beginning h.journal name query t.limits.work) })
+hall_after h name (Close k) Closed = with_tenant h name (λ t. record t { searches = remove t.searches k })
+hall_after h name _ _ = h
+
+-- a name that is no tenant's is refused, and a tenant is answered by its account
+abbrev pub AnswersTo : HallState → List ℕ → Option Account → Request → Reply → Option Account → Type 0
+AnswersTo h name None q told after = (told ≡ Refused NoTenant) × (after ≡ None)
+AnswersTo h name (Some a) q told after = (b : Account) × (after ≡ Some b) × Answers name (sight (marked_view h.journal name) q) a q told b
+
+-- a request is answered by the account of who asks, and the hall changes accordingly
+pub record IsServed (old : HallState) (name : List ℕ) (q : Request) (told : Reply) (new : HallState) : Type 0 where
+  pub answers : AnswersTo old name (account_of old name) q told (account_of new name)
+  pub after : new ≡ hall_after old name q told
+
+-- the reply by what a call came to
+abbrev pub told_as : {X : Type 0} → (X → Reply) → Result X Fault → Reply
+told_as reply (Ok x) = reply x
+told_as reply (Err f) = Refused f
+
+-- whose search a step is made of, and its number
+abbrev pub step_name : Step → List ℕ
+step_name (step.Take name k place) = name
+step_name (step.GiveBack name k letter) = name
+step_name (step.Finish name k letter hint) = name
+step_name (step.Signal name k place) = name
+
+abbrev pub step_search : Step → ℕ
+step_search (step.Take name k place) = k
+step_search (step.GiveBack name k letter) = k
+step_search (step.Finish name k letter hint) = k
+step_search (step.Signal name k place) = k
+
+-- a step is made of its search, and of nothing else
+abbrev pub StepsAt : HallState → Option Running → Step → Stepped → HallState → Type 0
+StepsAt old None made answer new = (answer ≡ Gone) × (new ≡ old)
+StepsAt old (Some r) made answer new =
+    (s : SearchState) × StepsSearch r.search made answer s
+    × (new ≡ with_search old (step_name made) (step_search made) (record r { search = s }))
+
+abbrev pub IsStepped : HallState → Step → Stepped → HallState → Type 0
+IsStepped old made answer new = StepsAt old (search_at old (step_name made) (step_search made)) made answer new
+
+-- an event of a run
+abbrev pub Happens : HallState → Event → Reply → HallState → Type 0
+Happens old (event.Request name q) told new = IsServed old name q told new
+Happens old (event.Step made) told new = (answer : Stepped) × (told ≡ Reported answer) × IsStepped old made answer new
+
+-- one reply for each event, one event after another; nothing happens by itself
+abbrev pub Run : HallState → List Event → List Reply → HallState → Type 0
+Run old [] [] new = new ≡ old
+Run old (e ∷ events) (told ∷ replies) new = (middle : HallState) × Happens old e told middle × Run middle events replies new
+Run old [] (told ∷ replies) new = ⊥
+Run old (e ∷ events) [] new = ⊥
+
+-- the search carries itself on, oldest signal first, else the first waiting letter, until nothing is outstanding but what
+-- others hold
+abbrev pub Drives : HallState → List ℕ → ℕ → Option Running → HallState → Type 0
+Drives old name k None new = new ≡ old
+Drives old name k (Some r) new =
+    (s : SearchState) × IsDriven r.search s × IsQuiet s.stage × (NoneHeld r.search.stage → NoneHeld s.stage × (settled_of s ≢ Nothing))
+    × (new ≡ with_search old name k (record r { search = s }))
+
+-- a request is served; a wait drives its search, and is then a poll
+abbrev pub CarriesOut : HallState → List ℕ → Deed → Reply → HallState → Type 0
+CarriesOut old name (asks q) told new = IsServed old name q told new
+CarriesOut old name (waits k) told new =
+    (middle : HallState) × Drives old name k (search_at old name k) middle × IsServed middle name (Poll k) told new
+
+-- one deed after another
+abbrev pub AreDone : HallState → List Told → HallState → Type 0
+AreDone old [] new = new ≡ old
+AreDone old (t ∷ more) new = (middle : HallState) × CarriesOut old t.tenant t.deed t.reply middle × AreDone middle more new
+
+-- a search is its tenant's, over its view of the journal cut at the opening and with its limit of work, and has come to
+-- nothing yet or to an end that is right there
+pub record IsSoundSearch (journal : List Entry) (name : List ℕ) (limits : Quota) (r : Running) : Type 0 where
+  pub opened : r.opened_at ≤ length journal
+  pub asker : r.search.snapshot.asker ≡ name
+  pub view : r.search.snapshot.vaults ≡ view (take r.opened_at journal) name
+  pub work : r.search.work ≡ limits.work
+  pub settled : MaySettle limits.work (credentials r.search.snapshot.vaults) r.search.query Nothing (settled_of r.search)
+
+-- what holds of every hall: each search has a number that its tenant was given
+abbrev pub IsSound : HallState → Type 0
+IsSound h =
+    (name : List ℕ) (t : Tenant) (k : ℕ) (r : Running) → get h.tenants name ≡ Some t → get t.searches k ≡ Some r
+    → (1 ≤ k) × (k ≤ t.opens) × IsSoundSearch h.journal name t.limits r
+
+-- a tenant that has done nothing
+abbrev pub new_tenant : Quota → Tenant
+new_tenant limits = record { limits = limits; opens = 0; searches = empty }
+
+-- the hall of these tenants, where nothing was done yet; a name that stands twice has its first limits
+abbrev pub new_hall : List (List ℕ × Quota) → HallState
+new_hall roster = record { journal = []; tenants = from_entries (map (λ row. (row.0, new_tenant row.1)) roster) }

@@ -1,0 +1,74 @@
+-- What somebody who works for a hall does to one search in a row.
+use Rattle.std.specs.Prelude.{◌≡◌, ◌⊎◌, ◌≤◌, ◌+◌, ◌++◌, [], ◌∷◌, ℕ, List, Option, None, Some, Result, Ok, Err}
+use Rattle.snapshots.specs.Snapshot.{SnapshotState}
+use Rattle.search.specs.declared.queries.Need.{Need}
+use Rattle.search.specs.Quiet.{IsQuiet}
+use Rattle.hall.specs.declared.calls.steps.Step.{Step}
+use Rattle.hall.specs.declared.calls.steps.Step.TheVariants.{Take, Signal}
+use Rattle.hall.specs.declared.calls.steps.Stepped.{Stepped}
+use Rattle.hall.specs.declared.calls.steps.Stepped.TheVariants.{Took, Nothing, Signalled, Gone}
+use Rattle.hall.specs.Hall.{HallState, Running, search_at, IsStepped}
+
+-- a letter that was taken: whose, of which search, what it needs, and what it is to be looked up in
+pub record TakenLetter : Type 0 where
+  pub who : List ℕ
+  pub number : ℕ
+  pub letter : ℕ
+  pub need : Need
+  pub snapshot : SnapshotState
+
+-- the job is the letter that was taken of that search, with what the search reads
+pub record IsJobOf (h : HallState) (who : List ℕ) (number : ℕ) (answer : Stepped) (job : TakenLetter) : Type 0 where
+  pub tenant : job.who ≡ who
+  pub search : job.number ≡ number
+  pub took : answer ≡ Took job.letter job.need
+  pub reads : (r : Running) × (search_at h who number ≡ Some r) × (job.snapshot ≡ r.search.snapshot)
+
+abbrev pub IsJobOrNone : HallState → List ℕ → ℕ → Stepped → Option TakenLetter → Type 0
+IsJobOrNone h who number answer None = (answer ≡ Nothing) ⊎ (answer ≡ Gone)
+IsJobOrNone h who number answer (Some job) = IsJobOf h who number answer job
+
+-- a take, with the job that it gives
+abbrev pub IsTaken : HallState → List ℕ → ℕ → ℕ → Option TakenLetter → HallState → Type 0
+IsTaken old who number place job new =
+    (answer : Stepped) × IsStepped old (Take who number place) answer new × IsJobOrNone old who number answer job
+
+-- nothing of that search, if there is one, waits or is under way
+abbrev pub SearchIsQuiet : HallState → List ℕ → ℕ → Type 0
+SearchIsQuiet h name k = (r : Running) → search_at h name k ≡ Some r → IsQuiet r.search.stage
+
+-- nothing of any search waits or is under way
+abbrev pub NothingToDo : HallState → Type 0
+NothingToDo h = (name : List ℕ) (k : ℕ) → SearchIsQuiet h name k
+
+-- a letter was taken, or a signal delivered
+abbrev pub MadeProgress : Stepped → Type 0
+MadeProgress (Took letter need) = Unit {0}
+MadeProgress Signalled = Unit {0}
+MadeProgress _ = ⊥
+
+-- made now, the step takes a letter or delivers a signal
+abbrev pub CanBeMade : HallState → Step → Type 0
+CanBeMade h made = (answer : Stepped) (new : HallState) → IsStepped h made answer new → MadeProgress answer
+
+-- so many steps of this search are made one after another, by which these letters are taken: each step delivers the oldest
+-- signal, or takes the first letter that waits
+pub data IsWorkedOn (who : List ℕ) (number : ℕ) (old : HallState) : ℕ → List TakenLetter → HallState → Type 0 where
+  nothing : IsWorkedOn who number old 0 [] old
+  signal : {n : ℕ} {taken : List TakenLetter} {middle new : HallState} → IsWorkedOn who number old n taken middle →
+      IsStepped middle (Signal who number 0) Signalled new → IsWorkedOn who number old (n + 1) taken new
+  letter : {n : ℕ} {taken : List TakenLetter} {job : TakenLetter} {middle new : HallState} → IsWorkedOn who number old n taken middle →
+      IsTaken middle who number 0 (Some job) new → IsWorkedOn who number old (n + 1) (taken ++ job ∷ []) new
+
+-- so many steps are all that may be made, or nothing was left to do; where memory lacked there may be fewer
+abbrev pub IsWhole : {E : Type 0} → ℕ → ℕ → Type 0 → Result (Unit {0}) E → Type 0
+IsWhole most n nothing_left (Ok done) = (n ≡ most) ⊎ nothing_left
+IsWhole most n nothing_left (Err lacked) = Unit {0}
+
+-- at most so many such steps are made, fewer only where nothing of the search is left to do or memory lacks, and the letters
+-- stand behind those that are held
+abbrev pub IsVisited : {E : Type 0} → List ℕ → ℕ → ℕ → HallState → List TakenLetter → Result (Unit {0}) E →
+    HallState → List TakenLetter → Type 0
+IsVisited who number most old held result new holds =
+    (n : ℕ) × (taken : List TakenLetter) × (n ≤ most) × IsWorkedOn who number old n taken new × (holds ≡ held ++ taken)
+    × IsWhole most n (SearchIsQuiet new who number) result
