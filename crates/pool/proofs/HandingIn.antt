@@ -1,7 +1,7 @@
 -- Letters that are handed in one after another, the last one first.
 use Rattle.std.proofs.Common.{◌≡◌, ◌∙◌, ◌+◌, ◌++◌, ◌∷◌, ℕ, Bool, List, [], sym, subst, if◌then◌else◌}
 use Rattle.std.proofs.lemmas.List.{append-nil, append_assoc}
-use Rattle.hall.specs.halls.State.{HallState}
+use Rattle.hall.specs.Hall.{HallState}
 use Rattle.pool.specs.declared.visits.Looked.{Looked}
 use Rattle.pool.specs.Visits.{IsHandedIn, AreHandedIn}
 

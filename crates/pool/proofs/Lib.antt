@@ -1,3 +1,4 @@
+pub mod Served
 pub mod Refused
 pub mod Polled
 pub mod Read

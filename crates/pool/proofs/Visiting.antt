@@ -1,13 +1,12 @@
--- What a search is worked on leaves the journal as it was, and what a worker does with the search that was picked.
-use Rattle.std.proofs.Common.{◌≡◌, ◌∙◌, ℕ, List, Result, refl, subst}
+-- What a search is worked on leaves the journal as it was; when a worker has nothing to do, and what it does with the search
+-- that was picked.
+use Rattle.std.proofs.Common.{◌≡◌, ◌∙◌, ◌↔◌, ℕ, Bool, true, false, not, IsTrue, is_some, Option, None, Some, List, Result, refl, subst}
 use Rattle.hall.specs.declared.faults.Fault.{Fault}
 use Rattle.hall.specs.declared.calls.steps.Step.{Step}
 use Rattle.hall.specs.declared.calls.steps.Step.TheVariants.{Take, Signal}
 use Rattle.hall.specs.declared.calls.steps.Stepped.TheVariants.{Signalled}
-use Rattle.hall.specs.halls.State.{HallState}
-use Rattle.hall.specs.halls.Run.{step_name, step_search}
-use Rattle.hall.specs.halls.Calls.{TakenLetter, SearchIsQuiet}
-use Rattle.hall.specs.halls.Visits.{IsWorkedOn, IsVisited}
+use Rattle.hall.specs.Hall.{HallState, step_name, step_search}
+use Rattle.hall.specs.Visits.{TakenLetter, SearchIsQuiet, IsWorkedOn, IsVisited}
 use Rattle.pool.specs.Visits.{VisitsOne}
 use Rattle.pool.proofs.Kept.{stepped_journal}
 
@@ -17,6 +16,13 @@ worked_journal who k old n taken new (IsWorkedOn.signal {n = m} {taken = before}
     stepped_journal middle new (Signal who k 0) Signalled steps ∙ worked_journal who k old m before middle works
 worked_journal who k old n taken new (IsWorkedOn.letter {n = m} {taken = before} {job} {middle} works (answer, steps, is)) =
     stepped_journal middle new (Take who k 0) answer steps ∙ worked_journal who k old m before middle works
+
+-- no step was picked
+pub none_picked : (o : Option Step) (none : Bool) → is_some o ≡ not none → IsTrue none ↔ (o ≡ None)
+none_picked None true is = (λ yes. refl, λ same. refl)
+none_picked None false is = cc
+none_picked (Some made) true is = cc
+none_picked (Some made) false is = (λ yes. cc, λ same. cc)
 
 -- what a worker does with the search that was picked
 pub visits_one : (most : ℕ) (old : HallState) (held : List TakenLetter) (new : HallState) (holds : List TakenLetter) (result told : Result (Unit {0}) Fault) (at : List ℕ × ℕ) (made : Step) →

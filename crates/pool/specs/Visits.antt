@@ -5,10 +5,8 @@ use Rattle.hall.specs.declared.faults.Fault.TheVariants.{Memory}
 use Rattle.hall.specs.declared.calls.steps.Step.TheVariants.{GiveBack, Finish}
 use Rattle.hall.specs.declared.calls.steps.Stepped.{Stepped}
 use Rattle.hall.specs.declared.calls.steps.Stepped.TheVariants.{Done}
-use Rattle.hall.specs.halls.State.{HallState}
-use Rattle.hall.specs.halls.Run.{IsStepped}
-use Rattle.hall.specs.halls.Calls.{TakenLetter, SearchIsQuiet}
-use Rattle.hall.specs.halls.Visits.{IsVisited}
+use Rattle.hall.specs.Hall.{HallState, IsStepped}
+use Rattle.hall.specs.Visits.{TakenLetter, SearchIsQuiet, IsVisited}
 use Rattle.pool.specs.declared.visits.Found.{Found}
 use Rattle.pool.specs.declared.visits.Found.TheVariants as found
 use Rattle.pool.specs.declared.visits.Looked.{Looked}

@@ -6,16 +6,15 @@ ghost use Rattle.std.specs.Arc.{arc_value};
 ghost use Rattle.names.specs.Name.{name_order};
 ghost use Rattle.credential_text.specs.Credential.{credential_order};
 ghost use Rattle.vaults.specs.Journal.{names_in};
-ghost use Rattle.search.specs.Ending.{status_of};
+ghost use Rattle.search.specs.Found.{status_of};
+ghost use Rattle.search.specs.Search.{settled_of};
 ghost use Rattle.search.specs.declared.outcomes.Status.TheVariants.{Working};
 ghost use Rattle.hall.specs.declared.calls.requests.Request.TheVariants as request;
-ghost use Rattle.hall.specs.halls.Searches.{settled_of};
-ghost use Rattle.hall.specs.halls.State.{search_at};
-ghost use Rattle.hall.specs.halls.Run.{IsServed, RefusedLast};
-ghost use Rattle.hall.specs.halls.Calls.{closing, rows_seen, names_seen, proof_seen};
+ghost use Rattle.hall.specs.declared.calls.replies.Reply.TheVariants as reply;
+ghost use Rattle.hall.specs.Hall.{search_at, IsServed};
 ghost use Rattle.pool.specs.Passes.{IsSeenAt};
 ghost use Rattle.pool.specs.Refusals.{IsRefusedAt, IsOpenRefusal, IsPollRefusal, IsEndRefusal, IsReadRefusal, IsProofRefusal};
-ghost use Rattle.pool.specs.Told.{IfTold, ticket_told, verdict_told, IsVerdictOf};
+ghost use Rattle.pool.specs.Told.{IfTold, IsPolled, IsVerdictOf};
 ghost use Rattle.pool.specs.Verdicts.{IsTrueWhereCompleted, rows_read, IsProofOfSome};
 
 use crate::faults::DeskFault;
@@ -31,9 +30,8 @@ impl<L: Ledger> Room<L> {
     #[tactic(auto, using(crate::proofs::Counted::opening_numbered))]
     /// Opens a search for the pass's tenant, and answers its number with the length of the journal at its opening.
     pub(crate) fn open(&mut self, pass: &mut Pass<L>, query: Query) -> Result<Ticket, DeskFault>
-        ensures served { IfTold ticket_told (λ told.
+        ensures served { IfTold (λ t. reply.Opened t.no) (λ told.
             IsServed self.old.hall pass.old.tenant (request.Seek query) told self.new.hall) result }
-        ensures last { IfTold ticket_told (λ told. RefusedLast self.old.hall pass.old.tenant (request.Seek query) told) result }
         ensures number { IfOk result (λ t. 0 < t.no) }
         ensures opened_at { IfOk result (λ t. t.opened_at ≡ length self.old.hall.journal) }
         ensures seen { OnOk result (IsSeenAt (length self.old.hall.journal) pass.old pass.new) }
@@ -47,12 +45,9 @@ impl<L: Ledger> Room<L> {
         Ok(Ticket { no, opened_at })
     }
 
-    #[tactic(auto, using(crate::proofs::Polled::polled_verdict))]
     /// What the search of the pass's tenant has come to.
     pub(crate) fn poll(&self, pass: &mut Pass<L>, number: u64) -> Result<Verdict, DeskFault>
-        ensures served { IfTold verdict_told (λ told.
-            IsServed self.now.hall pass.old.tenant (request.Poll number) told self.now.hall) result }
-        ensures last { IfTold verdict_told (λ told. RefusedLast self.now.hall pass.old.tenant (request.Poll number) told) result }
+        ensures served { IsPolled self.now.hall pass.old.tenant number result }
         ensures search { IfOk result (λ v. IsSomeAnd (search_at self.now.hall pass.old.tenant number) (λ r. IsVerdictOf r v)) }
         ensures truth { IfOk result (λ v. IsTrueWhereCompleted (rows_read (arc_value v.snapshot)) v.query v.answer) }
         ensures asker { IfOk result (λ v. (arc_value v.snapshot).asker ≡ pass.old.tenant) }
@@ -87,7 +82,8 @@ impl<L: Ledger> Room<L> {
 
     /// Ends the search of the pass's tenant.
     pub(crate) fn end(&mut self, pass: &mut Pass<L>, number: u64) -> Result<(), DeskFault>
-        ensures served { IfTold closing (λ told. IsServed self.old.hall pass.old.tenant (request.Close number) told self.new.hall) result }
+        ensures served { IfTold (λ u. reply.Closed) (λ told.
+            IsServed self.old.hall pass.old.tenant (request.Close number) told self.new.hall) result }
         ensures seen { OnOk result (IsSeenAt (length self.old.hall.journal) pass.old pass.new) }
         ensures refused { IfErr result (IsRefusedAt IsEndRefusal (length self.old.hall.journal) pass.old pass.new) }
         ensures err { OnErr result (self.new ≡ self.old) }
@@ -97,11 +93,11 @@ impl<L: Ledger> Room<L> {
         Ok(self.hall.end(pass.tenant(), number)?)
     }
 
-    #[tactic(auto, using(crate::proofs::Read::vault_issued, crate::proofs::Read::vault_order))]
+    #[tactic(auto, using(crate::proofs::Read::vault_order))]
     /// The credentials that the pass's tenant issues and holds, in order.
     pub(crate) fn vault(&self, pass: &mut Pass<L>) -> Result<Rows, DeskFault>
-        ensures served { IfTold rows_seen (λ told. IsServed self.now.hall pass.old.tenant request.Vault told self.now.hall) result }
-        ensures last { IfTold rows_seen (λ told. RefusedLast self.now.hall pass.old.tenant request.Vault told) result }
+        ensures served { IfTold reply.Vault (λ told.
+            IsServed self.now.hall pass.old.tenant request.Vault told self.now.hall) result }
         ensures issued { IfOk result (λ rows. All (λ c. c.head.owner ≡ pass.old.tenant) rows) }
         ensures order { IfOk result (λ rows. IsStrictlySortedBy credential_order rows) }
         ensures seen { OnOk result (IsSeenAt (length self.now.hall.journal) pass.old pass.new) }
@@ -111,11 +107,11 @@ impl<L: Ledger> Room<L> {
         Ok(self.hall.vault(pass.tenant())?)
     }
 
-    #[tactic(auto, using(crate::proofs::Read::sees_own, crate::proofs::Read::sees_order))]
+    #[tactic(auto, using(crate::proofs::Read::sees_order))]
     /// The names whose vaults the pass's tenant reads, in order, each with whether its vault is public.
     pub(crate) fn sees(&self, pass: &mut Pass<L>) -> Result<Sights, DeskFault>
-        ensures served { IfTold names_seen (λ told. IsServed self.now.hall pass.old.tenant request.Sees told self.now.hall) result }
-        ensures last { IfTold names_seen (λ told. RefusedLast self.now.hall pass.old.tenant request.Sees told) result }
+        ensures served { IfTold reply.Sees (λ told.
+            IsServed self.now.hall pass.old.tenant request.Sees told self.now.hall) result }
         ensures own { IfOk result (λ seen. Contains (names_in seen) pass.old.tenant) }
         ensures order { IfOk result (λ seen. IsStrictlySortedBy name_order (names_in seen)) }
         ensures seen { OnOk result (IsSeenAt (length self.now.hall.journal) pass.old pass.new) }
@@ -132,9 +128,8 @@ impl<L: Ledger> Room<L> {
         number: u64,
         member: Entity,
     ) -> Result<Proof, DeskFault>
-        ensures served { IfTold proof_seen (λ told.
+        ensures served { IfTold reply.Proof (λ told.
             IsServed self.now.hall pass.old.tenant (request.Proof number member) told self.now.hall) result }
-        ensures last { IfTold proof_seen (λ told. RefusedLast self.now.hall pass.old.tenant (request.Proof number member) told) result }
         ensures proves { IfOk result (λ steps. IsProofOfSome member steps) }
         ensures seen { OnOk result (IsSeenAt (length self.now.hall.journal) pass.old pass.new) }
         ensures refused { IfErr result (IsRefusedAt IsProofRefusal (length self.now.hall.journal) pass.old pass.new) }

@@ -1,17 +1,18 @@
-ghost use Rattle.std.specs.Prelude.{◌≡◌, ◌↔◌, ◌+◌, ◌<◌, ◌≤◌, length, map, vec_len, vec_capacity, IfOk, IfErr, OnOk, Contains};
-ghost use Rattle.std.specs.List.{All};
+ghost use Rattle.std.specs.Prelude.{◌≡◌, ◌↔◌, ◌+◌, ◌<◌, ◌≤◌, map, vec_len, vec_capacity, IfOk, IfErr, OnOk, Contains};
+ghost use Rattle.std.specs.List.{All, IsDistinct};
 ghost use Rattle.std.specs.List.Sorted.{IsStrictlySortedBy};
 ghost use Rattle.std.specs.Arc.{arc_value};
 ghost use Rattle.std.specs.Sync.Mutex.{mutex_guard_value};
-ghost use Rattle.names.specs.Name.{name_order};
+ghost use Rattle.names.specs.Name.{name_order, is_same};
 ghost use Rattle.credential_text.specs.Credential.{credential_order};
 ghost use Rattle.vaults.specs.Journal.{names_in};
-ghost use Rattle.hall.specs.halls.State.{AreDistinct, IsSound, new_hall};
 ghost use Rattle.pool.specs.Passes.{OnlySees, shares_of};
+ghost use Rattle.pool.specs.Rooms.{IsKept};
 ghost use Rattle.pool.specs.Refusals.{IsRefused, IsChangeRefusal, IsOpenRefusal, IsPollRefusal, IsEndRefusal, IsReadRefusal};
 ghost use Rattle.pool.specs.Refusals.{IsProofRefusal, IsPassRefusal};
 ghost use Rattle.pool.specs.Verdicts.{IsTrueWhereCompleted, rows_read, IsProofOfSome};
 
+use crate::bells::Bells;
 use crate::faults::DeskFault;
 use crate::passes::Pass;
 use crate::rooms::{PARTS, Room};
@@ -36,8 +37,8 @@ pub struct Desk<L: Ledger> {
     /// The names of the hall's tenants. They stand outside of the lock, so that a contract can tell who gets a pass.
     tenants: IndexSet<Entity>,
     room: Mutex<Room<L>>,
-    /// Where callers wait for the end of a search.
-    over: Condvar,
+    /// Where callers wait for the end of a search, each at the bell of its tenant.
+    over: Bells,
     /// Where workers wait for something to do.
     work: Condvar,
 }
@@ -57,7 +58,7 @@ impl<L: Ledger> Desk<L> {
         roster: Vec<(Entity, Limits)>,
         blank: Blank,
     ) -> Result<Desk<L>, Fault>
-        requires distinct { AreDistinct (new_hall roster.items).tenants }
+        requires distinct { IsDistinct is_same (map (λ row. row.0) roster.items) }
         requires name { blank.name ≡ L.name }
         requires parts { blank.parts ≡ L.parts }
         requires room { blank.parts ≡ PARTS }
@@ -65,19 +66,19 @@ impl<L: Ledger> Desk<L> {
         ensures only_memory { IfErr result (λ f. f ≡ Fault.Memory) }
     {
         let tenants = names_of(alloc, &roster)?;
+        let over = Bells::make(alloc, &roster)?;
         let hall = Hall::make(alloc, roster)?;
         Ok(Desk {
             tenants,
             room: Mutex::new(Room::new(hall, blank)),
-            over: Condvar::new(),
+            over,
             work: Condvar::new(),
         })
     }
 
     /// Takes the lock. Each time the ledger's total is the length of the journal, and the hall is sound.
     fn enter<R: Wait>(&self, rt: &R) -> MutexGuard<'_, Room<L>>
-        ensures counted { (mutex_guard_value result).accepted ≡ length (mutex_guard_value result).hall.journal }
-        ensures hall { IsSound (mutex_guard_value result).hall }
+        ensures { IsKept (mutex_guard_value result) }
     {
         let room = self.room.lock(rt);
         room.kept();
@@ -164,9 +165,8 @@ impl<L: Ledger> Desk<L> {
         let who = pass.tenant();
         let front = pass.front();
         let room = self.enter(rt);
-        let room = self
-            .over
-            .wait_while(rt, room, |room| !room.is_over(who, number, front));
+        let bell = self.over.of(&who);
+        let room = bell.wait_while(rt, room, |room| !room.is_over(who, number, front));
         room.poll(pass, number)
     }
 
@@ -176,7 +176,7 @@ impl<L: Ledger> Desk<L> {
         ensures refused { IfErr result (IsRefused IsEndRefusal pass.old pass.new) }
     {
         self.enter(rt).end(pass, number)?;
-        self.over.notify_all();
+        self.over.of(&pass.tenant()).notify_all();
         Ok(())
     }
 
@@ -239,8 +239,15 @@ impl<L: Ledger> Desk<L> {
     /// Lets the workers end once they have given back what they hold, and ends each wait.
     pub fn stop<R: Wait>(&self, rt: &R) {
         self.enter(rt).stop();
-        self.over.notify_all();
+        self.over.ring_all();
         self.work.notify_all();
+    }
+
+    /// Wakes the callers who wait for a search of the tenant, if it is given.
+    fn ring(&self, ended: Option<Entity>) {
+        if let Some(who) = ended {
+            self.over.of(&who).notify_all();
+        }
     }
 
     /// For a worker: hands in all that it holds, waits until there is something to do, and does it. Answers what it found,
@@ -264,17 +271,13 @@ impl<L: Ledger> Desk<L> {
     {
         let mut room = self.enter(rt);
         let finished = room.hand_in_all(looked);
-        if room.take_ended() {
-            self.over.notify_all();
-        }
+        self.ring(room.take_ended());
         let mut room = self.work.wait_while(rt, room, |room| room.is_idle());
         let found = room.visit(held);
         let ended = room.take_ended();
         let is_idle = room.is_idle();
         drop(room);
-        if ended {
-            self.over.notify_all();
-        }
+        self.ring(ended);
         if !is_idle {
             self.work.notify_one();
         }
@@ -290,8 +293,11 @@ impl<L: Ledger> Desk<L> {
         if looked.is_empty() {
             return 0;
         }
-        let finished = self.enter(rt).hand_in_all(looked);
-        self.over.notify_all();
+        let mut room = self.enter(rt);
+        let finished = room.hand_in_all(looked);
+        let ended = room.take_ended();
+        drop(room);
+        self.ring(ended);
         self.work.notify_one();
         finished
     }

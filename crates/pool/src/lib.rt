@@ -3,6 +3,7 @@
 #![tactic(auto)]
 
 mod asking;
+mod bells;
 #[cfg(test)]
 mod desk_tests;
 mod desks;

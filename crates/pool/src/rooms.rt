@@ -1,10 +1,10 @@
 //! What lies under the lock of a desk: the hall, and the count of the changes of which passes were told.
 ghost use Rattle.std.specs.Prelude.{◌≡◌, ◌+◌, ◌<◌, ◌≤◌, true, false, [], length, vec_len, IfOk, IfErr, OnOk, OnErr};
 ghost use Rattle.hall.specs.declared.calls.requests.Request.TheVariants as request;
-ghost use Rattle.hall.specs.halls.State.{IsSound};
-ghost use Rattle.hall.specs.halls.Run.{IsServed, RefusedLast};
-ghost use Rattle.hall.specs.halls.Calls.{counted};
+ghost use Rattle.hall.specs.declared.calls.replies.Reply.TheVariants as reply;
+ghost use Rattle.hall.specs.Hall.{IsServed};
 ghost use Rattle.pool.specs.Passes.{IsSeenAt, shares_of};
+ghost use Rattle.pool.specs.Rooms.{IsKept};
 ghost use Rattle.pool.specs.Refusals.{IsRefusedAt, IsChangeRefusal};
 ghost use Rattle.pool.specs.Told.{IfTold};
 
@@ -32,19 +32,21 @@ pub(crate) struct Room<L: Ledger> {
     left: u64,
     pub(crate) stopped: bool,
     pub(crate) turn: u64,
-    pub(crate) ended: bool,
+    /// Whose search came to an end since those who wait for one were told last.
+    pub(crate) ended: Option<Entity>,
 }
 
 impl<L: Ledger> Model for Room<L> {
     ghost use Rattle.std.specs.Prelude.{◌≡◌, ◌+◌, ◌<◌, ◌^◌, length};
     ghost use Rattle.std.specs.Coded.{codes};
+    ghost use Rattle.std.specs.FinMap as fin;
     ghost use Rattle.search.specs.contracts.stages.Stage as running;
     ghost use Rattle.search.specs.contracts.findings.Monitor as memory;
     ghost use Rattle.pool.specs.Rooms.{RoomState};
 
     ghost Value = { RoomState };
 
-    ghost coded = { Prim.hlevel (codes, running.the_row.coded, memory.the_row.coded) };
+    ghost coded = { Prim.hlevel (codes, fin.code, running.the_row.coded, memory.the_row.coded) };
 
     ghost view = { λ r. record { hall = r.hall; accepted = r.book.total; out = r.out; left = r.left; stopped = r.stopped } };
 
@@ -89,14 +91,13 @@ impl<L: Ledger> Room<L> {
             left: 0,
             stopped: false,
             turn: 0,
-            ended: false,
+            ended: None,
         }
     }
 
     /// What the lock keeps.
     pub(crate) fn kept(&self)
-        ensures counted { self.now.accepted ≡ length self.now.hall.journal }
-        ensures hall { IsSound self.now.hall }
+        ensures { IsKept self.now }
     {
         let _ = &self.book;
         let _length = self.hall.journal_len();
@@ -124,9 +125,9 @@ impl<L: Ledger> Room<L> {
         ensures err { IfErr result (λ f. f ≡ DeskFault.Rewound (length self.now.hall.journal)) }
         ensures short { OnErr result (length self.now.hall.journal < pass.old.front) }
         ensures same { OnErr result (pass.new ≡ pass.old) }
-        ensures sound { IsSound self.now.hall }
+        ensures kept { IsKept self.now }
     {
-        let _ = &self.book;
+        self.kept();
         let found = self.hall.journal_len();
         if found < pass.front() {
             return Err(DeskFault::Rewound { front: found });
@@ -138,8 +139,8 @@ impl<L: Ledger> Room<L> {
     #[tactic(auto, using(crate::proofs::Counted::change_counted))]
     /// Makes a change of the pass's tenant. Where the hall accepts it, the pass is told of one change more.
     pub(crate) fn change(&mut self, pass: &mut Pass<L>, change: Change) -> Result<u64, DeskFault>
-        ensures served { IfTold counted (λ told. IsServed self.old.hall pass.old.tenant (request.Alter change) told self.new.hall) result }
-        ensures last { IfTold counted (λ told. RefusedLast self.old.hall pass.old.tenant (request.Alter change) told) result }
+        ensures served { IfTold reply.Counted (λ told.
+            IsServed self.old.hall pass.old.tenant (request.Alter change) told self.new.hall) result }
         ensures count { IfOk result (λ n. (0 < n) × (n ≤ pass.new.front)) }
         ensures told { OnOk result (pass.new ≡ record {
           tenant = pass.old.tenant;

@@ -1,6 +1,7 @@
 //! The names of a desk's tenants.
 ghost use Rattle.std.specs.Prelude.{◌≡◌, ◌↔◌, map, Contains, IsTrue, IfOk};
-ghost use Rattle.hall.specs.halls.State.{AreDistinct, new_hall};
+ghost use Rattle.std.specs.List.{IsDistinct};
+ghost use Rattle.names.specs.Name.{is_same};
 
 use indexmap::IndexSet;
 use names::Entity;
@@ -12,7 +13,7 @@ pub(crate) fn names_of(
     alloc: Global,
     roster: &[(Entity, Limits)],
 ) -> Result<IndexSet<Entity>, AllocError>
-    requires { AreDistinct (new_hall roster.now).tenants }
+    requires { IsDistinct is_same (map (λ row. row.0) roster.now) }
     ensures { IfOk result (λ names. names.keys ≡ map (λ row. row.0) roster.now) }
 {
     let mut names = IndexSet::new(alloc);

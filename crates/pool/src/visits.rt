@@ -1,7 +1,6 @@
 //! What a worker does when it has the lock: the steps of one search in a row, and what it hands in.
 ghost use Rattle.std.specs.Prelude.{◌≡◌, ◌≤◌, ◌↔◌, true, false, IsTrue, vec_len, vec_capacity};
-ghost use Rattle.hall.specs.halls.Run.{step_name, step_search};
-ghost use Rattle.hall.specs.halls.Calls.{NothingToDo};
+ghost use Rattle.hall.specs.Hall.{step_name, step_search};
 ghost use Rattle.search.specs.Need.{right_hint};
 
 use crate::rooms::Room;
@@ -47,11 +46,12 @@ fn search_of(step: &Step) -> (Entity, u64)
 }
 
 impl<L: Ledger> Room<L> {
+    ghost use Rattle.pool.specs.Rooms.{IsIdle};
     ghost use Rattle.pool.specs.Visits.{IsHandedIn, AreHandedIn, IsVisit};
 
     /// Whether a worker has nothing to do, and is not to end.
     pub(crate) fn is_idle(&self) -> bool
-        ensures { IsTrue result ↔ ((self.now.stopped ≡ false) × NothingToDo self.now.hall) }
+        ensures { IsTrue result ↔ IsIdle self.now }
     {
         !self.stopped && self.hall.pick(self.turn).is_none()
     }
@@ -61,12 +61,13 @@ impl<L: Ledger> Room<L> {
         ensures { self.new ≡ self.old }
     {
         if self.is_over(who, number, 0) {
-            self.ended = true;
+            self.ended = Some(who);
         }
     }
 
-    /// Whether a search came to an end since this was asked last. Those who wait for one are to look then.
-    pub(crate) fn take_ended(&mut self) -> bool
+    /// Whose search came to an end since this was asked last, which is to be asked before the lock is given back: those who
+    /// wait for a search of this tenant are to look then.
+    pub(crate) fn take_ended(&mut self) -> Option<Entity>
         ensures { self.new ≡ self.old }
     {
         let _ = &self.hall;
@@ -81,7 +82,7 @@ impl<L: Ledger> Room<L> {
         requires space { BATCH ≤ vec_capacity held.old }
         ensures visit { IsVisit BATCH self.old.hall held.old.items result self.new.hall held.new.items }
         ensures stopped { (result ≡ Found.Stopped) ↔ (self.old.stopped ≡ true) }
-        ensures nothing { (result ≡ Found.Nothing) ↔ ((self.old.stopped ≡ false) × NothingToDo self.old.hall) }
+        ensures nothing { (result ≡ Found.Nothing) ↔ IsIdle self.old }
         ensures journal { self.new.hall.journal ≡ self.old.hall.journal }
         ensures room { self.new ≡ record self.old { hall = self.new.hall } }
         ensures bound { vec_len held.new ≤ BATCH }

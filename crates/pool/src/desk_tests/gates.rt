@@ -3,12 +3,12 @@ use crate::{Desk, Gate};
 use names::Entity;
 use std::rt::Clock;
 use std::sync::Wait;
-use std::sync::atomic::{AtomicBool, Ordering};
+use std::sync::atomic::{AtomicBool, AtomicU64, Ordering};
 use std::sync::ledger::Ledger;
 use std::thread;
 use std::time::Duration;
 
-/// What a worker does with the first letter of a search.
+/// What a worker does with a letter of a search, or with the first one.
 #[derive(Clone, Copy)]
 pub(super) enum Way<'a> {
     /// It goes on.
@@ -17,6 +17,8 @@ pub(super) enum Way<'a> {
     Meet(&'a Meeting),
     /// Where the search is the first, it ends it, and notes that it could.
     End(&'a AtomicBool),
+    /// It counts it, at the place of its number.
+    Count(&'a [AtomicU64]),
 }
 
 /// Where the first letters of two searches meet.
@@ -78,6 +80,11 @@ impl<L: Ledger + Send + Sync, R: Wait + Clock + Sync> Gate for Doorway<'_, L, R>
             Way::Meet(meeting) if letter == 1 => meeting.meet(self.rt, search),
             Way::End(over) if search == 1 && letter == 1 => {
                 end_first(self.rt, self.desk, *who, over)
+            }
+            Way::Count(counts) => {
+                if let Some(count) = counts.get(letter as usize) {
+                    count.fetch_add(1, Ordering::SeqCst);
+                }
             }
             _ => {}
         }

@@ -3,7 +3,8 @@ use super::acts::{Act, Told};
 use super::gates::{Meeting, Way};
 use super::plays::{Break, Line, Scene, USUAL, played};
 use snapshots::Span;
-use std::sync::atomic::{AtomicBool, Ordering};
+use std::alloc::{AllocError, Global};
+use std::sync::atomic::{AtomicBool, AtomicU64, Ordering};
 
 /// A credential, and a search of its one member.
 const OPENED: [Line; 2] = [
@@ -166,7 +167,25 @@ const FORTY_MEMBERS: Scene = Scene {
     letters: Some(81),
 };
 
+/// A count for no letter, and one for each of so many, none of which has passed.
+fn counts_of(alloc: Global, letters: u64) -> Result<Vec<AtomicU64>, AllocError> {
+    let mut counts = Vec::new(alloc);
+    counts.push(AtomicU64::new(0))?;
+    for _ in 0..letters {
+        counts.push(AtomicU64::new(0))?;
+    }
+    Ok(counts)
+}
+
 #[test]
 fn forty_members_as_81_letters(rt: HostRuntime) -> Result<(), Break> {
-    played(&rt, rt.alloc(), &FORTY_MEMBERS, Way::Open)
+    let Ok(counts) = counts_of(rt.alloc(), 81) else {
+        return Err(Break::NoMemory);
+    };
+    played(&rt, rt.alloc(), &FORTY_MEMBERS, Way::Count(&counts))?;
+    for (letter, count) in counts.iter().enumerate() {
+        let times = if letter == 0 { 0 } else { 1 };
+        assert_eq!(rt; count.load(Ordering::SeqCst), times, "letter {letter}");
+    }
+    Ok(())
 }

@@ -1,6 +1,7 @@
 //! Scenes: lines that are played on a desk, before workers run and beside them.
-ghost use Rattle.std.specs.Prelude.{◌≡◌, IfOk};
-ghost use Rattle.hall.specs.halls.State.{AreDistinct, new_hall};
+ghost use Rattle.std.specs.Prelude.{◌≡◌, map, IfOk};
+ghost use Rattle.std.specs.List.{IsDistinct};
+ghost use Rattle.names.specs.Name.{is_same};
 
 use super::acts::{Act, Told, answer_to};
 use super::gates::{Doorway, Way};
@@ -239,7 +240,7 @@ fn on_desk<L: Ledger + Send + Sync, R: Threads + Wait + Clock + Sync>(
     scene: &Scene<'_>,
     way: Way<'_>,
 ) -> Result<u64, Break>
-    requires distinct { AreDistinct (new_hall roster.items).tenants }
+    requires distinct { IsDistinct is_same (map (λ row. row.0) roster.items) }
     requires name { blank.name ≡ L.name }
     requires parts { blank.parts ≡ L.parts }
     requires room { blank.parts ≡ PARTS }
@@ -257,7 +258,7 @@ fn limits_of(numbers: [u64; 6]) -> Option<Limits> {
 
 /// The roster of A, with these limits, and B.
 fn roster_of_two(alloc: Global, numbers: [u64; 6]) -> Result<Vec<(Entity, Limits)>, Break>
-    ensures { IfOk result (λ roster. AreDistinct (new_hall roster.items).tenants) }
+    ensures { IfOk result (λ roster. IsDistinct is_same (map (λ row. row.0) roster.items)) }
 {
     let (Ok(a), Ok(b), Some(limits)) = (Entity::read(b"A"), Entity::read(b"B"), limits_of(numbers))
     else {

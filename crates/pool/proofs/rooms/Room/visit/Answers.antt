@@ -1,7 +1,7 @@
-use Rattle.std.proofs.Common.{◌≡◌, ◌∙◌, ap, sym, subst, Ok, Err}
+use Rattle.std.proofs.Common.{◌∙◌, ap, sym, subst, refl, Ok, Err}
 use Rattle.hall.specs.declared.faults.Fault.TheVariants.{Memory}
-use Rattle.hall.specs.halls.State.{HallState}
-use Rattle.pool.specs.Rooms.{RoomState}
+use Rattle.hall.specs.Hall.{HallState, step_name, step_search}
+use Rattle.pool.specs.Rooms.{RoomState, IsIdle}
 use Rattle.pool.specs.Visits.{IsVisit}
 use Rattle.pool.specs.declared.visits.Found.TheVariants as found
 use Rattle.pool.specs.declared.visits.TheConstants.{BATCH}
@@ -21,3 +21,21 @@ returns-in-Err-clause-visit g c =
     (subst (λ (h : HallState). IsVisit BATCH c.self.inside.hall c.args.held.now.items found.NoMemory h c.visit-made.new.held.items) (sym (ap (λ (r : RoomState). r.hall) c.note.ensures))
     (visits_one BATCH c.self.inside.hall c.args.held.now.items c.visit-made.new.self c.visit-made.new.held.items c.visit-made.result (Err Memory) c.search_of-who.result c.in-Some.first
     c.search_of-who.ensures c.in-Some.ensures.left c.visit-made.ensures.visited (c.in-Err.is ∙ ap Err c.in-Err.ensures.only_memory)))
+
+pub returns-in_default-clause-nothing : goal.returns-in_default-clause-nothing
+returns-in_default-clause-nothing g c = (
+  λ is. subst IsIdle c.self.view_is (record { goes_on = c.if-self.false; nothing = c.in_default.ensures.none.0 refl }),
+  λ idle. refl,
+)
+
+pub returns-in-Ok-clause-nothing : goal.returns-in-Ok-clause-nothing
+returns-in-Ok-clause-nothing g c = (
+  λ is. cc,
+  λ idle. absurd (c.in-Some.ensures.left ((subst IsIdle (sym c.self.view_is) idle).nothing (step_name c.in-Some.first) (step_search c.in-Some.first))),
+)
+
+pub returns-in-Err-clause-nothing : goal.returns-in-Err-clause-nothing
+returns-in-Err-clause-nothing g c = (
+  λ is. cc,
+  λ idle. absurd (c.in-Some.ensures.left ((subst IsIdle (sym c.self.view_is) idle).nothing (step_name c.in-Some.first) (step_search c.in-Some.first))),
+)
