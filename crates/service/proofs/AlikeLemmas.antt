@@ -1,22 +1,23 @@
 -- What became of the same lines is the same but for the replies, and so by its replies.
-use Rattle.std.proofs.Common.{◌≡◌, ℕ, Bool, true, false, cond, List, [], ◌∷◌, ◌++◌, map, refl, sym, ap, ◌∙◌, inl, inr}
-use Rattle.std.specs.Prelude.{filter}
+use Rattle.std.proofs.Common.{◌≡◌, ◌≢◌, ℕ, Bool, true, false, cond, List, [], ◌∷◌, ◌++◌, map, refl, sym, ap, ◌∙◌, subst, subst₂, inl, inr}
 use Rattle.std.specs.List.{AllZip, AllByRecursion}
 use Rattle.names.specs.Name.{is_same}
 use Rattle.vaults.specs.declared.changes.Entry.{Entry}
-use Rattle.vaults.specs.Journal.{Marked, marked_view}
+use Rattle.vaults.specs.Journal.{marked_view}
+use Rattle.hall.specs.declared.faults.Fault.TheVariants.{Memory}
+use Rattle.hall.specs.declared.calls.answers.Answer.TheVariants.{Broken}
 use Rattle.hall.specs.declared.calls.replies.Reply.{Reply}
-use Rattle.hall.specs.halls.Account.{Moment, sight}
-use Rattle.hall.specs.halls.Run.{journal_after, trace}
-use Rattle.hall.specs.halls.Agree.{HasMemory}
-use Rattle.hall.specs.halls.Deeds.{Deed, Done, request_of, event_of, events_of, replies_of}
-use Rattle.hall.specs.halls.Turns.{Turn, turns, own_replies, IsSameTold, same, proofs}
+use Rattle.hall.specs.declared.calls.replies.Reply.TheVariants.{Answered, Refused}
+use Rattle.hall.specs.Answers.{sight}
+use Rattle.hall.specs.Run.{Deed, request_of, Told, entered, Turn, told_to, any_time, at_waits}
+use Rattle.hall.specs.Laws.{Agree, same, proofs, first_early, second_early, HasMemory, IsSameDeed}
+use Rattle.hall.proofs.Elements.{zip_mapped}
 use Rattle.service.specs.declared.commands.Command.{Command}
 use Rattle.service.specs.declared.refusals.Refusal.{Refusal}
 use Rattle.service.specs.Command.{form_of}
-use Rattle.service.specs.Outcome.{Outcome, nobody, refused, served, IsSaid, deed_of, deeds_in}
+use Rattle.service.specs.Outcome.{Outcome, nobody, refused, served, IsSaid, deed_of, told_in}
 use Rattle.service.specs.Reply.{refusal_line, reply_lines}
-use Rattle.service.specs.Isolation.{own_outcomes, trace_in, FoundMemory, ArePrintedAlike}
+use Rattle.service.specs.Isolation.{own_outcomes, sights_of, FoundMemory, ArePrintedAlike}
 use Rattle.service.proofs.CommandLemmas.{one_command, one_refusal, read_kept}
 use Rattle.service.proofs.ShortLemmas.{IsShort, form-short}
 
@@ -49,141 +50,129 @@ one_lines tenant (said ∷ texts) (one ∷ first) [] short are also memory more 
 one_lines tenant (said ∷ texts) (one ∷ first) (two ∷ second) short are also memory more =
     (one_line tenant said one two short.0 are.0 also.0 memory.0 more.0, one_lines tenant texts first second short.1 are.1 also.1 memory.1 more.1)
 
--- the tenant's own deeds
-abbrev own_deeds : List ℕ → List Done → List Done
-own_deeds tenant deeds = filter (λ d. is_same d.tenant tenant) deeds
-
--- are those of its own outcomes
-own_deeds-in : (tenant : List ℕ) (outcomes : List Outcome) → own_deeds tenant (deeds_in outcomes) ≡ deeds_in (own_outcomes tenant outcomes)
-own_deeds-in tenant [] = refl
-own_deeds-in tenant (nobody why ∷ outcomes) = own_deeds-in tenant outcomes
-own_deeds-in tenant (refused who why ∷ outcomes) = own_deeds-in tenant outcomes ∙ by (is_same who tenant)
+-- what the tenant did and was told, by its own outcomes
+told_own : {X : Type 0} (tenant : List ℕ) (part : Deed → Reply → X) (journal : List Entry) (outcomes : List Outcome) →
+    map (λ (t : Turn). part t.deed t.reply) (told_to tenant journal (told_in outcomes)) ≡ map (λ (t : Told). part t.deed t.reply) (told_in (own_outcomes tenant outcomes))
+told_own tenant part journal [] = refl
+told_own tenant part journal (nobody why ∷ outcomes) = told_own tenant part journal outcomes
+told_own {X} tenant part journal (refused who why ∷ outcomes) = told_own tenant part journal outcomes ∙ by (is_same who tenant)
   where
-    by : (own : Bool) → deeds_in (own_outcomes tenant outcomes) ≡ deeds_in (cond own (refused who why ∷ own_outcomes tenant outcomes) (own_outcomes tenant outcomes))
+    by : (own : Bool) → map (λ (t : Told). part t.deed t.reply) (told_in (own_outcomes tenant outcomes))
+        ≡ map (λ (t : Told). part t.deed t.reply) (told_in (cond own (refused who why ∷ own_outcomes tenant outcomes) (own_outcomes tenant outcomes)))
     by true = refl
     by false = refl
-own_deeds-in tenant (served who command reply ∷ outcomes) = by (is_same who tenant) (own_deeds-in tenant outcomes)
+told_own {X} tenant part journal (served who command reply ∷ outcomes) = by (is_same who tenant) (told_own tenant part (entered journal told) outcomes)
   where
-    done : Done
-    done = record { tenant = who; deed = deed_of command; reply = reply }
+    told : Told
+    told = record { tenant = who; deed = deed_of command; reply = reply }
 
-    by : (own : Bool) → own_deeds tenant (deeds_in outcomes) ≡ deeds_in (own_outcomes tenant outcomes) →
-        cond own (done ∷ own_deeds tenant (deeds_in outcomes)) (own_deeds tenant (deeds_in outcomes))
-        ≡ deeds_in (cond own (served who command reply ∷ own_outcomes tenant outcomes) (own_outcomes tenant outcomes))
-    by true rest = ap (λ (l : List Done). done ∷ l) rest
+    turn : Turn
+    turn = record { sees = sight (marked_view journal tenant) (request_of (deed_of command)); deed = deed_of command; reply = reply }
+
+    later : List Turn
+    later = told_to tenant (entered journal told) (told_in outcomes)
+
+    by : (own : Bool) → map (λ (t : Turn). part t.deed t.reply) later ≡ map (λ (t : Told). part t.deed t.reply) (told_in (own_outcomes tenant outcomes)) →
+        map (λ (t : Turn). part t.deed t.reply) (cond own (turn ∷ []) [] ++ later)
+        ≡ map (λ (t : Told). part t.deed t.reply) (told_in (cond own (served who command reply ∷ own_outcomes tenant outcomes) (own_outcomes tenant outcomes)))
+    by true rest = ap (λ (l : List X). part (deed_of command) reply ∷ l) rest
     by false rest = rest
 
-own_replies-by : (tenant : List ℕ) (deeds : List Done) → own_replies tenant deeds ≡ replies_of (own_deeds tenant deeds)
-own_replies-by tenant [] = refl
-own_replies-by tenant (d ∷ deeds) = by (is_same d.tenant tenant) (own_replies-by tenant deeds)
-  where
-    by : (own : Bool) → own_replies tenant deeds ≡ replies_of (own_deeds tenant deeds) →
-        cond own (d.reply ∷ []) [] ++ own_replies tenant deeds ≡ replies_of (cond own (d ∷ own_deeds tenant deeds) (own_deeds tenant deeds))
-    by true rest = ap (λ (l : List Reply). d.reply ∷ l) rest
-    by false rest = rest
+-- the tenant's turns
+abbrev turns_of : List ℕ → List Outcome → List Turn
+turns_of tenant outcomes = told_to tenant [] (told_in outcomes)
 
--- what the tenant was told
-pub own_replies-in : (tenant : List ℕ) (outcomes : List Outcome) → own_replies tenant (deeds_in outcomes) ≡ replies_of (deeds_in (own_outcomes tenant outcomes))
-own_replies-in tenant outcomes = own_replies-by tenant (deeds_in outcomes) ∙ ap replies_of (own_deeds-in tenant outcomes)
+-- what was told in these outcomes
+abbrev pub replies_in : List Outcome → List Reply
+replies_in outcomes = map (λ (t : Told). t.reply) (told_in outcomes)
 
--- has no want of memory
-pub own_memory : (outcomes : List Outcome) → AllByRecursion FoundMemory outcomes → HasMemory (replies_of (deeds_in outcomes))
+-- what was done in them
+abbrev deeds_in : List Outcome → List Deed
+deeds_in outcomes = map (λ (t : Told). t.deed) (told_in outcomes)
+
+-- no memory lacked in these turns, as in these outcomes none did
+all_mapped : {X Y : Type 0} (P : Y → Type 0) (f : X → Y) (xs : List X) → AllByRecursion P (map f xs) → AllByRecursion (λ (x : X). P (f x)) xs
+all_mapped P f [] all = tt
+all_mapped P f (x ∷ xs) all = (all.0, all_mapped P f xs all.1)
+
+-- neither did memory lack for the reply, nor is a search broken by that
+abbrev WithMemory : Reply → Type 0
+WithMemory reply = (reply ≢ Refused Memory) × (reply ≢ Answered Broken)
+
+own_memory : (outcomes : List Outcome) → AllByRecursion FoundMemory outcomes → AllByRecursion WithMemory (replies_in outcomes)
 own_memory [] memory = tt
 own_memory (nobody why ∷ outcomes) memory = own_memory outcomes memory.1
 own_memory (refused who why ∷ outcomes) memory = own_memory outcomes memory.1
 own_memory (served who command reply ∷ outcomes) memory = (memory.0, own_memory outcomes memory.1)
 
--- what is done, and what of a turn its trace has
-abbrev what_of : List Done → List Deed
-what_of deeds = map (λ d. d.deed) deeds
-
-abbrev what_in : List Turn → List Deed
-what_in ts = map (λ t. t.deed) ts
-
-abbrev moment_of : Turn → Moment
-moment_of t = record { view = t.view; request = request_of t.deed }
-
-turns-deeds : (tenant : List ℕ) (journal : List Entry) (deeds : List Done) → what_in (turns tenant journal deeds) ≡ what_of (own_deeds tenant deeds)
-turns-deeds tenant journal [] = refl
-turns-deeds tenant journal (d ∷ deeds) = by (is_same d.tenant tenant) (turns-deeds tenant (journal_after journal (event_of d) d.reply) deeds)
-  where
-    later : List Turn
-    later = turns tenant (journal_after journal (event_of d) d.reply) deeds
-
-    by : (own : Bool) → what_in later ≡ what_of (own_deeds tenant deeds) →
-        what_in (cond own (record { view = sight (marked_view journal tenant) (request_of d.deed); deed = d.deed } ∷ []) [] ++ later)
-        ≡ what_of (cond own (d ∷ own_deeds tenant deeds) (own_deeds tenant deeds))
-    by true rest = ap (λ (l : List Deed). d.deed ∷ l) rest
-    by false rest = rest
-
-turns-trace : (tenant : List ℕ) (journal : List Entry) (deeds : List Done) → map moment_of (turns tenant journal deeds) ≡ trace tenant journal (events_of deeds) (replies_of deeds)
-turns-trace tenant journal [] = refl
-turns-trace tenant journal (d ∷ deeds) = by (is_same d.tenant tenant) (turns-trace tenant (journal_after journal (event_of d) d.reply) deeds)
-  where
-    after : List Entry
-    after = journal_after journal (event_of d) d.reply
-
-    moment : Moment
-    moment = record { view = sight (marked_view journal tenant) (request_of d.deed); request = request_of d.deed }
-
-    by : (own : Bool) → map moment_of (turns tenant after deeds) ≡ trace tenant after (events_of deeds) (replies_of deeds) →
-        map moment_of (cond own (record { view = sight (marked_view journal tenant) (request_of d.deed); deed = d.deed } ∷ []) [] ++ turns tenant after deeds)
-        ≡ cond own (moment ∷ []) [] ++ trace tenant after (events_of deeds) (replies_of deeds)
-    by true rest = ap (λ (l : List Moment). moment ∷ l) rest
-    by false rest = rest
-
--- turns are told apart by what is done and by their moments
-same_turn : (one two : Turn) → moment_of one ≡ moment_of two → one.deed ≡ two.deed → one ≡ two
-same_turn one two moment deed =
-    ap (λ (v : List Marked). record { view = v; deed = one.deed }) (ap (λ (m : Moment). m.view) moment)
-    ∙ ap (λ (d : Deed). record { view = two.view; deed = d }) deed
-
-same_turns : (first second : List Turn) → map moment_of first ≡ map moment_of second → what_in first ≡ what_in second → first ≡ second
-same_turns [] [] moments deeds = refl
-same_turns [] (two ∷ second) moments deeds = cc
-same_turns (one ∷ first) [] moments deeds = cc
-same_turns (one ∷ first) (two ∷ second) moments deeds =
-    let moment : moment_of one ≡ moment_of two = cc in
-    let rest : map moment_of first ≡ map moment_of second = cc in
-    let deed : one.deed ≡ two.deed = cc in
-    let others : what_in first ≡ what_in second = cc in
-    ap (λ (t : Turn). t ∷ first) (same_turn one two moment deed) ∙ ap (λ (ts : List Turn). two ∷ ts) (same_turns first second rest others)
+pub turns_memory : (tenant : List ℕ) (outcomes : List Outcome) → AllByRecursion FoundMemory (own_outcomes tenant outcomes) → HasMemory (told_to tenant [] (told_in outcomes))
+turns_memory tenant outcomes memory =
+    all_mapped WithMemory (λ (t : Turn). t.reply) (turns_of tenant outcomes)
+    (subst (AllByRecursion WithMemory) (sym (told_own tenant (λ deed reply. reply) [] outcomes)) (own_memory (own_outcomes tenant outcomes) memory))
 
 -- lines that are the same but for the replies have the same deeds
-lines-deeds : (first second : List Outcome) → AllZip AreOneLine first second → what_of (deeds_in first) ≡ what_of (deeds_in second)
-lines-deeds [] [] are = refl
-lines-deeds [] (two ∷ second) are = absurd are
-lines-deeds (one ∷ first) [] are = absurd are
-lines-deeds (nobody why ∷ first) (two ∷ second) are = absurd are.0
-lines-deeds (refused who why ∷ first) (nobody other ∷ second) are = absurd are.0
-lines-deeds (refused who why ∷ first) (refused other also ∷ second) are = lines-deeds first second are.1
-lines-deeds (refused who why ∷ first) (served other also told ∷ second) are = absurd are.0
-lines-deeds (served who command reply ∷ first) (nobody other ∷ second) are = absurd are.0
-lines-deeds (served who command reply ∷ first) (refused other also ∷ second) are = absurd are.0
-lines-deeds (served who command reply ∷ first) (served other also told ∷ second) are =
-    ap (λ (c : Command). deed_of c ∷ what_of (deeds_in first)) are.0.1 ∙ ap (λ (l : List Deed). deed_of also ∷ l) (lines-deeds first second are.1)
+lines_deeds : (first second : List Outcome) → AllZip AreOneLine first second → deeds_in first ≡ deeds_in second
+lines_deeds [] [] are = refl
+lines_deeds [] (two ∷ second) are = absurd are
+lines_deeds (one ∷ first) [] are = absurd are
+lines_deeds (nobody why ∷ first) (two ∷ second) are = absurd are.0
+lines_deeds (refused who why ∷ first) (nobody other ∷ second) are = absurd are.0
+lines_deeds (refused who why ∷ first) (refused other also ∷ second) are = lines_deeds first second are.1
+lines_deeds (refused who why ∷ first) (served other also told ∷ second) are = absurd are.0
+lines_deeds (served who command reply ∷ first) (nobody other ∷ second) are = absurd are.0
+lines_deeds (served who command reply ∷ first) (refused other also ∷ second) are = absurd are.0
+lines_deeds (served who command reply ∷ first) (served other also told ∷ second) are =
+    ap (λ (c : Command). deed_of c ∷ deeds_in first) are.0.1 ∙ ap (λ (l : List Deed). deed_of also ∷ l) (lines_deeds first second are.1)
 
--- so where the tenant sees the same, its turns are the same
-pub own_turns : (tenant : List ℕ) (first second : List Outcome) → AllZip AreOneLine (own_outcomes tenant first) (own_outcomes tenant second) → trace_in tenant [] first ≡ trace_in tenant [] second →
-    turns tenant [] (deeds_in first) ≡ turns tenant [] (deeds_in second)
-own_turns tenant first second are sees =
-    same_turns (turns tenant [] (deeds_in first)) (turns tenant [] (deeds_in second))
-    (turns-trace tenant [] (deeds_in first) ∙ sees ∙ sym (turns-trace tenant [] (deeds_in second)))
-    (own first ∙ lines-deeds (own_outcomes tenant first) (own_outcomes tenant second) are ∙ sym (own second))
+-- turns with the same in sight and the same deeds
+same_deeds : (first second : List Turn) → map (λ (t : Turn). t.sees) first ≡ map (λ (t : Turn). t.sees) second → map (λ (t : Turn). t.deed) first ≡ map (λ (t : Turn). t.deed) second →
+    AllZip IsSameDeed first second
+same_deeds [] [] sees deeds = tt
+same_deeds [] (two ∷ second) sees deeds = cc
+same_deeds (one ∷ first) [] sees deeds = cc
+same_deeds (one ∷ first) (two ∷ second) sees deeds =
+    let in_sight : one.sees ≡ two.sees = cc in
+    let later : map (λ (t : Turn). t.sees) first ≡ map (λ (t : Turn). t.sees) second = cc in
+    let deed : one.deed ≡ two.deed = cc in
+    let others : map (λ (t : Turn). t.deed) first ≡ map (λ (t : Turn). t.deed) second = cc in
+    ((in_sight, deed), same_deeds first second later others)
+
+-- so where the tenant has the same in sight, its turns are the same but for the replies
+pub same_turns : (tenant : List ℕ) (first second : List Outcome) → AllZip AreOneLine (own_outcomes tenant first) (own_outcomes tenant second) → sights_of tenant first ≡ sights_of tenant second →
+    AllZip IsSameDeed (told_to tenant [] (told_in first)) (told_to tenant [] (told_in second))
+same_turns tenant first second are sees =
+    same_deeds (turns_of tenant first) (turns_of tenant second) sees
+    (own first ∙ lines_deeds (own_outcomes tenant first) (own_outcomes tenant second) are ∙ sym (own second))
   where
-    own : (outcomes : List Outcome) → what_in (turns tenant [] (deeds_in outcomes)) ≡ what_of (deeds_in (own_outcomes tenant outcomes))
-    own outcomes = turns-deeds tenant [] (deeds_in outcomes) ∙ ap what_of (own_deeds-in tenant outcomes)
+    own : (outcomes : List Outcome) → map (λ (t : Turn). t.deed) (turns_of tenant outcomes) ≡ deeds_in (own_outcomes tenant outcomes)
+    own outcomes = told_own tenant (λ deed reply. deed) [] outcomes
+
+-- and where the replies of the turns agree, so do those of its own outcomes
+pub replies_agree : (tenant : List ℕ) (first second : List Outcome) →
+    AllZip (λ (s t : Turn). Agree at_waits s.reply t.reply) (told_to tenant [] (told_in first)) (told_to tenant [] (told_in second)) →
+    AllZip (Agree at_waits) (replies_in (own_outcomes tenant first)) (replies_in (own_outcomes tenant second))
+replies_agree tenant first second agree =
+    subst₂ (AllZip (Agree at_waits)) (own first) (own second)
+    (zip_mapped (λ (s t : Turn). Agree at_waits s.reply t.reply) (Agree at_waits) (λ (t : Turn). t.reply) (λ (t : Turn). t.reply) (λ s t same. same) (turns_of tenant first) (turns_of tenant second) agree)
+  where
+    own : (outcomes : List Outcome) → map (λ (t : Turn). t.reply) (turns_of tenant outcomes) ≡ replies_in (own_outcomes tenant outcomes)
+    own outcomes = told_own tenant (λ deed reply. reply) [] outcomes
 
 refusal_same : (who other : List ℕ) (why also : Refusal) → who ≡ other → why ≡ also → refusal_line who why ≡ refusal_line other also
 refusal_same who other why also to is = ap (λ (name : List ℕ). refusal_line name why) to ∙ ap (refusal_line other) is
 
--- one command is answered alike where its replies are the same
-served-alike : (who other : List ℕ) (command also : Command) (reply told : Reply) → who ≡ other → command ≡ also → IsSameTold reply told → ArePrintedAlike (served who command reply) (served other also told)
-served-alike who other command also reply _ to is same = inl (ap (λ (name : List ℕ). reply_lines name reply) to)
-served-alike who other command also _ _ to is (proofs prove) = inr (to, is, prove)
+at_any_time : at_waits ≡ any_time → ⊥
+at_any_time is = cc
 
--- lines that are the same but for the replies are printed alike where these are the same
-pub printed_alike : (first second : List Outcome) → AllZip AreOneLine first second → AllZip IsSameTold (replies_of (deeds_in first)) (replies_of (deeds_in second)) → AllZip ArePrintedAlike first second
+-- one command is answered alike where its replies agree
+served_alike : (who other : List ℕ) (command also : Command) (reply told : Reply) → who ≡ other → command ≡ also → Agree at_waits reply told → ArePrintedAlike (served who command reply) (served other also told)
+served_alike who other command also reply _ to is same = inl (ap (λ (name : List ℕ). reply_lines name reply) to)
+served_alike who other command also _ _ to is (proofs prove) = inr (to, is, prove)
+served_alike who other command also reply told to is (first_early any early) = absurd (at_any_time any)
+served_alike who other command also reply told to is (second_early any early) = absurd (at_any_time any)
+
+-- lines that are the same but for the replies are printed alike where these agree
+pub printed_alike : (first second : List Outcome) → AllZip AreOneLine first second → AllZip (Agree at_waits) (replies_in first) (replies_in second) → AllZip ArePrintedAlike first second
 printed_alike [] [] are told = tt
 printed_alike [] (two ∷ second) are told = absurd are
 printed_alike (one ∷ first) [] are told = absurd are
@@ -194,4 +183,4 @@ printed_alike (refused who why ∷ first) (served other also reply ∷ second) a
 printed_alike (served who command reply ∷ first) (nobody other ∷ second) are told = absurd are.0
 printed_alike (served who command reply ∷ first) (refused other also ∷ second) are told = absurd are.0
 printed_alike (served who command reply ∷ first) (served other also more ∷ second) are told =
-    (served-alike who other command also reply more are.0.0 are.0.1 told.0, printed_alike first second are.1 told.1)
+    (served_alike who other command also reply more are.0.0 are.0.1 told.0, printed_alike first second are.1 told.1)

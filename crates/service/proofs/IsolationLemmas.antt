@@ -1,103 +1,89 @@
 -- Other tenants change nothing of what is printed for a tenant.
-use Rattle.std.proofs.Common.{◌≡◌, ℕ, Bool, true, false, cond, List, [], ◌∷◌, ◌++◌, map, refl, sym, ap, ap₂, ◌∙◌, subst, subst₂, append_assoc, Option, Some, None, Ok, Err, inl, inr}
-use Rattle.std.specs.Prelude.{◌&&◌, find, option_map, is_some}
-use Rattle.std.specs.List.{AllZip, AllByRecursion, flat_map}
-use Rattle.std.proofs.lemmas.Bool.{false≢true, and_parts, and_from}
+use Rattle.std.proofs.Common.{◌≡◌, ℕ, Bool, true, false, cond, List, [], ◌∷◌, ◌++◌, map, refl, sym, ap, ap₂, ◌∙◌, subst, subst₂, append_assoc, Some, Ok, Err, inl, inr}
+use Rattle.std.specs.Prelude.{◌&&◌, ◌||◌, find, option_map, is_some}
+use Rattle.std.specs.List.{AllZip, AllByRecursion, flat_map, list_any}
+use Rattle.std.proofs.lemmas.Bool.{and_from}
 use Rattle.std.proofs.lemmas.List.{append-nil}
 use Rattle.quotas.specs.Quota.{Quota}
 use Rattle.names.specs.Name.{is_name, IsName, is_same}
 use Rattle.names.proofs.SameNames.{same_from_is_same}
 use Rattle.hall.specs.declared.calls.replies.Reply.TheVariants.{Proof}
-use Rattle.hall.specs.halls.Account.{Account}
-use Rattle.hall.specs.halls.State.{HallState, Tenant, account, account_of, is_tenant, tenant_named, new_hall, new_tenant}
-use Rattle.hall.specs.halls.Agree.{HasMemory}
-use Rattle.hall.specs.halls.Turns.{own_replies, IsSameTold}
-use Rattle.hall.proofs.halls.Fixed.{deeds_fixed}
+use Rattle.hall.specs.Account.{new_account, start_of}
+use Rattle.hall.specs.Run.{Turn, told_to, at_waits}
+use Rattle.hall.specs.Laws.{Agree}
+use Rattle.hall.proofs.laws.Worlds.{scripts_isolated as told_alike}
 use Rattle.service.specs.Command.{form_of}
 use Rattle.service.specs.Roster.{Row, tenant_of}
 use Rattle.service.specs.declared.script_faults.ScriptFault.TheVariants.{Roster, Read, Write, Memory}
 use Rattle.service.specs.Line.{Line, text, too_long, not_ascii, commands_of}
 use Rattle.service.specs.Roster.{HasRows, HasRoster}
-use Rattle.service.specs.Outcome.{Outcome, served, outcome_text, is_speaker, IsSaid, deeds_in}
+use Rattle.service.specs.Outcome.{Outcome, served, outcome_text, is_speaker, IsSaid, told_in}
 use Rattle.service.specs.Isolation.{ScriptRun, IsSameFor, limits_of, own_lines, own_outcomes, AreProofs, ArePrintedAlike, IsNoProof}
 use Rattle.service.specs.Laws.{OwnLinesAreAnswered, ScriptsAreIsolated, SameIsPrinted, ScriptsAreRuns}
-use Rattle.service.proofs.TenantLemmas.{AreDistinct-rows}
 use Rattle.service.proofs.OwnLemmas.{own_said, own_none}
 use Rattle.service.proofs.ShortLemmas.{roster-short, own-short}
-use Rattle.service.proofs.AlikeLemmas.{AreOneLine, one_lines, own_replies-in, own_memory, own_turns, printed_alike}
+use Rattle.service.proofs.AlikeLemmas.{AreOneLine, one_lines, turns_memory, same_turns, replies_agree, printed_alike}
 
--- the account of a tenant with these limits that has done nothing
-abbrev fresh : Quota → Account
-fresh limits = record { entries = []; holder = record { limits = limits; opens = 0; searches = [] } }
+-- the tenants of a roster, as a hall has them
+abbrev roster_of : List Row → List (List ℕ × Quota)
+roster_of rows = map tenant_of rows
 
--- the hall of a roster
-abbrev hall_of : List Row → HallState
-hall_of rows = new_hall (map tenant_of rows)
-
--- a tenant's account at the start is that of its limits
-start_account : (tenant : List ℕ) (rows : List Row) → account_of (hall_of rows) tenant ≡ option_map fresh (limits_of tenant rows)
-start_account tenant [] = refl
-start_account tenant (row ∷ rows) = by (is_same row.name tenant) (start_account tenant rows)
+-- a tenant begins with its limits and nothing done
+starts : (tenant : List ℕ) (rows : List Row) → start_of tenant (roster_of rows) ≡ option_map new_account (limits_of tenant rows)
+starts tenant [] = refl
+starts tenant (row ∷ rows) = by (is_same row.name tenant) (starts tenant rows)
   where
-    by : (own : Bool) → account_of (hall_of rows) tenant ≡ option_map fresh (limits_of tenant rows) →
-        option_map (account []) (cond own (Some (new_tenant (tenant_of row))) (tenant_named tenant (map new_tenant (map tenant_of rows))))
-        ≡ option_map fresh (option_map (λ r. r.limits) (cond own (Some row) (find (λ r. is_same r.name tenant) rows)))
+    by : (own : Bool) → start_of tenant (roster_of rows) ≡ option_map new_account (limits_of tenant rows) →
+        option_map (λ (r : List ℕ × Quota). new_account r.1) (cond own (Some (tenant_of row)) (find (λ (r : List ℕ × Quota). is_same r.0 tenant) (roster_of rows)))
+        ≡ option_map new_account (option_map (λ r. r.limits) (cond own (Some row) (find (λ r. is_same r.name tenant) rows)))
     by true rest = refl
     by false rest = rest
 
-tenant_account : (h : HallState) (tenant : List ℕ) → is_tenant h tenant ≡ is_some (account_of h tenant)
-tenant_account h tenant = by (tenant_named tenant h.tenants)
+-- and stands in the roster where it has any
+listed : (tenant : List ℕ) (rows : List Row) → list_any (λ (r : List ℕ × Quota). is_same r.0 tenant) (roster_of rows) ≡ is_some (limits_of tenant rows)
+listed tenant [] = refl
+listed tenant (row ∷ rows) = by (is_same row.name tenant) (listed tenant rows)
   where
-    by : (o : Option Tenant) → is_some o ≡ is_some (option_map (account h.journal) o)
-    by None = refl
-    by (Some t) = refl
+    by : (own : Bool) → list_any (λ (r : List ℕ × Quota). is_same r.0 tenant) (roster_of rows) ≡ is_some (limits_of tenant rows) →
+        (own || list_any (λ (r : List ℕ × Quota). is_same r.0 tenant) (roster_of rows))
+        ≡ is_some (option_map (λ r. r.limits) (cond own (Some row) (find (λ r. is_same r.name tenant) rows)))
+    by true rest = refl
+    by false rest = rest
 
 module _ (tenant input other : List ℕ) (one : ScriptRun input) (two : ScriptRun other) (same : IsSameFor tenant one two) where
-  accounts : account_of (hall_of one.rows) tenant ≡ account_of (hall_of two.rows) tenant
-  accounts = start_account tenant one.rows ∙ ap (option_map fresh) same.limits ∙ sym (start_account tenant two.rows)
-
-  speakers : is_speaker (hall_of one.rows) tenant ≡ is_speaker (hall_of two.rows) tenant
-  speakers = ap (λ (b : Bool). is_name tenant && b) (tenant_account (hall_of one.rows) tenant ∙ ap is_some accounts ∙ sym (tenant_account (hall_of two.rows) tenant))
+  speakers : is_speaker (roster_of one.rows) tenant ≡ is_speaker (roster_of two.rows) tenant
+  speakers = ap (λ (b : Bool). is_name tenant && b) (listed tenant one.rows ∙ ap is_some same.limits ∙ sym (listed tenant two.rows))
 
   -- where the tenant speaks its lines are answered the same but for the replies
-  lines_alike : is_speaker (hall_of one.rows) tenant ≡ true → AllZip AreOneLine (own_outcomes tenant one.outcomes) (own_outcomes tenant two.outcomes)
+  lines_alike : is_speaker (roster_of one.rows) tenant ≡ true → AllZip AreOneLine (own_outcomes tenant one.outcomes) (own_outcomes tenant two.outcomes)
   lines_alike speaks =
       one_lines tenant (own_lines tenant one.lines) (own_outcomes tenant one.outcomes) (own_outcomes tenant two.outcomes)
       (own-short tenant one.lines (roster-short input one.rows one.lines one.rest one.roster.one_each))
-      (own_said (hall_of one.rows) tenant speaks one.lines one.outcomes one.transcript.answered.one_each)
+      (own_said (roster_of one.rows) tenant speaks one.lines one.outcomes one.transcript.one_each)
       (subst (λ (texts : List (List ℕ)). AllZip (λ said outcome. IsSaid tenant (form_of said) outcome) texts (own_outcomes tenant two.outcomes)) (sym same.says)
-      (own_said (hall_of two.rows) tenant (sym speakers ∙ speaks) two.lines two.outcomes two.transcript.answered.one_each))
+      (own_said (roster_of two.rows) tenant (sym speakers ∙ speaks) two.lines two.outcomes two.transcript.one_each))
       same.memory same.other_memory
 
-  -- and with an account so are these
-  replies_alike : (start : Account) → account_of (hall_of one.rows) tenant ≡ Some start → AllZip AreOneLine (own_outcomes tenant one.outcomes) (own_outcomes tenant two.outcomes) →
-      AllZip IsSameTold (own_replies tenant (deeds_in one.outcomes)) (own_replies tenant (deeds_in two.outcomes))
-  replies_alike start is alike =
-      deeds_fixed tenant start (map tenant_of one.rows) (map tenant_of two.rows) one.new two.new (deeds_in one.outcomes) (deeds_in two.outcomes)
-      (AreDistinct-rows one.rows one.roster.roster.distinct) (AreDistinct-rows two.rows two.roster.roster.distinct) is (sym accounts ∙ is)
-      one.transcript.answered.carried two.transcript.answered.carried (own_turns tenant one.outcomes two.outcomes alike same.sees)
-      (subst HasMemory (sym (own_replies-in tenant one.outcomes)) (own_memory (own_outcomes tenant one.outcomes) same.memory))
-      (subst HasMemory (sym (own_replies-in tenant two.outcomes)) (own_memory (own_outcomes tenant two.outcomes) same.other_memory))
+  -- and so are these
+  replies_alike : AllZip AreOneLine (own_outcomes tenant one.outcomes) (own_outcomes tenant two.outcomes) →
+      AllZip (λ (s t : Turn). Agree at_waits s.reply t.reply) (told_to tenant [] (told_in one.outcomes)) (told_to tenant [] (told_in two.outcomes))
+  replies_alike alike =
+      told_alike tenant (roster_of one.rows) (roster_of two.rows) (told_in one.outcomes) (told_in two.outcomes) one.transcript.exact two.transcript.exact
+      (starts tenant one.rows ∙ ap (option_map new_account) same.limits ∙ sym (starts tenant two.rows))
+      (same_turns tenant one.outcomes two.outcomes alike same.sees)
+      (turns_memory tenant one.outcomes same.memory) (turns_memory tenant two.outcomes same.other_memory)
 
-  spoken_alike : is_speaker (hall_of one.rows) tenant ≡ true → (o : Option Account) → account_of (hall_of one.rows) tenant ≡ o → AllZip ArePrintedAlike (own_outcomes tenant one.outcomes) (own_outcomes tenant two.outcomes)
-  spoken_alike speaks None none =
-      absurd (false≢true (sym (tenant_account (hall_of one.rows) tenant ∙ ap is_some none) ∙ (and_parts (is_name tenant) (is_tenant (hall_of one.rows) tenant) speaks).1))
-  spoken_alike speaks (Some start) is =
+  isolated_by : (speaks : Bool) → is_speaker (roster_of one.rows) tenant ≡ speaks → AllZip ArePrintedAlike (own_outcomes tenant one.outcomes) (own_outcomes tenant two.outcomes)
+  isolated_by true speaks =
       let alike = lines_alike speaks in
       printed_alike (own_outcomes tenant one.outcomes) (own_outcomes tenant two.outcomes) alike
-      (subst₂ (AllZip IsSameTold) (own_replies-in tenant one.outcomes) (own_replies-in tenant two.outcomes) (replies_alike start is alike))
-
-  silent_alike : is_speaker (hall_of one.rows) tenant ≡ false → AllZip ArePrintedAlike (own_outcomes tenant one.outcomes) (own_outcomes tenant two.outcomes)
-  silent_alike stranger =
-      subst₂ (AllZip ArePrintedAlike) (sym (own_none (hall_of one.rows) tenant stranger one.lines one.outcomes one.transcript.answered.one_each))
-      (sym (own_none (hall_of two.rows) tenant (sym speakers ∙ stranger) two.lines two.outcomes two.transcript.answered.one_each)) tt
-
-  isolated_by : (speaks : Bool) → is_speaker (hall_of one.rows) tenant ≡ speaks → AllZip ArePrintedAlike (own_outcomes tenant one.outcomes) (own_outcomes tenant two.outcomes)
-  isolated_by true speaks = spoken_alike speaks (account_of (hall_of one.rows) tenant) refl
-  isolated_by false stranger = silent_alike stranger
+      (replies_agree tenant one.outcomes two.outcomes (replies_alike alike))
+  isolated_by false stranger =
+      subst₂ (AllZip ArePrintedAlike) (sym (own_none (roster_of one.rows) tenant stranger one.lines one.outcomes one.transcript.one_each))
+      (sym (own_none (roster_of two.rows) tenant (sym speakers ∙ stranger) two.lines two.outcomes two.transcript.one_each)) tt
 
 pub scripts_isolated : ScriptsAreIsolated
-scripts_isolated tenant input other one two same = isolated_by tenant input other one two same (is_speaker (hall_of one.rows) tenant) refl
+scripts_isolated tenant input other one two same = isolated_by tenant input other one two same (is_speaker (roster_of one.rows) tenant) refl
 
 -- each row of a roster has a name
 rows_named : (ls : List Line) (rows : List Row) (rest : List Line) → HasRows ls rows rest → AllByRecursion (λ row. IsName row.name) rows
@@ -118,15 +104,13 @@ limited_named tenant (row ∷ rows) limits named is = by (is_same row.name tenan
     by false other there rest = rest there
 
 -- and speaks
-limited_speaks : (tenant : List ℕ) (rows : List Row) (limits : Quota) → IsName tenant → limits_of tenant rows ≡ Some limits → is_speaker (hall_of rows) tenant ≡ true
-limited_speaks tenant rows limits named is =
-    and_from (is_name tenant) (is_tenant (hall_of rows) tenant) named
-    (tenant_account (hall_of rows) tenant ∙ ap is_some (start_account tenant rows ∙ ap (option_map fresh) is))
+limited_speaks : (tenant : List ℕ) (rows : List Row) (limits : Quota) → IsName tenant → limits_of tenant rows ≡ Some limits → is_speaker (roster_of rows) tenant ≡ true
+limited_speaks tenant rows limits named is = and_from (is_name tenant) (list_any (λ (r : List ℕ × Quota). is_same r.0 tenant) (roster_of rows)) named (listed tenant rows ∙ ap is_some is)
 
 pub own_lines_answered : OwnLinesAreAnswered
 own_lines_answered tenant input run limits is =
     let named = limited_named tenant run.rows limits (rows_named (commands_of input) run.rows (run.lines ++ run.rest) run.roster.one_each) is in
-    own_said (hall_of run.rows) tenant (limited_speaks tenant run.rows limits named is) run.lines run.outcomes run.transcript.answered.one_each
+    own_said (roster_of run.rows) tenant (limited_speaks tenant run.rows limits named is) run.lines run.outcomes run.transcript.one_each
 
 not_proofs : (one two : Outcome) → IsNoProof one → AreProofs one two → ⊥
 not_proofs (served who command (Proof steps)) two none are = none
@@ -154,7 +138,6 @@ scripts_are_runs input (Ok u) old new answers = (
     rest = [];
     outcomes = answers.wrote.outcomes;
     output = answers.wrote.output;
-    new = answers.wrote.new;
     roster = subst (HasRoster (commands_of input) answers.rows) (sym (append-nil answers.commands)) answers.roster;
     transcript = answers.wrote.transcript;
   },
@@ -168,7 +151,6 @@ scripts_are_runs input (Err Read) old new answers =
         rest = some.rest;
         outcomes = some.all.outcomes;
         output = some.all.output;
-        new = some.all.new;
         roster = subst (HasRoster (commands_of input) answers.rows) some.split answers.roster;
         transcript = some.all.transcript;
       },
@@ -182,7 +164,6 @@ scripts_are_runs input (Err Write) old new answers =
         rest = part.rest;
         outcomes = part.outcomes ++ part.outcome ∷ [];
         output = part.output ++ outcome_text part.outcome;
-        new = part.new;
         roster = subst (HasRoster (commands_of input) answers.rows) (part.split ∙ sym (append_assoc part.done (part.line ∷ []) part.rest)) answers.roster;
         transcript = part.transcript;
       },

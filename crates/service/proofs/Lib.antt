@@ -10,6 +10,7 @@ pub mod ReplyLemmas
 pub mod WordsLemmas
 pub mod WrittenLemmas
 pub mod ServedLemmas
+pub mod SpeakerLemmas
 pub mod OutcomeLemmas
 pub mod PrintedLemmas
 pub mod SaidLemmas
@@ -20,5 +21,6 @@ pub mod OwnLemmas
 pub mod ShortLemmas
 pub mod AlikeLemmas
 pub mod IsolationLemmas
+pub mod PolledLemmas
 pub mod TalkLemmas
 pub mod ToldLemmas

@@ -40,10 +40,12 @@ abbrev pub with_none : Form → List (List ℕ) → Form
 with_none form [] = form
 with_none form _ = unknown
 
+-- one argument
 abbrev pub with_one : (List ℕ → Form) → List (List ℕ) → Form
 with_one form (word ∷ []) = form word
 with_one form _ = unknown
 
+-- two arguments
 abbrev pub with_two : (List ℕ → List ℕ → Form) → List (List ℕ) → Form
 with_two form (first ∷ second ∷ []) = form first second
 with_two form _ = unknown
@@ -52,6 +54,7 @@ with_two form _ = unknown
 abbrev pub grant_form : List ℕ → Form
 grant_form word = if bytes_eq word (codes "*") then grant_all else grant word
 
+-- the same of `revoke`
 abbrev pub revoke_form : List ℕ → Form
 revoke_form word = if bytes_eq word (codes "*") then revoke_all else revoke word
 
@@ -93,6 +96,7 @@ abbrev pub form_by_words : List (List ℕ) → List ℕ → Form
 form_by_words [] rest = unknown
 form_by_words (word ∷ args) rest = form_by_verb (verb_of word) args rest
 
+-- the form of the text behind a name
 abbrev pub form_of : List ℕ → Form
 form_of text = form_by_words (words text) (after_word text)
 

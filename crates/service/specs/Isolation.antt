@@ -7,19 +7,16 @@ use Rattle.names.specs.Name.{is_same}
 use Rattle.hall.specs.declared.faults.Fault.TheVariants.{Memory}
 use Rattle.hall.specs.declared.calls.answers.Answer.TheVariants.{Broken}
 use Rattle.hall.specs.declared.calls.replies.Reply.TheVariants.{Answered, Proof, Refused}
-use Rattle.hall.specs.halls.State.{HallState, new_hall}
-use Rattle.hall.specs.halls.Account.{Moment}
-use Rattle.hall.specs.halls.Turns.{ProveTheSame}
-use Rattle.vaults.specs.declared.changes.Entry.{Entry}
-use Rattle.hall.specs.halls.Run.{trace}
-use Rattle.hall.specs.halls.Deeds.{events_of, replies_of}
+use Rattle.hall.specs.Answers.{Sight}
+use Rattle.hall.specs.Run.{told_to}
+use Rattle.hall.specs.Laws.{ProveTheSame}
 use Rattle.service.specs.declared.refusals.Refusal.TheVariants as refusal
 use Rattle.service.specs.declared.script_faults.ScriptFault.{ScriptFault}
 use Rattle.service.specs.declared.script_faults.ScriptFault.TheVariants as fault
 use Rattle.service.specs.Line.{Line, text, too_long, not_ascii, commands_of}
 use Rattle.service.specs.Words.{is_colon, trim_start}
 use Rattle.service.specs.Roster.{Row, tenant_of, HasRoster}
-use Rattle.service.specs.Outcome.{Outcome, nobody, refused, served, outcome_text, deeds_in}
+use Rattle.service.specs.Outcome.{Outcome, nobody, refused, served, outcome_text, told_in}
 use Rattle.service.specs.Transcript.{IsTranscript}
 
 -- the tenant's limits, where its name stands in the roster
@@ -55,9 +52,9 @@ own_outcomes tenant outcomes = filter (is_to tenant) outcomes
 abbrev pub printed_for : List ℕ → List Outcome → List ℕ
 printed_for tenant outcomes = flat_map outcome_text (own_outcomes tenant outcomes)
 
--- the tenant's requests among the outcomes, each with what it looks at of the view just before it
-abbrev pub trace_in : List ℕ → List Entry → List Outcome → List Moment
-trace_in tenant journal outcomes = trace tenant journal (events_of (deeds_in outcomes)) (replies_of (deeds_in outcomes))
+-- what the tenant had in sight at each of its commands that were carried out
+abbrev pub sights_of : List ℕ → List Outcome → List Sight
+sights_of tenant outcomes = map (λ turn. turn.sees) (told_to tenant [] (told_in outcomes))
 
 -- neither did memory lack, nor is a search broken by that
 abbrev pub FoundMemory : Outcome → Type 0
@@ -88,9 +85,8 @@ pub record ScriptRun (input : List ℕ) : Type 0 where
   pub rest : List Line
   pub outcomes : List Outcome
   pub output : List ℕ
-  pub new : HallState
   pub roster : HasRoster (commands_of input) rows (lines ++ rest)
-  pub transcript : IsTranscript (new_hall (map tenant_of rows)) lines outcomes output new
+  pub transcript : IsTranscript (map tenant_of rows) lines outcomes output
 
 -- this went out of the run, by how the script ended: all of its output, to all lines or to some, or a front of it
 abbrev pub ShowsRun : {input : List ℕ} → ScriptRun input → Result (Unit {0}) ScriptFault → (List ℕ → Type 0) → Type 0
@@ -100,11 +96,11 @@ ShowsRun run (Err fault.Write) went_out = (front back : List ℕ) × (run.output
 ShowsRun run (Err fault.Roster) went_out = ⊥
 ShowsRun run (Err fault.Memory) went_out = ⊥
 
--- In both the tenant has the same limits, says the same, and sees the same at each request; and in neither did memory
+-- In both the tenant has the same limits, says the same, and has the same in sight at each command; and in neither did memory
 -- lack for it.
 pub record IsSameFor (tenant : List ℕ) {input other : List ℕ} (one : ScriptRun input) (two : ScriptRun other) : Type 0 where
   pub limits : limits_of tenant one.rows ≡ limits_of tenant two.rows
   pub says : own_lines tenant one.lines ≡ own_lines tenant two.lines
-  pub sees : trace_in tenant [] one.outcomes ≡ trace_in tenant [] two.outcomes
+  pub sees : sights_of tenant one.outcomes ≡ sights_of tenant two.outcomes
   pub memory : AllByRecursion FoundMemory (own_outcomes tenant one.outcomes)
   pub other_memory : AllByRecursion FoundMemory (own_outcomes tenant two.outcomes)

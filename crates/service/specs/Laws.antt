@@ -1,23 +1,22 @@
 -- What holds of rosters and scripts by their definitions alone.
-use Rattle.std.specs.Prelude.{◌≡◌, List, ℕ, Option, Some, Result}
+use Rattle.std.specs.Prelude.{◌≡◌, List, [], ℕ, map, Option, Some, Result}
 use Rattle.std.specs.List.{AllZip, AllByRecursion}
 use Rattle.std.specs.Io.KnownBytes.{Appends}
 use Rattle.service.specs.declared.script_faults.ScriptFault.{ScriptFault}
 use Rattle.quotas.specs.Quota.{Quota}
 use Rattle.service.specs.Line.{Line, commands_of}
 use Rattle.service.specs.Roster.{Row, HasRoster}
-use Rattle.hall.specs.declared.calls.replies.Reply.{Reply}
-use Rattle.hall.specs.halls.Account.{Account}
-use Rattle.hall.specs.halls.State.{HallState, account_of}
-use Rattle.hall.specs.halls.Run.{replies_to}
-use Rattle.hall.specs.halls.Deeds.{events_of, replies_of}
-use Rattle.hall.specs.halls.Agree.{Agree, HasMemory}
+use Rattle.hall.specs.declared.calls.requests.Request.{Request}
+use Rattle.hall.specs.Account.{start_of}
+use Rattle.hall.specs.Answers.{Sight}
+use Rattle.hall.specs.Run.{request_of, told_to, any_time}
+use Rattle.hall.specs.Laws.{Agree, HasMemory}
 use Rattle.service.specs.Command.{form_of}
-use Rattle.service.specs.Outcome.{Outcome, IsSaid, deeds_in}
+use Rattle.service.specs.Outcome.{Outcome, IsSaid, told_in}
 use Rattle.service.specs.Transcript.{IsTranscript}
 use Rattle.service.specs.Written.{Answers}
 use Rattle.service.specs.Isolation.{ScriptRun, ShowsRun, IsSameFor, limits_of, own_lines, own_outcomes}
-use Rattle.service.specs.Isolation.{printed_for, trace_in, ArePrintedAlike, IsNoProof}
+use Rattle.service.specs.Isolation.{printed_for, ArePrintedAlike, IsNoProof}
 
 -- lines that begin with a roster begin with one, and one list of lines follows it
 abbrev pub OneReading : Type 0
@@ -25,20 +24,21 @@ OneReading =
     (lines : List Line) (rows others : List Row) (rest more : List Line)
     → HasRoster lines rows rest → HasRoster lines others more → (rows ≡ others) × (rest ≡ more)
 
--- the replies to the tenant's requests among the outcomes
-abbrev pub replies_in : List ℕ → List Outcome → List Reply
-replies_in tenant outcomes = replies_to tenant (events_of (deeds_in outcomes)) (replies_of (deeds_in outcomes))
+-- what the tenant asked for at each of its commands that were carried out, with what it had in sight: a wait counts as a poll
+abbrev pub asked_in : List ℕ → List Outcome → List (Sight × Request)
+asked_in tenant outcomes = map (λ turn. (turn.sees, request_of turn.deed)) (told_to tenant [] (told_in outcomes))
 
--- from one account, over one trace, the replies of two scripts agree place by place
+-- In two scripts in which a tenant has the same limits, asks for the same and has the same in sight, and no memory lacked for
+-- it, the replies to it agree place by place.
 abbrev pub TwoScripts : Type 0
 TwoScripts =
-    (tenant : List ℕ) (start : Account) (one other one_end other_end : HallState)
-    (lines more : List Line) (first second : List Outcome) (output other_output : List ℕ)
-    → account_of one tenant ≡ Some start → account_of other tenant ≡ Some start
-    → IsTranscript one lines first output one_end → IsTranscript other more second other_output other_end
-    → trace_in tenant one.journal first ≡ trace_in tenant other.journal second
-    → HasMemory (replies_in tenant first) → HasMemory (replies_in tenant second)
-    → AllZip Agree (replies_in tenant first) (replies_in tenant second)
+    (tenant : List ℕ) (roster others : List (List ℕ × Quota)) (lines more : List Line) (first second : List Outcome)
+    (output other_output : List ℕ)
+    → start_of tenant roster ≡ start_of tenant others
+    → IsTranscript roster lines first output → IsTranscript others more second other_output
+    → asked_in tenant first ≡ asked_in tenant second
+    → HasMemory (told_to tenant [] (told_in first)) → HasMemory (told_to tenant [] (told_in second))
+    → AllZip (λ s t. Agree any_time s.reply t.reply) (told_to tenant [] (told_in first)) (told_to tenant [] (told_in second))
 
 -- to each line of a tenant of the roster stands one outcome, in order, and that is one that its text may have
 abbrev pub OwnLinesAreAnswered : Type 0

@@ -1,12 +1,10 @@
 -- What a line of a script is answered, by its text alone.
-use Rattle.std.specs.Prelude.{◌≡◌, ℕ, Bool, ◌&&◌, List, [], ◌∷◌, Result, Ok, Err, MatchBool, codes}
-use Rattle.std.specs.List.{list_any, before_first, after_first, flat_map}
-use Rattle.names.specs.Name.{is_name}
-use Rattle.hall.specs.declared.faults.Fault.{Fault}
+use Rattle.std.specs.Prelude.{◌≡◌, ℕ, Bool, ◌&&◌, List, [], ◌∷◌, Ok, Err, MatchBool, codes}
+use Rattle.std.specs.List.{list_any, before_first, after_first}
+use Rattle.names.specs.Name.{is_name, is_same}
+use Rattle.quotas.specs.Quota.{Quota}
 use Rattle.hall.specs.declared.calls.replies.Reply.{Reply}
-use Rattle.hall.specs.declared.calls.replies.Reply.TheVariants.{Refused}
-use Rattle.hall.specs.halls.State.{HallState, is_tenant}
-use Rattle.hall.specs.halls.Deeds.{Deed, asks, waits, Done}
+use Rattle.hall.specs.Run.{Deed, asks, waits, Told}
 use Rattle.service.specs.declared.commands.Command.{Command}
 use Rattle.service.specs.declared.commands.Command.TheVariants.{Request, Wait}
 use Rattle.service.specs.declared.refusals.Refusal.{Refusal}
@@ -35,41 +33,32 @@ IsSaid name form (refused who why) = (who ≡ name) × Reads form (Err why)
 IsSaid name form (served who command reply) = (who ≡ name) × Reads form (Ok command)
 
 -- whether a tenant speaks: the text is a name, and stands in the roster
-abbrev pub is_speaker : HallState → List ℕ → Bool
-is_speaker hall who = is_name who && is_tenant hall who
+abbrev pub is_speaker : List (List ℕ × Quota) → List ℕ → Bool
+is_speaker roster who = is_name who && list_any (λ row. is_same row.0 who) roster
 
 -- what a command may become, by the name before it
-abbrev pub IsNamed : HallState → List ℕ → List ℕ → Outcome → Type 0
-IsNamed hall who said outcome = MatchBool (is_speaker hall who) (IsSaid who (form_of said) outcome) (outcome ≡ nobody refusal.BadHello)
+abbrev pub IsNamed : List (List ℕ × Quota) → List ℕ → List ℕ → Outcome → Type 0
+IsNamed roster who said outcome = MatchBool (is_speaker roster who) (IsSaid who (form_of said) outcome) (outcome ≡ nobody refusal.BadHello)
 
 -- what a line `NAME: COMMAND`, without the spaces in front, may become
-abbrev pub IsSpoken : HallState → List ℕ → Outcome → Type 0
-IsSpoken hall line outcome = MatchBool (list_any is_colon line)
-    (IsNamed hall (before_first is_colon line) (after_first is_colon line) outcome)
+abbrev pub IsSpoken : List (List ℕ × Quota) → List ℕ → Outcome → Type 0
+IsSpoken roster line outcome = MatchBool (list_any is_colon line)
+    (IsNamed roster (before_first is_colon line) (after_first is_colon line) outcome)
     (outcome ≡ nobody refusal.Command)
 
 -- what a line may become where these are the tenants
-abbrev pub IsOutcome : HallState → Line → Outcome → Type 0
-IsOutcome hall too_long outcome = outcome ≡ nobody refusal.LineLong
-IsOutcome hall not_ascii outcome = outcome ≡ nobody refusal.NotAscii
-IsOutcome hall (text t) outcome = IsSpoken hall (trim_start t) outcome
+abbrev pub IsOutcome : List (List ℕ × Quota) → Line → Outcome → Type 0
+IsOutcome roster too_long outcome = outcome ≡ nobody refusal.LineLong
+IsOutcome roster not_ascii outcome = outcome ≡ nobody refusal.NotAscii
+IsOutcome roster (text t) outcome = IsSpoken roster (trim_start t) outcome
 
--- what a command asks of the hall
+-- what a command asks for
 abbrev pub deed_of : Command → Deed
 deed_of (Request q) = asks q
 deed_of (Wait number) = waits number
 
--- the reply by what carrying it out came to
-abbrev pub told_by : Result Reply Fault → Reply
-told_by (Ok reply) = reply
-told_by (Err fault) = Refused fault
-
--- what was carried out
-abbrev pub deed_in : Outcome → List Done
-deed_in (nobody why) = []
-deed_in (refused who why) = []
-deed_in (served who command reply) = record { tenant = who; deed = deed_of command; reply = reply } ∷ []
-
--- the deeds of these outcomes, in order: what was refused by its text alone is none
-abbrev pub deeds_in : List Outcome → List Done
-deeds_in outcomes = flat_map deed_in outcomes
+-- what was told, in order: what was refused by its text alone is none of it
+abbrev pub told_in : List Outcome → List Told
+told_in [] = []
+told_in (served who command reply ∷ more) = record { tenant = who; deed = deed_of command; reply = reply } ∷ told_in more
+told_in (_ ∷ more) = told_in more

@@ -7,6 +7,7 @@ use Rattle.credential_text.specs.declared.faults.CredFault.TheVariants as cred
 use Rattle.service.specs.declared.refusals.Refusal.{Refusal}
 use Rattle.service.specs.declared.refusals.Refusal.TheVariants.{Name, Credential, NoHello, BadHello, Command, LineLong, NotAscii, Memory}
 
+-- the number of a refusal
 abbrev pub refusal_number : Refusal → ℕ
 refusal_number (Name fault) = name_fault_number fault
 refusal_number (Credential fault) = cred_fault_number fault

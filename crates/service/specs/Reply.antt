@@ -61,6 +61,7 @@ seen_text seen = seen.name ++ (if seen.to_all then codes "*" else [])
 abbrev pub seen_listed : List Seen → List ℕ
 seen_listed names = flat_map (λ seen. 32 ∷ seen_text seen) names
 
+-- what an answer says
 abbrev pub answer_text : Answer → List ℕ
 answer_text Working = codes "working"
 answer_text Yes = codes "yes"

@@ -66,6 +66,7 @@ pub record HasRoster (lines : List Line) (rows : List Row) (rest : List Line) : 
   pub one_each : HasRows lines rows rest
   pub roster : IsRoster rows
 
+-- the lines begin with no roster
 abbrev pub HasNoRoster : List Line → Type 0
 HasNoRoster lines = (rows : List Row) (rest : List Line) → HasRoster lines rows rest → ⊥
 

@@ -1,8 +1,7 @@
 -- What went out of a script's replies.
 use Rattle.std.specs.Prelude.{◌≡◌, ℕ, ◌<◌, List, ◌++◌, length, Option, ◌⊎◌, [], ◌∷◌, map, Result, Ok, Err, codes}
 use Rattle.std.specs.Io.KnownBytes.{Appends}
-use Rattle.hall.specs.halls.State.{HallState}
-use Rattle.hall.specs.halls.State.{new_hall}
+use Rattle.quotas.specs.Quota.{Quota}
 use Rattle.service.specs.declared.script_faults.ScriptFault.{ScriptFault}
 use Rattle.service.specs.declared.script_faults.ScriptFault.TheVariants.{Roster, Read, Write, Memory}
 use Rattle.service.specs.Line.{Line}
@@ -11,19 +10,18 @@ use Rattle.service.specs.Transcript.{IsTranscript}
 use Rattle.service.specs.Roster.{Row, tenant_of, HasRoster, HasNoRoster}
 
 -- the replies to all these commands went out
-pub record WroteAll (old : HallState) (commands : List Line) (went_out : List ℕ → Type 0) : Type 0 where
+pub record WroteAll (roster : List (List ℕ × Quota)) (commands : List Line) (went_out : List ℕ → Type 0) : Type 0 where
   pub outcomes : List Outcome
   pub output : List ℕ
-  pub new : HallState
-  pub transcript : IsTranscript old commands outcomes output new
+  pub transcript : IsTranscript roster commands outcomes output
   pub out : went_out output
 
 -- the replies to the first of them did
-pub record WroteSome (old : HallState) (commands : List Line) (went_out : List ℕ → Type 0) : Type 0 where
+pub record WroteSome (roster : List (List ℕ × Quota)) (commands : List Line) (went_out : List ℕ → Type 0) : Type 0 where
   pub done : List Line
   pub rest : List Line
   pub split : commands ≡ done ++ rest
-  pub all : WroteAll old done went_out
+  pub all : WroteAll roster done went_out
 
 -- a front of the text went out after the output, and not all of it
 pub record WroteFront (output reply : List ℕ) (went_out : List ℕ → Type 0) : Type 0 where
@@ -38,7 +36,7 @@ abbrev pub WritesFront : Option (List ℕ) → Option (List ℕ) → List ℕ �
 WritesFront old new reply = WroteFront [] reply (Appends old new)
 
 -- the replies to the first of them did, and a front of the next one, whose command was carried out
-pub record WrotePart (old : HallState) (commands : List Line) (went_out : List ℕ → Type 0) : Type 0 where
+pub record WrotePart (roster : List (List ℕ × Quota)) (commands : List Line) (went_out : List ℕ → Type 0) : Type 0 where
   pub done : List Line
   pub line : Line
   pub rest : List Line
@@ -46,17 +44,16 @@ pub record WrotePart (old : HallState) (commands : List Line) (went_out : List �
   pub outcomes : List Outcome
   pub outcome : Outcome
   pub output : List ℕ
-  pub new : HallState
-  pub transcript : IsTranscript old (done ++ line ∷ []) (outcomes ++ outcome ∷ []) (output ++ outcome_text outcome) new
+  pub transcript : IsTranscript roster (done ++ line ∷ []) (outcomes ++ outcome ∷ []) (output ++ outcome_text outcome)
   pub front : WroteFront output (outcome_text outcome) went_out
 
 -- what went out to these commands, by how the script ended
-abbrev pub Wrote : HallState → List Line → Result (Unit {0}) ScriptFault → (List ℕ → Type 0) → Type 0
-Wrote old commands (Ok _) went_out = WroteAll old commands went_out
-Wrote old commands (Err Read) went_out = WroteSome old commands went_out
-Wrote old commands (Err Write) went_out = WrotePart old commands went_out
-Wrote old commands (Err Roster) went_out = ⊥
-Wrote old commands (Err Memory) went_out = ⊥
+abbrev pub Wrote : List (List ℕ × Quota) → List Line → Result (Unit {0}) ScriptFault → (List ℕ → Type 0) → Type 0
+Wrote roster commands (Ok _) went_out = WroteAll roster commands went_out
+Wrote roster commands (Err Read) went_out = WroteSome roster commands went_out
+Wrote roster commands (Err Write) went_out = WrotePart roster commands went_out
+Wrote roster commands (Err Roster) went_out = ⊥
+Wrote roster commands (Err Memory) went_out = ⊥
 
 -- the one line that answers a faulty roster
 abbrev pub roster_refusal : List ℕ
@@ -67,7 +64,7 @@ pub record Answers (lines : List Line) (result : Result (Unit {0}) ScriptFault) 
   pub rows : List Row
   pub commands : List Line
   pub roster : HasRoster lines rows commands
-  pub wrote : Wrote (new_hall (map tenant_of rows)) commands result went_out
+  pub wrote : Wrote (map tenant_of rows) commands result went_out
 
 -- What went out of a script, by its lines that are not blank. Want of memory comes before anything is written.
 abbrev pub ScriptWrote : List Line → Result (Unit {0}) ScriptFault → (List ℕ → Type 0) → Type 0

@@ -6,16 +6,16 @@ pub fn rosters_have_one_reading()
     ensures { OneReading }
 {}
 
-/// Two scripts that agree on a tenant's limits, its requests and what it could read before each of them give that
-/// tenant equal answers, place by place, where no reply to it lacked memory: whatever other tenants say in them. That a
-/// search still works is no answer.
+/// Two scripts in which a tenant has the same limits, asks for the same and has the same in sight at each request give it
+/// equal answers, place by place, where no reply to it lacked memory: whatever other tenants say in them, and also where it
+/// polls in one and waits in the other. That a search still works is no answer, and two proofs of one membership may differ.
 pub fn two_scripts()
     ensures { TwoScripts }
 {}
 
-/// Two scripts in which a tenant has the same limits, says the same and sees the same at each request answer each of its
-/// lines by the same bytes, whatever other tenants say in them, where no reply to it says that memory lacked or that a
-/// search is broken (`isolated`). Two proofs of one membership may differ; where it is told none, the same is printed for
+/// Two scripts in which a tenant has the same limits, says the same and has the same in sight at each command answer each
+/// of its lines by the same bytes, whatever other tenants say in them, where no reply to it says that memory lacked or that
+/// a search is broken (`isolated`). Two proofs of one membership may differ; where it is told none, the same is printed for
 /// it from the first byte to the last (`printed`). Each of its lines has one reply (`own`). What `run_script` writes is
 /// the output of such a script, and where a reader or a writer failed that of its first lines (`runs`).
 pub fn scripts_are_isolated()

@@ -1,8 +1,8 @@
 //! Rosters: the tenants that an input begins with.
 ghost use Rattle.std.specs.Prelude.{◌≡◌, ◌≢◌, ◌↔◌, map, true, IsTrue, IfOk, IfErr};
-ghost use Rattle.std.specs.List.{list_any};
+ghost use Rattle.std.specs.List.{list_any, IsDistinct};
 ghost use Rattle.names.specs.Name.{IsName, is_same};
-ghost use Rattle.hall.specs.halls.State.{new_hall, AreDistinct};
+ghost use Rattle.hall.specs.Hall.{new_hall};
 ghost use Rattle.service.specs.declared.script_faults.ScriptFault.TheVariants as fault;
 ghost use Rattle.service.specs.Roster.{IsTenant, IsRoster, names_of, tenant_of};
 ghost use Rattle.service.specs.RosterReading.{FindsLine, AddsRow, ReadsRoster};
@@ -100,7 +100,7 @@ impl Roster {
     /// The tenants' names and limits, in order.
     fn tenants(&self, alloc: Global) -> Result<Vec<(Entity, Limits)>, AllocError>
         ensures items { IfOk result (λ tenants. tenants.items ≡ map tenant_of self.now) }
-        ensures distinct { AreDistinct (new_hall (map tenant_of self.now)).tenants }
+        ensures distinct { IsDistinct is_same (map (λ row. row.0) (map tenant_of self.now)) }
     {
         let mut tenants = Vec::new(alloc);
         for row in &self.rows {

@@ -1,9 +1,10 @@
 //! A script: a roster, then the commands of its tenants, each with its reply.
-ghost use Rattle.std.specs.Prelude.{IfSome};
+ghost use Rattle.std.specs.Prelude.{◌≡◌, ℕ, List, IfSome};
 ghost use Rattle.std.specs.Io.KnownBytes.{Appends};
 ghost use Rattle.service.specs.Line.{commands_of};
 ghost use Rattle.service.specs.LineReader.{IfKnown};
-ghost use Rattle.hall.specs.halls.State.{IsNewHall};
+ghost use Rattle.quotas.specs.Quota.{Quota};
+ghost use Rattle.hall.specs.Hall.{new_hall};
 ghost use Rattle.service.specs.Written.{Wrote, ScriptWrote};
 ghost use Rattle.service.specs.Turn.{Takes};
 
@@ -56,9 +57,8 @@ fn run_commands<R: Read + Drop, W: Write>(
     reply: &mut Room,
     writer: &mut W,
 ) -> Result<(), ScriptFault>
-    requires { IsNewHall hall.old }
-    ensures { IfKnown lines.old
-        (λ commands. Wrote hall.old commands result (Appends (W.contents writer.old) (W.contents writer.new))) }
+    ensures { (roster : List (List ℕ × Quota)) → hall.old ≡ new_hall roster → IfKnown lines.old
+        (λ commands. Wrote roster commands result (Appends (W.contents writer.old) (W.contents writer.new))) }
 {
     for _ in 0..u64::MAX {
         match take_turn(alloc, lines, hall, reply) {
@@ -71,6 +71,7 @@ fn run_commands<R: Read + Drop, W: Write>(
     Err(ScriptFault::Read)
 }
 
+#[tactic(auto, using(crate::proofs::OutcomeLemmas::long_answered, crate::proofs::OutcomeLemmas::not_ascii_answered))]
 /// Takes one line, and puts its reply into the room.
 fn take_turn<R: Read + Drop>(
     alloc: Global,

@@ -5,8 +5,8 @@ use Rattle.service.proofs.answers.answer_tenant.Goals as goal
 
 pub returns-in-Ok : goal.returns-in-Ok
 returns-in-Ok c =
-    Says-served c.args.hall.now c.serve-told.new.hall c.args.who (form_of c.args.said.now) c.in-Ok.command c.serve-told.result c.fill_reply.new.room
-    c.requires c.in-Ok.ensures c.serve-told.ensures.carried c.serve-told.ensures.memory_last c.fill_reply.ensures
+    Says-served c.args.hall.now c.carry_out-told.new.hall c.args.who (form_of c.args.said.now) c.in-Ok.command c.carry_out-told.result c.fill_reply.new.room
+    c.in-Ok.ensures c.carry_out-told.ensures c.fill_reply.ensures
 
 pub returns-in-Err : goal.returns-in-Err
 returns-in-Err c =

@@ -1,0 +1,100 @@
+-- A wait taken as a poll: what a tenant is told in a script is a run whose searches may settle at any time.
+use Rattle.std.proofs.Common.{◌≡◌, ◌≢◌, ◌⊎◌, ℕ, List, [], ◌∷◌, map, refl, sym, ap, ◌∙◌, subst, Option, Some, None, inl, inr}
+use Rattle.std.specs.List.{AllZip, AllByRecursion}
+use Rattle.std.specs.FinMap.{get, insert}
+use Rattle.hall.specs.declared.faults.Fault.TheVariants.{NoTenant}
+use Rattle.hall.specs.declared.calls.requests.Request.{Request}
+use Rattle.hall.specs.declared.calls.replies.Reply.{Reply}
+use Rattle.hall.specs.declared.calls.replies.Reply.TheVariants.{Refused}
+use Rattle.hall.specs.Account.{Asked, Account, start_of}
+use Rattle.hall.specs.Answers.{Sight}
+use Rattle.hall.specs.Run.{Deed, asks, waits, request_of, Turn, told_to, any_time, at_waits, GoesOn, Between, Ends, IsTaken, IsRun, IsRunOf}
+use Rattle.hall.specs.Laws.{Agree, same, HasMemory, IsSameDeed}
+use Rattle.hall.proofs.Maps.{numbers_exact, one_or_other, get_inserted, get_insert_other}
+use Rattle.hall.proofs.laws.HallTurns.{goes_itself}
+use Rattle.hall.proofs.laws.Worlds.{two_worlds}
+use Rattle.service.specs.Outcome.{told_in}
+use Rattle.service.specs.Laws.{TwoScripts}
+
+-- a turn with a poll where it has a wait
+abbrev polled : Turn → Turn
+polled t = record t { deed = asks (request_of t.deed) }
+
+-- what a turn asks for, with what it has in sight
+abbrev asked : Turn → Sight × Request
+asked t = (t.sees, request_of t.deed)
+
+between_same : (a b : Account) → b ≡ a → Between any_time a b
+between_same a b is = subst (Between any_time a) (sym is) (refl, λ k. goes_itself a.limits.work (get a.searches k))
+
+-- a search that ended may have done so at any time
+ends_between : (a b : Account) (k : ℕ) (o : Option Asked) → get a.searches k ≡ o → Ends a k o b → Between any_time a b
+ends_between a b k None at is = between_same a b is
+ends_between a b k (Some s) at (settled, ended, may, is) =
+    subst (Between any_time a) (sym is) (refl, λ j. by j (one_or_other numbers_exact j k))
+  where
+    new : Asked
+    new = record s { settled = settled }
+
+    by : (j : ℕ) → (j ≡ k) ⊎ (j ≢ k) → GoesOn a.limits.work (get a.searches j) (get (insert a.searches k new) j)
+    by j (inl here) =
+        subst (λ (i : ℕ). GoesOn a.limits.work (get a.searches i) (get (insert a.searches k new) i)) (sym here)
+        (rw (at, get_inserted numbers_exact a.searches k new) (settled, may, refl))
+    by j (inr apart) = rw (get_insert_other numbers_exact a.searches k new j apart) (goes_itself a.limits.work (get a.searches j))
+
+run_polled : (tenant : List ℕ) (a c : Account) (turns : List Turn) → IsRun at_waits tenant a turns c → IsRun any_time tenant a (map polled turns) c
+run_polled tenant a c [] run = between_same a c run
+run_polled tenant a c (turn ∷ turns) (before, after, kept, taken, rest) = by turn.deed taken (run_polled tenant after c turns rest)
+  where
+    by : (deed : Deed) → IsTaken tenant before turn.sees deed turn.reply after → IsRun any_time tenant after (map polled turns) c →
+        (m : Account) × (n : Account) × Between any_time a m × IsTaken tenant m turn.sees (asks (request_of deed)) turn.reply n × IsRun any_time tenant n (map polled turns) c
+    by (asks q) answers later = (before, after, between_same a before kept, answers, later)
+    by (waits k) (m, ends, answers) later =
+        (m, after, subst (λ (b : Account). Between any_time b m) kept (ends_between before m k (get before.searches k) refl ends), answers, later)
+
+-- turns that ask for the same are the same but for the replies, each wait a poll
+same_polled : (first second : List Turn) → map asked first ≡ map asked second → AllZip IsSameDeed (map polled first) (map polled second)
+same_polled [] [] asks_same = tt
+same_polled [] (two ∷ second) asks_same = cc
+same_polled (one ∷ first) [] asks_same = cc
+same_polled (one ∷ first) (two ∷ second) asks_same =
+    let now : asked one ≡ asked two = cc in
+    let later : map asked first ≡ map asked second = cc in
+    ((ap (λ (p : Sight × Request). p.0) now, ap (λ (p : Sight × Request). asks p.1) now), same_polled first second later)
+
+memory_polled : (turns : List Turn) → HasMemory turns → HasMemory (map polled turns)
+memory_polled [] memory = tt
+memory_polled (turn ∷ turns) memory = (memory.0, memory_polled turns memory.1)
+
+unpolled : (first second : List Turn) → AllZip (λ (s t : Turn). Agree any_time s.reply t.reply) (map polled first) (map polled second) → AllZip (λ (s t : Turn). Agree any_time s.reply t.reply) first second
+unpolled [] [] agree = tt
+unpolled [] (two ∷ second) agree = absurd agree
+unpolled (one ∷ first) [] agree = absurd agree
+unpolled (one ∷ first) (two ∷ second) agree = (agree.0, unpolled first second agree.1)
+
+-- a name that is no tenant's is refused alike
+none_agree : (first second : List Turn) → map asked first ≡ map asked second → AllByRecursion (λ (t : Turn). t.reply ≡ Refused NoTenant) first →
+    AllByRecursion (λ (t : Turn). t.reply ≡ Refused NoTenant) second → AllZip (λ (s t : Turn). Agree any_time s.reply t.reply) first second
+none_agree [] [] asks_same all more = tt
+none_agree [] (two ∷ second) asks_same all more = cc
+none_agree (one ∷ first) [] asks_same all more = cc
+none_agree (one ∷ first) (two ∷ second) asks_same all more =
+    let later : map asked first ≡ map asked second = cc in
+    (subst (λ (r : Reply). Agree any_time r two.reply) (more.0 ∙ sym all.0) same, none_agree first second later all.1 more.1)
+
+-- two runs that ask for the same from one start
+runs_agree : (tenant : List ℕ) (start : Option Account) (first second : List Turn) (end other_end : Option Account) → IsRunOf at_waits tenant start first end →
+    IsRunOf at_waits tenant start second other_end → map asked first ≡ map asked second → HasMemory first → HasMemory second → AllZip (λ (s t : Turn). Agree any_time s.reply t.reply) first second
+runs_agree tenant None first second end other_end run other asks_same memory more = none_agree first second asks_same run.0 other.0
+runs_agree tenant (Some a) first second end other_end (b, is, run) (c, also, other) asks_same memory more =
+    unpolled first second
+    (two_worlds any_time tenant a b c (map polled first) (map polled second) (run_polled tenant a b first run) (run_polled tenant a c second other) (same_polled first second asks_same)
+    (memory_polled first memory) (memory_polled second more))
+
+pub scripts_agree : TwoScripts
+scripts_agree tenant roster others lines more first second output other_output starts transcript other asks_same memory other_memory =
+    let one = transcript.exact tenant in
+    let two = other.exact tenant in
+    runs_agree tenant (start_of tenant roster) (told_to tenant [] (told_in first)) (told_to tenant [] (told_in second)) one.0 two.0 one.1
+    (subst (λ (o : Option Account). IsRunOf at_waits tenant o (told_to tenant [] (told_in second)) two.0) (sym starts) two.1)
+    asks_same memory other_memory
