@@ -7,7 +7,6 @@
 - Links: each link within the repository leads to a file that is there, and to a heading of it.
 - Paths: each path in backticks that begins with a folder of the repository is there.
 - Contracts: each `crate::function` is a function of that crate, and the clauses named behind it are clauses of it.
-- Definitions: each word of docs/DEFINITIONS.md stands in the file of specs/ that its row names, of its section's crate.
 - Files: a block ```text FILE is that file.
 - Commands: of a block ```console each line `$ COMMAND` prints what stands below it. A service goes on until the page's next
   one, and port 7412 is replaced by one that is free.
@@ -85,22 +84,6 @@ def contracts_of(page):
             if (ROOT / "crates" / path.split("::")[0]).is_dir():
                 wanted = [clause for clause in re.findall(r"`([a-z]\w*)`", clauses)]
                 yield f"contract {path} {' '.join(wanted)}".strip(), lambda path=path, wanted=wanted: is_contract(path, wanted)
-
-
-def definitions_of(page):
-    """Each row of a section whose heading names a folder of specs: its words, and the files in which they stand."""
-    for folder, section in re.findall(r"^## [^\n]*\(`(crates/\w+/specs)`\)$(.*?)(?=^## |\Z)", page.text, flags=re.S | re.M):
-        for words, files in re.findall(r"^\| (`[^|]+`)[^|`]*\| ([\w, ]+) \|", section, flags=re.M):
-            for word in re.findall(r"`(\w+)`", words):
-                yield f"definition {word}", lambda w=word, fs=files.split(","), f=folder: is_defined(w, ROOT / f, fs)
-
-
-def is_defined(word, folder, files):
-    for file in files:
-        for found in folder.rglob(f"{file.strip()}.antt"):
-            if re.search(rf"^ *(?:abbrev |record |data |def )?(?:pub )?(?:data |record )?{word}\b", found.read_text(), flags=re.M):
-                return None
-    return f"not in {', '.join(files)}"
 
 
 def is_contract(path, wanted):
@@ -251,7 +234,6 @@ def checks_of(page, has_program):
     yield from links_of(page)
     yield from paths_of(page)
     yield from contracts_of(page)
-    yield from definitions_of(page)
     if has_program:
         yield from runs_of(page)
         yield from pictures_of(page)
