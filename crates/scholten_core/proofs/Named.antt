@@ -172,7 +172,7 @@ module _ {P Q : Type 0} (f : P → Q) where
       map-append (entry_with f) (filter (λ l. not (l.0 == number)) d.letters) (answers (d.sent + 1) (letter_of d number) outs)
       ∙ ap (λ ls. ls ++ map (entry_with f) (answers (d.sent + 1) (letter_of d number) outs)) (rest-named number d.letters)
       ∙ ap (λ ls. filter (λ l. not (l.0 == number)) (map (entry_with f) d.letters) ++ ls)
-        (answers-named (d.sent + 1) (letter_of d number) outs ∙ ap (λ o. answers (d.sent + 1) o (outs_with f outs)) (sym (letter_of-named d number)))
+      (answers-named (d.sent + 1) (letter_of d number) outs ∙ ap (λ o. answers (d.sent + 1) o (outs_with f outs)) (sym (letter_of-named d number)))
 
   signalled_as-named : (d : Computation P) (place : ℕ) (to : Option Parent) → named_with f (signalled_as d place to) ≡ signalled_as (named_with f d) place to
   signalled_as-named d place None = refl

@@ -1,7 +1,9 @@
 //! Events as a table writes them, and what a table wants each to be answered.
 use super::entity;
-use crate::{Answer, Event, Fault, Hall, Names, Query, Reply, Request, Rows, Sights, Step, Stepped};
-use crate::{Proof, write_proof};
+use crate::{
+    Answer, Event, Fault, Hall, Names, Proof, Query, Reply, Request, Rows, Sights, Step, Stepped,
+    write_proof,
+};
 use credential_text::read_credential;
 use names::Role;
 use search::{Hint, Need};

@@ -1,7 +1,7 @@
 //! Which letters are taken, at each place, and with which hint they are finished.
 use super::acts::{Act, Told, first_wrong};
-use super::runs::{ANSWERED, ASKED, two_tenants};
 use super::entity;
+use super::runs::{ANSWERED, ASKED, two_tenants};
 use crate::Hall;
 use search::Hint;
 use snapshots::Span;
