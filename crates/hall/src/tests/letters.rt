@@ -2,7 +2,8 @@
 use super::acts::{Act, Told, first_wrong};
 use super::entity;
 use super::runs::{ANSWERED, ASKED, two_tenants};
-use crate::Hall;
+use crate::{Event, Hall, Reply, Step, Stepped};
+use names::Entity;
 use search::Hint;
 use snapshots::Span;
 use std::alloc::{AllocError, Global};
@@ -36,68 +37,80 @@ static OUT_OF_TURN: [(Act, Told); 8] = [
     (Act::GiveBack("A", 1, 2), Told::Back),
 ];
 
-/// Each hint of numbers below 3 but the right one, and no hint, is refused, after which the letter is taken again.
-fn wrong_hints(alloc: Global) -> Result<Vec<(Act, Told)>, AllocError> {
-    let mut acts = Vec::new(alloc);
+/// A's first letter is finished with the hint, and taken again.
+fn finish_and_take(events: &mut Vec<Event>, a: Entity, hint: Hint) -> Result<(), AllocError> {
+    events.push(Event::Step(Step::Finish(a, 1, 1, hint)))?;
+    events.push(Event::Step(Step::Take(a, 1, 0)))?;
+    Ok(())
+}
+
+/// The same with each hint of numbers below 3 but the right one, and with none.
+fn wrong_hints(alloc: Global, a: Entity) -> Result<Vec<Event>, AllocError> {
+    let mut events = Vec::new(alloc);
     for vault in 0..3 {
         for lo in 0..3 {
             for hi in 0..3 {
                 let is_right = vault == 0 && lo == 0 && hi == 1;
                 if !is_right {
-                    refuse(&mut acts, Hint::Rows(Span { vault, lo, hi }))?;
+                    finish_and_take(&mut events, a, Hint::Rows(Span { vault, lo, hi }))?;
                 }
             }
         }
     }
-    refuse(&mut acts, Hint::Nothing)?;
-    Ok(acts)
+    finish_and_take(&mut events, a, Hint::Nothing)?;
+    Ok(events)
 }
 
-/// The first letter is finished with the hint, which is a wrong one, and taken again.
-fn refuse(acts: &mut Vec<(Act, Told)>, hint: Hint) -> Result<(), AllocError> {
-    acts.push((Act::Finish("A", 1, 1, hint), Told::BadHint))?;
-    acts.push((Act::Take("A", 1, 0), Told::TookFor(1, "A.r")))?;
-    Ok(())
+/// Whether each hint was a wrong one, and the letter was there to be taken again.
+fn are_wrong(replies: &[Reply]) -> bool {
+    replies.iter().enumerate().all(|(place, reply)| {
+        if place % 2 == 0 {
+            matches!(reply, Reply::Stepped(Stepped::BadHint))
+        } else {
+            matches!(reply, Reply::Stepped(Stepped::Took(1, _)))
+        }
+    })
 }
 
 #[test]
 fn no_other_hint(rt: HostRuntime) -> Result<(), Fail> {
     let alloc = rt.alloc();
     let mut hall = two_tenants(alloc)?;
-    let wrong = wrong_hints(alloc)?;
-    assert_eq!(rt; wrong.len(), 2 * 27);
-    let parts = [ASKED.as_slice(), &wrong, &ANSWERED];
-    assert_eq!(rt; first_wrong(alloc, &mut hall, &parts)?, None);
+    assert_eq!(rt; first_wrong(alloc, &mut hall, &[&ASKED])?, None);
+    let events = wrong_hints(alloc, entity("A")?)?;
+    let replies = hall.run(&events)?;
+    assert_eq!(rt; replies.len(), 2 * 27);
+    assert!(rt; are_wrong(&replies));
+    assert_eq!(rt; first_wrong(alloc, &mut hall, &[&ANSWERED])?, None);
     Ok(())
 }
 
-/// The numbers of the letters that a visit of at most so many steps takes of A's first search, each of which is then
-/// given back, the last one first.
-fn visited(alloc: Global, hall: &mut Hall, most: usize) -> Result<Vec<u64>, Fail> {
+/// The number of the letter that a visit of one step takes of A's first search, which is then given back.
+fn visited(alloc: Global, hall: &mut Hall) -> Result<Option<u64>, Fail> {
     let a = entity("A")?;
-    let mut numbers = Vec::new(alloc);
-    let mut held = Vec::with_capacity(alloc, most)?;
-    let told = hall.visit(a, 1, most, &mut held);
-    let mut has_memory = true;
-    while let Some(job) = held.pop() {
-        has_memory &= numbers.push(job.letter()).is_ok();
-        let _stepped = hall.give_back(job);
-    }
+    let mut held = Vec::with_capacity(alloc, 1)?;
+    let told = hall.visit(a, 1, 1, &mut held);
+    let number = match held.pop() {
+        Some(job) => {
+            let number = job.letter();
+            let _stepped = hall.give_back(job);
+            Some(number)
+        }
+        None => None,
+    };
     held.destroy_empty();
     told?;
-    if !has_memory {
-        Err(AllocError)?
-    }
-    Ok(numbers)
+    Ok(number)
 }
 
 #[test]
 fn letters_out_of_turn(rt: HostRuntime) -> Result<(), Fail> {
     let alloc = rt.alloc();
     let mut hall = two_tenants(alloc)?;
-    let parts = [TWO_WAIT.as_slice(), &OUT_OF_TURN];
-    assert_eq!(rt; first_wrong(alloc, &mut hall, &parts)?, None);
-    assert!(rt; visited(alloc, &mut hall, 1)?.as_slice() == [2].as_slice());
-    assert!(rt; visited(alloc, &mut hall, 0)?.is_empty());
+    assert_eq!(rt;
+        first_wrong(alloc, &mut hall, &[&TWO_WAIT, &OUT_OF_TURN])?,
+        None
+    );
+    assert_eq!(rt; visited(alloc, &mut hall)?, Some(2));
     Ok(())
 }
