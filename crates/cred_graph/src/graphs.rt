@@ -64,7 +64,8 @@ impl Graph {
         }
     }
 
-    /// The number of the expression's node, which is added if it isn't there, and whether it was added.
+    /// The number of the expression's node, which is added if it isn't there, and whether it was added. A node beyond the
+    /// 2^32nd is refused as want of memory.
     pub fn node_of(&mut self, expr: &Expr) -> Result<(u64, bool), AllocError>
         ensures ok { IfOk result (λ r. NodeGiven self.old self.new expr.now r.0 r.1) }
         ensures node { IfOk result (λ r. IsNode self.new r.0 expr.now) }
@@ -96,7 +97,8 @@ impl Graph {
         self.nodes.expr(n)
     }
 
-    /// Lets the node `m` listen to the node `n` on the port, and answers whether that is new.
+    /// Lets the node `m` listen to the node `n` on the port, and answers whether that is new. Of entities that ports name and
+    /// that had no node then, the one beyond the 2^32nd is refused as want of memory.
     pub fn add_listener(&mut self, n: u64, m: u64, port: Port) -> Result<bool, AllocError>
         requires asked { n < length self.old.nodes }
         requires asker { m < length self.old.nodes }

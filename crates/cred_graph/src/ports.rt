@@ -56,7 +56,7 @@ pub fn keep_port(
     })
 }
 
-/// The port of a number as it is kept.
+/// The port of a number as it is kept. Where there is no stranger no table is asked.
 pub fn kept_port(nodes: &Nodes, strangers: &Interned, port: NumberedPort) -> KeptPort
     requires { IsPort nodes.now port }
     ensures kept { IsKept nodes.now strangers.now result }
@@ -65,10 +65,15 @@ pub fn kept_port(nodes: &Nodes, strangers: &Interned, port: NumberedPort) -> Kep
     match port {
         NumberedPort::Body => KeptPort::Body,
         NumberedPort::Base => KeptPort::Base,
-        NumberedPort::Via(k) => match strangers.number(&nodes.entity(k)) {
-            Some(j) => KeptPort::Stranger(j),
-            None => KeptPort::Via(k),
-        },
+        NumberedPort::Via(k) => {
+            if strangers.is_empty() {
+                return KeptPort::Via(k);
+            }
+            match strangers.number(&nodes.entity(k)) {
+                Some(j) => KeptPort::Stranger(j),
+                None => KeptPort::Via(k),
+            }
+        }
         NumberedPort::Part(part) => KeptPort::Part(part),
     }
 }

@@ -1,4 +1,9 @@
 //! The names of RT0 (Li, Winsborough and Mitchell 2003): entities, role names and roles.
+//!
+//! `Entity::read`, `RoleName::read` and `Role::read` take exactly the spellings that their contracts allow, and refuse each
+//! other text for the first reason that applies. A name is seen as the list of its bytes (`specs/Name.antt`), and `compare` is
+//! the order of these lists (`specs/Order.antt`). `names_and_orders` and `operators_are_exact` are laws of it: `==`, `<` and
+//! `compare` say one thing. A name is of one size and copied, so nothing here takes memory.
 #![tactic(auto)]
 
 mod cells;

@@ -1,5 +1,9 @@
 //! Proofs of membership: lists of steps, each by one of RT0's rules (Li, Winsborough and Mitchell 2003) from earlier
 //! steps; the checker that accepts them, and their text.
+//!
+//! `IsProof` (`specs/Proof.antt`) says what a proof is. `proof_of` reads one off a completed search, or tells that the entity is no
+//! member; `check_proof` accepts exactly the proofs. The laws (`specs/Laws.antt`): what has a proof is a member, and the credentials
+//! that a proof cites are canonical.
 #![tactic(auto)]
 
 mod checking;

@@ -34,7 +34,7 @@ fn upload(alloc: Global, book: &mut Book, text: &[u8]) -> Result<(), Fail> {
     Ok(())
 }
 
-fn opened_over(alloc: Global, book: &Book, role: &[u8]) -> Result<Search, Fail> {
+fn opened_over(alloc: Global, book: &mut Book, role: &[u8]) -> Result<Search, Fail> {
     let snapshot = Arc::new(alloc, Snapshot::take(alloc, book, Entity::read(b"A")?)?)?;
     let query = Query::Who(Role::read(role)?);
     Ok(Search::open(alloc, snapshot, query, 1000000)?)
@@ -45,7 +45,7 @@ fn opened(alloc: Global, texts: &[&[u8]], role: &[u8]) -> Result<Search, Fail> {
     for text in texts {
         upload(alloc, &mut book, text)?;
     }
-    opened_over(alloc, &book, role)
+    opened_over(alloc, &mut book, role)
 }
 
 // Drives the search to its end; where it is broken then, want of memory.
@@ -190,7 +190,7 @@ fn a_chain_of_inclusions(rt: HostRuntime) -> Result<(), Fail> {
         upload(alloc, &mut book, text.as_bytes())?;
     }
     upload(alloc, &mut book, b"A.r10000 <- D")?;
-    let mut search = opened_over(alloc, &book, b"A.r00000")?;
+    let mut search = opened_over(alloc, &mut book, b"A.r00000")?;
     drive(&mut search)?;
     let proof = proof_of(alloc, &search, &who)?;
     assert_eq!(rt; proof.steps().len(), 10002);
