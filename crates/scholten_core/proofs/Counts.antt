@@ -6,7 +6,8 @@ use Rattle.std.specs.Map.{values_of}
 use borrow.Author.Tests.{ltb-true, ltb-false}
 use Rattle.indexmap.specs.IndexMap.{set_value_at}
 use Rattle.scholten_core.specs.declared.letters.Letter.{Letter}
-use Rattle.scholten_core.specs.LetterTable.{WaitsAt, count, does_wait, is_hole, last_hole, one, standing, waiting_in}
+use Rattle.scholten_core.specs.Computation.{waiting_in}
+use Rattle.scholten_core.specs.LetterTable.{WaitsAt, count, does_wait, is_hole, last_hole, one, standing}
 
 pub one-le : (b : Bool) → one b ≤ 1
 one-le true = omega arith

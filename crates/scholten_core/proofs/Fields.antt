@@ -3,15 +3,16 @@ use Rattle.std.proofs.Common.{◌≡◌, ℕ, zero, suc, ◌+◌, ◌<◌, ◌==
 use Rattle.std.specs.Ordering.{nat_cmp}
 use Rattle.std.specs.FinMap as fin
 use Rattle.std.specs.FinMap.{FinMap}
+use Rattle.std.specs.List.{slice_get}
 use Rattle.std.specs.Map.{lookup}
 use Rattle.scholten_core.specs.declared.parents.Parent.{Parent}
 use Rattle.scholten_core.specs.declared.parents.Parent.TheVariants.{Neutral, Environment, Node}
 use Rattle.scholten_core.specs.declared.letters.Letter.{Letter}
 use Rattle.scholten_core.specs.declared.engagement.Engagement.{Engagement}
-use Rattle.scholten_core.specs.Computation.{deficit, same_parent}
+use Rattle.scholten_core.specs.Computation.{deficit, same_parent, waiting_in}
 use Rattle.scholten_core.specs.Step.{mark, marked, started}
 use Rattle.scholten_core.specs.Kept.{IsKept, engaged_from, engagement_of, engagements, held_in, kept, parent_kept}
-use Rattle.scholten_core.specs.LetterTable.{LetterTableState, TakesOut}
+use Rattle.scholten_core.specs.LetterTable.{LetterTableState}
 use Rattle.scholten_core.specs.Call.{TakesLetter}
 use Rattle.scholten_core.proofs.Complete.{settled_started, sound}
 use Rattle.scholten_core.proofs.Engaged.{alike, count-empty, get-insert_other, get-insert_same}
@@ -69,18 +70,18 @@ module _ {P : Type 0} (table after : LetterTableState P) (signals : List Parent)
       })
 
 -- the waiting letter at a place is taken
-module _ {P : Type 0} (table after : LetterTableState P) (signals : List Parent) (owed : ℕ) (nodes : List (Option Engagement)) (keeps : IsKept (held_in table signals nodes) owed nodes) (place number : ℕ) (out : TakesOut table place number after) where
+module _ {P : Type 0} (table after : LetterTableState P) (signals : List Parent) (owed : ℕ) (nodes : List (Option Engagement)) (keeps : IsKept (held_in table signals nodes) owed nodes) (place number : ℕ) (letters : after.letters ≡ map (mark number true) table.letters) (sent : after.sent ≡ table.sent) where
   pub taken_kept : IsKept (held_in after signals nodes) owed nodes
-  taken_kept = marked_kept table after signals owed nodes keeps number true out.letters out.sent
+  taken_kept = marked_kept table after signals owed nodes keeps number true letters sent
 
-  pub takes_letter : TakesLetter (held_in table signals nodes) place number (held_in after signals nodes)
-  takes_letter =
-      let found = lookup_from_filter (λ (l : ℕ × Letter P). not l.1.held) 0 table.letters table.sent place number out.letter keeps.settled.numbers out.waited in
-      let taken = ap (lookup (λ n. n == number)) out.letters ∙ lookup-changed number (λ l. record l { held = true }) table.letters ∙ ap (option_map (λ (l : Letter P). record l { held = true })) found in
+  pub takes_letter : (l : Letter P) × (slice_get (waiting_in table.letters) place ≡ Some (number, l)) → TakesLetter (held_in table signals nodes) place number (held_in after signals nodes)
+  takes_letter (letter, waited) =
+      let found = lookup_from_filter (λ (l : ℕ × Letter P). not l.1.held) 0 table.letters table.sent place number letter keeps.settled.numbers waited in
+      let taken = ap (lookup (λ n. n == number)) letters ∙ lookup-changed number (λ l. record l { held = true }) table.letters ∙ ap (option_map (λ (l : Letter P). record l { held = true })) found in
       record {
-        letter = out.letter;
-        waited = out.waited;
-        marked = marked_is table after signals owed nodes keeps number true out.letters out.sent;
+        letter = letter;
+        waited = waited;
+        marked = marked_is table after signals owed nodes keeps number true letters sent;
         taken = taken;
         held = subst (λ (o : Option (Letter P)). IsSomeAnd o (λ l. IsTrue l.held)) (sym taken) refl;
         sound = sound _ taken_kept.settled;

@@ -8,7 +8,8 @@ use Rattle.std.proofs.lemmas.Map.Entries.{length-keys_of}
 use Rattle.std.proofs.lemmas.Map.Views.{exact_unsigned_eq}
 use Rattle.indexmap.specs.IndexMap.{set_value_at}
 use Rattle.scholten_core.specs.declared.letters.Letter.{Letter}
-use Rattle.scholten_core.specs.LetterTable.{IsHeldIn, is_of, standing}
+use Rattle.scholten_core.specs.Computation.{IsHeldIn}
+use Rattle.scholten_core.specs.LetterTable.{is_of, standing}
 use Rattle.scholten_core.specs.Sound.{IsNumbered}
 use Rattle.scholten_core.proofs.Counts.{entry_of}
 use Rattle.scholten_core.proofs.Engaged.{one_or_other}

@@ -1,5 +1,5 @@
 -- What the calls of the table keep
-use Rattle.std.proofs.Common.{◌≡◌, ℕ, suc, ◌+◌, ◌-◌, ◌<◌, ◌≤◌, true, false, not, List, [], ◌∷◌, ◌++◌, ◌⊎◌, inl, inr, Option, Some, None, filter, length, map, max, min, take, is_some, refl, sym, ap, ◌∙◌, subst, arith, length-append}
+use Rattle.std.proofs.Common.{◌≡◌, ℕ, suc, ◌+◌, ◌-◌, ◌<◌, ◌≤◌, true, false, not, List, [], ◌∷◌, ◌++◌, ◌⊎◌, inl, inr, Option, Some, None, filter, length, max, min, take, is_some, refl, sym, ap, ◌∙◌, subst, arith, add-one, length-append}
 use Rattle.std.specs.List.{slice_get}
 use Rattle.std.proofs.lemmas.List.{append-nil, take-append-le, take_all}
 use Rattle.std.proofs.lemmas.Option.{slice_get_within}
@@ -7,11 +7,10 @@ use Rattle.indexmap.specs.IndexMap.{set_value_at}
 use Rattle.indexmap.specs.Layout.{length-set_value_at}
 use Rattle.scholten_core.specs.declared.letters.Letter.{Letter}
 use Rattle.scholten_core.specs.Sound.{IsNumbered}
-use Rattle.scholten_core.specs.Step.{mark}
-use Rattle.scholten_core.specs.LetterTable.{IsTable, LetterTableState, TakesOut, count, does_wait, is_hole, one, standing, waiting_in}
-use Rattle.scholten_core.proofs.Counts.{count-append, count-le-length, count-set, count-take, count-take-le, count-take-pop, count-take-same, count-take-set, either_way, holes-full, take-set_value, waiting-at, waits-full, waits_full}
+use Rattle.scholten_core.specs.LetterTable.{IsTable, count, does_wait, is_hole, one, standing}
+use Rattle.scholten_core.proofs.Counts.{count-append, count-le-length, count-set, count-take, count-take-le, count-take-pop, count-take-same, count-take-set, count-take-suc, either_way, holes-full, take-set_value, waits-full, waits_full}
 use Rattle.scholten_core.proofs.Lists.{numbered-append, numbered-filter}
-use Rattle.scholten_core.proofs.Standing.{length-numbered_le, numbered-front, numbered-set_value, standing-append, standing-change}
+use Rattle.scholten_core.proofs.Standing.{length-numbered_le, numbered-front, numbered-set_value, standing-append}
 
 module _ {P : Type 0} (sent waits holes first last : ℕ) (es : List (ℕ × Option (Letter P))) (is : IsTable sent waits holes first last es) where
   pub waits-le-sent : waits ≤ sent
@@ -61,7 +60,7 @@ module _ {P : Type 0} (sent waits holes first last : ℕ) (es : List (ℕ × Opt
     inside = slice_get_within es at (k, Some l) there
 
     -- a waiting letter is taken; the ends move to it, or stay
-    pub taken : (place : ℕ) → count does_wait (take at es) ≡ place → not l.held ≡ true → (low high : ℕ) → (low ≡ first) ⊎ ((low ≡ at) × (place ≡ 0)) → (high ≡ last) ⊎ ((high ≡ at) × (place + 1 ≡ waits)) → IsTable sent (waits - 1) holes low high (set_value_at es at (Some (record l { held = true })))
+    pub taken : (place : ℕ) → count does_wait (take at es) ≡ place → not l.held ≡ true → (low high : ℕ) → (low ≡ first) ⊎ ((low ≡ at + 1) × (place ≡ 0)) → (high ≡ last) ⊎ ((high ≡ at) × (place + 1 ≡ waits)) → IsTable sent (waits - 1) holes low high (set_value_at es at (Some (record l { held = true })))
     taken place place_is waiting low high low_is high_is =
         let now = Some (record l { held = true }) in
         let before : one (does_wait (Some l)) ≡ 1 = ap one waiting in
@@ -73,7 +72,7 @@ module _ {P : Type 0} (sent waits holes first last : ℕ) (es : List (ℕ × Opt
           gone = omega (arith, is.gone, count-set is_hole es at k (Some l) now there);
           before = elim low_is [
             | inl same ↦ ap (λ n. count does_wait (take n (set_value_at es at now))) same ∙ first_stays
-            | inr moved ↦ ap (λ n. count does_wait (take n (set_value_at es at now))) moved.0 ∙ here ∙ place_is ∙ moved.1
+            | inr moved ↦ ap (λ n. count does_wait (take n (set_value_at es at now))) moved.0 ∙ past ∙ place_is ∙ moved.1
           ];
           all = elim high_is [
             | inl same ↦ ap (λ n. count does_wait (take n (set_value_at es at now))) same ∙ last_stays
@@ -94,6 +93,10 @@ module _ {P : Type 0} (sent waits holes first last : ℕ) (es : List (ℕ × Opt
 
         counts : one (does_wait (Some l)) ≡ 1
         counts = ap one waiting
+
+        past : count does_wait (take (at + 1) (set_value_at es at (Some (record l { held = true })))) ≡ count does_wait (take at es)
+        past =
+            rw add-one (omega (arith, counts, count-take-suc does_wait at es (k, Some l) there, count-take-set does_wait (suc at) es at k (Some l) (Some (record l { held = true })) (omega arith) there))
 
         all_there : count does_wait (take at es) + 1 ≤ waits
         all_there =
@@ -146,15 +149,6 @@ module _ {P : Type 0} (sent waits holes first last : ℕ) (es : List (ℕ × Opt
           within_first = omega (arith, is.within_first, size);
           within_last = omega (arith, is.within_last, size);
         }
-
--- what a call answers that takes a letter
-pub takes_out : {P : Type 0} (sent place at k room : ℕ) (es : List (ℕ × Option (Letter P))) (old : LetterTableState P) → record { sent = sent; letters = standing es; room = room } ≡ old → (l : Letter P) → IsNumbered 0 es sent → count does_wait (take at es) ≡ place → slice_get es at ≡ Some (k, Some l) → not l.held ≡ true → (w : Option (Letter P)) → w ≡ Some (record l { held = true }) → TakesOut old place k (record { sent = sent; letters = standing (set_value_at es at w); room = room })
-takes_out {P} sent place at k room es old view_is l numbers place_is there waits w w_is = record {
-  letter = l;
-  waited = ap (λ (s : LetterTableState P). slice_get (waiting_in s.letters) place) (sym view_is) ∙ ap (slice_get (waiting_in (standing es))) (sym place_is) ∙ waiting-at at es k l there waits;
-  letters = ap (λ (x : Option (Letter P)). standing (set_value_at es at x)) w_is ∙ standing-change (λ x. record x { held = true }) 0 es sent at k l numbers there ∙ ap (λ (s : LetterTableState P). map (mark k true) s.letters) view_is;
-  sent = ap (λ (s : LetterTableState P). s.sent) view_is;
-}
 
 -- the last entry, a hole, is popped
 module _ {P : Type 0} (es front : List (ℕ × Option (Letter P))) (k : ℕ) (is : es ≡ front ++ (k, None) ∷ []) where

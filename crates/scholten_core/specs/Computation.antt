@@ -32,16 +32,22 @@ same_parent (Node m) (Node n) = m == n
 
 module _ {P : Type 0} where
   -- the letters that wait, in order of number
+  abbrev pub waiting_in : List (ℕ × Letter P) → List (ℕ × Letter P)
+  waiting_in letters = filter (λ l. not l.1.held) letters
+
   abbrev pub waiting : Computation P → List (ℕ × Letter P)
-  waiting d = filter (λ l. not l.1.held) d.letters
+  waiting d = waiting_in d.letters
 
   -- the letter of a number, where it waits or is held
   abbrev pub letter_of : Computation P → ℕ → Option (Letter P)
   letter_of d number = lookup (λ n. n == number) d.letters
 
   -- the letter of a number is there and is held
+  abbrev pub IsHeldIn : List (ℕ × Letter P) → ℕ → Type 0
+  IsHeldIn letters number = IsSomeAnd (lookup (λ n. n == number) letters) (λ l. IsTrue l.held)
+
   abbrev pub IsHeld : Computation P → ℕ → Type 0
-  IsHeld d number = IsSomeAnd (letter_of d number) (λ l. IsTrue l.held)
+  IsHeld d number = IsHeldIn d.letters number
 
   -- a letter stands in the list under a number exactly where it is the letter of that number
   abbrev pub StandByNumber : Computation P → Type 0

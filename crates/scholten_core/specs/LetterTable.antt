@@ -1,12 +1,10 @@
 -- What the table of letters is seen as, and what its fields keep
 use Rattle.std.specs.Prelude.{◌≡◌, ℕ, ◌+◌, ◌≤◌, ◌==◌, Bool, true, false, not, List, [], ◌∷◌, Option, None, Some}
-use Rattle.std.specs.Prelude.{length, take, filter, map, is_some, slice_get, IsSomeAnd, IsTrue, refl}
-use Rattle.std.specs.Map.{lookup}
-use Rattle.std.specs.Coded.{Coded, code_by, coded×, coded_list, coded_ℕ}
+use Rattle.std.specs.Prelude.{length, take, is_some, slice_get, IsSomeAnd, IsTrue}
+use Rattle.scholten_core.specs.declared.parents.Parent.{Parent}
+use Rattle.scholten_core.specs.declared.parents.Parent.TheVariants.{Neutral, Environment, Node}
 use Rattle.scholten_core.specs.declared.letters.Letter.{Letter}
-use Rattle.scholten_core.specs.Code.{letter_code}
 use Rattle.scholten_core.specs.Sound.{IsNumbered}
-use Rattle.scholten_core.specs.Step.{mark}
 
 -- how many letters were ever sent; those that wait or are held, each with its number, in order of number; and how many
 -- more fit with no more memory
@@ -15,43 +13,22 @@ pub record LetterTableState (P : Type 0) : Type 0 where
   pub letters : List (ℕ × Letter P)
   pub room : ℕ
 
-abbrev pub letter_table_code : {P : Type 0} → Coded P → Coded (LetterTableState P)
-letter_table_code {P} load =
-    code_by (ℕ × (List (ℕ × Letter P) × ℕ)) (coded× coded_ℕ (coded× (coded_list (coded× coded_ℕ (letter_code load))) coded_ℕ))
-    (λ t. (t.sent, (t.letters, t.room)))
-    (λ t. record { sent = t.0; letters = t.1.0; room = t.1.1 })
-    (λ _. refl)
-
 module _ {P : Type 0} where
+  -- a letter from somebody; what is from nobody is a hole
+  abbrev pub from_somebody : Parent → Letter P → Option (Letter P)
+  from_somebody Neutral l = None
+  from_somebody Environment l = Some l
+  from_somebody (Node n) l = Some l
+
   -- the letters that stand: an entry with none is a hole
   abbrev pub standing : List (ℕ × Option (Letter P)) → List (ℕ × Letter P)
   standing [] = []
   standing ((number, None) ∷ es) = standing es
   standing ((number, Some l) ∷ es) = (number, l) ∷ standing es
 
-  -- the letters that wait
-  abbrev pub waiting_in : List (ℕ × Letter P) → List (ℕ × Letter P)
-  waiting_in letters = filter (λ l. not l.1.held) letters
-
-  -- the letter of a number is there and is held
-  abbrev pub IsHeldIn : List (ℕ × Letter P) → ℕ → Type 0
-  IsHeldIn letters number = IsSomeAnd (lookup (λ n. n == number) letters) (λ l. IsTrue l.held)
-
-  -- the letter that waited at a place has that number, and is held from then on
-  pub record TakesOut (old : LetterTableState P) (place number : ℕ) (new : LetterTableState P) : Type 0 where
-    pub letter : Letter P
-    pub waited : slice_get (waiting_in old.letters) place ≡ Some (number, letter)
-    pub letters : new.letters ≡ map (mark number true) old.letters
-    pub sent : new.sent ≡ old.sent
-
   abbrev pub does_wait : Option (Letter P) → Bool
   does_wait None = false
   does_wait (Some l) = not l.held
-
-  -- a letter is held from now on, or waits again
-  abbrev pub held_as : Bool → Option (Letter P) → Option (Letter P)
-  held_as held None = None
-  held_as held (Some l) = Some (record l { held = held })
 
   abbrev pub is_hole : Option (Letter P) → Bool
   is_hole o = not (is_some o)

@@ -1,5 +1,4 @@
 pub mod Call
-pub mod Code
 pub mod Computation
 pub mod Kept
 pub mod LetterTable

@@ -2,15 +2,15 @@ use crate::engagement::{Engagement, deliver, engaged_at, receive};
 use crate::letter_tables::LetterTable;
 use crate::letters::Letter;
 use crate::parents::Parent;
-use crate::signals::put;
+use crate::signals::{put, take};
 use std::alloc::{AllocError, Global};
 use std::collections::VecDeque;
 use std::marker::Model;
 
 /// A diffusing computation: letters, signals and the tree of engaged nodes. Letters are numbered from 1 as they are
 /// sent. Nodes are best numbered from 0 on: memory is taken up to the greatest number of a node that was engaged, and
-/// where that can't be had `finish` is refused. Only `start` and `finish` take memory. Contracts see it as a
-/// `Computation`.
+/// where that can't be had `finish` is refused. Only `start` and `finish` take memory. What a finished letter said is
+/// dropped once no letter that was sent after it is left, or earlier. Contracts see it as a `Computation`.
 #[derive(Debug, Drop)]
 pub struct Diffusion<P> {
     letters: LetterTable<P>,
@@ -21,12 +21,13 @@ pub struct Diffusion<P> {
 }
 
 impl<P> Model for Diffusion<P> {
+    ghost use Rattle.std.specs.Coded.{codes};
+    ghost use Rattle.std.specs.FinMap as fin;
     ghost use Rattle.scholten_core.specs.Computation.{Computation};
-    ghost use Rattle.scholten_core.specs.Code.{computation_code};
 
     ghost Value = { Computation P };
 
-    ghost coded = { computation_code P.code };
+    ghost coded = { Prim.hlevel (codes, fin.code, P.code) };
 
     ghost use Rattle.scholten_core.specs.Kept.{IsKept, held_in};
 
@@ -114,7 +115,8 @@ impl<P: Drop> Diffusion<P> {
     }
 
     /// Finishes the held letter of that number: its receiver gets it and sends these letters, and is neutral again if
-    /// it is then owed nothing. Where memory is refused, the letters handed in are dropped and nothing else changes.
+    /// it is then owed nothing. Where memory is refused, the letters handed in are dropped and nothing else changes. It
+    /// may be refused for these letters, for one signal, and for the place of a neutral receiver that sends any.
     pub fn finish(&mut self, number: u64, outs: Vec<(u64, P)>) -> Result<(), AllocError>
         requires held { IsHeld self.old number }
         requires room { self.old.sent + vec_len outs < 2 ^ 64 }
@@ -156,7 +158,7 @@ impl<P: Drop> Diffusion<P> {
         requires { place < length self.old.signals }
         ensures { DeliversSignal self.old place self.new }
     {
-        let to = self.signals.remove(place as usize).unwrap();
+        let to = take(&mut self.signals, place as usize);
         let by = deliver(&mut self.environment, &mut self.nodes, to);
         put(&mut self.signals, by);
     }

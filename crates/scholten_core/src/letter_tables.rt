@@ -25,6 +25,8 @@ pub(crate) struct LetterTable<P> {
     first: usize,
     // From this place on none waits.
     last: usize,
+    // Where the letter stands, or stood, that was taken last.
+    hand: usize,
     letters: IndexMap<u64, Slot<P>>,
 }
 
@@ -46,20 +48,28 @@ fn stands_at<P>(letters: &IndexMap<u64, Slot<P>>, at: usize, number: u64) -> boo
     }
 }
 
-// Where the number's entry stands. Numbers rise, so two places are tried before the table's index: where it stands if
-// no number lacks between the first and it, and if none lacks between it and the last.
-fn place_of<P>(letters: &IndexMap<u64, Slot<P>>, number: u64) -> Option<usize>
+// Where the number's entry stands. Most often it is the letter at hand.
+#[inline(always)]
+fn place_of<P>(letters: &IndexMap<u64, Slot<P>>, hand: usize, number: u64) -> Option<usize>
     ensures found { is_some result ≡ is_some (lookup (nat_eq number) letters.now.entries) }
     ensures place { IfSome result (λ at. slice_get (keys_of letters.now.entries) at ≡ Some number) }
     ensures within { IfSome result (λ at. at < index_map_len letters.now) }
 {
-    if let (Some((first, _)), Some((last, _))) = (letters.first(), letters.last()) {
-        let at = number.saturating_sub(*first) as usize;
-        if stands_at(letters, at, number) {
-            return Some(at);
-        }
-        let behind = last.saturating_sub(number) as usize;
-        let at = (letters.len() - 1).saturating_sub(behind);
+    if stands_at(letters, hand, number) {
+        Some(hand)
+    } else {
+        place_near(letters, hand, number)
+    }
+}
+
+// The same, with one place tried before the table's index: where it stands if no number lacks between it and the one at hand.
+fn place_near<P>(letters: &IndexMap<u64, Slot<P>>, hand: usize, number: u64) -> Option<usize>
+    ensures found { is_some result ≡ is_some (lookup (nat_eq number) letters.now.entries) }
+    ensures place { IfSome result (λ at. slice_get (keys_of letters.now.entries) at ≡ Some number) }
+    ensures within { IfSome result (λ at. at < index_map_len letters.now) }
+{
+    if let Some((near, _)) = letters.get_index(hand) {
+        let at = hand.wrapping_add(number.wrapping_sub(*near) as usize);
         if stands_at(letters, at, number) {
             return Some(at);
         }
@@ -127,11 +137,9 @@ fn seek<P>(
 }
 
 impl<P> Model for LetterTable<P> {
-    ghost use Rattle.scholten_core.specs.LetterTable.{LetterTableState, letter_table_code};
+    ghost use Rattle.scholten_core.specs.LetterTable.{LetterTableState};
 
     ghost Value = { LetterTableState P };
-
-    ghost coded = { letter_table_code P.code };
 
     ghost use Rattle.indexmap.specs.IndexMap.{spare};
     ghost use Rattle.scholten_core.specs.LetterTable.{IsTable, standing};
@@ -146,8 +154,9 @@ impl<P: Drop> LetterTable<P> {
     ghost use Rattle.std.specs.Prelude.{is_some, option_copied, IfOk, OnOk};
     ghost use Rattle.std.specs.VecDeque.{deque_len};
     ghost use Rattle.std.specs.Map.{lookup};
+    ghost use Rattle.scholten_core.specs.declared.letters.Letter.{Letter};
+    ghost use Rattle.scholten_core.specs.Computation.{IsHeldIn, same_parent, waiting_in};
     ghost use Rattle.scholten_core.specs.Step.{mark, numbered};
-    ghost use Rattle.scholten_core.specs.LetterTable.{waiting_in, IsHeldIn, TakesOut};
 
     /// No letter, with room for one.
     pub(crate) fn new(alloc: Global) -> Result<Self, AllocError>
@@ -161,6 +170,7 @@ impl<P: Drop> LetterTable<P> {
             holes: 0,
             first: 0,
             last: 0,
+            hand: 0,
             letters: IndexMap::with_capacity(alloc, 1)?,
         })
     }
@@ -180,19 +190,22 @@ impl<P: Drop> LetterTable<P> {
     pub(crate) fn get(&self, number: u64) -> Option<&Letter<P>>
         ensures { option_copied result ≡ lookup (λ n. n == number) self.now.letters }
     {
-        let at = place_of(&self.letters, number)?;
+        let at = place_of(&self.letters, self.hand, number)?;
         self.letters[at].letter()
     }
 
     /// Takes the waiting letter at that place, in order of number, and answers its number.
     pub(crate) fn take(&mut self, place: u64) -> u64
         requires { place < length (waiting_in self.old.letters) }
-        ensures { TakesOut self.old place result self.new }
+        ensures waited { (l : Letter P) × (slice_get (waiting_in self.old.letters) place ≡ Some (result, l)) }
+        ensures letters { self.new.letters ≡ map (mark result true) self.old.letters }
+        ensures sent { self.new.sent ≡ self.old.sent }
     {
         let follow = self.waits - 1 - place;
         let at = seek(&self.letters, self.first, self.last, place, follow);
-        self.first = if place == 0 { at } else { self.first };
+        self.first = if place == 0 { at + 1 } else { self.first };
         self.last = if follow == 0 { at } else { self.last };
+        self.hand = at;
         self.waits -= 1;
         let (number, slot) = self.letters.pair_mut(at);
         slot.hold(true);
@@ -205,7 +218,7 @@ impl<P: Drop> LetterTable<P> {
         ensures letters { self.new.letters ≡ map (mark number false) self.old.letters }
         ensures sent { self.new.sent ≡ self.old.sent }
     {
-        let at = place_of(&self.letters, number).unwrap();
+        let at = place_of(&self.letters, self.hand, number).unwrap();
         let (_, slot) = self.letters.pair_mut(at);
         slot.hold(false);
         self.waits += 1;
@@ -247,6 +260,7 @@ impl<P: Drop> LetterTable<P> {
     pub(crate) fn send(&mut self, from: Parent, outs: &mut VecDeque<(u64, P)>)
         requires room { deque_len outs.old ≤ self.old.room }
         requires numbers { self.old.sent + deque_len outs.old < 2 ^ 64 }
+        requires from { same_parent from Parent.Neutral ≡ false }
         ensures letters { self.new.letters ≡ self.old.letters ++ numbered from (self.old.sent + 1) outs.old.items }
         ensures sent { self.new.sent ≡ self.old.sent + deque_len outs.old }
         ensures emptied { outs.new.items ≡ [] }
@@ -262,10 +276,12 @@ impl<P: Drop> LetterTable<P> {
     }
 
     /// Sends a letter that waits, where there is room for it.
+    #[inline(always)]
     pub(crate) fn push(&mut self, letter: Letter<P>)
         requires room { 0 < self.old.room }
         requires numbers { self.old.sent + 1 < 2 ^ 64 }
         requires waits { letter.held ≡ false }
+        requires from { same_parent letter.from Parent.Neutral ≡ false }
         ensures letters { self.new.letters ≡ self.old.letters ++ (self.old.sent + 1, letter) ∷ [] }
         ensures sent { self.new.sent ≡ self.old.sent + 1 }
         ensures room { self.old.room ≤ self.new.room + 1 }
@@ -283,7 +299,7 @@ impl<P: Drop> LetterTable<P> {
         ensures sent { self.new.sent ≡ self.old.sent }
         ensures room { self.old.room ≤ self.new.room }
     {
-        let at = place_of(&self.letters, number).unwrap();
+        let at = place_of(&self.letters, self.hand, number).unwrap();
         let (_, slot) = self.letters.pair_mut(at);
         slot.empty();
         self.holes += 1;
@@ -319,5 +335,6 @@ impl<P: Drop> LetterTable<P> {
         self.holes = 0;
         self.first = 0;
         self.last = self.letters.len();
+        self.hand = 0;
     }
 }

@@ -1,76 +1,80 @@
 //! A place in the table of letters.
-ghost use Rattle.std.specs.Prelude.{◌≡◌, None, Some, option_copied};
-ghost use Rattle.scholten_core.specs.LetterTable.{does_wait, held_as, is_hole};
+ghost use Rattle.std.specs.Prelude.{◌≡◌, false, None, Some, option_copied, option_map};
+ghost use Rattle.scholten_core.specs.Computation.{same_parent};
+ghost use Rattle.scholten_core.specs.LetterTable.{does_wait, is_hole};
 
 use crate::letters::Letter;
+use crate::parents::Parent;
 use std::marker::Model;
 
-/// A letter, or a hole. Contracts see an option.
+/// A letter, or a hole, which is from nobody. What a finished letter said stays in its hole. Contracts see an option.
 #[derive(Debug, Drop)]
 pub(crate) struct Slot<P> {
-    letter: Option<Letter<P>>,
+    letter: Letter<P>,
 }
 
 impl<P> Model for Slot<P> {
     ghost use Rattle.std.specs.Prelude.{Option};
-    ghost use Rattle.std.specs.Coded.{coded_option};
     ghost use Rattle.scholten_core.specs.declared.letters.Letter.{Letter};
-    ghost use Rattle.scholten_core.specs.Code.{letter_code};
 
     ghost Value = { Option (Letter P) };
 
-    ghost coded = { coded_option (letter_code P.code) };
+    ghost use Rattle.scholten_core.specs.LetterTable.{from_somebody};
 
-    ghost view = { λ s. s.letter };
+    ghost view = { λ s. from_somebody s.letter.from s.letter };
 }
 
-impl<P: Drop> Slot<P> {
+impl<P> Slot<P> {
+    ghost use Rattle.scholten_core.specs.declared.letters.Letter.{Letter};
+
+    /// A letter that somebody sent.
     pub(crate) fn full(letter: Letter<P>) -> Self
+        requires { same_parent letter.from Parent.Neutral ≡ false }
         ensures { result ≡ Some letter }
     {
-        Slot {
-            letter: Some(letter),
-        }
+        Slot { letter }
     }
 
     pub(crate) fn empty(&mut self)
         ensures { self.new ≡ None }
     {
-        self.letter = None;
+        self.letter.from = Parent::Neutral;
     }
-}
 
-impl<P> Slot<P> {
     /// A letter is held from now on, or waits again.
     pub(crate) fn hold(&mut self, held: bool)
-        ensures { self.new ≡ held_as held self.old }
+        ensures { self.new ≡ option_map (λ (l : Letter P). record l { held = held }) self.old }
     {
-        if let Some(letter) = &mut self.letter {
-            letter.held = held;
-        }
+        self.letter.held = held;
     }
 
     pub(crate) fn waits(&self) -> bool
         ensures { result ≡ does_wait self.now }
     {
-        match &self.letter {
-            Some(letter) => !letter.held,
-            None => false,
+        match self.letter.from {
+            Parent::Neutral => false,
+            Parent::Environment => !self.letter.held,
+            Parent::Node(_node) => !self.letter.held,
         }
     }
 
     pub(crate) fn is_hole(&self) -> bool
         ensures { result ≡ is_hole self.now }
     {
-        self.letter.is_none()
+        match self.letter.from {
+            Parent::Neutral => true,
+            Parent::Environment => false,
+            Parent::Node(_node) => false,
+        }
     }
 
     pub(crate) fn letter(&self) -> Option<&Letter<P>>
         ensures { option_copied result ≡ self.now }
     {
-        match &self.letter {
-            Some(letter) => Some(letter),
-            None => None,
+        match self.letter.from {
+            Parent::Neutral => None,
+            Parent::Environment => Some(&self.letter),
+            Parent::Node(_node) => Some(&self.letter),
         }
     }
 }

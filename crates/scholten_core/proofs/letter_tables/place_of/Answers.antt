@@ -1,26 +1,15 @@
 use Rattle.std.proofs.Common.{sym, ◌∙◌}
-use Rattle.scholten_core.proofs.Standing.{found_at, key_there, key_within, number_there}
+use Rattle.scholten_core.proofs.Standing.{found_at, key_within, number_there}
 use Rattle.scholten_core.proofs.letter_tables.place_of.Goals as goal
 
 pub returns-then-stands_at-clause-found : goal.returns-then-stands_at-clause-found
 returns-then-stands_at-clause-found g c =
-    sym (found_at c.args.number c.args.letters.now.entries c.saturating_sub-at.result (number_there c.args.number c.args.letters.now.entries c.saturating_sub-at.result (sym c.stands_at.ensures ∙ c.if-stands_at.true)))
+    sym (found_at c.args.number c.args.letters.now.entries c.args.hand (number_there c.args.number c.args.letters.now.entries c.args.hand (sym c.stands_at.ensures ∙ c.if-stands_at.true)))
 
 pub returns-then-stands_at-clause-place : goal.returns-then-stands_at-clause-place
 returns-then-stands_at-clause-place g c =
-    number_there c.args.number c.args.letters.now.entries c.saturating_sub-at.result (sym c.stands_at.ensures ∙ c.if-stands_at.true)
+    number_there c.args.number c.args.letters.now.entries c.args.hand (sym c.stands_at.ensures ∙ c.if-stands_at.true)
 
 pub returns-then-stands_at-clause-within : goal.returns-then-stands_at-clause-within
 returns-then-stands_at-clause-within g c =
-    key_within c.args.number c.args.letters.now.entries c.saturating_sub-at.result (number_there c.args.number c.args.letters.now.entries c.saturating_sub-at.result (sym c.stands_at.ensures ∙ c.if-stands_at.true))
-
-pub returns-then-stands_at-2-clause-found : goal.returns-then-stands_at-2-clause-found
-returns-then-stands_at-2-clause-found g c =
-    sym (found_at c.args.number c.args.letters.now.entries c.saturating_sub-at-in-Some-Some.result (number_there c.args.number c.args.letters.now.entries c.saturating_sub-at-in-Some-Some.result (sym c.stands_at-in-Some-Some.ensures ∙ c.if-stands_at-2.true)))
-
-pub returns-then-stands_at-2-clause-place : goal.returns-then-stands_at-2-clause-place
-returns-then-stands_at-2-clause-place g c =
-    number_there c.args.number c.args.letters.now.entries c.saturating_sub-at-in-Some-Some.result (sym c.stands_at-in-Some-Some.ensures ∙ c.if-stands_at-2.true)
-
-pub returns-clause-place : goal.returns-clause-place
-returns-clause-place g c = rw c.get_index_of.ensures.index (key_there c.args.number c.args.letters.now.entries)
+    key_within c.args.number c.args.letters.now.entries c.args.hand (number_there c.args.number c.args.letters.now.entries c.args.hand (sym c.stands_at.ensures ∙ c.if-stands_at.true))

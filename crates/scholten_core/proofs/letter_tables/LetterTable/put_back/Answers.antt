@@ -1,5 +1,6 @@
-use Rattle.std.proofs.Common.{◌≡◌, Some, false, map, ap, ◌∙◌, arith}
-use Rattle.scholten_core.specs.LetterTable.{held_as, standing}
+use Rattle.std.proofs.Common.{◌≡◌, Some, false, map, option_map, ap, ◌∙◌, arith}
+use Rattle.scholten_core.specs.declared.letters.Letter.{Letter}
+use Rattle.scholten_core.specs.LetterTable.{standing}
 use Rattle.scholten_core.specs.Step.{mark}
 use Rattle.indexmap.specs.IndexMap.{set_value_at}
 use Rattle.scholten_core.proofs.Standing.{HoldsAt, holds_at, length-numbered_le, number_found, slot_value, standing-change}
@@ -29,7 +30,7 @@ written : (g : Over) (c : After-hold g) → c.hold.new.self ≡ Some (record (sl
 unfolding slot
 written g c =
     let held = rw (← c.self.view_is) at c.requires in
-    c.hold.ensures ∙ ap (held_as false) (slot_value c.self.inside.sent c.self.inside.letters.entries c.self.invariant.numbers c.args.number c.unwrap-at.result c.pair_mut-slot.result.0.now c.pair_mut-slot.result.1.now held (rw c.unwrap-at.ensures at c.place_of.ensures.place) c.pair_mut-slot.ensures.value)
+    c.hold.ensures ∙ ap (option_map (λ (l : Letter _). record l { held = false })) (slot_value c.self.inside.sent c.self.inside.letters.entries c.self.invariant.numbers c.args.number c.unwrap-at.result c.pair_mut-slot.result.0.now c.pair_mut-slot.result.1.now held (rw c.unwrap-at.ensures at c.place_of.ensures.place) c.pair_mut-slot.ensures.value)
 
 pub overflow_add-self : goal.overflow_add-self
 overflow_add-self g c =

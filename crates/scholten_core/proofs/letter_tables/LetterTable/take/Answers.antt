@@ -1,8 +1,13 @@
-use Rattle.std.proofs.Common.{◌≡◌, ◌+◌, ◌<◌, ◌⊎◌, inl, inr, Some, true, ap, ◌∙◌, arith}
-use Rattle.indexmap.specs.IndexMap.{spare}
-use Rattle.scholten_core.specs.LetterTable.{held_as}
-use Rattle.scholten_core.proofs.Counts.{WaitingLetter, length-waiting, letter_waiting, waits_within}
-use Rattle.scholten_core.proofs.Tables.{taken, takes_out}
+use Rattle.std.proofs.Common.{◌≡◌, ◌+◌, ◌<◌, ◌⊎◌, inl, inr, Some, true, map, option_map, sym, ap, ◌∙◌, arith}
+use Rattle.std.specs.List.{slice_get}
+use Rattle.indexmap.specs.IndexMap.{set_value_at}
+use Rattle.scholten_core.specs.declared.letters.Letter.{Letter}
+use Rattle.scholten_core.specs.Computation.{waiting_in}
+use Rattle.scholten_core.specs.LetterTable.{standing}
+use Rattle.scholten_core.specs.Step.{mark}
+use Rattle.scholten_core.proofs.Counts.{WaitingLetter, length-waiting, letter_waiting, waiting-at, waits_within}
+use Rattle.scholten_core.proofs.Standing.{length-numbered_le, standing-change}
+use Rattle.scholten_core.proofs.Tables.{taken}
 use Rattle.scholten_core.proofs.letter_tables.LetterTable.take.Given.{Over}
 use Rattle.scholten_core.proofs.letter_tables.LetterTable.take.Goals as goal
 use Rattle.scholten_core.proofs.letter_tables.LetterTable.take.Goals.{Start, After-self, After-hold, then-place-eq0, else-place-eq0, then-follow-eq0, else-follow-eq0}
@@ -25,6 +30,10 @@ seek-at-requires-clause-there g c =
 pub overflow_sub-self : goal.overflow_sub-self
 overflow_sub-self g c = omega (arith, inside g (goal.at.overflow_sub-self g c).After-self)
 
+pub overflow_add-self : goal.overflow_add-self
+overflow_add-self g c =
+    omega (arith, waits_within c.self.inside.letters.entries c.args.place c.seek-at.result c.seek-at.ensures, length-numbered_le 0 c.self.inside.letters.entries c.self.inside.sent c.self.invariant.numbers, c.self.ranges)
+
 pub pair_mut-slot-requires : goal.pair_mut-slot-requires
 pair_mut-slot-requires g c =
     waits_within c.self.inside.letters.entries c.args.place c.seek-at.result c.seek-at.ensures
@@ -36,9 +45,9 @@ slot g c =
 
 -- what is written there
 written : (g : Over) (c : After-hold g) → c.hold.new.self ≡ Some (record (slot g c).letter { held = true })
-written g c = c.hold.ensures ∙ ap (held_as true) (slot g c).value
+written g c = c.hold.ensures ∙ ap (option_map (λ (l : Letter _). record l { held = true })) (slot g c).value
 
-low : (g : Over) (c : After-hold g) → (c.if-place-eq0.self ≡ c.self.inside.first) ⊎ ((c.if-place-eq0.self ≡ c.seek-at.result) × (c.args.place ≡ 0))
+low : (g : Over) (c : After-hold g) → (c.if-place-eq0.self ≡ c.self.inside.first) ⊎ ((c.if-place-eq0.self ≡ c.seek-at.result + 1) × (c.args.place ≡ 0))
 low g c =
     elim c.if-place-eq0.branch [ then-place-eq0 w ↦ inr (w.self-is, w.if-place-eq0.true) | else-place-eq0 w ↦ inl w.self-is ]
 
@@ -53,8 +62,16 @@ invariant_of-self g c =
     let within = inside g (goal.at.invariant_of-self g c).After-self in
     rw (written g after) (taken _ _ _ _ _ _ c.self.invariant c.seek-at.result c.pair_mut-slot.result.0.now one.letter one.there c.args.place c.seek-at.ensures.place_is one.waits _ _ (low g after) (high g after within))
 
-pub returns : goal.returns
-returns g c =
-    let after = (goal.at.returns g c).After-hold in
+pub returns-clause-waited : goal.returns-clause-waited
+returns-clause-waited g c =
+    let one = slot g (goal.at.returns-clause-waited g c).After-hold in
+    (one.letter, ap (λ s. slice_get (waiting_in s.letters) c.args.place) (sym c.self.view_is) ∙ ap (slice_get (waiting_in (standing c.self.inside.letters.entries))) (sym c.seek-at.ensures.place_is) ∙ waiting-at c.seek-at.result c.self.inside.letters.entries c.pair_mut-slot.result.0.now one.letter one.there one.waits)
+
+pub returns-clause-letters : goal.returns-clause-letters
+returns-clause-letters g c =
+    let after = (goal.at.returns-clause-letters g c).After-hold in
     let one = slot g after in
-    takes_out c.self.inside.sent c.args.place c.seek-at.result c.pair_mut-slot.result.0.now (spare c.self.inside.letters) c.self.inside.letters.entries c.args.self.now c.self.view_is one.letter c.self.invariant.numbers c.seek-at.ensures.place_is one.there one.waits c.hold.new.self (written g after)
+    let number = c.pair_mut-slot.result.0.now in
+    ap (λ w. standing (set_value_at c.self.inside.letters.entries c.seek-at.result w)) (written g after)
+    ∙ standing-change (λ x. record x { held = true }) 0 c.self.inside.letters.entries c.self.inside.sent c.seek-at.result number one.letter c.self.invariant.numbers one.there
+    ∙ ap (λ s. map (mark number true) s.letters) c.self.view_is
