@@ -1,24 +1,33 @@
 ghost use Rattle.std.specs.Prelude.{◌≡◌, [], IfOk, OnOk, OnErr, Contains};
 
-use indexmap::IndexSet;
+use crate::link_sets::LinkSets;
 use names::Entity;
 use std::alloc::{AllocError, Global};
 use std::marker::Model;
 
+/// What a linked role keeps of what it was told: nothing, until it is told something.
+#[derive(Drop)]
+enum LinkMemory {
+    Untold,
+    Told(Box<LinkSets>),
+}
+
 /// What a linked role `A.s.t` was told: the members of its base `A.s`, and the entities that came to it by way of
-/// these. Contracts see it as the two lists, each in order of telling.
+/// these. Contracts see it as the two lists, each in order of telling. What it was told stands on the heap, since most
+/// monitors of a search are told nothing and stand side by side.
 #[derive(Drop)]
 pub struct LinkMonitor {
-    bases: IndexSet<Entity>,
-    members: IndexSet<Entity>,
+    memory: LinkMemory,
+    alloc: Global,
 }
 
 impl Model for LinkMonitor {
     ghost use Rattle.monitors.specs.LinkMonitor.{LinkTold};
+    ghost use Rattle.monitors.specs.Memories.{link_told};
 
     ghost Value = { LinkTold };
 
-    ghost view = { λ m. record { bases = m.bases.keys; members = m.members.keys } };
+    ghost view = { λ m. link_told m.memory };
 }
 
 impl LinkMonitor {
@@ -29,8 +38,8 @@ impl LinkMonitor {
         ensures { result ≡ record { bases = []; members = [] } }
     {
         LinkMonitor {
-            bases: IndexSet::new(alloc),
-            members: IndexSet::new(alloc),
+            memory: LinkMemory::Untold,
+            alloc,
         }
     }
 
@@ -41,7 +50,15 @@ impl LinkMonitor {
         ensures growth { OnErr result (Contains self.old.bases base → ⊥) }
         ensures unchanged { OnErr result (self.new ≡ self.old) }
     {
-        Ok(self.bases.insert(base)?)
+        match &mut self.memory {
+            LinkMemory::Told(sets) => sets.base_told(base),
+            LinkMemory::Untold => {
+                let mut sets = Box::new(self.alloc, LinkSets::new(self.alloc))?;
+                let is_new = sets.base_told(base)?;
+                self.memory = LinkMemory::Told(sets);
+                Ok(is_new)
+            }
+        }
     }
 
     /// Hears that the entity is in the role which a member of the base gives it, and answers whether that is new: by
@@ -53,7 +70,9 @@ impl LinkMonitor {
         ensures growth { OnErr result (Contains self.old.members who → ⊥) }
         ensures unchanged { OnErr result (self.new ≡ self.old) }
     {
-        let _base = base;
-        Ok(self.members.insert(who)?)
+        match &mut self.memory {
+            LinkMemory::Told(sets) => sets.via_told(base, who),
+            LinkMemory::Untold => unreachable!(),
+        }
     }
 }

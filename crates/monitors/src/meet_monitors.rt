@@ -1,34 +1,38 @@
-ghost use Rattle.std.specs.Prelude.{◌≡◌, ◌<◌, ◌≤◌, ℕ, false, slice_index_or, IfOk, OnOk, OnErr};
+ghost use Rattle.std.specs.Prelude.{◌≡◌, ◌<◌, ◌≤◌, IfOk, OnOk, OnErr};
 ghost use Rattle.std.specs.FinSet as set;
-ghost use Rattle.monitors.specs.Tellers.{is_teller};
 
-use crate::tellers::Tellers;
-use indexmap::IndexMap;
+use crate::meet_tables::MeetTable;
 use names::Entity;
 use std::alloc::{AllocError, Global};
 use std::marker::Model;
 
+/// What an intersection keeps of what it was told: the number of its parts alone, until it is told something.
+#[derive(Drop)]
+enum MeetMemory {
+    Untold(u8),
+    Told(Box<MeetTable>),
+}
+
 /// What an intersection of 2 to 8 parts was told: which part told which entity. Contracts see the set of these pairs.
-/// Parts are counted from 0.
+/// Parts are counted from 0. What it was told stands on the heap, since most monitors of a search are told nothing and
+/// stand side by side.
 #[derive(Drop)]
 pub struct MeetMonitor {
-    parts: u8,
-    told: IndexMap<Entity, Tellers>,
+    memory: MeetMemory,
+    alloc: Global,
 }
 
 impl Model for MeetMonitor {
-    ghost use Rattle.std.specs.FinSet as set;
     ghost use Rattle.monitors.specs.MeetMonitor.{MeetTold, meet_code};
+    ghost use Rattle.monitors.specs.Memories.{meet_told, IsMeetMemory};
 
     ghost Value = { MeetTold };
 
     ghost coded = { meet_code };
 
-    ghost use Rattle.monitors.specs.Tellers.{pairs_of, AreTellers};
+    ghost view = { λ m. meet_told m.memory };
 
-    ghost view = { λ m. record { parts = m.parts; told = set.from_list (pairs_of m.told.entries) } };
-
-    ghost invariant = { λ m. AreTellers m.parts m.told.entries };
+    ghost invariant = { λ m. IsMeetMemory m.memory };
 }
 
 impl MeetMonitor {
@@ -41,8 +45,8 @@ impl MeetMonitor {
         ensures { result ≡ record { parts = parts; told = set.empty } }
     {
         MeetMonitor {
-            parts,
-            told: IndexMap::new(alloc),
+            memory: MeetMemory::Untold(parts),
+            alloc,
         }
     }
 
@@ -55,22 +59,14 @@ impl MeetMonitor {
         ensures growth { OnErr result (HasTold self.old part who → ⊥) }
         ensures unchanged { OnErr result (self.new ≡ self.old) }
     {
-        let tellers = tellers_of(&self.told, &who);
-        if tellers.has(part) {
-            return Ok(false);
+        match &mut self.memory {
+            MeetMemory::Told(table) => table.part_told(part, who),
+            MeetMemory::Untold(parts) => {
+                let mut table = Box::new(self.alloc, MeetTable::make(self.alloc, *parts))?;
+                let is_last = table.part_told(part, who)?;
+                self.memory = MeetMemory::Told(table);
+                Ok(is_last)
+            }
         }
-        let tellers = tellers.with(part);
-        self.told.insert(who, tellers)?;
-        Ok(tellers.count() == self.parts)
-    }
-}
-
-/// The parts that told the entity.
-fn tellers_of(told: &IndexMap<Entity, Tellers>, who: &Entity) -> Tellers
-    ensures { (part : ℕ) → slice_index_or result.told part false ≡ is_teller told.now.entries part who.now }
-{
-    match told.get(who) {
-        Some(tellers) => *tellers,
-        None => Tellers::none(),
     }
 }

@@ -2,7 +2,7 @@ use Rattle.std.proofs.Common.{rules, subst, sym, Contains, nat_eq}
 use Rattle.std.specs.Cmp.Lexicographic.{pointwise}
 use Rattle.indexmap.proofs.CallerLemmas.{Contains-insert_key}
 use Rattle.monitors.proofs.KeyLemmas.{same_name, is_new, hears_via}
-use Rattle.monitors.proofs.link_monitors.LinkMonitor.via_told.Goals as goal
+use Rattle.monitors.proofs.link_sets.LinkSets.via_told.Goals as goal
 
 pub returns-in_err-insert-clause-growth : goal.returns-in_err-insert-clause-growth
 returns-in_err-insert-clause-growth c =
