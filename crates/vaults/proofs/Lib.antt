@@ -5,6 +5,9 @@ pub mod Exactness
 pub mod Accepted
 pub mod Places
 pub mod Steps
+pub mod Late
 pub mod PageWrites
 pub mod Merging
 pub mod Granting
+pub mod Keeping
+pub mod OwedLemmas

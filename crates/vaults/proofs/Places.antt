@@ -55,7 +55,7 @@ module _ {K : Type 0} {R : K → K → Ordering} (o : IsExactOrder R) where
       ap (λ (b : Bool). cond (not b) (y ∷ without R x xs) (without R x xs)) parts.0 ∙ ap (λ (l : List K). y ∷ l) (without_absent xs x parts.1)
 
   -- the first of a list in order stands there once
-  absent_behind : (y : K) (xs : List K) → IsStrictlySortedBy R (y ∷ xs) → has R xs y ≡ false
+  pub absent_behind : (y : K) (xs : List K) → IsStrictlySortedBy R (y ∷ xs) → has R xs y ≡ false
   absent_behind y xs sorted =
       list_any_none (eq_by_cmp R y) xs
       (All-weaker (λ z. R y z ≡ Less) (λ z. eq_by_cmp R y z ≡ false) (λ z below. ap is_eq below) xs (All-from_recursion (λ z. R y z ≡ Less) xs (sorted_head R y xs sorted)))
@@ -74,7 +74,7 @@ module _ {K : Type 0} {R : K → K → Ordering} (o : IsExactOrder R) where
       ∙ sym (ap (λ (b : Bool). cond (not b) (y ∷ without R x xs) (without R x xs)) (ap is_eq (turned o y x Less below)))
 
   -- an element that is there is not put in again
-  insert_key-present : (xs : List K) (x : K) → IsStrictlySortedBy R xs → has R xs x ≡ true → xs ≡ insert_key R xs x
+  pub insert_key-present : (xs : List K) (x : K) → IsStrictlySortedBy R xs → has R xs x ≡ true → xs ≡ insert_key R xs x
   insert_key-present xs x sorted present = same_in_order o xs (insert_key R xs x) sorted (sorted-insert_key o xs x sorted) (λ y. by y (eq_by_cmp R y x) refl ∙ sym (has-insert_key o xs x y))
     where
       by : (y : K) (b : Bool) → eq_by_cmp R y x ≡ b → has R xs y ≡ (b || has R xs y)

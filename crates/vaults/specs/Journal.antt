@@ -104,6 +104,15 @@ grants_all (Revoke reader) = false
 grants_all GrantAll = true
 grants_all RevokeAll = false
 
+-- the change ends what one reader or all readers were granted
+abbrev pub revokes : Change → Bool
+revokes (Upload c) = false
+revokes (Withdraw c) = false
+revokes (Grant reader) = false
+revokes (Revoke reader) = true
+revokes GrantAll = false
+revokes RevokeAll = true
+
 -- the tenant's own entries, in order
 abbrev pub entries_of : List ℕ → List Entry → List Entry
 entries_of tenant journal = filter (λ e. is_same e.tenant tenant) journal

@@ -3,6 +3,10 @@ pub mod Fault
 pub mod Journal
 pub mod Laws
 pub mod Version
+pub mod Late
 pub mod Page
 pub mod Book
 pub mod Merge
+pub mod Kept
+pub mod KeptOnce
+pub mod Owed

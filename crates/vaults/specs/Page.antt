@@ -1,5 +1,6 @@
 -- What is kept of one tenant beside the journal.
-use Rattle.std.specs.Prelude.{ℕ, List, [], ◌+◌, length}
+use Rattle.std.specs.Prelude.{ℕ, List, [], ◌+◌, length, unwrap_or}
+use Rattle.std.specs.BTreeMap.{BTreeMap, get}
 use Rattle.std.specs.BTreeSet.{insert_key}
 use Rattle.names.specs.Name.{name_order}
 use Rattle.credential_text.specs.declared.credentials.Credential.{Credential}
@@ -18,6 +19,22 @@ pub record PageState : Type 0 where
 
 abbrev pub empty_page : PageState
 empty_page = record { rows = []; readers = []; changes = 0 }
+
+-- a page, and how many late changes of its rows are kept apart
+pub record Leaf : Type 0 where
+  pub page : PageState
+  pub apart : ℕ
+
+abbrev pub empty_leaf : Leaf
+empty_leaf = record { page = empty_page; apart = 0 }
+
+-- what is kept of the tenant; one without a page has nothing
+abbrev pub page_at : BTreeMap (List ℕ) Leaf → List ℕ → PageState
+page_at pages tenant = (unwrap_or (get name_order pages tenant) empty_leaf).page
+
+-- how many late changes of the tenant's rows are kept apart
+abbrev pub apart_at : BTreeMap (List ℕ) Leaf → List ℕ → ℕ
+apart_at pages tenant = (unwrap_or (get name_order pages tenant) empty_leaf).apart
 
 -- what the journal gives the tenant
 abbrev pub page_of : List Entry → List ℕ → PageState

@@ -1,17 +1,22 @@
-ghost use Rattle.std.specs.Prelude.{◌≡◌, ◌++◌, ◌+◌, ◌<◌, ◌^◌, ℕ, List, [], ◌∷◌, None, length, unwrap_or, vec_len};
-ghost use Rattle.std.specs.Prelude.{false, IfOk, IfErr, OnOk, OnErr};
-ghost use Rattle.std.specs.Vec.{vec_capacity};
+ghost use Rattle.std.specs.Prelude.{◌≡◌, ◌++◌, ◌+◌, ◌<◌, ◌^◌, ℕ, List, [], ◌∷◌, None, length, unwrap_or};
+ghost use Rattle.std.specs.Prelude.{true, false, ⊤, IsSome, IsOk, IfOk, IfErr, OnOk, OnErr};
+ghost use mathlib.Core.Option.{none};
+ghost use types.Logic.{sem};
+ghost use Rattle.std.specs.Borrow.{follows_so};
 ghost use Rattle.std.specs.BTreeMap.{get};
 ghost use Rattle.names.specs.Name.{name_order};
-ghost use Rattle.vaults.specs.Journal.{entries_of, holds, granted, is_public, reads, refusal, AreAccepted};
+ghost use Rattle.vaults.specs.Journal.{entries_of, holds, granted, is_public, reads, revokes, refusal, AreAccepted};
 ghost use Rattle.vaults.specs.Journal.{vault, readers, grant_count, marked_names};
-ghost use Rattle.vaults.specs.Page.{empty_page};
+ghost use Rattle.vaults.specs.Page.{page_at, apart_at};
 ghost use Rattle.vaults.specs.Version.{version_rows};
 ghost use Rattle.vaults.specs.Book.{is_granting, is_listed, KeepsChange, IsUnchanged, KeepsGrant, SameGranting, KeepsPublic, SamePublic};
 ghost use Rattle.vaults.specs.declared.changes.Change.TheVariants.{Grant, Revoke, GrantAll, RevokeAll};
 
-use crate::changes::{Change, Entry};
+use crate::changes::Change;
+use crate::copies::copy_of;
+use crate::entries::Entries;
 use crate::faults::VaultFault;
+use crate::journals::Journal;
 use crate::marks::Seen;
 use crate::merges::merged;
 use crate::name_sets::NameSet;
@@ -30,7 +35,7 @@ use std::sync::Arc;
 #[derive(Drop)]
 pub struct Book {
     alloc: Global,
-    journal: Vec<Entry>,
+    journal: Journal,
     pages: BTreeMap<Entity, Page>,
     granting: BTreeMap<Entity, NameSet>,
     public: NameSet,
@@ -43,19 +48,21 @@ impl Model for Book {
 
     ghost Value = { List Entry };
 
-    ghost view = { λ b. b.journal.items };
+    ghost view = { λ b. b.journal.kept.0 };
 
-    ghost invariant = { λ b. IsBook b.journal.items b.pages b.granting b.public };
+    ghost invariant = { λ b. IsBook b.journal.kept.0 b.pages b.granting b.public };
 }
 
 impl Book {
+    ghost use Rattle.vaults.specs.contracts.books.Book.{the_row};
+
     /// A book with no entry.
     pub fn new(alloc: Global) -> Book
         ensures { result ≡ [] }
     {
         Book {
             alloc,
-            journal: Vec::new(alloc),
+            journal: Journal::new(alloc),
             pages: BTreeMap::new(alloc),
             granting: BTreeMap::new(alloc),
             public: NameSet::new(alloc),
@@ -64,18 +71,20 @@ impl Book {
 
     /// Enters the change of the tenant, and answers how many of its changes were accepted so far. The order of
     /// refusals: 31 and 32 of an upload, 31 and 33 of a withdrawal, 36 and 34 of a grant to one reader, 34 of one to all,
-    /// 35 of a revocation, and want of memory after these.
+    /// 35 of a revocation, and want of memory after these. A revocation never lacks memory: what it needs was taken with
+    /// the grant.
     pub fn change(&mut self, who: Entity, change: Change) -> Result<u64, VaultFault>
         ensures accepted { OnOk result (refusal self.old who change ≡ None) }
         ensures entered { OnOk result (self.new ≡ self.old ++ record { tenant = who; change = change } ∷ []) }
         ensures counted { IfOk result (λ n. n ≡ length (entries_of who self.new)) }
         ensures refused { IfErr result (λ f. f ≡ unwrap_or (refusal self.old who change) VaultFault.Memory) }
         ensures unchanged { OnErr result (self.new ≡ self.old) }
+        ensures revocable { revokes change ≡ true → refusal self.old who change ≡ None → IsOk result }
     {
         if let Some(fault) = self.refusal_of(&who, &change) {
             return Err(fault);
         }
-        self.journal.try_reserve(1)?;
+        self.journal.prepare(&who, &change)?;
         let count = keep(
             self.alloc,
             &mut self.pages,
@@ -84,7 +93,7 @@ impl Book {
             who,
             &change,
         )?;
-        enter(&mut self.journal, who, change);
+        self.journal.enter(&who, &change);
         Ok(count)
     }
 
@@ -144,25 +153,42 @@ impl Book {
     }
 
     /// The credentials that the tenant issues and holds, in order.
-    pub fn vault_of(&self, who: Entity) -> &[Credential]
-        ensures { result.now ≡ vault self.now who }
+    pub fn vault_of(&mut self, who: Entity) -> &[Credential]
+        ensures vault { result.now ≡ vault self.old who }
+        ensures* same { sem 𝓛 (follows_so the_row the_row self.entry.ghost_name none (λ _ _. ⊤) (λ book. book ≡ self.old)) }
+    {
+        settle_page(&mut self.pages, who);
+        rows_on_page(&self.pages, who)
+    }
+
+    /// A copy of the credentials that the tenant issues and holds, in order.
+    pub fn copy_of_vault(&mut self, who: Entity) -> Result<Vec<Credential>, VaultFault>
+        ensures rows { IfOk result (λ rows. rows.items ≡ vault self.old who) }
+        ensures only_memory { IfErr result (λ f. f ≡ VaultFault.Memory) }
+        ensures same { self.new ≡ self.old }
+    {
+        settle_page(&mut self.pages, who);
+        Ok(copy_of(self.alloc, rows_on_page(&self.pages, who))?)
+    }
+
+    /// How many credentials the tenant issues and holds.
+    pub fn creds_of(&self, who: Entity) -> u64
+        ensures { result ≡ length (vault self.now who) }
     {
         match self.pages.get(&who) {
-            Some(page) => page.rows(),
-            None => &[],
+            Some(page) => page.rows_len() as u64,
+            None => 0,
         }
     }
 
     /// The version of the owner's vault, to be held by others too: no row is copied, and whatever becomes of the vault,
     /// it keeps its rows.
-    pub fn version_of(&self, owner: Entity) -> Result<Option<Arc<Version>>, VaultFault>
-        ensures rows { IfOk result (λ version. version_rows version ≡ vault self.now owner) }
+    pub fn version_of(&mut self, owner: Entity) -> Result<Option<Arc<Version>>, VaultFault>
+        ensures rows { IfOk result (λ version. version_rows version ≡ vault self.old owner) }
         ensures only_memory { IfErr result (λ f. f ≡ VaultFault.Memory) }
+        ensures same { self.new ≡ self.old }
     {
-        match self.pages.get(&owner) {
-            Some(page) => Ok(page.version()?),
-            None => Ok(None),
-        }
+        Ok(version_on_page(self.alloc, &mut self.pages, owner)?)
     }
 
     /// The names whose vaults the tenant reads, in order, its own among them, each with whether its vault is public. Costs
@@ -217,12 +243,12 @@ impl Book {
         self.journal.len() as u64
     }
 
-    /// The accepted changes, the oldest first.
-    pub fn entries(&self) -> &[Entry]
-        ensures entries { result.now ≡ self.now }
+    /// The accepted changes, to be read from the oldest on.
+    pub fn entries(&self) -> Entries<'_>
+        ensures entries { result ≡ self.now }
         ensures accepted { AreAccepted self.now }
     {
-        &self.journal
+        self.journal.entries(self.alloc)
     }
 }
 
@@ -236,16 +262,17 @@ fn keep(
     who: Entity,
     change: &Change,
 ) -> Result<u64, AllocError>
-    requires fits { (unwrap_or (get name_order pages.old who) empty_page).changes + 1 < 2 ^ 64 }
+    requires fits { (page_at pages.old who).changes + 1 < 2 ^ 64 }
     requires first { (reader : List ℕ) → change.now ≡ Grant reader → is_granting granting.old who reader ≡ false }
     requires first_for_all { change.now ≡ GrantAll → is_listed public.old who ≡ false }
     ensures kept { OnOk result (KeepsChange who change.now pages.old pages.new) }
     ensures grant { OnOk result (KeepsGrant who change.now granting.old granting.new) }
     ensures public { OnOk result (KeepsPublic who change.now public.old public.new) }
-    ensures count { IfOk result (λ n. n ≡ (unwrap_or (get name_order pages.old who) empty_page).changes + 1) }
+    ensures count { IfOk result (λ n. n ≡ (page_at pages.old who).changes + 1) }
     ensures unchanged { OnErr result (IsUnchanged pages.old pages.new) }
     ensures same_granting { OnErr result (SameGranting granting.old granting.new) }
     ensures same_public { OnErr result (SamePublic public.old public.new) }
+    ensures revocable { revokes change.now ≡ true → IsSome (get name_order pages.old who) → IsOk result }
 {
     match change {
         Change::Grant(reader) => {
@@ -344,19 +371,20 @@ fn keep_on_page(
     who: Entity,
     change: &Change,
 ) -> Result<u64, AllocError>
-    requires { (unwrap_or (get name_order pages.old who) empty_page).changes + 1 < 2 ^ 64 }
+    requires { (page_at pages.old who).changes + 1 < 2 ^ 64 }
     ensures kept { OnOk result (KeepsChange who change.now pages.old pages.new) }
-    ensures count { IfOk result (λ n. n ≡ (unwrap_or (get name_order pages.old who) empty_page).changes + 1) }
+    ensures count { IfOk result (λ n. n ≡ (page_at pages.old who).changes + 1) }
     ensures unchanged { OnErr result (IsUnchanged pages.old pages.new) }
+    ensures revocable { revokes change.now ≡ true → IsSome (get name_order pages.old who) → IsOk result }
 {
     match pages.get_mut(&who) {
         Some(page) => {
-            page.keep(alloc, change)?;
+            page.keep(change)?;
             Ok(page.changes())
         }
         None => {
             let mut page = Page::new(alloc);
-            page.keep(alloc, change)?;
+            page.keep(change)?;
             let count = page.changes();
             pages.insert(who, page)?;
             Ok(count)
@@ -364,10 +392,38 @@ fn keep_on_page(
     }
 }
 
-/// Appends the entry where there is room for it.
-fn enter(journal: &mut Vec<Entry>, tenant: Entity, change: Change)
-    requires { vec_len journal.old < vec_capacity journal.old }
-    ensures { journal.new.items ≡ journal.old.items ++ record { tenant = tenant; change = change } ∷ [] }
+/// Merges what is late into the rows on the tenant's page.
+fn settle_page(pages: &mut BTreeMap<Entity, Page>, who: Entity)
+    ensures unchanged { IsUnchanged pages.old pages.new }
+    ensures settled { apart_at pages.new who ≡ 0 }
 {
-    journal.push(Entry { tenant, change }).unwrap();
+    if let Some(page) = pages.get_mut(&who) {
+        page.settle();
+    }
+}
+
+/// The rows on the tenant's page.
+fn rows_on_page(pages: &BTreeMap<Entity, Page>, who: Entity) -> &[Credential]
+    requires { apart_at pages.now who ≡ 0 }
+    ensures { result.now ≡ (page_at pages.now who).rows }
+{
+    match pages.get(&who) {
+        Some(page) => page.rows(),
+        None => &[],
+    }
+}
+
+/// The version of the rows on the owner's page.
+fn version_on_page(
+    alloc: Global,
+    pages: &mut BTreeMap<Entity, Page>,
+    owner: Entity,
+) -> Result<Option<Arc<Version>>, AllocError>
+    ensures rows { IfOk result (λ version. version_rows version ≡ (page_at pages.old owner).rows) }
+    ensures unchanged { IsUnchanged pages.old pages.new }
+{
+    match pages.get_mut(&owner) {
+        Some(page) => page.version(alloc),
+        None => Ok(None),
+    }
 }

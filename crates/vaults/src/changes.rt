@@ -1,3 +1,5 @@
+ghost use Rattle.std.specs.Prelude.{◌≡◌};
+
 use credential_text::Credential;
 use names::Entity;
 
@@ -16,6 +18,35 @@ pub enum Change {
     GrantAll,
     /// The tenant's vault is public no longer; what it granted single readers stands.
     RevokeAll,
+}
+
+impl Change {
+    ghost use Rattle.vaults.specs.Kept.{kind_of};
+    ghost use Rattle.vaults.specs.Owed.{gives};
+
+    /// The number of its kind.
+    pub(crate) fn kind(&self) -> u8
+        ensures { result ≡ kind_of self.now }
+    {
+        match self {
+            Change::Upload(_) => 0,
+            Change::Withdraw(_) => 1,
+            Change::Grant(_) => 2,
+            Change::Revoke(_) => 3,
+            Change::GrantAll => 4,
+            Change::RevokeAll => 5,
+        }
+    }
+
+    /// Whether it gives what another change takes back.
+    pub(crate) fn gives(&self) -> bool
+        ensures { result ≡ gives self.now }
+    {
+        match self {
+            Change::Upload(_) | Change::Grant(_) | Change::GrantAll => true,
+            Change::Withdraw(_) | Change::Revoke(_) | Change::RevokeAll => false,
+        }
+    }
 }
 
 /// An accepted change and the tenant that made it.

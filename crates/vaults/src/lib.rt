@@ -1,22 +1,34 @@
 //! The vaults of many tenants: the journal of accepted changes, the credentials that each tenant holds, and who may
-//! read whose vault. A `Book` is seen as its journal: what the journal means, and so what each call answers, is said in
-//! specs/Journal.antt; what a book keeps beside it, page by page, in specs/Book.antt and specs/Page.antt.
+//! read whose vault.
+//!
+//! A `Book` is seen as its journal, and what the journal means is said in `specs/Journal.antt`: who holds what, who reads whom,
+//! which refusal a change is due. `Book::change` enters a change or refuses it and changes nothing; a revocation never lacks
+//! memory. The journal is kept as bytes (`specs/Kept.antt`), with room for what takes back what stands (`specs/Owed.antt`). What a
+//! book keeps beside it, so that no call walks over it, is in `specs/Book.antt` and `specs/Page.antt`. The laws
+//! (`specs/Laws.antt`) say that a tenant's own entries decide what it holds and grants.
 #![tactic(auto)]
 
 mod books;
 mod changes;
+mod copies;
+mod entries;
 mod faults;
+mod journals;
+mod late_rows;
 mod laws;
 mod marks;
 mod merges;
 mod name_sets;
+mod own_rows;
 mod pages;
+mod settling;
 #[cfg(test)]
 mod tests;
 mod versions;
 
 pub use books::Book;
 pub use changes::{Change, Entry};
+pub use entries::Entries;
 pub use faults::VaultFault;
 pub use laws::{
     accepted_changes_are_own, grants_are_apart, marks_are_exact, own_entries_decide,

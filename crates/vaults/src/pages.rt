@@ -1,67 +1,100 @@
-ghost use Rattle.std.specs.Prelude.{◌≡◌, ◌+◌, ◌<◌, ◌^◌, IfOk, OnOk, OnErr, length};
+ghost use Rattle.std.specs.Prelude.{◌≡◌, ◌+◌, ◌<◌, ◌^◌, true, IsOk, IfOk, OnOk, OnErr, length};
 ghost use Rattle.std.specs.List.{list_any};
 ghost use Rattle.std.specs.Ordering.{eq_by_cmp};
 ghost use Rattle.names.specs.Name.{name_order};
 ghost use Rattle.credential_text.specs.Credential.{credential_order};
+ghost use Rattle.vaults.specs.Journal.{revokes};
 ghost use Rattle.vaults.specs.Version.{version_rows};
 ghost use Rattle.vaults.specs.Page.{empty_page, page_after};
 
 use crate::changes::Change;
 use crate::name_sets::NameSet;
-use crate::versions::{Version, put_row, rows_of, shared, take_row};
+use crate::own_rows::OwnRows;
+use crate::versions::{Version, make_own, share, shared};
 use credential_text::Credential;
 use names::Entity;
 use std::alloc::{AllocError, Global};
 use std::marker::Model;
 use std::sync::Arc;
 
-/// What is kept of one tenant beside the journal: the version of its vault, none before the first row, its readers, in
-/// order, and how many of its changes were accepted.
+/// What is kept of one tenant beside the journal: the rows of its vault, in a version where they were shared since their
+/// last change, its readers, in order, and how many of its changes were accepted.
 #[derive(Drop)]
 pub struct Page {
     version: Option<Arc<Version>>,
+    own: OwnRows,
     readers: NameSet,
     changes: u64,
 }
 
 impl Model for Page {
-    ghost use Rattle.vaults.specs.Version.{version_rows};
-    ghost use Rattle.vaults.specs.Page.{PageState};
+    ghost use Rattle.vaults.specs.Version.{rows_shown, apart_shown};
+    ghost use Rattle.vaults.specs.Page.{Leaf};
 
-    ghost Value = { PageState };
+    ghost Value = { Leaf };
 
-    ghost view = { λ p. record { rows = version_rows p.version; readers = p.readers; changes = p.changes } };
+    ghost view = { λ p. record {
+      page = record { rows = rows_shown p.version p.own.all; readers = p.readers; changes = p.changes };
+      apart = apart_shown p.version p.own.apart;
+    } };
 }
 
 impl Page {
     /// The page of a tenant without a change.
     pub fn new(alloc: Global) -> Page
-        ensures { result ≡ empty_page }
+        ensures { result.page ≡ empty_page }
     {
         Page {
             version: None,
+            own: OwnRows::new(alloc),
             readers: NameSet::new(alloc),
             changes: 0,
         }
     }
 
-    /// The rows of the tenant's vault, in order.
-    pub fn rows(&self) -> &[Credential]
-        ensures { result.now ≡ self.now.rows }
+    /// Merges what is late into the rows.
+    pub fn settle(&mut self)
+        ensures page { self.new.page ≡ self.old.page }
+        ensures settled { self.new.apart ≡ 0 }
     {
-        rows_of(&self.version)
+        if self.version.is_none() {
+            self.own.settle();
+        }
     }
 
-    /// The version of the tenant's vault, to be held by others too.
-    pub fn version(&self) -> Result<Option<Arc<Version>>, AllocError>
-        ensures { IfOk result (λ version. version_rows version ≡ self.now.rows) }
+    /// The rows of the tenant's vault, in order.
+    pub fn rows(&self) -> &[Credential]
+        requires { self.now.apart ≡ 0 }
+        ensures { result.now ≡ self.now.page.rows }
     {
+        match &self.version {
+            Some(version) => version.rows(),
+            None => self.own.rows(),
+        }
+    }
+
+    /// How many rows the tenant's vault has.
+    pub fn rows_len(&self) -> usize
+        ensures { result ≡ length self.now.page.rows }
+    {
+        match &self.version {
+            Some(version) => version.rows().len(),
+            None => self.own.len(),
+        }
+    }
+
+    /// The version of the tenant's vault, to be held by others too; none where the vault is empty.
+    pub fn version(&mut self, alloc: Global) -> Result<Option<Arc<Version>>, AllocError>
+        ensures version { IfOk result (λ version. version_rows version ≡ self.old.page.rows) }
+        ensures same { self.new.page ≡ self.old.page }
+    {
+        share(alloc, &mut self.version, &mut self.own)?;
         shared(&self.version)
     }
 
     /// How many readers the tenant has.
     pub fn readers_len(&self) -> usize
-        ensures count { result ≡ length self.now.readers }
+        ensures count { result ≡ length self.now.page.readers }
         ensures fits { result < 2 ^ 63 }
     {
         self.readers.len()
@@ -69,37 +102,44 @@ impl Page {
 
     /// How many changes of the tenant were accepted.
     pub fn changes(&self) -> u64
-        ensures { result ≡ self.now.changes }
+        ensures { result ≡ self.now.page.changes }
     {
         self.changes
     }
 
     /// Whether the credential is a row of the tenant's vault.
     pub fn has_row(&self, credential: &Credential) -> bool
-        ensures { result ≡ list_any (eq_by_cmp credential_order credential.now) self.now.rows }
+        ensures { result ≡ list_any (eq_by_cmp credential_order credential.now) self.now.page.rows }
     {
         match &self.version {
             Some(version) => version.has(credential),
-            None => false,
+            None => self.own.has(credential),
         }
     }
 
     /// Whether the reader is among those of the tenant.
     pub fn has_reader(&self, reader: &Entity) -> bool
-        ensures { result ≡ list_any (eq_by_cmp name_order reader.now) self.now.readers }
+        ensures { result ≡ list_any (eq_by_cmp name_order reader.now) self.now.page.readers }
     {
         self.readers.has(reader)
     }
 
     /// Keeps one change more.
-    pub fn keep(&mut self, alloc: Global, change: &Change) -> Result<(), AllocError>
-        requires { self.old.changes + 1 < 2 ^ 64 }
-        ensures kept { OnOk result (self.new ≡ page_after change.now self.old) }
-        ensures unchanged { OnErr result (self.new ≡ self.old) }
+    pub fn keep(&mut self, change: &Change) -> Result<(), AllocError>
+        requires { self.old.page.changes + 1 < 2 ^ 64 }
+        ensures kept { OnOk result (self.new.page ≡ page_after change.now self.old.page) }
+        ensures revocable { revokes change.now ≡ true → IsOk result }
+        ensures unchanged { OnErr result (self.new.page ≡ self.old.page) }
     {
         match change {
-            Change::Upload(credential) => put_row(alloc, &mut self.version, credential)?,
-            Change::Withdraw(credential) => take_row(&mut self.version, credential)?,
+            Change::Upload(credential) => {
+                make_own(&mut self.version, &mut self.own)?;
+                self.own.put(credential)?;
+            }
+            Change::Withdraw(credential) => {
+                make_own(&mut self.version, &mut self.own)?;
+                self.own.take_out(credential);
+            }
             Change::Grant(reader) => self.readers.add(reader)?,
             Change::Revoke(reader) => self.readers.remove(reader),
             Change::GrantAll | Change::RevokeAll => {}

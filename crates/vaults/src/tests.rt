@@ -1,6 +1,6 @@
 use crate::{
-    Book, Change, Seen, VaultFault, accepted_changes_are_own, grants_are_apart, marks_are_exact,
-    own_entries_decide, vaults_are_exact, views_are_exact,
+    Book, Change, Entries, Seen, VaultFault, accepted_changes_are_own, grants_are_apart,
+    marks_are_exact, own_entries_decide, vaults_are_exact, views_are_exact,
 };
 use credential_text::{Credential, Expr};
 use names::{Entity, Role};
@@ -56,6 +56,53 @@ fn answers(book: &mut Book, rows: &[(&str, &str, &str, &str, u64)]) -> Result<bo
     Ok(true)
 }
 
+/// The credential that the change uploads or withdraws.
+fn credential_of(change: &Change) -> Option<&Credential> {
+    match change {
+        Change::Upload(credential) | Change::Withdraw(credential) => Some(credential),
+        _ => None,
+    }
+}
+
+/// The reader whom the change grants or revokes.
+fn reader_of(change: &Change) -> Option<Entity> {
+    match change {
+        Change::Grant(reader) | Change::Revoke(reader) => Some(*reader),
+        _ => None,
+    }
+}
+
+/// Whether both are the same change.
+fn are_same(change: &Change, other: &Change) -> bool {
+    if change.kind() != other.kind() {
+        return false;
+    }
+    match (credential_of(change), credential_of(other)) {
+        (Some(credential), Some(same)) => credential.compare(same).is_eq(),
+        _ => reader_of(change) == reader_of(other),
+    }
+}
+
+/// Whether the next accepted change is the tenant's change.
+fn reads_next(entries: &mut Entries, who: Entity, change: &Change) -> Result<bool, Fail> {
+    let Some(entry) = entries.next()? else {
+        return Ok(false);
+    };
+    Ok(entry.tenant == who && are_same(&entry.change, change))
+}
+
+/// Whether these are the accepted changes, read from the oldest on: tenant, word, name and body.
+fn reads_back(book: &Book, rows: &[(&str, &str, &str, &str)]) -> Result<bool, Fail> {
+    let mut entries = book.entries();
+    for (who, word, name, body) in rows {
+        let change = change_of(word, name, body)?;
+        if !reads_next(&mut entries, entity(who)?, &change)? {
+            return Ok(false);
+        }
+    }
+    Ok(entries.next()?.is_none())
+}
+
 /// Whether these are the rows, in this order.
 fn are_rows(rows: &[Credential], expected: &[(&str, &str)]) -> Result<bool, Fail> {
     if rows.len() != expected.len() {
@@ -70,7 +117,7 @@ fn are_rows(rows: &[Credential], expected: &[(&str, &str)]) -> Result<bool, Fail
 }
 
 /// Whether these are the credentials of the tenant's vault, in this order.
-fn has_vault(book: &Book, who: &str, expected: &[(&str, &str)]) -> Result<bool, Fail> {
+fn has_vault(book: &mut Book, who: &str, expected: &[(&str, &str)]) -> Result<bool, Fail> {
     are_rows(book.vault_of(entity(who)?), expected)
 }
 
@@ -131,9 +178,36 @@ fn each_refusal_once(rt: HostRuntime) -> Result<(), Fail> {
         ("A", "revoke", "B", "", 35),
     ];
     assert!(rt; answers(&mut book, &rows)?);
-    assert!(rt; has_vault(&book, "A", &[])?);
+    assert!(rt; has_vault(&mut book, "A", &[])?);
     assert_eq!(rt; book.journal_len(), 4);
-    assert_eq!(rt; book.entries().len(), 4);
+    Ok(())
+}
+
+#[test]
+fn changes_are_read_back(rt: HostRuntime) -> Result<(), Fail> {
+    let mut book = Book::new(rt.alloc());
+    assert!(rt; reads_back(&book, &[])?);
+    let rows = [
+        ("A", "put", "A.r", "D", 1),
+        ("Bob", "put", "Bob.r", "A.r", 1),
+        ("A", "grant", "Bob", "", 2),
+        ("A", "put", "B.r", "D", 31),
+        ("A", "grant", "*", "", 3),
+        ("A", "revoke", "Bob", "", 4),
+        ("A", "revoke", "*", "", 5),
+        ("Bob", "drop", "Bob.r", "A.r", 2),
+    ];
+    assert!(rt; answers(&mut book, &rows)?);
+    let entered = [
+        ("A", "put", "A.r", "D"),
+        ("Bob", "put", "Bob.r", "A.r"),
+        ("A", "grant", "Bob", ""),
+        ("A", "grant", "*", ""),
+        ("A", "revoke", "Bob", ""),
+        ("A", "revoke", "*", ""),
+        ("Bob", "drop", "Bob.r", "A.r"),
+    ];
+    assert!(rt; reads_back(&book, &entered)?);
     Ok(())
 }
 
@@ -151,9 +225,9 @@ fn a_vault_is_in_order(rt: HostRuntime) -> Result<(), Fail> {
     ];
     assert!(rt; answers(&mut book, &rows)?);
     let whole = [("A.q", "E"), ("A.r", "E"), ("A.r", "B.s"), ("A.s", "D")];
-    assert!(rt; has_vault(&book, "A", &whole)?);
-    assert!(rt; has_vault(&book, "B", &[("B.s", "D")])?);
-    assert!(rt; has_vault(&book, "C", &[])?);
+    assert!(rt; has_vault(&mut book, "A", &whole)?);
+    assert!(rt; has_vault(&mut book, "B", &[("B.s", "D")])?);
+    assert!(rt; has_vault(&mut book, "C", &[])?);
     Ok(())
 }
 
@@ -246,7 +320,7 @@ fn a_held_version_stays(rt: HostRuntime) -> Result<(), Fail> {
     assert_eq!(rt; change_in_turn(&mut book, "B", "B.s", "D", 500)?, 1_001);
     assert!(rt; answers(&mut book, &[("B", "drop", "B.s", "D", 1_002)])?);
     assert!(rt; are_rows(held.rows(), &[("B.s", "D")])?);
-    assert!(rt; has_vault(&book, "B", &[])?);
+    assert!(rt; has_vault(&mut book, "B", &[])?);
     Ok(())
 }
 

@@ -1,15 +1,16 @@
-ghost use Rattle.std.specs.Prelude.{◌≡◌, [], OnOk, OnErr, IfOk};
-ghost use Rattle.std.specs.List.{list_any};
-ghost use Rattle.std.specs.BTreeSet.{insert_key};
-ghost use Rattle.std.specs.Ordering.{eq_by_cmp};
+ghost use Rattle.std.specs.Prelude.{◌≡◌, None, IfOk, OnOk, OnErr};
 ghost use Rattle.std.specs.List.Sorted.{IsStrictlySortedBy};
 ghost use Rattle.credential_text.specs.Credential.{credential_order};
-ghost use Rattle.vaults.specs.InOrder.{without, IsPlace};
-ghost use Rattle.vaults.specs.Version.{version_rows};
+ghost use Rattle.std.specs.List.{list_any};
+ghost use Rattle.std.specs.Ordering.{eq_by_cmp};
+ghost use Rattle.vaults.specs.InOrder.{IsPlace};
+ghost use Rattle.vaults.specs.Version.{version_rows, rows_shown};
 
+use crate::own_rows::OwnRows;
 use credential_text::Credential;
 use std::alloc::{AllocError, Global};
 use std::marker::Model;
+use std::mem;
 use std::sync::Arc;
 
 /// The rows of a tenant's vault at one time: credentials in order, each once. Seen as their list. Shared versions never
@@ -33,13 +34,12 @@ impl Model for Version {
 }
 
 impl Version {
-    /// A version without a row.
-    pub(crate) fn new(alloc: Global) -> Version
-        ensures { result ≡ [] }
+    /// A version of these rows.
+    fn of(rows: Vec<Credential>) -> Version
+        requires { IsStrictlySortedBy credential_order rows.items }
+        ensures { result ≡ rows.items }
     {
-        Version {
-            rows: Vec::new(alloc),
-        }
+        Version { rows }
     }
 
     /// The rows, in order.
@@ -57,23 +57,13 @@ impl Version {
         place_of(&self.rows, credential).is_ok()
     }
 
-    /// Puts the credential into its place, if it isn't there.
-    pub(crate) fn put(&mut self, credential: &Credential) -> Result<(), AllocError>
-        ensures put { OnOk result (self.new ≡ insert_key credential_order self.old credential.now) }
-        ensures unchanged { OnErr result (self.new ≡ self.old) }
+    /// Takes the rows out of the version.
+    fn take_rows(&mut self) -> Vec<Credential>
+        ensures rows { result.items ≡ self.old }
+        ensures ordered { IsStrictlySortedBy credential_order self.old }
     {
-        if let Err(place) = place_of(&self.rows, credential) {
-            let row = credential.try_clone()?;
-            self.rows.insert(place, row)?;
-        }
-        Ok(())
-    }
-
-    /// Takes the credential out, if it is there.
-    pub(crate) fn take_out(&mut self, credential: &Credential)
-        ensures { self.new ≡ without credential_order credential.now self.old }
-    {
-        drop_row(&mut self.rows, credential);
+        let alloc = *self.rows.allocator();
+        mem::replace(&mut self.rows, Vec::new(alloc))
     }
 }
 
@@ -89,52 +79,55 @@ impl Clone for Version {
     }
 }
 
-fn place_of(rows: &[Credential], credential: &Credential) -> Result<usize, usize>
+/// Where the credential stands among the rows, or would stand.
+pub fn place_of(rows: &[Credential], credential: &Credential) -> Result<usize, usize>
     requires { IsStrictlySortedBy credential_order rows.now }
     ensures { IsPlace credential_order rows.now credential.now result }
 {
     rows.binary_search_by(|other| other.compare(credential))
 }
 
-fn drop_row(rows: &mut Vec<Credential>, credential: &Credential)
-    requires { IsStrictlySortedBy credential_order rows.old.items }
-    ensures { rows.new.items ≡ without credential_order credential.now rows.old.items }
-{
-    if let Ok(place) = place_of(rows, credential) {
-        rows.remove(place);
-    }
-}
-
-/// Puts the credential into the version, or into a copy of it where others hold it; where there is none, into a first
-/// one.
-pub fn put_row(
-    alloc: Global,
-    held: &mut Option<Arc<Version>>,
-    credential: &Credential,
-) -> Result<(), AllocError>
-    ensures put { OnOk result (version_rows held.new ≡ insert_key credential_order (version_rows held.old) credential.now) }
-    ensures unchanged { OnErr result (version_rows held.new ≡ version_rows held.old) }
-{
-    match held {
-        Some(version) => Arc::make_mut(version)?.put(credential),
-        None => {
-            let mut first = Version::new(alloc);
-            first.put(credential)?;
-            *held = Some(Arc::new(alloc, first)?);
-            Ok(())
-        }
-    }
-}
-
-/// Takes the credential out of the version, or out of a copy of it where others hold it.
-pub fn take_row(held: &mut Option<Arc<Version>>, credential: &Credential) -> Result<(), AllocError>
-    ensures taken { OnOk result (version_rows held.new ≡ without credential_order credential.now (version_rows held.old)) }
-    ensures unchanged { OnErr result (version_rows held.new ≡ version_rows held.old) }
+/// Makes the rows one's own: those of the version, or of a copy of it where others hold it.
+pub fn make_own(held: &mut Option<Arc<Version>>, own: &mut OwnRows) -> Result<(), AllocError>
+    ensures own { OnOk result (own.new.all ≡ rows_shown held.old own.old.all) }
+    ensures not_held { OnOk result (held.new ≡ None) }
+    ensures unchanged { OnErr result (rows_shown held.new own.new.all ≡ rows_shown held.old own.old.all) }
 {
     if let Some(version) = held {
-        Arc::make_mut(version)?.take_out(credential);
+        let rows = Arc::make_mut(version)?.take_rows();
+        *own = OwnRows::of(rows);
+        *held = None;
     }
     Ok(())
+}
+
+/// Makes a version of one's own rows, where they aren't one already.
+pub fn share(
+    alloc: Global,
+    held: &mut Option<Arc<Version>>,
+    own: &mut OwnRows,
+) -> Result<(), AllocError>
+    ensures version { OnOk result (version_rows held.new ≡ rows_shown held.old own.old.all) }
+    ensures same { rows_shown held.new own.new.all ≡ rows_shown held.old own.old.all }
+{
+    if held.is_some() {
+        return Ok(());
+    }
+    if own.len() == 0 {
+        return Ok(());
+    }
+    let rows = own.take_rows();
+    match Arc::new(alloc, Version::of(rows)) {
+        Ok(version) => {
+            *held = Some(version);
+            Ok(())
+        }
+        Err(refused) => {
+            let mut version = refused.value;
+            *own = OwnRows::of(version.take_rows());
+            Err(AllocError)
+        }
+    }
 }
 
 /// The version once more, to be held beside the first: no row is copied.
@@ -144,16 +137,5 @@ pub fn shared(held: &Option<Arc<Version>>) -> Result<Option<Arc<Version>>, Alloc
     match held {
         Some(version) => Ok(Some(Arc::try_clone(version)?)),
         None => Ok(None),
-    }
-}
-
-/// The rows of the version, and none where there is no version.
-pub fn rows_of(held: &Option<Arc<Version>>) -> &[Credential]
-    ensures rows { result.now ≡ version_rows held.now }
-    ensures ordered { IsStrictlySortedBy credential_order (version_rows held.now) }
-{
-    match held {
-        Some(version) => version.rows(),
-        None => &[],
     }
 }

@@ -11,12 +11,12 @@ use Rattle.vaults.proofs.books.Book.holds.Goals as goal
 pub returns-in-Some : goal.returns-in-Some
 returns-in-Some c =
     c.has_row.ensures
-    ∙ ap (λ (k : PageState). has credential_order k.rows c.args.credential.now) (page_found c.self.inside.journal.items c.self.inside.pages c.args.owner.now c.in-Some.page.now c.self.invariant.pages_are c.in-Some.ensures.value)
-    ∙ has-vault_accepted c.self.inside.journal.items c.args.owner.now c.args.credential.now c.self.invariant.accepted
+    ∙ ap (λ (k : PageState). has credential_order k.rows c.args.credential.now) (page_found c.self.inside.journal.kept.0 c.self.inside.pages c.args.owner.now c.in-Some.page.now c.self.invariant.pages_are c.in-Some.ensures.value)
+    ∙ has-vault_accepted c.self.inside.journal.kept.0 c.args.owner.now c.args.credential.now c.self.invariant.accepted
     ∙ ap (λ (j : List Entry). holds j c.args.owner.now c.args.credential.now) c.self.view_is
 
 pub returns-in-None : goal.returns-in-None
 returns-in-None c =
-    ap (λ (k : PageState). has credential_order k.rows c.args.credential.now) (page_missing c.self.inside.journal.items c.self.inside.pages c.args.owner.now c.self.invariant.pages_are c.in-None.ensures.value)
-    ∙ has-vault_accepted c.self.inside.journal.items c.args.owner.now c.args.credential.now c.self.invariant.accepted
+    ap (λ (k : PageState). has credential_order k.rows c.args.credential.now) (page_missing c.self.inside.journal.kept.0 c.self.inside.pages c.args.owner.now c.self.invariant.pages_are c.in-None.ensures.value)
+    ∙ has-vault_accepted c.self.inside.journal.kept.0 c.args.owner.now c.args.credential.now c.self.invariant.accepted
     ∙ ap (λ (j : List Entry). holds j c.args.owner.now c.args.credential.now) c.self.view_is

@@ -1,9 +1,0 @@
-use Rattle.std.proofs.Common.{sym, subst}
-use Rattle.std.specs.List.Sorted.{IsStrictlySortedBy}
-use Rattle.credential_text.specs.Credential.{credential_order}
-use Rattle.vaults.proofs.Orders.{credentials_exact}
-use Rattle.vaults.proofs.Elements.{sorted-without}
-use Rattle.vaults.proofs.versions.Version.take_out.Goals as goal
-
-pub invariant_of-self : goal.invariant_of-self
-invariant_of-self c = subst (IsStrictlySortedBy credential_order) (sym c.drop_row.ensures) (sorted-without credentials_exact c.self.inside.rows.items c.args.credential.now c.self.invariant)
