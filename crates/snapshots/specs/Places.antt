@@ -1,5 +1,5 @@
 -- What stands next to a place in a list.
-use Rattle.std.specs.Prelude.{ℕ, Bool, true, false, List, Some, ◌≡◌, ◌+◌, ◌-◌, ◌<◌, nat_lt, length}
+use Rattle.std.specs.Prelude.{ℕ, Bool, true, false, List, Some, ◌≡◌, ◌+◌, ◌-◌, ◌<◌, nat_lt, length, if◌then◌else◌}
 use Rattle.std.specs.List.{slice_get}
 
 -- the element below the place, if there is one, passes
@@ -15,6 +15,6 @@ abbrev pub one : Bool → ℕ
 one true = 1
 one false = 0
 
--- how many elements stand next to the place: one below it, one at it
+-- how many elements stand next to the place: one below it, one at it; none where the place is past the end
 abbrev pub neighbours : {X : Type 0} → List X → ℕ → ℕ
-neighbours xs place = one (nat_lt 0 place) + one (nat_lt place (length xs))
+neighbours xs place = if nat_lt (length xs) place then 0 else one (nat_lt 0 place) + one (nat_lt place (length xs))

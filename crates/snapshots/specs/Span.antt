@@ -1,5 +1,5 @@
 -- Where the rows of a role stand in a view: said by counting what stands before them.
-use Rattle.std.specs.Prelude.{ℕ, ◌+◌, Bool, List, length, filter}
+use Rattle.std.specs.Prelude.{ℕ, ◌+◌, ◌==◌, Bool, List, length, filter, if◌then◌else◌}
 use Rattle.std.specs.Ordering.{is_lt, is_eq, is_le}
 use Rattle.names.specs.Name.{name_order}
 use Rattle.names.specs.declared.roles.Role.{Role}
@@ -58,8 +58,9 @@ abbrev pub is_cut : Cut → Role → Credential → Bool
 is_cut Before role = is_before role
 is_cut Through role = is_through role
 
--- how many comparisons show that a span is right: with the owners and the rows next to its places, and with the owner of
--- its vault
+-- how many comparisons decide whether a span is right: with the owners next to its place, and where these show the place
+-- to be right, with the owner of the vault there and with the rows next to the span's ends
 abbrev pub comparisons : List Vault → Role → Span → ℕ
-comparisons view role span =
-    neighbours view span.vault + 1 + neighbours (rows_of view role.owner) span.lo + neighbours (rows_of view role.owner) span.hi
+comparisons view role span = neighbours view span.vault
+    + (if span.vault == place_of view role.owner
+    then 1 + neighbours (rows_of view role.owner) span.lo + neighbours (rows_of view role.owner) span.hi else 0)

@@ -1,5 +1,8 @@
-//! Snapshots: what a tenant could read at one time, over shared versions of vaults, and the rows of a role in it. A
-//! `Snapshot` is seen as a `SnapshotState` (specs/Snapshot.antt); where a role's rows stand is said in specs/Span.antt.
+//! Snapshots: what a tenant could read at one time, over shared versions of vaults, and the rows of a role in it.
+//!
+//! `Snapshot::take` is the tenant's view of the journal as it is then (`specs/Snapshot.antt`), and whatever becomes of the vaults,
+//! it stays. `find` tells where a role's rows stand (`specs/Span.antt`), and `span_is` whether a span is that one, by at most 8
+//! comparisons, so nobody who looks rows up has to be trusted.
 #![tactic(auto)]
 
 mod holdings;

@@ -38,9 +38,10 @@ impl Model for Snapshot {
 
 impl Snapshot {
     /// What the tenant reads now. No credential is copied.
-    pub fn take(alloc: Global, book: &Book, who: Entity) -> Result<Snapshot, VaultFault>
-        ensures view { IfOk result (λ s. s ≡ record { asker = who; vaults = view book.now who }) }
+    pub fn take(alloc: Global, book: &mut Book, who: Entity) -> Result<Snapshot, VaultFault>
+        ensures view { IfOk result (λ s. s ≡ record { asker = who; vaults = view book.old who }) }
         ensures only_memory { IfErr result (λ f. f ≡ faults.Memory) }
+        ensures same { book.new ≡ book.old }
     {
         let owners = book.owners_read_by(who)?;
         let mut vaults = Vec::new(alloc);
@@ -79,7 +80,7 @@ impl Snapshot {
     pub fn span_is<L: Ledger>(&self, role: &Role, span: Span, steps: &mut Steps<L>) -> bool
         ensures exact { IsTrue result ↔ (span ≡ span_of self.now.vaults role.now) }
         ensures cost { steps.new ≤ steps.old + 8 }
-        ensures counted { IsTrue result → steps.new ≡ steps.old + comparisons self.now.vaults role.now span }
+        ensures counted { steps.new ≡ steps.old + comparisons self.now.vaults role.now span }
     {
         if !is_vaults_below(&self.vaults, &role.owner, span.vault, steps) {
             return false;
@@ -151,7 +152,7 @@ fn is_vaults_below<L: Ledger>(
     requires { IsOrdered vaults.now }
     ensures exact { IsTrue result ↔ (count ≡ place_of vaults.now owner.now) }
     ensures cost { steps.new ≤ steps.old + 2 }
-    ensures counted { IsTrue result → steps.new ≡ steps.old + neighbours vaults.now count }
+    ensures counted { steps.new ≡ steps.old + neighbours vaults.now count }
 {
     if count > vaults.len() as u64 {
         return false;

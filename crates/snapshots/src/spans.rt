@@ -57,7 +57,7 @@ pub fn is_rows_until<L: Ledger>(
     requires { IsStrictlySortedBy credential_order rows.now }
     ensures exact { IsTrue result ↔ (count ≡ how_many (is_cut cut role.now) rows.now) }
     ensures cost { steps.new ≤ steps.old + 2 }
-    ensures counted { IsTrue result → steps.new ≡ steps.old + neighbours rows.now count }
+    ensures counted { steps.new ≡ steps.old + neighbours rows.now count }
 {
     if count > rows.len() as u64 {
         return false;

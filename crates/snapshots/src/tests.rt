@@ -74,8 +74,8 @@ fn judges<L: Ledger>(
 
 #[test]
 fn spans_of_roles(rt: HostRuntime) -> Result<(), Fail> {
-    let book = book_of_two(rt.alloc())?;
-    let snapshot = Snapshot::take(rt.alloc(), &book, entity("A")?)?;
+    let mut book = book_of_two(rt.alloc())?;
+    let snapshot = Snapshot::take(rt.alloc(), &mut book, entity("A")?)?;
     let rows = [
         ("A.r", 0, 0, 2),
         ("A.s", 0, 2, 2),
@@ -101,7 +101,7 @@ fn spans_of_roles(rt: HostRuntime) -> Result<(), Fail> {
 fn a_snapshot_stays(rt: HostRuntime) -> Result<(), Fail> {
     let mut book = book_of_two(rt.alloc())?;
     let (a, c) = (entity("A")?, entity("C")?);
-    let snapshot = Snapshot::take(rt.alloc(), &book, c)?;
+    let snapshot = Snapshot::take(rt.alloc(), &mut book, c)?;
     assert!(rt; snapshot.asker() == c);
     assert!(rt;
         finds_all(
@@ -109,7 +109,7 @@ fn a_snapshot_stays(rt: HostRuntime) -> Result<(), Fail> {
             &[("A.r", 0, 0, 0), ("C.r", 0, 0, 0), ("D.r", 1, 0, 0)]
         )?
     );
-    let snapshot = Snapshot::take(rt.alloc(), &book, a)?;
+    let snapshot = Snapshot::take(rt.alloc(), &mut book, a)?;
     book.change(a, Change::Withdraw(credential("A.r", "E")?))?;
     let span = snapshot.find(&role("A.r")?);
     assert_eq!(rt; span.hi, 2);
