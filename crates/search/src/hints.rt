@@ -37,19 +37,27 @@ pub(crate) fn needed(graph: &Graph, held: &Held<NumberedLoad>) -> Need
     }
 }
 
-// Whether the hint is the one that the need asks for.
-fn meets(snapshot: &Snapshot, need: &Need, hint: &Hint) -> bool
-    ensures { IsTrue result ↔ (hint.now ≡ right_hint snapshot.now.vaults need.now) }
+// Whether the hint is the one that an Ask of the expression needs.
+fn meets(snapshot: &Snapshot, expr: &Expr, hint: &Hint) -> bool
+    ensures { IsTrue result ↔ (hint.now ≡ right_hint snapshot.now.vaults (rows_for expr.now)) }
 {
-    match need {
-        Need::Rows(role) => match hint {
+    match expr {
+        Expr::Rol(role) => match hint {
             Hint::Rows(span) => is_span_of(snapshot, role, *span),
             Hint::Nothing => false,
         },
-        Need::Nothing => match hint {
-            Hint::Rows(_span) => false,
-            Hint::Nothing => true,
-        },
+        Expr::Ent(_entity) => is_nothing(hint),
+        Expr::Link(_base, _name) => is_nothing(hint),
+        Expr::Meet(_parts) => is_nothing(hint),
+    }
+}
+
+fn is_nothing(hint: &Hint) -> bool
+    ensures { IsTrue result ↔ (hint.now ≡ Hint.Nothing) }
+{
+    match hint {
+        Hint::Rows(_span) => false,
+        Hint::Nothing => true,
     }
 }
 
@@ -67,6 +75,10 @@ pub(crate) fn hint_is_right(
     ensures ordered { IsOrdered snapshot.now.vaults }
 {
     let _asker = snapshot.asker();
-    let need = needed(graph, held);
-    meets(snapshot, &need, hint)
+    let expr = graph.expr(held.to);
+    match held.load {
+        NumberedLoad::Start => meets(snapshot, expr, hint),
+        NumberedLoad::Ask(_port) => meets(snapshot, expr, hint),
+        NumberedLoad::Tell(_port, _who) => is_nothing(hint),
+    }
 }

@@ -1,5 +1,6 @@
 //! How a node opens, at its first Ask: an entity is its own solution, any other expression asks.
 ghost use Rattle.std.specs.Prelude.{◌≡◌, ◌<◌, ◌≤◌, length, OnOk};
+ghost use Rattle.names.specs.declared.roles.Role.{Role};
 ghost use Rattle.credential_text.specs.declared.exprs.Expr.{Expr};
 ghost use Rattle.snapshots.specs.Span.{role_rows, span_of};
 ghost use Rattle.cred_graph.specs.GraphState.{IsNode};
@@ -11,7 +12,6 @@ use crate::findings::Findings;
 use crate::solving::solve;
 use cred_graph::{NumberedPort, NumberedReason};
 use credential_text::{Expr, Part};
-use names::Role;
 use snapshots::{Snapshot, Span};
 use std::alloc::{AllocError, Global};
 
@@ -20,11 +20,11 @@ fn ask_rows(
     alloc: Global,
     found: &mut Findings,
     snapshot: &Snapshot,
-    role: &Role,
     span: Span,
 ) -> Result<(), AllocError>
-    requires { span ≡ span_of snapshot.now.vaults role.now }
-    ensures { OnOk result (AsksEach found.old (row_asks (role_rows snapshot.now.vaults role.now)) found.new) }
+    requires { (role : Role) × (span ≡ span_of snapshot.now.vaults role) }
+    ensures { OnOk result ((role : Role) → span ≡ span_of snapshot.now.vaults role
+        → AsksEach found.old (row_asks (role_rows snapshot.now.vaults role)) found.new) }
 {
     for place in 0..span.hi - span.lo {
         let row = snapshot.row(span, place);
@@ -44,35 +44,8 @@ fn ask_parts(alloc: Global, found: &mut Findings, parts: &[Part]) -> Result<(), 
     Ok(())
 }
 
-// The node of the expression opens. Where its rows stand is sought in the snapshot, unless that was looked up before.
-fn open_as(
-    alloc: Global,
-    found: &mut Findings,
-    snapshot: &Snapshot,
-    node: u64,
-    expr: &Expr,
-    looked_up: Option<Span>,
-) -> Result<(), AllocError>
-    requires node { node < length found.old.graph.nodes }
-    requires expr { IsNode found.old.graph node expr.now }
-    requires span { IsSpanFor snapshot.now.vaults expr.now looked_up }
-    ensures { OnOk result (Opens (own_rows snapshot.now.vaults expr.now) found.old found.new node expr.now) }
-{
-    match expr {
-        Expr::Ent(_who) => {
-            let who = found.graph.short(node);
-            solve(found, node, who, NumberedReason::Leaf)
-        }
-        Expr::Rol(role) => {
-            let span = looked_up.unwrap_or_else(|| snapshot.find(role));
-            ask_rows(alloc, found, snapshot, role, span)
-        }
-        Expr::Link(base, _name) => ask(alloc, found, &Expr::Rol(*base), NumberedPort::Base),
-        Expr::Meet(parts) => ask_parts(alloc, found, parts.as_slice()),
-    }
-}
-
-// The node opens.
+// The node opens. Where the rows of a role stand is sought in the snapshot, unless that was looked up before. Only the parts
+// of an intersection are copied.
 pub(crate) fn open(
     alloc: Global,
     found: &mut Findings,
@@ -85,6 +58,22 @@ pub(crate) fn open(
     ensures { OnOk result ((e : Expr) → IsNode found.old.graph node e
         → Opens (own_rows snapshot.now.vaults e) found.old found.new node e) }
 {
-    let expr = found.graph.expr(node).try_clone()?;
-    open_as(alloc, found, snapshot, node, &expr, looked_up)
+    match found.graph.expr(node) {
+        Expr::Ent(_who) => {
+            let who = found.graph.short(node);
+            solve(found, node, who, NumberedReason::Leaf)
+        }
+        Expr::Rol(role) => {
+            let span = looked_up.unwrap_or_else(|| snapshot.find(role));
+            ask_rows(alloc, found, snapshot, span)
+        }
+        Expr::Link(base, _name) => {
+            let base = Expr::Rol(*base);
+            ask(alloc, found, &base, NumberedPort::Base)
+        }
+        Expr::Meet(parts) => {
+            let parts = parts.try_clone()?;
+            ask_parts(alloc, found, parts.as_slice())
+        }
+    }
 }

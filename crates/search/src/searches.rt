@@ -97,7 +97,7 @@ impl Search {
     ghost use Rattle.search.specs.Finish.{Takes, TakesHeld, Receives, Finishes};
     ghost use Rattle.search.specs.Quiet.{IsQuiet, NoneHeld};
 
-    /// A search over the snapshot that may send so many letters. One letter, to the asked role, waits.
+    /// A search over the snapshot that may send so many letters, at least one. One letter, to the asked role, waits.
     pub fn open(
         alloc: Global,
         snapshot: Arc<Snapshot>,

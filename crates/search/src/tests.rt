@@ -104,7 +104,7 @@ fn snapshot_of(alloc: Global, texts: &[&[u8]]) -> Result<Arc<Snapshot>, Fail> {
     }
     let reader = Entity::read(b"A")?;
     book.change(Entity::read(b"B")?, Change::Grant(reader))?;
-    Ok(Arc::new(alloc, Snapshot::take(alloc, &book, reader)?)?)
+    Ok(Arc::new(alloc, Snapshot::take(alloc, &mut book, reader)?)?)
 }
 
 fn opened(alloc: Global, texts: &[&[u8]], query: Query, work: u64) -> Result<Search, Fail> {

@@ -117,7 +117,7 @@ fn snapshot_of(alloc: Global, credentials: &[Credential]) -> Result<Arc<Snapshot
     for owner in [b"B", b"C", b"D"] {
         book.change(Entity::read(owner)?, Change::Grant(reader))?;
     }
-    Ok(Arc::new(alloc, Snapshot::take(alloc, &book, reader)?)?)
+    Ok(Arc::new(alloc, Snapshot::take(alloc, &mut book, reader)?)?)
 }
 
 // A search with this work limit, run in this order.

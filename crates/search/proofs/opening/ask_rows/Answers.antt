@@ -10,19 +10,19 @@ use Rattle.search.proofs.opening.ask_rows.Goals as goal
 
 pub overflow_sub-place-end : goal.overflow_sub-place-end
 overflow_sub-place-end c =
-    let lo = ap (λ (s : Span). s.lo) c.requires in
-    let hi = ap (λ (s : Span). s.hi) c.requires in
-    omega (arith, lo, hi, span_length c.args.snapshot.now.vaults c.args.role.now)
+    let lo = ap (λ (s : Span). s.lo) c.requires.1 in
+    let hi = ap (λ (s : Span). s.hi) c.requires.1 in
+    omega (arith, lo, hi, span_length c.args.snapshot.now.vaults c.requires.0)
 
 pub loop-place-preserved : goal.loop-place-preserved
-loop-place-preserved c =
-    let rows = role_rows c.args.snapshot.now.vaults c.args.role.now in
-    let at = c.row-row.ensures c.args.role.now c.requires in
-    asks_next (row_asks rows) c.loop-place.place c.args.found.now c.loop-place.found c.ask.new.found c.row-row.result.now.body port.Body c.loop-place.invariant (row_ask_at rows c.loop-place.place c.row-row.result.now at) c.in_ok-ask.ensures
+loop-place-preserved c = λ role is.
+    let rows = role_rows c.args.snapshot.now.vaults role in
+    let at = c.row-row.ensures role is in
+    asks_next (row_asks rows) c.loop-place.place c.args.found.now c.loop-place.found c.ask.new.found c.row-row.result.now.body port.Body (c.loop-place.invariant role is) (row_ask_at rows c.loop-place.place c.row-row.result.now at) c.in_ok-ask.ensures
 
 pub returns : goal.returns
-returns c =
-    let rows = role_rows c.args.snapshot.now.vaults c.args.role.now in
-    let lo = ap (λ (s : Span). s.lo) c.requires in
-    let hi = ap (λ (s : Span). s.hi) c.requires in
-    asks_all (row_asks rows) c.loop-place.place c.args.found.now c.loop-place.found (omega (arith, lo, hi, span_length c.args.snapshot.now.vaults c.args.role.now, row_asks_count rows)) c.loop-place.invariant
+returns c = λ role is.
+    let rows = role_rows c.args.snapshot.now.vaults role in
+    let lo = ap (λ (s : Span). s.lo) is in
+    let hi = ap (λ (s : Span). s.hi) is in
+    asks_all (row_asks rows) c.loop-place.place c.args.found.now c.loop-place.found (omega (arith, lo, hi, span_length c.args.snapshot.now.vaults role, row_asks_count rows)) (c.loop-place.invariant role is)

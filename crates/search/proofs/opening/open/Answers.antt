@@ -1,0 +1,21 @@
+-- An entity's node opens: its own entity is a solution of it.
+use Rattle.std.proofs.Common.{List, ℕ, ◌≡◌, ◌∙◌, ap, sym, subst, Some, slice_get}
+use Rattle.std.proofs.lemmas.Option.{same_Some}
+use Rattle.std.proofs.lemmas.Result.{on_ok_weaker}
+use Rattle.credential_text.specs.declared.exprs.Expr.{Expr}
+use Rattle.credential_text.specs.declared.exprs.Expr.TheVariants.{Ent}
+use Rattle.cred_graph.specs.declared.solutions.Reason.TheVariants as reason
+use Rattle.cred_graph.proofs.NumberLemmas.{entity_is}
+use Rattle.search.specs.Answers.{Progress, Opens, Solves, own_rows}
+use Rattle.search.proofs.opening.open.Goals as goal
+
+pub returns-in-Ent : goal.returns-in-Ent
+returns-in-Ent c =
+    let nodes = c.args.found.now.graph.nodes in
+    let is : slice_get nodes c.args.node ≡ Some c.expr.result.now = subst (λ (s : Progress). slice_get s.graph.nodes c.args.node ≡ Some c.expr.result.now) c.found.view_is c.expr.ensures.node in
+    let at = is ∙ ap Some c.in-Ent.is in
+    let named = entity_is nodes c.short-who.result c.in-Ent._who (ap (slice_get nodes) c.short-who.ensures ∙ at) in
+    on_ok_weaker c.solve.result
+    (λ solves e there. subst (λ (x : Expr). Opens (own_rows c.args.snapshot.now.vaults x) c.args.found.now c.solve.new.found c.args.node x) (same_Some (Ent c.in-Ent._who) e (sym at ∙ there))
+    (subst (λ (who : List ℕ). Solves c.args.found.now c.solve.new.found c.args.node who reason.Leaf) named solves))
+    c.solve.ensures
