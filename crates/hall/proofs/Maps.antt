@@ -1,33 +1,18 @@
 -- Finite maps: what an entry put in or taken out leaves, and a map whose values are all changed by one function.
-use Rattle.std.proofs.Common.{◌≡◌, ◌≢◌, ◌∙◌, ◌⊎◌, inl, inr, Bool, true, false, cond, ◌==◌, ◌&&◌, T, List, [], ◌∷◌, ℕ, length, map, Option, Some, None, option_map, is_some, sym, ap, refl, subst, arith}
+use Rattle.std.proofs.Common.{◌≡◌, ◌≢◌, ◌∙◌, ◌⊎◌, inl, inr, Bool, true, false, cond, ◌&&◌, T, List, [], ◌∷◌, length, map, Option, Some, None, option_map, is_some, sym, ap, refl, subst, arith}
 use Rattle.std.specs.declared.cmp.Ordering.{Ordering}
 use Rattle.std.specs.declared.cmp.Ordering.TheVariants.{Less, Equal, Greater}
 use Rattle.std.specs.Ordering.{nat_cmp, eq_by_cmp, is_lt}
-use Rattle.std.specs.Cmp.{Equal-is, unsigned_tied}
+use Rattle.std.specs.Cmp.{Equal-is}
 use Rattle.std.specs.FinMap.{FinMap, empty, get, insert, remove, len, entries, from_entries, find, put, is_sorted, get-entries, get-empty, get-insert, get-remove, get-from_entries, len-empty, len-entries, entries-insert, entries_sorted, same_map, nat_cmp-IsAntisymmetric}
 use Rattle.std.specs.FinMap.Entries.{by_order, below_all}
 use Rattle.std.proofs.lemmas.Bool.{false≢true}
 use Rattle.std.proofs.lemmas.Cmp.{nat_cmp_total, tied_itself}
 use Rattle.std.proofs.lemmas.List.{length-map}
-use Rattle.names.specs.Name.{name_order, is_same}
-use Rattle.names.proofs.SameNames.{is_same_tied}
-use Rattle.vaults.proofs.Orders.{names_exact}
 use Rattle.vaults.proofs.Elements.{IsExactOrder, same_from_tied}
 
 pub numbers_exact : IsExactOrder nat_cmp
 numbers_exact = record { total = nat_cmp_total; exact = nat_cmp-IsAntisymmetric }
-
--- what numbers and names find, by their own tests
-pub get_insert_number : {X : Type 0} (m : FinMap nat_cmp X) (k : ℕ) (v : X) (j : ℕ) →
-    get (insert m k v) j ≡ cond (j == k) (Some v) (get m j)
-get_insert_number m k v j = get-insert nat_cmp_total m k v j ∙ ap (λ b. cond b (Some v) (get m j)) (unsigned_tied j k)
-
-pub get_remove_number : {X : Type 0} (m : FinMap nat_cmp X) (k j : ℕ) → get (remove m k) j ≡ cond (j == k) None (get m j)
-get_remove_number m k j = get-remove nat_cmp_total m k j ∙ ap (λ b. cond b None (get m j)) (unsigned_tied j k)
-
-pub get_insert_name : {X : Type 0} (m : FinMap name_order X) (k : List ℕ) (v : X) (j : List ℕ) →
-    get (insert m k v) j ≡ cond (is_same j k) (Some v) (get m j)
-get_insert_name m k v j = get-insert names_exact.total m k v j ∙ ap (λ b. cond b (Some v) (get m j)) (is_same_tied j k)
 
 -- the entries, each value changed
 abbrev pub by_value : {K X Y : Type 0} → (X → Y) → List (K × X) → List (K × Y)

@@ -1,5 +1,5 @@
 -- Where the answer of a search lists members, memory may lack for a poll.
-use Rattle.std.proofs.Common.{◌≡◌, ℕ, List, Option, Some, refl}
+use Rattle.std.proofs.Common.{◌≡◌, ℕ, List, Some}
 use Rattle.std.specs.FinMap.{get}
 use Rattle.search.specs.Ending.{Settled, Nothing, Yes, No, Members, Spent, Broken}
 use Rattle.hall.specs.declared.calls.answers.Answer.TheVariants as answer

@@ -1,9 +1,9 @@
 -- What answers a request of one tenant: its own account, and what it has in sight, alone.
-use Rattle.std.specs.Prelude.{◌≡◌, ◌⊎◌, ℕ, ◌+◌, List, [], ◌∷◌, ◌++◌, length, map, Option, None, Some}
+use Rattle.std.specs.Prelude.{◌≡◌, ◌⊎◌, ℕ, ◌+◌, false, List, [], ◌∷◌, ◌++◌, length, map, Option, None, Some}
 use Rattle.std.specs.FinMap.{get, insert, remove}
 use Rattle.rt0_rules.specs.Membership.{IsMember}
 use Rattle.vaults.specs.declared.marks.Seen.{Seen}
-use Rattle.vaults.specs.Journal.{Vault, Marked, vault, unmarked, seen_of, credentials}
+use Rattle.vaults.specs.Journal.{Vault, Marked, vault, unmarked, seen_of, credentials, revokes}
 use Rattle.search.specs.Ending.{Settled, Nothing, Yes, No, Members, Spent, Broken, asked_role}
 use Rattle.proof_trees.specs.declared.steps.Step.{Step as ProofStep}
 use Rattle.proof_trees.specs.Proof.{IsProof}
@@ -83,9 +83,9 @@ Grants tenant sees a (request.Proof k who) told b =
     (s : Asked) × (steps : List ProofStep) × (get a.searches k ≡ Some s)
     × IsProof (credentials s.view) (asked_role s.query) who steps × (told ≡ reply.Proof steps) × (b ≡ a)
 
--- memory may lack for each request but an ending, and for a poll only where it lists members
+-- memory may lack for each request but a revocation and an ending, and for a poll only where it lists members
 abbrev pub MayLack : Account → Request → Type 0
-MayLack a (request.Alter change) = Unit {0}
+MayLack a (request.Alter change) = revokes change ≡ false
 MayLack a (request.Seek query) = Unit {0}
 MayLack a (request.Poll k) = (s : Asked) × (names : List (List ℕ)) × (get a.searches k ≡ Some s) × (s.settled ≡ Members names)
 MayLack a (request.Close k) = ⊥

@@ -23,7 +23,7 @@ use Rattle.hall.specs.declared.calls.steps.Stepped.{Stepped}
 use Rattle.hall.specs.declared.calls.steps.Stepped.TheVariants.{Gone}
 use Rattle.hall.specs.declared.calls.events.Event.{Event}
 use Rattle.hall.specs.declared.calls.events.Event.TheVariants as event
-use Rattle.hall.specs.halls.Searches.{just_opened, StepsSearch}
+use Rattle.hall.specs.Steps.{just_opened, StepsSearch}
 use Rattle.hall.specs.Account.{Asked, Account}
 use Rattle.hall.specs.Answers.{sight, Answers}
 use Rattle.hall.specs.Run.{Deed, asks, waits, Told}

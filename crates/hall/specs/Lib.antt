@@ -7,4 +7,5 @@ pub mod Run
 pub mod Hall
 pub mod Laws
 pub mod Visits
-pub mod halls
+pub mod Steps
+pub mod Kept

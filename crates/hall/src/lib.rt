@@ -1,9 +1,13 @@
 //! The hall of all tenants: what one may ask of it, what each tenant may be told, and the laws that hold of all of its
 //! runs.
+//!
+//! A `Hall` is seen as its journal and its tenants by name (`specs/Hall.antt`). A request is answered by one tenant's account and
+//! what it has in sight, alone (`specs/Account.antt`, `specs/Answers.antt`), and a step goes to one search. `specs/Run.antt` says
+//! what a run is to one tenant, and `specs/Laws.antt` what holds of all runs: answers are true, refusals come first, and two
+//! worlds that agree for a tenant tell it the same. `specs/Visits.antt` is for those who work for a hall.
 #![tactic(auto)]
 
 mod calls;
-mod copies;
 mod faults;
 mod jobs;
 mod lists;

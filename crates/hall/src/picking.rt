@@ -1,17 +1,17 @@
 //! Which step goes on with the searches of a hall, each in its turn.
-ghost use Rattle.std.specs.Prelude.{◌≤◌, MatchOption};
+ghost use Rattle.std.specs.Prelude.{◌≡◌, ◌≤◌, MatchOption};
 ghost use Rattle.std.specs.List.{AllByRecursion};
-ghost use Rattle.hall.specs.halls.Calls.{IsStill, IsIdle};
-ghost use Rattle.hall.specs.halls.Kept.{IsNextOf, IsNextOfAny};
+ghost use Rattle.hall.specs.Kept.{AreQuiet, IsNextAmong, IsIdle, IsNextOfAny};
 
 use crate::calls::Step;
-use crate::opened::Opened;
+use crate::opened::{Opened, next_step};
 use crate::seats::Seat;
+use indexmap::map::Slice;
 use names::Entity;
 
 /// The step that goes on with a tenant's search. It begins at the tenant that the turn picks, and goes round.
-pub(crate) fn pick_seat(seats: &[Seat], turn: u64) -> Option<Step>
-    ensures { MatchOption result (AllByRecursion IsIdle seats.now) (IsNextOfAny seats.now) }
+pub(crate) fn pick_seat(seats: Slice<'_, Entity, Seat>, turn: u64) -> Option<Step>
+    ensures { MatchOption result (AllByRecursion (λ e. IsIdle e.1) seats.entry) (IsNextOfAny seats.entry) }
 {
     let (place, round) = begin_at(seats.len(), turn);
     let (before, from_there) = seats.split_at(place);
@@ -22,8 +22,8 @@ pub(crate) fn pick_seat(seats: &[Seat], turn: u64) -> Option<Step>
 }
 
 /// The step that goes on with a search of this tenant. It begins at the search that the turn picks, and goes round.
-pub(crate) fn pick_search(who: Entity, searches: &[Opened], turn: u64) -> Option<Step>
-    ensures { MatchOption result (AllByRecursion IsStill searches.now) (IsNextOf who searches.now) }
+pub(crate) fn pick_search(who: Entity, searches: Slice<'_, u64, Opened>, turn: u64) -> Option<Step>
+    ensures { MatchOption result (AreQuiet searches.entry) (IsNextAmong who searches.entry) }
 {
     let (place, _round) = begin_at(searches.len(), turn);
     let (before, from_there) = searches.split_at(place);
@@ -45,11 +45,11 @@ fn begin_at(count: usize, turn: u64) -> (usize, u64)
 }
 
 /// The step of the first tenant that has one.
-fn first_seat(seats: &[Seat], turn: u64) -> Option<Step>
-    ensures { MatchOption result (AllByRecursion IsIdle seats.now) (IsNextOfAny seats.now) }
+fn first_seat(seats: Slice<'_, Entity, Seat>, turn: u64) -> Option<Step>
+    ensures { MatchOption result (AllByRecursion (λ e. IsIdle e.1) seats.entry) (IsNextOfAny seats.entry) }
 {
-    for seat in seats {
-        if let Some(step) = seat.next(turn) {
+    for (who, seat) in seats.iter() {
+        if let Some(step) = seat.next(*who, turn) {
             return Some(step);
         }
     }
@@ -57,11 +57,11 @@ fn first_seat(seats: &[Seat], turn: u64) -> Option<Step>
 }
 
 /// The step of the first search that has one.
-fn first_search(who: Entity, searches: &[Opened]) -> Option<Step>
-    ensures { MatchOption result (AllByRecursion IsStill searches.now) (IsNextOf who searches.now) }
+fn first_search(who: Entity, searches: Slice<'_, u64, Opened>) -> Option<Step>
+    ensures { MatchOption result (AreQuiet searches.entry) (IsNextAmong who searches.entry) }
 {
-    for opened in searches {
-        if let Some(step) = opened.next(who) {
+    for (number, opened) in searches.iter() {
+        if let Some(step) = next_step(&opened.search, who, *number) {
             return Some(step);
         }
     }

@@ -1,23 +1,22 @@
 //! The hall of all tenants.
-ghost use Rattle.std.specs.Prelude.{◌≡◌, ◌↔◌, None, IfSome, IfOk, IfErr};
-ghost use Rattle.std.specs.Prelude.{OnOk, OnErr, is_some, option_copied, option_map, position, map, length};
+ghost use Rattle.std.specs.Prelude.{◌≡◌, ◌↔◌, false, None, IfSome, IfOk, IfErr};
+ghost use Rattle.std.specs.Prelude.{OnOk, OnErr, is_some, option_copied, option_map, map, length};
 ghost use Rattle.std.specs.FinMap.{get};
 ghost use Rattle.std.specs.List.{IsDistinct};
 ghost use Rattle.names.specs.Name.{is_same};
+ghost use Rattle.vaults.specs.Journal.{revokes};
 ghost use Rattle.hall.specs.declared.faults.Fault.TheVariants as faults;
 ghost use Rattle.hall.specs.declared.calls.requests.Request.TheVariants as request;
 ghost use Rattle.hall.specs.declared.calls.replies.Reply.TheVariants as reply;
-ghost use Rattle.hall.specs.Hall.{IsSound, IsServed, told_as, new_hall, search_at};
-ghost use Rattle.hall.specs.halls.State.{new_tenant};
+ghost use Rattle.hall.specs.Hall.{IsSound, IsServed, told_as, new_tenant, new_hall, search_at};
 
 use crate::calls::{Answer, Step, Stepped};
-use crate::copies::copy_of;
 use crate::faults::Fault;
 use crate::jobs::Job;
 use crate::lists::{Rows, Sights};
 use crate::picking::pick_seat;
 use crate::seats::Seat;
-use indexmap::IndexSet;
+use indexmap::IndexMap;
 use names::Entity;
 use quotas::Limits;
 use search::{Hint, Query, Search};
@@ -25,32 +24,29 @@ use std::alloc::{AllocError, Global};
 use std::marker::Model;
 use vaults::{Book, Change};
 
-/// The journal of all tenants, and the tenants with what each has opened. A tenant's place among the names is its seat's
-/// place, so that no call walks over all tenants.
+/// The journal of all tenants, and by its name what each has opened.
 #[derive(Drop)]
 pub struct Hall {
     alloc: Global,
     book: Book,
-    names: IndexSet<Entity>,
-    seats: Vec<Seat>,
+    tenants: IndexMap<Entity, Seat>,
 }
 
 impl Model for Hall {
     ghost use Rattle.std.specs.Coded.{codes};
     ghost use Rattle.std.specs.FinMap as fin;
+    ghost use Rattle.std.specs.FinMap.{from_entries};
     ghost use Rattle.search.specs.contracts.stages.Stage as running;
     ghost use Rattle.search.specs.contracts.findings.Monitor as memory;
-    ghost use Rattle.hall.specs.Hall.{HallState};
-    ghost use Rattle.hall.specs.halls.Kept.{IsKept};
-    ghost use Rattle.hall.specs.halls.Mapped.{state_of};
+    ghost use Rattle.hall.specs.Hall.{HallState, IsSound};
 
     ghost Value = { HallState };
 
     ghost coded = { Prim.hlevel (codes, fin.code, running.the_row.coded, memory.the_row.coded) };
 
-    ghost view = { λ h. state_of (record { journal = h.book; tenants = h.seats.items }) };
+    ghost view = { λ h. record { journal = h.book; tenants = from_entries h.tenants.entries } };
 
-    ghost invariant = { λ h. IsKept h.names.keys (record { journal = h.book; tenants = h.seats.items }) };
+    ghost invariant = { λ h. IsSound (record { journal = h.book; tenants = from_entries h.tenants.entries }) };
 }
 
 impl Hall {
@@ -61,13 +57,11 @@ impl Hall {
         ensures only_memory { IfErr result (λ f. f ≡ Fault.Memory) }
     {
         let book = Book::new(alloc);
-        let names = names_of(alloc, &roster)?;
-        let seats = seats_of(alloc, roster)?;
+        let tenants = seats_of(alloc, &roster)?;
         Ok(Hall {
             alloc,
             book,
-            names,
-            seats,
+            tenants,
         })
     }
 
@@ -75,8 +69,7 @@ impl Hall {
     pub fn has(&self, who: Entity) -> bool
         ensures { result ≡ is_some (get self.now.tenants who) }
     {
-        let _ = &self.seats;
-        place_of(&self.names, &who).is_some()
+        self.tenants.contains_key(&who)
     }
 
     /// How many changes were accepted in all.
@@ -84,7 +77,7 @@ impl Hall {
         ensures length { result ≡ length self.now.journal }
         ensures sound { IsSound self.now }
     {
-        let _ = &self.seats;
+        let _ = &self.tenants;
         self.book.journal_len()
     }
 
@@ -92,7 +85,7 @@ impl Hall {
     pub(crate) fn alloc(&self) -> Global
         ensures sound { IsSound self.now }
     {
-        let _ = &self.seats;
+        let _ = &self.tenants;
         self.alloc
     }
 
@@ -102,23 +95,24 @@ impl Hall {
     pub fn change(&mut self, who: Entity, change: Change) -> Result<u64, Fault>
         ensures served { IsServed self.old who (request.Alter change) (told_as reply.Counted result) self.new }
     {
-        let Some(place) = place_of(&self.names, &who) else {
+        let Some(seat) = self.tenants.get(&who) else {
             return Err(Fault::NoTenant);
         };
-        self.seats[place].may_alter(&self.book, &change)?;
+        seat.may_alter(&self.book, &who, &change)?;
         Ok(self.book.change(who, change)?)
     }
 
-    /// Whether the tenant may make the change now, for which memory alone may lack then. The order of refusals is that of
-    /// `change`.
+    /// Whether the tenant may make the change now, for which memory alone may lack then, unless it revokes something. The
+    /// order of refusals is that of `change`.
     pub(crate) fn may_change(&self, who: Entity, change: &Change) -> Result<(), Fault>
         ensures refused { IfErr result (λ f. IsServed self.now who (request.Alter change.now) (reply.Refused f) self.now) }
-        ensures allowed { OnOk result (IsServed self.now who (request.Alter change.now) (reply.Refused faults.Memory) self.now) }
+        ensures allowed { OnOk result (revokes change.now ≡ false
+            → IsServed self.now who (request.Alter change.now) (reply.Refused faults.Memory) self.now) }
     {
-        let Some(place) = place_of(&self.names, &who) else {
+        let Some(seat) = self.tenants.get(&who) else {
             return Err(Fault::NoTenant);
         };
-        self.seats[place].may_alter(&self.book, change)?;
+        seat.may_alter(&self.book, &who, change)?;
         match self.book.refusal_of(&who, change) {
             Some(fault) => Err(Fault::from(fault)),
             None => Ok(()),
@@ -130,42 +124,40 @@ impl Hall {
     pub fn open(&mut self, who: Entity, query: Query) -> Result<u64, Fault>
         ensures served { IsServed self.old who (request.Seek query) (told_as reply.Opened result) self.new }
     {
-        let Some(place) = place_of(&self.names, &who) else {
+        let Some(seat) = self.tenants.get_mut(&who) else {
             return Err(Fault::NoTenant);
         };
-        let seat = &mut self.seats[place];
-        seat.open(self.alloc, &self.book, query)
+        seat.open(self.alloc, &mut self.book, who, query)
     }
 
     /// What the tenant's search of the number has come to.
     pub fn poll(&self, who: Entity, number: u64) -> Result<Answer, Fault>
         ensures served { IsServed self.now who (request.Poll number) (told_as reply.Answered result) self.now }
     {
-        let Some(place) = place_of(&self.names, &who) else {
-            return Err(Fault::NoTenant);
-        };
-        self.seats[place].poll(number)
+        match self.tenants.get(&who) {
+            Some(seat) => seat.poll(number),
+            None => Err(Fault::NoTenant),
+        }
     }
 
     /// Ends the tenant's search of the number. It takes no memory.
     pub fn end(&mut self, who: Entity, number: u64) -> Result<(), Fault>
         ensures served { IsServed self.old who (request.Close number) (told_as (λ u. reply.Closed) result) self.new }
     {
-        let Some(place) = place_of(&self.names, &who) else {
+        let Some(seat) = self.tenants.get_mut(&who) else {
             return Err(Fault::NoTenant);
         };
-        let seat = &mut self.seats[place];
         seat.end(number)
     }
 
     /// The credentials that the tenant issues and holds, in order.
-    pub fn vault(&self, who: Entity) -> Result<Rows, Fault>
-        ensures served { IsServed self.now who request.Vault (told_as reply.Vault result) self.now }
+    pub fn vault(&mut self, who: Entity) -> Result<Rows, Fault>
+        ensures served { IsServed self.old who request.Vault (told_as reply.Vault result) self.new }
     {
         if !self.has(who) {
             return Err(Fault::NoTenant);
         }
-        let rows = copy_of(self.alloc, self.book.vault_of(who))?;
+        let rows = self.book.copy_of_vault(who)?;
         Ok(Rows::new(rows))
     }
 
@@ -195,10 +187,9 @@ impl Hall {
         ensures { IsStepped self.old step result self.new }
     {
         let who = step.who();
-        let Some(place) = place_of(&self.names, &who) else {
+        let Some(seat) = self.tenants.get_mut(&who) else {
             return Stepped::Gone;
         };
-        let seat = &mut self.seats[place];
         seat.step(step.number(), &step)
     }
 
@@ -208,10 +199,9 @@ impl Hall {
         ensures only_memory { IfErr result (λ f. f ≡ Fault.Memory) }
         ensures unchanged { OnErr result (self.new ≡ self.old) }
     {
-        let Some(at) = place_of(&self.names, &who) else {
+        let Some(seat) = self.tenants.get_mut(&who) else {
             return Ok(None);
         };
-        let seat = &mut self.seats[at];
         Ok(seat.take(who, number, place)?)
     }
 
@@ -231,10 +221,9 @@ impl Hall {
         ensures bound { vec_len held.new ≤ vec_len held.old + most }
         ensures capacity { vec_capacity held.new ≡ vec_capacity held.old }
     {
-        let Some(at) = place_of(&self.names, &who) else {
+        let Some(seat) = self.tenants.get_mut(&who) else {
             return Ok(());
         };
-        let seat = &mut self.seats[at];
         Ok(seat.visit(who, number, most, held)?)
     }
 
@@ -260,10 +249,9 @@ impl Hall {
         ensures driven { CarriesOut self.old who (waits number) (told_as reply.Answered result) self.new }
         ensures quiet { SearchIsQuiet self.new who number }
     {
-        let Some(place) = place_of(&self.names, &who) else {
+        let Some(seat) = self.tenants.get_mut(&who) else {
             return Err(Fault::NoTenant);
         };
-        let seat = &mut self.seats[place];
         seat.drive(number)
     }
 
@@ -274,49 +262,31 @@ impl Hall {
         ensures left { IfSome result (λ step. SearchIsQuiet self.now (step_name step) (step_search step) → ⊥) }
         ensures none { (result ≡ None) ↔ NothingToDo self.now }
     {
-        let _names = &self.names;
-        pick_seat(&self.seats, turn)
+        pick_seat(self.tenants.as_slice(), turn)
     }
 
     /// The tenant's search of the number, if it has not ended.
     pub fn search(&self, who: Entity, number: u64) -> Option<&Search>
         ensures { option_copied result ≡ option_map (λ r. r.search) (search_at self.now who number) }
     {
-        let Some(place) = place_of(&self.names, &who) else {
-            return None;
-        };
-        match self.seats[place].opened(number) {
-            Some(opened) => Some(opened.search()),
+        match self.tenants.get(&who) {
+            Some(seat) => seat.search(number),
             None => None,
         }
     }
 }
 
-/// The place of the name.
-fn place_of(names: &IndexSet<Entity>, who: &Entity) -> Option<usize>
-    ensures { result ≡ position (is_same who.now) names.now.keys }
-{
-    names.get_index_of(who)
-}
-
-/// The names of the roster.
-fn names_of(alloc: Global, roster: &[(Entity, Limits)]) -> Result<IndexSet<Entity>, AllocError>
-    requires { IsDistinct is_same (map (λ row. row.0) roster.now) }
-    ensures { IfOk result (λ names. names.keys ≡ map (λ row. row.0) roster.now) }
-{
-    let mut names = IndexSet::new(alloc);
-    for (name, _limits) in roster {
-        let _is_new = names.insert(*name)?;
-    }
-    Ok(names)
-}
-
 /// A seat for each tenant of the roster.
-fn seats_of(alloc: Global, roster: Vec<(Entity, Limits)>) -> Result<Vec<Seat>, AllocError>
-    ensures { IfOk result (λ seats. seats.items ≡ map new_tenant roster.items) }
+fn seats_of(
+    alloc: Global,
+    roster: &[(Entity, Limits)],
+) -> Result<IndexMap<Entity, Seat>, AllocError>
+    requires { IsDistinct is_same (map (λ row. row.0) roster.now) }
+    ensures { IfOk result (λ seats. seats.entries ≡ map (λ row. (row.0, new_tenant row.1)) roster.now) }
 {
-    roster
-        .into_iter()
-        .map(|(name, limits)| Seat::new(alloc, name, limits))
-        .collect(alloc)
+    let mut seats = IndexMap::new(alloc);
+    for (name, limits) in roster {
+        seats.insert(*name, Seat::new(alloc, *limits))?;
+    }
+    Ok(seats)
 }

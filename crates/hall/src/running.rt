@@ -1,5 +1,6 @@
 //! What happens to a hall, one event after another.
-ghost use Rattle.std.specs.Prelude.{◌≡◌, ℕ, List, IfOk, IfErr, OnErr};
+ghost use Rattle.std.specs.Prelude.{◌≡◌, ℕ, false, List, IfOk, IfErr, OnErr};
+ghost use Rattle.vaults.specs.Journal.{revokes};
 ghost use Rattle.hall.specs.declared.calls.requests.Request.TheVariants as request;
 ghost use Rattle.hall.specs.declared.calls.replies.Reply.TheVariants as reply;
 ghost use Rattle.hall.specs.Run.{any_time, told_in, told_to, IsRunOf};
@@ -102,9 +103,10 @@ impl Hall {
     }
 }
 
-/// The same change again.
+/// The same change again. A revocation is copied without memory.
 fn same_change(change: &Change) -> Result<Change, AllocError>
-    ensures { IfOk result (λ copy. copy ≡ change.now) }
+    ensures copy { IfOk result (λ copy. copy ≡ change.now) }
+    ensures memory { OnErr result (revokes change.now ≡ false) }
 {
     Ok(match change {
         Change::Upload(credential) => Change::Upload(credential.try_clone()?),

@@ -1,8 +1,8 @@
 //! The steps of one search, and what is told of it.
 ghost use Rattle.std.specs.Prelude.{◌≡◌, ◌⊎◌, IfOk, OnErr};
-ghost use Rattle.hall.specs.halls.Account.{answer_of};
-ghost use Rattle.hall.specs.halls.Searches.{settled_of, StepsSearch, finish_answer};
-ghost use Rattle.hall.specs.halls.Kept.{ListsMembers};
+ghost use Rattle.hall.specs.Answers.{answer_of};
+ghost use Rattle.hall.specs.Steps.{settled_of, StepsSearch, finish_answer};
+ghost use Rattle.hall.specs.Kept.{ListsMembers};
 
 use crate::calls::{Answer, Step, Stepped};
 use crate::lists::Names;

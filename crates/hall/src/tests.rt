@@ -1,8 +1,9 @@
-//! Faults, lists, the laws, jobs, whole runs of events, public reading, and halls compared with the plain program.
+//! Faults, lists, the laws, jobs, whole runs of events, a linked role, public reading, and halls compared with the plain program.
 mod acts;
 mod explained;
 mod jobs;
 mod letters;
+mod linked_roles;
 mod public_reading;
 mod runs;
 mod worlds;

@@ -10,7 +10,7 @@ use Rattle.search.specs.Ending.{Settled}
 use Rattle.hall.specs.Account.{Asked, Account}
 use Rattle.hall.specs.Run.{When, any_time, at_waits, GoesOn, Between}
 use Rattle.hall.proofs.Maps.{numbers_exact, one_or_other, get_inserted, get_insert_other, get_removed, get_remove_other}
-use Rattle.hall.proofs.halls.Truths.{AreLike, like_settles}
+use Rattle.hall.proofs.Truths.{AreLike, like_settles}
 
 -- what one search has come to in the two worlds: where searches settle at waits alone, the same
 abbrev pub Like : When → ℕ → List Credential → Query → Settled → Settled → Type 0

@@ -8,7 +8,7 @@ use Rattle.hall.specs.declared.calls.requests.Request.TheVariants.{Poll}
 use Rattle.hall.specs.declared.calls.replies.Reply.{Reply}
 use Rattle.hall.specs.Run.{Deed, asks, waits}
 use Rattle.hall.specs.Hall.{Running, Tenant, HallState, search_at, beginning, IsServed, Drives, CarriesOut, new_hall}
-use Rattle.hall.proofs.halls.Stepping.{none_held_yet}
+use Rattle.hall.proofs.SearchSteps.{none_held_yet}
 use Rattle.hall.proofs.laws.HallChanges.{EachSearch, inserted_each, replaced_each, new_each, tenant_of}
 use Rattle.hall.proofs.laws.HallRequests.{opening, requested_each}
 

@@ -14,7 +14,7 @@ use Rattle.hall.specs.Run.{any_time, GoesOn, Ends}
 use Rattle.hall.specs.Hall.{Running, Tenant, HallState, seen, account, account_of, with_tenant, with_search, search_of, search_at}
 use Rattle.hall.specs.Hall.{IsSound}
 use Rattle.hall.proofs.Maps.{numbers_exact, one_or_other, get_inserted, get_insert_other, get_mapped, mapped_insert}
-use Rattle.hall.proofs.halls.Stepping.{SearchGoesOn}
+use Rattle.hall.proofs.SearchSteps.{SearchGoesOn}
 use Rattle.hall.proofs.laws.HallChanges.{changed_here, changed_elsewhere, changed_journal, tenant_of}
 use Rattle.hall.proofs.laws.HallRequests.{same_account}
 use Rattle.hall.proofs.laws.HallTurns.{goes_itself, BetweenOf, nothing_between}

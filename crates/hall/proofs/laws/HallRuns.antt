@@ -14,7 +14,7 @@ use Rattle.hall.specs.Run.{asks, Told, told_in, entered, told_to, any_time, IsRu
 use Rattle.hall.specs.Hall.{Running, HallState, account_of, search_at, AnswersTo, IsServed, StepsAt, IsStepped, step_name}
 use Rattle.hall.specs.Hall.{step_search, IsSound}
 use Rattle.hall.specs.Laws.{RunsAreAllowed}
-use Rattle.hall.proofs.halls.Stepping.{step_goes_on}
+use Rattle.hall.proofs.SearchSteps.{step_goes_on}
 use Rattle.hall.proofs.laws.HallChanges.{changed_journal}
 use Rattle.hall.proofs.laws.HallRequests.{requested_journal, requested_account}
 use Rattle.hall.proofs.laws.HallSound.{events_keep}

@@ -17,7 +17,7 @@ use Rattle.hall.specs.declared.calls.replies.Reply.TheVariants.{Opened}
 use Rattle.hall.specs.declared.calls.steps.Step.{Step}
 use Rattle.hall.specs.declared.calls.steps.Stepped.{Stepped}
 use Rattle.hall.specs.declared.calls.events.Event.TheVariants as event
-use Rattle.hall.specs.halls.Searches.{just_opened}
+use Rattle.hall.specs.Steps.{just_opened}
 use Rattle.hall.specs.Account.{Account}
 use Rattle.hall.specs.Run.{Deed, asks, waits}
 use Rattle.hall.specs.Hall.{Running, Tenant, HallState, account, account_of, with_search, search_at, beginning, hall_after}
@@ -27,8 +27,8 @@ use Rattle.hall.specs.Laws.{NewHallsAreSound, EventsKeepSoundness}
 use Rattle.hall.proofs.laws.HallChanges.{EachSearch, EachOf, changed_journal, inserted_each, replaced_each, new_each}
 use Rattle.hall.proofs.laws.HallSteps.{drives_on}
 use Rattle.hall.proofs.laws.HallRequests.{opening, requested_journal, requested_each, entered_more, opened_next}
-use Rattle.hall.proofs.halls.Truths.{settles_twice}
-use Rattle.hall.proofs.halls.Stepping.{SearchGoesOn, step_goes_on, nothing_yet}
+use Rattle.hall.proofs.Truths.{settles_twice}
+use Rattle.hall.proofs.SearchSteps.{SearchGoesOn, step_goes_on, nothing_yet}
 
 -- what holds of a tenant's search in a hall of this journal
 abbrev SoundIn : List Entry → List ℕ → Tenant → ℕ → Running → Type 0
@@ -128,7 +128,7 @@ goes_sound h name k r s sound at goes =
     (replaced_each (SoundIn h.journal) h name k r (record r { search = s }) (λ t m j u here. here) at
     (λ t here. (here.0, here.1, search_goes h.journal name t.limits r s goes here.2)) sound)
 
-stepped_sound : (old new : HallState) (made : Step) (answer : Stepped) → IsSound old → IsStepped old made answer new → IsSound new
+pub stepped_sound : (old new : HallState) (made : Step) (answer : Stepped) → IsSound old → IsStepped old made answer new → IsSound new
 stepped_sound old new made answer sound = by (search_at old (step_name made) (step_search made)) refl
   where
     by : (o : Option Running) → search_at old (step_name made) (step_search made) ≡ o → StepsAt old o made answer new →

@@ -6,8 +6,8 @@ use Rattle.search.specs.declared.queries.Query.{Query}
 use Rattle.search.specs.Ending.{Settled, MaySettle}
 use Rattle.search.specs.Search.{SearchState, SameQuestion, settled_of}
 use Rattle.search.specs.Driven.{DriveStep, a_signal, a_letter, Makes, MakesEach, IsDriven}
-use Rattle.hall.proofs.halls.Truths.{settles_twice}
-use Rattle.hall.proofs.halls.Stepping.{SearchGoesOn, staged, finish_keeps}
+use Rattle.hall.proofs.Truths.{settles_twice}
+use Rattle.hall.proofs.SearchSteps.{SearchGoesOn, staged, finish_keeps}
 
 -- what a search may come to depends on its question alone
 settles_from : (old new : SearchState) (a b : Settled) → SameQuestion old new →

@@ -11,7 +11,7 @@ use Rattle.hall.specs.Account.{Asked, Account}
 use Rattle.hall.specs.Answers.{sight}
 use Rattle.hall.specs.Run.{Deed, request_of, Told, Turn, turn_of, When, any_time, at_waits}
 use Rattle.hall.specs.Run.{GoesOn, Between, IsTaken, IsRun, IsRunOf}
-use Rattle.hall.proofs.halls.Truths.{settles_twice}
+use Rattle.hall.proofs.Truths.{settles_twice}
 
 pub goes_itself : (limit : ℕ) (o : Option Asked) → GoesOn limit o o
 goes_itself limit None = refl

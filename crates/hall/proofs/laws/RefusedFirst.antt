@@ -1,11 +1,7 @@
 -- A refusal that is due is told in any case.
-use Rattle.std.proofs.Common.{ℕ, List, ◌≡◌, ap, refl}
-use Rattle.hall.specs.declared.faults.Fault.{Fault}
-use Rattle.hall.specs.declared.calls.requests.Request.{Request}
-use Rattle.hall.specs.declared.calls.replies.Reply.{Reply}
+use Rattle.std.proofs.Common.{ap, refl}
 use Rattle.hall.specs.declared.calls.replies.Reply.TheVariants.{Refused}
-use Rattle.hall.specs.Account.{Account}
-use Rattle.hall.specs.Answers.{Sight, Refuses, Answers, refuses, grants, lacks}
+use Rattle.hall.specs.Answers.{refuses, grants, lacks}
 use Rattle.hall.specs.Laws.{RefusalsComeFirst}
 use Rattle.hall.proofs.laws.AccountReplies.{refused_once}
 

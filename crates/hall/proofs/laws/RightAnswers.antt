@@ -18,7 +18,7 @@ use Rattle.hall.specs.Account.{Asked, Account, new_account}
 use Rattle.hall.specs.Answers.{Sight, answer_of, RefusesProof, Answers, refuses, grants, lacks}
 use Rattle.hall.specs.Run.{Deed, asks, waits, request_of, Turn, When, IsTaken, IsRun}
 use Rattle.hall.specs.Laws.{OfOpening, IsRight, AnswersAreTrue}
-use Rattle.hall.proofs.halls.Truths.{came_to_end}
+use Rattle.hall.proofs.Truths.{came_to_end}
 use Rattle.hall.proofs.laws.RightOpenings.{Knows, knows_nothing, between_knows, ends_knows, taken_knows}
 
 -- what was told says what the search has come to

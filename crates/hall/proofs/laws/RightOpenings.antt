@@ -20,7 +20,7 @@ use Rattle.hall.specs.Answers.{Sight, Grants, opened as with_opened, Answers, re
 use Rattle.hall.specs.Run.{Deed, asks, waits, Turn, When, any_time, at_waits, GoesOn, Between, Ends, IsTaken}
 use Rattle.hall.specs.Laws.{opens}
 use Rattle.hall.proofs.Maps.{numbers_exact, one_or_other, get_inserted, get_insert_other, get_removed, get_remove_other}
-use Rattle.hall.proofs.halls.Truths.{settles_twice}
+use Rattle.hall.proofs.Truths.{settles_twice}
 
 -- among these turns the search got its number once, for its query and over its view; and it has come to nothing yet or to an end
 pub record WasOpened (limit : ℕ) (before : List Turn) (k : ℕ) (s : Asked) : Type 0 where

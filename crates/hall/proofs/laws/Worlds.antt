@@ -15,7 +15,7 @@ use Rattle.hall.specs.Answers.{Sight, answer_of, Answers, refuses, grants, lacks
 use Rattle.hall.specs.Run.{Deed, asks, waits, Turn, told_to, When, at_waits, Ends, IsTaken, IsRun, IsRunOf}
 use Rattle.hall.specs.Laws.{Agree, same, HasMemory, IsSameDeed, TwoWorlds, ScriptsAreIsolated}
 use Rattle.hall.proofs.Maps.{numbers_exact, get_inserted}
-use Rattle.hall.proofs.halls.Truths.{AreLike, settles_twice, came_to_end, ending_unique}
+use Rattle.hall.proofs.Truths.{AreLike, settles_twice, came_to_end, ending_unique}
 use Rattle.hall.proofs.laws.AccountsAlike.{like_from_same, weakly_like, BothHave, neither, both, both_inserted, AreAlike, alike_itself, other_work, between_alike}
 use Rattle.hall.proofs.laws.AccountReplies.{IsWhole, replies_agree}
 

@@ -1,8 +1,12 @@
-use Rattle.std.proofs.Common.{take}
-use Rattle.std.specs.List.{AllByRecursion}
-use Rattle.hall.specs.halls.Calls.{IsStill}
+use Rattle.hall.specs.Hall.{Running}
+use Rattle.hall.specs.Kept.{AreQuiet}
+use Rattle.std.specs.List.{Contains}
+use Rattle.std.specs.Prelude.{ℕ}
 use Rattle.hall.proofs.picking.first_search.Given as goal
 
--- nothing of the searches so far waits or is under way
-abbrev pub invariant-loop-opened : goal.invariant-loop-opened
-invariant-loop-opened l = AllByRecursion IsStill (take l.opened-index l.searches)
+-- the searches that are left are some of all, and the others are quiet
+abbrev pub invariant-loop-number : goal.invariant-loop-number
+invariant-loop-number l = record {
+  quiet : AreQuiet l.number-iterator → AreQuiet l.fn.searches;
+  among : (e : ℕ × Running) → Contains l.number-iterator e → Contains l.fn.searches e;
+}

@@ -1,5 +1,5 @@
 use Rattle.std.specs.Arc.{arc_value}
-use Rattle.hall.proofs.halls.Opening.{begun}
+use Rattle.hall.proofs.Opening.{begun}
 use Rattle.hall.proofs.seats.begin.Goals as goal
 
 pub returns-clause-begun : goal.returns-clause-begun

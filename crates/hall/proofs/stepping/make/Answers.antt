@@ -1,5 +1,5 @@
 use Rattle.std.proofs.Common.{true, sym, subst, refl}
-use Rattle.hall.specs.halls.Searches.{StepsSearch}
+use Rattle.hall.specs.Steps.{StepsSearch}
 use Rattle.hall.specs.declared.calls.steps.Step.{Step}
 use Rattle.search.specs.Stage.{Delivers}
 use Rattle.hall.proofs.stepping.make.Goals as goal

@@ -1,5 +1,5 @@
 use Rattle.std.proofs.Common.{◌∙◌, sym}
-use Rattle.hall.proofs.halls.Telling.{completed}
+use Rattle.hall.proofs.Telling.{completed}
 use Rattle.hall.proofs.stepping.told_of.Goals as goal
 
 pub members-requires : goal.members-requires

@@ -1,54 +1,65 @@
-use Rattle.std.proofs.Common.{◌≡◌, ◌∙◌, ap, subst, position, None, Err, option_map}
-use Rattle.std.specs.FinMap.{get}
+use Rattle.std.proofs.Common.{◌≡◌, Some, None, Err, ap, sym, subst}
+use Rattle.std.specs.FinMap.{get, from_entries}
 use Rattle.hall.specs.declared.calls.replies.Reply.TheVariants.{Answered, Refused}
 use Rattle.hall.specs.declared.faults.Fault.TheVariants.{NoTenant, NoSuchSearch}
 use Rattle.hall.specs.Run.{waits}
-use Rattle.hall.specs.Hall.{HallState, CarriesOut, told_as, search_of}
+use Rattle.hall.specs.Hall.{HallState, CarriesOut, IsSound, told_as, search_of}
 use Rattle.hall.specs.Visits.{SearchIsQuiet}
-use Rattle.hall.specs.halls.State as lists
-use Rattle.hall.specs.halls.Holder.{is_number}
-use Rattle.hall.specs.halls.Kept.{DrivesTo}
-use Rattle.hall.specs.halls.Mapped.{tenant_of, state_of}
-use Rattle.hall.proofs.bridge.Found.{tenant_mapped}
-use Rattle.hall.proofs.bridge.Drive.{none_quiet, nobody_driven, carried, carried_quiet}
-use Rattle.hall.proofs.halls.Seated.{nowhere, stands, after, kept}
-use Rattle.hall.proofs.halls.Going.{went_named}
-use Rattle.hall.proofs.halls.Carrying.{drive_sound}
+use Rattle.hall.specs.Kept.{DrivesTo}
+use Rattle.hall.proofs.Placed.{put, went_on, tenant_at, tenant_put, table_left}
+use Rattle.hall.proofs.Carrying.{none_quiet, nobody_driven, drives_as, drives_quiet}
+use Rattle.hall.proofs.laws.HallSound.{carried_sound}
 use Rattle.hall.proofs.registry.Hall.drive.Goals as goal
-
-pub returns-in_default-clause-driven : goal.returns-in_default-clause-driven
-returns-in_default-clause-driven c =
-    let h : lists.HallState = record { journal = c.self.inside.book; tenants = c.self.inside.seats.items } in
-    let none = nowhere c.args.who c.self.inside.names.keys h.tenants c.self.invariant.in_place c.in_default.ensures in
-    let nobody : get (state_of h).tenants c.args.who ≡ None = tenant_mapped h c.args.who ∙ ap (option_map (λ (t : lists.Tenant). tenant_of t.holder)) none in
-    subst (λ (g : HallState). CarriesOut g c.args.who (waits c.args.number) (Refused NoTenant) g) c.self.view_is (nobody_driven (state_of h) c.args.who c.args.number nobody)
-
-pub returns-in_default-clause-quiet : goal.returns-in_default-clause-quiet
-returns-in_default-clause-quiet c =
-    let h : lists.HallState = record { journal = c.self.inside.book; tenants = c.self.inside.seats.items } in
-    let none = nowhere c.args.who c.self.inside.names.keys h.tenants c.self.invariant.in_place c.in_default.ensures in
-    let nobody : get (state_of h).tenants c.args.who ≡ None = tenant_mapped h c.args.who ∙ ap (option_map (λ (t : lists.Tenant). tenant_of t.holder)) none in
-    subst (λ (g : HallState). SearchIsQuiet g c.args.who c.args.number) c.self.view_is (none_quiet (state_of h) c.args.who c.args.number (ap (search_of c.args.number) nobody))
 
 pub invariant_of-self : goal.invariant_of-self
 invariant_of-self c =
-    let h : lists.HallState = record { journal = c.self.inside.book; tenants = c.self.inside.seats.items } in
-    let here = stands c.args.who c.self.inside.names.keys h.tenants c.self.invariant.in_place c.in-Some.place c.index_mut-seat.result.now c.in-Some.ensures c.index_mut-seat.ensures.value in
-    kept h c.args.who c.in-Some.place c.index_mut-seat.result.now c.drive.new.self here c.self.inside.names.keys c.self.invariant
-    (went_named (λ s u. DrivesTo s c.drive.result u) c.index_mut-seat.result.now c.drive.new.self (position (is_number c.args.number) c.index_mut-seat.result.now.holder.searches)
-    (c.drive.result ≡ Err NoSuchSearch) c.drive.ensures)
-    (drive_sound h c.args.who c.args.number c.in-Some.place c.index_mut-seat.result.now here c.drive.result c.drive.new.self c.self.invariant.sound c.drive.ensures)
+    subst IsSound (sym (table_left c.self.inside.book c.self.inside.tenants _ c.get_mut.follows.holds-at-none)) c.self.invariant
+
+pub returns-in_default-clause-driven : goal.returns-in_default-clause-driven
+returns-in_default-clause-driven c =
+    let h : HallState = record { journal = c.self.inside.book; tenants = from_entries c.self.inside.tenants.entries } in
+    let nobody : get h.tenants c.args.who ≡ None = tenant_at c.self.inside.tenants.entries c.args.who _ c.in_default.ensures.value in
+    let stays = table_left c.self.inside.book c.self.inside.tenants _ c.get_mut.follows.holds-at-none in
+    rw (← c.self.view_is) (subst (CarriesOut h c.args.who (waits c.args.number) (Refused NoTenant)) (sym stays) (nobody_driven h c.args.who c.args.number nobody))
+
+pub returns-in_default-clause-quiet : goal.returns-in_default-clause-quiet
+returns-in_default-clause-quiet c =
+    let h : HallState = record { journal = c.self.inside.book; tenants = from_entries c.self.inside.tenants.entries } in
+    let nobody : get h.tenants c.args.who ≡ None = tenant_at c.self.inside.tenants.entries c.args.who _ c.in_default.ensures.value in
+    let stays = table_left c.self.inside.book c.self.inside.tenants _ c.get_mut.follows.holds-at-none in
+    subst (λ (g : HallState). SearchIsQuiet g c.args.who c.args.number) (sym stays) (none_quiet h c.args.who c.args.number (ap (search_of c.args.number) nobody))
+
+pub invariant_of-self-2 : goal.invariant_of-self-2
+invariant_of-self-2 c =
+    let h : HallState = record { journal = c.self.inside.book; tenants = from_entries c.self.inside.tenants.entries } in
+    let here : get h.tenants c.args.who ≡ Some c.in-Some.seat.now = tenant_at c.self.inside.tenants.entries c.args.who _ c.in-Some.ensures.value in
+    let after =
+    tenant_put c.self.inside.book c.self.inside.tenants (c.get_mut.follows.lender c.drive.new.self) c.args.who c.in-Some.seat.now c.drive.new.self c.in-Some.ensures.value
+    (c.get_mut.follows.holds c.drive.new.self) in
+    subst IsSound (sym after)
+    (carried_sound h (put h c.args.who c.drive.new.self) c.args.who (waits c.args.number) (told_as Answered c.drive.result) c.self.invariant
+    (drives_as h c.args.who c.args.number (put h c.args.who c.drive.new.self) c.in-Some.seat.now here c.drive.result
+    (went_on h c.args.who c.in-Some.seat.now c.drive.new.self here c.args.number (c.drive.result ≡ Err NoSuchSearch) (λ s t. DrivesTo s c.drive.result t) c.drive.ensures)))
 
 pub returns-clause-driven : goal.returns-clause-driven
 returns-clause-driven c =
-    let h : lists.HallState = record { journal = c.self.inside.book; tenants = c.self.inside.seats.items } in
-    let here = stands c.args.who c.self.inside.names.keys h.tenants c.self.invariant.in_place c.in-Some.place c.index_mut-seat.result.now c.in-Some.ensures c.index_mut-seat.ensures.value in
-    let new = after h c.args.who c.in-Some.place c.index_mut-seat.result.now c.drive.new.self here in
-    subst (λ (o : HallState). CarriesOut o c.args.who (waits c.args.number) (told_as Answered c.drive.result) (state_of new)) c.self.view_is
-    (carried h c.args.who c.args.number c.in-Some.place c.index_mut-seat.result.now here c.self.invariant.sound c.drive.result c.drive.new.self c.drive.ensures)
+    let h : HallState = record { journal = c.self.inside.book; tenants = from_entries c.self.inside.tenants.entries } in
+    let here : get h.tenants c.args.who ≡ Some c.in-Some.seat.now = tenant_at c.self.inside.tenants.entries c.args.who _ c.in-Some.ensures.value in
+    let after =
+    tenant_put c.self.inside.book c.self.inside.tenants (c.get_mut.follows.lender c.drive.new.self) c.args.who c.in-Some.seat.now c.drive.new.self c.in-Some.ensures.value
+    (c.get_mut.follows.holds c.drive.new.self) in
+    rw (← c.self.view_is)
+    (subst (CarriesOut h c.args.who (waits c.args.number) (told_as Answered c.drive.result)) (sym after)
+    (drives_as h c.args.who c.args.number (put h c.args.who c.drive.new.self) c.in-Some.seat.now here c.drive.result
+    (went_on h c.args.who c.in-Some.seat.now c.drive.new.self here c.args.number (c.drive.result ≡ Err NoSuchSearch) (λ s t. DrivesTo s c.drive.result t) c.drive.ensures)))
 
 pub returns-clause-quiet : goal.returns-clause-quiet
 returns-clause-quiet c =
-    let h : lists.HallState = record { journal = c.self.inside.book; tenants = c.self.inside.seats.items } in
-    let here = stands c.args.who c.self.inside.names.keys h.tenants c.self.invariant.in_place c.in-Some.place c.index_mut-seat.result.now c.in-Some.ensures c.index_mut-seat.ensures.value in
-    carried_quiet h c.args.who c.args.number c.in-Some.place c.index_mut-seat.result.now here c.self.invariant.sound c.drive.result c.drive.new.self c.drive.ensures
+    let h : HallState = record { journal = c.self.inside.book; tenants = from_entries c.self.inside.tenants.entries } in
+    let here : get h.tenants c.args.who ≡ Some c.in-Some.seat.now = tenant_at c.self.inside.tenants.entries c.args.who _ c.in-Some.ensures.value in
+    let after =
+    tenant_put c.self.inside.book c.self.inside.tenants (c.get_mut.follows.lender c.drive.new.self) c.args.who c.in-Some.seat.now c.drive.new.self c.in-Some.ensures.value
+    (c.get_mut.follows.holds c.drive.new.self) in
+    subst (λ (g : HallState). SearchIsQuiet g c.args.who c.args.number) (sym after)
+    (drives_quiet h c.args.who c.args.number (put h c.args.who c.drive.new.self) c.drive.result
+    (went_on h c.args.who c.in-Some.seat.now c.drive.new.self here c.args.number (c.drive.result ≡ Err NoSuchSearch) (λ s t. DrivesTo s c.drive.result t) c.drive.ensures))

@@ -1,38 +1,45 @@
-use Rattle.std.proofs.Common.{subst}
+use Rattle.std.proofs.Common.{◌≡◌, Some, None, sym, subst}
+use Rattle.std.specs.FinMap.{get, from_entries}
 use Rattle.hall.specs.declared.calls.requests.Request.TheVariants.{Close}
 use Rattle.hall.specs.declared.calls.replies.Reply.TheVariants.{Closed, Refused}
 use Rattle.hall.specs.declared.faults.Fault.TheVariants.{NoTenant}
-use Rattle.hall.specs.Hall.{HallState, IsServed, told_as}
-use Rattle.hall.specs.halls.State as lists
-use Rattle.hall.specs.halls.Mapped.{state_of}
-use Rattle.hall.proofs.halls.Sound.{served_sound}
-use Rattle.hall.proofs.halls.Seated.{nowhere, stands, after, kept}
-use Rattle.hall.proofs.halls.Closing.{close_served, close_named}
-use Rattle.hall.proofs.bridge.Calls.{nobody_served, close_mapped}
+use Rattle.hall.specs.Hall.{HallState, IsServed, IsSound, told_as}
+use Rattle.hall.proofs.Polled.{nobody_refused}
+use Rattle.hall.proofs.Placed.{put, tenant_at, tenant_put, table_left}
+use Rattle.hall.proofs.Seeking.{ended}
+use Rattle.hall.proofs.laws.HallSound.{served_sound}
 use Rattle.hall.proofs.registry.Hall.end.Goals as goal
-
-pub returns-in_default : goal.returns-in_default
-returns-in_default c =
-    let h : lists.HallState = record { journal = c.self.inside.book; tenants = c.self.inside.seats.items } in
-    let none = nowhere c.args.who c.self.inside.names.keys h.tenants c.self.invariant.in_place c.in_default.ensures in
-    record { served = subst (λ (g : HallState). IsServed g c.args.who (Close c.args.number) (Refused NoTenant) g) c.self.view_is (nobody_served h c.args.who (Close c.args.number) none) }
 
 pub invariant_of-self : goal.invariant_of-self
 invariant_of-self c =
-    let h : lists.HallState = record { journal = c.self.inside.book; tenants = c.self.inside.seats.items } in
-    let here = stands c.args.who c.self.inside.names.keys h.tenants c.self.invariant.in_place c.in-Some.place c.index_mut-seat.result.now c.in-Some.ensures c.index_mut-seat.ensures.value in
-    kept h c.args.who c.in-Some.place c.index_mut-seat.result.now c.end.new.self here c.self.inside.names.keys c.self.invariant
-    (close_named h c.args.who c.args.number c.in-Some.place c.index_mut-seat.result.now here c.end.result c.end.new.self c.end.ensures.ended c.end.ensures.unchanged)
-    (served_sound h _ c.args.who (Close c.args.number) (told_as (λ u. Closed) c.end.result) c.self.invariant.sound
-    (close_served h c.args.who c.args.number c.in-Some.place c.index_mut-seat.result.now here c.self.invariant.sound c.end.result c.end.new.self
-    c.end.ensures.found c.end.ensures.ended c.end.ensures.refused c.end.ensures.unchanged))
+    subst IsSound (sym (table_left c.self.inside.book c.self.inside.tenants _ c.get_mut.follows.holds-at-none)) c.self.invariant
+
+pub returns-in_default : goal.returns-in_default
+returns-in_default c =
+    let h : HallState = record { journal = c.self.inside.book; tenants = from_entries c.self.inside.tenants.entries } in
+    let nobody : get h.tenants c.args.who ≡ None = tenant_at c.self.inside.tenants.entries c.args.who _ c.in_default.ensures.value in
+    let stays = table_left c.self.inside.book c.self.inside.tenants _ c.get_mut.follows.holds-at-none in
+    rw (← c.self.view_is) record { served = subst (IsServed h c.args.who (Close c.args.number) (Refused NoTenant)) (sym stays) (nobody_refused h c.args.who (Close c.args.number) nobody) }
+
+pub invariant_of-self-2 : goal.invariant_of-self-2
+invariant_of-self-2 c =
+    let h : HallState = record { journal = c.self.inside.book; tenants = from_entries c.self.inside.tenants.entries } in
+    let here : get h.tenants c.args.who ≡ Some c.in-Some.seat.now = tenant_at c.self.inside.tenants.entries c.args.who _ c.in-Some.ensures.value in
+    let after =
+    tenant_put c.self.inside.book c.self.inside.tenants (c.get_mut.follows.lender c.end.new.self) c.args.who c.in-Some.seat.now c.end.new.self c.in-Some.ensures.value
+    (c.get_mut.follows.holds c.end.new.self) in
+    subst IsSound (sym after)
+    (served_sound h (put h c.args.who c.end.new.self) c.args.who (Close c.args.number) (told_as (λ done. Closed) c.end.result) c.self.invariant
+    (ended h c.args.who c.in-Some.seat.now c.end.new.self here c.args.number c.end.result c.end.ensures.found c.end.ensures.ended c.end.ensures.refused c.end.ensures.unchanged))
 
 pub returns : goal.returns
 returns c =
-    let h : lists.HallState = record { journal = c.self.inside.book; tenants = c.self.inside.seats.items } in
-    let here = stands c.args.who c.self.inside.names.keys h.tenants c.self.invariant.in_place c.in-Some.place c.index_mut-seat.result.now c.in-Some.ensures c.index_mut-seat.ensures.value in
-    record {
-      served = subst (λ (o : HallState). IsServed o c.args.who (Close c.args.number) (told_as (λ u. Closed) c.end.result) (state_of (after h c.args.who c.in-Some.place c.index_mut-seat.result.now c.end.new.self here))) c.self.view_is
-          (close_mapped h c.args.who c.args.number c.in-Some.place c.index_mut-seat.result.now here c.self.invariant.sound c.end.result c.end.new.self
-          c.end.ensures.found c.end.ensures.ended c.end.ensures.refused c.end.ensures.unchanged);
+    let h : HallState = record { journal = c.self.inside.book; tenants = from_entries c.self.inside.tenants.entries } in
+    let here : get h.tenants c.args.who ≡ Some c.in-Some.seat.now = tenant_at c.self.inside.tenants.entries c.args.who _ c.in-Some.ensures.value in
+    let after =
+    tenant_put c.self.inside.book c.self.inside.tenants (c.get_mut.follows.lender c.end.new.self) c.args.who c.in-Some.seat.now c.end.new.self c.in-Some.ensures.value
+    (c.get_mut.follows.holds c.end.new.self) in
+    rw (← c.self.view_is) record {
+      served = subst (IsServed h c.args.who (Close c.args.number) (told_as (λ done. Closed) c.end.result)) (sym after)
+          (ended h c.args.who c.in-Some.seat.now c.end.new.self here c.args.number c.end.result c.end.ensures.found c.end.ensures.ended c.end.ensures.refused c.end.ensures.unchanged);
     }

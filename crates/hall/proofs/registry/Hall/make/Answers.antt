@@ -1,15 +1,18 @@
-use Rattle.std.proofs.Common.{◌∙◌, ℕ, List, map, ap}
+use Rattle.std.proofs.Common.{◌≡◌, ◌∙◌, ℕ, List, map, ap, sym, subst}
+use Rattle.std.specs.FinMap.{from_entries}
 use Rattle.quotas.specs.Quota.{Quota}
-use Rattle.hall.specs.halls.Mapped.{state_of}
-use Rattle.hall.proofs.halls.Making.{distinct_for, hall_for, kept_for}
-use Rattle.hall.proofs.bridge.State.{new_mapped}
+use Rattle.hall.specs.Hall.{HallState, IsSound, new_tenant, new_hall}
+use Rattle.hall.proofs.laws.HallSound.{new_sound}
 use Rattle.hall.proofs.registry.Hall.make.Goals as goal
 
 pub invariant_of-result : goal.invariant_of-result
 invariant_of-result c =
-    kept_for c.new-book.result c.in_ok-names.names.keys c.in_ok-seats.seats.items c.args.roster.items (distinct_for c.args.roster.items c.requires) c.new-book.ensures
-    (c.in_ok-names.ensures ∙ ap (map (λ (row : List ℕ × Quota). row.0)) c.deref.ensures.value) c.in_ok-seats.ensures
+    let seated = c.in_ok-tenants.ensures ∙ ap (map (λ (row : List ℕ × Quota). (row.0, new_tenant row.1))) c.deref.ensures.value in
+    let h : HallState = record { journal = c.new-book.result; tenants = from_entries c.in_ok-tenants.tenants.entries } in
+    let is : h ≡ new_hall c.args.roster.items = λ i. record { journal = c.new-book.ensures i; tenants = from_entries (seated i) } in
+    subst IsSound (sym is) (new_sound c.args.roster.items)
 
 pub returns-clause-hall : goal.returns-clause-hall
 returns-clause-hall c =
-    ap state_of (hall_for c.new-book.result c.in_ok-seats.seats.items c.args.roster.items c.new-book.ensures c.in_ok-seats.ensures) ∙ new_mapped c.args.roster.items
+    let seated = c.in_ok-tenants.ensures ∙ ap (map (λ (row : List ℕ × Quota). (row.0, new_tenant row.1))) c.deref.ensures.value in
+    λ i. record { journal = c.new-book.ensures i; tenants = from_entries (seated i) }

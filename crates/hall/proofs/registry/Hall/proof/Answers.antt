@@ -1,6 +1,6 @@
 use Rattle.std.proofs.Common.{◌∙◌, sym}
 use Rattle.std.proofs.lemmas.Result.{err_from_is_err_and}
-use Rattle.hall.proofs.bridge.Viewed.{nothing_proved, proof_told, proof_refused}
+use Rattle.hall.proofs.Viewed.{nothing_proved, proof_told, proof_refused}
 use Rattle.hall.proofs.registry.Hall.proof.Goals as goal
 
 pub returns-in_default : goal.returns-in_default

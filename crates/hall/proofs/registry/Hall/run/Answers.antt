@@ -1,6 +1,6 @@
 use Rattle.std.proofs.Common.{◌+◌, List, sym, subst, arith}
 use Rattle.hall.specs.declared.calls.replies.Reply.{Reply}
-use Rattle.hall.proofs.halls.Running.{RunsSoFar, runs_more, all_ran}
+use Rattle.hall.proofs.Runs.{RunsSoFar, runs_more, all_ran}
 use Rattle.hall.proofs.laws.HallRuns.{runs_allowed}
 use Rattle.hall.proofs.registry.Hall.run.Goals as goal
 

@@ -1,5 +1,5 @@
 use Rattle.std.proofs.Common.{◌≤◌, length, vec_capacity}
-use Rattle.hall.proofs.halls.Running.{RunsSoFar}
+use Rattle.hall.proofs.Runs.{RunsSoFar}
 use Rattle.hall.proofs.registry.Hall.run.Given as goal
 
 -- the events so far have happened, each has its reply, and there is room for those of the others

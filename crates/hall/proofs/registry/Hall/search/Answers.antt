@@ -1,34 +1,20 @@
-use Rattle.std.proofs.Common.{◌∙◌, ap, sym, option_map, Some, Option}
-use Rattle.hall.specs.Hall.{Running, HallState, search_at}
-use Rattle.hall.specs.halls.Holder.{Numbered}
-use Rattle.hall.specs.halls.State as lists
-use Rattle.hall.proofs.halls.Seated.{nowhere, stands}
-use Rattle.hall.proofs.bridge.Found.{search_mapped}
+use Rattle.std.proofs.Common.{◌≡◌, ◌∙◌, Some, None, ap, sym, option_map, Option}
+use Rattle.std.specs.FinMap.{get, from_entries}
+use Rattle.hall.specs.Hall.{Running, Tenant, HallState, search_of, search_at}
+use Rattle.hall.proofs.Placed.{tenant_at}
 use Rattle.hall.proofs.registry.Hall.search.Goals as goal
 
-pub returns-in_default : goal.returns-in_default
-returns-in_default c =
-    let h : lists.HallState = record { journal = c.self.inside.book; tenants = c.self.inside.seats.items } in
-    let none = nowhere c.args.who c.self.inside.names.keys h.tenants c.self.invariant.in_place c.in_default.ensures in
-    ap (λ (o : Option lists.Tenant). option_map (λ (r : Running). r.search) (lists.running_of c.args.number o)) (sym none)
-    ∙ ap (option_map (λ (r : Running). r.search)) (sym (search_mapped h c.args.who c.args.number))
-    ∙ ap (λ (o : HallState). option_map (λ (r : Running). r.search) (search_at o c.args.who c.args.number)) c.self.view_is
-
-pub returns-in-Some-opened : goal.returns-in-Some-opened
-returns-in-Some-opened c =
-    let h : lists.HallState = record { journal = c.self.inside.book; tenants = c.self.inside.seats.items } in
-    let here = stands c.args.who c.self.inside.names.keys h.tenants c.self.invariant.in_place c.in-Some.place c.index.result.now c.in-Some.ensures c.index.ensures in
-    ap Some c.search.ensures
-    ∙ ap (λ (o : Option (Numbered Running)). option_map (λ (r : Running). r.search) (option_map (λ (s : Numbered Running). s.of) o)) c.in-Some-opened.ensures
-    ∙ ap (λ (o : Option lists.Tenant). option_map (λ (r : Running). r.search) (lists.running_of c.args.number o)) (sym here.found)
-    ∙ ap (option_map (λ (r : Running). r.search)) (sym (search_mapped h c.args.who c.args.number))
-    ∙ ap (λ (o : HallState). option_map (λ (r : Running). r.search) (search_at o c.args.who c.args.number)) c.self.view_is
+pub returns-in-Some : goal.returns-in-Some
+returns-in-Some c =
+    let h : HallState = record { journal = c.self.inside.book; tenants = from_entries c.self.inside.tenants.entries } in
+    let here : get h.tenants c.args.who ≡ Some c.in-Some.seat.now = tenant_at c.self.inside.tenants.entries c.args.who _ c.in-Some.ensures.value in
+    c.search.ensures
+    ∙ ap (λ (o : Option Tenant). option_map (λ (r : Running). r.search) (search_of c.args.number o)) (sym here)
+    ∙ ap (λ (g : HallState). option_map (λ (r : Running). r.search) (search_at g c.args.who c.args.number)) c.self.view_is
 
 pub returns-in-None : goal.returns-in-None
 returns-in-None c =
-    let h : lists.HallState = record { journal = c.self.inside.book; tenants = c.self.inside.seats.items } in
-    let here = stands c.args.who c.self.inside.names.keys h.tenants c.self.invariant.in_place c.in-Some.place c.index.result.now c.in-Some.ensures c.index.ensures in
-    ap (λ (o : Option (Numbered Running)). option_map (λ (r : Running). r.search) (option_map (λ (s : Numbered Running). s.of) o)) c.in-None.ensures
-    ∙ ap (λ (o : Option lists.Tenant). option_map (λ (r : Running). r.search) (lists.running_of c.args.number o)) (sym here.found)
-    ∙ ap (option_map (λ (r : Running). r.search)) (sym (search_mapped h c.args.who c.args.number))
-    ∙ ap (λ (o : HallState). option_map (λ (r : Running). r.search) (search_at o c.args.who c.args.number)) c.self.view_is
+    let h : HallState = record { journal = c.self.inside.book; tenants = from_entries c.self.inside.tenants.entries } in
+    let nobody : get h.tenants c.args.who ≡ None = tenant_at c.self.inside.tenants.entries c.args.who _ c.in-None.ensures.value in
+    ap (λ (o : Option Tenant). option_map (λ (r : Running). r.search) (search_of c.args.number o)) (sym nobody)
+    ∙ ap (λ (g : HallState). option_map (λ (r : Running). r.search) (search_at g c.args.who c.args.number)) c.self.view_is

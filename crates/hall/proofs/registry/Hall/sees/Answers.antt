@@ -3,7 +3,7 @@ use Rattle.std.proofs.lemmas.Result.{err_from_is_err_and}
 use Rattle.vaults.specs.declared.changes.Entry.{Entry}
 use Rattle.vaults.specs.Journal.{marked_names}
 use Rattle.hall.specs.Hall.{HallState}
-use Rattle.hall.proofs.bridge.Viewed.{names_told, names_lack}
+use Rattle.hall.proofs.Viewed.{names_told, names_lack}
 use Rattle.hall.proofs.registry.Hall.sees.Goals as goal
 
 pub returns-in_err-seen : goal.returns-in_err-seen

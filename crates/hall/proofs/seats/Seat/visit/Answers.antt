@@ -1,20 +1,20 @@
-use Rattle.std.proofs.Common.{◌≡◌, subst, refl, position, set, ℕ}
-use Rattle.std.specs.Option.{MatchOption}
-use Rattle.search.specs.Search.{SearchState}
-use Rattle.hall.specs.halls.Holder.{is_number}
-use Rattle.hall.specs.halls.State.{Tenant}
-use Rattle.hall.specs.halls.Kept.{GoesAt, Visits, with_search}
-use Rattle.hall.proofs.halls.Going.{goes_at, number_at}
+use Rattle.std.proofs.Common.{◌∙◌, sym, ap, refl, Some}
+use Rattle.hall.specs.Hall.{Running}
+use Rattle.hall.specs.Kept.{Visits}
+use Rattle.hall.proofs.Seated.{tenant_of, not_there, went_on}
 use Rattle.hall.proofs.seats.Seat.visit.Goals as goal
+
+pub returns-in_default-clause-visited : goal.returns-in_default-clause-visited
+returns-in_default-clause-visited c =
+    let s = c.self.inside in
+    rw (← c.self.view_is)
+    (not_there s.searches c.args.number _ _ (sym c.in_default.ensures.value) (refl, ap (tenant_of s.limits s.opens) c.get_mut.follows.holds-at-none))
 
 pub returns-clause-visited : goal.returns-clause-visited
 returns-clause-visited c =
-    let old : Tenant = record { name = c.self.inside.name; holder = record { limits = c.self.inside.limits; opens = c.self.inside.opens; searches = c.self.inside.searches.items } } in
-    let new : Tenant = record old { holder = record old.holder { searches = set c.self.inside.searches.items c.in-Some.at c.visit.new.self } } in
-    subst (λ (t : Tenant). MatchOption (position (is_number c.args.number) t.holder.searches) ((c.visit.new.held.items ≡ c.args.held.now.items) × (new ≡ t))
-    (λ i. GoesAt (λ s u. Visits c.args.who c.args.number c.args.most c.args.held.now.items c.visit.new.held.items c.visit.result s u) i t new)) c.self.view_is
-    (goes_at ((c.visit.new.held.items ≡ c.args.held.now.items) × (new ≡ old)) (λ s u. Visits c.args.who c.args.number c.args.most c.args.held.now.items c.visit.new.held.items c.visit.result s u) c.args.number c.deref.result.now old new
-    c.in-Some.at c.index_mut-opened.result.now c.visit.new.self c.deref.ensures.value c.in-Some.ensures c.index_mut-opened.ensures.value
-    (subst (λ (n : ℕ). (x : SearchState) × Visits c.args.who n c.args.most c.args.held.now.items c.visit.new.held.items c.visit.result c.index_mut-opened.result.now.of.search x × (c.visit.new.self ≡ with_search x c.index_mut-opened.result.now))
-    (number_at c.args.number c.deref.result.now c.self.inside.searches.items c.in-Some.at c.index_mut-opened.result.now c.deref.ensures.value c.in-Some.ensures c.index_mut-opened.ensures.value)
-    c.visit.ensures.visited) refl)
+    let s = c.self.inside in
+    let was : Running = record { opened_at = c.opened.inside.opened_at; search = c.opened.inside.search } in
+    let is : Running = record { opened_at = c.opened.inside.opened_at; search = c.visit.new.search } in
+    rw (← c.self.view_is)
+    (went_on s.searches c.args.number _ s.limits s.opens (c.get_mut.follows.lender is) (λ s t. Visits c.args.who c.args.number c.args.most c.args.held.now.items c.visit.new.held.items c.visit.result s t)
+    was c.visit.new.search (sym c.in-Some.ensures.value ∙ ap Some (sym c.opened.view_is)) c.visit.ensures.visited (c.get_mut.follows.holds is))

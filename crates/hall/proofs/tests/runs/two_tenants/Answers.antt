@@ -1,5 +1,5 @@
 use Rattle.std.proofs.Common.{rules}
-use Rattle.hall.proofs.halls.Making.{apart_distinct}
+use Rattle.hall.proofs.Distinct.{apart_distinct}
 use Rattle.hall.proofs.tests.runs.two_tenants.Goals as goal
 
 pub make-requires : goal.make-requires

@@ -1,0 +1,92 @@
+-- Finite maps as tables of entries hold them: what the calls of a table do to the map that it stands for.
+use Rattle.std.proofs.Common.{◌≡◌, ◌∙◌, Bool, true, false, cond, ◌+◌, List, [], ◌∷◌, length, Option, Some, None, is_some, sym, ap, refl, subst, arith}
+use Rattle.std.specs.declared.cmp.Ordering.{Ordering}
+use Rattle.std.specs.Ordering.{eq_by_cmp}
+use Rattle.std.specs.FinMap.{get, insert, remove, len, from_entries, find, get-from_entries, get-insert, get-remove, len-empty, len-insert}
+use Rattle.std.specs.List.{AllByRecursion, IsDistinct, Contains}
+use Rattle.std.specs.Map.{keys_of, lookup}
+use Rattle.std.specs.Cmp.{IsEquivalence}
+use Rattle.std.proofs.lemmas.Cmp.{eq_by_cmp_equiv}
+use Rattle.std.proofs.lemmas.Option.{slice_get-get_or}
+use Rattle.std.proofs.lemmas.Map.Entries.{lookup_from_place}
+use Rattle.std.proofs.lemmas.Map.Keys.{IsDistinct-head, IsDistinct-tail}
+use Rattle.indexmap.specs.IndexMap.{IndexMap, Updates, WritesThrough}
+use Rattle.indexmap.specs.IndexMap as table
+use Rattle.vaults.proofs.Elements.{IsExactOrder, same_from_tied, tied_both_ways}
+use Rattle.hall.proofs.Maps.{same_answers}
+
+-- what a table calls equal, its order ties
+abbrev pub Agrees : {K : Type 0} → (K → K → Ordering) → (K → K → Bool) → Type 0
+Agrees {K} R eq = (a b : K) → eq_by_cmp R a b ≡ eq a b
+
+module _ {K : Type 0} {R : K → K → Ordering} (o : IsExactOrder R) (eq : K → K → Bool) (agree : Agrees R eq) where
+  -- a key has what the table finds
+  pub looked_up : {X : Type 0} (es : List (K × X)) (k : K) → get (from_entries {R = R} es) k ≡ lookup (eq k) es
+  looked_up {X} es k = get-from_entries o.total es k ∙ by es
+    where
+      by : (fs : List (K × X)) → find R k fs ≡ lookup (eq k) fs
+      by [] = refl
+      by (f ∷ fs) = λ i. cond (agree k f.0 i) (Some f.1) (by fs i)
+
+  turned : (k q : K) → eq k q ≡ eq_by_cmp R q k
+  turned k q = sym (agree k q) ∙ tied_both_ways o k q
+
+  module _ {X S : Type 0} (m n : IndexMap K X S) (k : K) where
+    -- an entry that is put in is inserted
+    pub inserted : (v : X) → Updates eq m n k (Some v) → from_entries {R = R} n.entries ≡ insert (from_entries m.entries) k v
+    inserted v updates =
+        same_answers o _ _
+        (λ q. looked_up n.entries q ∙ updates.0 q ∙ (λ i. cond (turned k q i) (Some v) (sym (looked_up m.entries q) i))
+        ∙ sym (get-insert o.total (from_entries m.entries) k v q))
+
+    -- an entry that is taken out is removed
+    pub removed : Updates eq m n k None → from_entries {R = R} n.entries ≡ remove (from_entries m.entries) k
+    removed updates =
+        same_answers o _ _
+        (λ q. looked_up n.entries q ∙ updates.0 q ∙ (λ i. cond (turned k q i) None (sym (looked_up m.entries q) i))
+        ∙ sym (get-remove o.total (from_entries m.entries) k q))
+
+    -- a value that is written through a loan of an entry is inserted
+    pub written : (v w : X) → table.get eq m k ≡ Some v → WritesThrough eq (eq k) m w n →
+        from_entries {R = R} n.entries ≡ insert (from_entries m.entries) k w
+    written v w there writes = inserted w (writes.3 (ap is_some there))
+
+  equivalence : IsEquivalence eq
+  equivalence = subst IsEquivalence (λ i a b. agree a b i) (eq_by_cmp_equiv o.total)
+
+  -- an entry of distinct keys is the one of its key
+  pub at_key : {X : Type 0} (es : List (K × X)) (e : K × X) → IsDistinct eq (keys_of es) → Contains es e →
+      get (from_entries {R = R} es) e.0 ≡ Some e.1
+  at_key es e distinct there =
+      looked_up es e.0
+      ∙ lookup_from_place equivalence es there.0 e.0 e.1 distinct (slice_get-get_or es there.0 e there.1 ∙ ap (λ x. Some x) there.2)
+
+  -- what holds of each entry holds of what a key has
+  pub all_found : {X : Type 0} (P : K × X → Type 0) (es : List (K × X)) → AllByRecursion P es → (k : K) (v : X) →
+      get (from_entries {R = R} es) k ≡ Some v → P (k, v)
+  all_found {X} P es all k v there = by es all (sym (looked_up es k) ∙ there)
+    where
+      at : (f : K × X) (found : Option X) → P f → (found ≡ Some v → P (k, v)) → (b : Bool) → eq k f.0 ≡ b → cond b (Some f.1) found ≡ Some v → P (k, v)
+      at f found holds later true same is =
+          let key : f.0 ≡ k = sym (same_from_tied o k f.0 (agree k f.0 ∙ same)) in
+          let value : f.1 ≡ v = cc in
+          subst P (λ i. (key i, value i)) holds
+      at f found holds later false other is = later is
+
+      by : (fs : List (K × X)) → AllByRecursion P fs → lookup (eq k) fs ≡ Some v → P (k, v)
+      by [] all is = cc
+      by (f ∷ fs) all is = at f (lookup (eq k) fs) all.0 (by fs all.1) (eq k f.0) refl is
+
+  absent : {X : Type 0} (k : K) (es : List (K × X)) → AllByRecursion (λ y. eq k y ≡ false) (keys_of es) → lookup (eq k) es ≡ None
+  absent k [] apart = refl
+  absent k (e ∷ es) apart = ap (λ b. cond b (Some e.1) (lookup (eq k) es)) apart.0 ∙ absent k es apart.1
+
+  -- the map of distinct keys is as long as the table
+  pub counted : {X : Type 0} (es : List (K × X)) → IsDistinct eq (keys_of es) → len (from_entries {R = R} es) ≡ length es
+  counted {X} [] distinct = len-empty R X
+  counted {X} (e ∷ es) distinct =
+      let rest : len (from_entries {R = R} es) ≡ length es = counted es (IsDistinct-tail eq e.0 (keys_of es) distinct) in
+      let new : is_some (get (from_entries {R = R} es) e.0) ≡ false =
+      ap is_some (looked_up es e.0 ∙ absent e.0 es (IsDistinct-head eq e.0 (keys_of es) distinct)) in
+      len-insert o.total (from_entries es) e.0 e.1
+      ∙ ap (λ b. cond b (len (from_entries {R = R} es)) (len (from_entries {R = R} es) + 1)) new ∙ omega arith

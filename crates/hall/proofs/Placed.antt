@@ -1,0 +1,117 @@
+-- A hall where a tenant became another one, and where one of its searches goes on.
+use Rattle.std.proofs.Common.{◌≡◌, ◌∙◌, ℕ, List, ap, sym, refl, subst, subst₂, Option, Some, None, option_map}
+use Rattle.std.specs.Option.{MatchOption}
+use Rattle.std.specs.Ordering.{nat_cmp}
+use Rattle.std.specs.FinMap.{FinMap, get, insert, from_entries}
+use Rattle.std.specs.Map.{lookup}
+use Rattle.names.specs.Name.{name_order, is_same}
+use Rattle.names.proofs.SameNames.{is_same_tied}
+use Rattle.indexmap.specs.IndexMap.{IndexMap, WritesThrough}
+use Rattle.indexmap.specs.IndexMap as table
+use Rattle.vaults.specs.declared.changes.Entry.{Entry}
+use Rattle.vaults.specs.Journal.{marked_view}
+use Rattle.vaults.proofs.Orders.{names_exact}
+use Rattle.search.specs.Search.{SearchState}
+use Rattle.hall.specs.declared.calls.requests.Request.{Request}
+use Rattle.hall.specs.declared.calls.replies.Reply.{Reply}
+use Rattle.hall.specs.Account.{Account}
+use Rattle.hall.specs.Answers.{sight, Answers}
+use Rattle.hall.specs.Hall.{Running, Tenant, HallState, account, changed_by, with_tenant, with_search, search_of, search_at, hall_after, AnswersTo, IsServed}
+use Rattle.hall.specs.Kept.{GoesOn}
+use Rattle.hall.proofs.Indexed.{looked_up, written}
+use Rattle.hall.proofs.Maps.{numbers_exact, get_inserted, insert_again, insert_twice}
+use Rattle.hall.proofs.laws.HallChanges.{changed_here, tenant_of}
+
+-- the tenant of that name is this one
+abbrev pub put : HallState → List ℕ → Tenant → HallState
+put h who t = record h { tenants = insert h.tenants who t }
+
+module _ (h : HallState) (who : List ℕ) (t u : Tenant) (here : get h.tenants who ≡ Some t) where
+  pub put_changed : (change : Tenant → Tenant) → u ≡ change t → put h who u ≡ with_tenant h who change
+  put_changed change is = ap (put h who) is ∙ sym (ap (changed_by h who change) here)
+
+  -- a tenant that is as it was changes nothing
+  pub put_again : u ≡ t → put h who u ≡ h
+  put_again is =
+      ap (λ (m : FinMap name_order Tenant). record h { tenants = m })
+      (ap (insert h.tenants who) is ∙ insert_again names_exact h.tenants who t here)
+
+  -- a request that is answered by the tenant's account
+  pub served_as : (q : Request) (told : Reply) →
+      Answers who (sight (marked_view h.journal who) q) (account h.journal who t) q told (account h.journal who u) →
+      put h who u ≡ hall_after h who q told → IsServed h who q told (put h who u)
+  served_as q told answers after = record {
+    answers = subst₂ (λ (o p : Option Account). AnswersTo h who o q told p)
+        (sym (ap (option_map (account h.journal who)) here))
+        (sym (ap (option_map (account h.journal who)) (get_inserted names_exact h.tenants who u)))
+        (account h.journal who u, refl, answers);
+    after = after;
+  }
+
+  -- where a search of the tenant goes on, it does in the hall
+  pub went_on : (k : ℕ) (A : Type 0) (goes : SearchState → SearchState → Type 0) →
+      MatchOption (get t.searches k) (A × (u ≡ t)) (GoesOn goes k t u) →
+      MatchOption (search_at h who k) (A × (put h who u ≡ h))
+      (λ r. (s : SearchState) × goes r.search s × (put h who u ≡ with_search h who k (record r { search = s })))
+  went_on k A goes does =
+      subst
+      (λ (o : Option Running).
+      MatchOption o (A × (put h who u ≡ h))
+      (λ r. (s : SearchState) × goes r.search s × (put h who u ≡ with_search h who k (record r { search = s }))))
+      (sym (ap (search_of k) here)) (by (get t.searches k) does)
+    where
+      by : (o : Option Running) → MatchOption o (A × (u ≡ t)) (GoesOn goes k t u) →
+          MatchOption o (A × (put h who u ≡ h))
+          (λ r. (s : SearchState) × goes r.search s × (put h who u ≡ with_search h who k (record r { search = s })))
+      by None (a, is) = (a, put_again is)
+      by (Some r) (s, does, is) =
+          (s, does, put_changed (λ v. record v { searches = insert v.searches k (record r { search = s }) }) is)
+
+module _ (h : HallState) (who : List ℕ) (k : ℕ) (r : Running) (at : search_at h who k ≡ Some r) where
+  -- the search that goes on is found as it went on
+  pub found_after : (q : Running) → search_at (with_search h who k q) who k ≡ Some q
+  found_after q =
+      let (t, found, there) = tenant_of h who k r at in
+      ap (search_of k) (changed_here h who (λ v. record v { searches = insert v.searches k q }) t found)
+      ∙ get_inserted numbers_exact t.searches k q
+
+  -- a search that is put back as it was changes nothing
+  pub put_back : with_search h who k r ≡ h
+  put_back =
+      let (t, found, there) = tenant_of h who k r at in
+      sym (put_changed h who t (record t { searches = insert t.searches k r }) found (λ v. record v { searches = insert v.searches k r }) refl)
+      ∙ put_again h who t (record t { searches = insert t.searches k r }) found
+      (ap (λ (m : FinMap nat_cmp Running). record t { searches = m }) (insert_again numbers_exact t.searches k r there))
+
+  -- of two searches that are put there the later stays
+  pub put_twice : (p q : Running) → with_search (with_search h who k p) who k q ≡ with_search h who k q
+  put_twice p q =
+      let (t, found, there) = tenant_of h who k r at in
+      let first : Tenant = record t { searches = insert t.searches k p } in
+      let both : Tenant = record t { searches = insert (insert t.searches k p) k q } in
+      let last : Tenant = record t { searches = insert t.searches k q } in
+      ap (λ (g : HallState). with_search g who k q) (sym (put_changed h who t first found (λ v. record v { searches = insert v.searches k p }) refl))
+      ∙ sym (put_changed (put h who first) who first both (get_inserted names_exact h.tenants who first) (λ v. record v { searches = insert v.searches k q }) refl)
+      ∙ ap (λ (m : FinMap name_order Tenant). record h { tenants = m }) (insert_twice names_exact h.tenants who first both)
+      ∙ ap (put h who) (ap (λ (m : FinMap nat_cmp Running). record t { searches = m }) (insert_twice numbers_exact t.searches k p q))
+      ∙ put_changed h who t last found (λ v. record v { searches = insert v.searches k q }) refl
+
+-- a tenant of a table of entries
+pub tenant_at : (es : List (List ℕ × Tenant)) (who : List ℕ) (o : Option Tenant) → o ≡ lookup (is_same who) es → get (from_entries {R = name_order} es) who ≡ o
+tenant_at es who o is = looked_up names_exact is_same is_same_tied es who ∙ sym is
+
+-- a tenant of the table that is written to is put in its place
+pub tenant_put : {S : Type 0} (journal : List Entry) (m n : IndexMap (List ℕ) Tenant S) (who : List ℕ) (t u : Tenant) → Some t ≡ table.get is_same m who →
+    WritesThrough is_same (is_same who) m u n →
+    record { journal = journal; tenants = from_entries n.entries } ≡ put (record { journal = journal; tenants = from_entries m.entries }) who u
+tenant_put journal m n who t u found writes =
+    ap (λ (x : FinMap name_order Tenant). record { journal = journal; tenants = x })
+    (written names_exact is_same is_same_tied m n who t u (sym found) writes)
+
+abbrev pub hall_of : {S : Type 0} → List Entry → IndexMap (List ℕ) Tenant S → HallState
+hall_of journal m = record { journal = journal; tenants = from_entries m.entries }
+
+-- a table that was left as it was
+pub table_left : {S : Type 0} (journal : List Entry) (m n : IndexMap (List ℕ) Tenant S) → n ≡ m →
+    ◌≡◌ {A = HallState} (record { journal = journal; tenants = from_entries n.entries }) (record { journal = journal; tenants = from_entries m.entries })
+table_left {S} journal m n same = ap (λ (x : IndexMap (List ℕ) Tenant S). hall_of journal x) same

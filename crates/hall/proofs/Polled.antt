@@ -1,0 +1,74 @@
+-- A poll, and a name that is no tenant's, answered by an account.
+use Rattle.std.proofs.Common.{◌≡◌, ◌∙◌, ℕ, List, ap, sym, refl, subst, Option, Some, None, option_map, Result, Ok, Err}
+use Rattle.std.specs.FinMap.{get}
+use Rattle.std.specs.Option.{MatchOption}
+use Rattle.search.specs.Search.{settled_of}
+use Rattle.hall.specs.declared.faults.Fault.{Fault}
+use Rattle.hall.specs.declared.faults.Fault.TheVariants.{NoTenant, NoSuchSearch, Memory}
+use Rattle.hall.specs.declared.calls.requests.Request.{Request}
+use Rattle.hall.specs.declared.calls.requests.Request.TheVariants as request
+use Rattle.hall.specs.declared.calls.answers.Answer.{Answer}
+use Rattle.hall.specs.declared.calls.replies.Reply.{Reply}
+use Rattle.hall.specs.declared.calls.replies.Reply.TheVariants.{Answered, Refused}
+use Rattle.vaults.specs.Journal.{marked_view}
+use Rattle.hall.specs.Account.{Account}
+use Rattle.hall.specs.Answers.{sight, Answers, refuses, grants, lacks}
+use Rattle.hall.specs.Hall.{Running, Tenant, HallState, seen, account, hall_after, AnswersTo, IsServed, told_as}
+use Rattle.hall.specs.Kept.{IsToldOf}
+use Rattle.hall.proofs.Maps.{numbers_exact, get_mapped}
+
+-- a refusal changes nothing
+pub refused_after : (h : HallState) (who : List ℕ) (q : Request) (f : Fault) → hall_after h who q (Refused f) ≡ h
+refused_after h who (request.Alter change) f = refl
+refused_after h who (request.Seek query) f = refl
+refused_after h who (request.Poll k) f = refl
+refused_after h who (request.Close k) f = refl
+refused_after h who request.Vault f = refl
+refused_after h who request.Sees f = refl
+refused_after h who (request.Proof k member) f = refl
+
+-- a name that is no tenant's is refused
+pub nobody_refused : (h : HallState) (who : List ℕ) (q : Request) → get h.tenants who ≡ None → IsServed h who q (Refused NoTenant) h
+nobody_refused h who q none = record {
+  answers = subst (λ (o : Option Account). AnswersTo h who o q (Refused NoTenant) o) (sym (ap (option_map (account h.journal who)) none)) (refl, refl);
+  after = sym (refused_after h who q NoTenant);
+}
+
+-- a request that changes nothing, answered by the tenant's account
+pub answered_by : (h : HallState) (who : List ℕ) (t : Tenant) → get h.tenants who ≡ Some t → (q : Request) (told : Reply) →
+    Answers who (sight (marked_view h.journal who) q) (account h.journal who t) q told (account h.journal who t) → hall_after h who q told ≡ h → IsServed h who q told h
+answered_by h who t here q told answers after = record {
+  answers = subst (λ (o : Option Account). AnswersTo h who o q told o) (sym (ap (option_map (account h.journal who)) here)) (account h.journal who t, refl, answers);
+  after = sym after;
+}
+
+module _ (h : HallState) (who : List ℕ) (k : ℕ) (t : Tenant) (here : get h.tenants who ≡ Some t) where
+  asked_there : (r : Running) → get t.searches k ≡ Some r → get (account h.journal who t).searches k ≡ Some (seen r)
+  asked_there r at = get_mapped numbers_exact seen t.searches k ∙ ap (option_map seen) at
+
+  pub polled_nowhere : get t.searches k ≡ None → IsServed h who (request.Poll k) (Refused NoSuchSearch) h
+  polled_nowhere none =
+      answered_by h who t here (request.Poll k) (Refused NoSuchSearch) (refuses NoSuchSearch (get_mapped numbers_exact seen t.searches k ∙ ap (option_map seen) none, refl)) refl
+
+  pub polled_there : (r : Running) → get t.searches k ≡ Some r → (told : Result Answer Fault) → IsToldOf (settled_of r.search) told →
+      IsServed h who (request.Poll k) (told_as Answered told) h
+  polled_there r at (Ok answer) is =
+      answered_by h who t here (request.Poll k) (Answered answer) (grants (λ f due. clear due.0) (seen r, asked_there r at, ap Answered is, refl)) refl
+    where
+      clear : get (account h.journal who t).searches k ≡ None → ⊥
+      clear none = let clash : Some (seen r) ≡ None = sym (asked_there r at) ∙ none in cc
+  polled_there r at (Err f) (is, (names, lists)) =
+      subst (λ (g : Fault). IsServed h who (request.Poll k) (Refused g) h) (sym is)
+      (answered_by h who t here (request.Poll k) (Refused Memory) (lacks (λ f due. clear due.0) (seen r, names, asked_there r at, lists)) refl)
+    where
+      clear : get (account h.journal who t).searches k ≡ None → ⊥
+      clear none = let clash : Some (seen r) ≡ None = sym (asked_there r at) ∙ none in cc
+
+  pub polled : (told : Result Answer Fault) → MatchOption (get t.searches k) (told ≡ Err NoSuchSearch) (λ r. IsToldOf (settled_of r.search) told) →
+      IsServed h who (request.Poll k) (told_as Answered told) h
+  polled told is = by (get t.searches k) refl is
+    where
+      by : (o : Option Running) → get t.searches k ≡ o → MatchOption o (told ≡ Err NoSuchSearch) (λ r. IsToldOf (settled_of r.search) told) →
+          IsServed h who (request.Poll k) (told_as Answered told) h
+      by None none is = subst (λ (q : Result Answer Fault). IsServed h who (request.Poll k) (told_as Answered q) h) (sym is) (polled_nowhere none)
+      by (Some r) at is = polled_there r at told is

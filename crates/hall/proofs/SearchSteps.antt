@@ -1,0 +1,82 @@
+-- A step of a search goes on with one question, and what is known of a search just opened.
+use Rattle.std.proofs.Common.{refl, ◌+◌, ◌==◌, ℕ, Bool, true, false, cond, List, [], ◌∷◌, ◌≡◌, ap, Option, Some, None, ne_eqb, arith}
+use Rattle.vaults.specs.Journal.{Vault, credentials}
+use Rattle.search.specs.declared.queries.Query.{Query}
+use Rattle.search.specs.declared.queries.Hint.{Hint}
+use Rattle.search.specs.declared.queries.Need.{Need}
+use Rattle.search.specs.declared.outcomes.Finished.{Finished}
+use Rattle.search.specs.declared.outcomes.Finished.TheVariants as finished
+use Rattle.scholten_core.specs.Computation.{outstanding}
+use Rattle.scholten_core.specs.Step.{started}
+use Rattle.credential_text.specs.declared.exprs.Expr.TheVariants.{Rol}
+use Rattle.search.specs.declared.letters.Load.TheVariants as load
+use Rattle.search.specs.declared.stages.Stage.{Stage}
+use Rattle.search.specs.Ending.{Settled, Nothing, MaySettle, asked_role}
+use Rattle.search.specs.Found.{found}
+use Rattle.search.specs.Search.{SearchState, SameQuestion, settled_of}
+use Rattle.search.specs.Quiet.{NoneHeld}
+use Rattle.search.specs.Finish.{Finishes}
+use Rattle.search.specs.Stage.{if_held}
+use Rattle.scholten_core.specs.declared.parents.Parent.TheVariants.{Environment}
+use Rattle.hall.specs.declared.calls.steps.Step.{Step}
+use Rattle.hall.specs.declared.calls.steps.Step.TheVariants as step
+use Rattle.hall.specs.declared.calls.steps.Stepped.{Stepped}
+use Rattle.hall.specs.Steps.{just_opened, TakesAt, PutsBack, IsMade, StepsSearch}
+
+-- the search goes on with its question, and may settle
+pub record SearchGoesOn (old new : SearchState) : Type 0 where
+  pub question : SameQuestion old new
+  pub settles : MaySettle old.work (credentials old.snapshot.vaults) old.query (settled_of old) (settled_of new)
+
+-- another stage is no other question
+pub staged : (old new : SearchState) (at : Stage) → new ≡ record old { stage = at } → SameQuestion old new
+staged old new at is = record {
+  query = ap (λ (s : SearchState). s.query) is;
+  work = ap (λ (s : SearchState). s.work) is;
+  snapshot = ap (λ (s : SearchState). s.snapshot) is;
+}
+
+pub finish_keeps : (old new : SearchState) (letter : ℕ) (hint : Hint) (f : Finished) → Finishes old new letter hint f → SameQuestion old new
+finish_keeps old new letter hint finished.NotHeld finishes = staged old new old.stage finishes.1
+finish_keeps old new letter hint finished.BadHint (l, need, held, needs, wrong, is) = staged old new _ is
+finish_keeps old new letter hint finished.Done (l, rightly, received, question) = question
+finish_keeps old new letter hint finished.Spent (l, rightly, exceeds, spent, question) = question
+finish_keeps old new letter hint finished.Broken (l, rightly, broken, question) = question
+
+made_keeps : (old new : SearchState) (made : Step) (answer : Stepped) → IsMade old made answer new → SameQuestion old new
+made_keeps old new (step.Take name k place) answer (got, takes, is) = by got takes
+  where
+    by : (got : Option (ℕ × Need)) → TakesAt old place got new → SameQuestion old new
+    by None takes = staged old new old.stage takes.1
+    by (Some g) takes = staged old new _ takes.after
+made_keeps old new (step.GiveBack name k letter) answer (back, puts, is) = by back puts
+  where
+    by : (back : Bool) → PutsBack old letter back new → SameQuestion old new
+    by false puts = staged old new old.stage puts.1
+    by true puts = staged old new _ puts.1
+made_keeps old new (step.Finish name k letter hint) answer (f, finishes, is) = finish_keeps old new letter hint f finishes
+made_keeps old new (step.Signal name k place) answer (delivered, signals, is) = signals.question
+
+pub step_goes_on : (old new : SearchState) (made : Step) (answer : Stepped) → StepsSearch old made answer new → SearchGoesOn old new
+step_goes_on old new made answer steps = record { question = made_keeps old new made answer steps.is_made; settles = steps.settles }
+
+-- the first letter is outstanding
+first_waits : outstanding (started 0 load.Start) ≡ 0 → ⊥
+first_waits none = omega (arith, none)
+
+-- a search just opened has come to nothing
+pub nothing_yet : (asker : List ℕ) (v : List Vault) (q : Query) (work : ℕ) → settled_of (just_opened asker v q work) ≡ Nothing
+unfolding settled_of just_opened
+nothing_yet asker v q work = ap (λ (b : Bool). cond b (come q) Nothing) (ne_eqb (outstanding (started 0 load.Start)) 0 first_waits)
+  where
+    come : Query → Settled
+    come q = found (record { nodes = Rol (asked_role q) ∷ []; listeners = [] ∷ []; solutions = [] }) q
+
+-- and none of its letters is held
+pub none_held_yet : (asker : List ℕ) (v : List Vault) (q : Query) (work : ℕ) → NoneHeld (just_opened asker v q work).stage
+unfolding just_opened
+none_held_yet asker v q work number = by (0 + 1 == number)
+  where
+    by : (b : Bool) → if_held (cond b (Some (record { from = Environment; to = 0; held = false; load = load.Start })) None) ≡ None
+    by true = refl
+    by false = refl

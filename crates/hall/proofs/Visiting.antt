@@ -1,0 +1,117 @@
+-- Steps that one search makes in a row are steps of the hall.
+use Rattle.std.proofs.Common.{◌≡◌, ◌∙◌, ◌≤◌, ℕ, List, [], subst, sym, refl, ap, Option, Some, Result, Ok, Err, inl, inr, true, arith}
+use Rattle.std.specs.Result.{IsErr}
+use Rattle.std.proofs.lemmas.List.{append-nil}
+use Rattle.search.specs.Search.{SearchState}
+use Rattle.search.specs.Quiet.{IsQuiet}
+use Rattle.search.specs.Driven.{SignalsFirst}
+use Rattle.hall.specs.declared.calls.steps.Step.TheVariants.{Take, Signal}
+use Rattle.hall.specs.declared.calls.steps.Stepped.TheVariants as stepped
+use Rattle.hall.specs.Hall.{Running, HallState, search_at, with_search, StepsAt, IsStepped, IsSound}
+use Rattle.hall.specs.Visits.{TakenLetter, IsTaken, IsWorkedOn, IsWhole, IsVisited, SearchIsQuiet}
+use Rattle.hall.specs.Kept.{TakesAs, WorksOn, Visits}
+use Rattle.hall.proofs.Placed.{found_after, put_back, put_twice}
+use Rattle.hall.proofs.Carrying.{Moves, moved, none_quiet}
+use Rattle.hall.proofs.laws.HallSound.{stepped_sound}
+
+-- with nothing left to do a visit was whole
+nothing_left : {E : Type 0} (most n : ℕ) (quiet : Type 0) (result : Result (Unit {0}) E) → quiet → IsWhole most n quiet result
+nothing_left most n quiet (Ok done) left = inr left
+nothing_left most n quiet (Err lacked) left = tt
+
+whole_by : {E : Type 0} (most n : ℕ) (P Q : Type 0) (result : Result (Unit {0}) E) → (P → Q) → IsWhole most n P result → IsWhole most n Q result
+whole_by most n P Q (Ok done) by (inl all) = inl all
+whole_by most n P Q (Ok done) by (inr left) = inr (by left)
+whole_by most n P Q (Err lacked) by whole = tt
+
+-- nobody did anything, where nothing of the search is left to do
+pub no_visit : {E : Type 0} (who : List ℕ) (k most : ℕ) (held : List TakenLetter) (h : HallState) (result : Result (Unit {0}) E) → SearchIsQuiet h who k →
+    IsVisited who k most h held result h held
+no_visit who k most held h result quiet =
+    let within : 0 ≤ most = omega arith in (0, [], within, IsWorkedOn.nothing, sym (append-nil held), nothing_left most 0 (SearchIsQuiet h who k) result quiet)
+
+module _ {E : Type 0} (who : List ℕ) (k most : ℕ) (old : HallState) (held : List TakenLetter) (result : Result (Unit {0}) E) (new : HallState) (holds : List TakenLetter)
+    (visited : IsVisited who k most old held result new holds) where
+  -- a visit that ended well was whole
+  pub visited_well : (F : Type 0) → result ≡ Ok tt → IsVisited {E = F} who k most old held (Ok tt) new holds
+  visited_well F well = let (n, taken, within, works, is, whole) = visited in (n, taken, within, works, is, by result well n whole)
+    where
+      by : (r : Result (Unit {0}) E) → r ≡ Ok tt → (n : ℕ) → IsWhole most n (SearchIsQuiet new who k) r → IsWhole {E = F} most n (SearchIsQuiet new who k) (Ok tt)
+      by (Ok done) is n whole = whole
+      by (Err lacked) is n whole = cc
+
+  -- where memory lacked it need not have been
+  pub visited_in_part : {F : Type 0} (told : Result (Unit {0}) F) → IsErr told → IsVisited who k most old held told new holds
+  visited_in_part (Err lacked) is = let (n, taken, within, works, same, whole) = visited in (n, taken, within, works, same, tt)
+  visited_in_part (Ok done) is = cc
+
+module _ (h : HallState) (who : List ℕ) (k : ℕ) (r : Running) (at : search_at h who k ≡ Some r) where
+  abbrev running : SearchState → Running
+  running s = record r { search = s }
+
+  abbrev hall : SearchState → HallState
+  hall s = with_search h who k (running s)
+
+  found : (s : SearchState) → search_at (hall s) who k ≡ Some (running s)
+  found s = found_after h who k r at (running s)
+
+  signalled : (s u : SearchState) → SignalsFirst s u → IsStepped (hall s) (Signal who k 0) stepped.Signalled (hall u)
+  signalled s u first =
+      subst (λ (o : Option Running). StepsAt (hall s) o (Signal who k 0) stepped.Signalled (hall u)) (sym (found s)) (
+        u,
+        record {
+          is_made = (true, record { delivers = first.delivered; graph = first.graph; monitors = first.monitors; question = first.question }, refl);
+          settles = first.settles;
+        },
+        sym (put_twice h who k r at (running s) (running u)),
+      )
+
+  taken : (job : TakenLetter) (s u : SearchState) → TakesAs who k 0 s job u → IsTaken (hall s) who k 0 (Some job) (hall u)
+  taken job s u (takes, whose, number, snapshot, settles) = (
+    stepped.Took job.letter job.need,
+    subst (λ (o : Option Running). StepsAt (hall s) o (Take who k 0) (stepped.Took job.letter job.need) (hall u)) (sym (found s))
+        (u, record { is_made = (Some (job.letter, job.need), takes, refl); settles = settles }, sym (put_twice h who k r at (running s) (running u))),
+    record { tenant = whose; search = number; took = refl; reads = (running s, found s, snapshot) },
+  )
+
+  pub worked_on : (s : SearchState) (n : ℕ) (letters : List TakenLetter) (u : SearchState) → WorksOn who k s n letters u → IsWorkedOn who k (hall s) n letters (hall u)
+  worked_on s n letters u WorksOn.nothing = IsWorkedOn.nothing
+  worked_on s n letters u (WorksOn.signal {n = m} {taken = before} {middle} works first) =
+      IsWorkedOn.signal (worked_on s m before middle works) (signalled middle u first)
+  worked_on s n letters u (WorksOn.letter {n = m} {taken = before} {job} {middle} works first) =
+      IsWorkedOn.letter (worked_on s m before middle works) (taken job middle u first)
+
+-- what is worked on stays sound
+worked_sound : (who : List ℕ) (k : ℕ) (old : HallState) (n : ℕ) (letters : List TakenLetter) (new : HallState) → IsSound old → IsWorkedOn who k old n letters new → IsSound new
+worked_sound who k old n letters new sound IsWorkedOn.nothing = sound
+worked_sound who k old n letters new sound (IsWorkedOn.signal {n = m} {taken = before} {middle} works steps) =
+    stepped_sound middle new (Signal who k 0) stepped.Signalled (worked_sound who k old m before middle sound works) steps
+worked_sound who k old n letters new sound (IsWorkedOn.letter {n = m} {taken = before} {job} {middle} works (answer, steps, is)) =
+    stepped_sound middle new (Take who k 0) answer (worked_sound who k old m before middle sound works) steps
+
+module _ {E : Type 0} (h : HallState) (who : List ℕ) (k most : ℕ) (held holds : List TakenLetter) (result : Result (Unit {0}) E) (new : HallState)
+    (moves : Moves h who k (holds ≡ held) (λ s u. Visits who k most held holds result s u) new) where
+  pub visits_as : IsVisited who k most h held result new holds
+  visits_as =
+      moved h who k new (holds ≡ held) (λ s u. Visits who k most held holds result s u) (IsVisited who k most h held result new holds) moves
+      (λ none same stays.
+      subst (λ (g : HallState). IsVisited who k most h held result g holds) (sym stays)
+      (subst (IsVisited who k most h held result h) (sym same) (no_visit who k most held h result (none_quiet h who k none))))
+      (λ r s at visits becomes.
+      let (n, within, (letters, works, is), whole) = visits in (
+        n,
+        letters,
+        within,
+        subst (IsWorkedOn who k h n letters) (sym becomes)
+            (subst (λ (g : HallState). IsWorkedOn who k g n letters (hall h who k r at s)) (put_back h who k r at) (worked_on h who k r at r.search n letters s works)),
+        is,
+        whole_by most n (IsQuiet s.stage) (SearchIsQuiet new who k) result
+            (λ quiet q found_now.
+            let now : Some (running h who k r at s) ≡ Some q = sym (found h who k r at s) ∙ ap (λ (g : HallState). search_at g who k) (sym becomes) ∙ found_now in
+            let same : running h who k r at s ≡ q = cc in
+            subst (λ (x : Running). IsQuiet x.search.stage) same quiet)
+            whole,
+      ))
+
+  pub visits_soundly : IsSound h → IsSound new
+  visits_soundly sound = worked_sound who k h visits_as.0 visits_as.1 new sound visits_as.3

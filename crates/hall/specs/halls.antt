@@ -1,9 +1,0 @@
-pub mod Searches
-pub mod Holder
-pub mod Account
-pub mod State
-pub mod Mapped
-pub mod Run
-pub mod Calls
-pub mod Visits
-pub mod Kept

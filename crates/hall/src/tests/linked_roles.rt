@@ -1,0 +1,100 @@
+//! A search through a linked role, letter by letter, and the proof of what it found.
+use super::acts::{Act, Told, first_wrong};
+use super::runs::two_tenants;
+use search::Hint;
+use snapshots::Span;
+use std::test::Fail;
+
+/// Who A.s has, says who is in A.r: the members of the role t of each of them.
+static HELD: [(Act, Told); 4] = [
+    (Act::Put("A", "A.r <- A.s.t"), Told::Counted(1)),
+    (Act::Put("A", "A.s <- A"), Told::Counted(2)),
+    (Act::Put("A", "A.t <- D"), Told::Counted(3)),
+    (Act::Ask("A", "A.r", "D"), Told::Opened(1)),
+];
+
+/// The first row of A's vault, the second, and the third.
+const FIRST: Hint = Hint::Rows(Span {
+    vault: 0,
+    lo: 0,
+    hi: 1,
+});
+
+const SECOND: Hint = Hint::Rows(Span {
+    vault: 0,
+    lo: 1,
+    hi: 2,
+});
+
+const THIRD: Hint = Hint::Rows(Span {
+    vault: 0,
+    lo: 2,
+    hi: 3,
+});
+
+/// Down to A.s, whose member is A.
+static BASE_ASKED: [(Act, Told); 8] = [
+    (Act::Take("A", 1, 0), Told::TookFor(1, "A.r")),
+    (Act::Finish("A", 1, 1, FIRST), Told::Done),
+    (Act::Take("A", 1, 0), Told::Took(2)),
+    (Act::Finish("A", 1, 2, Hint::Nothing), Told::Done),
+    (Act::Take("A", 1, 0), Told::TookFor(3, "A.s")),
+    (Act::Finish("A", 1, 3, SECOND), Told::Done),
+    (Act::Take("A", 1, 0), Told::Took(4)),
+    (Act::Finish("A", 1, 4, Hint::Nothing), Told::Done),
+];
+
+/// The linked role is told of A, and asks A.t, whose member is D.
+static LINK_ASKED: [(Act, Told); 8] = [
+    (Act::Take("A", 1, 0), Told::Took(5)),
+    (Act::Finish("A", 1, 5, Hint::Nothing), Told::Done),
+    (Act::Take("A", 1, 0), Told::Took(6)),
+    (Act::Finish("A", 1, 6, Hint::Nothing), Told::Done),
+    (Act::Take("A", 1, 0), Told::TookFor(7, "A.t")),
+    (Act::Finish("A", 1, 7, THIRD), Told::Done),
+    (Act::Take("A", 1, 0), Told::Took(8)),
+    (Act::Finish("A", 1, 8, Hint::Nothing), Told::Done),
+];
+
+/// D is told all the way up.
+static TOLD_UP: [(Act, Told); 8] = [
+    (Act::Take("A", 1, 0), Told::Took(9)),
+    (Act::Finish("A", 1, 9, Hint::Nothing), Told::Done),
+    (Act::Take("A", 1, 0), Told::Took(10)),
+    (Act::Finish("A", 1, 10, Hint::Nothing), Told::Done),
+    (Act::Take("A", 1, 0), Told::Took(11)),
+    (Act::Finish("A", 1, 11, Hint::Nothing), Told::Done),
+    (Act::Take("A", 1, 0), Told::Nothing),
+    (Act::Poll("A", 1), Told::Working),
+];
+
+/// A signal for each of the letters.
+static SIGNALLED: [(Act, Told); 11] = [(Act::Signal("A", 1, 0), Told::Signalled); 11];
+
+/// The answer, why, and the end.
+static ANSWERED: [(Act, Told); 4] = [
+    (Act::Signal("A", 1, 0), Told::Nothing),
+    (Act::Poll("A", 1), Told::Yes),
+    (Act::Proof("A", 1, "D"), Told::Proof(WHY)),
+    (Act::Close("A", 1), Told::Closed),
+];
+
+/// Why D is in A.r.
+const WHY: &str = "1 A in A by itself\n2 A in A.s by A.s <- A from 1\n3 D in D by itself\n\
+    4 D in A.t by A.t <- D from 3\n5 D in A.s.t by link from 2 4\n6 D in A.r by A.r <- A.s.t from 5\n";
+
+#[test]
+fn a_linked_role_with_its_proof(rt: HostRuntime) -> Result<(), Fail> {
+    let alloc = rt.alloc();
+    let mut hall = two_tenants(alloc)?;
+    let parts = [
+        HELD.as_slice(),
+        &BASE_ASKED,
+        &LINK_ASKED,
+        &TOLD_UP,
+        &SIGNALLED,
+        &ANSWERED,
+    ];
+    assert_eq!(rt; first_wrong(alloc, &mut hall, &parts)?, None);
+    Ok(())
+}
