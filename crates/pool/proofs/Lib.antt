@@ -1,8 +1,10 @@
+pub mod Listed
 pub mod Served
-pub mod Refused
 pub mod Polled
-pub mod Read
+pub mod Own
 pub mod Kept
 pub mod Visiting
 pub mod HandingIn
-pub mod Counted
+pub mod Joined
+pub mod Passed
+pub mod Under

@@ -2,14 +2,16 @@
 use Rattle.std.specs.Option.{IsSomeAnd}
 use Rattle.std.specs.Arc.{arc_value}
 use Rattle.std.specs.FinMap.{get}
-use Rattle.std.proofs.Common.{◌≡◌, ◌∙◌, ℕ, List, ap, sym, subst, inl, inr, Some, Option, None, option_map, refl}
+use Rattle.std.proofs.Common.{◌≡◌, ◌∙◌, ℕ, Bool, true, false, List, ap, sym, subst, inl, inr, Some, Option, None, option_map, refl, Result, Ok, Err}
 use Rattle.credential_text.specs.declared.credentials.Credential.{Credential}
 use Rattle.vaults.specs.Journal.{credentials}
-use Rattle.snapshots.specs.Snapshot.{SnapshotState}
+use Rattle.search.specs.Found.{status_of}
+use Rattle.search.specs.declared.outcomes.Status.TheVariants as status
 use Rattle.search.specs.declared.queries.Query.{Query}
 use Rattle.search.specs.Ending.{Settled, Nothing, Yes, No, Members, Spent, Broken, IsTruth, answers, spends, breaks, MaySettle}
 use Rattle.search.specs.Search.{SearchState, settled_of}
 use Rattle.hall.specs.declared.calls.answers.Answer.{Answer}
+use Rattle.hall.specs.declared.calls.answers.Answer.TheVariants.{Working}
 use Rattle.hall.specs.declared.calls.requests.Request.TheVariants.{Poll}
 use Rattle.hall.specs.declared.calls.replies.Reply.TheVariants.{Answered}
 use Rattle.hall.specs.Account.{Asked}
@@ -18,7 +20,10 @@ use Rattle.hall.specs.Hall.{Running, Tenant, HallState, search_of, search_at, se
 use Rattle.hall.proofs.Maps.{numbers_exact, get_mapped}
 use Rattle.pool.specs.declared.verdicts.Verdict.{Verdict}
 use Rattle.pool.specs.Verdicts.{IsTrueWhereCompleted}
-use Rattle.pool.specs.Told.{IsVerdictOf}
+use Rattle.pool.specs.declared.faults.DeskFault.{DeskFault}
+use Rattle.pool.specs.Passes.{PassState}
+use Rattle.pool.specs.Rooms.{RoomState}
+use Rattle.pool.specs.Served.{IsServedAt, IsVerdictOf, IsPolledAt, GoesOnWaiting, IsOverAt}
 use Rattle.pool.proofs.Served.{granted}
 
 truth_told : (C : List Credential) (q : Query) (s : Settled) → IsTruth C q s → IsTrueWhereCompleted C q (answer_of s)
@@ -36,7 +41,7 @@ ending_told limit C q s (inr (none, spends is exceeds)) = subst (λ (t : Settled
 ending_told limit C q s (inr (none, breaks is)) = subst (λ (t : Settled). IsTrueWhereCompleted C q (answer_of t)) (sym is) tt
 
 -- a search of the hall, of which an answer tells
-pub record IsPolledAt (h : HallState) (who : List ℕ) (k : ℕ) (a : Answer) (r : Running) : Type 0 where
+pub record IsToldOf (h : HallState) (who : List ℕ) (k : ℕ) (a : Answer) (r : Running) : Type 0 where
   pub there : search_at h who k ≡ Some r
   pub tells : a ≡ answer_of (settled_of r.search)
   pub asker : r.search.snapshot.asker ≡ who
@@ -44,7 +49,7 @@ pub record IsPolledAt (h : HallState) (who : List ℕ) (k : ℕ) (a : Answer) (r
 
 -- of a tenant, what its account tells of a search is what the search tells
 told_of : (h : HallState) (who : List ℕ) (t : Tenant) (k : ℕ) (a : Answer) (s : Asked) → IsSound h → get h.tenants who ≡ Some t → (o : Option Running) → get t.searches k ≡ o →
-    option_map seen o ≡ Some s → a ≡ answer_of s.settled → (r : Running) × IsPolledAt h who k a r
+    option_map seen o ≡ Some s → a ≡ answer_of s.settled → (r : Running) × IsToldOf h who k a r
 told_of h who t k a s sound tenant None at same tells = cc
 told_of h who t k a s sound tenant (Some r) at same tells =
     let is : seen r ≡ s = cc in
@@ -60,45 +65,67 @@ told_of h who t k a s sound tenant (Some r) at same tells =
       },
     )
 
-pub polled_search : (h : HallState) (who : List ℕ) (k : ℕ) (a : Answer) → IsSound h → IsServed h who (Poll k) (Answered a) h → (r : Running) × IsPolledAt h who k a r
+pub polled_search : (h : HallState) (who : List ℕ) (k : ℕ) (a : Answer) → IsSound h → IsServed h who (Poll k) (Answered a) h → (r : Running) × IsToldOf h who k a r
 polled_search h who k a sound served =
     let has = granted h h who (Poll k) (Answered a) (λ f is. cc) served in
     let told = has.gets.2 in
     let tells : a ≡ answer_of has.gets.0.settled = cc in
     told_of h who has.tenant k a has.gets.0 sound has.there (get has.tenant.searches k) refl (sym (get_mapped numbers_exact seen has.tenant.searches k) ∙ has.gets.1) tells
 
--- the search that is found is the one of which the answer tells
-polled_found : (h : HallState) (who : List ℕ) (k : ℕ) (a : Answer) (s : SearchState) → IsSound h → IsServed h who (Poll k) (Answered a) h →
-    Some s ≡ option_map (λ (r : Running). r.search) (search_at h who k) → (r : Running) × IsPolledAt h who k a r × (s ≡ r.search)
-polled_found h who k a s sound served is =
-    let found = polled_search h who k a sound served in
-    let at : Some s ≡ Some found.0.search = subst (λ (o : Option Running). Some s ≡ option_map (λ (r : Running). r.search) o) found.1.there is in
-    (found.0, found.1, cc)
+-- where a poll is served in a room, the search that is found there is the one of which the answer tells
+module _ (at : RoomState) (old new : PassState) (who : List ℕ) (h : HallState) (k : ℕ) (a : Answer) (same : h ≡ at.hall) (is_who : who ≡ old.tenant)
+    (served : IsServedAt at at old new (Poll k) (Answered a)) where
+  there : (o : Option SearchState) → o ≡ option_map (λ (r : Running). r.search) (search_at h who k) → o ≡ option_map (λ (r : Running). r.search) (search_at at.hall old.tenant k)
+  there o is =
+      subst (λ (g : HallState). o ≡ option_map (λ (r : Running). r.search) (search_at g old.tenant k)) same
+      (subst (λ (n : List ℕ). o ≡ option_map (λ (r : Running). r.search) (search_at h n k)) is_who is)
 
-module _ (h : HallState) (who : List ℕ) (k : ℕ) (a : Answer) (s : SearchState) (sound : IsSound h) (served : IsServed h who (Poll k) (Answered a) h)
-    (is : Some s ≡ option_map (λ (r : Running). r.search) (search_at h who k)) where
-  pub polled_truth : IsTrueWhereCompleted (credentials s.snapshot.vaults) s.query a
-  polled_truth =
-      let found = polled_found h who k a s sound served is in
+  found_there : (s : SearchState) → Some s ≡ option_map (λ (r : Running). r.search) (search_at h who k) → (r : Running) × IsToldOf at.hall old.tenant k a r × (s ≡ r.search)
+  found_there s is =
+      let found = polled_search at.hall old.tenant k a served.kept.sound served.served in
+      let one : Some s ≡ Some found.0.search = subst (λ (o : Option Running). Some s ≡ option_map (λ (r : Running). r.search) o) found.1.there (there (Some s) is) in
+      (found.0, found.1, cc)
+
+  pub polled_somewhere : None ≡ option_map (λ (r : Running). r.search) (search_at h who k) → ⊥
+  polled_somewhere is =
+      let found = polled_search at.hall old.tenant k a served.kept.sound served.served in
+      let none : None ≡ Some found.0.search = subst (λ (o : Option Running). None ≡ option_map (λ (r : Running). r.search) o) found.1.there (there None is) in cc
+
+  pub polled_truth : (s : SearchState) → Some s ≡ option_map (λ (r : Running). r.search) (search_at h who k) → IsTrueWhereCompleted (credentials s.snapshot.vaults) s.query a
+  polled_truth s is =
+      let found = found_there s is in
       subst (λ (t : SearchState). IsTrueWhereCompleted (credentials t.snapshot.vaults) t.query a) (sym found.2) found.1.truth
 
-  pub polled_asker : (v : Verdict) → arc_value v.snapshot ≡ s.snapshot → (arc_value v.snapshot).asker ≡ who
-  polled_asker v snapshot =
-      let found = polled_found h who k a s sound served is in
-      ap (λ (t : SnapshotState). t.asker) snapshot ∙ ap (λ (t : SearchState). t.snapshot.asker) found.2 ∙ found.1.asker
-
-  pub polled_verdict : (v : Verdict) → v.query ≡ s.query → arc_value v.snapshot ≡ s.snapshot → v.answer ≡ a → IsSomeAnd (search_at h who k) (λ r. IsVerdictOf r v)
-  polled_verdict v query snapshot answer =
-      let found = polled_found h who k a s sound served is in
-      subst (λ (o : Option Running). IsSomeAnd o (λ r. IsVerdictOf r v)) (sym found.1.there) (
-        query ∙ ap (λ (t : SearchState). t.query) found.2,
-        snapshot ∙ ap (λ (t : SearchState). t.snapshot) found.2,
-        answer ∙ found.1.tells,
+  pub polled_verdict : (s : SearchState) → Some s ≡ option_map (λ (r : Running). r.search) (search_at h who k) → (v : Verdict) → v.query ≡ s.query → arc_value v.snapshot ≡ s.snapshot → v.answer ≡ a →
+      IsPolledAt at old new k (Ok v)
+  polled_verdict s is v query snapshot answer =
+      let found = found_there s is in (
+        subst (λ (b : Answer). IsServedAt at at old new (Poll k) (Answered b)) (sym answer) served,
+        subst (λ (o : Option Running). IsSomeAnd o (λ r. IsVerdictOf r v)) (sym found.1.there) (
+          query ∙ ap (λ (t : SearchState). t.query) found.2,
+          snapshot ∙ ap (λ (t : SearchState). t.snapshot) found.2,
+          answer ∙ found.1.tells,
+        ),
       )
 
--- and one is found
-pub polled_somewhere : (h : HallState) (who : List ℕ) (k : ℕ) (a : Answer) → IsSound h → IsServed h who (Poll k) (Answered a) h →
-    None ≡ option_map (λ (r : Running). r.search) (search_at h who k) → ⊥
-polled_somewhere h who k a sound served is =
-    let found = polled_search h who k a sound served in
-    let at : None ≡ Some found.0.search = subst (λ (o : Option Running). None ≡ option_map (λ (r : Running). r.search) o) found.1.there is in cc
+-- nothing yet is told of a search at work
+at_work : (s : Settled) → answer_of s ≡ Working → status_of s ≡ status.Working
+at_work Nothing is = refl
+at_work Yes is = cc
+at_work No is = cc
+at_work (Members names) is = cc
+at_work Spent is = cc
+at_work Broken is = cc
+
+works_on : (o : Option Running) (v : Verdict) → IsSomeAnd o (λ r. IsVerdictOf r v) → v.answer ≡ Working → IsSomeAnd o (λ r. status_of (settled_of r.search) ≡ status.Working)
+works_on None v told working = told
+works_on (Some r) v told working = at_work (settled_of r.search) (sym told.2 ∙ working)
+
+-- where a wait is over a poll tells nothing yet only after a stop
+pub over_told : (at : RoomState) (old new : PassState) (k : ℕ) (result : Result Verdict DeskFault) → (GoesOnWaiting at old.tenant k old.front → ⊥) → IsPolledAt at old new k result → IsOverAt at result
+over_told at old new k (Err fault) over polled = tt
+over_told at old new k (Ok v) over polled = λ working. by working at.stopped refl
+  where
+    by : v.answer ≡ Working → (b : Bool) → at.stopped ≡ b → at.stopped ≡ true
+    by working true is = is
+    by working false is = absurd (over (is, polled.0.seen, works_on (search_at at.hall old.tenant k) v polled.1 working))

@@ -2,5 +2,7 @@ pub mod Passes
 pub mod Rooms
 pub mod Refusals
 pub mod Verdicts
-pub mod Told
+pub mod Served
+pub mod Laws
 pub mod Visits
+pub mod Workers

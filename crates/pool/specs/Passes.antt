@@ -12,10 +12,6 @@ pub record PassState : Type 0 where
 abbrev pub IsSeenAt : ℕ → PassState → PassState → Type 0
 IsSeenAt length old new = (old.front ≤ length) × (new ≡ record old { front = length })
 
--- of the pass nothing but its front changed, and that only upwards
-abbrev pub OnlySees : PassState → PassState → Type 0
-OnlySees old new = (new.tenant ≡ old.tenant) × (new.share ≡ old.share) × (old.front ≤ new.front)
-
 -- the shares of all passes, added up
 abbrev pub shares_of : List PassState → ℕ
 shares_of passes = sum_by (λ p. p.share) passes

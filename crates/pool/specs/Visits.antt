@@ -1,5 +1,5 @@
 -- What a worker does to the hall: it hands in letters, and makes steps of one search in a row.
-use Rattle.std.specs.Prelude.{◌≡◌, ◌+◌, ◌∷◌, ◌↔◌, ℕ, Bool, true, false, IsTrue, List, [], map, Result, Ok, Err, if◌then◌else◌}
+use Rattle.std.specs.Prelude.{◌≡◌, ◌+◌, ◌∷◌, ◌↔◌, ℕ, Bool, true, false, IsTrue, List, [], map, Result, Ok, Err, if◌then◌else◌, All}
 use Rattle.hall.specs.declared.faults.Fault.{Fault}
 use Rattle.hall.specs.declared.faults.Fault.TheVariants.{Memory}
 use Rattle.hall.specs.declared.calls.steps.Step.TheVariants.{GiveBack, Finish}
@@ -30,6 +30,10 @@ pub data AreHandedIn (stopped : Bool) (old : HallState) : List Looked → ℕ �
 -- the letters, without what was looked up for them
 abbrev pub letters_of : List Looked → List TakenLetter
 letters_of looked = map (λ (one : Looked). one.job) looked
+
+-- the gate let each of the letters pass
+abbrev pub AreLetThrough : (List ℕ → ℕ → ℕ → Type 0) → List Looked → Type 0
+AreLetThrough let_through looked = All (λ one. let_through one.job.who one.job.number one.job.letter) looked
 
 -- one search, of which something is left to do, is visited for at most so many steps
 abbrev pub VisitsOne : ℕ → HallState → List TakenLetter → Result (Unit {0}) Fault → HallState → List TakenLetter → Type 0

@@ -1,62 +1,64 @@
 //! What callers ask of a room for the tenant of their pass.
-ghost use Rattle.std.specs.Prelude.{◌≡◌, ◌<◌, ◌≤◌, ◌↔◌, false, length, IfOk, IfErr, OnOk, OnErr, IsSomeAnd, Contains};
-ghost use Rattle.std.specs.List.{All};
-ghost use Rattle.std.specs.List.Sorted.{IsStrictlySortedBy};
-ghost use Rattle.std.specs.Arc.{arc_value};
-ghost use Rattle.names.specs.Name.{name_order};
-ghost use Rattle.credential_text.specs.Credential.{credential_order};
-ghost use Rattle.vaults.specs.Journal.{names_in};
-ghost use Rattle.search.specs.Found.{status_of};
-ghost use Rattle.search.specs.Search.{settled_of};
-ghost use Rattle.search.specs.declared.outcomes.Status.TheVariants.{Working};
+ghost use Rattle.std.specs.Prelude.{◌≡◌, ◌↔◌, false, IfOk};
 ghost use Rattle.hall.specs.declared.calls.requests.Request.TheVariants as request;
 ghost use Rattle.hall.specs.declared.calls.replies.Reply.TheVariants as reply;
-ghost use Rattle.hall.specs.Hall.{search_at, IsServed};
-ghost use Rattle.pool.specs.Passes.{IsSeenAt};
-ghost use Rattle.pool.specs.Refusals.{IsRefusedAt, IsOpenRefusal, IsPollRefusal, IsEndRefusal, IsReadRefusal, IsProofRefusal};
-ghost use Rattle.pool.specs.Told.{IfTold, IsPolled, IsVerdictOf};
-ghost use Rattle.pool.specs.Verdicts.{IsTrueWhereCompleted, rows_read, IsProofOfSome};
+ghost use Rattle.pool.specs.Served.{IsAnsweredAt, IsPolledAt, IsOverAt, GoesOnWaiting};
 
 use crate::faults::DeskFault;
 use crate::passes::Pass;
 use crate::rooms::Room;
 use crate::verdicts::{Ticket, Verdict};
-use hall::{Fault, Proof, Query, Rows, Sights};
+use hall::{Answer, Fault, Proof, Query, Reply, Request, Rows, Sights};
 use names::Entity;
 use search::Status;
 use std::sync::ledger::Ledger;
 
 impl<L: Ledger> Room<L> {
-    #[tactic(auto, using(crate::proofs::Counted::opening_numbered))]
+    /// Serves the request, of whatever kind.
+    pub(crate) fn serve(&mut self, pass: &mut Pass<L>, request: Request) -> Result<Reply, DeskFault>
+        ensures { IsAnsweredAt (λ r. r) self.old self.new pass.old pass.new request result }
+    {
+        Ok(match request {
+            Request::Alter(change) => Reply::Counted(self.change(pass, change)?),
+            Request::Seek(query) => Reply::Opened(self.open(pass, query)?.no),
+            Request::Poll(number) => Reply::Answered(self.answer(pass, number)?),
+            Request::Close(number) => {
+                self.end(pass, number)?;
+                Reply::Closed
+            }
+            Request::Vault => Reply::Vault(self.vault(pass)?),
+            Request::Sees => Reply::Sees(self.sees(pass)?),
+            Request::Proof(number, member) => Reply::Proof(self.proof(pass, number, member)?),
+        })
+    }
+
     /// Opens a search for the pass's tenant, and answers its number with the length of the journal at its opening.
     pub(crate) fn open(&mut self, pass: &mut Pass<L>, query: Query) -> Result<Ticket, DeskFault>
-        ensures served { IfTold (λ t. reply.Opened t.no) (λ told.
-            IsServed self.old.hall pass.old.tenant (request.Seek query) told self.new.hall) result }
-        ensures number { IfOk result (λ t. 0 < t.no) }
-        ensures opened_at { IfOk result (λ t. t.opened_at ≡ length self.old.hall.journal) }
-        ensures seen { OnOk result (IsSeenAt (length self.old.hall.journal) pass.old pass.new) }
-        ensures refused { IfErr result (IsRefusedAt IsOpenRefusal (length self.old.hall.journal) pass.old pass.new) }
-        ensures err { OnErr result (self.new ≡ self.old) }
-        ensures room { self.new ≡ record self.old { hall = self.new.hall } }
+        ensures answered { IsAnsweredAt (λ t. reply.Opened t.no) self.old self.new pass.old pass.new (request.Seek query) result }
+        ensures opened_at { IfOk result (λ t. t.opened_at ≡ pass.new.front) }
     {
         self.show(pass)?;
-        let opened_at = self.hall.journal_len();
         let no = self.hall.open(pass.tenant(), query)?;
-        Ok(Ticket { no, opened_at })
+        Ok(Ticket {
+            no,
+            opened_at: pass.front(),
+        })
     }
 
     /// What the search of the pass's tenant has come to.
+    pub(crate) fn answer(&self, pass: &mut Pass<L>, number: u64) -> Result<Answer, DeskFault>
+        ensures { IsAnsweredAt reply.Answered self.now self.now pass.old pass.new (request.Poll number) result }
+    {
+        self.show(pass)?;
+        Ok(self.hall.poll(pass.tenant(), number)?)
+    }
+
+    /// The same, with what the search is for and what it reads.
     pub(crate) fn poll(&self, pass: &mut Pass<L>, number: u64) -> Result<Verdict, DeskFault>
-        ensures served { IsPolled self.now.hall pass.old.tenant number result }
-        ensures search { IfOk result (λ v. IsSomeAnd (search_at self.now.hall pass.old.tenant number) (λ r. IsVerdictOf r v)) }
-        ensures truth { IfOk result (λ v. IsTrueWhereCompleted (rows_read (arc_value v.snapshot)) v.query v.answer) }
-        ensures asker { IfOk result (λ v. (arc_value v.snapshot).asker ≡ pass.old.tenant) }
-        ensures seen { OnOk result (IsSeenAt (length self.now.hall.journal) pass.old pass.new) }
-        ensures refused { IfErr result (IsRefusedAt IsPollRefusal (length self.now.hall.journal) pass.old pass.new) }
+        ensures { IsPolledAt self.now pass.old pass.new number result }
     {
         let who = pass.tenant();
-        self.show(pass)?;
-        let answer = self.hall.poll(who, number)?;
+        let answer = self.answer(pass, number)?;
         let Some(search) = self.hall.search(who, number) else {
             unreachable!()
         };
@@ -68,8 +70,7 @@ impl<L: Ledger> Room<L> {
 
     /// Whether a wait for the search of this tenant, by a pass of this front, is over.
     pub(crate) fn is_over(&self, who: Entity, number: u64, front: u64) -> bool
-        ensures { (result ≡ false) ↔ ((self.now.stopped ≡ false) × (front ≤ length self.now.hall.journal)
-            × IsSomeAnd (search_at self.now.hall who number) (λ r. status_of (settled_of r.search) ≡ Working)) }
+        ensures { (result ≡ false) ↔ GoesOnWaiting self.now who number front }
     {
         if self.stopped || self.hall.journal_len() < front {
             return true;
@@ -80,42 +81,34 @@ impl<L: Ledger> Room<L> {
         }
     }
 
+    /// Polls where a wait is over.
+    pub(crate) fn poll_over(&self, pass: &mut Pass<L>, number: u64) -> Result<Verdict, DeskFault>
+        requires over { GoesOnWaiting self.now pass.old.tenant number pass.old.front → ⊥ }
+        ensures polled { IsPolledAt self.now pass.old pass.new number result }
+        ensures over { IsOverAt self.now result }
+    {
+        self.poll(pass, number)
+    }
+
     /// Ends the search of the pass's tenant.
     pub(crate) fn end(&mut self, pass: &mut Pass<L>, number: u64) -> Result<(), DeskFault>
-        ensures served { IfTold (λ u. reply.Closed) (λ told.
-            IsServed self.old.hall pass.old.tenant (request.Close number) told self.new.hall) result }
-        ensures seen { OnOk result (IsSeenAt (length self.old.hall.journal) pass.old pass.new) }
-        ensures refused { IfErr result (IsRefusedAt IsEndRefusal (length self.old.hall.journal) pass.old pass.new) }
-        ensures err { OnErr result (self.new ≡ self.old) }
-        ensures room { self.new ≡ record self.old { hall = self.new.hall } }
+        ensures { IsAnsweredAt (λ u. reply.Closed) self.old self.new pass.old pass.new (request.Close number) result }
     {
         self.show(pass)?;
         Ok(self.hall.end(pass.tenant(), number)?)
     }
 
-    #[tactic(auto, using(crate::proofs::Read::vault_order))]
     /// The credentials that the pass's tenant issues and holds, in order.
-    pub(crate) fn vault(&self, pass: &mut Pass<L>) -> Result<Rows, DeskFault>
-        ensures served { IfTold reply.Vault (λ told.
-            IsServed self.now.hall pass.old.tenant request.Vault told self.now.hall) result }
-        ensures issued { IfOk result (λ rows. All (λ c. c.head.owner ≡ pass.old.tenant) rows) }
-        ensures order { IfOk result (λ rows. IsStrictlySortedBy credential_order rows) }
-        ensures seen { OnOk result (IsSeenAt (length self.now.hall.journal) pass.old pass.new) }
-        ensures refused { IfErr result (IsRefusedAt IsReadRefusal (length self.now.hall.journal) pass.old pass.new) }
+    pub(crate) fn vault(&mut self, pass: &mut Pass<L>) -> Result<Rows, DeskFault>
+        ensures { IsAnsweredAt reply.Vault self.old self.new pass.old pass.new request.Vault result }
     {
         self.show(pass)?;
         Ok(self.hall.vault(pass.tenant())?)
     }
 
-    #[tactic(auto, using(crate::proofs::Read::sees_order))]
     /// The names whose vaults the pass's tenant reads, in order, each with whether its vault is public.
     pub(crate) fn sees(&self, pass: &mut Pass<L>) -> Result<Sights, DeskFault>
-        ensures served { IfTold reply.Sees (λ told.
-            IsServed self.now.hall pass.old.tenant request.Sees told self.now.hall) result }
-        ensures own { IfOk result (λ seen. Contains (names_in seen) pass.old.tenant) }
-        ensures order { IfOk result (λ seen. IsStrictlySortedBy name_order (names_in seen)) }
-        ensures seen { OnOk result (IsSeenAt (length self.now.hall.journal) pass.old pass.new) }
-        ensures refused { IfErr result (IsRefusedAt IsReadRefusal (length self.now.hall.journal) pass.old pass.new) }
+        ensures { IsAnsweredAt reply.Sees self.now self.now pass.old pass.new request.Sees result }
     {
         self.show(pass)?;
         Ok(self.hall.sees(pass.tenant())?)
@@ -128,11 +121,7 @@ impl<L: Ledger> Room<L> {
         number: u64,
         member: Entity,
     ) -> Result<Proof, DeskFault>
-        ensures served { IfTold reply.Proof (λ told.
-            IsServed self.now.hall pass.old.tenant (request.Proof number member) told self.now.hall) result }
-        ensures proves { IfOk result (λ steps. IsProofOfSome member steps) }
-        ensures seen { OnOk result (IsSeenAt (length self.now.hall.journal) pass.old pass.new) }
-        ensures refused { IfErr result (IsRefusedAt IsProofRefusal (length self.now.hall.journal) pass.old pass.new) }
+        ensures { IsAnsweredAt reply.Proof self.now self.now pass.old pass.new (request.Proof number member) result }
     {
         self.show(pass)?;
         Ok(self.hall.proof(pass.tenant(), number, member)?)

@@ -1,16 +1,13 @@
-ghost use Rattle.std.specs.Prelude.{◌≡◌, ◌↔◌, ◌+◌, ◌<◌, ◌≤◌, map, vec_len, vec_capacity, IfOk, IfErr, OnOk, Contains};
-ghost use Rattle.std.specs.List.{All, IsDistinct};
-ghost use Rattle.std.specs.List.Sorted.{IsStrictlySortedBy};
-ghost use Rattle.std.specs.Arc.{arc_value};
+ghost use Rattle.std.specs.Prelude.{◌≡◌, ◌↔◌, ◌+◌, ◌≤◌, map, vec_len, vec_capacity, IfOk, IfErr, OnOk, OnErr, Contains};
+ghost use Rattle.std.specs.List.{IsDistinct};
 ghost use Rattle.std.specs.Sync.Mutex.{mutex_guard_value};
-ghost use Rattle.names.specs.Name.{name_order, is_same};
-ghost use Rattle.credential_text.specs.Credential.{credential_order};
-ghost use Rattle.vaults.specs.Journal.{names_in};
-ghost use Rattle.pool.specs.Passes.{OnlySees, shares_of};
+ghost use Rattle.names.specs.Name.{is_same};
+ghost use Rattle.hall.specs.declared.calls.requests.Request.TheVariants as request;
+ghost use Rattle.hall.specs.declared.calls.replies.Reply.TheVariants as reply;
+ghost use Rattle.pool.specs.Passes.{shares_of};
 ghost use Rattle.pool.specs.Rooms.{IsKept};
-ghost use Rattle.pool.specs.Refusals.{IsRefused, IsChangeRefusal, IsOpenRefusal, IsPollRefusal, IsEndRefusal, IsReadRefusal};
-ghost use Rattle.pool.specs.Refusals.{IsProofRefusal, IsPassRefusal};
-ghost use Rattle.pool.specs.Verdicts.{IsTrueWhereCompleted, rows_read, IsProofOfSome};
+ghost use Rattle.pool.specs.Refusals.{IsPassRefusal};
+ghost use Rattle.pool.specs.Served.{IsAnswered, IsPolled, IsWaited, IsAdmitted, IsGathered, MoreAreOut};
 
 use crate::bells::Bells;
 use crate::faults::DeskFault;
@@ -19,7 +16,7 @@ use crate::rooms::{PARTS, Room};
 use crate::tenants::{is_among, names_of};
 use crate::verdicts::{Gathered, Ticket, Verdict};
 use crate::visits::{BATCH, Found, Looked};
-use hall::{Fault, Hall, Job, Proof, Query, Rows, Sights};
+use hall::{Fault, Hall, Job, Proof, Query, Reply, Request, Rows, Sights};
 use indexmap::IndexSet;
 use names::Entity;
 use quotas::Limits;
@@ -90,6 +87,7 @@ impl<L: Ledger> Desk<L> {
     pub fn pass<R: Wait>(&self, rt: &R, who: Entity) -> Result<Pass<L>, DeskFault>
         ensures tenant { IfOk result (λ p. p.tenant ≡ who) }
         ensures share { IfOk result (λ p. p.share ≡ 0) }
+        ensures admitted { IfOk result IsAdmitted }
         ensures known { OnOk result (Contains self.now who) }
         ensures refused { IfErr result IsPassRefusal }
         ensures stranger { IfErr result (λ f. (f ≡ DeskFault.Hall Fault.NoTenant) ↔ (Contains self.now who → ⊥)) }
@@ -100,51 +98,68 @@ impl<L: Ledger> Desk<L> {
         self.enter(rt).admit(who)
     }
 
-    /// Makes a change, and answers how many changes of the tenant were accepted. Refused as 91 where the journal is shorter
-    /// than the pass has seen, and then as the hall refuses.
+    /// Serves the request of the pass's tenant, of whatever kind. Refused as 91 where the journal is shorter than the pass has
+    /// seen, and then as the hall refuses.
+    pub fn serve<R: Wait>(
+        &self,
+        rt: &R,
+        pass: &mut Pass<L>,
+        request: Request,
+    ) -> Result<Reply, DeskFault>
+        ensures { IsAnswered (λ r. r) pass.old pass.new request result }
+    {
+        let answered = self.enter(rt).serve(pass, request);
+        self.tell(pass.tenant(), &answered);
+        answered
+    }
+
+    /// Wakes who is to look, after the tenant was told this.
+    fn tell(&self, who: Entity, answered: &Result<Reply, DeskFault>) {
+        match answered {
+            Ok(Reply::Opened(_)) => self.work.notify_one(),
+            Ok(Reply::Closed) => self.over.of(&who).notify_all(),
+            _ => {}
+        }
+    }
+
+    /// Makes a change, and answers how many changes of the tenant were accepted. Refused as `serve` is.
     pub fn change<R: Wait>(
         &self,
         rt: &R,
         pass: &mut Pass<L>,
         change: Change,
     ) -> Result<u64, DeskFault>
-        ensures count { IfOk result (λ n. (0 < n) × (n ≤ pass.new.front)) }
-        ensures told { OnOk result (pass.new.share ≡ pass.old.share + 1) }
-        ensures seen { OnOk result (pass.old.front < pass.new.front) }
-        ensures tenant { pass.new.tenant ≡ pass.old.tenant }
-        ensures refused { IfErr result (IsRefused (IsChangeRefusal change) pass.old pass.new) }
+        ensures { IsAnswered reply.Counted pass.old pass.new (request.Alter change) result }
     {
         self.enter(rt).change(pass, change)
     }
 
-    /// Opens a search over what the tenant sees now. Refused as 91, and then as the hall refuses.
+    /// Opens a search over what the tenant sees now. Refused as `serve` is.
     pub fn open<R: Wait>(
         &self,
         rt: &R,
         pass: &mut Pass<L>,
         query: Query,
     ) -> Result<Ticket, DeskFault>
-        ensures number { IfOk result (λ t. 0 < t.no) }
+        ensures answered { IsAnswered (λ t. reply.Opened t.no) pass.old pass.new (request.Seek query) result }
         ensures opened_at { IfOk result (λ t. t.opened_at ≡ pass.new.front) }
-        ensures seen { OnOk result (OnlySees pass.old pass.new) }
-        ensures refused { IfErr result (IsRefused IsOpenRefusal pass.old pass.new) }
     {
-        let ticket = self.enter(rt).open(pass, query)?;
-        self.work.notify_one();
-        Ok(ticket)
+        let opened = self.enter(rt).open(pass, query);
+        if opened.is_ok() {
+            self.work.notify_one();
+        }
+        opened
     }
 
-    /// What the tenant's search of the number has come to. Refused as 91, and then as the hall refuses.
+    /// What the tenant's search of the number has come to. Refused as `serve` is, and also where memory lacks to share what the
+    /// search reads.
     pub fn poll<R: Wait>(
         &self,
         rt: &R,
         pass: &mut Pass<L>,
         number: u64,
     ) -> Result<Verdict, DeskFault>
-        ensures truth { IfOk result (λ v. IsTrueWhereCompleted (rows_read (arc_value v.snapshot)) v.query v.answer) }
-        ensures asker { IfOk result (λ v. (arc_value v.snapshot).asker ≡ pass.old.tenant) }
-        ensures seen { OnOk result (OnlySees pass.old pass.new) }
-        ensures refused { IfErr result (IsRefused IsPollRefusal pass.old pass.new) }
+        ensures { IsPolled pass.old pass.new number result }
     {
         self.enter(rt).poll(pass, number)
     }
@@ -157,52 +172,43 @@ impl<L: Ledger> Desk<L> {
         pass: &mut Pass<L>,
         number: u64,
     ) -> Result<Verdict, DeskFault>
-        ensures truth { IfOk result (λ v. IsTrueWhereCompleted (rows_read (arc_value v.snapshot)) v.query v.answer) }
-        ensures asker { IfOk result (λ v. (arc_value v.snapshot).asker ≡ pass.old.tenant) }
-        ensures seen { OnOk result (OnlySees pass.old pass.new) }
-        ensures refused { IfErr result (IsRefused IsPollRefusal pass.old pass.new) }
+        ensures { IsWaited pass.old pass.new number result }
     {
         let who = pass.tenant();
         let front = pass.front();
         let room = self.enter(rt);
         let bell = self.over.of(&who);
         let room = bell.wait_while(rt, room, |room| !room.is_over(who, number, front));
-        room.poll(pass, number)
+        room.poll_over(pass, number)
     }
 
-    /// Ends the tenant's search of the number. Refused as 91, and then as the hall refuses.
+    /// Ends the tenant's search of the number. Refused as `serve` is.
     pub fn end<R: Wait>(&self, rt: &R, pass: &mut Pass<L>, number: u64) -> Result<(), DeskFault>
-        ensures seen { OnOk result (OnlySees pass.old pass.new) }
-        ensures refused { IfErr result (IsRefused IsEndRefusal pass.old pass.new) }
+        ensures { IsAnswered (λ u. reply.Closed) pass.old pass.new (request.Close number) result }
     {
-        self.enter(rt).end(pass, number)?;
-        self.over.of(&pass.tenant()).notify_all();
-        Ok(())
+        let ended = self.enter(rt).end(pass, number);
+        if ended.is_ok() {
+            self.over.of(&pass.tenant()).notify_all();
+        }
+        ended
     }
 
-    /// The credentials that the tenant issues and holds, in order. Refused as 91, and then as the hall refuses.
+    /// The credentials that the tenant issues and holds, in order. Refused as `serve` is.
     pub fn vault<R: Wait>(&self, rt: &R, pass: &mut Pass<L>) -> Result<Rows, DeskFault>
-        ensures issued { IfOk result (λ rows. All (λ c. c.head.owner ≡ pass.old.tenant) rows) }
-        ensures order { IfOk result (λ rows. IsStrictlySortedBy credential_order rows) }
-        ensures seen { OnOk result (OnlySees pass.old pass.new) }
-        ensures refused { IfErr result (IsRefused IsReadRefusal pass.old pass.new) }
+        ensures { IsAnswered reply.Vault pass.old pass.new request.Vault result }
     {
         self.enter(rt).vault(pass)
     }
 
     /// The names whose vaults the tenant reads, in order, its own among them, each with whether its vault is public. Refused
-    /// as 91, and then as the hall refuses.
+    /// as `serve` is.
     pub fn sees<R: Wait>(&self, rt: &R, pass: &mut Pass<L>) -> Result<Sights, DeskFault>
-        ensures own { IfOk result (λ seen. Contains (names_in seen) pass.old.tenant) }
-        ensures order { IfOk result (λ seen. IsStrictlySortedBy name_order (names_in seen)) }
-        ensures seen { OnOk result (OnlySees pass.old pass.new) }
-        ensures refused { IfErr result (IsRefused IsReadRefusal pass.old pass.new) }
+        ensures { IsAnswered reply.Sees pass.old pass.new request.Sees result }
     {
         self.enter(rt).sees(pass)
     }
 
-    /// Why the entity is a member of the role that the tenant's search of the number asked about. Refused as 91, and then as
-    /// the hall refuses.
+    /// Why the entity is a member of the role that the tenant's search of the number asked about. Refused as `serve` is.
     pub fn proof<R: Wait>(
         &self,
         rt: &R,
@@ -210,9 +216,7 @@ impl<L: Ledger> Desk<L> {
         number: u64,
         member: Entity,
     ) -> Result<Proof, DeskFault>
-        ensures proves { IfOk result (λ steps. IsProofOfSome member steps) }
-        ensures seen { OnOk result (OnlySees pass.old pass.new) }
-        ensures refused { IfErr result (IsRefused IsProofRefusal pass.old pass.new) }
+        ensures { IsAnswered reply.Proof pass.old pass.new (request.Proof number member) result }
     {
         self.enter(rt).proof(pass, number, member)
     }
@@ -231,7 +235,9 @@ impl<L: Ledger> Desk<L> {
         passes: Vec<Pass<L>>,
     ) -> Result<Gathered, (DeskFault, Vec<Pass<L>>)>
         ensures total { IfOk result (λ g. g.length ≡ g.left + shares_of passes.items) }
+        ensures gathered { IfOk result (IsGathered (vec_len passes)) }
         ensures out { IfErr result (λ e. (e.0 ≡ DeskFault.PassesOut) × (e.1.items ≡ passes.items)) }
+        ensures more { OnErr result (MoreAreOut (vec_len passes)) }
     {
         self.enter(rt).gather(passes)
     }

@@ -1,5 +1,9 @@
 //! The desk and its workers: one hall under one lock. Callers hold passes, workers are threads, and a visit to the lock is
 //! one call of the hall, or the steps of one search that a worker makes in a row.
+//!
+//! Each call of `Desk` says that some sound hall was found which served just this request of the pass's tenant
+//! (`specs/Served.antt`). A pass remembers the longest journal that it has seen, and each accepted change that was told counts
+//! once in a ledger (`specs/Passes.antt`). Who wakes whom is shown by tests, since no clause speaks of it.
 #![tactic(auto)]
 
 mod asking;
@@ -9,6 +13,7 @@ mod desk_tests;
 mod desks;
 mod faults;
 mod gates;
+mod laws;
 mod passes;
 mod rooms;
 mod tenants;
@@ -21,6 +26,7 @@ mod workers;
 pub use desks::Desk;
 pub use faults::DeskFault;
 pub use gates::{Gate, NoGate};
+pub use laws::replies_are_own;
 pub use passes::Pass;
 pub use rooms::PARTS;
 pub use verdicts::{Gathered, Ticket, Verdict};

@@ -1,12 +1,10 @@
 //! What lies under the lock of a desk: the hall, and the count of the changes of which passes were told.
-ghost use Rattle.std.specs.Prelude.{◌≡◌, ◌+◌, ◌<◌, ◌≤◌, true, false, [], length, vec_len, IfOk, IfErr, OnOk, OnErr};
+ghost use Rattle.std.specs.Prelude.{◌≡◌, ◌+◌, ◌<◌, true, false, [], length, vec_len, IfOk, IfErr, OnOk, OnErr};
 ghost use Rattle.hall.specs.declared.calls.requests.Request.TheVariants as request;
 ghost use Rattle.hall.specs.declared.calls.replies.Reply.TheVariants as reply;
-ghost use Rattle.hall.specs.Hall.{IsServed};
 ghost use Rattle.pool.specs.Passes.{IsSeenAt, shares_of};
 ghost use Rattle.pool.specs.Rooms.{IsKept};
-ghost use Rattle.pool.specs.Refusals.{IsRefusedAt, IsChangeRefusal};
-ghost use Rattle.pool.specs.Told.{IfTold};
+ghost use Rattle.pool.specs.Served.{IsAnsweredAt};
 
 use crate::faults::DeskFault;
 use crate::passes::Pass;
@@ -110,7 +108,9 @@ impl<L: Ledger> Room<L> {
         ensures refused { IfErr result (λ f. f ≡ DeskFault.Hall Fault.Memory) }
         ensures full { OnErr result (self.old.out ≡ MOST_OUT) }
         ensures err { OnErr result (self.new ≡ self.old) }
+        ensures kept { IsKept self.old }
     {
+        self.kept();
         if self.out == MOST_OUT {
             return Err(DeskFault::Hall(Fault::Memory));
         }
@@ -136,21 +136,9 @@ impl<L: Ledger> Room<L> {
         Ok(())
     }
 
-    #[tactic(auto, using(crate::proofs::Counted::change_counted))]
     /// Makes a change of the pass's tenant. Where the hall accepts it, the pass is told of one change more.
     pub(crate) fn change(&mut self, pass: &mut Pass<L>, change: Change) -> Result<u64, DeskFault>
-        ensures served { IfTold reply.Counted (λ told.
-            IsServed self.old.hall pass.old.tenant (request.Alter change) told self.new.hall) result }
-        ensures count { IfOk result (λ n. (0 < n) × (n ≤ pass.new.front)) }
-        ensures told { OnOk result (pass.new ≡ record {
-          tenant = pass.old.tenant;
-          front = length self.new.hall.journal;
-          share = pass.old.share + 1;
-        }) }
-        ensures seen { OnOk result (pass.old.front < pass.new.front) }
-        ensures refused { IfErr result (IsRefusedAt (IsChangeRefusal change) (length self.old.hall.journal) pass.old pass.new) }
-        ensures err { OnErr result (self.new ≡ self.old) }
-        ensures room { self.new ≡ record self.old { hall = self.new.hall; accepted = self.new.accepted } }
+        ensures { IsAnsweredAt reply.Counted self.old self.new pass.old pass.new (request.Alter change) result }
     {
         self.show(pass)?;
         let count = self.hall.change(pass.tenant(), change)?;
@@ -190,7 +178,9 @@ impl<L: Ledger> Room<L> {
         ensures out { IfErr result (λ e. (e.0 ≡ DeskFault.PassesOut) × (e.1.items ≡ passes.items)) }
         ensures too_few { OnErr result (vec_len passes < self.old.out) }
         ensures err { OnErr result (self.new ≡ self.old) }
+        ensures kept { IsKept self.old }
     {
+        self.kept();
         if (passes.len() as u64) < self.out {
             return Err((DeskFault::PassesOut, passes));
         }

@@ -1,7 +1,8 @@
 //! Workers: threads that take letters, look up outside the lock, and hand in.
-ghost use Rattle.std.specs.Prelude.{◌≡◌, ◌≤◌, IfErr, vec_len, vec_capacity, reverse};
+ghost use Rattle.std.specs.Prelude.{◌≡◌, ◌≤◌, ◌+◌, ◌-◌, ◌^◌, ◌||◌, min, IfOk, IfErr, vec_len, vec_capacity, reverse};
 ghost use Rattle.pool.specs.Refusals.{IsWorkRefusal};
-ghost use Rattle.pool.specs.Visits.{letters_of};
+ghost use Rattle.pool.specs.Visits.{letters_of, AreLetThrough};
+ghost use Rattle.pool.specs.Workers.{IsDoneBy, DoneBy};
 
 use crate::desks::Desk;
 use crate::faults::DeskFault;
@@ -16,9 +17,22 @@ use std::thread::{JoinHandle, Threads};
 
 /// How many letters a worker finished, and whether memory was refused to it.
 #[derive(Clone, Copy)]
-struct Worked {
+pub(crate) struct Worked {
     finished: u64,
     no_memory: bool,
+}
+
+impl Worked {
+    /// What both did.
+    fn with(self, other: Worked) -> Worked
+        ensures finished { result.finished ≡ min (self.finished + other.finished) (2 ^ 64 - 1) }
+        ensures no_memory { result.no_memory ≡ (other.no_memory || self.no_memory) }
+    {
+        Worked {
+            finished: self.finished.saturating_add(other.finished),
+            no_memory: other.no_memory || self.no_memory,
+        }
+    }
 }
 
 /// Passes the gate with each letter, and looks up what it needs.
@@ -26,6 +40,7 @@ fn look_up_all<G: Gate>(gate: &G, held: &mut Vec<Job>, looked: &mut Vec<Looked>)
     requires empty { vec_len looked.old ≡ 0 }
     requires space { vec_len held.old ≤ vec_capacity looked.old }
     ensures letters { letters_of looked.new.items ≡ reverse held.old.items }
+    ensures let_through { AreLetThrough G.LetThrough looked.new.items }
     ensures empty { vec_len held.new ≡ 0 }
     ensures held { vec_capacity held.new ≡ vec_capacity held.old }
     ensures looked { vec_capacity looked.new ≡ vec_capacity looked.old }
@@ -71,15 +86,16 @@ fn work<L: Ledger, G: Gate, R: Wait>(rt: &R, alloc: Global, desk: &Desk<L>, gate
 }
 
 /// Waits for all workers, and adds up what they did.
-fn join_all<R: Threads>(rt: &R, handles: Vec<JoinHandle<Worked>>) -> Worked {
+fn join_all<R: Threads>(rt: &R, handles: Vec<JoinHandle<Worked>>) -> Worked
+    ensures { IsDoneBy (vec_len handles) result }
+{
     let mut all = Worked {
         finished: 0,
         no_memory: false,
     };
     for handle in handles {
         let one = handle.join(rt);
-        all.finished = all.finished.saturating_add(one.finished);
-        all.no_memory = all.no_memory || one.no_memory;
+        all = all.with(one);
     }
     all
 }
@@ -98,7 +114,8 @@ pub fn run_workers<L: Ledger + Send + Sync, G: Gate, R: Threads + Wait + Sync>(
     gate: &G,
 ) -> Result<u64, DeskFault>
     requires { (1 ≤ n) × (n ≤ 64) }
-    ensures { IfErr result IsWorkRefusal }
+    ensures done { IfOk result (DoneBy n) }
+    ensures refused { IfErr result IsWorkRefusal }
 {
     let Ok(mut handles) = Vec::with_capacity(alloc, n as usize) else {
         return Err(DeskFault::Hall(Fault::Memory));
@@ -108,7 +125,8 @@ pub fn run_workers<L: Ledger + Send + Sync, G: Gate, R: Threads + Wait + Sync>(
         rt,
         |scope| -> Result<u64, DeskFault>
             requires { (vec_len handles ≡ 0) × (n ≤ vec_capacity handles) }
-            ensures { IfErr result IsWorkRefusal }
+            ensures done { IfOk result (DoneBy n) }
+            ensures refused { IfErr result IsWorkRefusal }
         {
             let mut refused = false;
             for _worker in 0..n {

@@ -13,7 +13,7 @@ use std::time::Duration;
 pub(super) enum Way<'a> {
     /// It goes on.
     Open,
-    /// It waits for the first letter of the other search.
+    /// The first letter of a search waits for those of the others.
     Meet(&'a Meeting),
     /// Where the search is the first, it ends it, and notes that it could.
     End(&'a AtomicBool),
@@ -21,19 +21,19 @@ pub(super) enum Way<'a> {
     Count(&'a [AtomicU64]),
 }
 
-/// Where the first letters of two searches meet.
+/// Where the first letters of so many searches meet.
 #[derive(Drop)]
 pub(super) struct Meeting {
-    pub(super) first: AtomicBool,
-    pub(super) second: AtomicBool,
-    /// Whether a letter left without the other.
+    pub(super) searches: u64,
+    pub(super) came: AtomicU64,
+    /// Whether a letter left without the others.
     pub(super) left: AtomicBool,
 }
 
-/// Whether the flag is set within 100,000 turns.
-fn is_set<R: Clock>(rt: &R, flag: &AtomicBool) -> bool {
+/// Whether so many have come within 100,000 turns.
+fn have_come<R: Clock>(rt: &R, came: &AtomicU64, wanted: u64) -> bool {
     for _ in 0..100_000u64 {
-        if flag.load(Ordering::SeqCst) {
+        if came.load(Ordering::SeqCst) >= wanted {
             return true;
         }
         thread::sleep(rt, Duration::from_micros(100));
@@ -42,15 +42,10 @@ fn is_set<R: Clock>(rt: &R, flag: &AtomicBool) -> bool {
 }
 
 impl Meeting {
-    /// The first letter of the search waits for that of the other.
-    fn meet<R: Clock>(&self, rt: &R, search: u64) {
-        let (own, other) = if search == 1 {
-            (&self.first, &self.second)
-        } else {
-            (&self.second, &self.first)
-        };
-        own.store(true, Ordering::SeqCst);
-        if !is_set(rt, other) {
+    /// The first letter of a search waits for those of the others.
+    fn meet<R: Clock>(&self, rt: &R) {
+        self.came.fetch_add(1, Ordering::SeqCst);
+        if !have_come(rt, &self.came, self.searches) {
             self.left.store(true, Ordering::SeqCst);
         }
     }
@@ -75,9 +70,11 @@ pub(super) struct Doorway<'a, L: Ledger, R> {
 }
 
 impl<L: Ledger + Send + Sync, R: Wait + Clock + Sync> Gate for Doorway<'_, L, R> {
+    ghost LetThrough = { λ who search letter. Unit {0} };
+
     fn pass(&self, who: &Entity, search: u64, letter: u64) {
         match self.way {
-            Way::Meet(meeting) if letter == 1 => meeting.meet(self.rt, search),
+            Way::Meet(meeting) if letter == 1 => meeting.meet(self.rt),
             Way::End(over) if search == 1 && letter == 1 => {
                 end_first(self.rt, self.desk, *who, over)
             }

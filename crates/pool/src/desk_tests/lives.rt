@@ -60,32 +60,36 @@ fn a_whole_life_of_a_search(rt: HostRuntime) -> Result<(), Break> {
     played(&rt, rt.alloc(), &WHOLE_LIFE, Way::Open)
 }
 
-/// A credential, and two searches of its one member, which are both waited for.
-const TWO_SEARCHES: Scene = Scene {
+/// A credential, and four searches of its one member, which are all waited for.
+const FOUR_SEARCHES: Scene = Scene {
     limits: USUAL,
     passes: &["A"],
     before: &[
         Line(0, Act::Put("A.r <- D"), Told::Counted(1)),
         Line(0, Act::Ask("A.r", "D"), Told::Opened(1, 1)),
         Line(0, Act::Ask("A.r", "D"), Told::Opened(2, 1)),
+        Line(0, Act::Ask("A.r", "D"), Told::Opened(3, 1)),
+        Line(0, Act::Ask("A.r", "D"), Told::Opened(4, 1)),
     ],
     beside: &[
         Line(0, Act::Wait(1), Told::Yes),
         Line(0, Act::Wait(2), Told::Yes),
+        Line(0, Act::Wait(3), Told::Yes),
+        Line(0, Act::Wait(4), Told::Yes),
     ],
-    workers: 2,
+    workers: 4,
     left: 0,
-    letters: Some(6),
+    letters: Some(12),
 };
 
 #[test]
-fn two_first_letters_meet_at_the_gate(rt: HostRuntime) -> Result<(), Break> {
+fn four_first_letters_meet_at_the_gate(rt: HostRuntime) -> Result<(), Break> {
     let meeting = Meeting {
-        first: AtomicBool::new(false),
-        second: AtomicBool::new(false),
+        searches: 4,
+        came: AtomicU64::new(0),
         left: AtomicBool::new(false),
     };
-    played(&rt, rt.alloc(), &TWO_SEARCHES, Way::Meet(&meeting))?;
+    played(&rt, rt.alloc(), &FOUR_SEARCHES, Way::Meet(&meeting))?;
     assert!(rt; !meeting.left.load(Ordering::SeqCst));
     Ok(())
 }
