@@ -19,7 +19,6 @@ use Rattle.service.specs.Outcome.{Outcome, nobody, refused, served, IsSaid, deed
 use Rattle.service.specs.Reply.{refusal_line, reply_lines}
 use Rattle.service.specs.Isolation.{own_outcomes, sights_of, FoundMemory, ArePrintedAlike}
 use Rattle.service.proofs.CommandLemmas.{one_command, one_refusal, read_kept}
-use Rattle.service.proofs.ShortLemmas.{IsShort, form-short}
 
 -- the same but for the reply
 abbrev pub AreOneLine : Outcome → Outcome → Type 0
@@ -27,28 +26,28 @@ AreOneLine (refused who why) (refused other also) = (who ≡ other) × (why ≡ 
 AreOneLine (served who command reply) (served other also told) = (who ≡ other) × (command ≡ also)
 AreOneLine _ _ = ⊥
 
--- so are two that one short text may become, where memory didn't lack
-one_line : (tenant said : List ℕ) (one two : Outcome) → IsShort said → IsSaid tenant (form_of said) one → IsSaid tenant (form_of said) two → FoundMemory one → FoundMemory two → AreOneLine one two
-one_line tenant said (nobody why) two short is also memory more = absurd is
-one_line tenant said (refused who why) (nobody other) short is also memory more = absurd also
-one_line tenant said (refused who why) (refused name other) short is also memory more = (is.0 ∙ sym also.0, one_refusal (form_of said) why other memory more is.1 also.1)
-one_line tenant said (refused who why) (served name command reply) short is also memory more =
-    absurd (read_kept (form_of said) command why (form-short said short) memory also.1 is.1)
-one_line tenant said (served who command reply) (nobody other) short is also memory more = absurd also
-one_line tenant said (served who command reply) (refused name why) short is also memory more =
-    absurd (read_kept (form_of said) command why (form-short said short) more is.1 also.1)
-one_line tenant said (served who command reply) (served name other told) short is also memory more =
+-- so are two that one text may become, where memory didn't lack
+one_line : (tenant said : List ℕ) (one two : Outcome) → IsSaid tenant (form_of said) one → IsSaid tenant (form_of said) two → FoundMemory one → FoundMemory two → AreOneLine one two
+one_line tenant said (nobody why) two is also memory more = absurd is
+one_line tenant said (refused who why) (nobody other) is also memory more = absurd also
+one_line tenant said (refused who why) (refused name other) is also memory more = (is.0 ∙ sym also.0, one_refusal (form_of said) why other memory more is.1 also.1)
+one_line tenant said (refused who why) (served name command reply) is also memory more =
+    absurd (read_kept (form_of said) command why memory also.1 is.1)
+one_line tenant said (served who command reply) (nobody other) is also memory more = absurd also
+one_line tenant said (served who command reply) (refused name why) is also memory more =
+    absurd (read_kept (form_of said) command why more is.1 also.1)
+one_line tenant said (served who command reply) (served name other told) is also memory more =
     (is.0 ∙ sym also.0, one_command (form_of said) command other is.1 also.1)
 
-pub one_lines : (tenant : List ℕ) (texts : List (List ℕ)) (first second : List Outcome) → AllByRecursion IsShort texts → AllZip (λ said outcome. IsSaid tenant (form_of said) outcome) texts first →
+pub one_lines : (tenant : List ℕ) (texts : List (List ℕ)) (first second : List Outcome) → AllZip (λ said outcome. IsSaid tenant (form_of said) outcome) texts first →
     AllZip (λ said outcome. IsSaid tenant (form_of said) outcome) texts second → AllByRecursion FoundMemory first → AllByRecursion FoundMemory second → AllZip AreOneLine first second
-one_lines tenant [] [] [] short are also memory more = tt
-one_lines tenant [] [] (two ∷ second) short are also memory more = absurd also
-one_lines tenant [] (one ∷ first) second short are also memory more = absurd are
-one_lines tenant (said ∷ texts) [] second short are also memory more = absurd are
-one_lines tenant (said ∷ texts) (one ∷ first) [] short are also memory more = absurd also
-one_lines tenant (said ∷ texts) (one ∷ first) (two ∷ second) short are also memory more =
-    (one_line tenant said one two short.0 are.0 also.0 memory.0 more.0, one_lines tenant texts first second short.1 are.1 also.1 memory.1 more.1)
+one_lines tenant [] [] [] are also memory more = tt
+one_lines tenant [] [] (two ∷ second) are also memory more = absurd also
+one_lines tenant [] (one ∷ first) second are also memory more = absurd are
+one_lines tenant (said ∷ texts) [] second are also memory more = absurd are
+one_lines tenant (said ∷ texts) (one ∷ first) [] are also memory more = absurd also
+one_lines tenant (said ∷ texts) (one ∷ first) (two ∷ second) are also memory more =
+    (one_line tenant said one two are.0 also.0 memory.0 more.0, one_lines tenant texts first second are.1 also.1 memory.1 more.1)
 
 -- what the tenant did and was told, by its own outcomes
 told_own : {X : Type 0} (tenant : List ℕ) (part : Deed → Reply → X) (journal : List Entry) (outcomes : List Outcome) →

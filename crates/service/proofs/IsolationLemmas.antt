@@ -21,7 +21,6 @@ use Rattle.service.specs.Outcome.{Outcome, served, outcome_text, is_speaker, IsS
 use Rattle.service.specs.Isolation.{ScriptRun, IsSameFor, limits_of, own_lines, own_outcomes, AreProofs, ArePrintedAlike, IsNoProof}
 use Rattle.service.specs.Laws.{OwnLinesAreAnswered, ScriptsAreIsolated, SameIsPrinted, ScriptsAreRuns}
 use Rattle.service.proofs.OwnLemmas.{own_said, own_none}
-use Rattle.service.proofs.ShortLemmas.{roster-short, own-short}
 use Rattle.service.proofs.AlikeLemmas.{AreOneLine, one_lines, turns_memory, same_turns, replies_agree, printed_alike}
 
 -- the tenants of a roster, as a hall has them
@@ -58,7 +57,6 @@ module _ (tenant input other : List ℕ) (one : ScriptRun input) (two : ScriptRu
   lines_alike : is_speaker (roster_of one.rows) tenant ≡ true → AllZip AreOneLine (own_outcomes tenant one.outcomes) (own_outcomes tenant two.outcomes)
   lines_alike speaks =
       one_lines tenant (own_lines tenant one.lines) (own_outcomes tenant one.outcomes) (own_outcomes tenant two.outcomes)
-      (own-short tenant one.lines (roster-short input one.rows one.lines one.rest one.roster.one_each))
       (own_said (roster_of one.rows) tenant speaks one.lines one.outcomes one.transcript.one_each)
       (subst (λ (texts : List (List ℕ)). AllZip (λ said outcome. IsSaid tenant (form_of said) outcome) texts (own_outcomes tenant two.outcomes)) (sym same.says)
       (own_said (roster_of two.rows) tenant (sym speakers ∙ speaks) two.lines two.outcomes two.transcript.one_each))

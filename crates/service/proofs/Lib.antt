@@ -18,7 +18,6 @@ pub mod TranscriptLemmas
 pub mod ScriptLemmas
 pub mod CommandLemmas
 pub mod OwnLemmas
-pub mod ShortLemmas
 pub mod AlikeLemmas
 pub mod IsolationLemmas
 pub mod PolledLemmas

@@ -16,7 +16,7 @@ use Rattle.hall.specs.Account.{Account}
 use Rattle.hall.specs.Answers.{Sight, Answers, Grants}
 use Rattle.hall.specs.Run.{Deed, asks, waits, Told}
 use Rattle.hall.specs.Hall.{Running, Tenant, HallState, account_of, changed_by, with_tenant, search_at, hall_after, AnswersTo, IsServed, Drives, CarriesOut, AreDone, new_tenant, new_hall}
-use Rattle.hall.proofs.bridge.Polled.{refused_after}
+use Rattle.hall.proofs.Polled.{refused_after}
 use Rattle.hall.proofs.laws.HallChanges.{changed_here, changed_elsewhere}
 use Rattle.service.specs.Outcome.{is_speaker}
 use Rattle.service.specs.Turn.{HasTenants, speaks}

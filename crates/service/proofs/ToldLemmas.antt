@@ -2,11 +2,14 @@
 use Rattle.std.proofs.Common.{◌≡◌, ℕ, List, [], ◌∙◌, ap, subst, refl, inl, inr, Result, Ok, Err}
 use Rattle.std.proofs.lemmas.List.{append-nil}
 use Rattle.hall.specs.declared.faults.Fault.TheVariants.{Memory}
-use Rattle.hall.specs.declared.calls.requests.Request.TheVariants as request
+use Rattle.hall.specs.declared.calls.requests.Request.{Request as HallRequest}
 use Rattle.hall.specs.declared.calls.replies.Reply.{Reply}
 use Rattle.hall.specs.declared.calls.replies.Reply.TheVariants as reply
 use Rattle.pool.specs.declared.faults.DeskFault.{DeskFault}
-use Rattle.pool.specs.declared.faults.DeskFault.TheVariants.{Hall}
+use Rattle.pool.specs.declared.faults.DeskFault.TheVariants.{Hall, Rewound, PassesOut, NoThread}
+use Rattle.pool.specs.declared.verdicts.Verdict.{Verdict}
+use Rattle.pool.specs.Passes.{PassState}
+use Rattle.pool.specs.Served.{IsAnswered, IsWaited}
 use Rattle.service.specs.declared.commands.Command.{Command}
 use Rattle.service.specs.declared.commands.Command.TheVariants.{Request, Wait}
 use Rattle.service.specs.declared.session_lines.Said.{Said}
@@ -15,6 +18,7 @@ use Rattle.service.specs.Talk.{Talk, quits, greets, greets_wrongly, tells, Hears
 use Rattle.service.specs.Session.{of_tenant, IsLater}
 use Rattle.service.specs.Command.{Form, form_of, Reads}
 use Rattle.service.specs.Reply.{lines_after, IsLong, IsFilled}
+use Rattle.service.proofs.PrintedLemmas.{lacks-served}
 use Rattle.service.specs.SessionReply.{session_refusal, MayTell, IsToldBy, IsTold}
 
 -- the lines of a reply, or the one that says that memory lacked
@@ -25,28 +29,32 @@ IsToldBy-filled told bytes filled =
       | inr lacks ↦ IsToldBy.lacking told refl lacks.0 (filled.lines ∙ ap (lines_after []) lacks.1 ∙ append-nil (session_refusal 90))
     ]
 
--- the end of a search is no long reply
-closed_short : (who : List ℕ) (k : ℕ) (told : Reply) → IsLong told → MayTell who (Request (request.Close k)) (Ok told) → ⊥
-closed_short who k (reply.Counted n) long may = may
-closed_short who k (reply.Opened n) long may = may
-closed_short who k (reply.Answered answer) long may = may
-closed_short who k reply.Closed long may = long
-closed_short who k (reply.Vault rows) long may = may
-closed_short who k (reply.Sees names) long may = may
-closed_short who k (reply.Proof steps) long may = may
-closed_short who k (reply.Refused fault) long may = may
-closed_short who k (reply.Stepped answer) long may = may
-
 -- where a long reply may be told, so may want of memory
 may_lack : (who : List ℕ) (command : Command) (told : Reply) → IsLong told → MayTell who command (Ok told) → MayTell who command (Err (Hall Memory))
-may_lack who (Request (request.Alter change)) told long may = tt
-may_lack who (Request (request.Seek query)) told long may = tt
-may_lack who (Request (request.Poll k)) told long may = tt
-may_lack who (Request (request.Close k)) told long may = absurd (closed_short who k told long may)
-may_lack who (Request request.Vault) told long may = tt
-may_lack who (Request request.Sees) told long may = tt
-may_lack who (Request (request.Proof k member)) told long may = tt
-may_lack who (Wait k) told long may = tt
+may_lack who (Request q) told long (old, new, sound, served) = (old, new, sound, lacks-served old new who q told long served)
+may_lack who (Wait k) told long may = inr refl
+
+-- what the desk answers
+pub request_told : (old new : PassState) (q : HallRequest) (result : Result Reply DeskFault) → IsAnswered (λ r. r) old new q result → MayTell old.tenant (Request q) result
+request_told old new q (Ok told) (before, after, at) = (before.hall, after.hall, at.kept.sound, at.served)
+request_told old new q (Err (Hall fault)) (before, after, at) = (before.hall, after.hall, at.kept.sound, at.served)
+request_told old new q (Err (Rewound found)) (before, after, at) = tt
+request_told old new q (Err PassesOut) (before, after, at) = at
+request_told old new q (Err NoThread) (before, after, at) = at
+
+-- a wait that is answered
+pub wait_told : (old new : PassState) (k : ℕ) (v : Verdict) → IsWaited old new k (Ok v) → MayTell old.tenant (Wait k) (Ok (reply.Answered v.answer))
+wait_told old new k v (at, polled, over) = (at.hall, at.hall, polled.0.kept.sound, polled.0.served)
+
+-- a wait that is refused
+pub wait_refused : (old new : PassState) (k : ℕ) (fault : DeskFault) → IsWaited old new k (Err fault) → MayTell old.tenant (Wait k) (Err fault)
+wait_refused old new k (Hall fault) (at, inl is, over) = inl (at.hall, at.hall, is.kept.sound, is.served)
+wait_refused old new k (Hall fault) (at, inr lacks, over) = let same : Hall fault ≡ Hall Memory = lacks.0 in inr cc
+wait_refused old new k (Rewound found) (at, polled, over) = tt
+wait_refused old new k PassesOut (at, inl is, over) = is
+wait_refused old new k PassesOut (at, inr lacks, over) = let no : PassesOut ≡ Hall Memory = lacks.0 in cc
+wait_refused old new k NoThread (at, inl is, over) = is
+wait_refused old new k NoThread (at, inr lacks, over) = let no : NoThread ≡ Hall Memory = lacks.0 in cc
 
 -- a command that was read and carried out
 pub IsTold-carried : (who : List ℕ) (form : Form) (command : Command) (told : Result Reply DeskFault) (bytes : List ℕ) → Reads form (Ok command) → MayTell who command told → IsToldBy told bytes → IsTold who form bytes

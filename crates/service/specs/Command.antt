@@ -1,160 +1,129 @@
 -- The commands of a script, as their lines write them.
-use Rattle.std.specs.Prelude.{◌≡◌, ◌⊎◌, ℕ, List, [], ◌∷◌, Option, Some, None, Result, Ok, Err, codes, if◌then◌else◌}
+use Rattle.std.specs.Prelude.{◌≡◌, ◌⊎◌, ℕ, ◌≤◌, List, [], ◌∷◌, length, codes, if◌then◌else◌}
+use Rattle.std.specs.Prelude.{Option, Some, None, Result, Ok, Err, option_map}
 use Rattle.std.specs.Str.{bytes_eq}
+use Rattle.names.specs.declared.roles.Role.{Role}
 use Rattle.names.specs.Name.{IsName}
 use Rattle.names.specs.Fault.{name_fault, role_fault, or_then}
 use Rattle.names.specs.Role.{SpellsRole}
+use Rattle.credential_text.specs.declared.credentials.Credential.{Credential}
 use Rattle.credential_text.specs.Spelling.{Spells}
 use Rattle.credential_text.specs.Refusal as credential
-use Rattle.vaults.specs.declared.changes.Change.TheVariants as change
-use Rattle.hall.specs.Query as query
-use Rattle.hall.specs.declared.calls.requests.Request.TheVariants as request
+use Rattle.vaults.specs.declared.changes.Change.{Change}
+use Rattle.vaults.specs.declared.changes.Change.TheVariants.{Upload, Withdraw, Grant, Revoke, GrantAll, RevokeAll}
+use Rattle.hall.specs.Query.{Ask, Who}
+use Rattle.hall.specs.declared.calls.requests.Request.TheVariants.{Alter, Seek, Poll, Close, Vault, Sees, Proof}
 use Rattle.service.specs.declared.commands.Command.{Command}
-use Rattle.service.specs.declared.commands.Command.TheVariants as command
+use Rattle.service.specs.declared.commands.Command.TheVariants.{Request, Wait}
 use Rattle.service.specs.declared.refusals.Refusal.{Refusal}
 use Rattle.service.specs.declared.refusals.Refusal.TheVariants as refusal
-use Rattle.service.specs.declared.verbs.Verb.{Verb}
-use Rattle.service.specs.declared.verbs.Verb.TheVariants.{Put, Drop, Grant, Revoke, Ask, Who, Poll, Wait, Proof, End, Vault, Sees}
-use Rattle.service.specs.Words.{words, after_word, IsNumber}
+use Rattle.service.specs.Words.{words, after_word, number_of}
 
--- the form of a command, by its words
+-- what a line writes: a command made of what these words write, one that takes no words, or none
 pub data Form : Type 0 where
-  put : List ℕ → Form
-  drop : List ℕ → Form
-  grant : List ℕ → Form
-  revoke : List ℕ → Form
-  grant_all : Form
-  revoke_all : Form
-  ask : List ℕ → List ℕ → Form
-  who : List ℕ → Form
-  poll : List ℕ → Form
-  wait : List ℕ → Form
-  proof : List ℕ → List ℕ → Form
-  end : List ℕ → Form
-  vault : Form
-  sees : Form
+  of_credential : (Credential → Command) → List ℕ → Form
+  of_name : (List ℕ → Command) → List ℕ → Form
+  of_role : (Role → Command) → List ℕ → Form
+  of_role_and_name : (Role → List ℕ → Command) → List ℕ → List ℕ → Form
+  of_number : (ℕ → Command) → List ℕ → Form
+  of_number_and_name : (ℕ → List ℕ → Command) → List ℕ → List ℕ → Form
+  whole : Command → Form
   unknown : Form
 
--- a wrong number of words is no form
-abbrev pub with_none : Form → List (List ℕ) → Form
-with_none form [] = form
-with_none form _ = unknown
-
--- one argument
-abbrev pub with_one : (List ℕ → Form) → List (List ℕ) → Form
-with_one form (word ∷ []) = form word
-with_one form _ = unknown
-
--- two arguments
-abbrev pub with_two : (List ℕ → List ℕ → Form) → List (List ℕ) → Form
-with_two form (first ∷ second ∷ []) = form first second
-with_two form _ = unknown
+-- to make a change
+abbrev pub to_alter : Change → Command
+to_alter change = Request (Alter change)
 
 -- a star stands for every reader, and is read before names
-abbrev pub grant_form : List ℕ → Form
-grant_form word = if bytes_eq word (codes "*") then grant_all else grant word
+abbrev pub form_of_reader : Change → (List ℕ → Change) → List ℕ → Form
+form_of_reader to_all to word = if bytes_eq word (codes "*") then whole (to_alter to_all) else of_name (λ name. to_alter (to name)) word
 
--- the same of `revoke`
-abbrev pub revoke_form : List ℕ → Form
-revoke_form word = if bytes_eq word (codes "*") then revoke_all else revoke word
+-- a verb alone
+abbrev pub form_alone : List ℕ → Form
+form_alone verb =
+    if bytes_eq verb (codes "vault") then whole (Request Vault)
+    else (if bytes_eq verb (codes "sees") then whole (Request Sees)
+    else unknown)
 
--- the verb that a word is
-abbrev pub verb_of : List ℕ → Option Verb
-verb_of word =
-    if bytes_eq word (codes "put") then Some Put
-    else (if bytes_eq word (codes "drop") then Some Drop
-    else (if bytes_eq word (codes "grant") then Some Grant
-    else (if bytes_eq word (codes "revoke") then Some Revoke
-    else (if bytes_eq word (codes "ask") then Some Ask
-    else (if bytes_eq word (codes "who") then Some Who
-    else (if bytes_eq word (codes "poll") then Some Poll
-    else (if bytes_eq word (codes "wait") then Some Wait
-    else (if bytes_eq word (codes "proof") then Some Proof
-    else (if bytes_eq word (codes "end") then Some End
-    else (if bytes_eq word (codes "vault") then Some Vault
-    else (if bytes_eq word (codes "sees") then Some Sees
-    else None)))))))))))
+-- a verb and one word
+abbrev pub form_with_one : List ℕ → List ℕ → Form
+form_with_one verb word =
+    if bytes_eq verb (codes "grant") then form_of_reader GrantAll Grant word
+    else (if bytes_eq verb (codes "revoke") then form_of_reader RevokeAll Revoke word
+    else (if bytes_eq verb (codes "who") then of_role (λ role. Request (Seek (Who role))) word
+    else (if bytes_eq verb (codes "poll") then of_number (λ number. Request (Poll number)) word
+    else (if bytes_eq verb (codes "wait") then of_number Wait word
+    else (if bytes_eq verb (codes "end") then of_number (λ number. Request (Close number)) word
+    else unknown)))))
 
--- `put` and `drop` take the rest of the line, each other verb so many words
-abbrev pub form_by_verb : Option Verb → List (List ℕ) → List ℕ → Form
-form_by_verb None args rest = unknown
-form_by_verb (Some Put) args rest = put rest
-form_by_verb (Some Drop) args rest = drop rest
-form_by_verb (Some Grant) args rest = with_one grant_form args
-form_by_verb (Some Revoke) args rest = with_one revoke_form args
-form_by_verb (Some Ask) args rest = with_two ask args
-form_by_verb (Some Who) args rest = with_one who args
-form_by_verb (Some Poll) args rest = with_one poll args
-form_by_verb (Some Wait) args rest = with_one wait args
-form_by_verb (Some Proof) args rest = with_two proof args
-form_by_verb (Some End) args rest = with_one end args
-form_by_verb (Some Vault) args rest = with_none vault args
-form_by_verb (Some Sees) args rest = with_none sees args
+-- a verb and two words
+abbrev pub form_with_two : List ℕ → List ℕ → List ℕ → Form
+form_with_two verb first second =
+    if bytes_eq verb (codes "ask") then of_role_and_name (λ role name. Request (Seek (Ask role name))) first second
+    else (if bytes_eq verb (codes "proof") then of_number_and_name (λ number name. Request (Proof number name)) first second
+    else unknown)
 
--- the first word says which command it is
+-- each verb takes so many words
+abbrev pub form_with : List ℕ → List (List ℕ) → Form
+form_with verb [] = form_alone verb
+form_with verb (word ∷ []) = form_with_one verb word
+form_with verb (first ∷ second ∷ []) = form_with_two verb first second
+form_with verb (first ∷ second ∷ third ∷ more) = unknown
+
+-- but `put` and `drop`, which take the rest of the line
+abbrev pub form_by_verb : List ℕ → List (List ℕ) → List ℕ → Form
+form_by_verb verb args rest =
+    if bytes_eq verb (codes "put") then of_credential (λ c. to_alter (Upload c)) rest
+    else (if bytes_eq verb (codes "drop") then of_credential (λ c. to_alter (Withdraw c)) rest
+    else form_with verb args)
+
+-- the first word is the verb
 abbrev pub form_by_words : List (List ℕ) → List ℕ → Form
 form_by_words [] rest = unknown
-form_by_words (word ∷ args) rest = form_by_verb (verb_of word) args rest
+form_by_words (verb ∷ args) rest = form_by_verb verb args rest
 
--- the form of the text behind a name
+-- what the text behind a name writes
 abbrev pub form_of : List ℕ → Form
 form_of text = form_by_words (words text) (after_word text)
 
--- why a text spells no credential; want of memory comes last
-abbrev pub RefusesCredential : List ℕ → Refusal → Type 0
-RefusesCredential text (refusal.Credential fault) = credential.refusal text ≡ Some fault
-RefusesCredential text refusal.Memory = credential.refusal text ≡ None
-RefusesCredential text _ = ⊥
-
--- why a text is no name
-abbrev pub RefusesName : List ℕ → Refusal → Type 0
-RefusesName text (refusal.Name fault) = name_fault text ≡ Some fault
-RefusesName text _ = ⊥
-
--- why two texts are no role and name: the first of their faults
-abbrev pub RefusesQuestion : List ℕ → List ℕ → Refusal → Type 0
-RefusesQuestion role name (refusal.Name fault) = or_then (role_fault role) (name_fault name) ≡ Some fault
-RefusesQuestion role name _ = ⊥
-
--- why a text is no role
-abbrev pub RefusesRole : List ℕ → Refusal → Type 0
-RefusesRole text (refusal.Name fault) = role_fault text ≡ Some fault
-RefusesRole text _ = ⊥
+-- a credential's fault, as a refusal
+abbrev pub credential_refusal : List ℕ → Option Refusal
+credential_refusal text = option_map refusal.Credential (credential.refusal text)
 
 -- a text that is no number makes no command
-abbrev pub RefusesNumber : List ℕ → Refusal → Type 0
-RefusesNumber text refusal.Command = (n : ℕ) → IsNumber text n → ⊥
-RefusesNumber text _ = ⊥
+abbrev pub number_refusal : Option ℕ → Option Refusal
+number_refusal None = Some refusal.Command
+number_refusal (Some number) = None
 
--- why two texts are no number and name: the first of their faults
-abbrev pub RefusesProof : List ℕ → List ℕ → Refusal → Type 0
-RefusesProof number name why = RefusesNumber number why ⊎ (((n : ℕ) × IsNumber number n) × RefusesName name why)
+-- why the words write no command: the first refusal from left to right
+abbrev pub form_refusal : Form → Option Refusal
+form_refusal (of_credential make text) = credential_refusal text
+form_refusal (of_name make name) = option_map refusal.Name (name_fault name)
+form_refusal (of_role make role) = option_map refusal.Name (role_fault role)
+form_refusal (of_role_and_name make role name) =
+    or_then (option_map refusal.Name (role_fault role)) (option_map refusal.Name (name_fault name))
+form_refusal (of_number make number) = number_refusal (number_of number)
+form_refusal (of_number_and_name make number name) = or_then (number_refusal (number_of number)) (option_map refusal.Name (name_fault name))
+form_refusal (whole command) = None
+form_refusal unknown = Some refusal.Command
 
--- the command that this form writes, or the first refusal from left to right; want of memory comes last
+-- a credential that has no fault may lack memory
+abbrev pub LacksMemory : Form → Type 0
+LacksMemory (of_credential make text) = credential_refusal text ≡ None
+LacksMemory _ = ⊥
+
+-- the command that the words write
+abbrev pub Makes : Form → Command → Type 0
+Makes (of_credential make text) command = (c : Credential) × Spells text c × (length text ≤ 4096) × (command ≡ make c)
+Makes (of_name make name) command = IsName name × (command ≡ make name)
+Makes (of_role make role) command = (r : Role) × SpellsRole role r × (command ≡ make r)
+Makes (of_role_and_name make role name) command = (r : Role) × SpellsRole role r × IsName name × (command ≡ make r name)
+Makes (of_number make number) command = (n : ℕ) × (number_of number ≡ Some n) × (command ≡ make n)
+Makes (of_number_and_name make number name) command = (n : ℕ) × (number_of number ≡ Some n) × IsName name × (command ≡ make n name)
+Makes (whole one) command = command ≡ one
+Makes unknown command = ⊥
+
+-- the command, or the first refusal; want of memory comes last
 abbrev pub Reads : Form → Result Command Refusal → Type 0
-Reads (put text) (Ok (command.Request (request.Alter (change.Upload c)))) = Spells text c
-Reads (put text) (Err why) = RefusesCredential text why
-Reads (drop text) (Ok (command.Request (request.Alter (change.Withdraw c)))) = Spells text c
-Reads (drop text) (Err why) = RefusesCredential text why
-Reads (grant name) (Ok (command.Request (request.Alter (change.Grant reader)))) = IsName name × (reader ≡ name)
-Reads (grant name) (Err why) = RefusesName name why
-Reads (revoke name) (Ok (command.Request (request.Alter (change.Revoke reader)))) = IsName name × (reader ≡ name)
-Reads (revoke name) (Err why) = RefusesName name why
-Reads grant_all (Ok (command.Request (request.Alter change.GrantAll))) = Unit {0}
-Reads revoke_all (Ok (command.Request (request.Alter change.RevokeAll))) = Unit {0}
-Reads (ask role name) (Ok (command.Request (request.Seek (query.Ask r d)))) = SpellsRole role r × IsName name × (d ≡ name)
-Reads (ask role name) (Err why) = RefusesQuestion role name why
-Reads (who role) (Ok (command.Request (request.Seek (query.Who r)))) = SpellsRole role r
-Reads (who role) (Err why) = RefusesRole role why
-Reads (poll number) (Ok (command.Request (request.Poll n))) = IsNumber number n
-Reads (poll number) (Err why) = RefusesNumber number why
-Reads (wait number) (Ok (command.Wait n)) = IsNumber number n
-Reads (wait number) (Err why) = RefusesNumber number why
-Reads (proof number name) (Ok (command.Request (request.Proof n d))) = IsNumber number n × IsName name × (d ≡ name)
-Reads (proof number name) (Err why) = RefusesProof number name why
-Reads (end number) (Ok (command.Request (request.Close n))) = IsNumber number n
-Reads (end number) (Err why) = RefusesNumber number why
-Reads vault (Ok (command.Request request.Vault)) = Unit {0}
-Reads sees (Ok (command.Request request.Sees)) = Unit {0}
-Reads unknown (Err refusal.Command) = Unit {0}
-Reads _ _ = ⊥
+Reads form (Ok command) = Makes form command
+Reads form (Err why) = (form_refusal form ≡ Some why) ⊎ ((why ≡ refusal.Memory) × LacksMemory form)

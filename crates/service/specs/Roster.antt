@@ -1,10 +1,10 @@
 -- The roster that an input begins with.
-use Rattle.std.specs.Prelude.{◌≡◌, ◌⊎◌, ℕ, ◌<◌, ◌≤◌, List, [], ◌∷◌, length, map, codes, Any}
-use Rattle.std.specs.List.{AllZip, IsDistinct}
+use Rattle.std.specs.Prelude.{◌≡◌, ◌⊎◌, ℕ, ◌<◌, ◌≤◌, List, [], ◌∷◌, length, map, codes, Any, Some}
+use Rattle.std.specs.List.{IsDistinct}
 use Rattle.names.specs.Name.{IsName, is_same}
 use Rattle.quotas.specs.Quota.{Quota, IsQuota, usual_quota}
 use Rattle.service.specs.Line.{Line, text, too_long, not_ascii}
-use Rattle.service.specs.Words.{words, IsNumber}
+use Rattle.service.specs.Words.{words, number_of}
 
 -- one tenant of a roster: its name, its word and its limits
 pub record Row : Type 0 where
@@ -18,7 +18,7 @@ numbers_of q = q.creds ∷ q.grants ∷ q.searches ∷ q.changes ∷ q.opens ∷
 
 -- six words are these limits, each in its range
 pub record AreLimits (ws : List (List ℕ)) (q : Quota) : Type 0 where
-  pub numbers : AllZip IsNumber ws (numbers_of q)
+  pub numbers : map number_of ws ≡ map Some (numbers_of q)
   pub range : IsQuota q
 
 -- no words are the usual limits

@@ -1,18 +1,17 @@
 -- What a tenant's command may be told in a session.
-use Rattle.std.specs.Prelude.{◌≡◌, ℕ, List, [], Result, Ok, Err, All, Contains}
-use Rattle.std.specs.List.Sorted.{IsStrictlySortedBy}
-use Rattle.names.specs.Name.{name_order}
-use Rattle.vaults.specs.Journal.{names_in}
+use Rattle.std.specs.Prelude.{◌≡◌, ◌⊎◌, ℕ, List, [], Result, Ok, Err}
 use Rattle.hall.specs.declared.faults.Fault.{Fault}
-use Rattle.hall.specs.declared.calls.requests.Request.TheVariants as request
+use Rattle.hall.specs.declared.faults.Fault.TheVariants.{Memory}
+use Rattle.hall.specs.declared.calls.requests.Request.{Request}
+use Rattle.hall.specs.declared.calls.requests.Request.TheVariants.{Poll}
 use Rattle.hall.specs.declared.calls.replies.Reply.{Reply}
-use Rattle.hall.specs.declared.calls.replies.Reply.TheVariants.{Counted, Opened, Answered, Closed, Vault, Sees, Proof}
+use Rattle.hall.specs.declared.calls.replies.Reply.TheVariants.{Refused}
+use Rattle.hall.specs.Hall.{HallState, IsSound, IsServed}
 use Rattle.pool.specs.declared.faults.DeskFault.{DeskFault}
 use Rattle.pool.specs.declared.faults.DeskFault.TheVariants.{Hall, Rewound, PassesOut, NoThread}
-use Rattle.pool.specs.Refusals.{IsChangeRefusal, IsOpenRefusal, IsPollRefusal, IsEndRefusal, IsReadRefusal, IsProofRefusal, desk_number_of}
-use Rattle.pool.specs.Verdicts.{IsProofOfSome}
+use Rattle.pool.specs.Refusals.{desk_number_of}
 use Rattle.service.specs.declared.commands.Command.{Command}
-use Rattle.service.specs.declared.commands.Command.TheVariants.{Request, Wait}
+use Rattle.service.specs.declared.commands.Command.TheVariants as command
 use Rattle.service.specs.declared.refusals.Refusal.{Refusal}
 use Rattle.service.specs.Command.{Form, Reads}
 use Rattle.service.specs.Refusal.{refusal_number}
@@ -33,26 +32,16 @@ RefusesBy may (Rewound front) = Unit {0}
 RefusesBy may PassesOut = ⊥
 RefusesBy may NoThread = ⊥
 
--- A reply or a refusal of the command's kind. A vault has credentials that the tenant issues; the names that it sees stand in
--- order, its own among them; a proof is one of the entity's membership.
+-- in some sound hall the tenant's request is served so
+abbrev pub IsServedSomewhere : List ℕ → Request → Reply → Type 0
+IsServedSomewhere who q told = (old : HallState) × (new : HallState) × IsSound old × IsServed old who q told new
+
+-- A request is served in a sound hall, and a wait as a poll, for which memory may also lack where no answer does.
 abbrev pub MayTell : List ℕ → Command → Result Reply DeskFault → Type 0
-MayTell who (Request (request.Alter change)) (Ok (Counted n)) = Unit {0}
-MayTell who (Request (request.Alter change)) (Err fault) = RefusesBy (IsChangeRefusal change) fault
-MayTell who (Request (request.Seek query)) (Ok (Opened n)) = Unit {0}
-MayTell who (Request (request.Seek query)) (Err fault) = RefusesBy IsOpenRefusal fault
-MayTell who (Request (request.Poll k)) (Ok (Answered answer)) = Unit {0}
-MayTell who (Request (request.Poll k)) (Err fault) = RefusesBy IsPollRefusal fault
-MayTell who (Request (request.Close k)) (Ok Closed) = Unit {0}
-MayTell who (Request (request.Close k)) (Err fault) = RefusesBy IsEndRefusal fault
-MayTell who (Request request.Vault) (Ok (Vault rows)) = All (λ c. c.head.owner ≡ who) rows
-MayTell who (Request request.Vault) (Err fault) = RefusesBy IsReadRefusal fault
-MayTell who (Request request.Sees) (Ok (Sees names)) = Contains (names_in names) who × IsStrictlySortedBy name_order (names_in names)
-MayTell who (Request request.Sees) (Err fault) = RefusesBy IsReadRefusal fault
-MayTell who (Request (request.Proof k member)) (Ok (Proof steps)) = IsProofOfSome member steps
-MayTell who (Request (request.Proof k member)) (Err fault) = RefusesBy IsProofRefusal fault
-MayTell who (Wait k) (Ok (Answered answer)) = Unit {0}
-MayTell who (Wait k) (Err fault) = RefusesBy IsPollRefusal fault
-MayTell who command told = ⊥
+MayTell who (command.Request q) (Ok told) = IsServedSomewhere who q told
+MayTell who (command.Request q) (Err fault) = RefusesBy (λ f. IsServedSomewhere who q (Refused f)) fault
+MayTell who (command.Wait k) (Ok told) = IsServedSomewhere who (Poll k) told
+MayTell who (command.Wait k) (Err fault) = RefusesBy (λ f. IsServedSomewhere who (Poll k) (Refused f) ⊎ (f ≡ Memory)) fault
 
 -- its lines
 abbrev pub told_lines : Result Reply DeskFault → List ℕ
@@ -64,7 +53,7 @@ pub data IsToldBy (told : Result Reply DeskFault) (lines : List ℕ) : Type 0 wh
   whole : lines ≡ told_lines told → IsToldBy told lines
   lacking : (reply : Reply) → told ≡ Ok reply → IsLong reply → lines ≡ session_refusal 90 → IsToldBy told lines
 
--- A tenant's command is refused by its text alone, or it is told something of its kind.
+-- A tenant's command is refused by its text alone, or it is told what the desk came to.
 pub data IsTold (who : List ℕ) (form : Form) (reply : List ℕ) : Type 0 where
   refused : (why : Refusal) → Reads form (Err why) → reply ≡ session_refusal (refusal_number why) → IsTold who form reply
   carried_out : (command : Command) (told : Result Reply DeskFault) → Reads form (Ok command) → MayTell who command told →

@@ -1,7 +1,9 @@
 -- The words of a text.
-use Rattle.std.specs.Prelude.{◌≡◌, ◌≢◌, ℕ, ◌≤◌, Bool, ◌==◌, List, length, filter, slice_index, nat_lt, [], ◌∷◌}
-use Rattle.std.specs.List.{slice_split, before_first, after_first}
-use Rattle.std.specs.Str.Parse.{IsNumeral, digits_value}
+use Rattle.std.specs.Prelude.{◌≡◌, ℕ, Bool, ◌==◌, ◌&&◌, nat_lt, nat_le, if◌then◌else◌}
+use Rattle.std.specs.Prelude.{List, [], ◌∷◌, length, filter, slice_index, Option, Some, None}
+use Rattle.std.specs.List.{slice_split, before_first, after_first, list_all}
+use Rattle.std.specs.Str.Parse.{digits_value}
+use Rattle.names.specs.Name.{is_digit}
 pub use Rattle.names.specs.Texts.{is_space, trim_start}
 use Rattle.service.specs.declared.arguments.Arguments.{Arguments}
 use Rattle.service.specs.declared.arguments.Arguments.TheVariants.{Nothing, One, Two, More}
@@ -22,12 +24,13 @@ first_word text = before_first is_space (trim_start text)
 abbrev pub after_word : List ℕ → List ℕ
 after_word text = after_first is_space (trim_start text)
 
--- a number: 1 to 10 decimal digits, the first not 0
-pub record IsNumber (text : List ℕ) (n : ℕ) : Type 0 where
-  pub digits : IsNumeral 10 text
-  pub short : length text ≤ 10
-  pub first : slice_index text 0 ≢ 48
-  pub value : n ≡ digits_value 10 text
+-- the text of a number: 1 to 10 decimal digits, the first not 0
+abbrev pub is_number : List ℕ → Bool
+is_number text = nat_lt 48 (slice_index text 0) && (nat_le (length text) 10 && list_all is_digit text)
+
+-- the number that a text writes, if it writes one
+abbrev pub number_of : List ℕ → Option ℕ
+number_of text = if is_number text then Some (digits_value 10 text) else None
 
 -- the words are these, up to two of them
 abbrev pub AreArguments : List (List ℕ) → Arguments → Type 0

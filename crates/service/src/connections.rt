@@ -37,8 +37,8 @@ struct Arrivals {
 }
 
 /// Answers connections by so many sessions at once, and tells how many there were once all have ended. The listener is closed
-/// as soon as no more are accepted. Where that is a fault the desk is stopped, so that no session waits for a search, and
-/// each session ends where it reads.
+/// as soon as no more are accepted. Where that is a fault the desk is stopped first, so that no session waits for a search,
+/// and each session ends where it reads: a peer that is refused finds no session that still answers.
 pub(crate) fn answer_connections<L: Ledger + Send + Sync, R: Threads + Wait + Clock + Sync>(
     rt: &R,
     alloc: Global,
@@ -101,36 +101,36 @@ fn answer_arrivals<L: Ledger + Send + Sync, R: Threads + Wait + Clock + Sync>(
                         .is_ok();
             }
             let accepted = if started {
-                accept_all(rt, entrance, accept)
+                accept_all(rt, &entrance, accept)
             } else {
-                drop(entrance);
                 Err(ServeFault::NoThread)
             };
             if accepted.is_err() {
                 arrivals.bounds.stop();
                 desk.stop(rt);
             }
+            drop(entrance);
             accepted
         },
     )
 }
 
-/// Accepts so many connections, or all that come. The listener and the queue end with it.
+/// Accepts so many connections, or all that come.
 fn accept_all<R: Wait + Clock>(
     rt: &R,
-    entrance: Entrance,
+    entrance: &Entrance,
     accept: Option<u64>,
 ) -> Result<u64, ServeFault>
     ensures { Answered accept result }
 {
     let Some(count) = accept else {
         for _ in rt.forever() {
-            accept_one(rt, &entrance)?;
+            accept_one(rt, entrance)?;
         }
         unreachable!()
     };
     for _ in 0..count {
-        accept_one(rt, &entrance)?;
+        accept_one(rt, entrance)?;
     }
     Ok(count)
 }

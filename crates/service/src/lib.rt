@@ -1,4 +1,9 @@
 //! The service over bytes: lines that come in, commands of many tenants, and replies that go out.
+//!
+//! `run_script` promises `ScriptWrote` (`specs/Written.antt`): what it wrote is the transcript of an exact run of the tenants'
+//! requests as their lines say them, or a front part of it where a device failed. `scripts_are_isolated` is the law that a
+//! tenant's bytes depend on its own lines and on what it has in sight (`specs/Laws.antt`). `serve_session` is one connection at
+//! a desk (`specs/Session.antt`), and `serve` all of them, over TCP.
 #![tactic(auto)]
 
 mod accepting;
@@ -30,7 +35,6 @@ mod session_lines;
 mod session_replies;
 mod sessions;
 mod speakers;
-mod verbs;
 mod words;
 mod writing;
 

@@ -1,9 +1,8 @@
 //! The lines of the replies. Only a vault and lists of names may take memory.
-ghost use Rattle.std.specs.Prelude.{◌≡◌, ◌≤◌, ◌++◌, ◌∷◌, length, codes, OnOk};
+ghost use Rattle.std.specs.Prelude.{◌≡◌, ◌≤◌, ◌++◌, ◌∷◌, length, codes, OnOk, OnErr};
 ghost use Rattle.std.specs.List.{flat_map};
 ghost use Rattle.std.specs.Fmt.{decimal};
 ghost use Rattle.credential_text.specs.Spelling.{canonical};
-ghost use Rattle.hall.specs.declared.calls.answers.Answer.TheVariants as answer;
 ghost use Rattle.hall.specs.declared.calls.replies.Reply.TheVariants as reply;
 ghost use Rattle.service.specs.Refusal.{text_of, refusal_number};
 ghost use Rattle.service.specs.Reply.{front_of, line_after, error_text, listed, seen_text, seen_listed};
@@ -37,10 +36,19 @@ pub(crate) fn fill_reply(room: &mut Room, who: &Speaker, reply: &Reply)
         Reply::Opened(number) => fill_counted(room, who, b"search ", *number),
         Reply::Answered(answer) => fill_answer(room, who, answer),
         Reply::Closed => fill_text(room, who, b"ended"),
-        Reply::Vault(rows) => fill_vault(room, who, rows.as_slice()),
-        Reply::Sees(seen) => fill_sees(room, who, seen.as_slice()),
+        Reply::Vault(rows) => {
+            let written = write_vault(room, who, rows.as_slice());
+            or_lacking(room, who, written);
+        }
+        Reply::Sees(seen) => {
+            let written = write_sees(room, who, seen.as_slice());
+            or_lacking(room, who, written);
+        }
+        Reply::Proof(proof) => {
+            let written = write_steps(room, who, proof);
+            or_lacking(room, who, written);
+        }
         Reply::Refused(fault) => fill_error(room, who, fault.number()),
-        Reply::Proof(proof) => fill_proof(room, who, proof),
         Reply::Stepped(_outcome) => room.clear(),
     }
 }
@@ -53,7 +61,10 @@ fn fill_answer(room: &mut Room, who: &Speaker, answer: &Answer)
         Answer::Working => fill_text(room, who, b"working"),
         Answer::Yes => fill_text(room, who, b"yes"),
         Answer::No => fill_text(room, who, b"no"),
-        Answer::Members(names) => fill_members(room, who, names.as_slice()),
+        Answer::Members(names) => {
+            let written = write_members(room, who, names.as_slice());
+            or_lacking(room, who, written);
+        }
         Answer::Spent => fill_text(room, who, b"spent"),
         Answer::Broken => fill_text(room, who, b"broken"),
     }
@@ -100,39 +111,14 @@ fn text_after(number: u64) -> &'static str
     fault_text(number).unwrap_or("")
 }
 
-/// The credentials of a vault, or that memory lacked.
-fn fill_vault(room: &mut Room, who: &Speaker, rows: &[Credential])
-    ensures { IsFilled (front_of who.now) (reply.Vault rows.now) room.new }
+/// Where memory lacked for what was to be written, says so in its place.
+fn or_lacking(room: &mut Room, who: &Speaker, written: Result<(), AllocError>)
+    ensures whole { OnOk written (room.new ≡ room.old) }
+    ensures lacking { OnErr written (room.new ≡ line_after (front_of who.now) (error_text 90)) }
 {
-    if write_vault(room, who, rows).is_err() {
-        fill_error(room, who, Fault::Memory.number());
-    }
-}
-
-/// The names that are seen, or that memory lacked.
-fn fill_sees(room: &mut Room, who: &Speaker, seen: &[Seen])
-    ensures { IsFilled (front_of who.now) (reply.Sees seen.now) room.new }
-{
-    if write_sees(room, who, seen).is_err() {
-        fill_error(room, who, Fault::Memory.number());
-    }
-}
-
-/// The members of a role, or that memory lacked.
-fn fill_members(room: &mut Room, who: &Speaker, names: &[Entity])
-    ensures { IsFilled (front_of who.now) (reply.Answered (answer.Members names.now)) room.new }
-{
-    if write_members(room, who, names).is_err() {
-        fill_error(room, who, Fault::Memory.number());
-    }
-}
-
-/// A proof, or that memory lacked.
-fn fill_proof(room: &mut Room, who: &Speaker, proof: &Proof)
-    ensures { IsFilled (front_of who.now) (reply.Proof proof.now) room.new }
-{
-    if write_steps(room, who, proof).is_err() {
-        fill_error(room, who, Fault::Memory.number());
+    match written {
+        Ok(()) => {}
+        Err(_fault) => fill_error(room, who, Fault::Memory.number()),
     }
 }
 

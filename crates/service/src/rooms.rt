@@ -1,5 +1,5 @@
 //! The room in which the lines of a reply are put together.
-ghost use Rattle.std.specs.Prelude.{◌≡◌, ◌≤◌, ◌+◌, ◌++◌, [], length, IfOk, OnOk};
+ghost use Rattle.std.specs.Prelude.{◌≡◌, ◌≤◌, ◌+◌, ◌++◌, [], length, IfOk, OnOk, OnErr};
 ghost use Rattle.std.specs.Fmt.{decimal};
 ghost use Rattle.credential_text.specs.Spelling.{canonical};
 ghost use Rattle.service.specs.Reply.{front_of};
@@ -86,22 +86,27 @@ impl Room {
 
     /// Begins a further line to this one.
     pub(crate) fn extend_front(&mut self, who: &Speaker) -> Result<(), AllocError>
-        ensures { OnOk result (self.new ≡ self.old ++ front_of who.now) }
+        ensures begun { OnOk result (self.new ≡ self.old ++ front_of who.now) }
+        ensures unchanged { OnErr result (self.new ≡ self.old) }
     {
-        self.extend(who.name())?;
-        self.extend(who.colon())
+        self.bytes.reserve(who.name().len() + who.colon().len())?;
+        append(&mut self.bytes, who.name());
+        append(&mut self.bytes, who.colon());
+        Ok(())
     }
 
     /// Appends a text of a long reply.
     pub(crate) fn extend(&mut self, text: &[u8]) -> Result<(), AllocError>
-        ensures { OnOk result (self.new ≡ self.old ++ text.now) }
+        ensures appended { OnOk result (self.new ≡ self.old ++ text.now) }
+        ensures unchanged { OnErr result (self.new ≡ self.old) }
     {
         self.bytes.extend_from_slice(text)
     }
 
     /// Appends the canonical spelling of a credential.
     pub(crate) fn extend_by(&mut self, credential: &Credential) -> Result<(), AllocError>
-        ensures { OnOk result (self.new ≡ self.old ++ canonical credential.now) }
+        ensures spelled { OnOk result (self.new ≡ self.old ++ canonical credential.now) }
+        ensures unchanged { OnErr result (self.new ≡ self.old) }
     {
         write_credential(credential, &mut self.bytes)
     }

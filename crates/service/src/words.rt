@@ -1,7 +1,8 @@
 //! The words of a line.
-ghost use Rattle.std.specs.Prelude.{◌≡◌, ℕ, [], ◌∷◌, true, false, MatchOption, IfSome, IfNone};
-ghost use Rattle.std.specs.List.{before_first, after_first, list_any};
-ghost use Rattle.service.specs.Words.{is_colon, words, first_word, after_word, IsNumber};
+ghost use Rattle.std.specs.Prelude.{◌≡◌, [], ◌∷◌, true, false, MatchOption, IfSome};
+ghost use Rattle.std.specs.List.{before_first, after_first, list_all, list_any};
+ghost use Rattle.names.specs.Name.{is_digit};
+ghost use Rattle.service.specs.Words.{is_colon, words, first_word, after_word, is_number, number_of};
 
 use names::texts::{cut, trim_start};
 use std::str;
@@ -41,14 +42,37 @@ pub(crate) fn next_word(text: &[u8]) -> Option<(&[u8], &[u8])>
 
 /// The number that these digits write, if they write one.
 pub(crate) fn number(text: &[u8]) -> Option<u64>
-    ensures some { IfSome result (IsNumber text.now) }
-    ensures none { IfNone result ((n : ℕ) → IsNumber text.now n → ⊥) }
+    ensures { result ≡ number_of text.now }
 {
-    if text.len() > MOST_DIGITS || text.starts_with(b"0") || text.starts_with(b"+") {
-        return None;
+    if is_number(text) {
+        match str::from_utf8(text) {
+            Ok(digits) => digits.parse().ok(),
+            Err(_) => None,
+        }
+    } else {
+        None
     }
-    match str::from_utf8(text) {
-        Ok(digits) => digits.parse().ok(),
-        Err(_) => None,
+}
+
+/// Whether these are 1 to 10 digits, the first not 0.
+fn is_number(text: &[u8]) -> bool
+    ensures { result ≡ is_number text.now }
+{
+    let Some(first) = text.first() else {
+        return false;
+    };
+    if *first <= b'0' {
+        return false;
     }
+    if text.len() > MOST_DIGITS {
+        return false;
+    }
+    are_digits(text)
+}
+
+/// Whether there are digits alone.
+fn are_digits(text: &[u8]) -> bool
+    ensures { result ≡ list_all is_digit text.now }
+{
+    text.iter().all(|byte| (b'0'..=b'9').contains(byte))
 }

@@ -314,6 +314,13 @@ fn a_listener_that_fails(rt: HostRuntime) -> Result<(), Fail> {
     Ok(())
 }
 
+/// Whether nothing more is told to this peer, whose session is over. Where that didn't read the peer's last line the
+/// connection is reset.
+fn is_cut_off(mut stream: &TcpStream) -> bool {
+    let mut byte = [0];
+    !matches!(stream.read(&mut byte), Ok(1..))
+}
+
 /// Whether peers are refused once a listener no longer waits for them, while a session is open, and that session ends at
 /// its next line.
 fn are_refused<R: Net<Stream = TcpStream> + Clock>(
@@ -333,8 +340,8 @@ fn are_refused<R: Net<Stream = TcpStream> + Clock>(
         }
         thread::sleep(rt, Duration::from_millis(1));
     }
-    first.write_all(b"vault\n")?;
-    Ok(is_greeted && is_refused && is_over(&first)?)
+    let _ = first.write_all(b"vault\n");
+    Ok(is_greeted && is_refused && is_cut_off(&first))
 }
 
 #[test]

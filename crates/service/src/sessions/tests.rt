@@ -71,10 +71,11 @@ fn is_told<R: Wait>(
 #[test]
 fn a_session_from_its_hello_to_bye(rt: HostRuntime) -> Result<(), Fail> {
     let said: &[u8] =
-        b"vault\nhello A x\nhello Z a\nhello A a\nput A.r <- D\nvault\nsees\nend 7\nlook\n\
-        quit\nvault\nquit\n";
+        b"vault\nhello A x\nhello Z a\nhello A a\nput A.r <- D\nvault\nsees\nask A.r D\npoll 1\nend 7\n\
+        look\nquit\nvault\nquit\n";
     let told: &[u8] = b"error 61 no hello\nerror 62 bad hello\nerror 62 bad hello\nhello A\nok 1\n\
-        vault 1\nA.r <- D\nsees A\nerror 51 no such search\nerror 64 command\nbye\n";
+        vault 1\nA.r <- D\nsees A\nsearch 1\nworking\nerror 51 no such search\n\
+        error 64 command\nbye\n";
     let mut reader = Drips::new(said, NEVER);
     let mut writer = Trickles::new(Vec::new(rt.alloc()), NEVER, Refuses::WithAnError);
     let ended = serve(&rt, rt.alloc(), &mut reader, &mut writer)?;

@@ -1,9 +1,9 @@
--- A short answer is one line.
+-- A short answer is one line, and for a list of members memory may lack.
 use Rattle.std.proofs.Common.{codes, refl}
-use Rattle.hall.specs.declared.calls.answers.Answer.TheVariants.{Working, Yes, No, Spent, Broken}
+use Rattle.hall.specs.declared.calls.answers.Answer.TheVariants.{Working, Yes, No, Members, Spent, Broken}
 use Rattle.hall.specs.declared.calls.replies.Reply.TheVariants.{Answered}
 use Rattle.service.specs.Reply.{front_of}
-use Rattle.service.proofs.ReplyLemmas.{IsFilled-one}
+use Rattle.service.proofs.ReplyLemmas.{IsFilled-one, IsFilled-long, one_line_written}
 use Rattle.service.proofs.reply_lines.fill_answer.Goals as goal
 
 pub returns-in-Working : goal.returns-in-Working
@@ -25,3 +25,10 @@ returns-in-Spent c =
 pub returns-in-Broken : goal.returns-in-Broken
 returns-in-Broken c =
     rw c.in-Broken.is (IsFilled-one (front_of c.args.who.now) (codes "broken") c.fill_text-in-Broken.new.room (Answered Broken) refl c.fill_text-in-Broken.ensures)
+
+pub returns-in-Members : goal.returns-in-Members
+returns-in-Members c =
+    let line = rw c.as_slice.ensures at c.write_members-written.ensures in
+    rw c.in-Members.is
+    (IsFilled-long c.write_members-written.result (front_of c.args.who.now) c.write_members-written.new.room c.or_lacking.new.room (Answered (Members _)) tt
+    (one_line_written c.write_members-written.result (front_of c.args.who.now) _ c.write_members-written.new.room (Answered (Members _)) refl line) c.or_lacking.ensures.whole c.or_lacking.ensures.lacking)

@@ -1,10 +1,10 @@
--- A short reply is one line, and what no command asks for is none.
+-- A short reply is one line, what no command asks for is none, and for a long one memory may lack.
 use Rattle.std.proofs.Common.{◌++◌, codes, refl}
 use Rattle.std.specs.Fmt.{decimal}
-use Rattle.hall.specs.declared.calls.replies.Reply.TheVariants.{Counted, Opened, Closed, Refused, Stepped}
+use Rattle.hall.specs.declared.calls.replies.Reply.TheVariants.{Counted, Opened, Closed, Vault, Sees, Proof, Refused, Stepped}
 use Rattle.hall.specs.Fault.{fault_number}
 use Rattle.service.specs.Reply.{front_of, error_text}
-use Rattle.service.proofs.ReplyLemmas.{IsFilled-one, IsFilled-silent}
+use Rattle.service.proofs.ReplyLemmas.{IsFilled-one, IsFilled-silent, IsFilled-long, one_line_written}
 use Rattle.service.proofs.reply_lines.fill_reply.Goals as goal
 
 pub returns-in-Counted : goal.returns-in-Counted
@@ -25,3 +25,20 @@ returns-in-Refused c =
 
 pub returns-in-Stepped : goal.returns-in-Stepped
 returns-in-Stepped c = rw c.in-Stepped.is (IsFilled-silent (front_of c.args.who.now) c.clear.new.self (Stepped _) refl c.clear.ensures)
+
+pub returns-in-Vault : goal.returns-in-Vault
+returns-in-Vault c =
+    rw c.in-Vault.is
+    (IsFilled-long c.write_vault-written.result (front_of c.args.who.now) c.write_vault-written.new.room c.or_lacking.new.room (Vault _) tt (rw c.as_slice.ensures at c.write_vault-written.ensures) c.or_lacking.ensures.whole c.or_lacking.ensures.lacking)
+
+pub returns-in-Sees : goal.returns-in-Sees
+returns-in-Sees c =
+    let line = rw c.as_slice-in-Sees.ensures at c.write_sees-written.ensures in
+    rw c.in-Sees.is
+    (IsFilled-long c.write_sees-written.result (front_of c.args.who.now) c.write_sees-written.new.room c.or_lacking-in-Sees.new.room (Sees _) tt
+    (one_line_written c.write_sees-written.result (front_of c.args.who.now) _ c.write_sees-written.new.room (Sees _) refl line) c.or_lacking-in-Sees.ensures.whole c.or_lacking-in-Sees.ensures.lacking)
+
+pub returns-in-Proof : goal.returns-in-Proof
+returns-in-Proof c =
+    rw c.in-Proof.is
+    (IsFilled-long c.write_steps-written.result (front_of c.args.who.now) c.write_steps-written.new.room c.or_lacking-in-Proof.new.room (Proof _) tt c.write_steps-written.ensures c.or_lacking-in-Proof.ensures.whole c.or_lacking-in-Proof.ensures.lacking)

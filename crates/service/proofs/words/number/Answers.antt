@@ -1,12 +1,12 @@
--- What is refused is no number.
-use Rattle.service.proofs.NumberLemmas.{IsUtf8-number, unsigned, refused}
+-- Digits are text, and are parsed.
+use Rattle.std.proofs.Common.{sym}
+use Rattle.service.proofs.NumberLemmas.{IsUtf8-number, number_parsed}
 use Rattle.service.proofs.words.number.Goals as goal
 
-pub returns-in-Err-clause-none : goal.returns-in-Err-clause-none
-returns-in-Err-clause-none c = λ n is. c.in-Err.ensures.cases.0 (IsUtf8-number c.args.text.now n is)
+pub returns-in-Err : goal.returns-in-Err
+returns-in-Err c = absurd (c.in-Err.ensures.cases.0 (IsUtf8-number c.args.text.now (sym c.if-is_number.ensures)))
 
-pub returns-in-Ok-clause-none : goal.returns-in-Ok-clause-none
-returns-in-Ok-clause-none c =
-    let text = c.args.text.now in
+pub returns-in-Ok : goal.returns-in-Ok
+returns-in-Ok c =
     rw c.ok.ensures.value
-    (refused text c.parse.result (unsigned text c.if-starts_with-2.ensures.value) (rw c.in-Ok.ensures.cases.0 at c.parse.ensures.value.0))
+    (number_parsed c.args.text.now c.parse.result (sym c.if-is_number.ensures) (rw c.in-Ok.ensures.cases.0 at c.parse.ensures.value.0))
