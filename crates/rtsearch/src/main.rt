@@ -1,5 +1,8 @@
 //! The program: `rtsearch script` reads a roster and commands on standard input, and writes one reply to each;
 //! `rtsearch serve` reads a roster there, and answers its tenants over TCP.
+//!
+//! What it does with its arguments is said in `specs/CommandLine.antt`, and how it ends in `specs/Running.antt` and
+//! `specs/Serving.antt`.
 #![tactic(auto)]
 
 mod command_line;
