@@ -46,12 +46,15 @@ class Speaker:
 
     # what changes
 
+    def member(self):
+        return f"D{self.draw.randrange(9)}"
+
     def role(self):
         return f"{self.name}.{self.draw.choice(ROLES)}"
 
     def part(self):
         name = self.name
-        parts = [f"D{self.draw.randrange(9)}", self.role(), f"{name}.all", f"{name}.both", f"{self.next}.open",
+        parts = [self.member(), self.role(), f"{name}.all", f"{name}.both", f"{self.next}.open",
                  f"{self.role()}.open", f"{name}.friends.open", name]  # fmt: skip
         return self.draw.choice(parts)
 
@@ -72,7 +75,7 @@ class Speaker:
     def search(self):
         """A search from its opening on; it may stay open."""
         role = self.draw.choice([self.role(), self.role(), f"{self.name}.all", f"{self.name}.both", f"{self.next}.open"])
-        member = f"D{self.draw.randrange(9)}"
+        member = self.member()
         told = self.say(f"who {role}" if self.draw.random() < 0.5 else f"ask {role} {member}")
         if told.startswith("search"):
             number = self.tenant.opened
@@ -84,7 +87,7 @@ class Speaker:
 
     def look_back(self):
         for number in self.draw.sample(sorted(self.tenant.unended), min(2, len(self.tenant.unended))):
-            self.say(self.draw.choice([f"wait {number}", f"poll {number}", f"end {number}", f"proof {number} D1"]))
+            self.say(self.draw.choice([f"wait {number}", f"poll {number}", f"end {number}", f"proof {number} {self.member()}"]))
 
     def show(self):
         self.say(self.draw.choice(["vault", "sees"]))

@@ -1,5 +1,6 @@
 // An allocator that is loaded before the C library's own and refuses one allocation: the one whose number, counted from 1,
-// stands in REFUSE. At the end the number of allocations goes to the file that REFUSE_COUNT names.
+// stands in REFUSE; where REFUSE_ON is set, each one behind it too. At the end the number of allocations goes to the file
+// that REFUSE_COUNT names.
 #include <stddef.h>
 #include <stdlib.h>
 #include <unistd.h>
@@ -12,8 +13,9 @@ extern void *__libc_realloc(void *, size_t);
 extern void *__libc_calloc(size_t, size_t);
 extern void *__libc_memalign(size_t, size_t);
 static long wanted = -1;
+static int goes_on = 0;
 static _Atomic long made = 0;
-__attribute__((constructor)) static void begin(void) { const char *n = getenv("REFUSE"); wanted = n ? atol(n) : 0; made = 0; }
+__attribute__((constructor)) static void begin(void) { const char *n = getenv("REFUSE"); wanted = n ? atol(n) : 0; made = 0; goes_on = wanted > 0 && getenv("REFUSE_ON"); }
 __attribute__((destructor)) static void end(void) {
     const char *to = getenv("REFUSE_COUNT");
     wanted = -1;
@@ -21,7 +23,13 @@ __attribute__((destructor)) static void end(void) {
 }
 // A program with threads ends by this call, and runs no destructors.
 void _exit(int status) { end(); syscall(SYS_exit_group, status); __builtin_unreachable(); }
-static int refused(void) { if (wanted >= 0 && ++made == wanted) { errno = ENOMEM; return 1; } return 0; }
+static int refused(void) {
+    if (wanted < 0) return 0;
+    long number = ++made;
+    if (number != wanted && !(goes_on && number > wanted)) return 0;
+    errno = ENOMEM;
+    return 1;
+}
 void *malloc(size_t n) { return refused() ? NULL : __libc_malloc(n); }
 void *calloc(size_t n, size_t m) { return refused() ? NULL : __libc_calloc(n, m); }
 void *realloc(void *p, size_t n) { return refused() ? NULL : __libc_realloc(p, n); }

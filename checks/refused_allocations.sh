@@ -3,12 +3,19 @@
 # until a run makes fewer. A test may then end with want of memory; no answer may differ from what the test wants, and
 # nothing may crash. Needs a C compiler, for a small library that is loaded before the C library's own allocator.
 #
-#   checks/refused_allocations.sh CRATE..        (each: proves the crate's tests first, where they aren't built yet)
+#   checks/refused_allocations.sh CRATE[:TEST]..  (each: proves the crate's tests first, where they aren't built yet)
+#   checks/refused_allocations.sh --sample        (three crates of a search, 20 allocations of each test; and every one of a
+#                                                 search through a linked role in a hall, and of one from end to end at a desk)
 #
-# A test that makes more than 4,000 allocations, or MOST_RUNS, is run about so often, with allocations at equal distances.
-# Prints for each crate how many allocations its tests make, how many runs ended well though one was refused, how many
-# with want of memory, and every run that ended otherwise. The status is 1 where there was such a run.
+# A test that makes more than 4,000 allocations, or MOST_RUNS, is run about so often, with allocations at equal distances; one
+# that is named is run for each. Prints how many allocations the tests make, how many runs ended well though one was
+# refused, how many with want of memory, and every run that ended otherwise. Its last line is `N passed, M failed`, of what
+# was asked for. The status is 1 where one failed.
 set -eu
+if [ "${1-}" = --sample ]; then
+    MOST_RUNS=20
+    set -- cred_graph monitors search hall:a_linked_role_with_its_proof pool:a_whole_life_of_a_search
+fi
 root=$(cd "$(dirname "${BASH_SOURCE[0]}")/.." && pwd)
 work=$(mktemp -d)
 trap 'rm -rf "$work"' EXIT
@@ -22,17 +29,21 @@ one() {
     timeout 60 env REFUSE="$2" REFUSE_COUNT="$work/count" LD_PRELOAD="$work/refuse.so" "$tests" "$1" > "$work/out" 2>&1 || status=$?
 }
 
-bad=0
-for crate in "$@"; do
+passed=0
+failed=0
+for asked in "$@"; do
+    crate=${asked%%:*} only=
+    [ "$asked" = "$crate" ] || only=${asked#*:}
     tests=$root/crates/$crate/out/${crate}_tests
     [ -x "$tests" ] || (cd "$root/crates/$crate" && rt test) > "$work/log" 2>&1 || { cat "$work/log"; exit 1; }
     all=0 well=0 lacked=0 other=0
-    for test in $("$tests" --list | sed -n 's/: test$//p'); do
+    for test in $("$tests" --list | sed -n "s/^\(.*$only\): test\$/\1/p"); do
         one "$test" 0
         [ "$status" -eq 0 ] || { cat "$work/out"; exit 1; }
         count=$(cat "$work/count")
         all=$((all + count))
         apart=$(((count + most - 1) / most))
+        [ -z "$only" ] || apart=1
         for ((n = 1; n <= count; n += apart)); do
             one "$test" "$n"
             if [ "$status" -eq 0 ]; then
@@ -46,7 +57,12 @@ for crate in "$@"; do
             fi
         done
     done
-    echo "$crate: $all allocations; $well runs ended as with ample memory, $lacked with want of memory, $other otherwise"
-    [ "$other" -eq 0 ] || bad=1
+    echo "$asked: $all allocations; $well runs ended as with ample memory, $lacked with want of memory, $other otherwise"
+    if [ "$other" -eq 0 ]; then
+        passed=$((passed + 1))
+    else
+        failed=$((failed + 1))
+    fi
 done
-exit "$bad"
+echo "$passed passed, $failed failed"
+[ "$failed" -eq 0 ]

@@ -2,8 +2,8 @@
 //
 //   client PORT CONNECTIONS ROUNDS AHEAD poll|ask
 //
-// Each connection says hello as the tenant T1, T2 and so on, and uploads a credential; then, from when all have done that,
-// it sends so many rounds: `poll 7` of a search that isn't there, or `ask`, `wait` and `end` of one search. AHEAD is 0 where
+// Each connection says hello as a tenant of its own, and uploads a credential; then, from when all have done that, it
+// sends so many rounds: `poll 7` of a search that isn't there, or `ask`, `wait` and `end` of one search. AHEAD is 0 where
 // each line is sent once the one before it is answered, else so many rounds are sent at once before their replies are read.
 // Every line has a reply of one line, also where the port's owner only echoes. Prints the nanoseconds from the first round's
 // beginning to the last one's end.
