@@ -4,18 +4,14 @@ ghost use Rattle.search.specs.Need.{right_hint};
 
 use names::Entity;
 use search::{Hint, Need, Task};
-use snapshots::Snapshot;
 use std::marker::Model;
-use std::sync::Arc;
 
 /// A letter that was taken from a tenant's search, with what it is to be looked up in. It is spent by finishing it or
 /// giving it back.
 pub struct Job {
     who: Entity,
     number: u64,
-    letter: u64,
-    need: Need,
-    snapshot: Arc<Snapshot>,
+    task: Task,
 }
 
 impl Model for Job {
@@ -24,7 +20,7 @@ impl Model for Job {
 
     ghost Value = { TakenLetter };
 
-    ghost view = { λ j. record { who = j.who; number = j.number; letter = j.letter; need = j.need; snapshot = arc_value j.snapshot } };
+    ghost view = { λ j. record { who = j.who; number = j.number; letter = j.task.letter; need = j.task.need; snapshot = arc_value j.task.snap } };
 }
 
 impl Job {
@@ -32,14 +28,7 @@ impl Job {
     pub(crate) fn new(who: Entity, number: u64, task: Task) -> Job
         ensures { result ≡ record { who = who; number = number; letter = task.letter; need = task.need; snapshot = arc_value task.snap } }
     {
-        let Task { letter, need, snap } = task;
-        Job {
-            who,
-            number,
-            letter,
-            need,
-            snapshot: snap,
-        }
+        Job { who, number, task }
     }
 
     /// Whose search it is.
@@ -60,15 +49,15 @@ impl Job {
     pub fn letter(&self) -> u64
         ensures { result ≡ self.now.letter }
     {
-        self.letter
+        self.task.letter
     }
 
     /// What the letter needs, by the snapshot of its search.
     pub fn look_up(&self) -> Hint
         ensures { result ≡ right_hint self.now.snapshot.vaults self.now.need }
     {
-        match self.need {
-            Need::Rows(role) => Hint::Rows(self.snapshot.find(&role)),
+        match self.task.need {
+            Need::Rows(role) => Hint::Rows(self.task.snap.find(&role)),
             Need::Nothing => Hint::Nothing,
         }
     }
@@ -77,13 +66,7 @@ impl Job {
     pub(crate) fn into_letter(self) -> (Entity, u64, u64)
         ensures { result ≡ (self.who, self.number, self.letter) }
     {
-        let Job {
-            who,
-            number,
-            letter,
-            need: _need,
-            snapshot: _snapshot,
-        } = self;
-        (who, number, letter)
+        let Job { who, number, task } = self;
+        (who, number, task.letter)
     }
 }

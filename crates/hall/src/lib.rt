@@ -24,7 +24,7 @@ mod tests;
 pub use calls::{Answer, Event, Reply, Request, Step, Stepped};
 pub use faults::Fault;
 pub use jobs::Job;
-pub use lists::{Names, Rows, Sights};
+pub use lists::{Listed, Names, Rows, Sights};
 pub use proof_trees::{Proof, write_proof};
 pub use registry::Hall;
 pub use run_laws::{

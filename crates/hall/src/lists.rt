@@ -7,114 +7,47 @@ use std::marker::Model;
 use vaults::Seen;
 
 /// Credentials, as a reply tells them.
-#[derive(Drop)]
-pub struct Rows {
-    credentials: Vec<Credential>,
-}
-
-impl Model for Rows {
-    ghost use Rattle.std.specs.Prelude.{List};
-    ghost use Rattle.credential_text.specs.declared.credentials.Credential.{Credential};
-
-    ghost Value = { List Credential };
-
-    ghost view = { λ r. r.credentials.items };
-}
-
-impl Rows {
-    /// The rows of a vector.
-    pub fn new(credentials: Vec<Credential>) -> Rows
-        ensures { result ≡ credentials.items }
-    {
-        Rows { credentials }
-    }
-
-    /// The rows, in order.
-    pub fn as_slice(&self) -> &[Credential]
-        ensures { result.now ≡ self.now }
-    {
-        &self.credentials
-    }
-
-    /// The vector again.
-    pub fn into_vec(self) -> Vec<Credential>
-        ensures { result.items ≡ self }
-    {
-        self.credentials
-    }
-}
+pub type Rows = Listed<Credential>;
 
 /// Names of entities, as a reply tells them.
-#[derive(Drop)]
-pub struct Names {
-    names: Vec<Entity>,
-}
-
-impl Model for Names {
-    ghost use Rattle.std.specs.Prelude.{List, ℕ};
-
-    ghost Value = { List (List ℕ) };
-
-    ghost view = { λ n. n.names.items };
-}
-
-impl Names {
-    /// The names of a vector.
-    pub fn new(names: Vec<Entity>) -> Names
-        ensures { result ≡ names.items }
-    {
-        Names { names }
-    }
-
-    /// The names, in order.
-    pub fn as_slice(&self) -> &[Entity]
-        ensures { result.now ≡ self.now }
-    {
-        &self.names
-    }
-
-    /// The vector again.
-    pub fn into_vec(self) -> Vec<Entity>
-        ensures { result.items ≡ self }
-    {
-        self.names
-    }
-}
+pub type Names = Listed<Entity>;
 
 /// Names whose vaults a tenant reads, each with the mark whether every tenant reads it, as a reply tells them.
+pub type Sights = Listed<Seen>;
+
+/// What a reply lists, in order.
 #[derive(Drop)]
-pub struct Sights {
-    seen: Vec<Seen>,
+pub struct Listed<T> {
+    items: Vec<T>,
 }
 
-impl Model for Sights {
+impl<T> Model for Listed<T> {
     ghost use Rattle.std.specs.Prelude.{List};
-    ghost use Rattle.vaults.specs.declared.marks.Seen.{Seen};
 
-    ghost Value = { List Seen };
+    ghost Value = { List T };
 
-    ghost view = { λ s. s.seen.items };
+    ghost view = { λ l. l.items.items };
 }
 
-impl Sights {
-    /// The sights of a vector.
-    pub fn new(seen: Vec<Seen>) -> Sights
-        ensures { result ≡ seen.items }
+impl<T> Listed<T> {
+    /// The items of a vector.
+    pub fn new(items: Vec<T>) -> Listed<T>
+        ensures { result ≡ items.items }
     {
-        Sights { seen }
+        Listed { items }
     }
 
-    /// The sights, in order.
-    pub fn as_slice(&self) -> &[Seen]
+    /// The items, in order.
+    pub fn as_slice(&self) -> &[T]
         ensures { result.now ≡ self.now }
     {
-        &self.seen
+        &self.items
     }
 
     /// The vector again.
-    pub fn into_vec(self) -> Vec<Seen>
+    pub fn into_vec(self) -> Vec<T>
         ensures { result.items ≡ self }
     {
-        self.seen
+        self.items
     }
 }

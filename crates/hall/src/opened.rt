@@ -13,6 +13,7 @@ use std::alloc::AllocError;
 use std::marker::Model;
 
 /// A search, with the journal's length at its opening.
+#[derive(Drop)]
 pub(crate) struct Opened {
     pub(crate) opened_at: u64,
     pub(crate) search: Search,
@@ -29,15 +30,6 @@ impl Model for Opened {
     ghost coded = { Prim.hlevel (codes, running.the_row.coded, memory.the_row.coded) };
 
     ghost view = { λ o. record { opened_at = o.opened_at; search = o.search } };
-}
-
-impl Drop for Opened {
-    fn drop(self) {
-        let Opened {
-            opened_at: _opened_at,
-            search: _search,
-        } = self;
-    }
 }
 
 /// Carries the search on until nothing more of it can be, and tells what it has come to.

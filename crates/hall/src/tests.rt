@@ -9,7 +9,7 @@ mod runs;
 mod worlds;
 
 use crate::{
-    Fault, Names, Rows, Sights, answers_are_true, refusals_come_first, runs_are_allowed,
+    Fault, Names, answers_are_true, refusals_come_first, runs_are_allowed,
     scripts_are_exact, scripts_are_isolated, two_worlds,
 };
 use credential_text::{Credential, Expr};
@@ -17,7 +17,7 @@ use names::{Entity, Role};
 use quotas::QuotaFault;
 use std::alloc::Global;
 use std::test::Fail;
-use vaults::{Seen, VaultFault};
+use vaults::VaultFault;
 
 fn entity(name: &str) -> Result<Entity, Fail> {
     Ok(Entity::read(name.as_bytes())?)
@@ -96,44 +96,13 @@ fn faults_of_the_lower_layers(rt: HostRuntime) {
 }
 
 #[test]
-fn rows_as_they_were_given(rt: HostRuntime) -> Result<(), Fail> {
-    let mut credentials = Vec::new(rt.alloc());
-    credentials.push(credential("A.s", "D")?)?;
-    credentials.push(credential("A.r", "E")?)?;
-    let rows = Rows::new(credentials);
-    assert_eq!(rt; rows.as_slice().len(), 2);
-    assert!(rt; rows.as_slice()[0].compare(&credential("A.s", "D")?).is_eq());
-    let credentials = rows.into_vec();
-    assert_eq!(rt; credentials.len(), 2);
-    assert!(rt; credentials[1].compare(&credential("A.r", "E")?).is_eq());
-    Ok(())
-}
-
-#[test]
-fn names_as_they_were_given(rt: HostRuntime) -> Result<(), Fail> {
+fn lists_as_they_were_given(rt: HostRuntime) -> Result<(), Fail> {
     let names = pair(rt.alloc(), entity("B")?, entity("A")?)?;
     assert_eq!(rt; names.as_slice().len(), 2);
     assert!(rt; names.as_slice()[0] == entity("B")?);
     let entities = names.into_vec();
     assert_eq!(rt; entities.len(), 2);
     assert!(rt; entities[1] == entity("A")?);
-    Ok(())
-}
-
-#[test]
-fn sights_as_they_were_given(rt: HostRuntime) -> Result<(), Fail> {
-    let own = Seen {
-        name: entity("B")?,
-        to_all: false,
-    };
-    let public = Seen {
-        name: entity("A")?,
-        to_all: true,
-    };
-    let given = [own, public];
-    let sights = Sights::new(Vec::from_slice(rt.alloc(), &given)?);
-    assert!(rt; sights.as_slice() == given.as_slice());
-    assert!(rt; sights.into_vec().as_slice() == given.as_slice());
     Ok(())
 }
 
