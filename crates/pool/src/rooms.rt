@@ -22,6 +22,7 @@ pub const PARTS: u64 = (1 << 32) + 1;
 const MOST_OUT: u64 = 1 << 32;
 
 /// The hall, the ledger of accepted changes, and what stands of it with no pass that is out.
+#[derive(Drop)]
 pub(crate) struct Room<L: Ledger> {
     pub(crate) hall: Hall,
     book: Book<L>,
@@ -54,21 +55,6 @@ impl<L: Ledger> Model for Room<L> {
         × (0 < r.rest.parts)
         × (r.rest.amount ≡ r.left)
         × (L.parts ≡ 2 ^ 32 + 1) };
-}
-
-impl<L: Ledger> Drop for Room<L> {
-    fn drop(self) {
-        let Room {
-            hall: _hall,
-            book: _book,
-            rest: _rest,
-            out: _out,
-            left: _left,
-            stopped: _stopped,
-            turn: _turn,
-            ended: _ended,
-        } = self;
-    }
 }
 
 impl<L: Ledger> Room<L> {

@@ -74,9 +74,9 @@ impl<L: Ledger> Room<L> {
         mem::take(&mut self.ended)
     }
 
-    #[tactic(auto, using(crate::proofs::Visiting::worked_journal))]
     /// The steps of one visit of a worker, all of one search: it delivers signals and takes letters as long as there are any
     /// and the steps are within their limit. The searches take turns.
+    #[tactic(auto, using(crate::proofs::Visiting::worked_journal))]
     pub(crate) fn visit(&mut self, held: &mut Vec<Job>) -> Found
         requires empty { vec_len held.old ≡ 0 }
         requires space { BATCH ≤ vec_capacity held.old }
