@@ -84,8 +84,8 @@ impl Roster {
         Hall::make(alloc, tenants)
     }
 
-    #[tactic(auto, using(crate::proofs::TenantLemmas::names_of_tenants))]
     /// A desk of the roster's tenants, who have done nothing.
+    #[tactic(auto, using(crate::proofs::TenantLemmas::names_of_tenants))]
     pub fn desk<L: Ledger>(&self, alloc: Global, blank: Blank) -> Result<Desk<L>, Fault>
         requires name { blank.name ≡ L.name }
         requires parts { blank.parts ≡ L.parts }

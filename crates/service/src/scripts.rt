@@ -71,8 +71,8 @@ fn run_commands<R: Read + Drop, W: Write>(
     Err(ScriptFault::Read)
 }
 
-#[tactic(auto, using(crate::proofs::OutcomeLemmas::long_answered, crate::proofs::OutcomeLemmas::not_ascii_answered))]
 /// Takes one line, and puts its reply into the room.
+#[tactic(auto, using(crate::proofs::OutcomeLemmas::long_answered, crate::proofs::OutcomeLemmas::not_ascii_answered))]
 fn take_turn<R: Read + Drop>(
     alloc: Global,
     lines: &mut LineReader<R>,

@@ -93,8 +93,8 @@ fn greet<L: Ledger, R: Wait>(
     }
 }
 
-#[tactic(auto, using(crate::proofs::TenantLemmas::tenant_listed))]
 /// A pass for the tenant of this name, if that is its word.
+#[tactic(auto, using(crate::proofs::TenantLemmas::tenant_listed))]
 fn admit<L: Ledger, R: Wait>(
     host: &Host<'_, L, R>,
     name: &[u8],
