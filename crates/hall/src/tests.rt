@@ -9,8 +9,8 @@ mod runs;
 mod worlds;
 
 use crate::{
-    Fault, Names, answers_are_true, refusals_come_first, runs_are_allowed,
-    scripts_are_exact, scripts_are_isolated, two_worlds,
+    Fault, Names, answers_are_true, refusals_come_first, runs_are_allowed, scripts_are_exact,
+    scripts_are_isolated, two_worlds,
 };
 use credential_text::{Credential, Expr};
 use names::{Entity, Role};

@@ -1,4 +1,5 @@
 //! Letters that are taken from a hall, and what becomes of them.
+use super::runs::two_tenants;
 use super::{credential, entity};
 use crate::{Answer, Fault, Hall, Query, Step, Stepped};
 use names::{Entity, Role};
@@ -36,5 +37,28 @@ fn a_job_is_given_back_and_then_finished(rt: HostRuntime) -> Result<(), Fail> {
     assert!(rt; matches!(hall.step(Step::Take(a, 1, 0)), Stepped::Gone));
     assert!(rt; hall.search(a, 1).is_none());
     assert!(rt; hall.journal_len() == 1);
+    Ok(())
+}
+
+/// Whether the step that the turn picks is one of this search.
+fn is_picked(hall: &Hall, turn: u64, who: Entity, number: u64) -> bool {
+    let Some(step) = hall.pick(turn) else {
+        return false;
+    };
+    step.who() == who && step.number() == number
+}
+
+// Tenants take turns, and so do a tenant's searches from one of its turns to the next.
+#[test]
+fn each_search_has_its_turn(rt: HostRuntime) -> Result<(), Fail> {
+    let (a, b) = (entity("A")?, entity("B")?);
+    let query = Query::Who(Role::read(b"A.r")?);
+    let mut hall = two_tenants(rt.alloc())?;
+    let _first = hall.open(a, query)?;
+    let _second = hall.open(a, query)?;
+    let _only = hall.open(b, query)?;
+    for (turn, who, number) in [(0, a, 1), (1, b, 1), (2, a, 2), (3, b, 1), (4, a, 1)] {
+        assert!(rt; is_picked(&hall, turn, who, number), "at turn {turn}");
+    }
     Ok(())
 }
