@@ -183,7 +183,7 @@ fn seek(query: Query) -> Command
 fn credential_of(alloc: Global, text: &[u8]) -> Result<Credential, Refusal>
     ensures spelled { IfOk result (λ c. Spells text.now c × (length text.now ≤ 4096)) }
     ensures refused { IfErr result (λ why. (credential_refusal text.now ≡ Some why)
-            ⊎ ((why ≡ refusal.Memory) × (credential_refusal text.now ≡ None))) }
+        ⊎ ((why ≡ refusal.Memory) × (credential_refusal text.now ≡ None))) }
 {
     Ok(read_credential(alloc, text)?)
 }
