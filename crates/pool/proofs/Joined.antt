@@ -1,6 +1,6 @@
 -- What workers did adds up one by one.
-use Rattle.std.proofs.Common.{◌≡◌, ◌∙◌, ◌+◌, ◌-◌, ◌^◌, ◌||◌, ◌∷◌, [], ℕ, List, length, min, false, ap, refl, arith, Bool}
-use Rattle.std.specs.List.{sum_by, list_any}
+use Rattle.std.proofs.Common.{◌≡◌, ◌∙◌, ◌+◌, ◌-◌, ◌^◌, ◌||◌, ◌∷◌, ℕ, min, ap, arith, Bool}
+use Rattle.std.specs.List.{sum_by}
 use Rattle.std.proofs.lemmas.List.Sums.{sum_by-cons}
 use Rattle.pool.specs.declared.workers.Worked.{Worked}
 use Rattle.pool.specs.Workers.{IsDoneBy}

@@ -1,9 +1,8 @@
 -- What a tenant is told of changes, openings, vaults, names and searches: how many there are, and that they are its own.
-use Rattle.std.specs.Arc.{arc_value}
 use Rattle.std.specs.List.{Contains}
 use Rattle.std.specs.List.Sorted.{IsStrictlySortedBy}
 use Rattle.std.specs.Option.{IsSomeAnd}
-use Rattle.std.proofs.Common.{◌≡◌, ◌||◌, ◌+◌, ◌<◌, ◌≤◌, ℕ, Bool, true, List, length, Option, Some, Ok, map, ap, sym, ◌∙◌, subst, refl, arith, All}
+use Rattle.std.proofs.Common.{◌≡◌, ◌||◌, ◌+◌, ◌<◌, ◌≤◌, ℕ, Bool, true, List, length, Option, map, ap, sym, ◌∙◌, subst, refl, arith, All}
 use Rattle.std.proofs.lemmas.List.Elements.{All-contains_itself}
 use Rattle.std.proofs.lemmas.List.Sums.{length-filter, count_by-le-length}
 use Rattle.names.specs.Name.{is_same, name_order}

@@ -4,7 +4,6 @@ use Rattle.std.specs.Arc.{arc_value}
 use Rattle.search.specs.Found.{status_of}
 use Rattle.search.specs.declared.outcomes.Status.TheVariants as status
 use Rattle.search.specs.Search.{settled_of}
-use Rattle.hall.specs.declared.faults.Fault.{Fault}
 use Rattle.hall.specs.declared.faults.Fault.TheVariants.{Memory}
 use Rattle.hall.specs.declared.calls.answers.Answer.{Answer}
 use Rattle.hall.specs.declared.calls.answers.Answer.TheVariants.{Working}
