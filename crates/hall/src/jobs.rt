@@ -20,7 +20,13 @@ impl Model for Job {
 
     ghost Value = { TakenLetter };
 
-    ghost view = { λ j. record { who = j.who; number = j.number; letter = j.task.letter; need = j.task.need; snapshot = arc_value j.task.snap } };
+    ghost view = { λ j. record {
+      who = j.who;
+      number = j.number;
+      letter = j.task.letter;
+      need = j.task.need;
+      snapshot = arc_value j.task.snap;
+    } };
 }
 
 impl Job {
