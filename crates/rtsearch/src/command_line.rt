@@ -14,7 +14,6 @@ use std::alloc::{AllocError, Global};
 const VERSION: &str = "0.1.0";
 
 /// What a command line asks for.
-#[derive(Clone, Copy, Debug, PartialEq, Eq)]
 pub enum Errand {
     /// To run a script.
     Script,

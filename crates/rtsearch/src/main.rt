@@ -9,8 +9,6 @@ mod command_line;
 mod ending;
 mod running;
 mod serving;
-#[cfg(test)]
-mod tests;
 
 use crate::ending::end_with;
 use crate::running::run_words;
