@@ -97,7 +97,7 @@ module _ (h : HallState) (who : List ℕ) (k : ℕ) (new : HallState) where
         subst (λ (o : Option Running). Drives h who k o new) (sym at) (
           s,
           drives.driven,
-          drives.quiet,
+          (drives.quiet, drives.sound),
           (λ held. (drives.none_held held, λ nothing. drives.settled held (works s (sym (ap answer_of nothing))))),
           is,
         ),
@@ -137,14 +137,14 @@ module _ (h : HallState) (who : List ℕ) (k : ℕ) (new : HallState) where
 
       there : (job : Option TakenLetter) (r : Running) (s : SearchState) → search_at h who k ≡ Some r → TakesJob {E = E} who k place r.search (Ok job) s →
           new ≡ with_search h who k (record r { search = s }) → IsTaken h who k place job new
-      there None r s at (none, same) is = (
+      there None r s at (none, same, sound) is = (
         stepped.Nothing,
-        made stepped.Nothing r s at (record { is_made = (None, (none, same), refl); settles = inl (ap settled_of same) }) is,
+        made stepped.Nothing r s at (record { is_made = (None, (none, same), refl); settles = inl (ap settled_of same); sound = sound }) is,
         inl refl,
       )
-      there (Some j) r s at (takes, whose, number, snapshot, settles) is = (
+      there (Some j) r s at (takes, whose, number, snapshot, settles, sound) is = (
         stepped.Took j.letter j.need,
-        made (stepped.Took j.letter j.need) r s at (record { is_made = (Some (j.letter, j.need), takes, refl); settles = settles }) is,
+        made (stepped.Took j.letter j.need) r s at (record { is_made = (Some (j.letter, j.need), takes, refl); settles = settles; sound = sound }) is,
         record { tenant = whose; search = number; took = refl; reads = (r, at, snapshot) },
       )
 

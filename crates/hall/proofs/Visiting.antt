@@ -2,7 +2,9 @@
 use Rattle.std.proofs.Common.{◌≡◌, ◌∙◌, ◌≤◌, ℕ, List, [], subst, sym, refl, ap, Option, Some, Result, Ok, Err, inl, inr, true, arith}
 use Rattle.std.specs.Result.{IsErr}
 use Rattle.std.proofs.lemmas.List.{append-nil}
-use Rattle.search.specs.Search.{SearchState}
+use Rattle.search.specs.declared.stages.Stage.{Stage}
+use Rattle.search.specs.Stage.{Delivers}
+use Rattle.search.specs.Search.{SearchState, IsSoundStage}
 use Rattle.search.specs.Quiet.{IsQuiet}
 use Rattle.search.specs.Driven.{SignalsFirst}
 use Rattle.hall.specs.declared.calls.steps.Step.TheVariants.{Take, Signal}
@@ -45,6 +47,10 @@ module _ {E : Type 0} (who : List ℕ) (k most : ℕ) (old : HallState) (held : 
   visited_in_part (Err lacked) is = let (n, taken, within, works, same, whole) = visited in (n, taken, within, works, same, tt)
   visited_in_part (Ok done) is = cc
 
+-- a search that delivered a signal runs soundly
+delivered_sound : (old new : Stage) → Delivers old new 0 true → IsSoundStage new
+delivered_sound old new (c, d, ran, runs, there, delivers) = subst IsSoundStage (sym runs) delivers.sound
+
 module _ (h : HallState) (who : List ℕ) (k : ℕ) (r : Running) (at : search_at h who k ≡ Some r) where
   abbrev running : SearchState → Running
   running s = record r { search = s }
@@ -62,15 +68,16 @@ module _ (h : HallState) (who : List ℕ) (k : ℕ) (r : Running) (at : search_a
         record {
           is_made = (true, record { delivers = first.delivered; graph = first.graph; monitors = first.monitors; question = first.question }, refl);
           settles = first.settles;
+          sound = delivered_sound s.stage u.stage first.delivered;
         },
         sym (put_twice h who k r at (running s) (running u)),
       )
 
   taken : (job : TakenLetter) (s u : SearchState) → TakesAs who k 0 s job u → IsTaken (hall s) who k 0 (Some job) (hall u)
-  taken job s u (takes, whose, number, snapshot, settles) = (
+  taken job s u (takes, whose, number, snapshot, settles, sound) = (
     stepped.Took job.letter job.need,
     subst (λ (o : Option Running). StepsAt (hall s) o (Take who k 0) (stepped.Took job.letter job.need) (hall u)) (sym (found s))
-        (u, record { is_made = (Some (job.letter, job.need), takes, refl); settles = settles }, sym (put_twice h who k r at (running s) (running u))),
+        (u, record { is_made = (Some (job.letter, job.need), takes, refl); settles = settles; sound = sound }, sym (put_twice h who k r at (running s) (running u))),
     record { tenant = whose; search = number; took = refl; reads = (running s, found s, snapshot) },
   )
 

@@ -4,7 +4,7 @@ use Rattle.std.proofs.lemmas.List.{append-nil, append_assoc}
 use Rattle.std.specs.declared.alloc.AllocError.{AllocError}
 use Rattle.snapshots.specs.Snapshot.{SnapshotState}
 use Rattle.search.specs.declared.queries.Need.{Need}
-use Rattle.search.specs.Search.{SearchState, SameQuestion, Settles}
+use Rattle.search.specs.Search.{SearchState, SameQuestion, Settles, IsSoundStage}
 use Rattle.search.specs.Finish.{Takes}
 use Rattle.search.specs.Driven.{SignalsFirst}
 use Rattle.hall.specs.Visits.{TakenLetter}
@@ -33,9 +33,9 @@ unmoved s t stage found question = λ i. record {
 -- a task of a search is a job of its tenant
 pub job_of : (E : Type 0) (who : List ℕ) (k place letter : ℕ) (need : Need) (snapshot : SnapshotState) (s t : SearchState) (job : TakenLetter) →
     job ≡ record { who = who; number = k; letter = letter; need = need; snapshot = snapshot } → Takes s t place letter need →
-    snapshot ≡ s.snapshot → Settles s t → TakesJob {E = E} who k place s (Ok (Some job)) t
-job_of E who k place letter need snapshot s t job is takes same settles =
-    subst (λ (j : TakenLetter). TakesJob {E = E} who k place s (Ok (Some j)) t) (sym is) (takes, refl, refl, same, settles)
+    snapshot ≡ s.snapshot → Settles s t → IsSoundStage t.stage → TakesJob {E = E} who k place s (Ok (Some job)) t
+job_of E who k place letter need snapshot s t job is takes same settles sound =
+    subst (λ (j : TakenLetter). TakesJob {E = E} who k place s (Ok (Some j)) t) (sym is) (takes, refl, refl, same, settles, sound)
 
 module _ (who : List ℕ) (k : ℕ) (held : List TakenLetter) where
   pub no_step : (s : SearchState) → MakesSteps who k 0 held held s s

@@ -8,7 +8,7 @@ use Rattle.vaults.specs.declared.changes.Entry.{Entry}
 use Rattle.vaults.specs.Journal.{entries_of, view, marked_view, credentials}
 use Rattle.search.specs.declared.queries.Query.{Query}
 use Rattle.search.specs.Ending.{Nothing, MaySettle}
-use Rattle.search.specs.Search.{SearchState, settled_of}
+use Rattle.search.specs.Search.{SearchState, IsSoundStage, settled_of}
 use Rattle.search.specs.Driven.{IsDriven}
 use Rattle.search.specs.Quiet.{NoneHeld, IsQuiet}
 use Rattle.hall.specs.declared.faults.Fault.{Fault}
@@ -148,7 +148,7 @@ Run old (e ∷ events) [] new = ⊥
 abbrev pub Drives : HallState → List ℕ → ℕ → Option Running → HallState → Type 0
 Drives old name k None new = new ≡ old
 Drives old name k (Some r) new =
-    (s : SearchState) × IsDriven r.search s × IsQuiet s.stage × (NoneHeld r.search.stage → NoneHeld s.stage × (settled_of s ≢ Nothing))
+    (s : SearchState) × IsDriven r.search s × (IsQuiet s.stage × IsSoundStage s.stage) × (NoneHeld r.search.stage → NoneHeld s.stage × (settled_of s ≢ Nothing))
     × (new ≡ with_search old name k (record r { search = s }))
 
 -- a request is served; a wait drives its search, and is then a poll
@@ -170,6 +170,7 @@ pub record IsSoundSearch (journal : List Entry) (name : List ℕ) (limits : Quot
   pub view : r.search.snapshot.vaults ≡ view (take r.opened_at journal) name
   pub work : r.search.work ≡ limits.work
   pub settled : MaySettle limits.work (credentials r.search.snapshot.vaults) r.search.query Nothing (settled_of r.search)
+  pub computation : IsSoundStage r.search.stage
 
 -- what holds of every hall: each search has a number that its tenant was given
 abbrev pub IsSound : HallState → Type 0

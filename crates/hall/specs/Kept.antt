@@ -3,7 +3,7 @@ use Rattle.std.specs.Prelude.{◌≡◌, ◌≤◌, ◌+◌, ◌++◌, ◌∷◌
 use Rattle.std.specs.List.{Contains, AllByRecursion}
 use Rattle.std.specs.FinMap.{get, insert}
 use Rattle.search.specs.Ending.{Settled, Members}
-use Rattle.search.specs.Search.{SearchState, Settles, IsOutstanding, settled_of}
+use Rattle.search.specs.Search.{SearchState, Settles, IsOutstanding, IsSoundStage, settled_of}
 use Rattle.search.specs.Stage.{waiting_in, signals_in}
 use Rattle.search.specs.Finish.{Takes}
 use Rattle.search.specs.Quiet.{IsQuiet, NoneHeld}
@@ -38,15 +38,16 @@ pub record DrivesTo (s : SearchState) (told : Result Answer Fault) (t : SearchSt
   pub quiet : IsQuiet t.stage
   pub settled : NoneHeld s.stage → IsOutstanding t.stage → ⊥
   pub none_held : NoneHeld s.stage → NoneHeld t.stage
+  pub sound : IsSoundStage t.stage
 
 -- the waiting letter at a place was taken as this job of the tenant's search
 abbrev pub TakesAs : List ℕ → ℕ → ℕ → SearchState → TakenLetter → SearchState → Type 0
 TakesAs who k place s job t =
-    Takes s t place job.letter job.need × (job.who ≡ who) × (job.number ≡ k) × (job.snapshot ≡ s.snapshot) × Settles s t
+    Takes s t place job.letter job.need × (job.who ≡ who) × (job.number ≡ k) × (job.snapshot ≡ s.snapshot) × Settles s t × IsSoundStage t.stage
 
 -- the waiting letter at a place was taken as a job of this tenant's search, where there is one and memory to hold it
 abbrev pub TakesJob : {E : Type 0} → List ℕ → ℕ → ℕ → SearchState → Result (Option TakenLetter) E → SearchState → Type 0
-TakesJob who k place s (Ok None) t = (slice_get (waiting_in s.stage) place ≡ None) × (t ≡ s)
+TakesJob who k place s (Ok None) t = (slice_get (waiting_in s.stage) place ≡ None) × (t ≡ s) × IsSoundStage t.stage
 TakesJob who k place s (Ok (Some job)) t = TakesAs who k place s job t
 TakesJob who k place s (Err f) t = t ≡ s
 

@@ -15,7 +15,7 @@ use Rattle.search.specs.declared.stages.Stage.TheVariants as stage
 pub use Rattle.search.specs.Found.{found}
 use Rattle.search.specs.Ending.{asked_role}
 unfoldable pub use Rattle.search.specs.Search.{settled_of}
-use Rattle.search.specs.Search.{SearchState, SameQuestion, Settles}
+use Rattle.search.specs.Search.{SearchState, SameQuestion, Settles, IsSoundStage}
 use Rattle.search.specs.Stage.{waiting_in, held_in, stage_marked, Delivers}
 use Rattle.search.specs.Finish.{Takes, Finishes}
 use Rattle.hall.specs.declared.calls.steps.Step.{Step}
@@ -78,7 +78,8 @@ IsMade old (step.GiveBack name k letter) answer new = (back : Bool) × PutsBack 
 IsMade old (step.Finish name k letter hint) answer new = (f : Finished) × Finishes old new letter hint f × (answer ≡ finish_answer f)
 IsMade old (step.Signal name k place) answer new = (delivered : Bool) × Signals old place delivered new × (answer ≡ signalled delivered)
 
--- a step of a search; where it comes to an end by that, it is the right one
+-- a step of a search; where it comes to an end by that, it is the right one, and where it still runs its computation is sound
 pub record StepsSearch (old : SearchState) (made : Step) (answer : Stepped) (new : SearchState) : Type 0 where
   pub is_made : IsMade old made answer new
   pub settles : Settles old new
+  pub sound : IsSoundStage new.stage

@@ -49,7 +49,9 @@ pub(crate) fn take(
 ) -> Result<Option<Job>, AllocError>
     ensures { TakesJob who number place search.old result search.new }
 {
-    let Some(task) = search.take(place)? else {
+    let task = search.take(place)?;
+    search.kept();
+    let Some(task) = task else {
         return Ok(None);
     };
     Ok(Some(Job::new(who, number, task)))

@@ -1,7 +1,8 @@
 //! The steps of one search, and what is told of it.
 ghost use Rattle.std.specs.Prelude.{◌≡◌, ◌⊎◌, IfOk, OnErr};
 ghost use Rattle.hall.specs.Answers.{answer_of};
-ghost use Rattle.hall.specs.Steps.{settled_of, StepsSearch, finish_answer};
+ghost use Rattle.search.specs.Search.{IsSoundStage, Settles};
+ghost use Rattle.hall.specs.Steps.{settled_of, IsMade, StepsSearch, finish_answer};
 ghost use Rattle.hall.specs.Kept.{ListsMembers};
 
 use crate::calls::{Answer, Step, Stepped};
@@ -13,6 +14,7 @@ use std::alloc::AllocError;
 pub(crate) fn told_of(search: &Search) -> Result<Answer, AllocError>
     ensures told { IfOk result (λ told. told ≡ answer_of (settled_of search.now)) }
     ensures memory { OnErr result (ListsMembers (settled_of search.now)) }
+    ensures sound { IsSoundStage search.now.stage }
 {
     match search.status() {
         Status::Working => Ok(Answer::Working),
@@ -27,6 +29,15 @@ pub(crate) fn told_of(search: &Search) -> Result<Answer, AllocError>
 /// Makes the step of the search.
 pub(crate) fn make(search: &mut Search, step: &Step) -> Stepped
     ensures { StepsSearch search.old step.now result search.new }
+{
+    let answer = go_on(search, step);
+    search.kept();
+    answer
+}
+
+fn go_on(search: &mut Search, step: &Step) -> Stepped
+    ensures made { IsMade search.old step.now result search.new }
+    ensures settles { Settles search.old search.new }
 {
     match *step {
         Step::Take(_who, _number, place) => match search.take_letter(place) {

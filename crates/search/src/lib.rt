@@ -12,6 +12,7 @@ mod driving;
 mod findings;
 mod hearing;
 mod hints;
+mod keeping;
 mod laws;
 mod letters;
 mod members;

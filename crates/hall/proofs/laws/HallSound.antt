@@ -7,9 +7,12 @@ use Rattle.quotas.specs.Quota.{Quota}
 use Rattle.vaults.specs.declared.changes.Entry.{Entry}
 use Rattle.vaults.specs.Journal.{view, credentials}
 use Rattle.snapshots.specs.Snapshot.{SnapshotState}
+use Rattle.scholten_core.specs.Step.{started}
+use Rattle.scholten_core.proofs.Complete.{settled_started, sound as first_sound}
+use Rattle.search.specs.declared.letters.Load.TheVariants.{Start}
 use Rattle.search.specs.declared.queries.Query.{Query}
 use Rattle.search.specs.Ending.{Nothing, MaySettle}
-use Rattle.search.specs.Search.{SearchState, SameQuestion, settled_of}
+use Rattle.search.specs.Search.{SearchState, SameQuestion, IsSoundStage, settled_of}
 use Rattle.hall.specs.declared.calls.requests.Request.{Request}
 use Rattle.hall.specs.declared.calls.requests.Request.TheVariants as request
 use Rattle.hall.specs.declared.calls.replies.Reply.{Reply}
@@ -43,6 +46,7 @@ search_grown journal more name limits r sound = record {
   view = sound.view ∙ ap (λ (j : List Entry). view j name) (sym (take-append-le r.opened_at journal more sound.opened));
   work = sound.work;
   settled = sound.settled;
+  computation = sound.computation;
 }
 
 all_grown : (journal more : List Entry) (h : HallState) → EachSearch (SoundIn journal) h →
@@ -61,6 +65,7 @@ beginning_sound journal name query limits = record {
   view = ap (λ (j : List Entry). view j name) (sym (take_all (length journal) journal (le_refl (length journal))));
   work = refl;
   settled = inl (nothing_yet name (view journal name) query limits.work);
+  computation = first_sound (started 0 Start) (settled_started 0 Start);
 }
 
 opening_sound : (h : HallState) (name : List ℕ) (query : Query) (n : ℕ) (t : Tenant) → IsSound h → get h.tenants name ≡ Some t →
@@ -99,8 +104,9 @@ served_sound old new name q told sound served = subst IsSound (sym served.after)
 
 -- a search that goes on
 search_goes : (journal : List Entry) (name : List ℕ) (limits : Quota) (r : Running) (s : SearchState) →
-    SearchGoesOn r.search s → IsSoundSearch journal name limits r → IsSoundSearch journal name limits (record r { search = s })
-search_goes journal name limits r s goes sound = record {
+    SearchGoesOn r.search s → IsSoundStage s.stage → IsSoundSearch journal name limits r →
+    IsSoundSearch journal name limits (record r { search = s })
+search_goes journal name limits r s goes computation sound = record {
   opened = sound.opened;
   asker = ap (λ (x : SnapshotState). x.asker) goes.question.snapshot ∙ sound.asker;
   view = ap (λ (x : SnapshotState). x.vaults) goes.question.snapshot ∙ sound.view;
@@ -110,6 +116,7 @@ search_goes journal name limits r s goes sound = record {
       Nothing (settled_of r.search) (settled_of s) sound.settled
       (subst (λ (n : ℕ). MaySettle n (credentials r.search.snapshot.vaults) r.search.query (settled_of r.search) (settled_of s))
       sound.work goes.settles));
+  computation = computation;
 }
   where
     settles_on : (limit : ℕ) (old new : SearchState) → SameQuestion old new →
@@ -120,13 +127,13 @@ search_goes journal name limits r s goes sound = record {
         (sym same.snapshot) (sym same.query) may
 
 pub goes_sound : (h : HallState) (name : List ℕ) (k : ℕ) (r : Running) (s : SearchState) → IsSound h →
-    search_at h name k ≡ Some r → SearchGoesOn r.search s →
+    search_at h name k ≡ Some r → SearchGoesOn r.search s → IsSoundStage s.stage →
     IsSound (with_search h name k (record r { search = s }))
-goes_sound h name k r s sound at goes =
+goes_sound h name k r s sound at goes computation =
     subst (λ (j : List Entry). EachSearch (SoundIn j) (with_search h name k (record r { search = s })))
     (sym (changed_journal h name (λ t. record t { searches = insert t.searches k (record r { search = s }) })))
     (replaced_each (SoundIn h.journal) h name k r (record r { search = s }) (λ t m j u here. here) at
-    (λ t here. (here.0, here.1, search_goes h.journal name t.limits r s goes here.2)) sound)
+    (λ t here. (here.0, here.1, search_goes h.journal name t.limits r s goes computation here.2)) sound)
 
 pub stepped_sound : (old new : HallState) (made : Step) (answer : Stepped) → IsSound old → IsStepped old made answer new → IsSound new
 stepped_sound old new made answer sound = by (search_at old (step_name made) (step_search made)) refl
@@ -136,7 +143,7 @@ stepped_sound old new made answer sound = by (search_at old (step_name made) (st
     by None none steps = subst IsSound (sym steps.1) sound
     by (Some r) at (s, steps, after) =
         subst IsSound (sym after)
-        (goes_sound old (step_name made) (step_search made) r s sound at (step_goes_on r.search s made answer steps))
+        (goes_sound old (step_name made) (step_search made) r s sound at (step_goes_on r.search s made answer steps) steps.sound)
 
 pub events_keep : EventsKeepSoundness
 events_keep old new (event.Request name q) told sound served = served_sound old new name q told sound served
@@ -148,8 +155,8 @@ driven_sound old new name k sound = by (search_at old name k) refl
   where
     by : (o : Option Running) → search_at old name k ≡ o → Drives old name k o new → IsSound new
     by None none is = subst IsSound (sym is) sound
-    by (Some r) at (s, driven, quiet, settles, is) =
-        subst IsSound (sym is) (goes_sound old name k r s sound at (drives_on r.search s driven))
+    by (Some r) at (s, driven, rests, settles, is) =
+        subst IsSound (sym is) (goes_sound old name k r s sound at (drives_on r.search s driven) rests.1)
 
 -- a deed that was carried out keeps what holds of every hall
 pub carried_sound : (old new : HallState) (name : List ℕ) (deed : Deed) (told : Reply) → IsSound old →
