@@ -78,53 +78,59 @@ pub(super) enum Told {
     Gone,
 }
 
+/// The tenant's request.
+fn request(who: &str, request: Request) -> Result<Event, Fail> {
+    Ok(Event::Request(entity(who)?, request))
+}
+
+/// The tenant's change.
+fn alter(who: &str, change: Change) -> Result<Event, Fail> {
+    request(who, Request::Alter(change))
+}
+
 /// The event that the act stands for.
 fn event(alloc: Global, act: &Act) -> Result<Event, Fail> {
-    Ok(match act {
+    match act {
         Act::Put(who, text) => {
             let credential = read_credential(alloc, text.as_bytes())?;
-            Event::Request(entity(who)?, Request::Alter(Change::Upload(credential)))
+            alter(who, Change::Upload(credential))
         }
         Act::Drop(who, text) => {
             let credential = read_credential(alloc, text.as_bytes())?;
-            Event::Request(entity(who)?, Request::Alter(Change::Withdraw(credential)))
+            alter(who, Change::Withdraw(credential))
         }
-        Act::Grant(who, reader) => {
-            let reader = entity(reader)?;
-            Event::Request(entity(who)?, Request::Alter(Change::Grant(reader)))
-        }
-        Act::Revoke(who, reader) => {
-            let reader = entity(reader)?;
-            Event::Request(entity(who)?, Request::Alter(Change::Revoke(reader)))
-        }
-        Act::GrantAll(who) => Event::Request(entity(who)?, Request::Alter(Change::GrantAll)),
-        Act::RevokeAll(who) => Event::Request(entity(who)?, Request::Alter(Change::RevokeAll)),
+        Act::Grant(who, reader) => alter(who, Change::Grant(entity(reader)?)),
+        Act::Revoke(who, reader) => alter(who, Change::Revoke(entity(reader)?)),
+        Act::GrantAll(who) => alter(who, Change::GrantAll),
+        Act::RevokeAll(who) => alter(who, Change::RevokeAll),
         Act::Ask(who, role, member) => {
             let query = Query::Ask(Role::read(role.as_bytes())?, entity(member)?);
-            Event::Request(entity(who)?, Request::Seek(query))
+            request(who, Request::Seek(query))
         }
         Act::Who(who, role) => {
             let query = Query::Who(Role::read(role.as_bytes())?);
-            Event::Request(entity(who)?, Request::Seek(query))
+            request(who, Request::Seek(query))
         }
-        Act::Poll(who, number) => Event::Request(entity(who)?, Request::Poll(*number)),
-        Act::Close(who, number) => Event::Request(entity(who)?, Request::Close(*number)),
-        Act::Vault(who) => Event::Request(entity(who)?, Request::Vault),
-        Act::Sees(who) => Event::Request(entity(who)?, Request::Sees),
+        Act::Poll(who, number) => request(who, Request::Poll(*number)),
+        Act::Close(who, number) => request(who, Request::Close(*number)),
+        Act::Vault(who) => request(who, Request::Vault),
+        Act::Sees(who) => request(who, Request::Sees),
         Act::Proof(who, number, member) => {
-            Event::Request(entity(who)?, Request::Proof(*number, entity(member)?))
+            request(who, Request::Proof(*number, entity(member)?))
         }
-        Act::Take(who, number, place) => Event::Step(Step::Take(entity(who)?, *number, *place)),
+        Act::Take(who, number, place) => {
+            Ok(Event::Step(Step::Take(entity(who)?, *number, *place)))
+        }
         Act::GiveBack(who, number, letter) => {
-            Event::Step(Step::GiveBack(entity(who)?, *number, *letter))
+            Ok(Event::Step(Step::GiveBack(entity(who)?, *number, *letter)))
         }
         Act::Finish(who, number, letter, hint) => {
-            Event::Step(Step::Finish(entity(who)?, *number, *letter, *hint))
+            Ok(Event::Step(Step::Finish(entity(who)?, *number, *letter, *hint)))
         }
         Act::Signal(who, number, place) => {
-            Event::Step(Step::Signal(entity(who)?, *number, *place))
+            Ok(Event::Step(Step::Signal(entity(who)?, *number, *place)))
         }
-    })
+    }
 }
 
 /// Whether the letter needs the rows of this role.

@@ -1,6 +1,6 @@
 //! What tenants are shown by a run of events: their vaults, whose vaults they read, and why somebody is a member.
-use super::acts::{Act, Told, first_wrong};
-use super::runs::{ANSWERED, ASKED, two_tenants};
+use super::acts::{Act, Told};
+use super::runs::{ANSWERED, ASKED, run};
 use std::test::Fail;
 
 /// Why D is in A.r where A holds that it is.
@@ -52,16 +52,12 @@ static WITHDRAWN: [(Act, Told); 7] = [
 
 #[test]
 fn what_tenants_are_shown(rt: HostRuntime) -> Result<(), Fail> {
-    let alloc = rt.alloc();
-    let mut hall = two_tenants(alloc)?;
-    let parts = [
-        ASKED.as_slice(),
-        &TOO_EARLY,
-        &ANSWERED,
-        &EXPLAINED,
-        &SHOWN,
-        &WITHDRAWN,
-    ];
-    assert_eq!(rt; first_wrong(alloc, &mut hall, &parts)?, None);
+    let wrong = run(
+        rt.alloc(),
+        &[
+            &ASKED, &TOO_EARLY, &ANSWERED, &EXPLAINED, &SHOWN, &WITHDRAWN,
+        ],
+    )?;
+    assert_eq!(rt; wrong, None);
     Ok(())
 }

@@ -1,7 +1,7 @@
 //! Letters that are taken from a hall, and what becomes of them.
 use super::runs::two_tenants;
 use super::{credential, entity};
-use crate::{Answer, Fault, Hall, Query, Step, Stepped};
+use crate::{Answer, Fault, Hall, Job, Query, Step, Stepped};
 use names::{Entity, Role};
 use quotas::Limits;
 use std::alloc::Global;
@@ -18,26 +18,60 @@ fn asked(alloc: Global, a: Entity) -> Result<Hall, Fail> {
     Ok(hall)
 }
 
+/// The letter of A's search that waits first.
+fn taken(hall: &mut Hall, a: Entity) -> Result<Job, Fail> {
+    Ok(hall.take(a, 1, 0)?.ok_or("a letter waits")?)
+}
+
+/// Whether it can be given back.
+fn goes_back(hall: &mut Hall, a: Entity) -> Result<bool, Fail> {
+    let job = taken(hall, a)?;
+    Ok(matches!(hall.give_back(job), Stepped::Back))
+}
+
+/// Whether it is the first letter of A's first search, and is finished by what is looked up for it.
+fn goes_through(hall: &mut Hall, a: Entity) -> Result<bool, Fail> {
+    let job = taken(hall, a)?;
+    let is_first = *job.who() == a && job.number() == 1 && job.letter() == 1;
+    let hint = job.look_up();
+    Ok(matches!(hall.finish(job, hint), Stepped::Done) && is_first)
+}
+
+/// Whether A's search is answered by yes, and nothing is left to do then.
+fn is_answered(hall: &mut Hall, a: Entity) -> Result<bool, Fail> {
+    let is_member = matches!(hall.drive(a, 1)?, Answer::Yes);
+    Ok(is_member && hall.pick(7).is_none())
+}
+
+/// Whether A's search can't be polled, worked on or seen any more.
+fn is_gone(hall: &mut Hall, a: Entity) -> bool {
+    matches!(hall.poll(a, 1), Err(Fault::NoSuchSearch))
+        && matches!(hall.step(Step::Take(a, 1, 0)), Stepped::Gone)
+        && hall.search(a, 1).is_none()
+}
+
 #[test]
 fn a_job_is_given_back_and_then_finished(rt: HostRuntime) -> Result<(), Fail> {
     let a = entity("A")?;
     let mut hall = asked(rt.alloc(), a)?;
     assert!(rt; matches!(hall.pick(7), Some(Step::Take(_, 1, 0))));
-    let job = hall.take(a, 1, 0)?.ok_or("a letter waits")?;
-    assert!(rt; matches!(hall.give_back(job), Stepped::Back));
-    let job = hall.take(a, 1, 0)?.ok_or("it waits again")?;
-    let (is_its, number, letter) = (*job.who() == a, job.number(), job.letter());
-    let hint = job.look_up();
-    assert!(rt; matches!(hall.finish(job, hint), Stepped::Done));
-    assert!(rt; is_its && number == 1 && letter == 1);
-    assert!(rt; matches!(hall.drive(a, 1)?, Answer::Yes));
-    assert!(rt; hall.pick(7).is_none());
+    assert!(rt; goes_back(&mut hall, a)?);
+    assert!(rt; goes_through(&mut hall, a)?);
+    assert!(rt; is_answered(&mut hall, a)?);
     hall.end(a, 1)?;
-    assert!(rt; matches!(hall.poll(a, 1), Err(Fault::NoSuchSearch)));
-    assert!(rt; matches!(hall.step(Step::Take(a, 1, 0)), Stepped::Gone));
-    assert!(rt; hall.search(a, 1).is_none());
+    assert!(rt; is_gone(&mut hall, a));
     assert!(rt; hall.journal_len() == 1);
     Ok(())
+}
+
+/// The hall of A and B, where A has asked two questions and B one.
+fn three_asked(alloc: Global, a: Entity, b: Entity) -> Result<Hall, Fail> {
+    let mut hall = two_tenants(alloc)?;
+    let query = Query::Who(Role::read(b"A.r")?);
+    for who in [a, a, b] {
+        let _number = hall.open(who, query)?;
+    }
+    Ok(hall)
 }
 
 /// Whether the step that the turn picks is one of this search.
@@ -52,11 +86,7 @@ fn is_picked(hall: &Hall, turn: u64, who: Entity, number: u64) -> bool {
 #[test]
 fn each_search_has_its_turn(rt: HostRuntime) -> Result<(), Fail> {
     let (a, b) = (entity("A")?, entity("B")?);
-    let query = Query::Who(Role::read(b"A.r")?);
-    let mut hall = two_tenants(rt.alloc())?;
-    let _first = hall.open(a, query)?;
-    let _second = hall.open(a, query)?;
-    let _only = hall.open(b, query)?;
+    let hall = three_asked(rt.alloc(), a, b)?;
     for (turn, who, number) in [(0, a, 1), (1, b, 1), (2, a, 2), (3, b, 1), (4, a, 1)] {
         assert!(rt; is_picked(&hall, turn, who, number), "at turn {turn}");
     }

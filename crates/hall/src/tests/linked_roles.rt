@@ -1,6 +1,6 @@
 //! A search through a linked role, letter by letter, and the proof of what it found.
-use super::acts::{Act, Told, first_wrong};
-use super::runs::two_tenants;
+use super::acts::{Act, Told};
+use super::runs::run;
 use search::Hint;
 use snapshots::Span;
 use std::test::Fail;
@@ -85,16 +85,17 @@ const WHY: &str = "1 A in A by itself\n2 A in A.s by A.s <- A from 1\n3 D in D b
 
 #[test]
 fn a_linked_role_with_its_proof(rt: HostRuntime) -> Result<(), Fail> {
-    let alloc = rt.alloc();
-    let mut hall = two_tenants(alloc)?;
-    let parts = [
-        HELD.as_slice(),
-        &BASE_ASKED,
-        &LINK_ASKED,
-        &TOLD_UP,
-        &SIGNALLED,
-        &ANSWERED,
-    ];
-    assert_eq!(rt; first_wrong(alloc, &mut hall, &parts)?, None);
+    let wrong = run(
+        rt.alloc(),
+        &[
+            &HELD,
+            &BASE_ASKED,
+            &LINK_ASKED,
+            &TOLD_UP,
+            &SIGNALLED,
+            &ANSWERED,
+        ],
+    )?;
+    assert_eq!(rt; wrong, None);
     Ok(())
 }

@@ -84,37 +84,57 @@ static REVOKED: [(Act, Told); 6] = [
 /// A asks again.
 static ASKED_AGAIN: [(Act, Told); 1] = [(Act::Ask("A", "A.r", "D"), Told::Opened(2))];
 
-#[test]
-fn a_grant_to_all_after_the_opening(rt: HostRuntime) -> Result<(), Fail> {
-    let alloc = rt.alloc();
-    let mut hall = three_tenants(alloc, Limits::usual())?;
-    let a = entity("A")?;
-    assert_eq!(rt; first_wrong(alloc, &mut hall, &[&GRANTED])?, None);
-    assert!(rt; tells(&mut hall, a, 2, true)?);
-    assert!(rt; tells(&mut hall, a, 1, false)?);
-    assert_eq!(rt; first_wrong(alloc, &mut hall, &[&SEEN, &APART])?, None);
-    Ok(())
+/// A part of what happens: acts with what each is to be answered, or a wait for A's search of the number, which is to
+/// say whether D is a member.
+#[derive(Clone, Copy)]
+enum Part {
+    Acts(&'static [(Act, Told)]),
+    Wait(u64, bool),
 }
 
-#[test]
-fn a_revocation_from_all_after_the_opening(rt: HostRuntime) -> Result<(), Fail> {
-    let alloc = rt.alloc();
-    let mut hall = three_tenants(alloc, Limits::usual())?;
-    let a = entity("A")?;
-    assert_eq!(rt; first_wrong(alloc, &mut hall, &[&REVOKED])?, None);
-    assert!(rt; tells(&mut hall, a, 1, true)?);
-    assert_eq!(rt; first_wrong(alloc, &mut hall, &[&ASKED_AGAIN])?, None);
-    assert!(rt; tells(&mut hall, a, 2, false)?);
-    Ok(())
+/// Whether the part goes so.
+fn goes(alloc: Global, hall: &mut Hall, part: &Part) -> Result<bool, Fail> {
+    match *part {
+        Part::Acts(acts) => Ok(first_wrong(alloc, hall, &[acts])?.is_none()),
+        Part::Wait(number, is_member) => tells(hall, entity("A")?, number, is_member),
+    }
+}
+
+/// The place of the first part that doesn't, where there is one.
+fn first_astray(alloc: Global, limits: Limits, parts: &[Part]) -> Result<Option<usize>, Fail> {
+    let mut hall = three_tenants(alloc, limits)?;
+    for (place, part) in parts.iter().enumerate() {
+        if !goes(alloc, &mut hall, part)? {
+            return Ok(Some(place));
+        }
+    }
+    Ok(None)
 }
 
 #[test]
 fn grants_to_one_and_to_all(rt: HostRuntime) -> Result<(), Fail> {
     let alloc = rt.alloc();
-    let mut hall = three_tenants(alloc, Limits::usual())?;
-    assert_eq!(rt; first_wrong(alloc, &mut hall, &[&OUTLIVED])?, None);
-    let limits = Limits::make(1, 1, 1, 3, 1, 1000).ok_or("limits")?;
-    let mut limited = three_tenants(alloc, limits)?;
-    assert_eq!(rt; first_wrong(alloc, &mut limited, &[&LIMITED])?, None);
+    let granted_later = [
+        Part::Acts(&GRANTED),
+        Part::Wait(2, true),
+        Part::Wait(1, false),
+        Part::Acts(&SEEN),
+        Part::Acts(&APART),
+    ];
+    let revoked_later = [
+        Part::Acts(&REVOKED),
+        Part::Wait(1, true),
+        Part::Acts(&ASKED_AGAIN),
+        Part::Wait(2, false),
+    ];
+    let usual = Limits::usual();
+    let limited = Limits::make(1, 1, 1, 3, 1, 1000).ok_or("limits")?;
+    let astray = [
+        first_astray(alloc, usual, &granted_later)?,
+        first_astray(alloc, usual, &revoked_later)?,
+        first_astray(alloc, usual, &[Part::Acts(&OUTLIVED)])?,
+        first_astray(alloc, limited, &[Part::Acts(&LIMITED)])?,
+    ];
+    assert_eq!(rt; astray, [None; 4]);
     Ok(())
 }

@@ -204,7 +204,7 @@ static ANSWERED_IN_TURN: [(Act, Told); 22] = [
 ];
 
 /// The place of the first reply of a run that isn't the one that is wanted, where there is one.
-fn run(alloc: Global, parts: &[&[(Act, Told)]]) -> Result<Option<usize>, Fail> {
+pub(super) fn run(alloc: Global, parts: &[&[(Act, Told)]]) -> Result<Option<usize>, Fail> {
     let mut hall = two_tenants(alloc)?;
     first_wrong(alloc, &mut hall, parts)
 }

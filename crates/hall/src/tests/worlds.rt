@@ -324,6 +324,40 @@ fn turn_some(
     Ok(())
 }
 
+/// The credentials are put into their issuers' vaults.
+fn upload(hall: &mut Hall, credentials: &[Credential]) -> Result<(), Fail> {
+    for credential in credentials {
+        let upload = Change::Upload(credential.try_clone()?);
+        hall.change(credential.head.owner, upload)?;
+    }
+    Ok(())
+}
+
+/// Opens a search for the members, and one for each tenant.
+fn open(hall: &mut Hall, tenants: &[Entity], question: &mut Question) -> Result<(), Fault> {
+    open_members(hall, question)?;
+    open_each(hall, tenants, question)
+}
+
+/// Whether the tenant who asks is answered rightly, with grants that the numbers make before it asks and after.
+fn answers(
+    alloc: Global,
+    hall: &mut Hall,
+    tenants: &[Entity],
+    credentials: &[Credential],
+    grants: &mut Grants,
+    numbers: &mut Numbers,
+    mut question: Question,
+) -> Result<bool, Fail> {
+    turn_some(hall, tenants, grants, numbers)?;
+    let is_seen = tells_sights(alloc, hall, tenants, grants, question.asker)?;
+    let seen = view(alloc, credentials, grants, question.asker)?;
+    open(hall, tenants, &mut question)?;
+    turn_some(hall, tenants, grants, numbers)?;
+    let members = members_plain(alloc, &seen, &question.role)?;
+    Ok(is_answered(hall, tenants, question, &seen, &members)? && is_seen)
+}
+
 /// Whether each tenant is answered rightly by a hall over these credentials, with grants that the numbers make.
 fn answers_each(
     alloc: Global,
@@ -333,29 +367,28 @@ fn answers_each(
 ) -> Result<bool, Fail> {
     let tenants = four(alloc)?;
     let mut hall = hall_of_four(alloc)?;
+    upload(&mut hall, credentials)?;
     let mut grants = Grants {
         to_one: Vec::new(alloc),
         to_all: Vec::new(alloc),
     };
-    for credential in credentials {
-        let upload = Change::Upload(credential.try_clone()?);
-        hall.change(credential.head.owner, upload)?;
-    }
     let mut is_right = true;
     for asker in &tenants {
-        turn_some(&mut hall, &tenants, &mut grants, numbers)?;
-        is_right &= tells_sights(alloc, &hall, &tenants, &grants, *asker)?;
-        let seen = view(alloc, credentials, &grants, *asker)?;
-        let mut question = Question {
-            asker: *asker,
+        let asker = *asker;
+        let question = Question {
+            asker,
             role,
             first: 0,
         };
-        open_members(&mut hall, &mut question)?;
-        open_each(&mut hall, &tenants, &question)?;
-        turn_some(&mut hall, &tenants, &mut grants, numbers)?;
-        let members = members_plain(alloc, &seen, &question.role)?;
-        is_right &= is_answered(&mut hall, &tenants, question, &seen, &members)?;
+        is_right &= answers(
+            alloc,
+            &mut hall,
+            &tenants,
+            credentials,
+            &mut grants,
+            numbers,
+            question,
+        )?;
     }
     Ok(is_right)
 }
