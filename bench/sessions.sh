@@ -1,11 +1,12 @@
 #!/usr/bin/env bash
 # How many requests sessions answer in a second, over 1 and over 64 connections at once: of a search that isn't there, which
 # touches no vault, and of searches that are opened, waited for and ended; each line sent once the one before it is answered,
-# and 16 rounds of them sent at once. Beside each what a bare echo loop gives to the same client over the same sockets.
+# and 16 rounds of them sent at once. Beside each what a bare echo loop gives to the same client over the same sockets. Then
+# the same searches by 64 sessions of one tenant.
 #
 # Prints the requests in a second and the microseconds of processor time that the server took for one, of the program and of
 # the echo. Each figure is the median of so many runs as the first argument says (3); the second is the number of workers
-# (4). It needs a C compiler.
+# (4), and a third names another built program, of which the same is printed. It needs a C compiler.
 . "$(dirname "$0")/common.sh"
 
 runs=${1:-3}
@@ -16,7 +17,7 @@ for part in client echo; do
     cc -O2 -pthread -o "$work/$part" "$root/bench/sessions/$part.c"
 done
 awk 'BEGIN {
-    for (tenant = 1; tenant <= 64; tenant++) print "tenant T" tenant " word 1000 100 16 10000 1000000000 1000000"
+    for (tenant = 1; tenant <= 64; tenant++) print "tenant T" tenant " word 1000 100 64 10000 1000000000 1000000"
     print "begin"
 }' > "$work/roster"
 
@@ -25,7 +26,7 @@ server() {
     if [ "$1" = echo ]; then
         time "$work/echo" "$2"
     else
-        time "$program" serve --workers "$workers" --sessions 64 --accept "$2" < "$work/roster"
+        time "$1" serve --workers "$workers" --sessions 64 --accept "$2" < "$work/roster"
     fi
 }
 
@@ -47,19 +48,23 @@ once() {
 
 # row CONNECTIONS ROUNDS AHEAD ASKED WHAT
 row() {
-    local of_program of_echo
-    of_program=$(medians "$runs" once program "$1" "$2" "$3" "$4")
-    of_echo=$(medians "$runs" once echo "$1" "$2" "$3" "$4")
+    local of_program of_echo='0 0'
+    of_program=$(medians "$runs" once "$program" "$1" "$2" "$3" "$4")
+    [ "$4" = share ] || of_echo=$(medians "$runs" once echo "$1" "$2" "$3" "$4")
     # shellcheck disable=SC2086
     echo $of_program $of_echo | awk -v connections="$1" -v what="$5" '
         { printf "%-34s %11d %14d %8.1f %14d %8.1f\n", what, connections, $1, $2 / 1000, $3, $4 / 1000 }'
 }
 
-printf '%-34s %11s %14s %8s %14s %8s\n' requests connections 'a second' 'us each' 'echoed/second' 'us each'
-for connections in 1 64; do
-    rounds=$((connections == 1 ? 30000 : 2000))
-    row "$connections" "$rounds" 0 poll 'poll, one by one'
-    row "$connections" "$((3 * rounds))" 16 poll 'poll, 16 at once'
-    row "$connections" "$((rounds / 3))" 0 ask 'ask, wait and end, one by one'
-    row "$connections" "$((rounds / 3))" 16 ask 'ask, wait and end, 48 at once'
+for program in "$program" "${@:3}"; do
+    echo "$program" | sed "s|^$root/||"
+    printf '%-34s %11s %14s %8s %14s %8s\n' requests connections 'a second' 'us each' 'echoed/second' 'us each'
+    for connections in 1 64; do
+        rounds=$((connections == 1 ? 30000 : 2000))
+        row "$connections" "$rounds" 0 poll 'poll, one by one'
+        row "$connections" "$((3 * rounds))" 16 poll 'poll, 16 at once'
+        row "$connections" "$((rounds / 3))" 0 ask 'ask, wait and end, one by one'
+        row "$connections" "$((rounds / 3))" 16 ask 'ask, wait and end, 48 at once'
+    done
+    row 64 "$((2000 / 3))" 0 share 'the same of one tenant'
 done

@@ -4,7 +4,7 @@ ghost use Rattle.hall.specs.declared.calls.requests.Request.TheVariants as reque
 ghost use Rattle.hall.specs.declared.calls.replies.Reply.TheVariants as reply;
 ghost use Rattle.pool.specs.Served.{IsAnsweredAt, IsPolledAt, IsOverAt, GoesOnWaiting};
 
-use crate::faults::DeskFault;
+use crate::faults::{DeskFault, Told};
 use crate::passes::Pass;
 use crate::rooms::Room;
 use crate::verdicts::{Ticket, Verdict};
@@ -15,7 +15,7 @@ use std::sync::ledger::Ledger;
 
 impl<L: Ledger> Room<L> {
     /// Serves the request, of whatever kind.
-    pub(crate) fn serve(&mut self, pass: &mut Pass<L>, request: Request) -> Result<Reply, DeskFault>
+    pub(crate) fn serve(&mut self, pass: &mut Pass<L>, request: Request) -> Told<Reply>
         ensures { IsAnsweredAt (λ r. r) self.old self.new pass.old pass.new request result }
     {
         Ok(match request {
@@ -33,7 +33,7 @@ impl<L: Ledger> Room<L> {
     }
 
     /// Opens a search for the pass's tenant, and answers its number with the length of the journal at its opening.
-    pub(crate) fn open(&mut self, pass: &mut Pass<L>, query: Query) -> Result<Ticket, DeskFault>
+    pub(crate) fn open(&mut self, pass: &mut Pass<L>, query: Query) -> Told<Ticket>
         ensures answered { IsAnsweredAt (λ t. reply.Opened t.no) self.old self.new pass.old pass.new (request.Seek query) result }
         ensures opened_at { IfOk result (λ t. t.opened_at ≡ pass.new.front) }
     {
@@ -46,7 +46,7 @@ impl<L: Ledger> Room<L> {
     }
 
     /// What the search of the pass's tenant has come to.
-    pub(crate) fn answer(&self, pass: &mut Pass<L>, number: u64) -> Result<Answer, DeskFault>
+    pub(crate) fn answer(&self, pass: &mut Pass<L>, number: u64) -> Told<Answer>
         ensures { IsAnsweredAt reply.Answered self.now self.now pass.old pass.new (request.Poll number) result }
     {
         self.show(pass)?;
@@ -54,7 +54,7 @@ impl<L: Ledger> Room<L> {
     }
 
     /// The same, with what the search is for and what it reads.
-    pub(crate) fn poll(&self, pass: &mut Pass<L>, number: u64) -> Result<Verdict, DeskFault>
+    pub(crate) fn poll(&self, pass: &mut Pass<L>, number: u64) -> Told<Verdict>
         ensures { IsPolledAt self.now pass.old pass.new number result }
     {
         let who = pass.tenant();
@@ -82,7 +82,7 @@ impl<L: Ledger> Room<L> {
     }
 
     /// Polls where a wait is over.
-    pub(crate) fn poll_over(&self, pass: &mut Pass<L>, number: u64) -> Result<Verdict, DeskFault>
+    pub(crate) fn poll_over(&self, pass: &mut Pass<L>, number: u64) -> Told<Verdict>
         requires over { GoesOnWaiting self.now pass.old.tenant number pass.old.front → ⊥ }
         ensures polled { IsPolledAt self.now pass.old pass.new number result }
         ensures over { IsOverAt self.now result }
@@ -91,15 +91,17 @@ impl<L: Ledger> Room<L> {
     }
 
     /// Ends the search of the pass's tenant.
-    pub(crate) fn end(&mut self, pass: &mut Pass<L>, number: u64) -> Result<(), DeskFault>
+    pub(crate) fn end(&mut self, pass: &mut Pass<L>, number: u64) -> Told<()>
         ensures { IsAnsweredAt (λ u. reply.Closed) self.old self.new pass.old pass.new (request.Close number) result }
     {
         self.show(pass)?;
-        Ok(self.hall.end(pass.tenant(), number)?)
+        self.hall.end(pass.tenant(), number)?;
+        self.ended = Some((pass.tenant(), number));
+        Ok(())
     }
 
     /// The credentials that the pass's tenant issues and holds, in order.
-    pub(crate) fn vault(&mut self, pass: &mut Pass<L>) -> Result<Rows, DeskFault>
+    pub(crate) fn vault(&mut self, pass: &mut Pass<L>) -> Told<Rows>
         ensures { IsAnsweredAt reply.Vault self.old self.new pass.old pass.new request.Vault result }
     {
         self.show(pass)?;
@@ -107,7 +109,7 @@ impl<L: Ledger> Room<L> {
     }
 
     /// The names whose vaults the pass's tenant reads, in order, each with whether its vault is public.
-    pub(crate) fn sees(&self, pass: &mut Pass<L>) -> Result<Sights, DeskFault>
+    pub(crate) fn sees(&self, pass: &mut Pass<L>) -> Told<Sights>
         ensures { IsAnsweredAt reply.Sees self.now self.now pass.old pass.new request.Sees result }
     {
         self.show(pass)?;
@@ -115,12 +117,7 @@ impl<L: Ledger> Room<L> {
     }
 
     /// Why the entity is a member of the role that the search of the pass's tenant asked about.
-    pub(crate) fn proof(
-        &self,
-        pass: &mut Pass<L>,
-        number: u64,
-        member: Entity,
-    ) -> Result<Proof, DeskFault>
+    pub(crate) fn proof(&self, pass: &mut Pass<L>, number: u64, member: Entity) -> Told<Proof>
         ensures { IsAnsweredAt reply.Proof self.now self.now pass.old pass.new (request.Proof number member) result }
     {
         self.show(pass)?;

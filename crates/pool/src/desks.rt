@@ -10,14 +10,12 @@ ghost use Rattle.pool.specs.Refusals.{IsPassRefusal};
 ghost use Rattle.pool.specs.Served.{IsAnswered, IsPolled, IsWaited, IsAdmitted, IsGathered, MoreAreOut};
 
 use crate::bells::Bells;
-use crate::faults::DeskFault;
+use crate::faults::{DeskFault, Told};
 use crate::passes::Pass;
 use crate::rooms::{PARTS, Room};
-use crate::tenants::{is_among, names_of};
 use crate::verdicts::{Gathered, Ticket, Verdict};
 use crate::visits::{BATCH, Found, Looked};
 use hall::{Fault, Hall, Job, Proof, Query, Reply, Request, Rows, Sights};
-use indexmap::IndexSet;
 use names::Entity;
 use quotas::Limits;
 use std::alloc::Global;
@@ -31,10 +29,9 @@ use vaults::Change;
 /// if they return. Contracts see of a desk the names of its tenants, which never change.
 #[derive(Drop)]
 pub struct Desk<L: Ledger> {
-    /// The names of the hall's tenants. They stand outside of the lock, so that a contract can tell who gets a pass.
-    tenants: IndexSet<Entity>,
     room: Mutex<Room<L>>,
-    /// Where callers wait for the end of a search, each at the bell of its tenant.
+    /// Where callers wait for the end of a search, each at the bell of that search. The tenants' names stand here, outside of
+    /// the lock, so that a contract can tell who gets a pass.
     over: Bells,
     /// Where workers wait for something to do.
     work: Condvar,
@@ -45,7 +42,7 @@ impl<L: Ledger> Model for Desk<L> {
 
     ghost Value = { List (List ℕ) };
 
-    ghost view = { λ d. d.tenants.keys };
+    ghost view = { λ d. d.over };
 }
 
 impl<L: Ledger> Desk<L> {
@@ -62,11 +59,9 @@ impl<L: Ledger> Desk<L> {
         ensures tenants { IfOk result (λ desk. desk ≡ map (λ row. row.0) roster.items) }
         ensures only_memory { IfErr result (λ f. f ≡ Fault.Memory) }
     {
-        let tenants = names_of(alloc, &roster)?;
         let over = Bells::make(alloc, &roster)?;
         let hall = Hall::make(alloc, roster)?;
         Ok(Desk {
-            tenants,
             room: Mutex::new(Room::new(hall, blank)),
             over,
             work: Condvar::new(),
@@ -84,7 +79,7 @@ impl<L: Ledger> Desk<L> {
 
     /// A new pass of a tenant, which was told of no change yet. Refused as 62 to a name outside the roster, and as 90 where
     /// 2^32 passes are out.
-    pub fn pass<R: Wait>(&self, rt: &R, who: Entity) -> Result<Pass<L>, DeskFault>
+    pub fn pass<R: Wait>(&self, rt: &R, who: Entity) -> Told<Pass<L>>
         ensures tenant { IfOk result (λ p. p.tenant ≡ who) }
         ensures share { IfOk result (λ p. p.share ≡ 0) }
         ensures admitted { IfOk result IsAdmitted }
@@ -92,7 +87,7 @@ impl<L: Ledger> Desk<L> {
         ensures refused { IfErr result IsPassRefusal }
         ensures stranger { IfErr result (λ f. (f ≡ DeskFault.Hall Fault.NoTenant) ↔ (Contains self.now who → ⊥)) }
     {
-        if !is_among(&self.tenants, &who) {
+        if !self.over.has(&who) {
             return Err(DeskFault::Hall(Fault::NoTenant));
         }
         self.enter(rt).admit(who)
@@ -100,47 +95,27 @@ impl<L: Ledger> Desk<L> {
 
     /// Serves the request of the pass's tenant, of whatever kind. Refused as 91 where the journal is shorter than the pass has
     /// seen, and then as the hall refuses.
-    pub fn serve<R: Wait>(
-        &self,
-        rt: &R,
-        pass: &mut Pass<L>,
-        request: Request,
-    ) -> Result<Reply, DeskFault>
+    pub fn serve<R: Wait>(&self, rt: &R, pass: &mut Pass<L>, request: Request) -> Told<Reply>
         ensures { IsAnswered (λ r. r) pass.old pass.new request result }
     {
-        let answered = self.enter(rt).serve(pass, request);
-        self.tell(pass.tenant(), &answered);
+        let mut room = self.enter(rt);
+        let answered = room.serve(pass, request);
+        self.release(room);
+        if matches!(answered, Ok(Reply::Opened(_))) {
+            self.work.notify_one();
+        }
         answered
     }
 
-    /// Wakes who is to look, after the tenant was told this.
-    fn tell(&self, who: Entity, answered: &Result<Reply, DeskFault>) {
-        match answered {
-            Ok(Reply::Opened(_)) => self.work.notify_one(),
-            Ok(Reply::Closed) => self.over.of(&who).notify_all(),
-            _ => {}
-        }
-    }
-
     /// Makes a change, and answers how many changes of the tenant were accepted. Refused as `serve` is.
-    pub fn change<R: Wait>(
-        &self,
-        rt: &R,
-        pass: &mut Pass<L>,
-        change: Change,
-    ) -> Result<u64, DeskFault>
+    pub fn change<R: Wait>(&self, rt: &R, pass: &mut Pass<L>, change: Change) -> Told<u64>
         ensures { IsAnswered reply.Counted pass.old pass.new (request.Alter change) result }
     {
         self.enter(rt).change(pass, change)
     }
 
     /// Opens a search over what the tenant sees now. Refused as `serve` is.
-    pub fn open<R: Wait>(
-        &self,
-        rt: &R,
-        pass: &mut Pass<L>,
-        query: Query,
-    ) -> Result<Ticket, DeskFault>
+    pub fn open<R: Wait>(&self, rt: &R, pass: &mut Pass<L>, query: Query) -> Told<Ticket>
         ensures answered { IsAnswered (λ t. reply.Opened t.no) pass.old pass.new (request.Seek query) result }
         ensures opened_at { IfOk result (λ t. t.opened_at ≡ pass.new.front) }
     {
@@ -153,12 +128,7 @@ impl<L: Ledger> Desk<L> {
 
     /// What the tenant's search of the number has come to. Refused as `serve` is, and also where memory lacks to share what the
     /// search reads.
-    pub fn poll<R: Wait>(
-        &self,
-        rt: &R,
-        pass: &mut Pass<L>,
-        number: u64,
-    ) -> Result<Verdict, DeskFault>
+    pub fn poll<R: Wait>(&self, rt: &R, pass: &mut Pass<L>, number: u64) -> Told<Verdict>
         ensures { IsPolled pass.old pass.new number result }
     {
         self.enter(rt).poll(pass, number)
@@ -166,35 +136,29 @@ impl<L: Ledger> Desk<L> {
 
     /// Waits until the tenant's search of the number has come to an end, or the desk was stopped, and then answers as `poll`
     /// does. It waits for no search that isn't there.
-    pub fn wait<R: Wait>(
-        &self,
-        rt: &R,
-        pass: &mut Pass<L>,
-        number: u64,
-    ) -> Result<Verdict, DeskFault>
+    pub fn wait<R: Wait>(&self, rt: &R, pass: &mut Pass<L>, number: u64) -> Told<Verdict>
         ensures { IsWaited pass.old pass.new number result }
     {
         let who = pass.tenant();
         let front = pass.front();
         let room = self.enter(rt);
-        let bell = self.over.of(&who);
+        let bell = self.over.of(&who, number);
         let room = bell.wait_while(rt, room, |room| !room.is_over(who, number, front));
         room.poll_over(pass, number)
     }
 
     /// Ends the tenant's search of the number. Refused as `serve` is.
-    pub fn end<R: Wait>(&self, rt: &R, pass: &mut Pass<L>, number: u64) -> Result<(), DeskFault>
+    pub fn end<R: Wait>(&self, rt: &R, pass: &mut Pass<L>, number: u64) -> Told<()>
         ensures { IsAnswered (λ u. reply.Closed) pass.old pass.new (request.Close number) result }
     {
-        let ended = self.enter(rt).end(pass, number);
-        if ended.is_ok() {
-            self.over.of(&pass.tenant()).notify_all();
-        }
+        let mut room = self.enter(rt);
+        let ended = room.end(pass, number);
+        self.release(room);
         ended
     }
 
     /// The credentials that the tenant issues and holds, in order. Refused as `serve` is.
-    pub fn vault<R: Wait>(&self, rt: &R, pass: &mut Pass<L>) -> Result<Rows, DeskFault>
+    pub fn vault<R: Wait>(&self, rt: &R, pass: &mut Pass<L>) -> Told<Rows>
         ensures { IsAnswered reply.Vault pass.old pass.new request.Vault result }
     {
         self.enter(rt).vault(pass)
@@ -202,7 +166,7 @@ impl<L: Ledger> Desk<L> {
 
     /// The names whose vaults the tenant reads, in order, its own among them, each with whether its vault is public. Refused
     /// as `serve` is.
-    pub fn sees<R: Wait>(&self, rt: &R, pass: &mut Pass<L>) -> Result<Sights, DeskFault>
+    pub fn sees<R: Wait>(&self, rt: &R, pass: &mut Pass<L>) -> Told<Sights>
         ensures { IsAnswered reply.Sees pass.old pass.new request.Sees result }
     {
         self.enter(rt).sees(pass)
@@ -215,7 +179,7 @@ impl<L: Ledger> Desk<L> {
         pass: &mut Pass<L>,
         number: u64,
         member: Entity,
-    ) -> Result<Proof, DeskFault>
+    ) -> Told<Proof>
         ensures { IsAnswered reply.Proof pass.old pass.new (request.Proof number member) result }
     {
         self.enter(rt).proof(pass, number, member)
@@ -249,48 +213,37 @@ impl<L: Ledger> Desk<L> {
         self.work.notify_all();
     }
 
-    /// Wakes the callers who wait for a search of the tenant, if it is given.
-    fn ring(&self, ended: Option<Entity>) {
-        if let Some(who) = ended {
-            self.over.of(&who).notify_all();
+    /// Gives the lock back, and wakes the callers who wait for the search that came to its end meanwhile.
+    fn release(&self, mut room: MutexGuard<'_, Room<L>>) {
+        let ended = room.take_ended();
+        drop(room);
+        if let Some((who, number)) = ended {
+            self.over.of(&who, number).notify_all();
         }
     }
 
-    /// For a worker: hands in all that it holds, waits until there is something to do, and does it. Answers what it found,
-    /// and how many letters are finished. One worker more is woken where something is left to do, so that no more of them
-    /// are awake than find something.
-    pub(crate) fn visit<R: Wait>(
-        &self,
-        rt: &R,
-        looked: &mut Vec<Looked>,
-        held: &mut Vec<Job>,
-    ) -> (Found, u64)
+    /// For a worker: waits until there is something to do, does it, and answers what it found. One worker more is woken where
+    /// something is left to do, so that no more of them are awake than find something.
+    pub(crate) fn visit<R: Wait>(&self, rt: &R, held: &mut Vec<Job>) -> Found
         requires empty { vec_len held.old ≡ 0 }
         requires space { BATCH ≤ vec_capacity held.old }
-        ensures found { ¬ (result.0 ≡ Found.Nothing) }
-        ensures stopped { result.0 ≡ Found.Stopped → vec_len held.new ≡ 0 }
-        ensures most { result.1 ≤ vec_len looked.old }
-        ensures handed_in { vec_len looked.new ≡ 0 }
-        ensures looked { vec_capacity looked.new ≡ vec_capacity looked.old }
+        ensures found { ¬ (result ≡ Found.Nothing) }
+        ensures stopped { result ≡ Found.Stopped → vec_len held.new ≡ 0 }
         ensures bound { vec_len held.new ≤ BATCH }
         ensures capacity { vec_capacity held.new ≡ vec_capacity held.old }
     {
-        let mut room = self.enter(rt);
-        let finished = room.hand_in_all(looked);
-        self.ring(room.take_ended());
+        let room = self.enter(rt);
         let mut room = self.work.wait_while(rt, room, |room| room.is_idle());
         let found = room.visit(held);
-        let ended = room.take_ended();
         let is_idle = room.is_idle();
-        drop(room);
-        self.ring(ended);
+        self.release(room);
         if !is_idle {
             self.work.notify_one();
         }
-        (found, finished)
+        found
     }
 
-    /// For a worker that ends: hands in all that it holds, and answers how many letters are finished.
+    /// For a worker: hands in all that it holds, and answers how many letters are finished.
     pub(crate) fn hand_in<R: Wait>(&self, rt: &R, looked: &mut Vec<Looked>) -> u64
         ensures most { result ≤ vec_len looked.old }
         ensures empty { vec_len looked.new ≡ 0 }
@@ -301,10 +254,12 @@ impl<L: Ledger> Desk<L> {
         }
         let mut room = self.enter(rt);
         let finished = room.hand_in_all(looked);
-        let ended = room.take_ended();
-        drop(room);
-        self.ring(ended);
-        self.work.notify_one();
+        self.release(room);
         finished
+    }
+
+    /// For a worker that ends: another one goes on.
+    pub(crate) fn replace_worker(&self) {
+        self.work.notify_one();
     }
 }

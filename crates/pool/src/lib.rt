@@ -16,7 +16,6 @@ mod gates;
 mod laws;
 mod passes;
 mod rooms;
-mod tenants;
 #[cfg(test)]
 mod tests;
 mod verdicts;
@@ -24,7 +23,7 @@ mod visits;
 mod workers;
 
 pub use desks::Desk;
-pub use faults::DeskFault;
+pub use faults::{DeskFault, Told};
 pub use gates::{Gate, NoGate};
 pub use laws::replies_are_own;
 pub use passes::Pass;

@@ -6,7 +6,7 @@ ghost use Rattle.pool.specs.Passes.{IsSeenAt, shares_of};
 ghost use Rattle.pool.specs.Rooms.{IsKept};
 ghost use Rattle.pool.specs.Served.{IsAnsweredAt};
 
-use crate::faults::DeskFault;
+use crate::faults::{DeskFault, Told};
 use crate::passes::Pass;
 use crate::verdicts::Gathered;
 use hall::{Fault, Hall};
@@ -31,8 +31,8 @@ pub(crate) struct Room<L: Ledger> {
     left: u64,
     pub(crate) stopped: bool,
     pub(crate) turn: u64,
-    /// Whose search came to an end since those who wait for one were told last.
-    pub(crate) ended: Option<Entity>,
+    /// The search that came to an end since those who wait for one were told last: whose it is, and its number.
+    pub(crate) ended: Option<(Entity, u64)>,
 }
 
 impl<L: Ledger> Model for Room<L> {
@@ -88,7 +88,7 @@ impl<L: Ledger> Room<L> {
     }
 
     /// A new pass of this name, which has seen the journal as it is and was told of no change.
-    pub(crate) fn admit(&mut self, who: Entity) -> Result<Pass<L>, DeskFault>
+    pub(crate) fn admit(&mut self, who: Entity) -> Told<Pass<L>>
         ensures pass { IfOk result (λ p. p ≡ record { tenant = who; front = length self.old.hall.journal; share = 0 }) }
         ensures ok { OnOk result (self.new ≡ record self.old { out = self.old.out + 1 }) }
         ensures refused { IfErr result (λ f. f ≡ DeskFault.Hall Fault.Memory) }
@@ -106,7 +106,7 @@ impl<L: Ledger> Room<L> {
     }
 
     /// Lets the pass see the journal, unless that is shorter than the pass has seen.
-    pub(crate) fn show(&self, pass: &mut Pass<L>) -> Result<(), DeskFault>
+    pub(crate) fn show(&self, pass: &mut Pass<L>) -> Told<()>
         ensures ok { OnOk result (IsSeenAt (length self.now.hall.journal) pass.old pass.new) }
         ensures err { IfErr result (λ f. f ≡ DeskFault.Rewound (length self.now.hall.journal)) }
         ensures short { OnErr result (length self.now.hall.journal < pass.old.front) }
@@ -123,7 +123,7 @@ impl<L: Ledger> Room<L> {
     }
 
     /// Makes a change of the pass's tenant. Where the hall accepts it, the pass is told of one change more.
-    pub(crate) fn change(&mut self, pass: &mut Pass<L>, change: Change) -> Result<u64, DeskFault>
+    pub(crate) fn change(&mut self, pass: &mut Pass<L>, change: Change) -> Told<u64>
         ensures { IsAnsweredAt reply.Counted self.old self.new pass.old pass.new (request.Alter change) result }
     {
         self.show(pass)?;

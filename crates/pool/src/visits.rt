@@ -61,13 +61,13 @@ impl<L: Ledger> Room<L> {
         ensures { self.new ≡ self.old }
     {
         if self.is_over(who, number, 0) {
-            self.ended = Some(who);
+            self.ended = Some((who, number));
         }
     }
 
-    /// Whose search came to an end since this was asked last, which is to be asked before the lock is given back: those who
-    /// wait for a search of this tenant are to look then.
-    pub(crate) fn take_ended(&mut self) -> Option<Entity>
+    /// The search that came to an end since this was asked last, which is to be asked before the lock is given back: those who
+    /// wait for it are to look then.
+    pub(crate) fn take_ended(&mut self) -> Option<(Entity, u64)>
         ensures { self.new ≡ self.old }
     {
         let _ = &self.hall;

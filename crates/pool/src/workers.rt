@@ -5,7 +5,7 @@ ghost use Rattle.pool.specs.Visits.{letters_of, AreLetThrough};
 ghost use Rattle.pool.specs.Workers.{IsDoneBy, DoneBy};
 
 use crate::desks::Desk;
-use crate::faults::DeskFault;
+use crate::faults::{DeskFault, Told};
 use crate::gates::Gate;
 use crate::visits::{BATCH, Found, Looked};
 use hall::{Fault, Job};
@@ -66,20 +66,16 @@ fn work<L: Ledger, G: Gate, R: Wait>(rt: &R, alloc: Global, desk: &Desk<L>, gate
         return worked;
     };
     for _ in rt.forever() {
-        let (found, finished) = desk.visit(rt, &mut looked, &mut held);
-        worked.finished = worked.finished.saturating_add(finished);
+        let found = desk.visit(rt, &mut held);
         look_up_all(gate, &mut held, &mut looked);
-        if found == Found::NoMemory {
-            break;
-        }
-        if found == Found::Stopped {
-            worked.no_memory = false;
+        let finished = desk.hand_in(rt, &mut looked);
+        worked.finished = worked.finished.saturating_add(finished);
+        if found != Found::Work {
+            worked.no_memory = found == Found::NoMemory;
             break;
         }
     }
-    worked.finished = worked
-        .finished
-        .saturating_add(desk.hand_in(rt, &mut looked));
+    desk.replace_worker();
     held.destroy_empty();
     looked.destroy_empty();
     worked
@@ -112,7 +108,7 @@ pub fn run_workers<L: Ledger + Send + Sync, G: Gate, R: Threads + Wait + Sync>(
     desk: &Desk<L>,
     n: u64,
     gate: &G,
-) -> Result<u64, DeskFault>
+) -> Told<u64>
     requires { (1 ≤ n) × (n ≤ 64) }
     ensures done { IfOk result (DoneBy n) }
     ensures refused { IfErr result IsWorkRefusal }
@@ -123,7 +119,7 @@ pub fn run_workers<L: Ledger + Send + Sync, G: Gate, R: Threads + Wait + Sync>(
     thread::scope(
         thread::scope_env(),
         rt,
-        |scope| -> Result<u64, DeskFault>
+        |scope| -> Told<u64>
             requires { (vec_len handles ≡ 0) × (n ≤ vec_capacity handles) }
             ensures done { IfOk result (DoneBy n) }
             ensures refused { IfErr result IsWorkRefusal }
