@@ -1,9 +1,11 @@
 -- Other tenants change nothing of what is printed for a tenant.
 use Rattle.std.proofs.Common.{◌≡◌, ℕ, Bool, true, false, cond, List, [], ◌∷◌, ◌++◌, map, refl, sym, ap, ap₂, ◌∙◌, subst, subst₂, append_assoc, Some, Ok, Err, inl, inr}
 use Rattle.std.specs.Prelude.{◌&&◌, ◌||◌, find, option_map, is_some}
-use Rattle.std.specs.List.{AllZip, AllByRecursion, flat_map, list_any}
+use Rattle.std.specs.Io.KnownBytes.{Appends}
+use Rattle.std.specs.List.{AllZip, AllByRecursion, concat, flat_map, list_any}
 use Rattle.std.proofs.lemmas.Bool.{and_from}
 use Rattle.std.proofs.lemmas.List.{append-nil}
+use Rattle.std.proofs.lemmas.List.Folds.{concat-append}
 use Rattle.quotas.specs.Quota.{Quota}
 use Rattle.names.specs.Name.{is_name, IsName, is_same}
 use Rattle.names.proofs.SameNames.{same_from_is_same}
@@ -18,6 +20,7 @@ use Rattle.service.specs.declared.script_faults.ScriptFault.TheVariants.{Roster,
 use Rattle.service.specs.Line.{Line, text, too_long, not_ascii, commands_of}
 use Rattle.service.specs.Roster.{HasRows, HasRoster}
 use Rattle.service.specs.Outcome.{Outcome, served, outcome_text, is_speaker, IsSaid, told_in}
+use Rattle.service.specs.Written.{WroteUpTo, MayReply}
 use Rattle.service.specs.Isolation.{ScriptRun, IsSameFor, limits_of, own_lines, own_outcomes, AreProofs, ArePrintedAlike, IsNoProof}
 use Rattle.service.specs.Laws.{OwnLinesAreAnswered, ScriptsAreIsolated, SameIsPrinted, ScriptsAreRuns}
 use Rattle.service.proofs.OwnLemmas.{own_said, own_none}
@@ -128,47 +131,44 @@ pub same_is_printed : SameIsPrinted
 same_is_printed tenant input other one two same none =
     texts_same (own_outcomes tenant one.outcomes) (own_outcomes tenant two.outcomes) (scripts_isolated tenant input other one two same) none
 
-pub scripts_are_runs : ScriptsAreRuns
-scripts_are_runs input (Ok u) old new answers = (
+-- the run of a script whose first lines were answered
+run_up_to : (input : List ℕ) (rows : List Row) (commands rest : List Line) (out : List ℕ → Type 0) → HasRoster (commands_of input) rows commands → WroteUpTo (MayReply (roster_of rows)) commands rest out →
+    (run : ScriptRun input) × (run.rest ≡ rest) × out (concat run.replies)
+run_up_to input rows commands rest out roster wrote = (
   record {
-    rows = answers.rows;
-    lines = answers.commands;
-    rest = [];
-    outcomes = answers.wrote.outcomes;
-    output = answers.wrote.output;
-    roster = subst (HasRoster (commands_of input) answers.rows) (sym (append-nil answers.commands)) answers.roster;
-    transcript = answers.wrote.transcript;
+    rows = rows;
+    lines = wrote.done;
+    rest = rest;
+    outcomes = wrote.may.0;
+    replies = wrote.replies;
+    roster = subst (HasRoster (commands_of input) rows) wrote.split roster;
+    transcript = wrote.may.1;
   },
-  (refl, answers.wrote.out),
+  refl,
+  wrote.out,
 )
+
+pub scripts_are_runs : ScriptsAreRuns
+scripts_are_runs input (Ok u) old new answers =
+    let run = run_up_to input answers.rows answers.commands [] (Appends old new) answers.roster answers.wrote in (run.0, (run.1, run.2))
 scripts_are_runs input (Err Read) old new answers =
-    let some = answers.wrote in (
-      record {
-        rows = answers.rows;
-        lines = some.done;
-        rest = some.rest;
-        outcomes = some.all.outcomes;
-        output = some.all.output;
-        roster = subst (HasRoster (commands_of input) answers.rows) some.split answers.roster;
-        transcript = some.all.transcript;
-      },
-      some.all.out,
-    )
+    let run = run_up_to input answers.rows answers.commands answers.wrote.0 (Appends old new) answers.roster answers.wrote.1 in (run.0, run.2)
 scripts_are_runs input (Err Write) old new answers =
     let part = answers.wrote in (
       record {
         rows = answers.rows;
         lines = part.done ++ part.line ∷ [];
         rest = part.rest;
-        outcomes = part.outcomes ++ part.outcome ∷ [];
-        output = part.output ++ outcome_text part.outcome;
+        outcomes = part.may.0;
+        replies = part.replies ++ part.reply ∷ [];
         roster = subst (HasRoster (commands_of input) answers.rows) (part.split ∙ sym (append_assoc part.done (part.line ∷ []) part.rest)) answers.roster;
-        transcript = part.transcript;
+        transcript = part.may.1;
       },
       (
-        part.output ++ part.front.front,
+        concat part.replies ++ part.front.front,
         part.front.back,
-        ap (λ (reply : List ℕ). part.output ++ reply) part.front.parts ∙ sym (append_assoc part.output part.front.front part.front.back),
+        concat-append part.replies (part.reply ∷ []) ∙ ap (λ (t : List ℕ). concat part.replies ++ t) (append-nil part.reply ∙ part.front.parts)
+            ∙ sym (append_assoc (concat part.replies) part.front.front part.front.back),
         part.front.missing,
         part.front.out,
       ),

@@ -9,6 +9,7 @@ pub mod RosterSteps
 pub mod ReplyLemmas
 pub mod WordsLemmas
 pub mod WrittenLemmas
+pub mod ConversationLemmas
 pub mod ServedLemmas
 pub mod SpeakerLemmas
 pub mod OutcomeLemmas
@@ -21,5 +22,5 @@ pub mod OwnLemmas
 pub mod AlikeLemmas
 pub mod IsolationLemmas
 pub mod PolledLemmas
-pub mod TalkLemmas
 pub mod ToldLemmas
+pub mod SessionLemmas

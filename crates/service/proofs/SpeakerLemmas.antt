@@ -77,21 +77,22 @@ has-done : (old new : HallState) (told : List Told) → AreDone old told new →
 has-done old new [] same who = ap (λ (h : HallState). is_some (get h.tenants who)) same
 has-done old new (t ∷ more) done who = has-done done.0 new more done.2 who ∙ has-carried old done.0 t.tenant t.deed t.reply done.1 who
 
-has-roster : (roster : List (List ℕ × Quota)) → HasTenants (new_hall roster) roster
-has-roster [] who = ap is_some (get-empty name_order who)
-has-roster (row ∷ rows) who =
+-- a new hall has its roster's tenants
+pub HasTenants-new : (roster : List (List ℕ × Quota)) → HasTenants (new_hall roster) roster
+HasTenants-new [] who = ap is_some (get-empty name_order who)
+HasTenants-new (row ∷ rows) who =
     ap is_some (get-insert nat_list_cmp_total (new_hall rows).tenants row.0 (new_tenant row.1) who)
     ∙ by (eq_by_cmp name_order who row.0)
     ∙ ap (λ (b : Bool). b || is_some (get (new_hall rows).tenants who)) (is_same_tied who row.0 ∙ nat_list_eq_equiv.symm who row.0)
-    ∙ ap (λ (b : Bool). is_same row.0 who || b) (has-roster rows who)
+    ∙ ap (λ (b : Bool). is_same row.0 who || b) (HasTenants-new rows who)
   where
     by : (b : Bool) → is_some (cond b (Some (new_tenant row.1)) (get (new_hall rows).tenants who)) ≡ (b || is_some (get (new_hall rows).tenants who))
     by true = refl
     by false = refl
 
--- whatever the tenants of a roster did, these are the hall's tenants
-pub HasTenants-done : (roster : List (List ℕ × Quota)) (told : List Told) (h : HallState) → AreDone (new_hall roster) told h → HasTenants h roster
-HasTenants-done roster told h done who = has-done (new_hall roster) h told done who ∙ has-roster roster who
+-- and whatever they do, the hall has the same
+pub HasTenants-done : (roster : List (List ℕ × Quota)) (told : List Told) (old new : HallState) → HasTenants old roster → AreDone old told new → HasTenants new roster
+HasTenants-done roster told old new has done who = has-done old new told done who ∙ has who
 
 -- so a tenant of the roster speaks where one of the hall does
 pub is_speaker-speaks : (roster : List (List ℕ × Quota)) (h : HallState) (who : List ℕ) → HasTenants h roster → is_speaker roster who ≡ speaks h who

@@ -14,6 +14,7 @@ use Rattle.service.specs.declared.commands.Command.{Command}
 use Rattle.service.specs.declared.commands.Command.TheVariants.{Request, Wait}
 use Rattle.service.specs.declared.session_lines.Said.{Said}
 use Rattle.service.specs.declared.session_lines.Said.TheVariants as said
+use Rattle.service.specs.declared.conversations.Flow.TheVariants.{GoesOn}
 use Rattle.service.specs.Talk.{Talk, quits, greets, greets_wrongly, tells, Hears}
 use Rattle.service.specs.Session.{of_tenant, IsLater}
 use Rattle.service.specs.Command.{Form, form_of, Reads}
@@ -63,10 +64,10 @@ IsTold-carried who form command told bytes read may (IsToldBy.lacking given same
     IsTold.carried_out command (Err (Hall Memory)) read (may_lack who command given long (subst (λ (r : Result Reply DeskFault). MayTell who command r) same may)) lines
 
 -- another line than `quit`
-pub IsLater-told : (who name line reply : List ℕ) (talk : Talk) (heard : Said) → Hears talk heard → (heard ≡ said.Quit → ⊥) → IsTold who (form_of line) reply → name ≡ who → IsLater who talk line reply (of_tenant name)
-IsLater-told who name line reply (greets one other) heard hears goes_on told is = (told, ap of_tenant is)
-IsLater-told who name line reply greets_wrongly heard hears goes_on told is = (told, ap of_tenant is)
-IsLater-told who name line reply tells heard hears goes_on told is = (told, ap of_tenant is)
+pub IsLater-told : (who name line reply : List ℕ) (talk : Talk) (heard : Said) → Hears talk heard → (heard ≡ said.Quit → ⊥) → IsTold who (form_of line) reply → name ≡ who → IsLater who talk line reply GoesOn (of_tenant name)
+IsLater-told who name line reply (greets one other) heard hears goes_on told is = (told, refl, ap of_tenant is)
+IsLater-told who name line reply greets_wrongly heard hears goes_on told is = (told, refl, ap of_tenant is)
+IsLater-told who name line reply tells heard hears goes_on told is = (told, refl, ap of_tenant is)
 IsLater-told who name line reply quits said.Quit hears goes_on told is = absurd (goes_on refl)
 IsLater-told who name line reply quits (said.Hello one other) hears goes_on told is = absurd hears
 IsLater-told who name line reply quits said.WrongHello hears goes_on told is = absurd hears

@@ -1,25 +1,18 @@
 -- Lemmas on what a script is answered, outcome after outcome.
-use Rattle.std.proofs.Common.{◌≡◌, ℕ, List, [], ◌∷◌, ◌++◌, refl, sym, ap, ◌∙◌, subst}
-use Rattle.std.specs.List.{AllZip, flat_map}
-use Rattle.std.proofs.lemmas.Slice.Zip.{all_zipped_more}
-use Rattle.std.proofs.lemmas.Grind.{flat_map-append}
-use Rattle.std.proofs.lemmas.List.{append-nil}
+use Rattle.std.proofs.Common.{◌≡◌, ℕ, List, [], ◌∷◌, ◌++◌, map, refl, sym, ap, ◌∙◌, subst}
+use Rattle.std.specs.List.{AllZip}
 use Rattle.quotas.specs.Quota.{Quota}
 use Rattle.hall.specs.Run.{Told}
 use Rattle.hall.specs.Hall.{HallState, AreDone, new_hall}
 use Rattle.hall.proofs.laws.ExactRuns.{scripts_exact}
+use Rattle.service.specs.declared.conversations.Flow.{Flow}
+use Rattle.service.specs.declared.conversations.Flow.TheVariants.{GoesOn}
 use Rattle.service.specs.Line.{Line}
 use Rattle.service.specs.Outcome.{Outcome, nobody, refused, served, outcome_text, IsOutcome, deed_of, told_in}
-use Rattle.service.specs.Transcript.{IsTranscript}
-use Rattle.service.specs.Turn.{Answered}
-use Rattle.service.proofs.SpeakerLemmas.{HasTenants-done}
-
--- Each of these lines became an outcome, in order; what was told was carried out one after another in a hall of this roster;
--- and the output is the outcomes' reply lines.
-pub record AreAnswered (roster : List (List ℕ × Quota)) (lines : List Line) (outcomes : List Outcome) (output : List ℕ) (new : HallState) : Type 0 where
-  pub one_each : AllZip (IsOutcome roster) lines outcomes
-  pub done : AreDone (new_hall roster) (told_in outcomes) new
-  pub printed : output ≡ flat_map outcome_text outcomes
+use Rattle.service.specs.Conversation.{Talks, MayTalk}
+use Rattle.service.specs.Written.{MayReply}
+use Rattle.service.specs.Turn.{HasTenants, ScriptAnswers}
+use Rattle.service.proofs.SpeakerLemmas.{HasTenants-new, HasTenants-done}
 
 -- some deeds, and then some more
 done_more : (old mid new : HallState) (told more : List Told) → AreDone old told mid → AreDone mid more new → AreDone old (told ++ more) new
@@ -32,30 +25,42 @@ told_in-append (nobody why ∷ more) second = told_in-append more second
 told_in-append (refused who why ∷ more) second = told_in-append more second
 told_in-append (served who command reply ∷ more) second = ap (λ (l : List Told). record { tenant = who; deed = deed_of command; reply = reply } ∷ l) (told_in-append more second)
 
--- one line more
-pub AreAnswered-more : (roster : List (List ℕ × Quota)) (mid new : HallState) (lines : List Line) (outcomes : List Outcome) (line : Line) (output reply : List ℕ) → AreAnswered roster lines outcomes output mid →
-    (answered : Answered mid line reply new) → AreAnswered roster (lines ++ line ∷ []) (outcomes ++ answered.outcome ∷ []) (output ++ reply) new
-AreAnswered-more roster mid new lines outcomes line output reply before answered = record {
-  one_each = all_zipped_more (IsOutcome roster) lines outcomes line answered.outcome before.one_each
-      (answered.allowed roster (HasTenants-done roster (told_in outcomes) mid before.done));
-  done =
-      subst (λ (told : List Told). AreDone (new_hall roster) told new) (sym (told_in-append outcomes (answered.outcome ∷ [])))
-      (done_more (new_hall roster) mid new (told_in outcomes) (told_in (answered.outcome ∷ [])) before.done answered.done);
-  printed =
-      ap (λ (t : List ℕ). t ++ reply) before.printed
-      ∙ ap (λ (t : List ℕ). flat_map outcome_text outcomes ++ t) (sym answered.text ∙ sym (append-nil (outcome_text answered.outcome)))
-      ∙ sym (flat_map-append outcome_text outcomes (answered.outcome ∷ []));
-}
+-- What was answered from a hall of the roster's tenants on: each line became an outcome, in order; what was told was carried
+-- out one after another; and the replies are the outcomes' lines.
+record AreAnswered (roster : List (List ℕ × Quota)) (old : HallState) (lines : List Line) (replies : List (List ℕ)) (new : HallState) : Type 0 where
+  outcomes : List Outcome
+  one_each : AllZip (IsOutcome roster) lines outcomes
+  done : AreDone old (told_in outcomes) new
+  printed : replies ≡ map outcome_text outcomes
 
--- no line yet
-pub AreAnswered-none : (roster : List (List ℕ × Quota)) → AreAnswered roster [] [] [] (new_hall roster)
-AreAnswered-none roster = record { one_each = tt; done = refl; printed = refl }
+abbrev ScriptTalks : HallState × Flow → List Line → List (List ℕ) → HallState × Flow → Type 0
+ScriptTalks = Talks ScriptAnswers
 
--- what was answered from the start on is exact
-pub transcript_of : (roster : List (List ℕ × Quota)) (lines : List Line) (outcomes : List Outcome) (output : List ℕ) (new : HallState) → AreAnswered roster lines outcomes output new →
-    IsTranscript roster lines outcomes output
-transcript_of roster lines outcomes output new answered = record {
-  one_each = answered.one_each;
-  exact = scripts_exact roster new (told_in outcomes) answered.done;
-  printed = answered.printed;
-}
+answered : (roster : List (List ℕ × Quota)) (before after : HallState × Flow) (lines : List Line) (replies : List (List ℕ)) → HasTenants before.0 roster → ScriptTalks before lines replies after → AreAnswered roster before.0 lines replies after.0
+answered roster before after [] [] has talks = record { outcomes = []; one_each = tt; done = ap (λ (s : HallState × Flow). s.0) talks; printed = refl }
+answered roster before after (line ∷ lines) (reply ∷ replies) has (mid, goes, (first, on), talks) =
+    let has_mid = HasTenants-done roster (told_in (first.outcome ∷ [])) before.0 mid.0 has first.done in
+    let rest = answered roster mid after lines replies has_mid talks in
+    record {
+      outcomes = first.outcome ∷ rest.outcomes;
+      one_each = (first.allowed roster has, rest.one_each);
+      done =
+          subst (λ (told : List Told). AreDone before.0 told after.0) (sym (told_in-append (first.outcome ∷ []) rest.outcomes))
+          (done_more before.0 mid.0 after.0 (told_in (first.outcome ∷ [])) (told_in rest.outcomes) first.done rest.done);
+      printed = ap (λ (text : List ℕ). text ∷ replies) (sym first.text) ∙ ap (λ (texts : List (List ℕ)). outcome_text first.outcome ∷ texts) rest.printed;
+    }
+answered roster before after [] (reply ∷ replies) has talks = absurd talks
+answered roster before after (line ∷ lines) [] has talks = absurd talks
+
+-- what is answered in a new hall is exact
+pub MayReply-talk : (roster : List (List ℕ × Quota)) (flow : Flow) (lines : List Line) (replies : List (List ℕ)) → MayTalk ScriptAnswers (new_hall roster) flow lines replies → MayReply roster lines replies
+MayReply-talk roster flow lines replies (after, talks) =
+    let all = answered roster (new_hall roster, GoesOn) (after, flow) lines replies (HasTenants-new roster) talks in
+    (all.outcomes, record { one_each = all.one_each; exact = scripts_exact roster after (told_in all.outcomes) all.done; printed = all.printed })
+
+-- and no line ends a script
+pub never_ends : (before after : HallState × Flow) (lines : List Line) (replies : List (List ℕ)) → before.1 ≡ GoesOn → ScriptTalks before lines replies after → after.1 ≡ GoesOn
+never_ends before after [] [] on talks = ap (λ (s : HallState × Flow). s.1) talks ∙ on
+never_ends before after (line ∷ lines) (reply ∷ replies) on (mid, goes, first, talks) = never_ends mid after lines replies first.1 talks
+never_ends before after [] (reply ∷ replies) on talks = absurd talks
+never_ends before after (line ∷ lines) [] on talks = absurd talks

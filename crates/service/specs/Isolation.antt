@@ -1,7 +1,7 @@
 -- What one tenant says in a script, and what is printed for it.
 use Rattle.std.specs.Prelude.{◌≡◌, ◌≢◌, ◌⊎◌, ℕ, ◌<◌, Bool, false, ◌&&◌, List, [], ◌∷◌, ◌++◌, length, filter, find, map}
 use Rattle.std.specs.Prelude.{Option, Result, Ok, Err, option_map, if◌then◌else◌}
-use Rattle.std.specs.List.{list_any, before_first, after_first, flat_map, AllByRecursion}
+use Rattle.std.specs.List.{list_any, before_first, after_first, concat, flat_map, AllByRecursion}
 use Rattle.quotas.specs.Quota.{Quota}
 use Rattle.names.specs.Name.{is_same}
 use Rattle.hall.specs.declared.faults.Fault.TheVariants.{Memory}
@@ -84,15 +84,15 @@ pub record ScriptRun (input : List ℕ) : Type 0 where
   pub lines : List Line
   pub rest : List Line
   pub outcomes : List Outcome
-  pub output : List ℕ
+  pub replies : List (List ℕ)
   pub roster : HasRoster (commands_of input) rows (lines ++ rest)
-  pub transcript : IsTranscript (map tenant_of rows) lines outcomes output
+  pub transcript : IsTranscript (map tenant_of rows) lines outcomes replies
 
 -- this went out of the run, by how the script ended: all of its output, to all lines or to some, or a front of it
 abbrev pub ShowsRun : {input : List ℕ} → ScriptRun input → Result (Unit {0}) ScriptFault → (List ℕ → Type 0) → Type 0
-ShowsRun run (Ok _) went_out = (run.rest ≡ []) × went_out run.output
-ShowsRun run (Err fault.Read) went_out = went_out run.output
-ShowsRun run (Err fault.Write) went_out = (front back : List ℕ) × (run.output ≡ front ++ back) × (0 < length back) × went_out front
+ShowsRun run (Ok _) went_out = (run.rest ≡ []) × went_out (concat run.replies)
+ShowsRun run (Err fault.Read) went_out = went_out (concat run.replies)
+ShowsRun run (Err fault.Write) went_out = (front back : List ℕ) × (concat run.replies ≡ front ++ back) × (0 < length back) × went_out front
 ShowsRun run (Err fault.Roster) went_out = ⊥
 ShowsRun run (Err fault.Memory) went_out = ⊥
 

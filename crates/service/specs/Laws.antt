@@ -33,9 +33,9 @@ asked_in tenant outcomes = map (λ turn. (turn.sees, request_of turn.deed)) (tol
 abbrev pub TwoScripts : Type 0
 TwoScripts =
     (tenant : List ℕ) (roster others : List (List ℕ × Quota)) (lines more : List Line) (first second : List Outcome)
-    (output other_output : List ℕ)
+    (replies others_replies : List (List ℕ))
     → start_of tenant roster ≡ start_of tenant others
-    → IsTranscript roster lines first output → IsTranscript others more second other_output
+    → IsTranscript roster lines first replies → IsTranscript others more second others_replies
     → asked_in tenant first ≡ asked_in tenant second
     → HasMemory (told_to tenant [] (told_in first)) → HasMemory (told_to tenant [] (told_in second))
     → AllZip (λ s t. Agree any_time s.reply t.reply) (told_to tenant [] (told_in first)) (told_to tenant [] (told_in second))

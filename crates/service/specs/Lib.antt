@@ -3,6 +3,7 @@ pub mod Line
 pub mod LineReader
 pub mod Words
 pub mod Written
+pub mod Conversation
 pub mod Refusal
 pub mod Reply
 pub mod Command
@@ -12,8 +13,6 @@ pub mod Roster
 pub mod Talk
 pub mod SessionReply
 pub mod Session
-pub mod SessionTurn
-pub mod SessionWritten
 pub mod Served
 pub mod RosterReading
 pub mod RosterAnswer

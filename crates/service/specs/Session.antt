@@ -1,16 +1,21 @@
 -- What a session is answered, line by line.
-use Rattle.std.specs.Prelude.{◌≡◌, ℕ, List, [], ◌∷◌, ◌++◌, codes}
+use Rattle.std.specs.Prelude.{◌≡◌, ℕ, List, [], ◌++◌, Option, Some, None, codes}
+use Rattle.pool.specs.Passes.{PassState}
+use Rattle.service.specs.declared.conversations.Flow.{Flow}
+use Rattle.service.specs.declared.conversations.Flow.TheVariants.{GoesOn, Ends}
+use Rattle.service.specs.declared.conversations.SessionEnd.{SessionEnd}
+use Rattle.service.specs.declared.conversations.SessionEnd.TheVariants.{Memory}
 use Rattle.service.specs.Roster.{Row, IsTenant}
 use Rattle.service.specs.Talk.{Talk, quits, greets, greets_wrongly, tells, talk_of}
 use Rattle.service.specs.Line.{Line, text, too_long, not_ascii}
 use Rattle.service.specs.Command.{form_of}
+use Rattle.service.specs.Conversation.{Conversed}
 use Rattle.service.specs.SessionReply.{session_line, session_refusal, IsTold}
 
--- where a session stands: nobody has said who it is, it is this tenant's, or it was ended
+-- where a session stands: nobody has said who it is, or it is this tenant's
 pub data Phase : Type 0 where
   new : Phase
   of_tenant : List ℕ → Phase
-  ended : Phase
 
 abbrev pub bye : List ℕ
 bye = session_line (codes "bye")
@@ -24,40 +29,40 @@ pub data IsGreeted (rows : List Row) (name word reply : List ℕ) (after : Phase
   turned_away : (IsTenant rows name word → ⊥) → reply ≡ session_refusal 62 → after ≡ new → IsGreeted rows name word reply after
   lacks_memory : IsTenant rows name word → reply ≡ session_refusal 90 → after ≡ new → IsGreeted rows name word reply after
 
--- what one who has not said who it is gets for a line
-abbrev pub IsFirst : List Row → Talk → List ℕ → Phase → Type 0
-IsFirst rows quits reply after = (reply ≡ bye) × (after ≡ ended)
-IsFirst rows (greets name word) reply after = IsGreeted rows name word reply after
-IsFirst rows greets_wrongly reply after = (reply ≡ session_refusal 64) × (after ≡ new)
-IsFirst rows tells reply after = (reply ≡ session_refusal 61) × (after ≡ new)
+-- what one who has not said who it is gets for a line, and whether the session goes on
+abbrev pub IsFirst : List Row → Talk → List ℕ → Flow → Phase → Type 0
+IsFirst rows quits reply flow after = (reply ≡ bye) × (flow ≡ Ends) × (after ≡ new)
+IsFirst rows (greets name word) reply flow after = IsGreeted rows name word reply after × (flow ≡ GoesOn)
+IsFirst rows greets_wrongly reply flow after = (reply ≡ session_refusal 64) × (flow ≡ GoesOn) × (after ≡ new)
+IsFirst rows tells reply flow after = (reply ≡ session_refusal 61) × (flow ≡ GoesOn) × (after ≡ new)
 
 -- what a tenant gets for a line
-abbrev pub IsLater : List ℕ → Talk → List ℕ → List ℕ → Phase → Type 0
-IsLater who quits line reply after = (reply ≡ bye) × (after ≡ ended)
-IsLater who (greets name word) line reply after = IsTold who (form_of line) reply × (after ≡ of_tenant who)
-IsLater who greets_wrongly line reply after = IsTold who (form_of line) reply × (after ≡ of_tenant who)
-IsLater who tells line reply after = IsTold who (form_of line) reply × (after ≡ of_tenant who)
+abbrev pub IsLater : List ℕ → Talk → List ℕ → List ℕ → Flow → Phase → Type 0
+IsLater who quits line reply flow after = (reply ≡ bye) × (flow ≡ Ends) × (after ≡ of_tenant who)
+IsLater who talk line reply flow after = IsTold who (form_of line) reply × (flow ≡ GoesOn) × (after ≡ of_tenant who)
 
--- what a line is answered, and where the session stands after it; after its end no line is
-abbrev pub IsAnswer : List Row → Phase → Line → List ℕ → Phase → Type 0
-IsAnswer rows new (text line) reply after = IsFirst rows (talk_of line) reply after
-IsAnswer rows new too_long reply after = (reply ≡ session_refusal 65) × (after ≡ new)
-IsAnswer rows new not_ascii reply after = (reply ≡ session_refusal 66) × (after ≡ new)
-IsAnswer rows (of_tenant who) (text line) reply after = IsLater who (talk_of line) line reply after
-IsAnswer rows (of_tenant who) too_long reply after = (reply ≡ session_refusal 65) × (after ≡ of_tenant who)
-IsAnswer rows (of_tenant who) not_ascii reply after = (reply ≡ session_refusal 66) × (after ≡ of_tenant who)
-IsAnswer rows ended line reply after = ⊥
+-- what a line is answered, and where the session stands after it
+abbrev pub IsAnswer : List Row → Phase → Line → List ℕ → Flow → Phase → Type 0
+IsAnswer rows before too_long reply flow after = (reply ≡ session_refusal 65) × (flow ≡ GoesOn) × (after ≡ before)
+IsAnswer rows before not_ascii reply flow after = (reply ≡ session_refusal 66) × (flow ≡ GoesOn) × (after ≡ before)
+IsAnswer rows new (text line) reply flow after = IsFirst rows (talk_of line) reply flow after
+IsAnswer rows (of_tenant who) (text line) reply flow after = IsLater who (talk_of line) line reply flow after
 
--- each line has one reply, in order, and they lead from one phase to another
-abbrev pub Talks : List Row → Phase → List Line → List (List ℕ) → Phase → Type 0
-Talks rows before [] [] after = after ≡ before
-Talks rows before (line ∷ lines) (reply ∷ replies) after =
-    (mid : Phase) × IsAnswer rows before line reply mid × Talks rows mid lines replies after
-Talks rows before [] (reply ∷ replies) after = ⊥
-Talks rows before (line ∷ lines) [] after = ⊥
+-- a session: who may speak, and where it stands
+pub record SessionState : Type 0 where
+  pub rows : List Row
+  pub phase : Phase
 
--- a session that goes on
-abbrev pub IsOpen : Phase → Type 0
-IsOpen new = Unit {0}
-IsOpen (of_tenant who) = Unit {0}
-IsOpen ended = ⊥
+abbrev pub SessionAnswers : SessionState → Line → List ℕ → Flow → SessionState → Type 0
+SessionAnswers before line reply flow after = IsAnswer before.rows before.phase line reply flow after.phase × (after.rows ≡ before.rows)
+
+-- where a session with this pass stands
+abbrev pub phase_of : Option PassState → Phase
+phase_of None = new
+phase_of (Some pass) = of_tenant pass.tenant
+
+-- What went out of a session, by its lines that are not blank and by how it ended. Want of memory comes before anything is
+-- written.
+abbrev pub SessionWrote : List Row → List Line → SessionEnd → (List ℕ → Type 0) → Type 0
+SessionWrote rows lines Memory went_out = went_out []
+SessionWrote rows lines end went_out = Conversed SessionAnswers (record { rows = rows; phase = new }) lines end went_out

@@ -1,14 +1,17 @@
 -- What one line of a script does.
-use Rattle.std.specs.Prelude.{◌≡◌, ℕ, List, [], ◌∷◌, Bool, ◌&&◌, is_some}
+use Rattle.std.specs.Prelude.{◌≡◌, ℕ, List, [], ◌∷◌, Bool, ◌&&◌, is_some, Result, Ok, Err}
 use Rattle.std.specs.List.{list_any}
 use Rattle.std.specs.FinMap.{get}
 use Rattle.names.specs.Name.{is_name, is_same}
 use Rattle.quotas.specs.Quota.{Quota}
 use Rattle.hall.specs.Hall.{HallState, AreDone}
-use Rattle.service.specs.declared.scripts.Turn.{Turn}
-use Rattle.service.specs.declared.scripts.Turn.TheVariants.{Blank, Replied, End, Fault}
+use Rattle.service.specs.declared.conversations.Flow.{Flow}
+use Rattle.service.specs.declared.conversations.Flow.TheVariants.{GoesOn}
+use Rattle.service.specs.declared.conversations.SessionEnd.{SessionEnd}
+use Rattle.service.specs.declared.conversations.SessionEnd.TheVariants as end
+use Rattle.service.specs.declared.script_faults.ScriptFault.{ScriptFault}
+use Rattle.service.specs.declared.script_faults.ScriptFault.TheVariants.{Read, Write, Memory}
 use Rattle.service.specs.Line.{Line}
-use Rattle.service.specs.LineReader.{Source, TakesFirst, TakesBlank}
 use Rattle.service.specs.Outcome.{Outcome, outcome_text, IsSaid, IsOutcome, told_in}
 use Rattle.service.specs.Command.{Form}
 
@@ -34,9 +37,14 @@ pub record Answered (old : HallState) (line : Line) (reply : List ℕ) (new : Ha
   pub done : AreDone old (told_in (outcome ∷ [])) new
   pub text : outcome_text outcome ≡ reply
 
--- a line was taken, and answered unless it is blank
-abbrev pub Takes : List Line → HallState → Turn → Source → HallState → List ℕ → Type 0
-Takes lines old Blank left new reply = TakesBlank lines left × (new ≡ old)
-Takes lines old Replied left new reply = (line : Line) × TakesFirst lines line left × Answered old line reply new
-Takes lines old End left new reply = (lines ≡ []) × (new ≡ old)
-Takes lines old Fault left new reply = new ≡ old
+-- how a script's line is answered: the conversation goes on after it
+abbrev pub ScriptAnswers : HallState → Line → List ℕ → Flow → HallState → Type 0
+ScriptAnswers old line reply flow new = Answered old line reply new × (flow ≡ GoesOn)
+
+-- how a script ends, by the end of its conversation
+abbrev pub script_result : SessionEnd → Result (Unit {0}) ScriptFault
+script_result end.Quit = Ok tt
+script_result end.EndOfInput = Ok tt
+script_result end.Read = Err Read
+script_result end.Write = Err Write
+script_result end.Memory = Err Memory

@@ -1,27 +1,14 @@
 -- What went out of a script's replies.
 use Rattle.std.specs.Prelude.{◌≡◌, ℕ, ◌<◌, List, ◌++◌, length, Option, ◌⊎◌, [], ◌∷◌, map, Result, Ok, Err, codes}
+use Rattle.std.specs.List.{concat}
 use Rattle.std.specs.Io.KnownBytes.{Appends}
 use Rattle.quotas.specs.Quota.{Quota}
 use Rattle.service.specs.declared.script_faults.ScriptFault.{ScriptFault}
 use Rattle.service.specs.declared.script_faults.ScriptFault.TheVariants.{Roster, Read, Write, Memory}
 use Rattle.service.specs.Line.{Line}
-use Rattle.service.specs.Outcome.{Outcome, outcome_text}
+use Rattle.service.specs.Outcome.{Outcome}
 use Rattle.service.specs.Transcript.{IsTranscript}
 use Rattle.service.specs.Roster.{Row, tenant_of, HasRoster, HasNoRoster}
-
--- the replies to all these commands went out
-pub record WroteAll (roster : List (List ℕ × Quota)) (commands : List Line) (went_out : List ℕ → Type 0) : Type 0 where
-  pub outcomes : List Outcome
-  pub output : List ℕ
-  pub transcript : IsTranscript roster commands outcomes output
-  pub out : went_out output
-
--- the replies to the first of them did
-pub record WroteSome (roster : List (List ℕ × Quota)) (commands : List Line) (went_out : List ℕ → Type 0) : Type 0 where
-  pub done : List Line
-  pub rest : List Line
-  pub split : commands ≡ done ++ rest
-  pub all : WroteAll roster done went_out
 
 -- a front of the text went out after the output, and not all of it
 pub record WroteFront (output reply : List ℕ) (went_out : List ℕ → Type 0) : Type 0 where
@@ -35,23 +22,34 @@ pub record WroteFront (output reply : List ℕ) (went_out : List ℕ → Type 0)
 abbrev pub WritesFront : Option (List ℕ) → Option (List ℕ) → List ℕ → Type 0
 WritesFront old new reply = WroteFront [] reply (Appends old new)
 
--- the replies to the first of them did, and a front of the next one, whose command was carried out
-pub record WrotePart (roster : List (List ℕ × Quota)) (commands : List Line) (went_out : List ℕ → Type 0) : Type 0 where
+-- the lines before the rest may have these replies, which went out
+pub record WroteUpTo (May : List Line → List (List ℕ) → Type 0) (lines rest : List Line) (went_out : List ℕ → Type 0) : Type 0 where
+  pub done : List Line
+  pub split : lines ≡ done ++ rest
+  pub replies : List (List ℕ)
+  pub may : May done replies
+  pub out : went_out (concat replies)
+
+-- and of the next line's reply a front did, but not all of it: that line was carried out too
+pub record WrotePart (May : List Line → List (List ℕ) → Type 0) (lines : List Line) (went_out : List ℕ → Type 0) : Type 0 where
   pub done : List Line
   pub line : Line
   pub rest : List Line
-  pub split : commands ≡ done ++ line ∷ rest
-  pub outcomes : List Outcome
-  pub outcome : Outcome
-  pub output : List ℕ
-  pub transcript : IsTranscript roster (done ++ line ∷ []) (outcomes ++ outcome ∷ []) (output ++ outcome_text outcome)
-  pub front : WroteFront output (outcome_text outcome) went_out
+  pub split : lines ≡ done ++ line ∷ rest
+  pub replies : List (List ℕ)
+  pub reply : List ℕ
+  pub may : May (done ++ line ∷ []) (replies ++ reply ∷ [])
+  pub front : WroteFront (concat replies) reply went_out
+
+-- a script of these commands may have these replies
+abbrev pub MayReply : List (List ℕ × Quota) → List Line → List (List ℕ) → Type 0
+MayReply roster commands replies = (outcomes : List Outcome) × IsTranscript roster commands outcomes replies
 
 -- what went out to these commands, by how the script ended
 abbrev pub Wrote : List (List ℕ × Quota) → List Line → Result (Unit {0}) ScriptFault → (List ℕ → Type 0) → Type 0
-Wrote roster commands (Ok _) went_out = WroteAll roster commands went_out
-Wrote roster commands (Err Read) went_out = WroteSome roster commands went_out
-Wrote roster commands (Err Write) went_out = WrotePart roster commands went_out
+Wrote roster commands (Ok _) went_out = WroteUpTo (MayReply roster) commands [] went_out
+Wrote roster commands (Err Read) went_out = (rest : List Line) × WroteUpTo (MayReply roster) commands rest went_out
+Wrote roster commands (Err Write) went_out = WrotePart (MayReply roster) commands went_out
 Wrote roster commands (Err Roster) went_out = ⊥
 Wrote roster commands (Err Memory) went_out = ⊥
 

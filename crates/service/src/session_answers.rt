@@ -4,19 +4,19 @@ ghost use Rattle.service.specs.declared.refusals.Refusal.TheVariants as refusal;
 ghost use Rattle.service.specs.Command.{form_of};
 ghost use Rattle.service.specs.Line.{text};
 ghost use Rattle.service.specs.Roster.{IsTenant, names_of};
-ghost use Rattle.service.specs.Session.{IsGreeted, of_tenant};
+ghost use Rattle.service.specs.Session.{IsGreeted, IsAnswer, IsLater, of_tenant, phase_of};
 ghost use Rattle.service.specs.SessionReply.{IsTold};
-ghost use Rattle.service.specs.SessionTurn.{phase_of, TakesLine};
+ghost use Rattle.service.specs.Talk.{talk_of};
 
 use crate::commands::read_command;
-use crate::hosts::Host;
+use crate::conversations::Flow;
 use crate::refusals::Refusal;
 use crate::reply_lines::fill_refusal;
 use crate::rooms::Room;
 use crate::session_commands::carry_out;
 use crate::session_lines::{Said, read_said};
 use crate::session_replies::{fill_bye, fill_hello, fill_told};
-use crate::sessions::Turn;
+use crate::shared::Shared;
 use crate::speakers::Speaker;
 use hall::Fault;
 use names::Entity;
@@ -26,13 +26,13 @@ use std::sync::ledger::Ledger;
 
 /// Answers a line that isn't blank. A session without a pass has no tenant yet.
 pub(crate) fn answer_line<L: Ledger, R: Wait>(
-    host: &Host<'_, L, R>,
+    host: &Shared<'_, L, R>,
     line: &[u8],
     pass: &mut Option<Pass<L>>,
     reply: &mut Room,
-) -> Turn
+) -> Flow
     requires { host.now.desk.now ≡ names_of host.now.roster.now }
-    ensures { TakesLine host.now.roster.now (text line.now) (phase_of pass.old) result (phase_of pass.new) reply.new }
+    ensures { IsAnswer host.now.roster.now (phase_of pass.old) (text line.now) reply.new result (phase_of pass.new) }
 {
     match pass {
         Some(pass) => answer_tenant(host, line, pass, reply),
@@ -42,38 +42,38 @@ pub(crate) fn answer_line<L: Ledger, R: Wait>(
 
 /// Answers one who hasn't said who it is.
 fn answer_stranger<L: Ledger, R: Wait>(
-    host: &Host<'_, L, R>,
+    host: &Shared<'_, L, R>,
     line: &[u8],
     pass: &mut Option<Pass<L>>,
     reply: &mut Room,
-) -> Turn
+) -> Flow
     requires tenants { host.now.desk.now ≡ names_of host.now.roster.now }
     requires nobody { pass.old ≡ None }
-    ensures { TakesLine host.now.roster.now (text line.now) (phase_of pass.old) result (phase_of pass.new) reply.new }
+    ensures { IsAnswer host.now.roster.now (phase_of pass.old) (text line.now) reply.new result (phase_of pass.new) }
 {
     match read_said(line) {
         Said::Quit => {
             fill_bye(reply);
-            Turn::Quit
+            Flow::Ends
         }
         Said::Hello(name, word) => {
             *pass = greet(host, name, word, reply);
-            Turn::Replied
+            Flow::GoesOn
         }
         Said::WrongHello => {
             fill_refusal(reply, &Speaker::Peer, Refusal::Command);
-            Turn::Replied
+            Flow::GoesOn
         }
         Said::Command => {
             fill_refusal(reply, &Speaker::Peer, Refusal::NoHello);
-            Turn::Replied
+            Flow::GoesOn
         }
     }
 }
 
 /// Answers a hello, and gives a pass where it is good.
 fn greet<L: Ledger, R: Wait>(
-    host: &Host<'_, L, R>,
+    host: &Shared<'_, L, R>,
     name: &[u8],
     word: &[u8],
     reply: &mut Room,
@@ -96,7 +96,7 @@ fn greet<L: Ledger, R: Wait>(
 /// A pass for the tenant of this name, if that is its word.
 #[tactic(auto, using(crate::proofs::TenantLemmas::tenant_listed))]
 fn admit<L: Ledger, R: Wait>(
-    host: &Host<'_, L, R>,
+    host: &Shared<'_, L, R>,
     name: &[u8],
     word: &[u8],
 ) -> Result<Pass<L>, Refusal>
@@ -121,28 +121,28 @@ fn admit<L: Ledger, R: Wait>(
 
 /// Answers a tenant.
 fn answer_tenant<L: Ledger, R: Wait>(
-    host: &Host<'_, L, R>,
+    host: &Shared<'_, L, R>,
     line: &[u8],
     pass: &mut Pass<L>,
     reply: &mut Room,
-) -> Turn
-    ensures { TakesLine host.now.roster.now (text line.now) (of_tenant pass.old.tenant) result (of_tenant pass.new.tenant) reply.new }
+) -> Flow
+    ensures { IsLater pass.old.tenant (talk_of line.now) line.now reply.new result (of_tenant pass.new.tenant) }
 {
     match read_said(line) {
         Said::Quit => {
             fill_bye(reply);
-            Turn::Quit
+            Flow::Ends
         }
         _ => {
             tell(host, line, pass, reply);
-            Turn::Replied
+            Flow::GoesOn
         }
     }
 }
 
 /// Answers a tenant's command.
 fn tell<L: Ledger, R: Wait>(
-    host: &Host<'_, L, R>,
+    host: &Shared<'_, L, R>,
     line: &[u8],
     pass: &mut Pass<L>,
     reply: &mut Room,

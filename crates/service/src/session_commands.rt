@@ -4,7 +4,7 @@ ghost use Rattle.service.specs.declared.commands.Command.TheVariants as command;
 ghost use Rattle.service.specs.SessionReply.{MayTell};
 
 use crate::commands::Command;
-use crate::hosts::Host;
+use crate::shared::Shared;
 use hall::Reply;
 use pool::{DeskFault, Pass};
 use std::sync::Wait;
@@ -12,7 +12,7 @@ use std::sync::ledger::Ledger;
 
 /// Carries a tenant's command out at the desk, and answers what it came to.
 pub(crate) fn carry_out<L: Ledger, R: Wait>(
-    host: &Host<'_, L, R>,
+    host: &Shared<'_, L, R>,
     pass: &mut Pass<L>,
     command: Command,
 ) -> Result<Reply, DeskFault>
@@ -27,7 +27,7 @@ pub(crate) fn carry_out<L: Ledger, R: Wait>(
 
 /// Waits for the search of the number, and answers what it came to.
 fn wait<L: Ledger, R: Wait>(
-    host: &Host<'_, L, R>,
+    host: &Shared<'_, L, R>,
     pass: &mut Pass<L>,
     number: u64,
 ) -> Result<Reply, DeskFault>

@@ -1,8 +1,8 @@
 -- The roster, and then its commands, or what answers a fault of the roster.
-use Rattle.std.proofs.Common.{List, ℕ, map, Err}
+use Rattle.std.proofs.Common.{List, ℕ, Err}
 use Rattle.std.specs.Io.KnownBytes.{Appends}
 use Rattle.std.proofs.lemmas.Result.{err_from_is_err_and}
-use Rattle.service.specs.Roster.{tenant_of}
+use Rattle.service.specs.Turn.{script_result}
 use Rattle.service.proofs.ScriptLemmas.{ScriptWrote-after_roster, ScriptWrote-fault, ScriptWrote-known}
 use Rattle.service.proofs.scripts.run_script.Goals as goal
 
@@ -19,7 +19,9 @@ returns-in_err-roster g c =
 pub returns : goal.returns
 returns g c =
     let source = c.in_ok-lines.lines in
-    let out : List ℕ → Type 0 = Appends (g.W.Write.contents c.args.writer.now) (g.W.Write.contents c.run_commands.new.writer) in
-    let wrote = rw c.in_ok-roster.ensures.silent at (c.run_commands.ensures (map tenant_of c.in_ok-roster.roster) c.in-Ok.ensures.hall) in
-    ScriptWrote-known (g.R.Read.remaining c.args.reader) source c.run_commands.result out c.in_ok-lines.ensures.source
-    (ScriptWrote-after_roster source c.take_roster.new.lines c.in_ok-roster.roster c.run_commands.result out c.in_ok-roster.ensures.roster wrote)
+    let how = c.converse.result in
+    let out : List ℕ → Type 0 = Appends (g.W.Write.contents c.args.writer.now) (g.W.Write.contents c.converse.new.writer) in
+    let wrote = rw (c.in_ok-roster.ensures.silent, c.in-Ok.ensures.hall) at c.converse.ensures in
+    rw c.ended.ensures
+    (ScriptWrote-known (g.R.Read.remaining c.args.reader) source (script_result how) out c.in_ok-lines.ensures.source
+    (ScriptWrote-after_roster source c.take_roster.new.lines c.in_ok-roster.roster how out c.in_ok-roster.ensures.roster wrote))

@@ -1,0 +1,9 @@
+use Rattle.std.specs.Io.KnownBytes.{Appends}
+use Rattle.service.specs.LineReader.{IfKnown}
+use Rattle.service.specs.Conversation.{SoFar}
+use Rattle.service.proofs.conversations.converse.Given as goal
+
+-- the lines so far are answered, and their replies went out
+abbrev pub invariant-loop : goal.invariant-loop
+invariant-loop g l =
+    IfKnown l.initial.lines (λ lines. SoFar g.H.Host.Answers l.initial.host lines l.lines l.host (Appends (g.W.Write.contents l.initial.writer) (g.W.Write.contents l.writer)))
