@@ -56,7 +56,7 @@ module _ (h : HallState) (name : List ℕ) where
       let may = lacks-answered _ a is.0 q told long is.2 in
       ((is.0, is.1, may.0), may.1)
 
-pub lacks-served : (old new : HallState) (name : List ℕ) (q : Request) (told : Reply) → IsLong told → IsServed old name q told new → IsServed old name q (reply.Refused Memory) new
+lacks-served : (old new : HallState) (name : List ℕ) (q : Request) (told : Reply) → IsLong told → IsServed old name q told new → IsServed old name q (reply.Refused Memory) new
 lacks-served old new name q told long served =
     let may = lacks-told old name (account_of old name) (account_of new name) q told long served.answers in
     record { answers = may.0; after = served.after ∙ may.1 }

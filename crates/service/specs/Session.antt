@@ -1,6 +1,7 @@
 -- What a session is answered, line by line.
 use Rattle.std.specs.Prelude.{◌≡◌, ℕ, List, [], ◌++◌, Option, Some, None, codes}
 use Rattle.pool.specs.Passes.{PassState}
+use Rattle.pool.specs.Served.{IsAdmitted}
 use Rattle.service.specs.declared.conversations.Flow.{Flow}
 use Rattle.service.specs.declared.conversations.Flow.TheVariants.{GoesOn, Ends}
 use Rattle.service.specs.declared.conversations.SessionEnd.{SessionEnd}
@@ -12,10 +13,10 @@ use Rattle.service.specs.Command.{form_of}
 use Rattle.service.specs.Conversation.{Conversed}
 use Rattle.service.specs.SessionReply.{session_line, session_refusal, IsTold}
 
--- where a session stands: nobody has said who it is, or it is this tenant's
+-- where a session stands: nobody has said who it is, or it has this pass of a tenant
 pub data Phase : Type 0 where
   new : Phase
-  of_tenant : List ℕ → Phase
+  of_tenant : PassState → Phase
 
 abbrev pub bye : List ℕ
 bye = session_line (codes "bye")
@@ -23,9 +24,10 @@ bye = session_line (codes "bye")
 abbrev pub hello_to : List ℕ → List ℕ
 hello_to name = session_line (codes "hello " ++ name)
 
--- A tenant with its word is let in, unless memory lacks for its pass. Any other hello has the one answer.
+-- A tenant with its word is let in by a pass of its own, unless memory lacks for that. Any other hello has the one answer.
 pub data IsGreeted (rows : List Row) (name word reply : List ℕ) (after : Phase) : Type 0 where
-  let_in : IsTenant rows name word → reply ≡ hello_to name → after ≡ of_tenant name → IsGreeted rows name word reply after
+  let_in : (pass : PassState) → IsTenant rows name word → pass.tenant ≡ name → pass.share ≡ 0 → IsAdmitted pass →
+      reply ≡ hello_to name → after ≡ of_tenant pass → IsGreeted rows name word reply after
   turned_away : (IsTenant rows name word → ⊥) → reply ≡ session_refusal 62 → after ≡ new → IsGreeted rows name word reply after
   lacks_memory : IsTenant rows name word → reply ≡ session_refusal 90 → after ≡ new → IsGreeted rows name word reply after
 
@@ -37,16 +39,16 @@ IsFirst rows greets_wrongly reply flow after = (reply ≡ session_refusal 64) ×
 IsFirst rows tells reply flow after = (reply ≡ session_refusal 61) × (flow ≡ GoesOn) × (after ≡ new)
 
 -- what a tenant gets for a line
-abbrev pub IsLater : List ℕ → Talk → List ℕ → List ℕ → Flow → Phase → Type 0
-IsLater who quits line reply flow after = (reply ≡ bye) × (flow ≡ Ends) × (after ≡ of_tenant who)
-IsLater who talk line reply flow after = IsTold who (form_of line) reply × (flow ≡ GoesOn) × (after ≡ of_tenant who)
+abbrev pub IsLater : PassState → Talk → List ℕ → List ℕ → Flow → Phase → Type 0
+IsLater before quits line reply flow after = (reply ≡ bye) × (flow ≡ Ends) × (after ≡ of_tenant before)
+IsLater before talk line reply flow after = (flow ≡ GoesOn) × ((pass : PassState) × (after ≡ of_tenant pass) × IsTold before (form_of line) reply pass)
 
 -- what a line is answered, and where the session stands after it
 abbrev pub IsAnswer : List Row → Phase → Line → List ℕ → Flow → Phase → Type 0
 IsAnswer rows before too_long reply flow after = (reply ≡ session_refusal 65) × (flow ≡ GoesOn) × (after ≡ before)
 IsAnswer rows before not_ascii reply flow after = (reply ≡ session_refusal 66) × (flow ≡ GoesOn) × (after ≡ before)
 IsAnswer rows new (text line) reply flow after = IsFirst rows (talk_of line) reply flow after
-IsAnswer rows (of_tenant who) (text line) reply flow after = IsLater who (talk_of line) line reply flow after
+IsAnswer rows (of_tenant pass) (text line) reply flow after = IsLater pass (talk_of line) line reply flow after
 
 -- a session: who may speak, and where it stands
 pub record SessionState : Type 0 where
@@ -59,7 +61,7 @@ SessionAnswers before line reply flow after = IsAnswer before.rows before.phase 
 -- where a session with this pass stands
 abbrev pub phase_of : Option PassState → Phase
 phase_of None = new
-phase_of (Some pass) = of_tenant pass.tenant
+phase_of (Some pass) = of_tenant pass
 
 -- What went out of a session, by its lines that are not blank and by how it ended. Want of memory comes before anything is
 -- written.

@@ -1,15 +1,12 @@
--- What a tenant's command may be told in a session.
-use Rattle.std.specs.Prelude.{◌≡◌, ◌⊎◌, ℕ, List, [], Result, Ok, Err}
-use Rattle.hall.specs.declared.faults.Fault.{Fault}
-use Rattle.hall.specs.declared.faults.Fault.TheVariants.{Memory}
-use Rattle.hall.specs.declared.calls.requests.Request.{Request}
-use Rattle.hall.specs.declared.calls.requests.Request.TheVariants.{Poll}
+-- What a tenant's command is told in a session.
+use Rattle.std.specs.Prelude.{◌≡◌, ℕ, List, [], Result, Ok, Err}
 use Rattle.hall.specs.declared.calls.replies.Reply.{Reply}
-use Rattle.hall.specs.declared.calls.replies.Reply.TheVariants.{Refused}
-use Rattle.hall.specs.Hall.{HallState, IsSound, IsServed}
+use Rattle.hall.specs.declared.calls.replies.Reply.TheVariants.{Answered}
 use Rattle.pool.specs.declared.faults.DeskFault.{DeskFault}
-use Rattle.pool.specs.declared.faults.DeskFault.TheVariants.{Hall, Rewound, PassesOut, NoThread}
+use Rattle.pool.specs.declared.verdicts.Verdict.{Verdict}
+use Rattle.pool.specs.Passes.{PassState}
 use Rattle.pool.specs.Refusals.{desk_number_of}
+use Rattle.pool.specs.Served.{IsAnswered, IsWaited}
 use Rattle.service.specs.declared.commands.Command.{Command}
 use Rattle.service.specs.declared.commands.Command.TheVariants as command
 use Rattle.service.specs.declared.refusals.Refusal.{Refusal}
@@ -25,23 +22,12 @@ session_line text = line_after [] text
 abbrev pub session_refusal : ℕ → List ℕ
 session_refusal number = session_line (error_text number)
 
--- the desk refuses by one of these refusals of the hall, or since it found a shorter journal than the pass has seen
-abbrev pub RefusesBy : (Fault → Type 0) → DeskFault → Type 0
-RefusesBy may (Hall fault) = may fault
-RefusesBy may (Rewound front) = Unit {0}
-RefusesBy may PassesOut = ⊥
-RefusesBy may NoThread = ⊥
-
--- in some sound hall the tenant's request is served so
-abbrev pub IsServedSomewhere : List ℕ → Request → Reply → Type 0
-IsServedSomewhere who q told = (old : HallState) × (new : HallState) × IsSound old × IsServed old who q told new
-
--- A request is served in a sound hall, and a wait as a poll, for which memory may also lack where no answer does.
-abbrev pub MayTell : List ℕ → Command → Result Reply DeskFault → Type 0
-MayTell who (command.Request q) (Ok told) = IsServedSomewhere who q told
-MayTell who (command.Request q) (Err fault) = RefusesBy (λ f. IsServedSomewhere who q (Refused f)) fault
-MayTell who (command.Wait k) (Ok told) = IsServedSomewhere who (Poll k) told
-MayTell who (command.Wait k) (Err fault) = RefusesBy (λ f. IsServedSomewhere who (Poll k) (Refused f) ⊎ (f ≡ Memory)) fault
+-- The desk was called by this pass, for just this command, and answered so: a request by one call, and a wait by one that
+-- waits.
+abbrev pub IsCarriedOut : PassState → PassState → Command → Result Reply DeskFault → Type 0
+IsCarriedOut before after (command.Request q) told = IsAnswered (λ r. r) before after q told
+IsCarriedOut before after (command.Wait k) (Ok told) = (v : Verdict) × IsWaited before after k (Ok v) × (told ≡ Answered v.answer)
+IsCarriedOut before after (command.Wait k) (Err fault) = IsWaited before after k (Err fault)
 
 -- its lines
 abbrev pub told_lines : Result Reply DeskFault → List ℕ
@@ -53,8 +39,8 @@ pub data IsToldBy (told : Result Reply DeskFault) (lines : List ℕ) : Type 0 wh
   whole : lines ≡ told_lines told → IsToldBy told lines
   lacking : (reply : Reply) → told ≡ Ok reply → IsLong reply → lines ≡ session_refusal 90 → IsToldBy told lines
 
--- A tenant's command is refused by its text alone, or it is told what the desk came to.
-pub data IsTold (who : List ℕ) (form : Form) (reply : List ℕ) : Type 0 where
-  refused : (why : Refusal) → Reads form (Err why) → reply ≡ session_refusal (refusal_number why) → IsTold who form reply
-  carried_out : (command : Command) (told : Result Reply DeskFault) → Reads form (Ok command) → MayTell who command told →
-      reply ≡ told_lines told → IsTold who form reply
+-- A tenant's command is refused by its text alone, and its pass stays as it was; or it is told what the desk came to.
+pub data IsTold (before : PassState) (form : Form) (reply : List ℕ) (after : PassState) : Type 0 where
+  refused : (why : Refusal) → Reads form (Err why) → reply ≡ session_refusal (refusal_number why) → after ≡ before → IsTold before form reply after
+  carried_out : (command : Command) (told : Result Reply DeskFault) → Reads form (Ok command) → IsCarriedOut before after command told →
+      IsToldBy told reply → IsTold before form reply after

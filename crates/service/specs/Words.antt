@@ -5,8 +5,8 @@ use Rattle.std.specs.List.{slice_split, before_first, after_first, list_all}
 use Rattle.std.specs.Str.Parse.{digits_value}
 use Rattle.names.specs.Name.{is_digit}
 pub use Rattle.names.specs.Texts.{is_space, trim_start}
-use Rattle.service.specs.declared.arguments.Arguments.{Arguments}
-use Rattle.service.specs.declared.arguments.Arguments.TheVariants.{Nothing, One, Two, More}
+use Rattle.service.specs.declared.words.Arguments.{Arguments}
+use Rattle.service.specs.declared.words.Arguments.TheVariants.{Nothing, One, Two, More}
 
 -- the byte that parts a name from its command
 abbrev pub is_colon : ℕ → Bool

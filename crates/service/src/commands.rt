@@ -14,9 +14,8 @@ ghost use Rattle.service.specs.Command.{form_of, form_by_verb, form_with, form_a
 ghost use Rattle.service.specs.Command.{of_credential, of_role_and_name, of_number_and_name, form_of_reader, to_alter};
 ghost use Rattle.service.specs.Command.{credential_refusal, number_refusal, Reads};
 
-use crate::arguments::{Arguments, split_words};
 use crate::refusals::Refusal;
-use crate::words::{next_word, number};
+use crate::words::{Arguments, next_word, number, split_words};
 use credential_text::{Credential, read_credential};
 use hall::{Query, Request};
 use names::{Entity, Role};

@@ -8,7 +8,6 @@
 
 mod accepting;
 mod answers;
-mod arguments;
 mod commands;
 mod connections;
 mod conversations;
@@ -32,9 +31,7 @@ mod serving;
 mod session_answers;
 mod session_commands;
 mod session_lines;
-mod session_replies;
 mod sessions;
-mod shared;
 mod speakers;
 mod words;
 mod writing;

@@ -7,6 +7,8 @@ ghost use Rattle.hall.specs.declared.calls.replies.Reply.TheVariants as reply;
 ghost use Rattle.service.specs.Refusal.{text_of, refusal_number};
 ghost use Rattle.service.specs.Reply.{front_of, line_after, error_text, listed, seen_text, seen_listed};
 ghost use Rattle.service.specs.Reply.{text_lines, lines_after, IsFilled};
+ghost use Rattle.service.specs.Session.{bye, hello_to};
+ghost use Rattle.service.specs.SessionReply.{IsToldBy};
 
 use crate::fault_texts::fault_text;
 use crate::refusals::Refusal;
@@ -16,6 +18,7 @@ use credential_text::Credential;
 use hall::{Answer, Fault, Proof, Reply, write_proof};
 use names::Entity;
 use names::texts::cut;
+use pool::DeskFault;
 use std::alloc::AllocError;
 use vaults::Seen;
 
@@ -50,6 +53,34 @@ pub(crate) fn fill_reply(room: &mut Room, who: &Speaker, reply: &Reply)
         }
         Reply::Refused(fault) => fill_error(room, who, fault.number()),
         Reply::Stepped(_outcome) => room.clear(),
+    }
+}
+
+/// Fills the room with the line that ends a session. It takes no memory.
+pub(crate) fn fill_bye(room: &mut Room)
+    ensures { room.new ≡ bye }
+{
+    room.begin(&Speaker::Peer);
+    room.append(b"bye\n");
+}
+
+/// Fills the room with the line that lets a tenant in. It takes no memory.
+pub(crate) fn fill_hello(room: &mut Room, name: &Entity)
+    ensures { room.new ≡ hello_to name.now }
+{
+    room.begin(&Speaker::Peer);
+    room.append(b"hello ");
+    room.append(name.bytes());
+    room.append(b"\n");
+}
+
+/// Fills the room with the lines of what a command came to. A long reply takes memory, and without it the one line says so.
+pub(crate) fn fill_told(room: &mut Room, told: &Result<Reply, DeskFault>)
+    ensures { IsToldBy told.now room.new }
+{
+    match told {
+        Ok(reply) => fill_reply(room, &Speaker::Peer, reply),
+        Err(fault) => fill_error(room, &Speaker::Peer, fault.number()),
     }
 }
 

@@ -1,5 +1,6 @@
 //! What a session's line is answered.
 ghost use Rattle.std.specs.Prelude.{◌≡◌, ◌⊎◌, IfOk, IfErr, None, Some};
+ghost use Rattle.pool.specs.Served.{IsAdmitted};
 ghost use Rattle.service.specs.declared.refusals.Refusal.TheVariants as refusal;
 ghost use Rattle.service.specs.Command.{form_of};
 ghost use Rattle.service.specs.Line.{text};
@@ -11,12 +12,10 @@ ghost use Rattle.service.specs.Talk.{talk_of};
 use crate::commands::read_command;
 use crate::conversations::Flow;
 use crate::refusals::Refusal;
-use crate::reply_lines::fill_refusal;
+use crate::reply_lines::{fill_bye, fill_hello, fill_refusal, fill_told};
 use crate::rooms::Room;
-use crate::session_commands::carry_out;
+use crate::session_commands::{Shared, carry_out};
 use crate::session_lines::{Said, read_said};
-use crate::session_replies::{fill_bye, fill_hello, fill_told};
-use crate::shared::Shared;
 use crate::speakers::Speaker;
 use hall::Fault;
 use names::Entity;
@@ -102,6 +101,8 @@ fn admit<L: Ledger, R: Wait>(
 ) -> Result<Pass<L>, Refusal>
     requires tenants { host.now.desk.now ≡ names_of host.now.roster.now }
     ensures tenant { IfOk result (λ pass. pass.tenant ≡ name.now) }
+    ensures share { IfOk result (λ pass. pass.share ≡ 0) }
+    ensures admitted { IfOk result IsAdmitted }
     ensures known { IfOk result (λ pass. IsTenant host.now.roster.now name.now word.now) }
     ensures refused { IfErr result (λ why. ((why ≡ refusal.BadHello) × (IsTenant host.now.roster.now name.now word.now → ⊥))
         ⊎ ((why ≡ refusal.Memory) × IsTenant host.now.roster.now name.now word.now)) }
@@ -126,7 +127,7 @@ fn answer_tenant<L: Ledger, R: Wait>(
     pass: &mut Pass<L>,
     reply: &mut Room,
 ) -> Flow
-    ensures { IsLater pass.old.tenant (talk_of line.now) line.now reply.new result (of_tenant pass.new.tenant) }
+    ensures { IsLater pass.old (talk_of line.now) line.now reply.new result (of_tenant pass.new) }
 {
     match read_said(line) {
         Said::Quit => {
@@ -147,8 +148,7 @@ fn tell<L: Ledger, R: Wait>(
     pass: &mut Pass<L>,
     reply: &mut Room,
 )
-    ensures told { IsTold pass.old.tenant (form_of line.now) reply.new }
-    ensures tenant { pass.new.tenant ≡ pass.old.tenant }
+    ensures { IsTold pass.old (form_of line.now) reply.new pass.new }
 {
     match read_command(host.alloc, line) {
         Ok(command) => {

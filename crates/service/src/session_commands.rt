@@ -1,14 +1,23 @@
-//! What a tenant's command comes to in a session.
-ghost use Rattle.std.specs.Prelude.{◌≡◌};
+//! What sessions share, and what a tenant's command comes to there.
 ghost use Rattle.service.specs.declared.commands.Command.TheVariants as command;
-ghost use Rattle.service.specs.SessionReply.{MayTell};
+ghost use Rattle.service.specs.SessionReply.{IsCarriedOut};
 
 use crate::commands::Command;
-use crate::shared::Shared;
+use crate::rosters::Roster;
 use hall::Reply;
-use pool::{DeskFault, Pass};
+use pool::{Desk, DeskFault, Pass};
+use std::alloc::Global;
 use std::sync::Wait;
 use std::sync::ledger::Ledger;
+
+/// What the sessions of a service share: the desk, and who may speak.
+#[derive(Drop)]
+pub(crate) struct Shared<'a, L: Ledger, R> {
+    pub(crate) rt: &'a R,
+    pub(crate) alloc: Global,
+    pub(crate) desk: &'a Desk<L>,
+    pub(crate) roster: &'a Roster,
+}
 
 /// Carries a tenant's command out at the desk, and answers what it came to.
 pub(crate) fn carry_out<L: Ledger, R: Wait>(
@@ -16,8 +25,7 @@ pub(crate) fn carry_out<L: Ledger, R: Wait>(
     pass: &mut Pass<L>,
     command: Command,
 ) -> Result<Reply, DeskFault>
-    ensures told { MayTell pass.old.tenant command result }
-    ensures tenant { pass.new.tenant ≡ pass.old.tenant }
+    ensures { IsCarriedOut pass.old pass.new command result }
 {
     match command {
         Command::Request(request) => host.desk.serve(host.rt, pass, request),
@@ -31,8 +39,7 @@ fn wait<L: Ledger, R: Wait>(
     pass: &mut Pass<L>,
     number: u64,
 ) -> Result<Reply, DeskFault>
-    ensures told { MayTell pass.old.tenant (command.Wait number) result }
-    ensures tenant { pass.new.tenant ≡ pass.old.tenant }
+    ensures { IsCarriedOut pass.old pass.new (command.Wait number) result }
 {
     match host.desk.wait(host.rt, pass, number) {
         Ok(verdict) => Ok(Reply::Answered(verdict.answer)),

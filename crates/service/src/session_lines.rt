@@ -2,8 +2,7 @@
 ghost use Rattle.service.specs.Words.{words};
 ghost use Rattle.service.specs.Talk.{talk_of, talk_of_quit, talk_of_hello, Hears};
 
-use crate::arguments::{Arguments, split_words};
-use crate::words::next_word;
+use crate::words::{Arguments, next_word, split_words};
 
 /// What a line says to the session in which it stands.
 #[derive(Clone, Copy)]

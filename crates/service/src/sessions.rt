@@ -12,7 +12,7 @@ use crate::reply_lines::fill_refusal;
 use crate::rooms::Room;
 use crate::rosters::Roster;
 use crate::session_answers::answer_line;
-use crate::shared::Shared;
+use crate::session_commands::Shared;
 use crate::speakers::Speaker;
 use pool::{Desk, Pass};
 use std::alloc::Global;

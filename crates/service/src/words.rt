@@ -2,7 +2,7 @@
 ghost use Rattle.std.specs.Prelude.{◌≡◌, [], ◌∷◌, true, false, MatchOption, IfSome};
 ghost use Rattle.std.specs.List.{before_first, after_first, list_all, list_any};
 ghost use Rattle.names.specs.Name.{is_digit};
-ghost use Rattle.service.specs.Words.{is_colon, words, first_word, after_word, is_number, number_of};
+ghost use Rattle.service.specs.Words.{is_colon, words, first_word, after_word, AreArguments, is_number, number_of};
 
 use names::texts::{cut, trim_start};
 use std::str;
@@ -37,6 +37,31 @@ pub(crate) fn next_word(text: &[u8]) -> Option<(&[u8], &[u8])>
     match rest {
         Some(rest) => Some((word, rest)),
         None => Some((word, &[])),
+    }
+}
+
+/// The words of a text, where there are at most two.
+#[derive(Clone, Copy)]
+pub(crate) enum Arguments<'a> {
+    Nothing,
+    One(&'a [u8]),
+    Two(&'a [u8], &'a [u8]),
+    More,
+}
+
+/// The words of the text.
+pub(crate) fn split_words(text: &[u8]) -> Arguments<'_>
+    ensures { AreArguments (words text.now) result }
+{
+    let Some((first, rest)) = next_word(text) else {
+        return Arguments::Nothing;
+    };
+    let Some((second, rest)) = next_word(rest) else {
+        return Arguments::One(first);
+    };
+    match next_word(rest) {
+        Some(_) => Arguments::More,
+        None => Arguments::Two(first, second),
     }
 }
 

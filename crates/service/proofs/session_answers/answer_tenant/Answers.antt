@@ -5,5 +5,4 @@ use Rattle.service.proofs.session_answers.answer_tenant.Goals as goal
 
 pub returns-in_default : goal.returns-in_default
 returns-in_default g c =
-    IsLater-told c.args.pass.now.tenant c.tell.new.pass.tenant c.args.line.now c.tell.new.reply (talk_of c.args.line.now) c.read_said.result c.read_said.ensures c.in_default.not-Quit
-    c.tell.ensures.told c.tell.ensures.tenant
+    IsLater-told c.args.pass.now c.tell.new.pass c.args.line.now c.tell.new.reply (talk_of c.args.line.now) c.read_said.result c.read_said.ensures c.in_default.not-Quit c.tell.ensures
