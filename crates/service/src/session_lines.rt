@@ -1,6 +1,5 @@
 //! What a line says to the session in which it stands.
-ghost use Rattle.service.specs.Words.{words};
-ghost use Rattle.service.specs.Talk.{talk_of, talk_of_quit, talk_of_hello, Hears};
+ghost use Rattle.service.specs.Talk.{talk_of, Hears};
 
 use crate::words::{Arguments, next_word, split_words};
 
@@ -24,31 +23,15 @@ pub(crate) fn read_said(text: &[u8]) -> Said<'_>
     let Some((word, rest)) = next_word(text) else {
         return Said::Command;
     };
-    if word == b"quit".as_slice() {
-        return quit_with(rest);
-    }
-    if word == b"hello".as_slice() {
-        return hello_with(rest);
-    }
-    Said::Command
-}
-
-/// What a line with this rest after `quit` says.
-fn quit_with(rest: &[u8]) -> Said<'_>
-    ensures { Hears (talk_of_quit (words rest.now)) result }
-{
-    match next_word(rest) {
-        None => Said::Quit,
-        Some(_) => Said::Command,
-    }
-}
-
-/// What a line with this rest after `hello` says.
-fn hello_with(rest: &[u8]) -> Said<'_>
-    ensures { Hears (talk_of_hello (words rest.now)) result }
-{
-    match split_words(rest) {
-        Arguments::Two(name, word) => Said::Hello(name, word),
-        _ => Said::WrongHello,
+    match word {
+        b"quit" => match next_word(rest) {
+            None => Said::Quit,
+            Some(_) => Said::Command,
+        },
+        b"hello" => match split_words(rest) {
+            Arguments::Two(name, word) => Said::Hello(name, word),
+            _ => Said::WrongHello,
+        },
+        _ => Said::Command,
     }
 }
