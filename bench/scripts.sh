@@ -4,7 +4,9 @@
 # First questions: of 10, 100 and 1,000 tenants, who ask 3,000, 10,000 and 30,000 in turn. Each tenant has the same: four
 # credentials, and the vaults of two others to read, into which each question leads. A question is asked, waited for and
 # ended, in three lines; with changes, a tenant whose vault is read takes a credential back before it, or puts it again,
-# so that the answer turns each time. Then uploads: of one tenant, in the order of its vault and against it.
+# so that the answer turns each time. Then uploads: of one tenant, in the order of its vault, against it and in no order;
+# 30,000 drops of what was put in order, in order and in none; and 10,000 uploads in no order into a vault of 10,000, once by
+# themselves and once with an opening after each 10.
 #
 # Prints for each script its lines, the milliseconds of processor time and of the clock, and of what the questions (or the
 # uploads) alone take the lines in a second of processor time and the microseconds of one. Each figure is the median of so
@@ -52,13 +54,41 @@ questions_of() {
         }'
 }
 
-# uploads_of ROWS AGAINST: a roster of one tenant, and its uploads: against the order of its vault where AGAINST is 1.
-uploads_of() {
-    awk -v rows="$1" -v against="$2" '
+# changes_of ROWS ORDER DROPS: a roster of one tenant, and its uploads: in the order of its vault, against it or in none,
+# or in order and then as many drops in that order where DROPS is 1.
+changes_of() {
+    awk -v rows="$1" -v order="$2" -v drops="$3" '
+        function say(word, place) { printf "Archive: %s Archive.staff <- E%05d\n", word, place }
         BEGIN {
             print "tenant Archive word 100000 1 1 1000000 1 1"
             print "begin"
-            for (row = 0; row < rows; row++) printf "Archive: put Archive.staff <- E%05d\n", against ? rows - row : row
+            for (row = 0; row < rows; row++) places[row] = order == "against_it" ? rows - row : row
+            srand(1)
+            for (row = rows - 1; order == "in_no_order" && row > 0; row--) {
+                other = int(rand() * (row + 1))
+                place = places[row]; places[row] = places[other]; places[other] = place
+            }
+            for (row = 0; row < rows; row++) say("put", drops ? row : places[row])
+            for (row = 0; drops && row < rows; row++) say("drop", places[row])
+        }'
+}
+
+# openings_of OPENINGS: 10,000 uploads in no order into a vault of 10,000, with an opening after each 10 where OPENINGS is 1.
+openings_of() {
+    awk -v openings="$1" '
+        function say(command) { print "Archive: " command }
+        function put(place) { say(sprintf("put Archive.staff <- E%05d", place)) }
+        BEGIN {
+            print "tenant Archive word 100000 1 10 1000000 10000 1000"
+            print "begin"
+            for (row = 0; row < 10000; row++) put(2 * row)
+            for (row = 0; row < 10000; row++) {
+                put(row * 7919 % 10000 * 2 + 1)
+                if (!openings || row % 10 != 9) continue
+                number = (row + 1) / 10
+                say("ask Archive.nobody Ada")
+                say("end " number)
+            }
         }'
 }
 
@@ -94,10 +124,16 @@ for tenants in 10 100 1000; do
         { cat "$work/${tenants}_tenants.script"; questions_of "$tenants" "$questions" 1; } > "$work/$name.script"
     done
 done
-for rows in 1000 3000 10000 30000; do
-    uploads_of "$rows" 0 > "$work/${rows}_uploads_in_order.script"
-    uploads_of "$rows" 1 > "$work/${rows}_uploads_against_it.script"
+for rows in 1000 3000 10000 30000 100000; do
+    for order in in_order against_it in_no_order; do
+        changes_of "$rows" "$order" 0 > "$work/${rows}_uploads_$order.script"
+    done
 done
+for order in in_order in_no_order; do
+    changes_of 30000 "$order" 1 > "$work/30000_drops_$order.script"
+done
+openings_of 0 > "$work/10000_uploads_and_no_opening.script"
+openings_of 1 > "$work/10000_uploads_and_1000_openings.script"
 for _ in $(seq "$runs"); do
     for script in "$work"/*.script; do
         time_of "$(basename "$script" .script)"
@@ -113,8 +149,14 @@ for questions in 3000 10000 30000; do
         print_row "${name}_with_changes" "$questions" "$((4 * questions))" "$silent"
     done
 done
-for order in in_order against_it; do
-    for rows in 1000 3000 10000 30000; do
+for order in in_order against_it in_no_order; do
+    for rows in 1000 3000 10000 30000 100000; do
         print_row "${rows}_uploads_$order" "$rows" "$rows" 0
     done
+done
+for order in in_order in_no_order; do
+    print_row "30000_drops_$order" 30000 30000 "$(median_of 30000_uploads_in_order 1)"
+done
+for openings in no_opening 1000_openings; do
+    print_row "10000_uploads_and_$openings" 10000 10000 "$(median_of 10000_uploads_in_order 1)"
 done

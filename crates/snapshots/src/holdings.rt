@@ -3,11 +3,10 @@ ghost use Rattle.std.specs.List.Sorted.{IsStrictlySortedBy};
 ghost use Rattle.credential_text.specs.Credential.{credential_order};
 ghost use Rattle.vaults.specs.Version.{version_rows};
 
-use credential_text::Credential;
 use names::Entity;
 use std::marker::Model;
 use std::sync::Arc;
-use vaults::Version;
+use vaults::{Row, Version};
 
 /// An owner and the version of its vault, none where the vault is empty. Seen as a vault of a view.
 #[derive(Drop)]
@@ -39,7 +38,7 @@ impl Holding {
     }
 
     /// The rows of the vault, in order.
-    pub fn rows(&self) -> &[Credential]
+    pub fn rows(&self) -> &[Row]
         ensures rows { result.now ≡ self.now.rows }
         ensures ordered { IsStrictlySortedBy credential_order self.now.rows }
     {

@@ -17,7 +17,7 @@ use names::{Entity, Role};
 use std::alloc::{AllocError, Global};
 use std::marker::Model;
 use std::sync::ledger::Ledger;
-use vaults::{Book, VaultFault};
+use vaults::{Book, Row, VaultFault};
 
 /// What a tenant could read at one time: its view, over versions that nobody can change.
 #[derive(Drop)]
@@ -110,11 +110,11 @@ fn hold(vaults: &mut Vec<Holding>, holding: Holding) -> Result<(), AllocError>
     Ok(())
 }
 
-fn row_at(rows: &[Credential], place: u64) -> &Credential
+fn row_at(rows: &[Row], place: u64) -> &Credential
     requires { place < length rows.now }
     ensures { slice_get rows.now place ≡ Some result.now }
 {
-    &rows[place as usize]
+    rows[place as usize].credential()
 }
 
 /// How many vaults stand before the owner's.
@@ -126,7 +126,7 @@ fn vaults_below(vaults: &[Holding], owner: &Entity) -> u64
 }
 
 /// The rows of the owner's vault, which stands at this place if it stands anywhere.
-fn rows_at<'a>(vaults: &'a [Holding], owner: &Entity, place: u64) -> &'a [Credential]
+fn rows_at<'a>(vaults: &'a [Holding], owner: &Entity, place: u64) -> &'a [Row]
     requires ordered { IsOrdered vaults.now }
     requires place { place ≡ place_of vaults.now owner.now }
     ensures rows { result.now ≡ rows_of vaults.now owner.now }

@@ -5,9 +5,9 @@ ghost use Rattle.snapshots.specs.Span.{how_many, is_cut};
 ghost use Rattle.snapshots.specs.Places.{PassesBelow, FailsAt, one, neighbours};
 
 use crate::steps::Steps;
-use credential_text::Credential;
 use names::Role;
 use std::sync::ledger::Ledger;
+use vaults::Row;
 
 /// Where the rows of a role stand in a snapshot: the place of its owner's vault, and in it the rows from `lo` on and
 /// before `hi`. Where there are none, `vault`, `lo` and `hi` say where they would stand.
@@ -27,10 +27,10 @@ pub enum Cut {
 
 impl Cut {
     /// Whether the row stands before the cut.
-    fn passes(self, role: &Role, row: &Credential) -> bool
+    fn passes(self, role: &Role, row: &Row) -> bool
         ensures { result ≡ is_cut self role.now row.now }
     {
-        let order = row.head.compare(role);
+        let order = row.credential().head.compare(role);
         match self {
             Cut::Before => order.is_lt(),
             Cut::Through => order.is_le(),
@@ -39,7 +39,7 @@ impl Cut {
 }
 
 /// How many rows stand before the cut.
-pub fn rows_until(rows: &[Credential], role: &Role, cut: Cut) -> u64
+pub fn rows_until(rows: &[Row], role: &Role, cut: Cut) -> u64
     requires { IsStrictlySortedBy credential_order rows.now }
     ensures { result ≡ how_many (is_cut cut role.now) rows.now }
 {
@@ -48,7 +48,7 @@ pub fn rows_until(rows: &[Credential], role: &Role, cut: Cut) -> u64
 
 /// Whether just so many rows stand before the cut, by the two rows next to it.
 pub fn is_rows_until<L: Ledger>(
-    rows: &[Credential],
+    rows: &[Row],
     role: &Role,
     cut: Cut,
     count: u64,
@@ -70,7 +70,7 @@ pub fn is_rows_until<L: Ledger>(
 
 /// Whether the row below the place, if there is one, stands before the cut.
 fn passes_below<L: Ledger>(
-    rows: &[Credential],
+    rows: &[Row],
     role: &Role,
     cut: Cut,
     place: usize,
@@ -89,7 +89,7 @@ fn passes_below<L: Ledger>(
 
 /// Whether the row at the place, if there is one, stands behind the cut.
 fn fails_at<L: Ledger>(
-    rows: &[Credential],
+    rows: &[Row],
     role: &Role,
     cut: Cut,
     place: usize,

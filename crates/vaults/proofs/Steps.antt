@@ -11,9 +11,9 @@ use Rattle.credential_text.specs.Credential.{credential_order}
 use Rattle.vaults.specs.declared.changes.Change.{Change}
 use Rattle.vaults.specs.declared.changes.Change.TheVariants.{Upload, Withdraw, Grant, Revoke, GrantAll, RevokeAll}
 use Rattle.vaults.specs.declared.changes.Entry.{Entry}
-use Rattle.vaults.specs.declared.faults.VaultFault.TheVariants.{NotIssuer, AlreadyHeld}
+use Rattle.vaults.specs.declared.faults.VaultFault.TheVariants.{NotIssuer, AlreadyHeld, NotHeld}
 use Rattle.vaults.specs.Journal.{moves, concerns, uploads, grants, entry_is, entries_of, last_entry, holds, granted, vault, readers, refusal}
-use Rattle.vaults.specs.Page.{PageState, Leaf, empty_page, empty_leaf, page_at, page_of, rows_after, readers_after, page_after}
+use Rattle.vaults.specs.Page.{PageState, Leaf, empty_page, empty_leaf, page_at, page_of, rows_after, readers_after, page_after, is_due}
 use Rattle.vaults.specs.Book.{ArePages, KeepsChange}
 use Rattle.vaults.proofs.Elements.{has, same_in_order, has-insert_key, sorted-insert_key, has-without, sorted-without, same_from_tied, tied_both_ways}
 use Rattle.names.proofs.SameNames.{is_same_tied, same_from_is_same, is_same_itself}
@@ -198,6 +198,30 @@ pub changes_fit : (journal : List Entry) (pages : BTreeMap (List ℕ) Leaf) (who
 changes_fit journal pages who n right within small =
     let same : (page_at pages who).changes ≡ length (entries_of who journal) = ap (λ (k : PageState). k.changes) (right who) in
     omega (arith, length-entries_of who journal)
+
+-- the vault lets an accepted change be made
+due : (journal : List Entry) (who : List ℕ) (change : Change) → refusal journal who change ≡ None → is_due change (vault journal who) ≡ true
+due journal who (Upload c) accepted = ap not (has-vault journal who c) ∙ by (is_same c.head.owner who) (holds journal who c) accepted
+  where
+    by : (s h : Bool) → cond (not s) (Some NotIssuer) (cond h (Some AlreadyHeld) None) ≡ None → not (s && h) ≡ true
+    by true true refused = cc
+    by true false fresh = refl
+    by false h refused = refl
+due journal who (Withdraw c) accepted = has-vault journal who c ∙ by (is_same c.head.owner who) (holds journal who c) accepted
+  where
+    by : (s h : Bool) → cond (not s) (Some NotIssuer) (cond h None (Some NotHeld)) ≡ None → (s && h) ≡ true
+    by true true held = refl
+    by true false refused = cc
+    by false h refused = cc
+due journal who (Grant reader) accepted = refl
+due journal who (Revoke reader) accepted = refl
+due journal who GrantAll accepted = refl
+due journal who RevokeAll accepted = refl
+
+pub page_due : (journal now : List Entry) (pages : BTreeMap (List ℕ) Leaf) (who : List ℕ) (change : Change) → journal ≡ now → ArePages journal pages → None ≡ refusal now who change →
+    is_due change (page_at pages who).rows ≡ true
+page_due journal now pages who change is right accepted =
+    ap (λ (k : PageState). is_due change k.rows) (right who) ∙ due journal who change (sym (subst (λ (j : List Entry). None ≡ refusal j who change) (sym is) accepted))
 
 -- an accepted change, entered in the journal and kept on the pages: now is the journal, and after is it with its entry
 pub pages_after : (journal now before after : List Entry) (who : List ℕ) (change : Change) (old new : BTreeMap (List ℕ) Leaf) → journal ≡ now → None ≡ refusal now who change →

@@ -1,5 +1,7 @@
 -- What is kept of one tenant beside the journal.
-use Rattle.std.specs.Prelude.{ℕ, List, [], ◌+◌, length, unwrap_or}
+use Rattle.std.specs.Prelude.{ℕ, Bool, true, not, List, [], ◌+◌, length, unwrap_or}
+use Rattle.std.specs.List.{list_any}
+use Rattle.std.specs.Ordering.{eq_by_cmp}
 use Rattle.std.specs.BTreeMap.{BTreeMap, get}
 use Rattle.std.specs.BTreeSet.{insert_key}
 use Rattle.names.specs.Name.{name_order}
@@ -43,6 +45,15 @@ page_of journal tenant = record {
   readers = readers journal tenant;
   changes = length (entries_of tenant journal);
 }
+
+-- the change may be made of the rows: what it puts isn't there, and what it takes is
+abbrev pub is_due : Change → List Credential → Bool
+is_due (Upload c) rows = not (list_any (eq_by_cmp credential_order c) rows)
+is_due (Withdraw c) rows = list_any (eq_by_cmp credential_order c) rows
+is_due (Grant reader) rows = true
+is_due (Revoke reader) rows = true
+is_due GrantAll rows = true
+is_due RevokeAll rows = true
 
 -- the rows after a change
 abbrev pub rows_after : Change → List Credential → List Credential

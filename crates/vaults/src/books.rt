@@ -7,7 +7,7 @@ ghost use Rattle.std.specs.BTreeMap.{get};
 ghost use Rattle.names.specs.Name.{name_order};
 ghost use Rattle.vaults.specs.Journal.{entries_of, holds, granted, is_public, reads, revokes, refusal, AreAccepted};
 ghost use Rattle.vaults.specs.Journal.{vault, readers, grant_count, marked_names};
-ghost use Rattle.vaults.specs.Page.{page_at, apart_at};
+ghost use Rattle.vaults.specs.Page.{page_at, apart_at, is_due};
 ghost use Rattle.vaults.specs.Version.{version_rows};
 ghost use Rattle.vaults.specs.Book.{is_granting, is_listed, KeepsChange, IsUnchanged, KeepsGrant, SameGranting, KeepsPublic, SamePublic};
 ghost use Rattle.vaults.specs.declared.changes.Change.TheVariants.{Grant, Revoke, GrantAll, RevokeAll};
@@ -21,6 +21,7 @@ use crate::marks::Seen;
 use crate::merges::merged;
 use crate::name_sets::NameSet;
 use crate::pages::Page;
+use crate::rows::Row;
 use crate::versions::Version;
 use credential_text::Credential;
 use names::Entity;
@@ -153,7 +154,7 @@ impl Book {
     }
 
     /// The credentials that the tenant issues and holds, in order.
-    pub fn vault_of(&mut self, who: Entity) -> &[Credential]
+    pub fn vault_of(&mut self, who: Entity) -> &[Row]
         ensures vault { result.now ≡ vault self.old who }
         ensures* same { sem 𝓛 (follows_so the_row the_row self.entry.ghost_name none (λ _ _. ⊤) (λ book. book ≡ self.old)) }
     {
@@ -263,6 +264,7 @@ fn keep(
     change: &Change,
 ) -> Result<u64, AllocError>
     requires fits { (page_at pages.old who).changes + 1 < 2 ^ 64 }
+    requires due { is_due change.now (page_at pages.old who).rows ≡ true }
     requires first { (reader : List ℕ) → change.now ≡ Grant reader → is_granting granting.old who reader ≡ false }
     requires first_for_all { change.now ≡ GrantAll → is_listed public.old who ≡ false }
     ensures kept { OnOk result (KeepsChange who change.now pages.old pages.new) }
@@ -371,7 +373,8 @@ fn keep_on_page(
     who: Entity,
     change: &Change,
 ) -> Result<u64, AllocError>
-    requires { (page_at pages.old who).changes + 1 < 2 ^ 64 }
+    requires fits { (page_at pages.old who).changes + 1 < 2 ^ 64 }
+    requires due { is_due change.now (page_at pages.old who).rows ≡ true }
     ensures kept { OnOk result (KeepsChange who change.now pages.old pages.new) }
     ensures count { IfOk result (λ n. n ≡ (page_at pages.old who).changes + 1) }
     ensures unchanged { OnErr result (IsUnchanged pages.old pages.new) }
@@ -403,7 +406,7 @@ fn settle_page(pages: &mut BTreeMap<Entity, Page>, who: Entity)
 }
 
 /// The rows on the tenant's page.
-fn rows_on_page(pages: &BTreeMap<Entity, Page>, who: Entity) -> &[Credential]
+fn rows_on_page(pages: &BTreeMap<Entity, Page>, who: Entity) -> &[Row]
     requires { apart_at pages.now who ≡ 0 }
     ensures { result.now ≡ (page_at pages.now who).rows }
 {

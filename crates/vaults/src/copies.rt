@@ -1,16 +1,17 @@
 //! Copies of rows.
 ghost use Rattle.std.specs.Prelude.{◌≡◌, ◌++◌, IfOk, OnOk};
 
+use crate::rows::Row;
 use credential_text::Credential;
 use std::alloc::{AllocError, Global};
 
-/// The same credentials again.
-pub fn copy_of(alloc: Global, credentials: &[Credential]) -> Result<Vec<Credential>, AllocError>
-    ensures { IfOk result (λ copy. copy.items ≡ credentials.now) }
+/// The same credentials again, each by itself.
+pub fn copy_of(alloc: Global, rows: &[Row]) -> Result<Vec<Credential>, AllocError>
+    ensures { IfOk result (λ copy. copy.items ≡ rows.now) }
 {
     let mut copy = Vec::new(alloc);
-    for credential in credentials {
-        copy.push(credential.try_clone()?)?;
+    for row in rows {
+        copy.push(row.credential().try_clone()?)?;
     }
     Ok(copy)
 }

@@ -21,6 +21,7 @@ mod merges;
 mod name_sets;
 mod own_rows;
 mod pages;
+mod rows;
 mod settling;
 #[cfg(test)]
 mod tests;
@@ -35,4 +36,5 @@ pub use laws::{
     vaults_are_exact, views_are_exact,
 };
 pub use marks::Seen;
+pub use rows::Row;
 pub use versions::Version;

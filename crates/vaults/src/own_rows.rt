@@ -1,4 +1,4 @@
-ghost use Rattle.std.specs.Prelude.{◌≡◌, ◌+◌, ◌<◌, ◌≤◌, ◌^◌, [], length, OnOk, OnErr};
+ghost use Rattle.std.specs.Prelude.{◌≡◌, true, false, ◌+◌, ◌<◌, ◌≤◌, ◌^◌, [], length, OnOk, OnErr};
 ghost use Rattle.std.specs.List.{list_any};
 ghost use Rattle.std.specs.Vec.{vec_capacity};
 ghost use Rattle.std.specs.BTreeSet.{insert_key};
@@ -9,8 +9,8 @@ ghost use Rattle.vaults.specs.InOrder.{without};
 ghost use Rattle.vaults.specs.Late.{merged_rows, AreRoomy};
 
 use crate::late_rows::LateRows;
+use crate::rows::{Row, place_of, put_in, take_from};
 use crate::settling::settle;
-use crate::versions::place_of;
 use credential_text::Credential;
 use std::alloc::{AllocError, Global};
 use std::marker::Model;
@@ -27,8 +27,8 @@ const MANY: usize = 4_096;
 /// the room for it.
 #[derive(Drop)]
 pub struct OwnRows {
-    rows: Vec<Credential>,
-    behind: Vec<Credential>,
+    rows: Vec<Row>,
+    behind: Vec<Row>,
     put: LateRows,
     taken: LateRows,
     count: usize,
@@ -55,7 +55,7 @@ impl OwnRows {
     }
 
     /// These rows.
-    pub fn of(rows: Vec<Credential>) -> OwnRows
+    pub fn of(rows: Vec<Row>) -> OwnRows
         requires { IsStrictlySortedBy credential_order rows.items }
         ensures { result.all ≡ rows.items }
     {
@@ -85,14 +85,12 @@ impl OwnRows {
             || (place_of(&self.rows, credential).is_ok() && !self.taken.has(credential))
     }
 
-    /// Puts the credential into its place, if it isn't there.
+    /// Puts a credential that isn't there into its place.
     pub fn put(&mut self, credential: &Credential) -> Result<(), AllocError>
+        requires { list_any (eq_by_cmp credential_order credential.now) self.old.all ≡ false }
         ensures put { OnOk result (self.new.all ≡ insert_key credential_order self.old.all credential.now) }
         ensures unchanged { OnErr result (self.new.all ≡ self.old.all) }
     {
-        if self.has(credential) {
-            return Ok(());
-        }
         put_row(
             &mut self.rows,
             &mut self.behind,
@@ -105,8 +103,9 @@ impl OwnRows {
         Ok(())
     }
 
-    /// Takes the credential out, if it is there. Where memory lacks to note that apart, it is taken out in its place.
+    /// Takes out a credential that is there. Where memory lacks to note that apart, it is taken out in its place.
     pub fn take_out(&mut self, credential: &Credential)
+        requires { list_any (eq_by_cmp credential_order credential.now) self.old.all ≡ true }
         ensures { self.new.all ≡ without credential_order credential.now self.old.all }
     {
         if self.take_apart(credential).is_err() {
@@ -115,14 +114,12 @@ impl OwnRows {
         }
     }
 
-    /// Takes the credential out, if it is there, in its place or apart.
+    /// Takes out a credential that is there, in its place or apart.
     fn take_apart(&mut self, credential: &Credential) -> Result<(), AllocError>
+        requires { list_any (eq_by_cmp credential_order credential.now) self.old.all ≡ true }
         ensures taken { OnOk result (self.new.all ≡ without credential_order credential.now self.old.all) }
         ensures unchanged { OnErr result (self.new.all ≡ self.old.all) }
     {
-        if !self.has(credential) {
-            return Ok(());
-        }
         take_row(
             &mut self.rows,
             &mut self.behind,
@@ -140,7 +137,7 @@ impl OwnRows {
         requires { self.old.apart ≡ 0 }
         ensures { self.new.all ≡ without credential_order credential.now self.old.all }
     {
-        take_at_once(&mut self.rows, credential);
+        take_from(&mut self.rows, credential);
         self.count = self.rows.len();
     }
 
@@ -167,7 +164,7 @@ impl OwnRows {
     }
 
     /// The rows, in order.
-    pub fn rows(&self) -> &[Credential]
+    pub fn rows(&self) -> &[Row]
         requires { self.now.apart ≡ 0 }
         ensures { result.now ≡ self.now.all }
     {
@@ -175,7 +172,7 @@ impl OwnRows {
     }
 
     /// Takes all rows out.
-    pub fn take_rows(&mut self) -> Vec<Credential>
+    pub fn take_rows(&mut self) -> Vec<Row>
         ensures rows { result.items ≡ self.old.all }
         ensures in_order { IsStrictlySortedBy credential_order self.old.all }
         ensures none_left { self.new.all ≡ [] }
@@ -195,8 +192,8 @@ impl OwnRows {
 
 /// Puts the credential, which isn't there, among the rows where it moves few, and else apart.
 fn put_row(
-    rows: &mut Vec<Credential>,
-    behind: &mut Vec<Credential>,
+    rows: &mut Vec<Row>,
+    behind: &mut Vec<Row>,
     put: &mut LateRows,
     taken: &LateRows,
     credential: &Credential,
@@ -209,7 +206,7 @@ fn put_row(
     ensures behind { behind.new.items ≡ behind.old.items }
 {
     if put.len() == 0 && taken.len() == 0 && is_near_end(rows, credential) {
-        return put_at_once(rows, credential);
+        return put_in(rows, credential);
     }
     make_room(rows, behind, put.len())?;
     put.add(credential)
@@ -217,8 +214,8 @@ fn put_row(
 
 /// Takes the credential out of the rows where that moves few, and else apart.
 fn take_row(
-    rows: &mut Vec<Credential>,
-    behind: &mut Vec<Credential>,
+    rows: &mut Vec<Row>,
+    behind: &mut Vec<Row>,
     put: &mut LateRows,
     taken: &mut LateRows,
     credential: &Credential,
@@ -231,7 +228,7 @@ fn take_row(
     ensures behind { behind.new.items ≡ behind.old.items }
 {
     if put.len() == 0 && taken.len() == 0 && is_near_end(rows, credential) {
-        take_at_once(rows, credential);
+        take_from(rows, credential);
         return Ok(());
     }
     make_room(rows, behind, put.len())?;
@@ -241,42 +238,15 @@ fn take_row(
 }
 
 /// Whether few rows stand behind the credential's place.
-fn is_near_end(rows: &[Credential], credential: &Credential) -> bool {
+fn is_near_end(rows: &[Row], credential: &Credential) -> bool {
     match rows.get(rows.len().saturating_sub(FEW)) {
-        Some(row) => !credential.compare(row).is_lt(),
+        Some(row) => !credential.compare(row.credential()).is_lt(),
         None => true,
     }
 }
 
-/// Puts the credential into its place among the rows, if it isn't there.
-fn put_at_once(rows: &mut Vec<Credential>, credential: &Credential) -> Result<(), AllocError>
-    requires { IsStrictlySortedBy credential_order rows.old.items }
-    ensures put { OnOk result (rows.new.items ≡ insert_key credential_order rows.old.items credential.now) }
-    ensures unchanged { OnErr result (rows.new.items ≡ rows.old.items) }
-{
-    if let Err(place) = place_of(rows, credential) {
-        let row = credential.try_clone()?;
-        rows.insert(place, row)?;
-    }
-    Ok(())
-}
-
-/// Takes the credential out of the rows, if it is there.
-fn take_at_once(rows: &mut Vec<Credential>, credential: &Credential)
-    requires { IsStrictlySortedBy credential_order rows.old.items }
-    ensures { rows.new.items ≡ without credential_order credential.now rows.old.items }
-{
-    if let Ok(place) = place_of(rows, credential) {
-        rows.remove(place);
-    }
-}
-
 /// Takes the room for one late change more.
-fn make_room(
-    rows: &mut Vec<Credential>,
-    behind: &mut Vec<Credential>,
-    late: usize,
-) -> Result<(), AllocError>
+fn make_room(rows: &mut Vec<Row>, behind: &mut Vec<Row>, late: usize) -> Result<(), AllocError>
     requires { late < 2 ^ 63 }
     ensures rows { rows.new.items ≡ rows.old.items }
     ensures behind { behind.new.items ≡ behind.old.items }

@@ -5,11 +5,12 @@ ghost use Rattle.names.specs.Name.{name_order};
 ghost use Rattle.credential_text.specs.Credential.{credential_order};
 ghost use Rattle.vaults.specs.Journal.{revokes};
 ghost use Rattle.vaults.specs.Version.{version_rows};
-ghost use Rattle.vaults.specs.Page.{empty_page, page_after};
+ghost use Rattle.vaults.specs.Page.{empty_page, page_after, is_due};
 
 use crate::changes::Change;
 use crate::name_sets::NameSet;
 use crate::own_rows::OwnRows;
+use crate::rows::Row;
 use crate::versions::{Version, make_own, share, shared};
 use credential_text::Credential;
 use names::Entity;
@@ -63,7 +64,7 @@ impl Page {
     }
 
     /// The rows of the tenant's vault, in order.
-    pub fn rows(&self) -> &[Credential]
+    pub fn rows(&self) -> &[Row]
         requires { self.now.apart ≡ 0 }
         ensures { result.now ≡ self.now.page.rows }
     {
@@ -126,7 +127,8 @@ impl Page {
 
     /// Keeps one change more.
     pub fn keep(&mut self, change: &Change) -> Result<(), AllocError>
-        requires { self.old.page.changes + 1 < 2 ^ 64 }
+        requires fits { self.old.page.changes + 1 < 2 ^ 64 }
+        requires due { is_due change.now self.old.page.rows ≡ true }
         ensures kept { OnOk result (self.new.page ≡ page_after change.now self.old.page) }
         ensures revocable { revokes change.now ≡ true → IsOk result }
         ensures unchanged { OnErr result (self.new.page ≡ self.old.page) }

@@ -11,19 +11,13 @@ ghost use Rattle.vaults.specs.InOrder.{without, IsPlace};
 ghost use Rattle.vaults.specs.Late.{with_all, without_all, merged_rows};
 
 use crate::late_rows::LateRows;
-use crate::versions::place_of;
-use credential_text::Credential;
+use crate::rows::{Row, place_of};
 
 // Rows that are merged stand on two lists: those before a place in order, and those behind it with the last first. So a
 // row is put or taken at that place without moving others, and the place moves on by one row at a time.
 
 /// Merges what is late into the rows.
-pub fn settle(
-    rows: &mut Vec<Credential>,
-    behind: &mut Vec<Credential>,
-    put: &mut LateRows,
-    taken: &mut LateRows,
-)
+pub fn settle(rows: &mut Vec<Row>, behind: &mut Vec<Row>, put: &mut LateRows, taken: &mut LateRows)
     requires in_order { IsStrictlySortedBy credential_order rows.old.items }
     requires none_behind { behind.old.items ≡ [] }
     requires room { length rows.old.items + length put.old ≤ vec_capacity rows.old }
@@ -43,7 +37,7 @@ pub fn settle(
 }
 
 /// Takes all that was taken late, the last first.
-fn take_all(rows: &mut Vec<Credential>, behind: &mut Vec<Credential>, taken: &mut LateRows)
+fn take_all(rows: &mut Vec<Row>, behind: &mut Vec<Row>, taken: &mut LateRows)
     requires in_order { IsStrictlySortedBy credential_order (rows.old.items ++ reverse behind.old.items) }
     requires room { length rows.old.items + length behind.old.items ≤ vec_capacity rows.old }
     requires spare { length rows.old.items + length behind.old.items ≤ vec_capacity behind.old }
@@ -58,7 +52,7 @@ fn take_all(rows: &mut Vec<Credential>, behind: &mut Vec<Credential>, taken: &mu
 }
 
 /// Puts all that was put late, the last first.
-fn put_all(rows: &mut Vec<Credential>, behind: &mut Vec<Credential>, put: &mut LateRows)
+fn put_all(rows: &mut Vec<Row>, behind: &mut Vec<Row>, put: &mut LateRows)
     requires in_order { IsStrictlySortedBy credential_order (rows.old.items ++ reverse behind.old.items) }
     requires room { length rows.old.items + length behind.old.items + length put.old ≤ vec_capacity rows.old }
     requires spare { length rows.old.items + length behind.old.items + length put.old ≤ vec_capacity behind.old }
@@ -72,23 +66,23 @@ fn put_all(rows: &mut Vec<Credential>, behind: &mut Vec<Credential>, put: &mut L
     }
 }
 
-/// Takes the credential out, if it is there.
-fn take_between(rows: &mut Vec<Credential>, behind: &mut Vec<Credential>, credential: &Credential)
+/// Takes the row out, if it is there.
+fn take_between(rows: &mut Vec<Row>, behind: &mut Vec<Row>, row: &Row)
     requires in_order { IsStrictlySortedBy credential_order (rows.old.items ++ reverse behind.old.items) }
     requires room { length rows.old.items + length behind.old.items ≤ vec_capacity rows.old }
     requires spare { length rows.old.items + length behind.old.items ≤ vec_capacity behind.old }
     ensures taken { rows.new.items ++ reverse behind.new.items
-        ≡ without credential_order credential.now (rows.old.items ++ reverse behind.old.items) }
+        ≡ without credential_order row.now (rows.old.items ++ reverse behind.old.items) }
     ensures room { vec_capacity rows.new ≡ vec_capacity rows.old }
     ensures spare { vec_capacity behind.new ≡ vec_capacity behind.old }
 {
-    if part_at(rows, behind, credential) {
+    if part_at(rows, behind, row) {
         behind.pop();
     }
 }
 
 /// Puts the row into its place, if it isn't there.
-fn put_between(rows: &mut Vec<Credential>, behind: &mut Vec<Credential>, row: Credential)
+fn put_between(rows: &mut Vec<Row>, behind: &mut Vec<Row>, row: Row)
     requires in_order { IsStrictlySortedBy credential_order (rows.old.items ++ reverse behind.old.items) }
     requires room { length rows.old.items + length behind.old.items ≤ vec_capacity rows.old }
     requires spare { length rows.old.items + length behind.old.items < vec_capacity behind.old }
@@ -102,23 +96,19 @@ fn put_between(rows: &mut Vec<Credential>, behind: &mut Vec<Credential>, row: Cr
     }
 }
 
-/// Parts the rows at the credential's place, so that it would stand first behind. Answers whether it does.
-fn part_at(
-    rows: &mut Vec<Credential>,
-    behind: &mut Vec<Credential>,
-    credential: &Credential,
-) -> bool
+/// Parts the rows at the row's place, so that it would stand first behind. Answers whether it does.
+fn part_at(rows: &mut Vec<Row>, behind: &mut Vec<Row>, row: &Row) -> bool
     requires in_order { IsStrictlySortedBy credential_order (rows.old.items ++ reverse behind.old.items) }
     requires room { length rows.old.items + length behind.old.items ≤ vec_capacity rows.old }
     requires spare { length rows.old.items + length behind.old.items ≤ vec_capacity behind.old }
     ensures same { rows.new.items ++ reverse behind.new.items ≡ rows.old.items ++ reverse behind.old.items }
-    ensures place { IsPlace credential_order (rows.new.items ++ reverse behind.new.items) credential.now
+    ensures place { IsPlace credential_order (rows.new.items ++ reverse behind.new.items) row.now
         (if result then Ok (length rows.new.items) else Err (length rows.new.items)) }
     ensures room { vec_capacity rows.new ≡ vec_capacity rows.old }
     ensures spare { vec_capacity behind.new ≡ vec_capacity behind.old }
 {
-    leave_behind_above(rows, behind, credential);
-    match place_of(rows, credential) {
+    leave_behind_above(rows, behind, row);
+    match place_of(rows, row.credential()) {
         Ok(place) => {
             pour(rows, behind, place);
             true
@@ -130,36 +120,32 @@ fn part_at(
     }
 }
 
-/// Brings the rows back where one that stands behind isn't above the credential.
-fn leave_behind_above(
-    rows: &mut Vec<Credential>,
-    behind: &mut Vec<Credential>,
-    credential: &Credential,
-)
+/// Brings the rows back where one that stands behind isn't above the row.
+fn leave_behind_above(rows: &mut Vec<Row>, behind: &mut Vec<Row>, row: &Row)
     requires room { length rows.old.items + length behind.old.items ≤ vec_capacity rows.old }
     ensures same { rows.new.items ++ reverse behind.new.items ≡ rows.old.items ++ reverse behind.old.items }
-    ensures above { (row : Credential) → slice_get (reverse behind.new.items) 0 ≡ Some row → credential_order row credential.now ≡ Greater }
+    ensures above { (first : Credential) → slice_get (reverse behind.new.items) 0 ≡ Some first → credential_order first row.now ≡ Greater }
     ensures room { vec_capacity rows.new ≡ vec_capacity rows.old }
     ensures spare { vec_capacity behind.new ≡ vec_capacity behind.old }
 {
-    if !is_above(behind, credential) {
+    if !is_above(behind, row) {
         pour(behind, rows, 0);
     }
 }
 
-/// Whether what stands first behind is above the credential.
-fn is_above(behind: &[Credential], credential: &Credential) -> bool
-    ensures { IsTrue result → (row : Credential) → slice_get (reverse behind.now) 0 ≡ Some row
-        → credential_order row credential.now ≡ Greater }
+/// Whether what stands first behind is above the row.
+fn is_above(behind: &[Row], row: &Row) -> bool
+    ensures { IsTrue result → (first : Credential) → slice_get (reverse behind.now) 0 ≡ Some first
+        → credential_order first row.now ≡ Greater }
 {
     match behind.last() {
-        Some(row) => row.compare(credential).is_gt(),
+        Some(first) => first.credential().compare(row.credential()).is_gt(),
         None => true,
     }
 }
 
 /// Moves all but so many rows of the one list to the other, from the end.
-fn pour(from: &mut Vec<Credential>, to: &mut Vec<Credential>, kept: usize)
+fn pour(from: &mut Vec<Row>, to: &mut Vec<Row>, kept: usize)
     requires kept { kept ≤ length from.old.items }
     requires room { length to.old.items + (length from.old.items - kept) ≤ vec_capacity to.old }
     ensures same { from.new.items ++ reverse to.new.items ≡ from.old.items ++ reverse to.old.items }

@@ -1,5 +1,5 @@
 use crate::{
-    Book, Change, Entries, Seen, VaultFault, accepted_changes_are_own, grants_are_apart,
+    Book, Change, Entries, Row, Seen, VaultFault, accepted_changes_are_own, grants_are_apart,
     marks_are_exact, own_entries_decide, vaults_are_exact, views_are_exact,
 };
 use credential_text::{Credential, Expr};
@@ -104,12 +104,12 @@ fn reads_back(book: &Book, rows: &[(&str, &str, &str, &str)]) -> Result<bool, Fa
 }
 
 /// Whether these are the rows, in this order.
-fn are_rows(rows: &[Credential], expected: &[(&str, &str)]) -> Result<bool, Fail> {
+fn are_rows(rows: &[Row], expected: &[(&str, &str)]) -> Result<bool, Fail> {
     if rows.len() != expected.len() {
         return Ok(false);
     }
     for (row, (head, body)) in rows.iter().zip(expected) {
-        if !row.compare(&credential(head, body)?).is_eq() {
+        if !row.credential().compare(&credential(head, body)?).is_eq() {
             return Ok(false);
         }
     }

@@ -3,10 +3,10 @@ ghost use Rattle.std.specs.List.Sorted.{IsStrictlySortedBy};
 ghost use Rattle.credential_text.specs.Credential.{credential_order};
 ghost use Rattle.std.specs.List.{list_any};
 ghost use Rattle.std.specs.Ordering.{eq_by_cmp};
-ghost use Rattle.vaults.specs.InOrder.{IsPlace};
 ghost use Rattle.vaults.specs.Version.{version_rows, rows_shown};
 
 use crate::own_rows::OwnRows;
+use crate::rows::{Row, place_of};
 use credential_text::Credential;
 use std::alloc::{AllocError, Global};
 use std::marker::Model;
@@ -17,7 +17,7 @@ use std::sync::Arc;
 /// change: what holds one has its rows, whatever becomes of the vault.
 #[derive(Drop)]
 pub struct Version {
-    rows: Vec<Credential>,
+    rows: Vec<Row>,
 }
 
 impl Model for Version {
@@ -35,7 +35,7 @@ impl Model for Version {
 
 impl Version {
     /// A version of these rows.
-    fn of(rows: Vec<Credential>) -> Version
+    fn of(rows: Vec<Row>) -> Version
         requires { IsStrictlySortedBy credential_order rows.items }
         ensures { result ≡ rows.items }
     {
@@ -43,7 +43,7 @@ impl Version {
     }
 
     /// The rows, in order.
-    pub fn rows(&self) -> &[Credential]
+    pub fn rows(&self) -> &[Row]
         ensures rows { result.now ≡ self.now }
         ensures ordered { IsStrictlySortedBy credential_order self.now }
     {
@@ -58,7 +58,7 @@ impl Version {
     }
 
     /// Takes the rows out of the version.
-    fn take_rows(&mut self) -> Vec<Credential>
+    fn take_rows(&mut self) -> Vec<Row>
         ensures rows { result.items ≡ self.old }
         ensures ordered { IsStrictlySortedBy credential_order self.old }
     {
@@ -71,20 +71,13 @@ impl Clone for Version {
     ghost is_clone = { λ version copy. copy ≡ version };
 
     fn clone(&self) -> Result<Version, AllocError> {
-        let mut rows = Vec::with_capacity(*self.rows.allocator(), self.rows.len())?;
+        let alloc = *self.rows.allocator();
+        let mut rows = Vec::with_capacity(alloc, self.rows.len())?;
         for row in &self.rows {
-            rows.push(row.try_clone()?)?;
+            rows.push(Row::of(alloc, row.credential())?)?;
         }
         Ok(Version { rows })
     }
-}
-
-/// Where the credential stands among the rows, or would stand.
-pub fn place_of(rows: &[Credential], credential: &Credential) -> Result<usize, usize>
-    requires { IsStrictlySortedBy credential_order rows.now }
-    ensures { IsPlace credential_order rows.now credential.now result }
-{
-    rows.binary_search_by(|other| other.compare(credential))
 }
 
 /// Makes the rows one's own: those of the version, or of a copy of it where others hold it.

@@ -13,8 +13,8 @@ returns-then-is_near_end-clause-rows c =
     let none_put : length c.args.put.now ≡ 0 = omega arith in
     let none_taken : length c.args.taken.now ≡ 0 = omega arith in
     record {
-      in_order = put_sorted c.put_at_once.result c.args.rows.now.items c.put_at_once.new.rows.items c.args.credential.now c.put_at_once.ensures.put c.put_at_once.ensures.unchanged c.requires.rows.in_order;
-      room_for_all = omega (arith, none_put, c.put_at_once.new.rows.ok.0, c.put_at_once.new.rows.ok.1);
+      in_order = put_sorted c.put_in.result c.args.rows.now.items c.put_in.new.rows.items c.args.credential.now c.put_in.ensures.put c.put_in.ensures.unchanged c.requires.rows.in_order;
+      room_for_all = omega (arith, none_put, c.put_in.new.rows.ok.0, c.put_in.new.rows.ok.1);
       spare_for_all = λ (some : 0 < length c.args.put.now + length c.args.taken.now). absurd (omega (arith, none_put, none_taken, some));
     }
 

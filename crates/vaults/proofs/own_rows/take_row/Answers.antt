@@ -14,8 +14,8 @@ returns-then-is_near_end-clause-rows c =
     let none_put : length c.args.put.now ≡ 0 = omega arith in
     let none_taken : length c.args.taken.now ≡ 0 = omega arith in
     record {
-      in_order = subst (IsStrictlySortedBy credential_order) (sym c.take_at_once.ensures) (sorted-without credentials_exact c.args.rows.now.items c.args.credential.now c.requires.rows.in_order);
-      room_for_all = omega (arith, none_put, c.take_at_once.new.rows.ok.0, c.take_at_once.new.rows.ok.1);
+      in_order = subst (IsStrictlySortedBy credential_order) (sym c.take_from.ensures) (sorted-without credentials_exact c.args.rows.now.items c.args.credential.now c.requires.rows.in_order);
+      room_for_all = omega (arith, none_put, c.take_from.new.rows.ok.0, c.take_from.new.rows.ok.1);
       spare_for_all = λ (some : 0 < length c.args.put.now + length c.args.taken.now). absurd (omega (arith, none_put, none_taken, some));
     }
 

@@ -5,7 +5,7 @@ use Rattle.vaults.specs.Book.{ArePages, AreGranting, ArePublic, IsBook}
 use Rattle.vaults.proofs.Accepted.{accepted_after}
 use Rattle.vaults.proofs.Keeping.{kept_fit}
 use Rattle.vaults.proofs.OwedLemmas.{revoker_has_page}
-use Rattle.vaults.proofs.Steps.{changes_fit, pages_after, count_after}
+use Rattle.vaults.proofs.Steps.{changes_fit, page_due, pages_after, count_after}
 use Rattle.vaults.proofs.Granting.{granted_first, granting_after, public_first, public_after}
 use Rattle.vaults.proofs.books.Book.change.Goals as goal
 
@@ -14,6 +14,7 @@ keep-requires c = record {
   fits = changes_fit c.self.inside.journal.kept.0 c.self.inside.pages c.args.who c.self.inside.journal.bytes.cap c.self.invariant.pages_are
       (omega (arith, kept_fit c.self.inside.journal.bytes.items c.self.inside.journal.kept.0 c.self.inside.journal.kept.1, c.self.inside.journal.bytes.ok.0, c.self.inside.journal.bytes.ok.1))
       c.self.inside.journal.bytes.small;
+  due = page_due c.self.inside.journal.kept.0 c.args.self.now c.self.inside.pages c.args.who c.args.change c.self.view_is c.self.invariant.pages_are c.in_default.ensures;
   first = granted_first c.self.inside.journal.kept.0 c.args.who c.args.change c.self.inside.granting
       (sym (subst (λ (j : List Entry). None ≡ refusal j c.args.who c.args.change) (sym c.self.view_is) c.in_default.ensures)) c.self.invariant.granting_are;
   first_for_all = public_first c.self.inside.journal.kept.0 c.args.who c.args.change c.self.inside.public

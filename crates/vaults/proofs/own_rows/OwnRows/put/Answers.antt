@@ -1,18 +1,10 @@
 use Rattle.std.proofs.Common.{ℕ, ◌+◌, ◌∙◌, arith, sym, ap, subst, length}
-use Rattle.std.specs.List.Sorted.{IsStrictlySortedBy}
 use Rattle.credential_text.specs.Credential.{credential_order}
 use Rattle.vaults.specs.Late.{LooseRows, merged_rows}
 use Rattle.vaults.proofs.Elements.{has}
 use Rattle.vaults.proofs.Orders.{credentials_exact}
-use Rattle.vaults.proofs.Places.{insert_key-present}
-use Rattle.vaults.proofs.Late.{sorted-merged, length-merged, length-put}
+use Rattle.vaults.proofs.Late.{length-merged, length-put}
 use Rattle.vaults.proofs.own_rows.OwnRows.put.Goals as goal
-
-pub returns-then-has-clause-put : goal.returns-then-has-clause-put
-returns-then-has-clause-put c =
-    insert_key-present credentials_exact c.args.self.now.all c.args.credential.now
-    (subst (λ (k : LooseRows). IsStrictlySortedBy credential_order k.all) c.self.view_is (sorted-merged c.self.inside.put c.self.inside.taken c.self.inside.rows.items c.self.invariant.roomy.in_order))
-    (sym c.has.ensures ∙ c.if-has.true)
 
 pub overflow_add-self : goal.overflow_add-self
 overflow_add-self c =
@@ -24,6 +16,6 @@ invariant_of-self-2 c = record {
   none_behind = c.in_ok-put_row.ensures.behind ∙ c.self.invariant.none_behind;
   counted = ap (λ (n : ℕ). n + 1) c.self.invariant.counted
       ∙ sym (length-put (merged_rows c.self.inside.put c.self.inside.taken c.self.inside.rows.items) c.args.credential.now
-      (ap (λ (k : LooseRows). has credential_order k.all c.args.credential.now) c.self.view_is ∙ sym c.has.ensures ∙ c.if-has.false))
+      (ap (λ (k : LooseRows). has credential_order k.all c.args.credential.now) c.self.view_is ∙ c.requires))
       ∙ ap length (sym c.in_ok-put_row.ensures.put);
 }

@@ -2,18 +2,13 @@ use Rattle.std.proofs.Common.{true, ◌≡◌, ◌∙◌, arith, sym, ap, length
 use Rattle.credential_text.specs.Credential.{credential_order}
 use Rattle.vaults.specs.Late.{LooseRows, merged_rows}
 use Rattle.vaults.proofs.Elements.{has}
-use Rattle.vaults.proofs.Orders.{credentials_exact}
-use Rattle.vaults.proofs.Places.{without_absent}
 use Rattle.vaults.proofs.Late.{sorted-merged, length-taken}
 use Rattle.vaults.proofs.own_rows.OwnRows.take_apart.Goals as goal
-
-pub returns-then-not-has-clause-taken : goal.returns-then-not-has-clause-taken
-returns-then-not-has-clause-taken c = sym (without_absent credentials_exact c.args.self.now.all c.args.credential.now (sym c.has.ensures ∙ c.if-not-has.true))
 
 pub invariant_of-self-2 : goal.invariant_of-self-2
 invariant_of-self-2 c =
     let present : has credential_order (merged_rows c.self.inside.put c.self.inside.taken c.self.inside.rows.items) c.args.credential.now ≡ true =
-    ap (λ (k : LooseRows). has credential_order k.all c.args.credential.now) c.self.view_is ∙ sym c.has.ensures ∙ c.if-not-has.false in
+    ap (λ (k : LooseRows). has credential_order k.all c.args.credential.now) c.self.view_is ∙ c.requires in
     record {
       roomy = c.in_ok-take_row.ensures.rows;
       none_behind = c.in_ok-take_row.ensures.behind ∙ c.self.invariant.none_behind;

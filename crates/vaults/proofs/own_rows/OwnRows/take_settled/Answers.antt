@@ -15,11 +15,11 @@ invariant_of-self c =
     let none_taken : c.self.inside.taken ≡ [] = nil_from_length c.self.inside.taken (omega (arith, apart)) in
     record {
       roomy = record {
-        in_order = subst (IsStrictlySortedBy credential_order) (sym c.take_at_once.ensures)
+        in_order = subst (IsStrictlySortedBy credential_order) (sym c.take_from.ensures)
             (sorted-without credentials_exact c.self.inside.rows.items c.args.credential.now c.self.invariant.roomy.in_order);
-        room_for_all = omega (arith, ap length none_put, c.take_at_once.new.rows.ok.0, c.take_at_once.new.rows.ok.1);
+        room_for_all = omega (arith, ap length none_put, c.take_from.new.rows.ok.0, c.take_from.new.rows.ok.1);
         spare_for_all = λ (some : 0 < length c.self.inside.put + length c.self.inside.taken). absurd (omega (arith, apart, some));
       };
       none_behind = c.self.invariant.none_behind;
-      counted = omega (arith, c.len-self-inside.ensures, c.take_at_once.new.rows.ok.0, ap length (sym (merged_none c.self.inside.put c.self.inside.taken c.take_at_once.new.rows.items none_put none_taken)));
+      counted = omega (arith, c.len-self-inside.ensures, c.take_from.new.rows.ok.0, ap length (sym (merged_none c.self.inside.put c.self.inside.taken c.take_from.new.rows.items none_put none_taken)));
     }

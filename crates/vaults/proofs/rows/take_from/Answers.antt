@@ -1,6 +1,6 @@
 use Rattle.vaults.proofs.Orders.{credentials_exact}
 use Rattle.vaults.proofs.Places.{removed_there, gone_already}
-use Rattle.vaults.proofs.own_rows.take_at_once.Goals as goal
+use Rattle.vaults.proofs.rows.take_from.Goals as goal
 
 pub returns-in-Ok : goal.returns-in-Ok
 returns-in-Ok c =

@@ -1,0 +1,72 @@
+ghost use Rattle.std.specs.Prelude.{◌≡◌, IfOk, OnOk, OnErr};
+ghost use Rattle.std.specs.BTreeSet.{insert_key};
+ghost use Rattle.std.specs.List.Sorted.{IsStrictlySortedBy};
+ghost use Rattle.credential_text.specs.Credential.{credential_order};
+ghost use Rattle.vaults.specs.InOrder.{without, IsPlace};
+
+use credential_text::Credential;
+use std::alloc::{AllocError, Global};
+use std::marker::Model;
+
+/// A row of a vault: a credential that moves as one address. Seen as the credential.
+#[derive(Drop)]
+pub struct Row {
+    held: Box<Credential>,
+}
+
+impl Model for Row {
+    ghost use Rattle.credential_text.specs.declared.credentials.Credential.{Credential};
+
+    ghost Value = { Credential };
+
+    ghost view = { λ r. r.held.value };
+}
+
+impl Row {
+    /// A row with a copy of the credential.
+    pub(crate) fn of(alloc: Global, credential: &Credential) -> Result<Row, AllocError>
+        ensures { IfOk result (λ r. r ≡ credential.now) }
+    {
+        let copy = credential.try_clone()?;
+        let held = Box::new(alloc, copy)?;
+        Ok(Row { held })
+    }
+
+    /// The credential.
+    pub fn credential(&self) -> &Credential
+        ensures { result.now ≡ self.now }
+    {
+        &self.held
+    }
+}
+
+/// Where the credential stands among the rows, or would stand.
+pub fn place_of(rows: &[Row], credential: &Credential) -> Result<usize, usize>
+    requires { IsStrictlySortedBy credential_order rows.now }
+    ensures { IsPlace credential_order rows.now credential.now result }
+{
+    rows.binary_search_by(|row| row.credential().compare(credential))
+}
+
+/// Puts the credential into its place among the rows, if it isn't there.
+pub fn put_in(rows: &mut Vec<Row>, credential: &Credential) -> Result<(), AllocError>
+    requires { IsStrictlySortedBy credential_order rows.old.items }
+    ensures put { OnOk result (rows.new.items ≡ insert_key credential_order rows.old.items credential.now) }
+    ensures unchanged { OnErr result (rows.new.items ≡ rows.old.items) }
+{
+    if let Err(place) = place_of(rows, credential) {
+        let row = Row::of(*rows.allocator(), credential)?;
+        rows.insert(place, row)?;
+    }
+    Ok(())
+}
+
+/// Takes the credential out of the rows, if it is there.
+pub fn take_from(rows: &mut Vec<Row>, credential: &Credential)
+    requires { IsStrictlySortedBy credential_order rows.old.items }
+    ensures { rows.new.items ≡ without credential_order credential.now rows.old.items }
+{
+    if let Ok(place) = place_of(rows, credential) {
+        rows.remove(place);
+    }
+}
