@@ -14,7 +14,7 @@ use Rattle.credential_text.specs.Expr.{expr_order}
 use Rattle.credential_text.specs.Credential.{credential_order}
 use Rattle.snapshots.specs.declared.spans.Cut.{Cut}
 use Rattle.snapshots.specs.declared.spans.Cut.TheVariants.{Before, Through}
-use Rattle.snapshots.specs.Span.{how_many, is_row, is_before, is_through, is_cut}
+use Rattle.snapshots.specs.Span.{how_many, is_row, is_before, is_through, is_cut, is_cut_at}
 use Rattle.snapshots.proofs.Counting.{parted_from_sorted, head_fails}
 
 first_decides : (a b : Ordering) → ordering_then a b ≡ Less → (a ≡ Less) ⊎ (a ≡ Equal)
@@ -50,6 +50,11 @@ through_down role c d below passes = elim (heads c d below) [
     by less Less e passes = ap is_le (roles_in_order.transitive c.head d.head role less e)
     by less Equal e passes = ap is_le (subst (λ (r : Role). role_order c.head r ≡ Less) ((roles_in_order.tied d.head role).0 e) less)
     by less Greater e passes = cc
+
+-- a cut, by what the row's role compares to
+pub cut_at : (cut : Cut) (role : Role) (c : Credential) → is_cut_at cut (role_order c.head role) ≡ is_cut cut role c
+cut_at Before role c = refl
+cut_at Through role c = refl
 
 -- the rows before a cut come first
 pub parted_rows : (cut : Cut) (role : Role) (rows : List Credential) → IsStrictlySortedBy credential_order rows → IsPartitionedBy (is_cut cut role) rows

@@ -1,3 +1,4 @@
 pub mod Counting
 pub mod Cuts
 pub mod Views
+pub mod Fronts

@@ -150,6 +150,24 @@ sorted_rows_of owner vs ordered = by (slice_get vs (place_of vs owner)) refl
     by (Some v) is = subst (IsStrictlySortedBy credential_order) (placed_rows owner vs (place_of vs owner) (Some v) ordered refl is)
         (own v (is_owned owner v) (ordered.rows v (place_of vs owner, slice_get_within vs (place_of vs owner) v is, get_or_from_slice_get vs (place_of vs owner) v v is)))
 
+-- and all of them are the owner's
+pub own_rows_of : (owner : List ℕ) (vs : List Vault) → IsOrdered vs → All (λ c. c.head.owner ≡ owner) (rows_of vs owner)
+own_rows_of owner vs ordered = by (slice_get vs (place_of vs owner)) refl
+  where
+    same : (v : Vault) (o : Ordering) → name_order v.owner owner ≡ o → is_eq o ≡ true → v.owner ≡ owner
+    same v Less e tied = cc
+    same v Equal e tied = (names_in_order.tied v.owner owner).0 e
+    same v Greater e tied = cc
+
+    own : (v : Vault) (b : Bool) → is_owned owner v ≡ b → All (λ (c : Credential). c.head.owner ≡ v.owner) v.rows → All (λ (c : Credential). c.head.owner ≡ owner) (cond b v.rows [])
+    own v true tied all = λ k d within. all k d within ∙ same v (name_order v.owner owner) refl tied
+    own v false apart all = λ k d within. absurd (omega (arith, within))
+
+    by : (there : Option Vault) → slice_get vs (place_of vs owner) ≡ there → All (λ (c : Credential). c.head.owner ≡ owner) (rows_of vs owner)
+    by None is = subst (All (λ (c : Credential). c.head.owner ≡ owner)) (placed_rows owner vs (place_of vs owner) None ordered refl is) (λ k d within. absurd (omega (arith, within)))
+    by (Some v) is = subst (All (λ (c : Credential). c.head.owner ≡ owner)) (placed_rows owner vs (place_of vs owner) (Some v) ordered refl is)
+        (own v (is_owned owner v) refl (ordered.own v (place_of vs owner, slice_get_within vs (place_of vs owner) v is, get_or_from_slice_get vs (place_of vs owner) v v is)))
+
 -- what a look at the place tells: rows are those of the vault there, if it is the owner's, and else there are none
 pub rows_there : (owner : List ℕ) (vs : List Vault) (place : ℕ) (v : Vault) (name : List ℕ) (same : Bool) (rows : List Credential) → IsOrdered vs → place ≡ place_of vs owner →
     place < length vs → v ≡ get_or vs place v → name ≡ v.owner → same ≡ is_same name owner → rows ≡ cond same v.rows [] → rows ≡ rows_of vs owner

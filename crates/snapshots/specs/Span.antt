@@ -1,5 +1,6 @@
 -- Where the rows of a role stand in a view: said by counting what stands before them.
 use Rattle.std.specs.Prelude.{ℕ, ◌+◌, ◌==◌, Bool, List, length, filter, if◌then◌else◌}
+use Rattle.std.specs.declared.cmp.Ordering.{Ordering}
 use Rattle.std.specs.Ordering.{is_lt, is_eq, is_le}
 use Rattle.names.specs.Name.{name_order}
 use Rattle.names.specs.declared.roles.Role.{Role}
@@ -57,6 +58,15 @@ span_of view role = record {
 abbrev pub is_cut : Cut → Role → Credential → Bool
 is_cut Before role = is_before role
 is_cut Through role = is_through role
+
+-- what compares so to the role stands before the cut
+abbrev pub is_cut_at : Cut → Ordering → Bool
+is_cut_at Before order = is_lt order
+is_cut_at Through order = is_le order
+
+-- which of the rows of the role's owner stand before a cut, by the names of their roles
+abbrev pub is_cut_by_name : Cut → List ℕ → Credential → Bool
+is_cut_by_name cut name c = is_cut_at cut (name_order c.head.name name)
 
 -- how many comparisons decide whether a span is right: with the owners next to its place, and where these show the place
 -- to be right, with the owner of the vault there and with the rows next to the span's ends

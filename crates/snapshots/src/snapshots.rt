@@ -10,7 +10,7 @@ ghost use Rattle.snapshots.specs.Places.{PassesBelow, FailsAt, one, neighbours};
 ghost use Rattle.snapshots.specs.Snapshot.{IsOrdered};
 
 use crate::holdings::Holding;
-use crate::spans::{Cut, Span, both, is_rows_until, rows_until};
+use crate::spans::{Cut, Span, both, is_rows_until, rows_between};
 use crate::steps::Steps;
 use credential_text::Credential;
 use names::{Entity, Role};
@@ -61,18 +61,19 @@ impl Snapshot {
         self.asker
     }
 
-    /// Where the rows of the role stand. Takes no memory: two binary searches among the rows of one vault, and one
-    /// among the vaults.
+    /// Where the rows of the role stand. Takes no memory: a binary search among the vaults, one among the rows of one
+    /// vault for the role's first row, and from there on one for its last that costs little where the role has few.
     pub fn find(&self, role: &Role) -> Span
         ensures span { result ≡ span_of self.now.vaults role.now }
         ensures ordered { IsOrdered self.now.vaults }
     {
         let place = vaults_below(&self.vaults, &role.owner);
         let rows = rows_at(&self.vaults, &role.owner, place);
+        let (lo, hi) = rows_between(rows, role);
         Span {
             vault: place,
-            lo: rows_until(rows, role, Cut::Before),
-            hi: rows_until(rows, role, Cut::Through),
+            lo,
+            hi,
         }
     }
 

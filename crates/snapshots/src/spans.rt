@@ -1,11 +1,14 @@
-ghost use Rattle.std.specs.Prelude.{◌≡◌, ◌+◌, ◌≤◌, IsTrue, ◌↔◌, nat_lt, length};
+ghost use Rattle.std.specs.Prelude.{◌≡◌, ◌+◌, ◌<◌, ◌≤◌, false, IsTrue, ◌↔◌, nat_lt, length, get_or};
+ghost use Rattle.std.specs.List.{All};
 ghost use Rattle.std.specs.List.Sorted.{IsStrictlySortedBy};
+ghost use Rattle.credential_text.specs.declared.credentials.Credential.{Credential as AnyCredential};
 ghost use Rattle.credential_text.specs.Credential.{credential_order};
-ghost use Rattle.snapshots.specs.Span.{how_many, is_cut};
+ghost use Rattle.snapshots.specs.Span.{how_many, is_before, is_through, is_cut_at, is_cut, is_cut_by_name};
 ghost use Rattle.snapshots.specs.Places.{PassesBelow, FailsAt, one, neighbours};
 
 use crate::steps::Steps;
-use names::Role;
+use names::{Role, RoleName};
+use std::cmp::Ordering;
 use std::sync::ledger::Ledger;
 use vaults::Row;
 
@@ -26,24 +29,66 @@ pub enum Cut {
 }
 
 impl Cut {
-    /// Whether the row stands before the cut.
-    fn passes(self, role: &Role, row: &Row) -> bool
-        ensures { result ≡ is_cut self role.now row.now }
+    /// Whether what compares so to the role stands before the cut.
+    fn is_behind(self, order: Ordering) -> bool
+        ensures { result ≡ is_cut_at self order }
     {
-        let order = row.credential().head.compare(role);
         match self {
             Cut::Before => order.is_lt(),
             Cut::Through => order.is_le(),
         }
     }
+
+    /// Whether the row stands before the cut.
+    fn passes(self, role: &Role, row: &Row) -> bool
+        ensures { result ≡ is_cut self role.now row.now }
+    {
+        self.is_behind(row.credential().head.compare(role))
+    }
+
+    /// Whether the row, of the role's owner too, stands before the cut: by the names of their roles alone.
+    fn passes_by_name(self, name: &RoleName, row: &Row) -> bool
+        ensures { result ≡ is_cut_by_name self name.now row.now }
+    {
+        self.is_behind(row.credential().head.name.compare(name))
+    }
 }
 
-/// How many rows stand before the cut.
+/// How many rows are compared at first.
+const FEW: usize = 16;
+
+/// How many of the owner's rows stand before the cut. Costs little where they are few, however many there are behind it.
 pub fn rows_until(rows: &[Row], role: &Role, cut: Cut) -> u64
-    requires { IsStrictlySortedBy credential_order rows.now }
-    ensures { result ≡ how_many (is_cut cut role.now) rows.now }
+    requires in_order { IsStrictlySortedBy credential_order rows.now }
+    requires own { All (λ c. c.head.owner ≡ role.now.owner) rows.now }
+    ensures count { result ≡ how_many (is_cut cut role.now) rows.now }
+    ensures within { result ≤ length rows.now }
 {
-    rows.partition_point(|row| cut.passes(role, row)) as u64
+    let front = front_of(rows, role, cut);
+    rows[..front].partition_point(|row| cut.passes_by_name(&role.name, row)) as u64
+}
+
+/// How many of the first rows there are among which the cut is: few, or all.
+fn front_of(rows: &[Row], role: &Role, cut: Cut) -> usize
+    ensures within { result ≤ length rows.now }
+    ensures cut { (d : AnyCredential) → result < length rows.now → is_cut_by_name cut role.now.name (get_or rows.now result d) ≡ false }
+{
+    match rows.get(FEW) {
+        Some(row) if !cut.passes_by_name(&role.name, row) => FEW,
+        _ => rows.len(),
+    }
+}
+
+/// From where to where the role's rows stand among those of its owner.
+pub fn rows_between(rows: &[Row], role: &Role) -> (u64, u64)
+    requires in_order { IsStrictlySortedBy credential_order rows.now }
+    requires own { All (λ c. c.head.owner ≡ role.now.owner) rows.now }
+    ensures lo { result.0 ≡ how_many (is_before role.now) rows.now }
+    ensures hi { result.1 ≡ how_many (is_through role.now) rows.now }
+{
+    let lo = rows_until(rows, role, Cut::Before);
+    let behind = &rows[lo as usize..];
+    (lo, lo + rows_until(behind, role, Cut::Through))
 }
 
 /// Whether just so many rows stand before the cut, by the two rows next to it.

@@ -9,15 +9,12 @@ ghost use Rattle.vaults.specs.InOrder.{without};
 ghost use Rattle.vaults.specs.Late.{merged_rows, AreRoomy};
 
 use crate::late_rows::LateRows;
-use crate::rows::{Row, place_of, put_in, take_from};
+use crate::rows::{FEW, Row, place_of, put_in, surely_below, take_from};
 use crate::settling::settle;
 use credential_text::Credential;
 use std::alloc::{AllocError, Global};
 use std::marker::Model;
 use std::mem;
-
-/// How many rows a change moves at most where nothing is late.
-const FEW: usize = 64;
 
 /// How many late changes are kept apart at most.
 const MANY: usize = 4_096;
@@ -238,11 +235,10 @@ fn take_row(
 }
 
 /// Whether few rows stand behind the credential's place.
-fn is_near_end(rows: &[Row], credential: &Credential) -> bool {
-    match rows.get(rows.len().saturating_sub(FEW)) {
-        Some(row) => !credential.compare(row.credential()).is_lt(),
-        None => true,
-    }
+fn is_near_end(rows: &[Row], credential: &Credential) -> bool
+    requires { IsStrictlySortedBy credential_order rows.now }
+{
+    rows.len() - surely_below(rows, credential) <= FEW
 }
 
 /// Takes the room for one late change more.

@@ -11,7 +11,7 @@ ghost use Rattle.vaults.specs.InOrder.{without, IsPlace};
 ghost use Rattle.vaults.specs.Late.{with_all, without_all, merged_rows};
 
 use crate::late_rows::LateRows;
-use crate::rows::{Row, place_of};
+use crate::rows::{Row, place_near_end};
 
 // Rows that are merged stand on two lists: those before a place in order, and those behind it with the last first. So a
 // row is put or taken at that place without moving others, and the place moves on by one row at a time.
@@ -108,7 +108,7 @@ fn part_at(rows: &mut Vec<Row>, behind: &mut Vec<Row>, row: &Row) -> bool
     ensures spare { vec_capacity behind.new ≡ vec_capacity behind.old }
 {
     leave_behind_above(rows, behind, row);
-    match place_of(rows, row.credential()) {
+    match place_near_end(rows, row.credential()) {
         Ok(place) => {
             pour(rows, behind, place);
             true

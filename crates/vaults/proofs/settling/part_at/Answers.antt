@@ -6,8 +6,8 @@ use Rattle.vaults.specs.InOrder.{IsPlace}
 use Rattle.vaults.proofs.Late.{sorted_front, same_many, parted_ok, parted_err}
 use Rattle.vaults.proofs.settling.part_at.Goals as goal
 
-pub place_of-requires : goal.place_of-requires
-place_of-requires c =
+pub place_near_end-requires : goal.place_near_end-requires
+place_near_end-requires c =
     subst (IsStrictlySortedBy credential_order) (sym c.deref.ensures.value)
     (sorted_front c.leave_behind_above.new.rows.items (reverse c.leave_behind_above.new.behind.items) (subst (IsStrictlySortedBy credential_order) (sym c.leave_behind_above.ensures.same) c.requires.in_order))
 
