@@ -32,7 +32,7 @@ pub record AreRoomy (rows put taken : List Credential) (room spare : ℕ) : Type
   pub spare_for_all : 0 < length put + length taken → length rows + length put ≤ spare
 
 -- and none of them stands on the list for merging, and the count is that of all
-pub record AreKept (rows behind put taken : List Credential) (room spare count : ℕ) : Type 0 where
+pub record AreOwnRows (rows behind put taken : List Credential) (room spare count : ℕ) : Type 0 where
   pub roomy : AreRoomy rows put taken room spare
   pub none_behind : behind ≡ []
   pub counted : count ≡ length (merged_rows put taken rows)

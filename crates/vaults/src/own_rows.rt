@@ -34,13 +34,13 @@ pub struct OwnRows {
 impl Model for OwnRows {
     ghost use Rattle.std.specs.Prelude.{◌+◌, length};
     ghost use Rattle.std.specs.Vec.{vec_capacity};
-    ghost use Rattle.vaults.specs.Late.{LooseRows, merged_rows, AreKept};
+    ghost use Rattle.vaults.specs.Late.{LooseRows, merged_rows, AreOwnRows};
 
     ghost Value = { LooseRows };
 
     ghost view = { λ r. record { all = merged_rows r.put r.taken r.rows.items; apart = length r.put + length r.taken } };
 
-    ghost invariant = { λ r. AreKept r.rows.items r.behind.items r.put r.taken (vec_capacity r.rows) (vec_capacity r.behind) r.count };
+    ghost invariant = { λ r. AreOwnRows r.rows.items r.behind.items r.put r.taken (vec_capacity r.rows) (vec_capacity r.behind) r.count };
 }
 
 impl OwnRows {
