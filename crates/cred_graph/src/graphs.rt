@@ -64,6 +64,25 @@ impl Graph {
         }
     }
 
+    /// Makes room for so many nodes more. A graph is the same with it, and nodes are added quicker.
+    pub fn reserve(&mut self, count: u64) -> Result<(), AllocError>
+        ensures unchanged { self.new ≡ self.old }
+    {
+        self.nodes.reserve(count)?;
+        let nodes = self.nodes.count().saturating_add(count);
+        self.listeners.reserve(nodes)?;
+        self.solutions.reserve(nodes)
+    }
+
+    /// Gives back the memory that nothing takes.
+    pub fn give_back(&mut self)
+        ensures unchanged { self.new ≡ self.old }
+    {
+        self.nodes.give_back();
+        self.listeners.give_back();
+        self.solutions.give_back();
+    }
+
     /// The number of the expression's node, which is added if it isn't there, and whether it was added. A node beyond the
     /// 2^32nd is refused as want of memory.
     pub fn node_of(&mut self, expr: &Expr) -> Result<(u64, bool), AllocError>

@@ -33,6 +33,21 @@ impl ListenerLists {
         }
     }
 
+    /// Makes room for the lists of so many nodes.
+    pub fn reserve(&mut self, nodes: u64) -> Result<(), AllocError>
+        ensures { self.new ≡ self.old }
+    {
+        let more = (nodes as usize).saturating_sub(self.lists.len());
+        self.lists.reserve(more)
+    }
+
+    /// Gives back the memory that nothing takes.
+    pub fn give_back(&mut self)
+        ensures { self.new ≡ self.old }
+    {
+        self.lists.shrink_to_fit();
+    }
+
     /// The listeners of the node.
     pub fn of(&self, n: u32) -> &[KeptListening]
         ensures { result.now ≡ list_at self.now n }

@@ -79,6 +79,21 @@ impl Listeners {
         }
     }
 
+    /// Makes room for the listeners of so many nodes.
+    pub fn reserve(&mut self, nodes: u64) -> Result<(), AllocError>
+        ensures { self.new ≡ self.old }
+    {
+        self.lists.reserve(nodes)
+    }
+
+    /// Gives back the memory that nothing takes.
+    pub fn give_back(&mut self)
+        ensures { self.new ≡ self.old }
+    {
+        self.lists.give_back();
+        self.far.shrink_to_fit();
+    }
+
     /// How many listeners the node has.
     pub fn count(&self, n: u32) -> u64
         ensures { result ≡ length (list_at self.now n) }

@@ -31,6 +31,21 @@ impl MemberLists {
         }
     }
 
+    /// Makes room for the lists of so many nodes.
+    pub fn reserve(&mut self, nodes: u64) -> Result<(), AllocError>
+        ensures { self.new ≡ self.old }
+    {
+        let more = (nodes as usize).saturating_sub(self.lists.len());
+        self.lists.reserve(more)
+    }
+
+    /// Gives back the memory that nothing takes.
+    pub fn give_back(&mut self)
+        ensures { self.new ≡ self.old }
+    {
+        self.lists.shrink_to_fit();
+    }
+
     /// The numbers of the node's solutions.
     pub fn of(&self, n: u32) -> &[u32]
         ensures { result.now ≡ list_at self.now n }

@@ -50,6 +50,27 @@ impl Nodes {
         }
     }
 
+    /// How many nodes there are.
+    pub fn count(&self) -> u64
+        ensures { result ≡ length self.now }
+    {
+        self.exprs.len() as u64
+    }
+
+    /// Makes room for so many nodes more.
+    pub fn reserve(&mut self, count: u64) -> Result<(), AllocError>
+        ensures { self.new ≡ self.old }
+    {
+        self.exprs.reserve(count as usize)
+    }
+
+    /// Gives back the memory that nothing takes.
+    pub fn give_back(&mut self)
+        ensures { self.new ≡ self.old }
+    {
+        self.exprs.shrink_to_fit();
+    }
+
     /// Adds a node for an expression that has none, and answers its number. A number that doesn't fit 32 bits is refused.
     pub fn add(&mut self, expr: Expr) -> Result<u64, AllocError>
         requires { Contains self.old expr → ⊥ }

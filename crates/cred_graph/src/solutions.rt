@@ -70,6 +70,21 @@ impl Solutions {
         }
     }
 
+    /// Makes room for the members of so many nodes.
+    pub fn reserve(&mut self, nodes: u64) -> Result<(), AllocError>
+        ensures { self.new ≡ self.old }
+    {
+        self.members.reserve(nodes)
+    }
+
+    /// Gives back the memory that nothing takes.
+    pub fn give_back(&mut self)
+        ensures { self.new ≡ self.old }
+    {
+        self.reasons.shrink_to_fit();
+        self.members.give_back();
+    }
+
     /// The place of the solution, and its reason, if it is there.
     pub fn find(&self, solved: &Solved) -> Option<(u64, NumberedReason)>
         ensures { MatchOption result (HasKey self.now solved.now → ⊥) (λ r. slice_get self.now r.0 ≡ Some (solved.now, r.1)) }

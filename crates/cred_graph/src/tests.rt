@@ -161,9 +161,11 @@ fn one_node_for_each_expression(rt: HostRuntime) -> Result<(), Fail> {
     let role = Expr::Rol(Role::read(b"A.r")?);
     let entity = Expr::Ent(Entity::read(b"D")?);
     let mut graph = Graph::new(rt.alloc());
+    graph.reserve(2)?;
     assert!(rt; node_of(&mut graph, &role)? == (0, true));
     assert!(rt; node_of(&mut graph, &entity)? == (1, true));
     assert!(rt; node_of(&mut graph, &role)? == (0, false));
+    graph.give_back();
     assert!(rt; reads_back(&graph, &role));
     assert!(rt; reads_back(&graph, &entity));
     assert!(rt; graph.node(&Expr::Ent(Entity::read(b"E")?)).is_none());

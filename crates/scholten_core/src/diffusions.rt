@@ -163,13 +163,14 @@ impl<P: Drop> Diffusion<P> {
         put(&mut self.signals, by);
     }
 
-    /// Gives back the memory of letters and signals, where nothing is outstanding.
+    /// Gives back the memory of letters, signals and nodes that nothing takes, where nothing is outstanding.
     pub fn give_back(&mut self)
         ensures { self.new ≡ self.old }
     {
         if self.is_complete() {
             self.letters.give_back();
             self.signals.shrink_to_fit();
+            self.nodes.shrink_to_fit();
         }
     }
 

@@ -187,6 +187,7 @@ impl<P: Drop> LetterTable<P> {
         self.waits
     }
 
+    #[inline(always)]
     pub(crate) fn get(&self, number: u64) -> Option<&Letter<P>>
         ensures { option_copied result ≡ lookup (λ n. n == number) self.now.letters }
     {

@@ -14,10 +14,15 @@ use Rattle.search.specs.declared.letters.Load.{Load}
 use Rattle.search.specs.declared.letters.Load.TheVariants as load
 use Rattle.search.specs.Net.{Sent, sent_by}
 use Rattle.search.specs.Answers.{Progress, Solves, new_tells}
-use Rattle.search.specs.Counted.{heard, asks_in, IsCountedBy, IsCountedAt}
+use Rattle.search.specs.Counted.{heard, asks_in, IsCountedBy}
 use Rattle.search.proofs.Counting.{AreDistinct-zipped, counted_asked, counted_solved}
 use Rattle.search.proofs.CountedGraph.{heard_by, members_with, asks_in-append}
 use Rattle.search.proofs.Asked.{IsAskFor, ask_for_one, AskedFor, sent_more}
+
+-- the letters are counted while the node answers a letter, where these others are under way
+abbrev pub IsCountedAt : List Sent → ℕ → ℕ → (NodeAsk → Type 0) → Progress → Type 0
+IsCountedAt rest n sent may_ask s =
+    IsCountedBy may_ask (members_of s.graph) (heard s.graph) (asks_in (rest ++ sent_by n s.outs)) (sent + length s.outs)
 
 -- the same lists in other words
 pub same_count : {may_ask : NodeAsk → Type 0} {members after : ℕ → List (List ℕ)} {listeners hearers pending waiting : List NodeAsk} {sent total : ℕ} →

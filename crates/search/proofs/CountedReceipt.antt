@@ -14,11 +14,11 @@ use Rattle.search.specs.declared.letters.Load.{Load}
 use Rattle.search.specs.declared.letters.Load.TheVariants as load
 use Rattle.search.specs.Net.{Sent, sent_by, why_of}
 use Rattle.search.specs.Answers.{Progress, HearsAsk, known_tells}
-use Rattle.search.specs.Counted.{heard_of, heard_from, heard, ask_from, asks_in, IsCountedBy, IsCountedAt}
+use Rattle.search.specs.Counted.{heard_of, heard_from, heard, ask_from, asks_in, IsCountedBy}
 use Rattle.search.proofs.Counting.{counted_heard}
 use Rattle.search.proofs.CountedGraph.{IsInserted, heard_with, heard_has, asks_in-append}
 use Rattle.search.proofs.Asked.{sent_more}
-use Rattle.search.proofs.Counted.{same_count, same_members, no_ask_in_known}
+use Rattle.search.proofs.Counted.{IsCountedAt, same_count, same_members, no_ask_in_known}
 
 -- a letter that asks nothing counts as sent alone, whether it is under way or not
 pub counted_without : (before after : List Sent) (x : Sent) (n sent : ℕ) {may_ask : NodeAsk → Type 0} (s : Progress) → ask_from x.from x.to x.load ≡ [] →

@@ -8,7 +8,7 @@ use Rattle.credential_text.specs.declared.exprs.Expr.{Expr}
 use Rattle.credential_text.specs.declared.exprs.Expr.TheVariants.{Ent, Rol, Link, Meet}
 use Rattle.credential_text.specs.Expr.{part_expr}
 use Rattle.credential_text.proofs.Same.{same_credential}
-use Rattle.rt0_rules.specs.Asks.{for_via}
+use Rattle.rt0_rules.specs.Asks.{Why, for_body, for_base, for_via, for_part}
 use Rattle.rt0_rules.specs.Work.{AreDistinct}
 use Rattle.rt0_rules.specs.Letters.{NodeAsk}
 use Rattle.rt0_rules.proofs.Elements.{Contains-none, Contains-cons_cases}
@@ -24,11 +24,23 @@ use Rattle.search.specs.declared.letters.Load.TheVariants as load
 use Rattle.search.specs.declared.findings.Monitor.TheVariants as monitor
 use Rattle.search.specs.Net.{Sent, sent_by, why_of}
 use Rattle.search.specs.Answers.{Progress, AsksEach, HearsAsk, Opens, TellsBase, TellsPart, TakesIn, part_asks}
-use Rattle.search.specs.Counted.{heard, asks_in, IsCountedBy, IsCountedAt, IsOwn, AsksOnceTold}
+use Rattle.search.specs.Counted.{heard, asks_in, IsCountedBy}
 use Rattle.search.proofs.Counting.{counted_stays}
 use Rattle.search.proofs.Asked.{AskedFor, asked_each, own_ask}
-use Rattle.search.proofs.Counted.{same_count, counted_at_asked, counted_at_solved}
+use Rattle.search.proofs.Counted.{IsCountedAt, same_count, counted_at_asked, counted_at_solved}
 use Rattle.search.proofs.CountedReceipt.{counted_without, counted_at_heard}
+
+-- a node that opens asks so; on behalf of the members of a base a linked role asks later
+abbrev pub IsOwn : Why → Type 0
+IsOwn for_body = Unit {0}
+IsOwn for_base = Unit {0}
+IsOwn (for_via b) = ⊥
+IsOwn (for_part i) = Unit {0}
+
+-- what a node may ask once it was told who on a port
+abbrev pub AsksOnceTold : Port → List ℕ → Why → Type 0
+AsksOnceTold port.Base who why = why ≡ for_via who
+AsksOnceTold _ who why = ⊥
 
 ports_from : (i : ℕ) (parts : List Part) (w : Expr × Port) → Contains (part_asks i parts) w → (j : ℕ) × (w.1 ≡ port.Part j) × (i ≤ j)
 ports_from i [] w has = absurd (Contains-none w has)

@@ -18,12 +18,13 @@ use Rattle.search.specs.declared.letters.Load.TheVariants as load
 use Rattle.search.specs.declared.findings.Monitor.{Monitor}
 use Rattle.search.specs.Net.{Net, Sent, LetterFits, OpenedPaid}
 use Rattle.search.specs.Steady.{IsRight, IsSteady}
-use Rattle.search.specs.Receipt.{Awaits, IsReceived}
+use Rattle.search.specs.Receipt.{Awaits}
 use Rattle.search.specs.Answers.{Progress, progress, net_at, HearsAsk, TakesIn, Opens, IsOpenAt, own_rows, AnswersAsk, Answers}
 use Rattle.search.proofs.Grow.{Grows, one_expr, ask_fits_stays}
 use Rattle.search.proofs.Steps.{RowsFor, grows_on, opens, hears}
 use Rattle.search.proofs.Taken.{IsTold, takes_in}
 use Rattle.search.proofs.Rows.{role_rows_are}
+use Rattle.search.proofs.Settled.{IsReceived}
 
 pub own_rows_are : (view : List Vault) (e : Expr) → IsOrdered view → RowsFor (credentials view) e (own_rows view e)
 own_rows_are view (Ent d) ordered = tt

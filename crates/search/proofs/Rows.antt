@@ -19,7 +19,6 @@ use Rattle.vaults.specs.Journal.{Vault, credentials}
 use Rattle.snapshots.specs.Snapshot.{IsOrdered}
 use Rattle.snapshots.specs.Span.{is_owned, is_row, is_before, is_through, rows_of, role_rows, span_of}
 use Rattle.snapshots.proofs.Views.{sorted_rows_of}
-use Rattle.search.specs.Laws.{AreRowsOfOne}
 use Rattle.search.proofs.Steps.{AreRowsOf}
 
 is_eq_Equal : (o : Ordering) → is_eq o ≡ true → o ≡ Equal
@@ -82,6 +81,10 @@ once_in_order (c ∷ cs) sorted = (
       cc,
   once_in_order cs (sorted_tail credential_order c cs sorted),
 )
+
+-- the rows of one role, each once
+abbrev pub AreRowsOfOne : List Credential → Type 0
+AreRowsOfOne rows = AreDistinct rows × ((c d : Credential) → Contains rows c → Contains rows d → c.head ≡ d.head)
 
 -- the rows of a role stand once each
 pub role_rows_once : (view : List Vault) (r : Role) → IsOrdered view → AreRowsOfOne (role_rows view r)

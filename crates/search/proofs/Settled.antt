@@ -12,9 +12,15 @@ use Rattle.scholten_core.specs.declared.parents.Parent.TheVariants.{Neutral, Env
 use Rattle.search.specs.declared.letters.Load.{Load}
 use Rattle.search.specs.declared.letters.Load.TheVariants as load
 use Rattle.search.specs.declared.findings.Monitor.{Monitor}
-use Rattle.search.specs.Net.{Net, Sent, IsPendingStart, IsOpen, IsAsked, OpenedPaid}
+use Rattle.search.specs.Net.{Net, Sent, HasListener, IsPendingStart, IsOpen, IsAsked, IsTaken, OpenedPaid}
 use Rattle.search.specs.Steady.{IsPaid, IsSteady}
-use Rattle.search.specs.Receipt.{IsReceived}
+
+-- the letter was received: the environment's opened the asked role, an Ask is heard, a Tell is taken in
+abbrev pub IsReceived : List Credential → Net → Parent → ℕ → Load → Type 0
+IsReceived rows net Environment to load.Start = (e : Expr) → IsNode net.graph 0 e → OpenedPaid rows net 0 e
+IsReceived rows net (Node m) to (load.Ask p) = HasListener net to m p
+IsReceived rows net (Node n) to (load.Tell p who) = IsTaken net to p who
+IsReceived rows net _ to _ = ⊥
 
 abbrev with_pending : GraphState → List Monitor → List Sent → Net
 with_pending g ms pending = record { graph = g; monitors = ms; pending = pending }

@@ -26,15 +26,14 @@ use Rattle.search.specs.Net.{Net, Sent, HasListener, IsPendingStart, IsBaseTold,
 use Rattle.search.specs.Steady.{IsSteady}
 use Rattle.search.specs.Receipt.{Awaits}
 use Rattle.search.specs.Answers.{Progress, progress, net_at, HearsAsk, TakesIn, Opens, IsOpenAt, own_rows, AnswersAsk, Answers}
-use Rattle.search.specs.Counted.{MayAskFor, MayAsk, heard, asks_in, IsCountedBy, IsCounted, IsOwn, AsksOnceTold}
-use Rattle.search.specs.Laws.{AreRowsOfOne}
+use Rattle.search.specs.Counted.{MayAskFor, MayAsk, heard, asks_in, IsCountedBy, IsCounted}
 use Rattle.search.proofs.Grow.{Grows}
-use Rattle.search.proofs.Rows.{role_rows_once}
+use Rattle.search.proofs.Rows.{AreRowsOfOne, role_rows_once}
 use Rattle.search.proofs.Steps.{opens}
 use Rattle.search.proofs.Receive.{own_rows_are, awaited_fits, receiver_in, Receipt}
 use Rattle.search.proofs.Counting.{counted_stays}
 use Rattle.search.proofs.CountedGraph.{heard_has}
-use Rattle.search.proofs.CountedSteps.{counted_by_start, counted_by_first_ask, counted_by_ask, counted_by_tell}
+use Rattle.search.proofs.CountedSteps.{IsOwn, AsksOnceTold, counted_by_start, counted_by_first_ask, counted_by_ask, counted_by_tell}
 
 -- a node that asks for itself is open, and an open one may
 own_opens : (net : Net) (m : ℕ) (why : Why) → IsOwn why → MayAskFor net m why → IsOpen net m

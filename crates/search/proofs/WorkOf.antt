@@ -63,7 +63,7 @@ asked_by_letter rows net (Node m) to (load.Ask p) a has fits =
 asked_by_letter rows net (Node m) to (load.Tell p who) a has fits = absurd (Contains-none a has)
 
 -- the solutions of a node are distinct
-members_apart : (solutions : List Solution) (n : ℕ) →
+pub members_apart : (solutions : List Solution) (n : ℕ) →
     ((i j : ℕ) (s t : Solution) → slice_get solutions i ≡ Some s → slice_get solutions j ≡ Some t → s.node ≡ t.node → s.who ≡ t.who → i ≡ j) →
     AreDistinct (map (λ (s : Solution). s.who) (filter (λ s. s.node == n) solutions))
 members_apart [] n one = tt

@@ -1,19 +1,16 @@
 -- How many letters a search has sent, by what was asked and found.
-use Rattle.std.specs.Prelude.{ℕ, suc, ◌+◌, List, [], ◌∷◌, ◌++◌, ◌≡◌, Contains, length, map}
+use Rattle.std.specs.Prelude.{ℕ, suc, List, [], ◌∷◌, ◌++◌, ◌≡◌, Contains, map}
 use Rattle.std.specs.List.{flat_map}
 use Rattle.rt0_rules.specs.Asks.{Why, for_body, for_base, for_via, for_part}
 use Rattle.rt0_rules.specs.Work.{AreDistinct}
 use Rattle.rt0_rules.specs.Letters.{NodeAsk, letters_sent}
-use Rattle.cred_graph.specs.declared.listeners.Port.{Port}
-use Rattle.cred_graph.specs.declared.listeners.Port.TheVariants as port
 use Rattle.cred_graph.specs.declared.listeners.Listening.{Listening}
 use Rattle.cred_graph.specs.GraphState.{GraphState, members_of}
 use Rattle.scholten_core.specs.declared.parents.Parent.{Parent}
 use Rattle.scholten_core.specs.declared.parents.Parent.TheVariants.{Neutral, Environment, Node}
 use Rattle.search.specs.declared.letters.Load.{Load}
 use Rattle.search.specs.declared.letters.Load.TheVariants as load
-use Rattle.search.specs.Net.{Net, Sent, sent_by, IsBaseTold, IsOpen, why_of}
-use Rattle.search.specs.Answers.{Progress}
+use Rattle.search.specs.Net.{Net, Sent, IsBaseTold, IsOpen, why_of}
 
 -- what a listener of the node asked
 abbrev pub heard_of : ℕ → Listening → NodeAsk
@@ -62,20 +59,3 @@ pub record IsCountedBy (may_ask : NodeAsk → Type 0) (members : ℕ → List (L
 -- the same of a search
 abbrev pub IsCounted : Net → ℕ → Type 0
 IsCounted net sent = IsCountedBy (MayAsk net) (members_of net.graph) (heard net.graph) (asks_in net.pending) sent
-
--- the letters are counted while the node answers a letter, where these others are under way
-abbrev pub IsCountedAt : List Sent → ℕ → ℕ → (NodeAsk → Type 0) → Progress → Type 0
-IsCountedAt rest n sent may_ask s =
-    IsCountedBy may_ask (members_of s.graph) (heard s.graph) (asks_in (rest ++ sent_by n s.outs)) (sent + length s.outs)
-
--- a node that opens asks so; on behalf of the members of a base a linked role asks later
-abbrev pub IsOwn : Why → Type 0
-IsOwn for_body = Unit {0}
-IsOwn for_base = Unit {0}
-IsOwn (for_via b) = ⊥
-IsOwn (for_part i) = Unit {0}
-
--- what a node may ask once it was told who on a port
-abbrev pub AsksOnceTold : Port → List ℕ → Why → Type 0
-AsksOnceTold port.Base who why = why ≡ for_via who
-AsksOnceTold _ who why = ⊥

@@ -9,7 +9,6 @@ pub mod Finish
 pub mod Ending
 pub mod Found
 pub mod Counted
-pub mod Laws
 pub mod Quiet
 pub mod Driven
 pub mod Numbered

@@ -2,23 +2,15 @@
 use Rattle.std.specs.Prelude.{ℕ, List, [], ◌≡◌, Contains}
 use Rattle.names.specs.declared.roles.Role.{Role}
 use Rattle.credential_text.specs.declared.credentials.Credential.{Credential}
-use Rattle.credential_text.specs.declared.exprs.Expr.{Expr}
-use Rattle.cred_graph.specs.GraphState.{GraphState, IsNode}
+use Rattle.cred_graph.specs.GraphState.{GraphState}
 use Rattle.scholten_core.specs.declared.parents.Parent.{Parent}
-use Rattle.scholten_core.specs.declared.parents.Parent.TheVariants.{Environment, Node}
+use Rattle.scholten_core.specs.declared.parents.Parent.TheVariants.{Environment}
 use Rattle.search.specs.declared.letters.Load.{Load}
 use Rattle.search.specs.declared.letters.Load.TheVariants as load
 use Rattle.search.specs.declared.findings.Monitor.{Monitor}
-use Rattle.search.specs.Net.{Net, Sent, HasListener, IsTaken, OpenedPaid}
+use Rattle.search.specs.Net.{Sent}
 use Rattle.search.specs.Steady.{IsSteady}
 use Rattle.search.specs.Answers.{progress, net_at}
-
--- the letter was received: the environment's opened the asked role, an Ask is heard, a Tell is taken in
-abbrev pub IsReceived : List Credential → Net → Parent → ℕ → Load → Type 0
-IsReceived rows net Environment to load.Start = (e : Expr) → IsNode net.graph 0 e → OpenedPaid rows net 0 e
-IsReceived rows net (Node m) to (load.Ask p) = HasListener net to m p
-IsReceived rows net (Node n) to (load.Tell p who) = IsTaken net to p who
-IsReceived rows net _ to _ = ⊥
 
 -- a letter among those under way is to be received: the environment's is the only one
 pub record Awaits (rows : List Credential) (asked : Role) (g : GraphState) (ms : List Monitor) (rest : List Sent)

@@ -7,6 +7,7 @@ impl Search {
     ghost use Rattle.search.specs.Driven.{DriveStep, Makes, IsDriven};
 
     // Makes the next step: the oldest signal, else the first waiting letter.
+    #[inline(always)]
     fn make_step(&mut self)
         requires { IsQuiet self.old.stage → ⊥ }
         ensures { (step : DriveStep) × Makes self.old step self.new }

@@ -46,7 +46,7 @@ impl Model for Findings {
 }
 
 /// A list of answers with more room than this is given back.
-const MOST_ROOM: usize = 8;
+const MOST_ROOM: usize = 64;
 
 impl Findings {
     ghost use Rattle.search.specs.Answers.{progress};
@@ -77,7 +77,17 @@ impl Findings {
         &self.graph
     }
 
+    // Makes room for so many nodes more, and for as many answers.
+    pub(crate) fn reserve(&mut self, count: u64) -> Result<(), AllocError>
+        ensures { self.new ≡ self.old }
+    {
+        self.graph.reserve(count)?;
+        self.monitors.reserve(count as usize)?;
+        self.outs.reserve(count as usize)
+    }
+
     // A letter for the node goes to the end of the list of answers.
+    #[inline(always)]
     pub(crate) fn send(&mut self, to: u64, load: NumberedLoad) -> Result<(), AllocError>
         requires { IsLoad self.old.graph.nodes load }
         ensures sent { OnOk result (self.new
@@ -97,5 +107,16 @@ impl Findings {
         } else {
             self.outs.clear();
         }
+    }
+
+    // Gives back the memory that nothing takes.
+    #[cold]
+    #[inline(never)]
+    pub(crate) fn give_back(&mut self, alloc: Global)
+        ensures { self.new ≡ record self.old { outs = [] } }
+    {
+        self.outs = VecDeque::new(alloc);
+        self.monitors.shrink_to_fit();
+        self.graph.give_back();
     }
 }

@@ -13,7 +13,6 @@ mod findings;
 mod hearing;
 mod hints;
 mod keeping;
-mod laws;
 mod letters;
 mod members;
 mod opening;
@@ -29,7 +28,6 @@ mod telling;
 mod tests;
 
 pub use findings::{Findings, Monitor};
-pub use laws::letters_are_counted;
 pub use letters::Load;
 pub use outcomes::{Finished, Status};
 pub use queries::{Hint, Need, Query, Task};

@@ -1,33 +1,26 @@
 //! The members of the asked role, in order.
-ghost use Rattle.std.specs.Prelude.{◌≡◌, ◌<◌, ◌↔◌, ℕ, List, true, IfOk, Contains, length};
-ghost use Rattle.std.specs.BTreeSet.{contains};
+ghost use Rattle.std.specs.Prelude.{◌≡◌, ◌<◌, ◌↔◌, ℕ, List, IfOk, Contains, length};
 ghost use Rattle.std.specs.List.Sorted.{IsStrictlySortedBy};
 ghost use Rattle.names.specs.Name.{name_order};
+ghost use Rattle.rt0_rules.specs.Work.{AreDistinct};
 ghost use Rattle.cred_graph.specs.GraphState.{members_of};
 
 use cred_graph::Graph;
 use names::Entity;
 use std::alloc::{AllocError, Global};
-use std::collections::BTreeSet;
 
-/// The solutions of the node.
-fn solutions_of(alloc: Global, graph: &Graph, node: u64) -> Result<BTreeSet<Entity>, AllocError>
+/// The solutions of the node, in order of adding.
+fn solutions_of(alloc: Global, graph: &Graph, node: u64) -> Result<Vec<Entity>, AllocError>
     requires { node < length graph.now.nodes }
-    ensures { IfOk result (λ set. (d : List ℕ) → (contains name_order set d ≡ true) ↔ Contains (members_of graph.now node) d) }
+    ensures members { IfOk result (λ list. list.items ≡ members_of graph.now node) }
+    ensures once { IfOk result (λ list. AreDistinct list.items) }
 {
-    let mut set = BTreeSet::new(alloc);
-    for place in 0..graph.solutions(node) {
-        set.insert(graph.solution(node, place))?;
+    let count = graph.solutions(node);
+    let mut list = Vec::with_capacity(alloc, count as usize)?;
+    for place in 0..count {
+        list.push(graph.solution(node, place))?;
     }
-    Ok(set)
-}
-
-/// The entities of the set, in order.
-fn listed(alloc: Global, set: BTreeSet<Entity>) -> Result<Vec<Entity>, AllocError>
-    ensures keys { IfOk result (λ list. list.items ≡ set.keys) }
-    ensures in_order { IfOk result (λ list. IsStrictlySortedBy name_order list.items) }
-{
-    set.into_iter().collect(alloc)
+    Ok(list)
 }
 
 /// The solutions of the node, in order, each once.
@@ -40,6 +33,7 @@ pub(crate) fn solutions_in_order(
     ensures in_order { IfOk result (λ list. IsStrictlySortedBy name_order list.items) }
     ensures exact { IfOk result (λ list. (d : List ℕ) → Contains list.items d ↔ Contains (members_of graph.now node) d) }
 {
-    let set = solutions_of(alloc, graph, node)?;
-    listed(alloc, set)
+    let mut list = solutions_of(alloc, graph, node)?;
+    list.sort_unstable();
+    Ok(list)
 }

@@ -26,7 +26,9 @@ fn ask_rows(
     ensures { OnOk result ((role : Role) → span ≡ span_of snapshot.now.vaults role
         → AsksEach found.old (row_asks (role_rows snapshot.now.vaults role)) found.new) }
 {
-    for place in 0..span.hi - span.lo {
+    let count = span.hi - span.lo;
+    found.reserve(count)?;
+    for place in 0..count {
         let row = snapshot.row(span, place);
         ask(alloc, found, &row.body, NumberedPort::Body)?;
     }

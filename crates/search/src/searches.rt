@@ -24,8 +24,8 @@ use crate::outcomes::{Finished, Status};
 use crate::queries::{Hint, Need, Query, Task};
 use crate::receiving::receive;
 use crate::stages::{
-    NumberedStage, Stage, deliver, held_letter, hold, nothing_moves, send, signals_under_way,
-    wait_again, waiting_letters,
+    NumberedStage, Stage, deliver, has_ended, held_letter, hold, nothing_moves, send,
+    signals_under_way, wait_again, waiting_letters,
 };
 use cred_graph::{Graph, Port};
 use names::Entity;
@@ -219,6 +219,7 @@ impl Search {
     }
 
     // Takes the waiting letter at that place, in order of sending: its number, and what it says.
+    #[inline(always)]
     pub(crate) fn take_held(&mut self, place: u64) -> Option<(u64, Held<NumberedLoad>)>
         ensures taken { MatchOption result ((slice_get (waiting_in self.old.stage) place ≡ None) × (self.new ≡ self.old))
             (λ r. TakesHeld self.old self.new place r.0 (held_at self.old.graph.nodes r.1)) }
@@ -230,6 +231,7 @@ impl Search {
 
     // The letter in hand is received, and its receiver's answers are sent. Where the rows of a role stand may have been
     // looked up. Where a growth is refused the search is broken.
+    #[inline(always)]
     pub(crate) fn receive_held(
         &mut self,
         letter: u64,
@@ -255,13 +257,16 @@ impl Search {
     }
 
     /// Delivers the signal at that place, the oldest first. False where there is none.
+    #[inline(always)]
     pub fn signal(&mut self, place: u64) -> bool
         ensures delivered { Delivers self.old.stage self.new.stage place result }
         ensures findings { (self.new.graph ≡ self.old.graph) × (self.new.monitors ≡ self.old.monitors) }
         ensures question { SameQuestion self.old self.new }
         ensures settles { Settles self.old self.new }
     {
-        deliver(&mut self.stage, place)
+        let delivered = deliver(&mut self.stage, place);
+        tidy(&self.stage, &mut self.found, self.alloc);
+        delivered
     }
 
     /// Whether nothing of the search can be carried on before a letter that is held comes back. Where none is held, the
@@ -294,6 +299,16 @@ impl Search {
             → IsJustified (rows_of self.now) (asked_role self.now.query) self.now.graph }
     {
         self.found.graph()
+    }
+}
+
+// Where nothing of a search is outstanding, what it found keeps no memory that nothing takes.
+#[inline(always)]
+fn tidy(stage: &NumberedStage, found: &mut Findings, alloc: Global)
+    ensures { (found.new.graph ≡ found.old.graph) × (found.new.monitors ≡ found.old.monitors) }
+{
+    if has_ended(stage) {
+        found.give_back(alloc);
     }
 }
 

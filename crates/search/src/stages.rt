@@ -54,6 +54,7 @@ pub(crate) fn held_letter(stage: &NumberedStage, number: u64) -> Option<Held<Num
 }
 
 // The waiting letter at that place is held from now on; its number and what it says.
+#[inline(always)]
 pub(crate) fn hold(stage: &mut NumberedStage, place: u64) -> Option<(u64, Held<NumberedLoad>)>
     ensures held { (nodes : List Expr) → MatchOption result
         ((slice_get (waiting_in (stage_at nodes stage.old)) place ≡ None) × (stage_at nodes stage.new ≡ stage_at nodes stage.old))
@@ -141,6 +142,7 @@ pub(crate) fn signals_under_way(stage: &NumberedStage) -> u64
 }
 
 // The signal at that place is delivered, where there is one. With the last one the memory of letters is given back.
+#[inline(always)]
 pub(crate) fn deliver(stage: &mut NumberedStage, place: u64) -> bool
     ensures delivers { (nodes : List Expr) → Delivers (stage_at nodes stage.old) (stage_at nodes stage.new) place result }
     ensures loads { (nodes : List Expr) → IsStage nodes stage.old → IsStage nodes stage.new }
@@ -154,6 +156,17 @@ pub(crate) fn deliver(stage: &mut NumberedStage, place: u64) -> bool
     running.signal(place);
     running.give_back();
     true
+}
+
+// Whether nothing is outstanding any more.
+pub(crate) fn has_ended(stage: &NumberedStage) -> bool
+    ensures { (nodes : List Expr) → result ≡ false → IsOutstanding (stage_at nodes stage.now) }
+{
+    match stage {
+        NumberedStage::Running(running) => running.is_complete(),
+        NumberedStage::Spent => true,
+        NumberedStage::Broken => true,
+    }
 }
 
 // Whether nothing moves before a held letter comes back: no letter waits and no signal is under way.

@@ -61,6 +61,7 @@ fn given_role(graph: &Graph, node: u64, base: Entity) -> Expr
 }
 
 // A linked role hears a member of its base; where that is new, it asks the member's role.
+#[inline(never)]
 fn told_base(alloc: Global, found: &mut Findings, node: u64, base: u32) -> Result<(), AllocError>
     requires entity { IsEntity found.old.graph.nodes base }
     requires link { (r : Role) × (name : List ℕ) × IsNode found.old.graph node (exprs.Link r name) }

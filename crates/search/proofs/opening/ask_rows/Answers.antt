@@ -8,8 +8,8 @@ use Rattle.search.proofs.AskLoops.{asks_next, asks_all, row_ask_at, row_asks_cou
 use Rattle.search.proofs.Rows.{span_length}
 use Rattle.search.proofs.opening.ask_rows.Goals as goal
 
-pub overflow_sub-place-end : goal.overflow_sub-place-end
-overflow_sub-place-end c =
+pub overflow_sub-count : goal.overflow_sub-count
+overflow_sub-count c =
     let lo = ap (λ (s : Span). s.lo) c.requires.1 in
     let hi = ap (λ (s : Span). s.hi) c.requires.1 in
     omega (arith, lo, hi, span_length c.args.snapshot.now.vaults c.requires.0)

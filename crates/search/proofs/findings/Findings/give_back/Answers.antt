@@ -1,0 +1,5 @@
+use Rattle.std.proofs.Common.{rules}
+use Rattle.search.proofs.findings.Findings.give_back.Goals as goal
+
+pub invariant_of-self : goal.invariant_of-self
+invariant_of-self c = rw (c.give_back.ensures.unchanged, c.new.ensures.items) (record { loads = search rules; ports = c.self.invariant.ports })
