@@ -1,4 +1,4 @@
-ghost use Rattle.std.specs.Prelude.{◌≡◌, ◌<◌, ◌≤◌, ℕ, false, slice_index_or, IfOk, OnOk, OnErr};
+ghost use Rattle.std.specs.Prelude.{◌≡◌, ◌<◌, ◌≤◌, ℕ, false, Some, slice_get, slice_index_or, IfOk, OnOk, OnErr, MatchOption};
 ghost use Rattle.std.specs.FinSet as set;
 ghost use Rattle.monitors.specs.Tellers.{is_teller};
 
@@ -54,22 +54,28 @@ impl MeetTable {
         ensures growth { OnErr result (HasTold self.old part who → ⊥) }
         ensures unchanged { OnErr result (self.new ≡ self.old) }
     {
-        let tellers = tellers_of(&self.told, &who);
+        let (line, tellers) = line_of(&self.told, &who);
         if tellers.has(part) {
             return Ok(false);
         }
         let tellers = tellers.with(part);
-        self.told.insert(who, tellers)?;
+        match line {
+            Some(place) => self.told[place] = tellers,
+            None => {
+                let _nobody = self.told.insert(who, tellers)?;
+            }
+        }
         Ok(tellers.count() == self.parts)
     }
 }
 
-/// The parts that told the entity.
-fn tellers_of(told: &IndexMap<Entity, Tellers>, who: &Entity) -> Tellers
-    ensures { (part : ℕ) → slice_index_or result.told part false ≡ is_teller told.now.entries part who.now }
+/// The place of the entity's line in the table, if it has one, and the parts that told it.
+fn line_of(told: &IndexMap<Entity, Tellers>, who: &Entity) -> (Option<usize>, Tellers)
+    ensures tellers { (part : ℕ) → slice_index_or result.1.told part false ≡ is_teller told.now.entries part who.now }
+    ensures place { MatchOption result.0 Unit (λ place. slice_get told.now.entries place ≡ Some (who.now, result.1)) }
 {
-    match told.get(who) {
-        Some(tellers) => *tellers,
-        None => Tellers::none(),
+    match told.get_full(who) {
+        Some((place, _who, tellers)) => (Some(place), *tellers),
+        None => (None, Tellers::none()),
     }
 }
