@@ -30,14 +30,21 @@ Moves h who k gone goes new =
     MatchOption (search_at h who k) (gone × (new ≡ h))
     (λ r. (s : SearchState) × goes r.search s × (new ≡ with_search h who k (record r { search = s })))
 
+-- by what is found under that number
+pub moves_at : (h : HallState) (who : List ℕ) (k : ℕ) (gone : Type 0) (goes : SearchState → SearchState → Type 0) (new : HallState)
+    (o : Option Running) → search_at h who k ≡ o →
+    MatchOption o (gone × (new ≡ h)) (λ r. (s : SearchState) × goes r.search s × (new ≡ with_search h who k (record r { search = s }))) →
+    Moves h who k gone goes new
+moves_at h who k gone goes new o is =
+    subst
+    (λ (p : Option Running).
+    MatchOption p (gone × (new ≡ h)) (λ r. (s : SearchState) × goes r.search s × (new ≡ with_search h who k (record r { search = s }))))
+    (sym is)
+
 -- where the name is no tenant's there is no such search
 pub nobody_moves : (h : HallState) (who : List ℕ) (k : ℕ) (gone : Type 0) (goes : SearchState → SearchState → Type 0) (new : HallState) →
     get h.tenants who ≡ None → gone → new ≡ h → Moves h who k gone goes new
-nobody_moves h who k gone goes new none is same =
-    subst
-    (λ (o : Option Running).
-    MatchOption o (gone × (new ≡ h)) (λ r. (s : SearchState) × goes r.search s × (new ≡ with_search h who k (record r { search = s }))))
-    (sym (ap (search_of k) none)) (is, same)
+nobody_moves h who k gone goes new none is same = moves_at h who k gone goes new None (ap (search_of k) none) (is, same)
 
 pub steps_as : (h : HallState) (made : Step) (who : List ℕ) (k : ℕ) → who ≡ step_name made → k ≡ step_search made → (answer : Stepped) (new : HallState) →
     Moves h who k (answer ≡ stepped.Gone) (λ s t. StepsSearch s made answer t) new → IsStepped h made answer new

@@ -15,6 +15,7 @@ pub mod Rounds
 pub mod Runs
 pub mod SearchSteps
 pub mod Seated
+pub mod Reached
 pub mod Seeking
 pub mod Telling
 pub mod Truths

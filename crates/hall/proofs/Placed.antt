@@ -1,6 +1,5 @@
 -- A hall where a tenant became another one, and where one of its searches goes on.
-use Rattle.std.proofs.Common.{◌≡◌, ◌∙◌, ℕ, List, ap, sym, refl, subst, subst₂, Option, Some, None, option_map}
-use Rattle.std.specs.Option.{MatchOption}
+use Rattle.std.proofs.Common.{◌≡◌, ◌∙◌, ℕ, List, ap, sym, refl, subst₂, Option, Some, option_map}
 use Rattle.std.specs.Ordering.{nat_cmp}
 use Rattle.std.specs.FinMap.{FinMap, get, insert, from_entries}
 use Rattle.std.specs.Map.{lookup}
@@ -11,13 +10,11 @@ use Rattle.indexmap.specs.IndexMap as table
 use Rattle.vaults.specs.declared.changes.Entry.{Entry}
 use Rattle.vaults.specs.Journal.{marked_view}
 use Rattle.vaults.proofs.Orders.{names_exact}
-use Rattle.search.specs.Search.{SearchState}
 use Rattle.hall.specs.declared.calls.requests.Request.{Request}
 use Rattle.hall.specs.declared.calls.replies.Reply.{Reply}
 use Rattle.hall.specs.Account.{Account}
 use Rattle.hall.specs.Answers.{sight, Answers}
 use Rattle.hall.specs.Hall.{Running, Tenant, HallState, account, changed_by, with_tenant, with_search, search_of, search_at, hall_after, AnswersTo, IsServed}
-use Rattle.hall.specs.Kept.{GoesOn}
 use Rattle.hall.proofs.Indexed.{looked_up, written}
 use Rattle.hall.proofs.Maps.{numbers_exact, get_inserted, insert_again, insert_twice}
 use Rattle.hall.proofs.laws.HallChanges.{changed_here, tenant_of}
@@ -47,25 +44,6 @@ module _ (h : HallState) (who : List ℕ) (t u : Tenant) (here : get h.tenants w
         (account h.journal who u, refl, answers);
     after = after;
   }
-
-  -- where a search of the tenant goes on, it does in the hall
-  pub went_on : (k : ℕ) (A : Type 0) (goes : SearchState → SearchState → Type 0) →
-      MatchOption (get t.searches k) (A × (u ≡ t)) (GoesOn goes k t u) →
-      MatchOption (search_at h who k) (A × (put h who u ≡ h))
-      (λ r. (s : SearchState) × goes r.search s × (put h who u ≡ with_search h who k (record r { search = s })))
-  went_on k A goes does =
-      subst
-      (λ (o : Option Running).
-      MatchOption o (A × (put h who u ≡ h))
-      (λ r. (s : SearchState) × goes r.search s × (put h who u ≡ with_search h who k (record r { search = s }))))
-      (sym (ap (search_of k) here)) (by (get t.searches k) does)
-    where
-      by : (o : Option Running) → MatchOption o (A × (u ≡ t)) (GoesOn goes k t u) →
-          MatchOption o (A × (put h who u ≡ h))
-          (λ r. (s : SearchState) × goes r.search s × (put h who u ≡ with_search h who k (record r { search = s })))
-      by None (a, is) = (a, put_again is)
-      by (Some r) (s, does, is) =
-          (s, does, put_changed (λ v. record v { searches = insert v.searches k (record r { search = s }) }) is)
 
 module _ (h : HallState) (who : List ℕ) (k : ℕ) (r : Running) (at : search_at h who k ≡ Some r) where
   -- the search that goes on is found as it went on

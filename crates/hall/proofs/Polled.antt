@@ -1,7 +1,6 @@
 -- A poll, and a name that is no tenant's, answered by an account.
 use Rattle.std.proofs.Common.{◌≡◌, ◌∙◌, ℕ, List, ap, sym, refl, subst, Option, Some, None, option_map, Result, Ok, Err}
 use Rattle.std.specs.FinMap.{get}
-use Rattle.std.specs.Option.{MatchOption}
 use Rattle.search.specs.Search.{settled_of}
 use Rattle.hall.specs.declared.faults.Fault.{Fault}
 use Rattle.hall.specs.declared.faults.Fault.TheVariants.{NoTenant, NoSuchSearch, Memory}
@@ -63,12 +62,3 @@ module _ (h : HallState) (who : List ℕ) (k : ℕ) (t : Tenant) (here : get h.t
     where
       clear : get (account h.journal who t).searches k ≡ None → ⊥
       clear none = let clash : Some (seen r) ≡ None = sym (asked_there r at) ∙ none in cc
-
-  pub polled : (told : Result Answer Fault) → MatchOption (get t.searches k) (told ≡ Err NoSuchSearch) (λ r. IsToldOf (settled_of r.search) told) →
-      IsServed h who (request.Poll k) (told_as Answered told) h
-  polled told is = by (get t.searches k) refl is
-    where
-      by : (o : Option Running) → get t.searches k ≡ o → MatchOption o (told ≡ Err NoSuchSearch) (λ r. IsToldOf (settled_of r.search) told) →
-          IsServed h who (request.Poll k) (told_as Answered told) h
-      by None none is = subst (λ (q : Result Answer Fault). IsServed h who (request.Poll k) (told_as Answered q) h) (sym is) (polled_nowhere none)
-      by (Some r) at is = polled_there r at told is

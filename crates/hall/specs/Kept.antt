@@ -1,7 +1,7 @@
 -- What the calls of a hall do to one of its searches.
 use Rattle.std.specs.Prelude.{◌≡◌, ◌≤◌, ◌+◌, ◌++◌, ◌∷◌, ◌⊎◌, ℕ, Bool, true, false, List, [], slice_get, Option, None, Some, Result, Ok, Err}
 use Rattle.std.specs.List.{Contains, AllByRecursion}
-use Rattle.std.specs.FinMap.{get, insert}
+use Rattle.std.specs.FinMap.{get}
 use Rattle.search.specs.Ending.{Settled, Members}
 use Rattle.search.specs.Search.{SearchState, Settles, IsOutstanding, IsSoundStage, settled_of}
 use Rattle.search.specs.Stage.{waiting_in, signals_in}
@@ -25,11 +25,6 @@ ListsMembers s = (names : List (List ℕ)) × (s ≡ Members names)
 abbrev pub IsToldOf : Settled → Result Answer Fault → Type 0
 IsToldOf s (Ok told) = told ≡ answer_of s
 IsToldOf s (Err f) = (f ≡ Memory) × ListsMembers s
-
--- the tenant's search of that number goes on so, and nothing else of the tenant changes
-abbrev pub GoesOn : (SearchState → SearchState → Type 0) → ℕ → Tenant → Tenant → Running → Type 0
-GoesOn goes k old new r =
-    (s : SearchState) × goes r.search s × (new ≡ record old { searches = insert old.searches k (record r { search = s }) })
 
 -- a search was driven, and what it has come to is told, where there is memory to tell it
 pub record DrivesTo (s : SearchState) (told : Result Answer Fault) (t : SearchState) : Type 0 where

@@ -14,8 +14,10 @@ use crate::calls::{Answer, Step, Stepped};
 use crate::faults::Fault;
 use crate::jobs::Job;
 use crate::lists::{Rows, Sights};
+use crate::opened::{drive, take, visit};
 use crate::picking::pick_seat;
 use crate::seats::Seat;
+use crate::stepping::{make, told_of};
 use indexmap::IndexMap;
 use names::Entity;
 use quotas::Limits;
@@ -134,10 +136,13 @@ impl Hall {
     pub fn poll(&self, who: Entity, number: u64) -> Result<Answer, Fault>
         ensures served { IsServed self.now who (request.Poll number) (told_as reply.Answered result) self.now }
     {
-        match self.tenants.get(&who) {
-            Some(seat) => seat.poll(number),
-            None => Err(Fault::NoTenant),
+        if !self.has(who) {
+            return Err(Fault::NoTenant);
         }
+        let Some(search) = self.search(who, number) else {
+            return Err(Fault::NoSuchSearch);
+        };
+        Ok(told_of(search)?)
     }
 
     /// Ends the tenant's search of the number. It takes no memory.
@@ -186,11 +191,13 @@ impl Hall {
     pub fn step(&mut self, step: Step) -> Stepped
         ensures { IsStepped self.old step result self.new }
     {
-        let who = step.who();
-        let Some(seat) = self.tenants.get_mut(&who) else {
+        let Some(seat) = self.tenants.get_mut(&step.who()) else {
             return Stepped::Gone;
         };
-        seat.step(step.number(), &step)
+        let Some(opened) = seat.searches.get_mut(&step.number()) else {
+            return Stepped::Gone;
+        };
+        make(&mut opened.search, &step)
     }
 
     /// Takes the waiting letter at a place of the tenant's search of the number, with what it is to be looked up in.
@@ -202,7 +209,10 @@ impl Hall {
         let Some(seat) = self.tenants.get_mut(&who) else {
             return Ok(None);
         };
-        Ok(seat.take(who, number, place)?)
+        let Some(opened) = seat.searches.get_mut(&number) else {
+            return Ok(None);
+        };
+        Ok(take(&mut opened.search, who, number, place)?)
     }
 
     /// Makes up to so many steps of the tenant's search of the number, one after another: delivers the oldest signal, or
@@ -224,7 +234,10 @@ impl Hall {
         let Some(seat) = self.tenants.get_mut(&who) else {
             return Ok(());
         };
-        Ok(seat.visit(who, number, most, held)?)
+        let Some(opened) = seat.searches.get_mut(&number) else {
+            return Ok(());
+        };
+        Ok(visit(&mut opened.search, who, number, most, held)?)
     }
 
     /// Finishes the letter of the job with what was looked up.
@@ -252,7 +265,10 @@ impl Hall {
         let Some(seat) = self.tenants.get_mut(&who) else {
             return Err(Fault::NoTenant);
         };
-        seat.drive(number)
+        let Some(opened) = seat.searches.get_mut(&number) else {
+            return Err(Fault::NoSuchSearch);
+        };
+        drive(&mut opened.search)
     }
 
     /// A step that goes on with a search, if anything waits or is under way. It begins at the tenant and the search that
@@ -269,10 +285,9 @@ impl Hall {
     pub fn search(&self, who: Entity, number: u64) -> Option<&Search>
         ensures { option_copied result ≡ option_map (λ r. r.search) (search_at self.now who number) }
     {
-        match self.tenants.get(&who) {
-            Some(seat) => seat.search(number),
-            None => None,
-        }
+        let seat = self.tenants.get(&who)?;
+        let opened = seat.searches.get(&number)?;
+        Some(&opened.search)
     }
 }
 

@@ -1,27 +1,24 @@
 //! A tenant's seat: its limits, and the searches that it has opened and not ended.
-ghost use Rattle.std.specs.Prelude.{◌≡◌, ◌+◌, ◌<◌, ◌≤◌, None, Some, length, unwrap_or, vec_len, vec_capacity};
-ghost use Rattle.std.specs.Prelude.{IfOk, IfErr, OnOk, OnErr, option_copied, option_map, Ok, Err, MatchOption};
+ghost use Rattle.std.specs.Prelude.{◌≡◌, ◌+◌, ◌<◌, None, Some, length, unwrap_or, option_map, IfOk, IfErr, OnOk, OnErr, MatchOption};
 ghost use Rattle.std.specs.FinMap.{get, insert, remove, len};
 ghost use Rattle.vaults.specs.Journal.{entries_of, vault, grant_count, refusal, view};
 ghost use Rattle.hall.specs.Fault.{vault_fault};
 ghost use Rattle.hall.specs.declared.faults.Fault.TheVariants as faults;
-ghost use Rattle.hall.specs.Steps.{just_opened, settled_of, StepsSearch};
+ghost use Rattle.hall.specs.Steps.{just_opened};
 ghost use Rattle.hall.specs.Account.{alter_refusal, seek_refusal};
 ghost use Rattle.hall.specs.Hall.{account, beginning, new_tenant};
-ghost use Rattle.hall.specs.Kept.{GoesOn, IsToldOf, DrivesTo, TakesJob, Visits, IsIdle, IsNextOf};
+ghost use Rattle.hall.specs.Kept.{IsIdle, IsNextOf};
 
-use crate::calls::{Answer, Step, Stepped};
+use crate::calls::Step;
 use crate::faults::Fault;
-use crate::jobs::Job;
-use crate::opened::{Opened, drive, take, visit};
+use crate::opened::Opened;
 use crate::picking::pick_search;
-use crate::stepping::{make, told_of};
 use indexmap::IndexMap;
 use names::Entity;
 use quotas::{Limits, Used};
 use search::{Query, Search};
 use snapshots::Snapshot;
-use std::alloc::{AllocError, Global};
+use std::alloc::Global;
 use std::marker::Model;
 use std::sync::Arc;
 use vaults::{Book, Change};
@@ -31,7 +28,7 @@ use vaults::{Book, Change};
 pub(crate) struct Seat {
     limits: Limits,
     opens: u64,
-    searches: IndexMap<u64, Opened>,
+    pub(crate) searches: IndexMap<u64, Opened>,
 }
 
 impl Model for Seat {
@@ -107,17 +104,6 @@ impl Seat {
         Ok(number)
     }
 
-    /// What the search of the number has come to.
-    pub(crate) fn poll(&self, number: u64) -> Result<Answer, Fault>
-        ensures { MatchOption (get self.now.searches number) (result ≡ Err faults.NoSuchSearch)
-            (λ r. IsToldOf (settled_of r.search) result) }
-    {
-        match self.search(number) {
-            Some(search) => Ok(told_of(search)?),
-            None => Err(Fault::NoSuchSearch),
-        }
-    }
-
     /// Ends the search of the number.
     pub(crate) fn end(&mut self, number: u64) -> Result<(), Fault>
         ensures found { OnOk result (get self.old.searches number ≡ None → ⊥) }
@@ -131,80 +117,11 @@ impl Seat {
         Ok(())
     }
 
-    /// Makes the step of the search of the number.
-    pub(crate) fn step(&mut self, number: u64, step: &Step) -> Stepped
-        ensures { MatchOption (get self.old.searches number) ((result ≡ Stepped.Gone) × (self.new ≡ self.old))
-            (GoesOn (λ s t. StepsSearch s step.now result t) number self.old self.new) }
-    {
-        let Some(opened) = self.searches.get_mut(&number) else {
-            return Stepped::Gone;
-        };
-        make(&mut opened.search, step)
-    }
-
-    /// Carries the search of the number on until nothing more of it can be, and tells what it has come to.
-    pub(crate) fn drive(&mut self, number: u64) -> Result<Answer, Fault>
-        ensures { MatchOption (get self.old.searches number) ((result ≡ Err faults.NoSuchSearch) × (self.new ≡ self.old))
-            (GoesOn (λ s t. DrivesTo s result t) number self.old self.new) }
-    {
-        let Some(opened) = self.searches.get_mut(&number) else {
-            return Err(Fault::NoSuchSearch);
-        };
-        drive(&mut opened.search)
-    }
-
-    /// Takes the waiting letter at a place of the search of the number, for this tenant.
-    pub(crate) fn take(
-        &mut self,
-        who: Entity,
-        number: u64,
-        place: u64,
-    ) -> Result<Option<Job>, AllocError>
-        ensures { MatchOption (get self.old.searches number) ((result ≡ Ok None) × (self.new ≡ self.old))
-            (GoesOn (λ s t. TakesJob who number place s result t) number self.old self.new) }
-    {
-        let Some(opened) = self.searches.get_mut(&number) else {
-            return Ok(None);
-        };
-        take(&mut opened.search, who, number, place)
-    }
-
-    /// Makes up to so many steps of the search of the number for this tenant, one after another.
-    pub(crate) fn visit(
-        &mut self,
-        who: Entity,
-        number: u64,
-        most: usize,
-        held: &mut Vec<Job>,
-    ) -> Result<(), AllocError>
-        requires space { vec_len held.old + most ≤ vec_capacity held.old }
-        ensures visited { MatchOption (get self.old.searches number)
-            ((held.new.items ≡ held.old.items) × (self.new ≡ self.old))
-            (GoesOn (λ s t. Visits who number most held.old.items held.new.items result s t) number self.old self.new) }
-        ensures bound { vec_len held.new ≤ vec_len held.old + most }
-        ensures capacity { vec_capacity held.new ≡ vec_capacity held.old }
-    {
-        let Some(opened) = self.searches.get_mut(&number) else {
-            return Ok(());
-        };
-        visit(&mut opened.search, who, number, most, held)
-    }
-
     /// The step that goes on with one of the searches. It begins at the search that the turn picks, and goes round.
     pub(crate) fn next(&self, who: Entity, turn: u64) -> Option<Step>
         ensures { MatchOption result (IsIdle self.now) (IsNextOf who self.now) }
     {
         pick_search(who, self.searches.as_slice(), turn)
-    }
-
-    /// The search of the number.
-    pub(crate) fn search(&self, number: u64) -> Option<&Search>
-        ensures { option_copied result ≡ option_map (λ r. r.search) (get self.now.searches number) }
-    {
-        match self.searches.get(&number) {
-            Some(opened) => Some(&opened.search),
-            None => None,
-        }
     }
 
     /// Whether the limits allow one search more.

@@ -1,15 +1,20 @@
-use Rattle.std.proofs.Common.{◌≡◌, Some, None, Err, ap, sym, subst}
-use Rattle.std.specs.FinMap.{get, from_entries}
+use Rattle.std.proofs.Common.{◌≡◌, ◌∙◌, Some, None, Result, Err, ap, refl, sym, subst}
+use Rattle.std.specs.FinMap.{get}
+use Rattle.hall.specs.declared.calls.answers.Answer.{Answer}
 use Rattle.hall.specs.declared.calls.replies.Reply.TheVariants.{Answered, Refused}
+use Rattle.hall.specs.declared.faults.Fault.{Fault}
 use Rattle.hall.specs.declared.faults.Fault.TheVariants.{NoTenant, NoSuchSearch}
 use Rattle.hall.specs.Run.{waits}
 use Rattle.hall.specs.Hall.{HallState, CarriesOut, IsSound, told_as, search_of}
 use Rattle.hall.specs.Visits.{SearchIsQuiet}
 use Rattle.hall.specs.Kept.{DrivesTo}
-use Rattle.hall.proofs.Placed.{put, went_on, tenant_at, tenant_put, table_left}
-use Rattle.hall.proofs.Carrying.{none_quiet, nobody_driven, drives_as, drives_quiet}
+use Rattle.hall.proofs.Seated.{tenant_of}
+use Rattle.hall.proofs.Placed.{hall_of, tenant_at, table_left}
+use Rattle.hall.proofs.Carrying.{Moves, none_quiet, nobody_driven, drives_as, drives_quiet}
+use Rattle.hall.proofs.Reached.{nowhere, there, stays}
 use Rattle.hall.proofs.laws.HallSound.{carried_sound}
 use Rattle.hall.proofs.registry.Hall.drive.Goals as goal
+use Rattle.hall.proofs.registry.Hall.drive.Goals.{In_default-get_mut, After-drive}
 
 pub invariant_of-self : goal.invariant_of-self
 invariant_of-self c =
@@ -17,49 +22,58 @@ invariant_of-self c =
 
 pub returns-in_default-clause-driven : goal.returns-in_default-clause-driven
 returns-in_default-clause-driven c =
-    let h : HallState = record { journal = c.self.inside.book; tenants = from_entries c.self.inside.tenants.entries } in
+    let h : HallState = hall_of c.self.inside.book c.self.inside.tenants in
     let nobody : get h.tenants c.args.who ≡ None = tenant_at c.self.inside.tenants.entries c.args.who _ c.in_default.ensures.value in
-    let stays = table_left c.self.inside.book c.self.inside.tenants _ c.get_mut.follows.holds-at-none in
-    rw (← c.self.view_is) (subst (CarriesOut h c.args.who (waits c.args.number) (Refused NoTenant)) (sym stays) (nobody_driven h c.args.who c.args.number nobody))
+    let left = table_left c.self.inside.book c.self.inside.tenants _ c.get_mut.follows.holds-at-none in
+    rw (← c.self.view_is) (subst (CarriesOut h c.args.who (waits c.args.number) (Refused NoTenant)) (sym left) (nobody_driven h c.args.who c.args.number nobody))
 
 pub returns-in_default-clause-quiet : goal.returns-in_default-clause-quiet
 returns-in_default-clause-quiet c =
-    let h : HallState = record { journal = c.self.inside.book; tenants = from_entries c.self.inside.tenants.entries } in
+    let h : HallState = hall_of c.self.inside.book c.self.inside.tenants in
     let nobody : get h.tenants c.args.who ≡ None = tenant_at c.self.inside.tenants.entries c.args.who _ c.in_default.ensures.value in
-    let stays = table_left c.self.inside.book c.self.inside.tenants _ c.get_mut.follows.holds-at-none in
-    subst (λ (g : HallState). SearchIsQuiet g c.args.who c.args.number) (sym stays) (none_quiet h c.args.who c.args.number (ap (search_of c.args.number) nobody))
+    let left = table_left c.self.inside.book c.self.inside.tenants _ c.get_mut.follows.holds-at-none in
+    subst (λ (g : HallState). SearchIsQuiet g c.args.who c.args.number) (sym left) (none_quiet h c.args.who c.args.number (ap (search_of c.args.number) nobody))
+
+-- where there is no such search
+left_alone : (c : In_default-get_mut) → Moves (hall_of c.self.inside.book c.self.inside.tenants) c.args.who c.args.number (◌≡◌ {A = Result Answer Fault} (Err NoSuchSearch) (Err NoSuchSearch)) (λ s t. DrivesTo s (Err NoSuchSearch) t) (hall_of c.self.inside.book (c.get_mut.follows.lender (tenant_of c.seat.inside.limits c.seat.inside.opens c.get_mut-2.follows.lender-at-none)))
+left_alone c =
+    nowhere c.self.inside.book c.self.inside.tenants _ c.args.who c.seat.inside.limits c.seat.inside.opens c.seat.inside.searches _ c.in-Some.seat.now c.args.number
+    c.in-Some.ensures.value c.seat.view_is (c.get_mut.follows.holds _) (◌≡◌ {A = Result Answer Fault} (Err NoSuchSearch) (Err NoSuchSearch)) (λ s t. DrivesTo s (Err NoSuchSearch) t)
+    (sym c.in_default-get_mut.ensures.value) c.get_mut-2.follows.holds-at-none refl
+
+pub invariant_of-self-in_default-get_mut : goal.invariant_of-self-in_default-get_mut
+invariant_of-self-in_default-get_mut c =
+    subst IsSound (sym (stays c.self.inside.book c.self.inside.tenants _ c.args.who c.seat.inside.limits c.seat.inside.opens c.seat.inside.searches _ c.in-Some.seat.now c.args.number
+    c.in-Some.ensures.value c.seat.view_is (c.get_mut.follows.holds _) c.get_mut-2.follows.holds-at-none)) c.self.invariant
+
+pub returns-in_default-get_mut-clause-driven : goal.returns-in_default-get_mut-clause-driven
+returns-in_default-get_mut-clause-driven c =
+    rw (← c.self.view_is)
+    (drives_as (hall_of c.self.inside.book c.self.inside.tenants) c.args.who c.args.number (hall_of c.self.inside.book (c.get_mut.follows.lender (tenant_of c.seat.inside.limits c.seat.inside.opens c.get_mut-2.follows.lender-at-none))) (tenant_of c.seat.inside.limits c.seat.inside.opens c.seat.inside.searches) (tenant_at c.self.inside.tenants.entries c.args.who _ c.in-Some.ensures.value ∙ ap Some (sym c.seat.view_is))
+    (Err NoSuchSearch) (left_alone c.before.before.before))
+
+pub returns-in_default-get_mut-clause-quiet : goal.returns-in_default-get_mut-clause-quiet
+returns-in_default-get_mut-clause-quiet c = drives_quiet (hall_of c.self.inside.book c.self.inside.tenants) c.args.who c.args.number (hall_of c.self.inside.book (c.get_mut.follows.lender (tenant_of c.seat.inside.limits c.seat.inside.opens c.get_mut-2.follows.lender-at-none))) (Err NoSuchSearch) (left_alone c.before.before.before)
+
+-- what becomes of the hall
+moves : (c : After-drive) → Moves (hall_of c.self.inside.book c.self.inside.tenants) c.args.who c.args.number (c.drive.result ≡ Err NoSuchSearch) (λ s t. DrivesTo s c.drive.result t) (hall_of c.self.inside.book (c.get_mut.follows.lender (tenant_of c.seat.inside.limits c.seat.inside.opens (c.get_mut-2.follows.lender (record { opened_at = c.opened.inside.opened_at; search = c.drive.new.search })))))
+moves c =
+    there c.self.inside.book c.self.inside.tenants _ c.args.who c.seat.inside.limits c.seat.inside.opens c.seat.inside.searches _ c.in-Some.seat.now c.args.number
+    c.in-Some.ensures.value c.seat.view_is (c.get_mut.follows.holds _) (c.drive.result ≡ Err NoSuchSearch) (λ s t. DrivesTo s c.drive.result t)
+    (record { opened_at = c.opened.inside.opened_at; search = c.opened.inside.search }) c.drive.new.search
+    (sym c.in-Some-get_mut.ensures.value ∙ ap Some (sym c.opened.view_is)) (c.get_mut-2.follows.holds (record { opened_at = c.opened.inside.opened_at; search = c.drive.new.search })) c.drive.ensures
+
+-- the wait that is carried out
+driven : (c : After-drive) → CarriesOut (hall_of c.self.inside.book c.self.inside.tenants) c.args.who (waits c.args.number) (told_as Answered c.drive.result) (hall_of c.self.inside.book (c.get_mut.follows.lender (tenant_of c.seat.inside.limits c.seat.inside.opens (c.get_mut-2.follows.lender (record { opened_at = c.opened.inside.opened_at; search = c.drive.new.search })))))
+driven c =
+    drives_as (hall_of c.self.inside.book c.self.inside.tenants) c.args.who c.args.number (hall_of c.self.inside.book (c.get_mut.follows.lender (tenant_of c.seat.inside.limits c.seat.inside.opens (c.get_mut-2.follows.lender (record { opened_at = c.opened.inside.opened_at; search = c.drive.new.search }))))) (tenant_of c.seat.inside.limits c.seat.inside.opens c.seat.inside.searches) (tenant_at c.self.inside.tenants.entries c.args.who _ c.in-Some.ensures.value ∙ ap Some (sym c.seat.view_is))
+    c.drive.result (moves c)
 
 pub invariant_of-self-2 : goal.invariant_of-self-2
-invariant_of-self-2 c =
-    let h : HallState = record { journal = c.self.inside.book; tenants = from_entries c.self.inside.tenants.entries } in
-    let here : get h.tenants c.args.who ≡ Some c.in-Some.seat.now = tenant_at c.self.inside.tenants.entries c.args.who _ c.in-Some.ensures.value in
-    let after =
-    tenant_put c.self.inside.book c.self.inside.tenants (c.get_mut.follows.lender c.drive.new.self) c.args.who c.in-Some.seat.now c.drive.new.self c.in-Some.ensures.value
-    (c.get_mut.follows.holds c.drive.new.self) in
-    subst IsSound (sym after)
-    (carried_sound h (put h c.args.who c.drive.new.self) c.args.who (waits c.args.number) (told_as Answered c.drive.result) c.self.invariant
-    (drives_as h c.args.who c.args.number (put h c.args.who c.drive.new.self) c.in-Some.seat.now here c.drive.result
-    (went_on h c.args.who c.in-Some.seat.now c.drive.new.self here c.args.number (c.drive.result ≡ Err NoSuchSearch) (λ s t. DrivesTo s c.drive.result t) c.drive.ensures)))
+invariant_of-self-2 c = carried_sound (hall_of c.self.inside.book c.self.inside.tenants) (hall_of c.self.inside.book (c.get_mut.follows.lender (tenant_of c.seat.inside.limits c.seat.inside.opens (c.get_mut-2.follows.lender (record { opened_at = c.opened.inside.opened_at; search = c.drive.new.search }))))) c.args.who (waits c.args.number) (told_as Answered c.drive.result) c.self.invariant (driven c.before.before)
 
 pub returns-clause-driven : goal.returns-clause-driven
-returns-clause-driven c =
-    let h : HallState = record { journal = c.self.inside.book; tenants = from_entries c.self.inside.tenants.entries } in
-    let here : get h.tenants c.args.who ≡ Some c.in-Some.seat.now = tenant_at c.self.inside.tenants.entries c.args.who _ c.in-Some.ensures.value in
-    let after =
-    tenant_put c.self.inside.book c.self.inside.tenants (c.get_mut.follows.lender c.drive.new.self) c.args.who c.in-Some.seat.now c.drive.new.self c.in-Some.ensures.value
-    (c.get_mut.follows.holds c.drive.new.self) in
-    rw (← c.self.view_is)
-    (subst (CarriesOut h c.args.who (waits c.args.number) (told_as Answered c.drive.result)) (sym after)
-    (drives_as h c.args.who c.args.number (put h c.args.who c.drive.new.self) c.in-Some.seat.now here c.drive.result
-    (went_on h c.args.who c.in-Some.seat.now c.drive.new.self here c.args.number (c.drive.result ≡ Err NoSuchSearch) (λ s t. DrivesTo s c.drive.result t) c.drive.ensures)))
+returns-clause-driven c = rw (← c.self.view_is) (driven c.before.before)
 
 pub returns-clause-quiet : goal.returns-clause-quiet
-returns-clause-quiet c =
-    let h : HallState = record { journal = c.self.inside.book; tenants = from_entries c.self.inside.tenants.entries } in
-    let here : get h.tenants c.args.who ≡ Some c.in-Some.seat.now = tenant_at c.self.inside.tenants.entries c.args.who _ c.in-Some.ensures.value in
-    let after =
-    tenant_put c.self.inside.book c.self.inside.tenants (c.get_mut.follows.lender c.drive.new.self) c.args.who c.in-Some.seat.now c.drive.new.self c.in-Some.ensures.value
-    (c.get_mut.follows.holds c.drive.new.self) in
-    subst (λ (g : HallState). SearchIsQuiet g c.args.who c.args.number) (sym after)
-    (drives_quiet h c.args.who c.args.number (put h c.args.who c.drive.new.self) c.drive.result
-    (went_on h c.args.who c.in-Some.seat.now c.drive.new.self here c.args.number (c.drive.result ≡ Err NoSuchSearch) (λ s t. DrivesTo s c.drive.result t) c.drive.ensures))
+returns-clause-quiet c = drives_quiet (hall_of c.self.inside.book c.self.inside.tenants) c.args.who c.args.number (hall_of c.self.inside.book (c.get_mut.follows.lender (tenant_of c.seat.inside.limits c.seat.inside.opens (c.get_mut-2.follows.lender (record { opened_at = c.opened.inside.opened_at; search = c.drive.new.search }))))) c.drive.result (moves c.before.before)

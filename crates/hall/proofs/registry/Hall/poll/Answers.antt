@@ -1,26 +1,21 @@
-use Rattle.std.proofs.Common.{◌≡◌, Some, subst}
-use Rattle.std.specs.FinMap.{get, from_entries}
-use Rattle.hall.specs.declared.calls.requests.Request.TheVariants.{Poll}
-use Rattle.hall.specs.declared.calls.replies.Reply.TheVariants.{Answered, Refused}
-use Rattle.hall.specs.declared.faults.Fault.TheVariants.{NoTenant}
-use Rattle.hall.specs.Hall.{HallState, IsServed, told_as}
-use Rattle.hall.proofs.Polled.{nobody_refused, polled}
-use Rattle.hall.proofs.Placed.{tenant_at}
+use Rattle.std.proofs.Common.{◌∙◌, sym, Ok, Err}
+use Rattle.std.proofs.lemmas.Result.{err_from_is_err_and}
+use Rattle.hall.proofs.Viewed.{nothing_polled, poll_told}
 use Rattle.hall.proofs.registry.Hall.poll.Goals as goal
 
-pub returns-in-Some : goal.returns-in-Some
-returns-in-Some c =
-    let h : HallState = record { journal = c.self.inside.book; tenants = from_entries c.self.inside.tenants.entries } in
-    let here : get h.tenants c.args.who ≡ Some c.in-Some.seat.now = tenant_at c.self.inside.tenants.entries c.args.who _ c.in-Some.ensures.value in
-    record {
-      served = subst (λ (g : HallState). IsServed g c.args.who (Poll c.args.number) (told_as Answered c.poll.result) g) c.self.view_is
-          (polled h c.args.who c.args.number c.in-Some.seat.now here c.poll.result c.poll.ensures);
+pub returns-in_default : goal.returns-in_default
+returns-in_default c = record { served = nothing_polled c.args.self.now c.args.who (sym c.has.ensures ∙ c.if-not-has.false) c.args.number c.in_default.ensures }
+
+pub returns-in_err-told_of : goal.returns-in_err-told_of
+returns-in_err-told_of c =
+    let p = err_from_is_err_and c.from_residual.result c.from_residual.ensures.1 in
+    rw p.1 record {
+      served = poll_told c.args.self.now c.args.who (sym c.has.ensures ∙ c.if-not-has.false) c.args.number c.in-Some.search.now c.in-Some.ensures
+          (Err p.0) (p.2, c.in_err-told_of.ensures.memory);
     }
 
-pub returns-in-None : goal.returns-in-None
-returns-in-None c =
-    let h : HallState = record { journal = c.self.inside.book; tenants = from_entries c.self.inside.tenants.entries } in
-    record {
-      served = subst (λ (g : HallState). IsServed g c.args.who (Poll c.args.number) (Refused NoTenant) g) c.self.view_is
-          (nobody_refused h c.args.who (Poll c.args.number) (tenant_at c.self.inside.tenants.entries c.args.who _ c.in-None.ensures.value));
-    }
+pub returns : goal.returns
+returns c = record {
+  served = poll_told c.args.self.now c.args.who (sym c.has.ensures ∙ c.if-not-has.false) c.args.number c.in-Some.search.now c.in-Some.ensures
+      (Ok c.in_ok-told_of.field-0) c.in_ok-told_of.ensures.told;
+}

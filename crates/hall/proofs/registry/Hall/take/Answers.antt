@@ -1,15 +1,18 @@
-use Rattle.std.proofs.Common.{◌≡◌, ◌∙◌, Option, Some, None, Result, Ok, refl, sym, subst}
-use Rattle.std.specs.FinMap.{get, from_entries}
+use Rattle.std.proofs.Common.{◌≡◌, ◌∙◌, Option, Some, None, Result, Ok, refl, sym, subst, ap}
+use Rattle.std.specs.FinMap.{get}
 use Rattle.std.proofs.lemmas.Result.{err_from_is_err_and}
 use Rattle.std.specs.declared.alloc.AllocError.{AllocError}
 use Rattle.hall.specs.declared.calls.steps.Step.TheVariants.{Take}
 use Rattle.hall.specs.Hall.{HallState, IsSound}
 use Rattle.hall.specs.Visits.{TakenLetter, IsTaken}
 use Rattle.hall.specs.Kept.{TakesJob}
-use Rattle.hall.proofs.Placed.{put, went_on, tenant_at, tenant_put, table_left}
-use Rattle.hall.proofs.Carrying.{nobody_moves, takes_as, takes_nothing}
+use Rattle.hall.proofs.Seated.{tenant_of}
+use Rattle.hall.proofs.Placed.{hall_of, tenant_at, table_left}
+use Rattle.hall.proofs.Carrying.{Moves, nobody_moves, takes_as, takes_nothing}
+use Rattle.hall.proofs.Reached.{nowhere, there, stays}
 use Rattle.hall.proofs.laws.HallSound.{stepped_sound}
 use Rattle.hall.proofs.registry.Hall.take.Goals as goal
+use Rattle.hall.proofs.registry.Hall.take.Goals.{After-branch-take, In_ok-take}
 
 pub invariant_of-self : goal.invariant_of-self
 invariant_of-self c =
@@ -17,61 +20,50 @@ invariant_of-self c =
 
 pub returns-in_default-clause-taken : goal.returns-in_default-clause-taken
 returns-in_default-clause-taken c =
-    let h : HallState = record { journal = c.self.inside.book; tenants = from_entries c.self.inside.tenants.entries } in
+    let h : HallState = hall_of c.self.inside.book c.self.inside.tenants in
     let nobody : get h.tenants c.args.who ≡ None = tenant_at c.self.inside.tenants.entries c.args.who _ c.in_default.ensures.value in
-    let stays = table_left c.self.inside.book c.self.inside.tenants _ c.get_mut.follows.holds-at-none in
     rw (← c.self.view_is)
-    (subst (IsTaken h c.args.who c.args.number c.args.place None) (sym stays)
-    (takes_as h c.args.who c.args.number h {E = AllocError} c.args.place (Ok None) None refl
-    (nobody_moves h c.args.who c.args.number (◌≡◌ {A = Result (Option TakenLetter) AllocError} (Ok None) (Ok None))
-    (λ s t. TakesJob {E = AllocError} c.args.who c.args.number c.args.place s (Ok None) t) h nobody refl refl)))
+    (takes_as h c.args.who c.args.number _ {E = AllocError} c.args.place (Ok None) None refl
+    (nobody_moves h c.args.who c.args.number (◌≡◌ {A = Result (Option TakenLetter) AllocError} (Ok None) (Ok None)) (λ s t. TakesJob {E = AllocError} c.args.who c.args.number c.args.place s (Ok None) t) _ nobody refl
+    (table_left c.self.inside.book c.self.inside.tenants _ c.get_mut.follows.holds-at-none)))
+
+pub invariant_of-self-in_default-get_mut : goal.invariant_of-self-in_default-get_mut
+invariant_of-self-in_default-get_mut c =
+    subst IsSound (sym (stays c.self.inside.book c.self.inside.tenants _ c.args.who c.seat.inside.limits c.seat.inside.opens c.seat.inside.searches _ c.in-Some.seat.now c.args.number
+    c.in-Some.ensures.value c.seat.view_is (c.get_mut.follows.holds _) c.get_mut-2.follows.holds-at-none)) c.self.invariant
+
+pub returns-in_default-get_mut-clause-taken : goal.returns-in_default-get_mut-clause-taken
+returns-in_default-get_mut-clause-taken c =
+    rw (← c.self.view_is)
+    (takes_as (hall_of c.self.inside.book c.self.inside.tenants) c.args.who c.args.number _ {E = AllocError} c.args.place (Ok None) None refl
+    (nowhere c.self.inside.book c.self.inside.tenants _ c.args.who c.seat.inside.limits c.seat.inside.opens c.seat.inside.searches _ c.in-Some.seat.now c.args.number
+    c.in-Some.ensures.value c.seat.view_is (c.get_mut.follows.holds _) (◌≡◌ {A = Result (Option TakenLetter) AllocError} (Ok None) (Ok None)) (λ s t. TakesJob {E = AllocError} c.args.who c.args.number c.args.place s (Ok None) t)
+    (sym c.in_default-get_mut.ensures.value) c.get_mut-2.follows.holds-at-none refl))
+
+-- what becomes of the hall
+moves : (c : After-branch-take) → Moves (hall_of c.self.inside.book c.self.inside.tenants) c.args.who c.args.number (c.take.result ≡ Ok None) (λ s t. TakesJob c.args.who c.args.number c.args.place s c.take.result t) (hall_of c.self.inside.book (c.get_mut.follows.lender (tenant_of c.seat.inside.limits c.seat.inside.opens (c.get_mut-2.follows.lender (record { opened_at = c.opened.inside.opened_at; search = c.take.new.search })))))
+moves c =
+    there c.self.inside.book c.self.inside.tenants _ c.args.who c.seat.inside.limits c.seat.inside.opens c.seat.inside.searches _ c.in-Some.seat.now c.args.number
+    c.in-Some.ensures.value c.seat.view_is (c.get_mut.follows.holds _) (c.take.result ≡ Ok None) (λ s t. TakesJob c.args.who c.args.number c.args.place s c.take.result t)
+    (record { opened_at = c.opened.inside.opened_at; search = c.opened.inside.search }) c.take.new.search
+    (sym c.in-Some-get_mut.ensures.value ∙ ap Some (sym c.opened.view_is)) (c.get_mut-2.follows.holds (record { opened_at = c.opened.inside.opened_at; search = c.take.new.search })) c.take.ensures
 
 pub invariant_of-self-in_err-take : goal.invariant_of-self-in_err-take
 invariant_of-self-in_err-take c =
-    let h : HallState = record { journal = c.self.inside.book; tenants = from_entries c.self.inside.tenants.entries } in
-    let here : get h.tenants c.args.who ≡ Some c.in-Some.seat.now = tenant_at c.self.inside.tenants.entries c.args.who _ c.in-Some.ensures.value in
-    let after =
-    tenant_put c.self.inside.book c.self.inside.tenants (c.get_mut.follows.lender c.take.new.self) c.args.who c.in-Some.seat.now c.take.new.self c.in-Some.ensures.value
-    (c.get_mut.follows.holds c.take.new.self) in
-    subst IsSound (sym (after
-    ∙ (takes_nothing h c.args.who c.args.number (put h c.args.who c.take.new.self) c.args.place c.take.result _ c.in_err-take.was
-    (went_on h c.args.who c.in-Some.seat.now c.take.new.self here c.args.number (c.take.result ≡ Ok None) (λ s t. TakesJob c.args.who c.args.number c.args.place s c.take.result t) c.take.ensures)))) c.self.invariant
+    subst IsSound (sym (takes_nothing (hall_of c.self.inside.book c.self.inside.tenants) c.args.who c.args.number (hall_of c.self.inside.book (c.get_mut.follows.lender (tenant_of c.seat.inside.limits c.seat.inside.opens (c.get_mut-2.follows.lender (record { opened_at = c.opened.inside.opened_at; search = c.take.new.search }))))) c.args.place c.take.result _ c.in_err-take.was (moves c.before.before))) c.self.invariant
 
 pub returns-in_err-take-clause-unchanged : goal.returns-in_err-take-clause-unchanged
 returns-in_err-take-clause-unchanged c =
     let p = err_from_is_err_and c.from_residual.result c.from_residual.ensures.1 in
-    let h : HallState = record { journal = c.self.inside.book; tenants = from_entries c.self.inside.tenants.entries } in
-    let here : get h.tenants c.args.who ≡ Some c.in-Some.seat.now = tenant_at c.self.inside.tenants.entries c.args.who _ c.in-Some.ensures.value in
-    let after =
-    tenant_put c.self.inside.book c.self.inside.tenants (c.get_mut.follows.lender c.take.new.self) c.args.who c.in-Some.seat.now c.take.new.self c.in-Some.ensures.value
-    (c.get_mut.follows.holds c.take.new.self) in
-    rw p.1
-    (after
-    ∙ (takes_nothing h c.args.who c.args.number (put h c.args.who c.take.new.self) c.args.place c.take.result _ c.in_err-take.was
-    (went_on h c.args.who c.in-Some.seat.now c.take.new.self here c.args.number (c.take.result ≡ Ok None) (λ s t. TakesJob c.args.who c.args.number c.args.place s c.take.result t) c.take.ensures))
-    ∙ c.self.view_is)
+    rw p.1 (takes_nothing (hall_of c.self.inside.book c.self.inside.tenants) c.args.who c.args.number (hall_of c.self.inside.book (c.get_mut.follows.lender (tenant_of c.seat.inside.limits c.seat.inside.opens (c.get_mut-2.follows.lender (record { opened_at = c.opened.inside.opened_at; search = c.take.new.search }))))) c.args.place c.take.result _ c.in_err-take.was (moves c.before.before) ∙ c.self.view_is)
+
+-- the letter that is taken
+taken : (c : In_ok-take) → IsTaken (hall_of c.self.inside.book c.self.inside.tenants) c.args.who c.args.number c.args.place c.in_ok-take.field-0 (hall_of c.self.inside.book (c.get_mut.follows.lender (tenant_of c.seat.inside.limits c.seat.inside.opens (c.get_mut-2.follows.lender (record { opened_at = c.opened.inside.opened_at; search = c.take.new.search })))))
+taken c = takes_as (hall_of c.self.inside.book c.self.inside.tenants) c.args.who c.args.number (hall_of c.self.inside.book (c.get_mut.follows.lender (tenant_of c.seat.inside.limits c.seat.inside.opens (c.get_mut-2.follows.lender (record { opened_at = c.opened.inside.opened_at; search = c.take.new.search }))))) c.args.place c.take.result c.in_ok-take.field-0 c.in_ok-take.was (moves c.before)
 
 pub invariant_of-self-2 : goal.invariant_of-self-2
 invariant_of-self-2 c =
-    let h : HallState = record { journal = c.self.inside.book; tenants = from_entries c.self.inside.tenants.entries } in
-    let here : get h.tenants c.args.who ≡ Some c.in-Some.seat.now = tenant_at c.self.inside.tenants.entries c.args.who _ c.in-Some.ensures.value in
-    let after =
-    tenant_put c.self.inside.book c.self.inside.tenants (c.get_mut.follows.lender c.take.new.self) c.args.who c.in-Some.seat.now c.take.new.self c.in-Some.ensures.value
-    (c.get_mut.follows.holds c.take.new.self) in
-    let taken =
-    (takes_as h c.args.who c.args.number (put h c.args.who c.take.new.self) c.args.place c.take.result c.in_ok-take.field-0 c.in_ok-take.was
-    (went_on h c.args.who c.in-Some.seat.now c.take.new.self here c.args.number (c.take.result ≡ Ok None) (λ s t. TakesJob c.args.who c.args.number c.args.place s c.take.result t) c.take.ensures)) in
-    subst IsSound (sym after)
-    (stepped_sound h (put h c.args.who c.take.new.self) (Take c.args.who c.args.number c.args.place) taken.0 c.self.invariant taken.1)
+    stepped_sound (hall_of c.self.inside.book c.self.inside.tenants) (hall_of c.self.inside.book (c.get_mut.follows.lender (tenant_of c.seat.inside.limits c.seat.inside.opens (c.get_mut-2.follows.lender (record { opened_at = c.opened.inside.opened_at; search = c.take.new.search }))))) (Take c.args.who c.args.number c.args.place) (taken c).0 c.self.invariant (taken c).1
 
 pub returns-clause-taken : goal.returns-clause-taken
-returns-clause-taken c =
-    let h : HallState = record { journal = c.self.inside.book; tenants = from_entries c.self.inside.tenants.entries } in
-    let here : get h.tenants c.args.who ≡ Some c.in-Some.seat.now = tenant_at c.self.inside.tenants.entries c.args.who _ c.in-Some.ensures.value in
-    let after =
-    tenant_put c.self.inside.book c.self.inside.tenants (c.get_mut.follows.lender c.take.new.self) c.args.who c.in-Some.seat.now c.take.new.self c.in-Some.ensures.value
-    (c.get_mut.follows.holds c.take.new.self) in
-    rw (← c.self.view_is)
-    (subst (IsTaken h c.args.who c.args.number c.args.place c.in_ok-take.field-0) (sym after)
-    (takes_as h c.args.who c.args.number (put h c.args.who c.take.new.self) c.args.place c.take.result c.in_ok-take.field-0 c.in_ok-take.was
-    (went_on h c.args.who c.in-Some.seat.now c.take.new.self here c.args.number (c.take.result ≡ Ok None) (λ s t. TakesJob c.args.who c.args.number c.args.place s c.take.result t) c.take.ensures)))
+returns-clause-taken c = rw (← c.self.view_is) (taken c)

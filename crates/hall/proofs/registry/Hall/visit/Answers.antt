@@ -1,13 +1,16 @@
-use Rattle.std.proofs.Common.{◌≡◌, Some, None, Ok, ap, sym, subst}
-use Rattle.std.specs.FinMap.{get, from_entries}
+use Rattle.std.proofs.Common.{◌≡◌, ◌∙◌, Some, None, Ok, ap, sym, subst}
+use Rattle.std.specs.FinMap.{get}
 use Rattle.hall.specs.declared.faults.Fault.{Fault}
 use Rattle.hall.specs.Hall.{HallState, IsSound, search_of}
 use Rattle.hall.specs.Visits.{IsVisited}
 use Rattle.hall.specs.Kept.{Visits}
-use Rattle.hall.proofs.Placed.{put, went_on, tenant_at, tenant_put, table_left}
-use Rattle.hall.proofs.Carrying.{none_quiet}
+use Rattle.hall.proofs.Seated.{tenant_of}
+use Rattle.hall.proofs.Placed.{hall_of, tenant_at, table_left}
+use Rattle.hall.proofs.Carrying.{Moves, none_quiet}
+use Rattle.hall.proofs.Reached.{nobody_there, there, stays}
 use Rattle.hall.proofs.Visiting.{no_visit, visits_as, visits_soundly, visited_well, visited_in_part}
 use Rattle.hall.proofs.registry.Hall.visit.Goals as goal
+use Rattle.hall.proofs.registry.Hall.visit.Goals.{After-branch-visit}
 
 pub invariant_of-self : goal.invariant_of-self
 invariant_of-self c =
@@ -15,57 +18,57 @@ invariant_of-self c =
 
 pub returns-in_default-clause-visited : goal.returns-in_default-clause-visited
 returns-in_default-clause-visited c =
-    let h : HallState = record { journal = c.self.inside.book; tenants = from_entries c.self.inside.tenants.entries } in
+    let h : HallState = hall_of c.self.inside.book c.self.inside.tenants in
     let nobody : get h.tenants c.args.who ≡ None = tenant_at c.self.inside.tenants.entries c.args.who _ c.in_default.ensures.value in
-    let stays = table_left c.self.inside.book c.self.inside.tenants _ c.get_mut.follows.holds-at-none in
+    let left = table_left c.self.inside.book c.self.inside.tenants _ c.get_mut.follows.holds-at-none in
     rw (← c.self.view_is)
-    (subst (λ (g : HallState). IsVisited {E = Fault} c.args.who c.args.number c.args.most h c.args.held.now.items (Ok tt) g c.args.held.now.items) (sym stays)
+    (subst (λ (g : HallState). IsVisited {E = Fault} c.args.who c.args.number c.args.most h c.args.held.now.items (Ok tt) g c.args.held.now.items) (sym left)
     (no_visit {E = Fault} c.args.who c.args.number c.args.most c.args.held.now.items h (Ok tt) (none_quiet h c.args.who c.args.number (ap (search_of c.args.number) nobody))))
 
+pub invariant_of-self-in_default-get_mut : goal.invariant_of-self-in_default-get_mut
+invariant_of-self-in_default-get_mut c =
+    subst IsSound (sym (stays c.self.inside.book c.self.inside.tenants _ c.args.who c.seat.inside.limits c.seat.inside.opens c.seat.inside.searches _ c.in-Some.seat.now c.args.number
+    c.in-Some.ensures.value c.seat.view_is (c.get_mut.follows.holds _) c.get_mut-2.follows.holds-at-none)) c.self.invariant
+
+pub returns-in_default-get_mut-clause-visited : goal.returns-in_default-get_mut-clause-visited
+returns-in_default-get_mut-clause-visited c =
+    let h : HallState = hall_of c.self.inside.book c.self.inside.tenants in
+    rw (← c.self.view_is)
+    (subst (λ (g : HallState). IsVisited {E = Fault} c.args.who c.args.number c.args.most h c.args.held.now.items (Ok tt) g c.args.held.now.items)
+    (sym (stays c.self.inside.book c.self.inside.tenants _ c.args.who c.seat.inside.limits c.seat.inside.opens c.seat.inside.searches _ c.in-Some.seat.now c.args.number
+    c.in-Some.ensures.value c.seat.view_is (c.get_mut.follows.holds _) c.get_mut-2.follows.holds-at-none))
+    (no_visit {E = Fault} c.args.who c.args.number c.args.most c.args.held.now.items h (Ok tt)
+    (none_quiet h c.args.who c.args.number
+    (nobody_there c.self.inside.book c.self.inside.tenants _ c.args.who c.seat.inside.limits c.seat.inside.opens c.seat.inside.searches c.get_mut-2.follows.lender-at-none c.in-Some.seat.now c.args.number
+    c.in-Some.ensures.value c.seat.view_is (c.get_mut.follows.holds _) (sym c.in_default-get_mut.ensures.value)))))
+
+-- what becomes of the hall
+moves : (c : After-branch-visit) → Moves (hall_of c.self.inside.book c.self.inside.tenants) c.args.who c.args.number (c.visit.new.held.items ≡ c.args.held.now.items) (λ s t. Visits c.args.who c.args.number c.args.most c.args.held.now.items c.visit.new.held.items c.visit.result s t) (hall_of c.self.inside.book (c.get_mut.follows.lender (tenant_of c.seat.inside.limits c.seat.inside.opens (c.get_mut-2.follows.lender (record { opened_at = c.opened.inside.opened_at; search = c.visit.new.search })))))
+moves c =
+    there c.self.inside.book c.self.inside.tenants _ c.args.who c.seat.inside.limits c.seat.inside.opens c.seat.inside.searches _ c.in-Some.seat.now c.args.number
+    c.in-Some.ensures.value c.seat.view_is (c.get_mut.follows.holds _) (c.visit.new.held.items ≡ c.args.held.now.items) (λ s t. Visits c.args.who c.args.number c.args.most c.args.held.now.items c.visit.new.held.items c.visit.result s t)
+    (record { opened_at = c.opened.inside.opened_at; search = c.opened.inside.search }) c.visit.new.search
+    (sym c.in-Some-get_mut.ensures.value ∙ ap Some (sym c.opened.view_is)) (c.get_mut-2.follows.holds (record { opened_at = c.opened.inside.opened_at; search = c.visit.new.search })) c.visit.ensures.visited
+
+sound : (c : After-branch-visit) → IsSound (hall_of c.self.inside.book (c.get_mut.follows.lender (tenant_of c.seat.inside.limits c.seat.inside.opens (c.get_mut-2.follows.lender (record { opened_at = c.opened.inside.opened_at; search = c.visit.new.search })))))
+sound c = visits_soundly (hall_of c.self.inside.book c.self.inside.tenants) c.args.who c.args.number c.args.most c.args.held.now.items c.visit.new.held.items c.visit.result (hall_of c.self.inside.book (c.get_mut.follows.lender (tenant_of c.seat.inside.limits c.seat.inside.opens (c.get_mut-2.follows.lender (record { opened_at = c.opened.inside.opened_at; search = c.visit.new.search }))))) (moves c) c.self.invariant
+
+-- the visit that is made
+made : (c : After-branch-visit) → IsVisited c.args.who c.args.number c.args.most (hall_of c.self.inside.book c.self.inside.tenants) c.args.held.now.items c.visit.result (hall_of c.self.inside.book (c.get_mut.follows.lender (tenant_of c.seat.inside.limits c.seat.inside.opens (c.get_mut-2.follows.lender (record { opened_at = c.opened.inside.opened_at; search = c.visit.new.search }))))) c.visit.new.held.items
+made c = visits_as (hall_of c.self.inside.book c.self.inside.tenants) c.args.who c.args.number c.args.most c.args.held.now.items c.visit.new.held.items c.visit.result (hall_of c.self.inside.book (c.get_mut.follows.lender (tenant_of c.seat.inside.limits c.seat.inside.opens (c.get_mut-2.follows.lender (record { opened_at = c.opened.inside.opened_at; search = c.visit.new.search }))))) (moves c)
+
 pub invariant_of-self-in_err-visit : goal.invariant_of-self-in_err-visit
-invariant_of-self-in_err-visit c =
-    let h : HallState = record { journal = c.self.inside.book; tenants = from_entries c.self.inside.tenants.entries } in
-    let here : get h.tenants c.args.who ≡ Some c.in-Some.seat.now = tenant_at c.self.inside.tenants.entries c.args.who _ c.in-Some.ensures.value in
-    let after =
-    tenant_put c.self.inside.book c.self.inside.tenants (c.get_mut.follows.lender c.visit.new.self) c.args.who c.in-Some.seat.now c.visit.new.self c.in-Some.ensures.value
-    (c.get_mut.follows.holds c.visit.new.self) in
-    subst IsSound (sym after)
-    (visits_soundly h c.args.who c.args.number c.args.most c.args.held.now.items c.visit.new.held.items c.visit.result (put h c.args.who c.visit.new.self)
-    (went_on h c.args.who c.in-Some.seat.now c.visit.new.self here c.args.number (c.visit.new.held.items ≡ c.args.held.now.items) (λ s t. Visits c.args.who c.args.number c.args.most c.args.held.now.items c.visit.new.held.items c.visit.result s t) c.visit.ensures.visited) c.self.invariant)
+invariant_of-self-in_err-visit c = sound c.before.before
 
 pub returns-in_err-visit-clause-visited : goal.returns-in_err-visit-clause-visited
 returns-in_err-visit-clause-visited c =
-    let h : HallState = record { journal = c.self.inside.book; tenants = from_entries c.self.inside.tenants.entries } in
-    let here : get h.tenants c.args.who ≡ Some c.in-Some.seat.now = tenant_at c.self.inside.tenants.entries c.args.who _ c.in-Some.ensures.value in
-    let after =
-    tenant_put c.self.inside.book c.self.inside.tenants (c.get_mut.follows.lender c.visit.new.self) c.args.who c.in-Some.seat.now c.visit.new.self c.in-Some.ensures.value
-    (c.get_mut.follows.holds c.visit.new.self) in
     rw (← c.self.view_is)
-    (subst (λ (g : HallState). IsVisited {E = Fault} c.args.who c.args.number c.args.most h c.args.held.now.items c.from_residual.result g c.visit.new.held.items) (sym after)
-    (visited_in_part c.args.who c.args.number c.args.most h c.args.held.now.items c.visit.result (put h c.args.who c.visit.new.self) c.visit.new.held.items
-    (visits_as h c.args.who c.args.number c.args.most c.args.held.now.items c.visit.new.held.items c.visit.result (put h c.args.who c.visit.new.self)
-    (went_on h c.args.who c.in-Some.seat.now c.visit.new.self here c.args.number (c.visit.new.held.items ≡ c.args.held.now.items) (λ s t. Visits c.args.who c.args.number c.args.most c.args.held.now.items c.visit.new.held.items c.visit.result s t) c.visit.ensures.visited)) c.from_residual.result c.from_residual.ensures.0))
+    (visited_in_part c.args.who c.args.number c.args.most (hall_of c.self.inside.book c.self.inside.tenants) c.args.held.now.items c.visit.result (hall_of c.self.inside.book (c.get_mut.follows.lender (tenant_of c.seat.inside.limits c.seat.inside.opens (c.get_mut-2.follows.lender (record { opened_at = c.opened.inside.opened_at; search = c.visit.new.search }))))) c.visit.new.held.items (made c.before.before) c.from_residual.result c.from_residual.ensures.0)
 
 pub invariant_of-self-2 : goal.invariant_of-self-2
-invariant_of-self-2 c =
-    let h : HallState = record { journal = c.self.inside.book; tenants = from_entries c.self.inside.tenants.entries } in
-    let here : get h.tenants c.args.who ≡ Some c.in-Some.seat.now = tenant_at c.self.inside.tenants.entries c.args.who _ c.in-Some.ensures.value in
-    let after =
-    tenant_put c.self.inside.book c.self.inside.tenants (c.get_mut.follows.lender c.visit.new.self) c.args.who c.in-Some.seat.now c.visit.new.self c.in-Some.ensures.value
-    (c.get_mut.follows.holds c.visit.new.self) in
-    subst IsSound (sym after)
-    (visits_soundly h c.args.who c.args.number c.args.most c.args.held.now.items c.visit.new.held.items c.visit.result (put h c.args.who c.visit.new.self)
-    (went_on h c.args.who c.in-Some.seat.now c.visit.new.self here c.args.number (c.visit.new.held.items ≡ c.args.held.now.items) (λ s t. Visits c.args.who c.args.number c.args.most c.args.held.now.items c.visit.new.held.items c.visit.result s t) c.visit.ensures.visited) c.self.invariant)
+invariant_of-self-2 c = sound c.before
 
 pub returns-clause-visited : goal.returns-clause-visited
 returns-clause-visited c =
-    let h : HallState = record { journal = c.self.inside.book; tenants = from_entries c.self.inside.tenants.entries } in
-    let here : get h.tenants c.args.who ≡ Some c.in-Some.seat.now = tenant_at c.self.inside.tenants.entries c.args.who _ c.in-Some.ensures.value in
-    let after =
-    tenant_put c.self.inside.book c.self.inside.tenants (c.get_mut.follows.lender c.visit.new.self) c.args.who c.in-Some.seat.now c.visit.new.self c.in-Some.ensures.value
-    (c.get_mut.follows.holds c.visit.new.self) in
     rw (← c.self.view_is)
-    (subst (λ (g : HallState). IsVisited {E = Fault} c.args.who c.args.number c.args.most h c.args.held.now.items (Ok tt) g c.visit.new.held.items) (sym after)
-    (visited_well c.args.who c.args.number c.args.most h c.args.held.now.items c.visit.result (put h c.args.who c.visit.new.self) c.visit.new.held.items
-    (visits_as h c.args.who c.args.number c.args.most c.args.held.now.items c.visit.new.held.items c.visit.result (put h c.args.who c.visit.new.self)
-    (went_on h c.args.who c.in-Some.seat.now c.visit.new.self here c.args.number (c.visit.new.held.items ≡ c.args.held.now.items) (λ s t. Visits c.args.who c.args.number c.args.most c.args.held.now.items c.visit.new.held.items c.visit.result s t) c.visit.ensures.visited)) Fault c.in_ok-visit.was))
+    (visited_well c.args.who c.args.number c.args.most (hall_of c.self.inside.book c.self.inside.tenants) c.args.held.now.items c.visit.result (hall_of c.self.inside.book (c.get_mut.follows.lender (tenant_of c.seat.inside.limits c.seat.inside.opens (c.get_mut-2.follows.lender (record { opened_at = c.opened.inside.opened_at; search = c.visit.new.search }))))) c.visit.new.held.items (made c.before) Fault c.in_ok-visit.was)

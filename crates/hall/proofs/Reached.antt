@@ -1,0 +1,58 @@
+-- A search that is reached through the table of tenants and the table of its tenant's searches.
+use Rattle.std.proofs.Common.{◌≡◌, ◌∙◌, ◌==◌, ℕ, List, ap, sym, Some, None}
+use Rattle.std.specs.FinMap.{get, insert, from_entries}
+use Rattle.std.specs.Cmp.{unsigned_tied}
+use Rattle.names.specs.Name.{name_order, is_same}
+use Rattle.indexmap.specs.IndexMap.{IndexMap, WritesThrough}
+use Rattle.indexmap.specs.IndexMap as table
+use Rattle.quotas.specs.Quota.{Quota}
+use Rattle.vaults.specs.declared.changes.Entry.{Entry}
+use Rattle.search.specs.Search.{SearchState}
+use Rattle.hall.specs.Hall.{Running, Tenant, search_of, search_at}
+use Rattle.hall.proofs.Maps.{numbers_exact}
+use Rattle.hall.proofs.Indexed.{written}
+use Rattle.hall.proofs.Seated.{tenant_of, search_found}
+use Rattle.hall.proofs.Placed.{hall_of, put, put_again, put_changed, tenant_at, tenant_put}
+use Rattle.hall.proofs.Carrying.{Moves, moves_at}
+
+module _ {S Z : Type 0} (journal : List Entry) (m n : IndexMap (List ℕ) Tenant S) (who : List ℕ) (limits : Quota) (opens : ℕ)
+    (sm sn : IndexMap ℕ Running Z) (t : Tenant) (k : ℕ)
+    (found : Some t ≡ table.get is_same m who) (seat : tenant_of limits opens sm ≡ t)
+    (writes : WritesThrough is_same (is_same who) m (tenant_of limits opens sn) n) where
+  here : get (from_entries {R = name_order} m.entries) who ≡ Some (tenant_of limits opens sm)
+  here = tenant_at m.entries who _ found ∙ ap Some (sym seat)
+
+  after : hall_of journal n ≡ put (hall_of journal m) who (tenant_of limits opens sn)
+  after = tenant_put journal m n who t (tenant_of limits opens sn) found writes
+
+  -- a table that is left as it was leaves the hall so
+  pub stays : sn ≡ sm → hall_of journal n ≡ hall_of journal m
+  stays same =
+      after ∙ put_again (hall_of journal m) who (tenant_of limits opens sm) (tenant_of limits opens sn) here (ap (tenant_of limits opens) same)
+
+  -- a number that the tenant has no search of
+  pub nobody_there : table.get (◌==◌) sm k ≡ None → search_at (hall_of journal m) who k ≡ None
+  nobody_there none = ap (search_of k) here ∙ search_found sm k ∙ none
+
+  pub nowhere : (gone : Type 0) (goes : SearchState → SearchState → Type 0) → table.get (◌==◌) sm k ≡ None → sn ≡ sm → gone →
+      Moves (hall_of journal m) who k gone goes (hall_of journal n)
+  nowhere gone goes none same is =
+      moves_at (hall_of journal m) who k gone goes (hall_of journal n) None (nobody_there none) (is, stays same)
+
+  -- a search that goes on in its place
+  pub there : (gone : Type 0) (goes : SearchState → SearchState → Type 0) (r : Running) (s : SearchState) → table.get (◌==◌) sm k ≡ Some r →
+      WritesThrough (◌==◌) (λ j. k == j) sm (record r { search = s }) sn → goes r.search s →
+      Moves (hall_of journal m) who k gone goes (hall_of journal n)
+  there gone goes r s at goes_through does =
+      moves_at (hall_of journal m) who k gone goes (hall_of journal n) (Some r) (ap (search_of k) here ∙ search_found sm k ∙ at) (
+        s,
+        does,
+        after
+            ∙ put_changed (hall_of journal m) who (tenant_of limits opens sm) (tenant_of limits opens sn) here
+            (λ v. record v { searches = insert v.searches k (record r { search = s }) })
+            (λ i. record {
+              limits = limits;
+              opens = opens;
+              searches = written numbers_exact (◌==◌) unsigned_tied sm sn k r (record r { search = s }) at goes_through i;
+            }),
+      )
