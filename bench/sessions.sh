@@ -17,7 +17,7 @@ for part in client echo; do
     cc -O2 -pthread -o "$work/$part" "$root/bench/sessions/$part.c"
 done
 awk 'BEGIN {
-    for (tenant = 1; tenant <= 64; tenant++) print "tenant T" tenant " word 1000 100 64 10000 1000000000 1000000"
+    for (tenant = 1; tenant <= 64; tenant++) print "tenant Tenant" tenant " word 1000 100 64 10000 1000000000 1000000"
     print "begin"
 }' > "$work/roster"
 
@@ -46,8 +46,8 @@ once() {
         { printf "%d %d\n", requests * 1e9 / lasted, ($1 + $2) * 1e9 / requests }' "$work/worked"
 }
 
-# row CONNECTIONS ROUNDS AHEAD ASKED WHAT
-row() {
+# measure CONNECTIONS ROUNDS AHEAD ASKED WHAT
+measure() {
     local of_program of_echo='0 0'
     of_program=$(medians "$runs" once "$program" "$1" "$2" "$3" "$4")
     [ "$4" = share ] || of_echo=$(medians "$runs" once echo "$1" "$2" "$3" "$4")
@@ -61,10 +61,10 @@ for program in "$program" "${@:3}"; do
     printf '%-34s %11s %14s %8s %14s %8s\n' requests connections 'a second' 'us each' 'echoed/second' 'us each'
     for connections in 1 64; do
         rounds=$((connections == 1 ? 30000 : 2000))
-        row "$connections" "$rounds" 0 poll 'poll, one by one'
-        row "$connections" "$((3 * rounds))" 16 poll 'poll, 16 at once'
-        row "$connections" "$((rounds / 3))" 0 ask 'ask, wait and end, one by one'
-        row "$connections" "$((rounds / 3))" 16 ask 'ask, wait and end, 48 at once'
+        measure "$connections" "$rounds" 0 poll 'poll, one by one'
+        measure "$connections" "$((3 * rounds))" 16 poll 'poll, 16 at once'
+        measure "$connections" "$((rounds / 3))" 0 ask 'ask, wait and end, one by one'
+        measure "$connections" "$((rounds / 3))" 16 ask 'ask, wait and end, 48 at once'
     done
-    row 64 "$((2000 / 3))" 0 share 'the same of one tenant'
+    measure 64 "$((2000 / 3))" 0 share 'the same of one tenant'
 done

@@ -61,7 +61,7 @@ static size_t round_of(char lines[3][ROUND], int tenant, int number) {
         strcpy(lines[0], "poll 7\n");
         return 1;
     }
-    snprintf(lines[0], ROUND, "ask T%d.r D\n", tenant);
+    snprintf(lines[0], ROUND, "ask Tenant%d.r D\n", tenant);
     snprintf(lines[1], ROUND, "wait %d\n", number);
     snprintf(lines[2], ROUND, "end %d\n", number);
     return 3;
@@ -77,10 +77,11 @@ static void one_by_one(int peer, int tenant) {
 
 // Each search is told apart from those of the tenant's other sessions by the number that its opening was answered.
 static void in_one_tenant(int peer) {
+    static const char ask[] = "ask Tenant1.r D\n";
     for (int round = 0; round < rounds; round++) {
         char line[ROUND], reply[ROUND];
         int number = 0;
-        say_and_keep(peer, "ask T1.r D\n", 11, reply, sizeof reply);
+        say_and_keep(peer, ask, sizeof ask - 1, reply, sizeof reply);
         check(sscanf(reply, "search %d", &number) == 1, reply);
         snprintf(line, sizeof line, "wait %d\n", number);
         say_line(peer, line);
@@ -109,7 +110,7 @@ static void *talk(void *place) {
     struct sockaddr_in address = {.sin_family = AF_INET, .sin_port = htons(port), .sin_addr.s_addr = htonl(INADDR_LOOPBACK)};
     check(peer >= 0 && connect(peer, (struct sockaddr *)&address, sizeof address) == 0, "connect");
     char text[ROUND];
-    snprintf(text, sizeof text, "hello T%d word\nput T%d.r <- D\n", tenant, tenant);
+    snprintf(text, sizeof text, "hello Tenant%d word\nput Tenant%d.r <- D\n", tenant, tenant);
     say_line(peer, text);
     pthread_barrier_wait(&begun);
     if (shares) in_one_tenant(peer);
