@@ -148,7 +148,8 @@ Run old (e ∷ events) [] new = ⊥
 abbrev pub Drives : HallState → List ℕ → ℕ → Option Running → HallState → Type 0
 Drives old name k None new = new ≡ old
 Drives old name k (Some r) new =
-    (s : SearchState) × IsDriven r.search s × (IsQuiet s.stage × IsSoundStage s.stage) × (NoneHeld r.search.stage → NoneHeld s.stage × (settled_of s ≢ Nothing))
+    (s : SearchState) × IsDriven r.search s × (IsQuiet s.stage × IsSoundStage s.stage)
+    × (NoneHeld r.search.stage → NoneHeld s.stage × (settled_of s ≢ Nothing))
     × (new ≡ with_search old name k (record r { search = s }))
 
 -- a request is served; a wait drives its search, and is then a poll

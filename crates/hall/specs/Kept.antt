@@ -38,7 +38,8 @@ pub record DrivesTo (s : SearchState) (told : Result Answer Fault) (t : SearchSt
 -- the waiting letter at a place was taken as this job of the tenant's search
 abbrev pub TakesAs : List ℕ → ℕ → ℕ → SearchState → TakenLetter → SearchState → Type 0
 TakesAs who k place s job t =
-    Takes s t place job.letter job.need × (job.who ≡ who) × (job.number ≡ k) × (job.snapshot ≡ s.snapshot) × Settles s t × IsSoundStage t.stage
+    Takes s t place job.letter job.need × (job.who ≡ who) × (job.number ≡ k) × (job.snapshot ≡ s.snapshot)
+    × Settles s t × IsSoundStage t.stage
 
 -- the waiting letter at a place was taken as a job of this tenant's search, where there is one and memory to hold it
 abbrev pub TakesJob : {E : Type 0} → List ℕ → ℕ → ℕ → SearchState → Result (Option TakenLetter) E → SearchState → Type 0
@@ -48,7 +49,8 @@ TakesJob who k place s (Err f) t = t ≡ s
 
 -- a step of the search was made: the oldest signal was delivered, or the first letter that waits was taken; or nothing of
 -- it is left to do, or there is no memory to hold the letter
-abbrev pub MakesStep : {E : Type 0} → List ℕ → ℕ → List TakenLetter → List TakenLetter → SearchState → Result Bool E → SearchState → Type 0
+abbrev pub MakesStep : {E : Type 0} → List ℕ → ℕ → List TakenLetter → List TakenLetter →
+    SearchState → Result Bool E → SearchState → Type 0
 MakesStep who k held holds s (Ok true) t =
     (SignalsFirst s t × (holds ≡ held)) ⊎ ((job : TakenLetter) × TakesAs who k 0 s job t × (holds ≡ held ++ job ∷ []))
 MakesStep who k held holds s (Ok false) t = (t ≡ s) × (holds ≡ held) × IsQuiet t.stage

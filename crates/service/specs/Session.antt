@@ -41,7 +41,8 @@ IsFirst rows tells reply flow after = (reply ≡ session_refusal 61) × (flow �
 -- what a tenant gets for a line
 abbrev pub IsLater : PassState → Talk → List ℕ → List ℕ → Flow → Phase → Type 0
 IsLater before quits line reply flow after = (reply ≡ bye) × (flow ≡ Ends) × (after ≡ of_tenant before)
-IsLater before talk line reply flow after = (flow ≡ GoesOn) × ((pass : PassState) × (after ≡ of_tenant pass) × IsTold before (form_of line) reply pass)
+IsLater before talk line reply flow after = (flow ≡ GoesOn)
+    × ((pass : PassState) × (after ≡ of_tenant pass) × IsTold before (form_of line) reply pass)
 
 -- what a line is answered, and where the session stands after it
 abbrev pub IsAnswer : List Row → Phase → Line → List ℕ → Flow → Phase → Type 0

@@ -41,6 +41,7 @@ pub data IsToldBy (told : Result Reply DeskFault) (lines : List ℕ) : Type 0 wh
 
 -- A tenant's command is refused by its text alone, and its pass stays as it was; or it is told what the desk came to.
 pub data IsTold (before : PassState) (form : Form) (reply : List ℕ) (after : PassState) : Type 0 where
-  refused : (why : Refusal) → Reads form (Err why) → reply ≡ session_refusal (refusal_number why) → after ≡ before → IsTold before form reply after
+  refused : (why : Refusal) → Reads form (Err why) → reply ≡ session_refusal (refusal_number why) →
+      after ≡ before → IsTold before form reply after
   carried_out : (command : Command) (told : Result Reply DeskFault) → Reads form (Ok command) → IsCarriedOut before after command told →
       IsToldBy told reply → IsTold before form reply after
