@@ -37,7 +37,7 @@ impl Credential {
     {
         self.head
             .compare(&other.head)
-            .then(self.body.compare(&other.body))
+            .then_with(|| self.body.compare(&other.body))
     }
 
     /// The same credential again. Only the copy of an intersection takes memory.

@@ -5,3 +5,5 @@ pub mod RoleLemmas
 pub mod Positions
 pub mod Spaces
 pub mod SameNames
+pub mod Words
+pub mod Padding

@@ -1,5 +1,5 @@
 -- Sixty-four cells that hold a name.
-use Rattle.std.specs.Prelude.{ℕ, List, ◌≡◌, ◌≤◌, ◌-◌, ◌++◌, length, take, replicate}
+use Rattle.std.specs.Prelude.{ℕ, List, ◌≡◌, ◌≤◌, ◌-◌, ◌++◌, length, take, replicate, get_or}
 use Rattle.std.proofs.Common.{◌∙◌, sym, ap, subst}
 use Rattle.std.proofs.lemmas.List.{length-take-le}
 use Rattle.names.specs.Name.{IsName}
@@ -10,6 +10,10 @@ pub record HoldsName (cells : List ℕ) (len : ℕ) : Type 0 where
   pub all : length cells ≡ 64
   pub padded : cells ≡ take len cells ++ replicate (64 - len) 0
   pub name : IsName (take len cells)
+
+-- behind a zero cell there are zero cells alone
+abbrev pub EndsInZeros : List ℕ → Type 0
+EndsInZeros cells = (i j : ℕ) → i ≤ j → get_or cells i 0 ≡ 0 → get_or cells j 0 ≡ 0
 
 -- a held name is as long as it says
 pub length_held : (cells : List ℕ) (len : ℕ) → HoldsName cells len → length (take len cells) ≡ len

@@ -1,4 +1,5 @@
-ghost use Rattle.std.specs.Prelude.{◌≡◌, ℕ, ◌-◌, ◌++◌, ◌==◌, ◌≤◌, List, [], length, take, replicate, IsTrue, IsOk, IfOk, IfErr, Some, ◌↔◌};
+ghost use Rattle.std.specs.Prelude.{◌≡◌, ℕ, ◌+◌, ◌-◌, ◌++◌, ◌==◌, ◌≤◌, List, [], length, take, replicate};
+ghost use Rattle.std.specs.Prelude.{IsTrue, IsOk, IfOk, IfErr, Some, ◌↔◌};
 ghost use Rattle.std.specs.Cmp.Lexicographic.{pointwise, slice_cmp};
 ghost use Rattle.std.specs.Prelude.{nat_eq};
 ghost use Rattle.std.specs.Ordering.{nat_cmp, as_partial_cmp};
@@ -6,8 +7,10 @@ ghost use Rattle.std.specs.Hash as fed;
 ghost use Rattle.std.specs.Cmp.Rules.{comparing, hashing};
 ghost use Rattle.std.specs.Cmp.{partial_order_from_own_ties};
 ghost use Rattle.std.proofs.Common.{rules};
-ghost use Rattle.names.specs.Name.{IsName};
-ghost use Rattle.names.specs.Cells.{HoldsName};
+ghost use Rattle.std.specs.Slice.Scan.{big_endian};
+ghost use Rattle.std.specs.Simd.Lanes.{chunk};
+ghost use Rattle.names.specs.Name.{IsName, name_order};
+ghost use Rattle.names.specs.Cells.{HoldsName, EndsInZeros};
 ghost use Rattle.names.specs.Fault.{name_fault};
 ghost use Rattle.names.specs.Cells.{cells_again, length_held};
 
@@ -85,7 +88,7 @@ impl Ord for Name {
     ghost matches_eq = { Prim.search (comparing, rules) };
 
     fn cmp(&self, other: &Name) -> Ordering {
-        self.bytes().cmp(&other.bytes())
+        order_of(&self.cells, &other.cells)
     }
 }
 
@@ -107,4 +110,40 @@ impl Hash for Name {
     fn hash<H: Hasher>(&self, state: &mut H) {
         self.bytes().hash(state);
     }
+}
+
+/// The order of the names that the cells hold. Cells are compared eight at a time, up to where both names end.
+fn order_of(cells: &[u8; 64], others: &[u8; 64]) -> Ordering
+    requires cells { EndsInZeros cells.now }
+    requires others { EndsInZeros others.now }
+    ensures { result ≡ name_order cells.now others.now }
+{
+    for place in 0..8 {
+        let start = 8 * place;
+        let (word, other) = (word_at(cells, start), word_at(others, start));
+        if word != other {
+            return word.cmp(&other);
+        }
+        if cells[start + 7] == 0 {
+            return Ordering::Equal;
+        }
+    }
+    Ordering::Equal
+}
+
+/// The eight cells from here on as one number, which is ordered as they are.
+fn word_at(cells: &[u8; 64], start: usize) -> u64
+    requires { start + 8 ≤ 64 }
+    ensures { result ≡ big_endian 0 (chunk start 8 cells.now) }
+{
+    u64::from_be_bytes([
+        cells[start],
+        cells[start + 1],
+        cells[start + 2],
+        cells[start + 3],
+        cells[start + 4],
+        cells[start + 5],
+        cells[start + 6],
+        cells[start + 7],
+    ])
 }

@@ -40,6 +40,6 @@ impl Role {
     {
         self.owner
             .compare(&other.owner)
-            .then(self.name.compare(&other.name))
+            .then_with(|| self.name.compare(&other.name))
     }
 }
