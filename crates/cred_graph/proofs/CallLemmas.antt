@@ -7,7 +7,7 @@ use Rattle.cred_graph.specs.declared.listeners.KeptListening.{KeptListening}
 use Rattle.cred_graph.specs.declared.ports.KeptPort.{KeptPort}
 use Rattle.cred_graph.specs.declared.solutions.Solution.{Solution}
 use Rattle.cred_graph.specs.declared.solutions.Solved.{Solved}
-use Rattle.cred_graph.specs.declared.reasons.NumberedReason.{NumberedReason}
+use Rattle.cred_graph.specs.declared.solutions.Reason.{Reason}
 use Rattle.cred_graph.specs.GraphState.{GraphState, IsSolution, Listens}
 use Rattle.cred_graph.specs.Reason.{Fits}
 use Rattle.cred_graph.specs.Graph.{IsGraph, ListenerGiven, SolutionGiven}
@@ -26,7 +26,7 @@ pub record Listened {E : Type 0} (g h : GraphState) (n : ℕ) (l : Listening) (r
   pub growth : OnErr r (Listens g n l → ⊥)
   pub unchanged : OnErr r (h ≡ g)
 
-module _ (nodes : List Expr) (strangers : List (List ℕ)) (lists after : List (List KeptListening)) (entries : List (Solved × NumberedReason)) (stored : IsStored nodes strangers lists entries) where
+module _ (nodes : List Expr) (strangers : List (List ℕ)) (lists after : List (List KeptListening)) (entries : List (Solved × Reason ℕ ℕ)) (stored : IsStored nodes strangers lists entries) where
   unlisted : (n : ℕ) (l : KeptListening) → n < length nodes → IsKept nodes strangers l.port → (Contains (list_at lists n) l → ⊥) → Listens (graph_as nodes strangers lists entries) n (listening_as nodes strangers l) → ⊥
   unlisted n l asked is absent listens = absent (listens_stored nodes strangers lists entries stored n l asked is listens)
 
@@ -63,7 +63,7 @@ module _ (nodes : List Expr) (strangers : List (List ℕ)) (lists after : List (
     }
 
 -- the same where a stranger may join before
-module _ (nodes : List Expr) (strangers names : List (List ℕ)) (lists after : List (List KeptListening)) (entries : List (Solved × NumberedReason)) (stored : IsStored nodes strangers lists entries)
+module _ (nodes : List Expr) (strangers names : List (List ℕ)) (lists after : List (List KeptListening)) (entries : List (Solved × Reason ℕ ℕ)) (stored : IsStored nodes strangers lists entries)
     (joins : Joins nodes strangers names) where
   pub joined : IsStored nodes names lists entries
   joined = stored-joined nodes strangers names lists lists entries stored joins (λ m. refl)
@@ -82,7 +82,7 @@ module _ (nodes : List Expr) (strangers names : List (List ℕ)) (lists after : 
         (subst (λ x. Listened x (graph_as nodes names after entries) n (listening_as nodes names l) r) joined_same (listened nodes names lists after entries joined n l asked asker is r given growth same))
 
 -- a port that can't be kept is none of a listener's
-pub no_listener : (nodes : List Expr) (strangers : List (List ℕ)) (lists : List (List KeptListening)) (entries : List (Solved × NumberedReason)) → IsStored nodes strangers lists entries → (n : ℕ) (l : Listening) → n < length nodes →
+pub no_listener : (nodes : List Expr) (strangers : List (List ℕ)) (lists : List (List KeptListening)) (entries : List (Solved × Reason ℕ ℕ)) → IsStored nodes strangers lists entries → (n : ℕ) (l : Listening) → n < length nodes →
     ((p : KeptPort) → IsKept nodes strangers p → kept_as nodes strangers p ≡ l.port → ⊥) → Listens (graph_as nodes strangers lists entries) n l → ⊥
 no_listener nodes strangers lists entries stored n l asked none listens =
     let at = behind_map (listening_as nodes strangers) (list_at lists n) l (subst (λ ls. Contains ls l) (listed_at-lists_from nodes strangers (length nodes) lists n asked) listens) in
@@ -95,11 +95,11 @@ pub record Found {E : Type 0} (g h : GraphState) (s : Solution) (r : Result Bool
   pub growth : OnErr r (IsSolution g s.node s.who → ⊥)
   pub unchanged : OnErr r (h ≡ g)
 
-module _ (nodes : List Expr) (strangers : List (List ℕ)) (lists : List (List KeptListening)) (entries after : List (Solved × NumberedReason)) (stored : IsStored nodes strangers lists entries) where
+module _ (nodes : List Expr) (strangers : List (List ℕ)) (lists : List (List KeptListening)) (entries after : List (Solved × Reason ℕ ℕ)) (stored : IsStored nodes strangers lists entries) where
   unsolved : (key : Solved) → IsEntity nodes key.who → (HasKey entries key → ⊥) → IsSolution (graph_as nodes strangers lists entries) key.node (entity_at nodes key.who) → ⊥
   unsolved key who absent solution = absent (solution_stored nodes strangers lists entries stored key who solution)
 
-  module _ {E : Type 0} (key : Solved) (why : NumberedReason) (who : IsEntity nodes key.who) (named : IsReason nodes why)
+  module _ {E : Type 0} (key : Solved) (why : Reason ℕ ℕ) (who : IsEntity nodes key.who) (named : IsReason nodes why)
       (fits : Fits (graph_as nodes strangers lists entries) key.node (entity_at nodes key.who) (reason_at nodes why)) where
     pub solution_kept : (r : Result Bool E) → IfOk r (λ new. Solves entries after key why new) → OnErr r (after ≡ entries) → IsStored nodes strangers lists after
     solution_kept (Ok true) (absent, added) same = stored-solution nodes strangers lists entries after key why stored who named absent fits added
@@ -131,8 +131,8 @@ module _ (nodes : List Expr) (strangers : List (List ℕ)) (lists : List (List K
     }
 
 -- the same by names
-module _ (nodes : List Expr) (strangers : List (List ℕ)) (lists : List (List KeptListening)) (entries after : List (Solved × NumberedReason)) (stored : IsStored nodes strangers lists entries) where
-  module _ {E : Type 0} (key : Solved) (why : NumberedReason) (who : IsEntity nodes key.who) (named : IsReason nodes why) (s : Solution) (seen : solution_as nodes (key, why) ≡ s)
+module _ (nodes : List Expr) (strangers : List (List ℕ)) (lists : List (List KeptListening)) (entries after : List (Solved × Reason ℕ ℕ)) (stored : IsStored nodes strangers lists entries) where
+  module _ {E : Type 0} (key : Solved) (why : Reason ℕ ℕ) (who : IsEntity nodes key.who) (named : IsReason nodes why) (s : Solution) (seen : solution_as nodes (key, why) ≡ s)
       (fits : Fits (graph_as nodes strangers lists entries) s.node s.who s.reason) where
     pub kept_by : (r : Result Bool E) → IfOk r (λ new. Solves entries after key why new) → OnErr r (after ≡ entries) → IsStored nodes strangers lists after
     kept_by r given same = solution_kept nodes strangers lists entries after stored key why who named (subst (λ (x : Solution). Fits (graph_as nodes strangers lists entries) x.node x.who x.reason) (sym seen) fits) r given same

@@ -7,10 +7,10 @@ use Rattle.cred_graph.specs.Reason.{Fits}
 use Rattle.cred_graph.specs.Graph.{IsGraph}
 use Rattle.cred_graph.proofs.Lists.{Contains-at_place}
 
-pub solution_at_place : (solutions : List Solution) (place n : ℕ) (who : List ℕ) (why : Reason) → slice_get solutions place ≡ Some (record { node = n; who = who; reason = why }) → HasSolution solutions n who
+pub solution_at_place : (solutions : List Solution) (place n : ℕ) (who : List ℕ) (why : Reason ℕ (List ℕ)) → slice_get solutions place ≡ Some (record { node = n; who = who; reason = why }) → HasSolution solutions n who
 solution_at_place solutions place n who why at = (why, Contains-at_place solutions place (record { node = n; who = who; reason = why }) at)
 
 -- the reason that is found is justified by what was found before
-pub found_earlier : (g : GraphState) → IsGraph g → (n place : ℕ) (who : List ℕ) (why : Reason) →
+pub found_earlier : (g : GraphState) → IsGraph g → (n place : ℕ) (who : List ℕ) (why : Reason ℕ (List ℕ)) →
     slice_get g.solutions place ≡ Some (record { node = n; who = who; reason = why }) → Fits (before place g) n who why
 found_earlier g graph n place who why found = graph.justified place (record { node = n; who = who; reason = why }) found

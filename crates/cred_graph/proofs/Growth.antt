@@ -29,7 +29,7 @@ pub grown_known : (g h : GraphState) → Grows g h → (who : List ℕ) (e : Exp
 grown_known g h grows who e (n, node, solution) = (n, grows.nodes n e node, grown_solution g h grows n who solution)
 
 -- a reason goes on to fit
-pub grown_fits : (g h : GraphState) → Grows g h → (n : ℕ) (who : List ℕ) (why : Reason) → Fits g n who why → Fits h n who why
+pub grown_fits : (g h : GraphState) → Grows g h → (n : ℕ) (who : List ℕ) (why : Reason ℕ (List ℕ)) → Fits g n who why → Fits h n who why
 grown_fits g h grows n who reason.Leaf fits = grows.nodes n _ fits
 grown_fits g h grows n who (reason.Body m) (r, e, node, body, solution) =
     (r, e, grows.nodes n _ node, grows.nodes m e body, grown_solution g h grows m who solution)

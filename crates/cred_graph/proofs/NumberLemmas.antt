@@ -5,11 +5,8 @@ use Rattle.credential_text.specs.declared.exprs.Expr.{Expr}
 use Rattle.credential_text.specs.declared.exprs.Expr.TheVariants.{Ent}
 use Rattle.cred_graph.specs.declared.listeners.Port.{Port}
 use Rattle.cred_graph.specs.declared.listeners.Port.TheVariants as port
+use Rattle.cred_graph.specs.declared.solutions.Reason.{Reason}
 use Rattle.cred_graph.specs.declared.solutions.Reason.TheVariants as reason
-use Rattle.cred_graph.specs.declared.ports.NumberedPort.{NumberedPort}
-use Rattle.cred_graph.specs.declared.ports.NumberedPort.TheVariants as numbered_port
-use Rattle.cred_graph.specs.declared.reasons.NumberedReason.{NumberedReason}
-use Rattle.cred_graph.specs.declared.reasons.NumberedReason.TheVariants as numbered_reason
 use Rattle.cred_graph.specs.Numbers.{IsEntity, entity_of, entity_at, port_at, IsPort, IsNamed, reason_at, IsReason}
 use Rattle.cred_graph.proofs.Lists.{Contains-at_place, slice_get_stays}
 
@@ -27,39 +24,39 @@ module _ (nodes more : List Expr) where
   pub entity_stays : (k : ℕ) → IsEntity nodes k → entity_at (nodes ++ more) k ≡ entity_at nodes k
   entity_stays k (who, at) = entity_is (nodes ++ more) k who (slice_get_stays nodes more k (Ent who) at) ∙ sym (entity_is nodes k who at)
 
-  pub port_goes_on : (p : NumberedPort) → IsPort nodes p → IsPort (nodes ++ more) p
-  port_goes_on numbered_port.Body is = tt
-  port_goes_on numbered_port.Base is = tt
-  port_goes_on (numbered_port.Via k) is = entity_goes_on k is
-  port_goes_on (numbered_port.Part i) is = tt
+  pub port_goes_on : (p : Port ℕ) → IsPort nodes p → IsPort (nodes ++ more) p
+  port_goes_on port.Body is = tt
+  port_goes_on port.Base is = tt
+  port_goes_on (port.Via k) is = entity_goes_on k is
+  port_goes_on (port.Part i) is = tt
 
-  pub port_stays : (p : NumberedPort) → IsPort nodes p → port_at (nodes ++ more) p ≡ port_at nodes p
-  port_stays numbered_port.Body is = refl
-  port_stays numbered_port.Base is = refl
-  port_stays (numbered_port.Via k) is = ap port.Via (entity_stays k is)
-  port_stays (numbered_port.Part i) is = refl
+  pub port_stays : (p : Port ℕ) → IsPort nodes p → port_at (nodes ++ more) p ≡ port_at nodes p
+  port_stays port.Body is = refl
+  port_stays port.Base is = refl
+  port_stays (port.Via k) is = ap port.Via (entity_stays k is)
+  port_stays (port.Part i) is = refl
 
-  pub named_goes_on : (p : Port) → IsNamed nodes p → IsNamed (nodes ++ more) p
+  pub named_goes_on : (p : Port (List ℕ)) → IsNamed nodes p → IsNamed (nodes ++ more) p
   named_goes_on port.Body is = tt
   named_goes_on port.Base is = tt
   named_goes_on (port.Via b) is = Contains-append_left nodes more (Ent b) is
   named_goes_on (port.Part i) is = tt
 
-  pub reason_goes_on : (r : NumberedReason) → IsReason nodes r → IsReason (nodes ++ more) r
-  reason_goes_on numbered_reason.Leaf is = tt
-  reason_goes_on (numbered_reason.Body m) is = tt
-  reason_goes_on (numbered_reason.Via k) is = entity_goes_on k is
-  reason_goes_on numbered_reason.Parts is = tt
+  pub reason_goes_on : (r : Reason ℕ ℕ) → IsReason nodes r → IsReason (nodes ++ more) r
+  reason_goes_on reason.Leaf is = tt
+  reason_goes_on (reason.Body m) is = tt
+  reason_goes_on (reason.Via k) is = entity_goes_on k is
+  reason_goes_on reason.Parts is = tt
 
-  pub reason_stays : (r : NumberedReason) → IsReason nodes r → reason_at (nodes ++ more) r ≡ reason_at nodes r
-  reason_stays numbered_reason.Leaf is = refl
-  reason_stays (numbered_reason.Body m) is = refl
-  reason_stays (numbered_reason.Via k) is = ap reason.Via (entity_stays k is)
-  reason_stays numbered_reason.Parts is = refl
+  pub reason_stays : (r : Reason ℕ ℕ) → IsReason nodes r → reason_at (nodes ++ more) r ≡ reason_at nodes r
+  reason_stays reason.Leaf is = refl
+  reason_stays (reason.Body m) is = refl
+  reason_stays (reason.Via k) is = ap reason.Via (entity_stays k is)
+  reason_stays reason.Parts is = refl
 
 -- a port of a number names somebody who has a node
-pub port_named : (nodes : List Expr) (p : NumberedPort) → IsPort nodes p → IsNamed nodes (port_at nodes p)
-port_named nodes numbered_port.Body is = tt
-port_named nodes numbered_port.Base is = tt
-port_named nodes (numbered_port.Via k) is = Contains-at_place nodes k (Ent (entity_at nodes k)) (entity_stands nodes k is)
-port_named nodes (numbered_port.Part i) is = tt
+pub port_named : (nodes : List Expr) (p : Port ℕ) → IsPort nodes p → IsNamed nodes (port_at nodes p)
+port_named nodes port.Body is = tt
+port_named nodes port.Base is = tt
+port_named nodes (port.Via k) is = Contains-at_place nodes k (Ent (entity_at nodes k)) (entity_stands nodes k is)
+port_named nodes (port.Part i) is = tt

@@ -6,7 +6,7 @@ use Rattle.std.proofs.lemmas.List.{append-nil, map_push}
 use Rattle.std.proofs.lemmas.List.Elements.{filter-append}
 use Rattle.indexmap.specs.IndexMap.{insert_entry}
 use Rattle.cred_graph.specs.declared.solutions.Solved.{Solved}
-use Rattle.cred_graph.specs.declared.reasons.NumberedReason.{NumberedReason}
+use Rattle.cred_graph.specs.declared.solutions.Reason.{Reason}
 use Rattle.cred_graph.specs.contracts.solutions.SolvedPartialEq.TheImpl as solved
 use Rattle.cred_graph.specs.NodeLists.{list_at, AreSame, AddsAt}
 use Rattle.cred_graph.specs.Solved.{HasKey, members_by, AreMembers}
@@ -14,40 +14,40 @@ use Rattle.cred_graph.proofs.Keys.{solved_decided}
 use Rattle.cred_graph.proofs.Lists.{Contains-at_place, place_of_Contains}
 use Rattle.cred_graph.proofs.Tables.{lookup_key_is, lookup_key_none, insert_entry-absent}
 
-pub found_entry : (es : List (Solved × NumberedReason)) (key k : Solved) (r : NumberedReason) (place : ℕ) →
+pub found_entry : (es : List (Solved × Reason ℕ ℕ)) (key k : Solved) (r : Reason ℕ ℕ) (place : ℕ) →
     Some k ≡ lookup_key (solved.ghosts.eq key) es → slice_get es place ≡ Some (k, r) → slice_get es place ≡ Some (key, r)
 found_entry es key k r place found at =
     at ∙ ap (λ (x : Solved). Some (x, r)) (sym (lookup_key_is solved.ghosts.eq solved_decided es key k (sym found)))
 
-pub entry_there : (es : List (Solved × NumberedReason)) (key : Solved) (r : NumberedReason) (place : ℕ) → slice_get es place ≡ Some (key, r) → HasKey es key
+pub entry_there : (es : List (Solved × Reason ℕ ℕ)) (key : Solved) (r : Reason ℕ ℕ) (place : ℕ) → slice_get es place ≡ Some (key, r) → HasKey es key
 entry_there es key r place at = (r, Contains-at_place es place (key, r) at)
 
-pub no_entry : (es : List (Solved × NumberedReason)) (key : Solved) → None ≡ lookup_key (solved.ghosts.eq key) es → HasKey es key → ⊥
+pub no_entry : (es : List (Solved × Reason ℕ ℕ)) (key : Solved) → None ≡ lookup_key (solved.ghosts.eq key) es → HasKey es key → ⊥
 no_entry es key none (r, stands) =
     let at = place_of_Contains es (key, r) stands in
     lookup_key_none solved.ghosts.eq solved_decided es key (sym none) at.0 (key, r) at.1 refl
 
 -- an entry whose key isn't there goes last
-pub entry_added : (es mid after : List (Solved × NumberedReason)) (key : Solved) (r : NumberedReason) → (HasKey es key → ⊥) →
+pub entry_added : (es mid after : List (Solved × Reason ℕ ℕ)) (key : Solved) (r : Reason ℕ ℕ) → (HasKey es key → ⊥) →
     mid ≡ es → after ≡ insert_entry solved.ghosts.eq mid key r → after ≡ es ++ (key, r) ∷ []
 entry_added es mid after key r absent reserved is =
-    let none : (j : ℕ) (e : Solved × NumberedReason) → slice_get es j ≡ Some e → key ≡ e.0 → ⊥ =
+    let none : (j : ℕ) (e : Solved × Reason ℕ ℕ) → slice_get es j ≡ Some e → key ≡ e.0 → ⊥ =
     λ j e at same. absent (e.1, Contains-at_place es j (key, e.1) (at ∙ ap (λ (x : Solved). Some (x, e.1)) (sym same))) in
     is ∙ ap (λ l. insert_entry solved.ghosts.eq l key r) reserved ∙ insert_entry-absent solved.ghosts.eq solved_decided es key r none
 
-members_pushed : (n : ℕ) (es : List (Solved × NumberedReason)) (e : Solved × NumberedReason) →
-    members_by n (es ++ e ∷ []) ≡ map (λ (x : Solved × NumberedReason). x.0.who) (filter (λ (x : Solved × NumberedReason). x.0.node == n) es ++ (if e.0.node == n then e ∷ [] else []))
-members_pushed n es e = ap (map (λ (x : Solved × NumberedReason). x.0.who)) (filter-append (λ (x : Solved × NumberedReason). x.0.node == n) es (e ∷ []))
+members_pushed : (n : ℕ) (es : List (Solved × Reason ℕ ℕ)) (e : Solved × Reason ℕ ℕ) →
+    members_by n (es ++ e ∷ []) ≡ map (λ (x : Solved × Reason ℕ ℕ). x.0.who) (filter (λ (x : Solved × Reason ℕ ℕ). x.0.node == n) es ++ (if e.0.node == n then e ∷ [] else []))
+members_pushed n es e = ap (map (λ (x : Solved × Reason ℕ ℕ). x.0.who)) (filter-append (λ (x : Solved × Reason ℕ ℕ). x.0.node == n) es (e ∷ []))
 
-pub members_again : (es after : List (Solved × NumberedReason)) (old new : List (List ℕ)) → AreMembers es old → after ≡ es → AreSame old new → AreMembers after new
+pub members_again : (es after : List (Solved × Reason ℕ ℕ)) (old new : List (List ℕ)) → AreMembers es old → after ≡ es → AreSame old new → AreMembers after new
 members_again es after old new are same lists = subst (λ l. AreMembers l new) (sym same) (λ n. lists n ∙ are n)
 
-pub members_added : (es after : List (Solved × NumberedReason)) (old new : List (List ℕ)) (key : Solved) (r : NumberedReason) → AreMembers es old →
+pub members_added : (es after : List (Solved × Reason ℕ ℕ)) (old new : List (List ℕ)) (key : Solved) (r : Reason ℕ ℕ) → AreMembers es old →
     AddsAt old new key.node key.who → after ≡ es ++ (key, r) ∷ [] → AreMembers after new
 members_added es after old new key r are adds added =
     subst (λ l. AreMembers l new) (sym added) (λ n.
-    let before = filter (λ (x : Solved × NumberedReason). x.0.node == n) es in
-    let who = λ (x : Solved × NumberedReason). x.0.who in
+    let before = filter (λ (x : Solved × Reason ℕ ℕ). x.0.node == n) es in
+    let who = λ (x : Solved × Reason ℕ ℕ). x.0.who in
     elim (cases_eq n key.node) [
       | inl same ↦
           adds n ∙ cond-true (n == key.node) (list_at old n ++ key.who ∷ []) (list_at old n) (eq-eqb n key.node same) ∙

@@ -12,7 +12,7 @@ use Rattle.cred_graph.specs.declared.solutions.Reason.TheVariants as reason
 use Rattle.cred_graph.specs.GraphState.{GraphState, IsNode, IsSolution, Known, before}
 use Rattle.cred_graph.specs.Reason.{Fits}
 use Rattle.cred_graph.specs.Graph.{IsGraph}
-use Rattle.cred_graph.specs.Solved.{HasNumbers}
+use Rattle.cred_graph.specs.Numbers.{HasNumbers}
 use Rattle.cred_graph.proofs.Lists.{Contains-at_place, place_of_Contains}
 
 -- what stands among the first stands at the same place of all
@@ -33,7 +33,7 @@ part_has_node g solvers who [] range all = absurd (omega (arith, range.0))
 part_has_node g solvers who (p ∷ parts) range all = known_has_node g solvers who (part_expr p) (All-head (λ (q : Part). Known g who (part_expr q)) p parts all)
 
 -- whom a reason fits has a node
-fits_has_node : (g : GraphState) → ((n : ℕ) (e : Expr) → IsNode g n e → HasPartsInRange e) → Solvers g → (n : ℕ) (who : List ℕ) (why : Reason) → Fits g n who why → Contains g.nodes (Ent who)
+fits_has_node : (g : GraphState) → ((n : ℕ) (e : Expr) → IsNode g n e → HasPartsInRange e) → Solvers g → (n : ℕ) (who : List ℕ) (why : Reason ℕ (List ℕ)) → Fits g n who why → Contains g.nodes (Ent who)
 fits_has_node g range solvers n who reason.Leaf fits = Contains-at_place g.nodes n (Ent who) fits
 fits_has_node g range solvers n who (reason.Body m) (r, e, node, body, solution) = solvers m who solution
 fits_has_node g range solvers n who (reason.Via b) (r, t, node, base, given) = known_has_node g solvers who _ given
@@ -57,18 +57,18 @@ solver_has_node g graph n who solution =
     let there = place_of_Contains g.solutions s solution.1 in
     solver_at g graph (suc there.0) there.0 s (omega arith) there.1
 
-pub new_solver_has_node : (g : GraphState) → IsGraph g → (n : ℕ) (who : List ℕ) (why : Reason) → Fits g n who why → Contains g.nodes (Ent who)
+pub new_solver_has_node : (g : GraphState) → IsGraph g → (n : ℕ) (who : List ℕ) (why : Reason ℕ (List ℕ)) → Fits g n who why → Contains g.nodes (Ent who)
 new_solver_has_node g graph n who why fits = fits_has_node g graph.parts_in_range (solver_has_node g graph) n who why fits
 
 -- the numbers that a reason needs are there
-pub reason_has_numbers : (g : GraphState) → IsGraph g → (n : ℕ) (who : List ℕ) (why : Reason) → Fits g n who why → HasNumbers g.nodes why
+pub reason_has_numbers : (g : GraphState) → IsGraph g → (n : ℕ) (who : List ℕ) (why : Reason ℕ (List ℕ)) → Fits g n who why → HasNumbers g.nodes why
 reason_has_numbers g graph n who reason.Leaf fits = tt
 reason_has_numbers g graph n who (reason.Body m) (r, e, node, body, solution) = slice_get_within g.nodes m e body
 reason_has_numbers g graph n who (reason.Via b) (r, t, node, base, given) = known_has_node g (solver_has_node g graph) b _ base
 reason_has_numbers g graph n who reason.Parts fits = tt
 
 -- a reason fits a node
-pub fits_node : (g : GraphState) (n : ℕ) (who : List ℕ) (why : Reason) → Fits g n who why → n < length g.nodes
+pub fits_node : (g : GraphState) (n : ℕ) (who : List ℕ) (why : Reason ℕ (List ℕ)) → Fits g n who why → n < length g.nodes
 fits_node g n who reason.Leaf fits = slice_get_within g.nodes n _ fits
 fits_node g n who (reason.Body m) (r, e, node, body, solution) = slice_get_within g.nodes n _ node
 fits_node g n who (reason.Via b) (r, t, node, base, given) = slice_get_within g.nodes n _ node

@@ -20,7 +20,7 @@ IsNode g n e = slice_get g.nodes n ≡ Some e
 
 -- the list has the entity as a solution of the node, for some reason
 abbrev pub HasSolution : List Solution → ℕ → List ℕ → Type 0
-HasSolution solutions n who = (reason : Reason) × Contains solutions (record { node = n; who = who; reason = reason })
+HasSolution solutions n who = (reason : Reason ℕ (List ℕ)) × Contains solutions (record { node = n; who = who; reason = reason })
 
 -- the entity is a solution of the node
 abbrev pub IsSolution : GraphState → ℕ → List ℕ → Type 0

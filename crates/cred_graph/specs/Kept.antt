@@ -15,7 +15,7 @@ use Rattle.cred_graph.specs.Numbers.{entity_at}
 use Rattle.cred_graph.specs.NodeLists.{list_at, AddsAt, AreSame}
 
 -- the port that this one stands for
-abbrev pub kept_as : List Expr → List (List ℕ) → KeptPort → Port
+abbrev pub kept_as : List Expr → List (List ℕ) → KeptPort → Port (List ℕ)
 kept_as nodes strangers kept.Body = port.Body
 kept_as nodes strangers kept.Base = port.Base
 kept_as nodes strangers (kept.Via k) = port.Via (entity_at nodes k)
@@ -24,11 +24,9 @@ kept_as nodes strangers (kept.Part i) = port.Part i
 
 -- its number is that of an entity that is no stranger, or of a stranger
 abbrev pub IsKept : List Expr → List (List ℕ) → KeptPort → Type 0
-IsKept nodes strangers kept.Body = Unit {0}
-IsKept nodes strangers kept.Base = Unit {0}
 IsKept nodes strangers (kept.Via k) = (who : List ℕ) × (slice_get nodes k ≡ Some (Ent who)) × (Contains strangers who → ⊥)
 IsKept nodes strangers (kept.Stranger j) = j < length strangers
-IsKept nodes strangers (kept.Part i) = Unit {0}
+IsKept nodes strangers _ = Unit {0}
 
 -- the strangers stay, and may be joined by one more, who has no node
 abbrev pub Joins : List Expr → List (List ℕ) → List (List ℕ) → Type 0

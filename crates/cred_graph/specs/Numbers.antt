@@ -1,15 +1,11 @@
 -- Entities, ports and reasons by number: an entity's number is that of its node.
-use Rattle.std.specs.Prelude.{ℕ, List, [], Option, Some, ◌≡◌, ◌≤◌, ◌^◌, Contains, length, slice_get}
+use Rattle.std.specs.Prelude.{ℕ, List, [], Option, Some, ◌≡◌, ◌≤◌, ◌<◌, ◌^◌, Contains, length, slice_get}
 use Rattle.credential_text.specs.declared.exprs.Expr.{Expr}
 use Rattle.credential_text.specs.declared.exprs.Expr.TheVariants.{Ent}
 use Rattle.cred_graph.specs.declared.listeners.Port.{Port}
 use Rattle.cred_graph.specs.declared.listeners.Port.TheVariants as port
 use Rattle.cred_graph.specs.declared.solutions.Reason.{Reason}
 use Rattle.cred_graph.specs.declared.solutions.Reason.TheVariants as reason
-use Rattle.cred_graph.specs.declared.ports.NumberedPort.{NumberedPort}
-use Rattle.cred_graph.specs.declared.ports.NumberedPort.TheVariants as numbered_port
-use Rattle.cred_graph.specs.declared.reasons.NumberedReason.{NumberedReason}
-use Rattle.cred_graph.specs.declared.reasons.NumberedReason.TheVariants as numbered_reason
 
 -- each node's number has 32 bits
 abbrev pub AreShort : List Expr → Type 0
@@ -27,37 +23,40 @@ entity_of _ = []
 abbrev pub entity_at : List Expr → ℕ → List ℕ
 entity_at nodes k = entity_of (slice_get nodes k)
 
--- the port, with the entity that it has by number
-abbrev pub port_at : List Expr → NumberedPort → Port
-port_at nodes numbered_port.Body = port.Body
-port_at nodes numbered_port.Base = port.Base
-port_at nodes (numbered_port.Via k) = port.Via (entity_at nodes k)
-port_at nodes (numbered_port.Part i) = port.Part i
+-- the member of a base that a port names is such a one, where it names any
+abbrev pub PortOf : {E : Type 0} → (E → Type 0) → Port E → Type 0
+PortOf P (port.Via b) = P b
+PortOf P _ = Unit {0}
 
--- the port's number is an entity's
-abbrev pub IsPort : List Expr → NumberedPort → Type 0
-IsPort nodes numbered_port.Body = Unit {0}
-IsPort nodes numbered_port.Base = Unit {0}
-IsPort nodes (numbered_port.Via k) = IsEntity nodes k
-IsPort nodes (numbered_port.Part i) = Unit {0}
+-- the node of a body, and the member of a base, that a reason names are such ones
+abbrev pub ReasonOf : {N E : Type 0} → (N → Type 0) → (E → Type 0) → Reason N E → Type 0
+ReasonOf P Q (reason.Body m) = P m
+ReasonOf P Q (reason.Via b) = Q b
+ReasonOf P Q _ = Unit {0}
 
--- the member of a base that the port names has a number
-abbrev pub IsNamed : List Expr → Port → Type 0
-IsNamed nodes port.Body = Unit {0}
-IsNamed nodes port.Base = Unit {0}
-IsNamed nodes (port.Via b) = Contains nodes (Ent b)
-IsNamed nodes (port.Part i) = Unit {0}
+-- the port and the reason, with the entity that they have by number
+abbrev pub port_at : List Expr → Port ℕ → Port (List ℕ)
+port_at nodes port.Body = port.Body
+port_at nodes port.Base = port.Base
+port_at nodes (port.Via k) = port.Via (entity_at nodes k)
+port_at nodes (port.Part i) = port.Part i
 
--- the reason, with the entity that it has by number
-abbrev pub reason_at : List Expr → NumberedReason → Reason
-reason_at nodes numbered_reason.Leaf = reason.Leaf
-reason_at nodes (numbered_reason.Body m) = reason.Body m
-reason_at nodes (numbered_reason.Via k) = reason.Via (entity_at nodes k)
-reason_at nodes numbered_reason.Parts = reason.Parts
+abbrev pub reason_at : List Expr → Reason ℕ ℕ → Reason ℕ (List ℕ)
+reason_at nodes reason.Leaf = reason.Leaf
+reason_at nodes (reason.Body m) = reason.Body m
+reason_at nodes (reason.Via k) = reason.Via (entity_at nodes k)
+reason_at nodes reason.Parts = reason.Parts
 
--- the reason's number is an entity's
-abbrev pub IsReason : List Expr → NumberedReason → Type 0
-IsReason nodes numbered_reason.Leaf = Unit {0}
-IsReason nodes (numbered_reason.Body m) = Unit {0}
-IsReason nodes (numbered_reason.Via k) = IsEntity nodes k
-IsReason nodes numbered_reason.Parts = Unit {0}
+-- the number in it is an entity's
+abbrev pub IsPort : List Expr → Port ℕ → Type 0
+IsPort nodes p = PortOf (IsEntity nodes) p
+
+abbrev pub IsReason : List Expr → Reason ℕ ℕ → Type 0
+IsReason nodes r = ReasonOf (λ _. Unit {0}) (IsEntity nodes) r
+
+-- each name in it has a number
+abbrev pub IsNamed : List Expr → Port (List ℕ) → Type 0
+IsNamed nodes p = PortOf (λ b. Contains nodes (Ent b)) p
+
+abbrev pub HasNumbers : List Expr → Reason ℕ (List ℕ) → Type 0
+HasNumbers nodes r = ReasonOf (λ m. m < length nodes) (λ b. Contains nodes (Ent b)) r

@@ -10,7 +10,7 @@ use Rattle.cred_graph.specs.declared.solutions.Reason.TheVariants as reason
 use Rattle.cred_graph.specs.GraphState.{GraphState, IsNode, IsSolution, Known}
 
 -- the reason fits the node, and its premises are solutions
-abbrev pub Fits : GraphState → ℕ → List ℕ → Reason → Type 0
+abbrev pub Fits : GraphState → ℕ → List ℕ → Reason ℕ (List ℕ) → Type 0
 Fits g n who reason.Leaf = IsNode g n (Ent who)
 Fits g n who (reason.Body m) = (r : Role) × (e : Expr) × IsNode g n (Rol r) × IsNode g m e × IsSolution g m who
 Fits g n who (reason.Via b) =

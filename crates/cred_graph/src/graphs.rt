@@ -4,8 +4,8 @@ ghost use Rattle.credential_text.specs.declared.exprs.Expr.TheVariants as exprs;
 use crate::interned::Interned;
 use crate::listeners::{KeptListening, Listeners, Port};
 use crate::nodes::{Nodes, copy_of};
-use crate::ports::{NumberedPort, keep_port, kept_port, port_name, port_number};
-use crate::reasons::{NumberedReason, reason_name, reason_number};
+use crate::ports::{keep_port, kept_port, port_name, port_number};
+use crate::reasons::{reason_name, reason_number};
 use crate::solutions::{Reason, Solutions, Solved};
 use credential_text::Expr;
 use names::Entity;
@@ -239,7 +239,7 @@ impl Graph {
         &mut self,
         n: u64,
         m: u64,
-        port: NumberedPort,
+        port: Port<u32>,
     ) -> Result<bool, AllocError>
         requires asked { n < length self.old.nodes }
         requires asker { m < length self.old.nodes }
@@ -257,7 +257,7 @@ impl Graph {
     }
 
     /// As `listener`, with the number of the port's name.
-    pub fn numbered_listener(&self, n: u64, i: u64) -> (u64, NumberedPort)
+    pub fn numbered_listener(&self, n: u64, i: u64) -> (u64, Port<u32>)
         requires node { n < length self.now.nodes }
         requires place { i < length (listeners_of self.now n) }
         requires named { (l : Listening) → slice_get (listeners_of self.now n) i ≡ Some l → IsNamed self.now.nodes l.port }
@@ -275,7 +275,7 @@ impl Graph {
         &mut self,
         n: u64,
         who: u32,
-        reason: NumberedReason,
+        reason: Reason<u32, u32>,
     ) -> Result<bool, AllocError>
         requires entity { IsEntity self.old.nodes who }
         requires reason { IsReason self.old.nodes reason }

@@ -21,6 +21,4 @@ mod tests;
 
 pub use graphs::Graph;
 pub use listeners::{Listening, Port};
-pub use ports::NumberedPort;
-pub use reasons::NumberedReason;
 pub use solutions::{Reason, Solution};

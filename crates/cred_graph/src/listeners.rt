@@ -7,22 +7,22 @@ use names::Entity;
 use std::alloc::{AllocError, Global};
 use std::marker::Model;
 
-/// For what an expression listens to another.
-#[derive(Clone, Copy, PartialEq, Eq, Hash)]
-pub enum Port {
+/// For what an expression listens to another. The member of a base is an `Entity`, or the number of one.
+#[derive(Clone, Copy, PartialEq, Eq)]
+pub enum Port<E = Entity> {
     /// A role, for the body of one of its credentials.
     Body,
     /// A linked role, for its base.
     Base,
     /// A linked role, for the role that this member of its base gives it.
-    Via(Entity),
+    Via(E),
     /// An intersection, for its part of this number, counted from 0.
     Part(u8),
 }
 
 /// Who listens to a node: the node `asker`, on a port. One node may listen to another on two ports, which are two
 /// listeners.
-#[derive(Clone, Copy, PartialEq, Eq, Hash)]
+#[derive(Clone, Copy, PartialEq, Eq)]
 pub struct Listening {
     pub asker: u64,
     pub port: Port,

@@ -7,19 +7,6 @@ use crate::listeners::Port;
 use crate::nodes::Nodes;
 use std::alloc::AllocError;
 
-/// For what an expression listens to another, with the number of the member of a base.
-#[derive(Clone, Copy, PartialEq, Eq, Hash)]
-pub enum NumberedPort {
-    /// A role, for the body of one of its credentials.
-    Body,
-    /// A linked role, for its base.
-    Base,
-    /// A linked role, for the role that the member of its base of this number gives it.
-    Via(u32),
-    /// An intersection, for its part of this number, counted from 0.
-    Part(u8),
-}
-
 /// A port as a graph keeps it. A member of a base that had no node when it was first named is a stranger, and goes on
 /// to have its number among the strangers.
 #[derive(Clone, Copy, Default, PartialEq, Eq, Hash)]
@@ -57,15 +44,15 @@ pub fn keep_port(
 }
 
 /// The port of a number as it is kept. Where there is no stranger no table is asked.
-pub fn kept_port(nodes: &Nodes, strangers: &Interned, port: NumberedPort) -> KeptPort
+pub fn kept_port(nodes: &Nodes, strangers: &Interned, port: Port<u32>) -> KeptPort
     requires { IsPort nodes.now port }
     ensures kept { IsKept nodes.now strangers.now result }
     ensures same { kept_as nodes.now strangers.now result ≡ port_at nodes.now port }
 {
     match port {
-        NumberedPort::Body => KeptPort::Body,
-        NumberedPort::Base => KeptPort::Base,
-        NumberedPort::Via(k) => {
+        Port::Body => KeptPort::Body,
+        Port::Base => KeptPort::Base,
+        Port::Via(k) => {
             if strangers.is_empty() {
                 return KeptPort::Via(k);
             }
@@ -74,7 +61,7 @@ pub fn kept_port(nodes: &Nodes, strangers: &Interned, port: NumberedPort) -> Kep
                 None => KeptPort::Via(k),
             }
         }
-        NumberedPort::Part(part) => KeptPort::Part(part),
+        Port::Part(part) => KeptPort::Part(part),
     }
 }
 
@@ -93,20 +80,20 @@ pub fn port_name(nodes: &Nodes, strangers: &Interned, port: KeptPort) -> Port
 }
 
 /// The port with the number of its name.
-pub fn port_number(nodes: &Nodes, strangers: &Interned, port: KeptPort) -> NumberedPort
+pub fn port_number(nodes: &Nodes, strangers: &Interned, port: KeptPort) -> Port<u32>
     requires kept { IsKept nodes.now strangers.now port }
     requires named { IsNamed nodes.now (kept_as nodes.now strangers.now port) }
     ensures same { port_at nodes.now result ≡ kept_as nodes.now strangers.now port }
     ensures number { IsPort nodes.now result }
 {
     match port {
-        KeptPort::Body => NumberedPort::Body,
-        KeptPort::Base => NumberedPort::Base,
-        KeptPort::Via(k) => NumberedPort::Via(k),
+        KeptPort::Body => Port::Body,
+        KeptPort::Base => Port::Base,
+        KeptPort::Via(k) => Port::Via(k),
         KeptPort::Stranger(j) => match nodes.entity_number(&strangers.name(j)) {
-            Some(k) => NumberedPort::Via(k),
+            Some(k) => Port::Via(k),
             None => unreachable!(),
         },
-        KeptPort::Part(part) => NumberedPort::Part(part),
+        KeptPort::Part(part) => Port::Part(part),
     }
 }

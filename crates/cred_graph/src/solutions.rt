@@ -1,22 +1,22 @@
 ghost use Rattle.std.specs.Prelude.{◌≡◌, [], Some, IfOk, OnErr, MatchOption, ◌<◌, length, slice_get};
 
 use crate::member_lists::MemberLists;
-use crate::reasons::NumberedReason;
 use indexmap::IndexMap;
 use names::Entity;
 use std::alloc::{AllocError, Global};
 use std::marker::Model;
 
-/// Why an entity is a solution of a node.
+/// Why an entity is a solution of a node. Nodes have numbers of the type `N`; the member of a base is an `Entity`, or the
+/// number of one.
 #[derive(Clone, Copy, PartialEq, Eq)]
-pub enum Reason {
+pub enum Reason<N = u64, E = Entity> {
     /// The node's expression is the entity.
     Leaf,
     /// The node is a role, and the entity a solution of this node, the body of one of its credentials.
-    Body(u64),
-    /// The node is a linked role, this entity a member of its base, and the solution is in the role that it gives
+    Body(N),
+    /// The node is a linked role, this a member of its base, and the solution is in the role that it gives
     /// under the linked name.
-    Via(Entity),
+    Via(E),
     /// The node is an intersection, and the entity a solution of each part.
     Parts,
 }
@@ -40,17 +40,17 @@ pub struct Solved {
 /// spoken of by number.
 #[derive(Drop)]
 pub struct Solutions {
-    reasons: IndexMap<Solved, NumberedReason>,
+    reasons: IndexMap<Solved, Reason<u32, u32>>,
     members: MemberLists,
 }
 
 impl Model for Solutions {
-    ghost use Rattle.std.specs.Prelude.{List};
+    ghost use Rattle.std.specs.Prelude.{ℕ, List};
     ghost use Rattle.cred_graph.specs.declared.solutions.Solved.{Solved};
-    ghost use Rattle.cred_graph.specs.declared.reasons.NumberedReason.{NumberedReason};
+    ghost use Rattle.cred_graph.specs.declared.solutions.Reason.{Reason};
     ghost use Rattle.cred_graph.specs.Solved.{AreMembers};
 
-    ghost Value = { List (Solved × NumberedReason) };
+    ghost Value = { List (Solved × Reason ℕ ℕ) };
 
     ghost view = { λ s. s.reasons.entries };
 
@@ -86,7 +86,7 @@ impl Solutions {
     }
 
     /// The place of the solution, and its reason, if it is there.
-    pub fn find(&self, solved: &Solved) -> Option<(u64, NumberedReason)>
+    pub fn find(&self, solved: &Solved) -> Option<(u64, Reason<u32, u32>)>
         ensures { MatchOption result (HasKey self.now solved.now → ⊥) (λ r. slice_get self.now r.0 ≡ Some (solved.now, r.1)) }
     {
         match self.reasons.get_full(solved) {
@@ -96,7 +96,7 @@ impl Solutions {
     }
 
     /// Adds a solution, and answers whether that is new. The first reason stays.
-    pub fn add(&mut self, solved: Solved, reason: NumberedReason) -> Result<bool, AllocError>
+    pub fn add(&mut self, solved: Solved, reason: Reason<u32, u32>) -> Result<bool, AllocError>
         ensures ok { IfOk result (λ new. Solves self.old self.new solved reason new) }
         ensures growth { OnErr result (HasKey self.old solved → ⊥) }
         ensures unchanged { OnErr result (self.new ≡ self.old) }

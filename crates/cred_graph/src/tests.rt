@@ -1,7 +1,7 @@
 ghost use Rattle.std.specs.Prelude.{◌≡◌, ◌∷◌, [], IfOk, IfSome};
 ghost use Rattle.cred_graph.specs.Reason.{Fits};
 
-use crate::{Graph, NumberedPort, NumberedReason, Port, Reason};
+use crate::{Graph, Port, Reason};
 use credential_text::{Expr, Part, Parts};
 use names::{Entity, Role, RoleName};
 use std::alloc::{AllocError, Global};
@@ -286,9 +286,9 @@ fn listen_by_number(
     let Some(k) = graph.entity_number(who) else {
         return Ok(None);
     };
-    match graph.add_numbered_listener(n, m, NumberedPort::Via(k)) {
+    match graph.add_numbered_listener(n, m, Port::Via(k)) {
         Ok(is_new) => Ok(Some(is_new)),
-        Err(_) => Ok(Some(graph.add_numbered_listener(n, m, NumberedPort::Via(k))?)),
+        Err(_) => Ok(Some(graph.add_numbered_listener(n, m, Port::Via(k))?)),
     }
 }
 
@@ -297,9 +297,9 @@ fn solve_by_number(graph: &mut Graph, who: &Entity) -> Result<Option<bool>, Allo
     let Some(k) = graph.entity_number(who) else {
         return Ok(None);
     };
-    match graph.add_numbered_solution(k as u64, k, NumberedReason::Leaf) {
+    match graph.add_numbered_solution(k as u64, k, Reason::Leaf) {
         Ok(is_new) => Ok(Some(is_new)),
-        Err(_) => Ok(Some(graph.add_numbered_solution(k as u64, k, NumberedReason::Leaf)?)),
+        Err(_) => Ok(Some(graph.add_numbered_solution(k as u64, k, Reason::Leaf)?)),
     }
 }
 

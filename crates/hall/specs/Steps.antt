@@ -43,7 +43,7 @@ TakesAt old place (Some got) new = Takes old new place got.0 got.1
 abbrev pub PutsBack : SearchState → ℕ → Bool → SearchState → Type 0
 PutsBack old letter false new = (held_in old.stage letter ≡ None) × (new ≡ old)
 PutsBack old letter true new =
-    ((l : Letter Load) × (held_in old.stage letter ≡ Some l)) × (new ≡ record old { stage = stage_marked letter false old.stage })
+    ((l : Letter (Load (List ℕ))) × (held_in old.stage letter ≡ Some l)) × (new ≡ record old { stage = stage_marked letter false old.stage })
 
 -- the signal at a place is delivered, where there is one
 pub record Signals (old : SearchState) (place : ℕ) (delivered : Bool) (new : SearchState) : Type 0 where

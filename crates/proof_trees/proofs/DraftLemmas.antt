@@ -48,7 +48,7 @@ module _ (g : GraphState) (d : DraftState) (draft : IsDraft g d) where
   claims_once j k who e (s, at, s_who, s_claim) (t, there, t_who, t_claim) = are_apart j k s t at there (s_who ∙ sym t_who) (s_claim ∙ sym t_claim)
 
   -- a rule cites the step of each premise
-  pub cites_premise : (n : ℕ) (who : List ℕ) (why : Reason) (by : Rule) (w : List ℕ) (e : Expr) (k : ℕ) →
+  pub cites_premise : (n : ℕ) (who : List ℕ) (why : Reason ℕ (List ℕ)) (by : Rule) (w : List ℕ) (e : Expr) (k : ℕ) →
       IsByReason g d.steps n who why by → IsPremiseOf g n who why w e → Claims d.steps k w e → Contains (cited by) k
   cites_premise n who reason.Leaf by w e k is premise claims = absurd premise
   cites_premise n who (reason.Body m) (rule.Cred place) w e k (f, node, body) (same, again) claims =
@@ -75,7 +75,7 @@ module _ (g : GraphState) (d : DraftState) (draft : IsDraft g d) where
   cites_premise n who why by w e k is premise claims = absurd is
 
 -- a rule that follows the reason is RT0's
-by_rule : (rows : List Credential) (g : GraphState) (steps : List Step) (n : ℕ) (who : List ℕ) (why : Reason) (by : Rule) (claim : Expr) →
+by_rule : (rows : List Credential) (g : GraphState) (steps : List Step) (n : ℕ) (who : List ℕ) (why : Reason ℕ (List ℕ)) (by : Rule) (claim : Expr) →
     ByRow rows g n why → IsNode g n claim → IsByReason g steps n who why by → IsBy rows steps who claim by
 by_rule rows g steps n who reason.Leaf rule.Leaf claim row node is = same_Some claim (expr.Ent who) (sym node ∙ is)
 by_rule rows g steps n who (reason.Body m) (rule.Cred place) claim (c, among, head, body) node (e, again, claims) =

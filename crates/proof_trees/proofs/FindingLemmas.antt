@@ -25,7 +25,7 @@ module _ (g : GraphState) (k : ℕ) where
   known_later who e (n, node, solution) = (n, node, solution_later n who solution)
 
   -- what was found by earlier solutions is found by all
-  pub fits_later : (n : ℕ) (who : List ℕ) (why : Reason) → Fits (before k g) n who why → Fits g n who why
+  pub fits_later : (n : ℕ) (who : List ℕ) (why : Reason ℕ (List ℕ)) → Fits (before k g) n who why → Fits g n who why
   fits_later n who reason.Leaf fits = fits
   fits_later n who (reason.Body m) (r, e, head, body, solution) = (r, e, head, body, solution_later m who solution)
   fits_later n who (reason.Via b) (r, t, node, in_base, in_role) =
@@ -47,7 +47,7 @@ module _ (g : GraphState) (graph : IsGraph g) where
       subst (λ m. m < k) found front.0
 
 -- a premise of a solution that fits is known
-premise_known : (g : GraphState) (n : ℕ) (who : List ℕ) (why : Reason) (d : List ℕ) (e : Expr) → Fits g n who why → IsPremiseOf g n who why d e → Known g d e
+premise_known : (g : GraphState) (n : ℕ) (who : List ℕ) (why : Reason ℕ (List ℕ)) (d : List ℕ) (e : Expr) → Fits g n who why → IsPremiseOf g n who why d e → Known g d e
 premise_known g n who reason.Leaf d e fits premise = absurd premise
 premise_known g n who (reason.Body m) d e (r, f, head, body, solution) (same, node) =
     subst (λ w. Known g w e) (sym same) (m, node, solution)

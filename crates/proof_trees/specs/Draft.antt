@@ -28,7 +28,7 @@ pub record DraftState : Type 0 where
 -- the step claims the solution at the place
 pub record IsStepOf (g : GraphState) (place : ℕ) (s : Step) : Type 0 where
   pub node : ℕ
-  pub reason : Reason
+  pub reason : Reason ℕ (List ℕ)
   pub solution : slice_get g.solutions place ≡ Some (record { node = node; who = s.who; reason = reason })
   pub claim : IsNode g node s.claim
 
@@ -61,7 +61,7 @@ pub record IsMissingPremise (g : GraphState) (d : DraftState) (s : Solution) (f 
   pub absent : Contains d.places f.place → ⊥
 
 -- the rule gives the solution of the node n, for its reason, from these steps
-abbrev pub IsByReason : GraphState → List Step → ℕ → List ℕ → Reason → Rule → Type 0
+abbrev pub IsByReason : GraphState → List Step → ℕ → List ℕ → Reason ℕ (List ℕ) → Rule → Type 0
 IsByReason g steps n who reason.Leaf rule.Leaf = IsNode g n (expr.Ent who)
 IsByReason g steps n who (reason.Body m) (rule.Cred place) = (e : Expr) × IsNode g m e × Claims steps place who e
 IsByReason g steps n who (reason.Via b) (rule.Link base_place role_place) =

@@ -22,7 +22,7 @@ abbrev pub AreByRows : List Credential → GraphState → Type 0
 AreByRows rows g = (s : Solution) → Contains g.solutions s → ByRow rows g s.node s.reason
 
 -- a solution of the node n is found for the reason once it is known that the entity d is in the expression
-abbrev pub IsPremiseOf : GraphState → ℕ → List ℕ → Reason → List ℕ → Expr → Type 0
+abbrev pub IsPremiseOf : GraphState → ℕ → List ℕ → Reason ℕ (List ℕ) → List ℕ → Expr → Type 0
 IsPremiseOf g n who reason.Leaf d e = ⊥
 IsPremiseOf g n who (reason.Body m) d e = (d ≡ who) × IsNode g m e
 IsPremiseOf g n who (reason.Via b) d e =

@@ -18,12 +18,12 @@ use Rattle.search.specs.Answers.{Progress, progress, net_at, MayTakeIn, Opens, o
 use Rattle.search.proofs.Receive.{awaited_fits, receiver_in, told_by_letter}
 use Rattle.search.proofs.Taken.{may_take_in}
 
-pub awaits_as : {rows : List Credential} {asked : Role} {g : GraphState} {ms : List Monitor} {rest : List Sent} {from : Parent} {to : ℕ} {l : Load} → Awaits rows asked g ms rest from to l →
-    (from' : Parent) (l' : Load) → from ≡ from' → l ≡ l' → Awaits rows asked g ms rest from' to l'
+pub awaits_as : {rows : List Credential} {asked : Role} {g : GraphState} {ms : List Monitor} {rest : List Sent} {from : Parent} {to : ℕ} {l : Load (List ℕ)} → Awaits rows asked g ms rest from to l →
+    (from' : Parent) (l' : Load (List ℕ)) → from ≡ from' → l ≡ l' → Awaits rows asked g ms rest from' to l'
 awaits_as {rows} {asked} {g} {ms} {rest} {from} {to} {l} awaits from' l' p q =
-    subst (λ (k : Load). Awaits rows asked g ms rest from' to k) q (subst (λ (f : Parent). Awaits rows asked g ms rest f to l) p awaits)
+    subst (λ (k : Load (List ℕ)). Awaits rows asked g ms rest from' to k) q (subst (λ (f : Parent). Awaits rows asked g ms rest f to l) p awaits)
 
-pub node_in : {rows : List Credential} {asked : Role} {g : GraphState} {ms : List Monitor} {rest : List Sent} {from : Parent} {to : ℕ} {l : Load} → Awaits rows asked g ms rest from to l → to < length g.nodes
+pub node_in : {rows : List Credential} {asked : Role} {g : GraphState} {ms : List Monitor} {rest : List Sent} {from : Parent} {to : ℕ} {l : Load (List ℕ)} → Awaits rows asked g ms rest from to l → to < length g.nodes
 node_in {rows} {asked} {g} {ms} {rest} {from} {to} {l} awaits =
     receiver_in rows asked (net_at (progress g ms []) rest to) awaits.steady.right from to l (awaited_fits awaits)
 
@@ -33,44 +33,44 @@ from_environment rows net Neutral to fits = absurd fits
 from_environment rows net Environment to fits = refl
 from_environment rows net (Node m) to fits = absurd fits
 
-from_asker : (rows : List Credential) (net : Net) (from : Parent) (to : ℕ) (p : Port) → LetterFits rows net from to (load.Ask p) → (m : ℕ) × (from ≡ Node m)
+from_asker : (rows : List Credential) (net : Net) (from : Parent) (to : ℕ) (p : Port (List ℕ)) → LetterFits rows net from to (load.Ask p) → (m : ℕ) × (from ≡ Node m)
 from_asker rows net Neutral to p fits = absurd fits
 from_asker rows net Environment to p fits = absurd fits
 from_asker rows net (Node m) to p fits = (m, refl)
 
-from_teller : (rows : List Credential) (net : Net) (from : Parent) (to : ℕ) (p : Port) (who : List ℕ) → LetterFits rows net from to (load.Tell p who) → (m : ℕ) × (from ≡ Node m)
+from_teller : (rows : List Credential) (net : Net) (from : Parent) (to : ℕ) (p : Port (List ℕ)) (who : List ℕ) → LetterFits rows net from to (load.Tell p who) → (m : ℕ) × (from ≡ Node m)
 from_teller rows net Neutral to p who fits = absurd fits
 from_teller rows net Environment to p who fits = absurd fits
 from_teller rows net (Node m) to p who fits = (m, refl)
 
-pub asker_is : {rows : List Credential} {asked : Role} {g : GraphState} {ms : List Monitor} {rest : List Sent} {from : Parent} {to : ℕ} {l : Load} → Awaits rows asked g ms rest from to l → (p : Port) → l ≡ load.Ask p → (m : ℕ) × (from ≡ Node m)
+pub asker_is : {rows : List Credential} {asked : Role} {g : GraphState} {ms : List Monitor} {rest : List Sent} {from : Parent} {to : ℕ} {l : Load (List ℕ)} → Awaits rows asked g ms rest from to l → (p : Port (List ℕ)) → l ≡ load.Ask p → (m : ℕ) × (from ≡ Node m)
 asker_is {rows} {asked} {g} {ms} {rest} {from} {to} {l} awaits p is =
     from_asker rows (net_at (progress g ms []) rest to) from to p (awaited_fits (awaits_as awaits from (load.Ask p) refl is))
 
-pub teller_is : {rows : List Credential} {asked : Role} {g : GraphState} {ms : List Monitor} {rest : List Sent} {from : Parent} {to : ℕ} {l : Load} → Awaits rows asked g ms rest from to l → (p : Port) (who : List ℕ) → l ≡ load.Tell p who → (m : ℕ) × (from ≡ Node m)
+pub teller_is : {rows : List Credential} {asked : Role} {g : GraphState} {ms : List Monitor} {rest : List Sent} {from : Parent} {to : ℕ} {l : Load (List ℕ)} → Awaits rows asked g ms rest from to l → (p : Port (List ℕ)) (who : List ℕ) → l ≡ load.Tell p who → (m : ℕ) × (from ≡ Node m)
 teller_is {rows} {asked} {g} {ms} {rest} {from} {to} {l} awaits p who is =
     from_teller rows (net_at (progress g ms []) rest to) from to p who (awaited_fits (awaits_as awaits from (load.Tell p who) refl is))
 
-pub asker_in : {rows : List Credential} {asked : Role} {g : GraphState} {ms : List Monitor} {rest : List Sent} {from : Parent} {to : ℕ} {l : Load} → Awaits rows asked g ms rest from to l → (p : Port) (m : ℕ) → l ≡ load.Ask p → from ≡ Node m → m < length g.nodes
+pub asker_in : {rows : List Credential} {asked : Role} {g : GraphState} {ms : List Monitor} {rest : List Sent} {from : Parent} {to : ℕ} {l : Load (List ℕ)} → Awaits rows asked g ms rest from to l → (p : Port (List ℕ)) (m : ℕ) → l ≡ load.Ask p → from ≡ Node m → m < length g.nodes
 asker_in {rows} {asked} {g} {ms} {rest} {from} {to} {l} awaits p m is by =
     let fits = awaited_fits (awaits_as awaits (Node m) (load.Ask p) by is) in
     slice_get_within g.nodes m fits.0 fits.2
 
-pub may_tell : {rows : List Credential} {asked : Role} {g : GraphState} {ms : List Monitor} {rest : List Sent} {from : Parent} {to : ℕ} {l : Load} → Awaits rows asked g ms rest from to l → (p : Port) (who : List ℕ) (m : ℕ) → l ≡ load.Tell p who → from ≡ Node m → MayTakeIn g ms to m p who
+pub may_tell : {rows : List Credential} {asked : Role} {g : GraphState} {ms : List Monitor} {rest : List Sent} {from : Parent} {to : ℕ} {l : Load (List ℕ)} → Awaits rows asked g ms rest from to l → (p : Port (List ℕ)) (who : List ℕ) (m : ℕ) → l ≡ load.Tell p who → from ≡ Node m → MayTakeIn g ms to m p who
 may_tell {rows} {asked} {g} {ms} {rest} {from} {to} {l} awaits p who m is by =
     let told = awaits_as awaits (Node m) (load.Tell p who) by is in
     may_take_in rows asked rest to m (progress g ms []) told.steady p who (told_by_letter rows asked g ms rest m to p who told)
 
-pub answers_start : {rows : List Credential} {asked : Role} {g : GraphState} {ms : List Monitor} {rest : List Sent} {from : Parent} {to : ℕ} {l : Load} → Awaits rows asked g ms rest from to l → l ≡ load.Start →
+pub answers_start : {rows : List Credential} {asked : Role} {g : GraphState} {ms : List Monitor} {rest : List Sent} {from : Parent} {to : ℕ} {l : Load (List ℕ)} → Awaits rows asked g ms rest from to l → l ≡ load.Start →
     (view : List Vault) (s t : Progress) → ((e : Expr) → IsNode s.graph to e → Opens (own_rows view e) s t to e) → Answers view s t from to l
 answers_start {rows} {asked} {g} {ms} {rest} {from} {to} {l} awaits is view s t opens =
     let by : from ≡ Environment = from_environment rows (net_at (progress g ms []) rest to) from to (awaited_fits (awaits_as awaits from load.Start refl is)) in
-    subst (λ (k : Load). Answers view s t from to k) (sym is) (subst (λ (f : Parent). Answers view s t f to load.Start) (sym by) opens)
+    subst (λ (k : Load (List ℕ)). Answers view s t from to k) (sym is) (subst (λ (f : Parent). Answers view s t f to load.Start) (sym by) opens)
 
-pub answers_ask : (view : List Vault) (s t : Progress) (from : Parent) (to : ℕ) (l : Load) (m : ℕ) (p : Port) → from ≡ Node m → l ≡ load.Ask p → AnswersAsk view s t to m p → Answers view s t from to l
+pub answers_ask : (view : List Vault) (s t : Progress) (from : Parent) (to : ℕ) (l : Load (List ℕ)) (m : ℕ) (p : Port (List ℕ)) → from ≡ Node m → l ≡ load.Ask p → AnswersAsk view s t to m p → Answers view s t from to l
 answers_ask view s t from to l m p by is answers =
-    subst (λ (k : Load). Answers view s t from to k) (sym is) (subst (λ (f : Parent). Answers view s t f to (load.Ask p)) (sym by) answers)
+    subst (λ (k : Load (List ℕ)). Answers view s t from to k) (sym is) (subst (λ (f : Parent). Answers view s t f to (load.Ask p)) (sym by) answers)
 
-pub answers_tell : (view : List Vault) (s t : Progress) (from : Parent) (to : ℕ) (l : Load) (m : ℕ) (p : Port) (who : List ℕ) → from ≡ Node m → l ≡ load.Tell p who → TakesIn s t to m p who → Answers view s t from to l
+pub answers_tell : (view : List Vault) (s t : Progress) (from : Parent) (to : ℕ) (l : Load (List ℕ)) (m : ℕ) (p : Port (List ℕ)) (who : List ℕ) → from ≡ Node m → l ≡ load.Tell p who → TakesIn s t to m p who → Answers view s t from to l
 answers_tell view s t from to l m p who by is takes =
-    subst (λ (k : Load). Answers view s t from to k) (sym is) (subst (λ (f : Parent). Answers view s t f to (load.Tell p who)) (sym by) takes)
+    subst (λ (k : Load (List ℕ)). Answers view s t from to k) (sym is) (subst (λ (f : Parent). Answers view s t f to (load.Tell p who)) (sym by) takes)

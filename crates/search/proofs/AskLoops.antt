@@ -14,13 +14,13 @@ take_more [] k x at = cc
 take_more (y ∷ xs) zero x at = ap (λ z. z ∷ []) (same_Some y x at)
 take_more (y ∷ xs) (suc k) x at = ap (λ zs. y ∷ zs) (take_more xs k x at)
 
-asks_push : (ws : List (Expr × Port)) (s mid t : Progress) (e : Expr) (p : Port) → AsksEach s ws mid → AsksFor mid t e p → AsksEach s (ws ++ (e, p) ∷ []) t
+asks_push : (ws : List (Expr × Port (List ℕ))) (s mid t : Progress) (e : Expr) (p : Port (List ℕ)) → AsksEach s ws mid → AsksFor mid t e p → AsksEach s (ws ++ (e, p) ∷ []) t
 asks_push [] s mid t e p same ask = (t, subst (λ (u : Progress). AsksFor u t e p) same ask, refl)
 asks_push (w ∷ ws) s mid t e p (next, first, later) ask = (next, first, asks_push ws next mid t e p later ask)
 
-pub asks_next : (ws : List (Expr × Port)) (k : ℕ) (s mid t : Progress) (e : Expr) (p : Port) → AsksEach s (take k ws) mid → slice_get ws k ≡ Some (e, p) → AsksFor mid t e p → AsksEach s (take (k + 1) ws) t
+pub asks_next : (ws : List (Expr × Port (List ℕ))) (k : ℕ) (s mid t : Progress) (e : Expr) (p : Port (List ℕ)) → AsksEach s (take k ws) mid → slice_get ws k ≡ Some (e, p) → AsksFor mid t e p → AsksEach s (take (k + 1) ws) t
 asks_next ws k s mid t e p so_far at ask =
-    subst (λ (vs : List (Expr × Port)). AsksEach s vs t) (sym (ap (λ n. take n ws) (add-one k) ∙ take_more ws k (e, p) at)) (asks_push (take k ws) s mid t e p so_far ask)
+    subst (λ (vs : List (Expr × Port (List ℕ))). AsksEach s vs t) (sym (ap (λ n. take n ws) (add-one k) ∙ take_more ws k (e, p) at)) (asks_push (take k ws) s mid t e p so_far ask)
 
 pub take_all : {A : Type 0} (xs : List A) (n : ℕ) → n ≡ length xs → take n xs ≡ xs
 take_all [] zero e = refl
@@ -28,8 +28,8 @@ take_all [] (suc n) e = absurd (omega arith)
 take_all (x ∷ xs) zero e = absurd (omega arith)
 take_all (x ∷ xs) (suc n) e = ap (λ zs. x ∷ zs) (take_all xs n (omega arith))
 
-pub asks_all : (ws : List (Expr × Port)) (n : ℕ) (s t : Progress) → n ≡ length ws → AsksEach s (take n ws) t → AsksEach s ws t
-asks_all ws n s t count so_far = subst (λ (vs : List (Expr × Port)). AsksEach s vs t) (take_all ws n count) so_far
+pub asks_all : (ws : List (Expr × Port (List ℕ))) (n : ℕ) (s t : Progress) → n ≡ length ws → AsksEach s (take n ws) t → AsksEach s ws t
+asks_all ws n s t count so_far = subst (λ (vs : List (Expr × Port (List ℕ))). AsksEach s vs t) (take_all ws n count) so_far
 
 pub row_ask_at : (rows : List Credential) (k : ℕ) (c : Credential) → slice_get rows k ≡ Some c → slice_get (row_asks rows) k ≡ Some (c.body, port.Body)
 row_ask_at [] k c at = cc

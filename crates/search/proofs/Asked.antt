@@ -19,12 +19,12 @@ use Rattle.search.specs.Counted.{heard, asks_in}
 use Rattle.search.proofs.CountedGraph.{heard_pushed, asks_in-append}
 
 -- the ask that goes from the node to that of the expression, on the port
-pub record IsAskFor (nodes : List Expr) (n : ℕ) (w : Expr × Port) (a : NodeAsk) : Type 0 where
+pub record IsAskFor (nodes : List Expr) (n : ℕ) (w : Expr × Port (List ℕ)) (a : NodeAsk) : Type 0 where
   pub asker : a.asker ≡ n
   pub why : a.why ≡ why_of w.1
   pub asked : slice_get nodes a.asked ≡ Some w.0
 
-port_by_why : (p q : Port) → why_of p ≡ why_of q → p ≡ q
+port_by_why : (p q : Port (List ℕ)) → why_of p ≡ why_of q → p ≡ q
 port_by_why port.Body port.Body same = refl
 port_by_why port.Body port.Base same = cc
 port_by_why port.Body (port.Via b) same = cc
@@ -43,13 +43,13 @@ port_by_why (port.Part j) (port.Via b) same = cc
 port_by_why (port.Part j) (port.Part i) same = cc
 
 -- an ask is for one expression on one port
-pub ask_for_one : (nodes : List Expr) (n : ℕ) (v w : Expr × Port) (a : NodeAsk) → IsAskFor nodes n v a → IsAskFor nodes n w a → v ≡ w
+pub ask_for_one : (nodes : List Expr) (n : ℕ) (v w : Expr × Port (List ℕ)) (a : NodeAsk) → IsAskFor nodes n v a → IsAskFor nodes n w a → v ≡ w
 ask_for_one nodes n v w a is also =
     let expr : v.0 ≡ w.0 = same_Some v.0 w.0 (sym is.asked ∙ also.asked) in
     let on : v.1 ≡ w.1 = port_by_why v.1 w.1 (sym is.why ∙ also.why) in
     λ i. (expr i, on i)
 
-ask_for_stays : (nodes more : List Expr) (n : ℕ) (ws : List (Expr × Port)) (asks : List NodeAsk) →
+ask_for_stays : (nodes more : List Expr) (n : ℕ) (ws : List (Expr × Port (List ℕ))) (asks : List NodeAsk) →
     AllZip (IsAskFor nodes n) ws asks → AllZip (IsAskFor (nodes ++ more) n) ws asks
 ask_for_stays nodes more n [] [] all = tt
 ask_for_stays nodes more n [] (a ∷ asks) all = absurd all
@@ -58,9 +58,9 @@ ask_for_stays nodes more n (w ∷ ws) (a ∷ asks) all =
     (record { asker = all.0.asker; why = all.0.why; asked = slice_get_stays nodes more a.asked w.0 all.0.asked }, ask_for_stays nodes more n ws asks all.1)
 
 -- what asking these expressions in turn does
-pub record AskedFor (n : ℕ) (s t : Progress) (ws : List (Expr × Port)) : Type 0 where
+pub record AskedFor (n : ℕ) (s t : Progress) (ws : List (Expr × Port (List ℕ))) : Type 0 where
   pub asks : List NodeAsk
-  pub letters : List (ℕ × Load)
+  pub letters : List (ℕ × Load (List ℕ))
   pub more : List Expr
   pub nodes : t.graph.nodes ≡ s.graph.nodes ++ more
   pub outs : t.outs ≡ s.outs ++ letters
@@ -70,7 +70,7 @@ pub record AskedFor (n : ℕ) (s t : Progress) (ws : List (Expr × Port)) : Type
   pub heard_same : heard t.graph ≡ heard s.graph
   pub are : AllZip (IsAskFor t.graph.nodes n) ws asks
 
-asked_one : (n : ℕ) (s t : Progress) (e : Expr) (p : Port) → AsksFor s t e p → AskedFor n s t ((e, p) ∷ [])
+asked_one : (n : ℕ) (s t : Progress) (e : Expr) (p : Port (List ℕ)) → AsksFor s t e p → AskedFor n s t ((e, p) ∷ [])
 asked_one n s t e p (to, outs, inl (node, graph, monitors)) = record {
   asks = record { asker = n; why = why_of p; asked = to } ∷ [];
   letters = (to, load.Ask p) ∷ [];
@@ -97,11 +97,11 @@ asked_one n s t e p (to, outs, inr (absent, range, is, graph, monitors)) = recor
 }
 
 -- each node of a list of letters sends one after another
-pub sent_more : (n : ℕ) (xs ys : List (ℕ × Load)) → asks_in (sent_by n (xs ++ ys)) ≡ asks_in (sent_by n xs) ++ asks_in (sent_by n ys)
+pub sent_more : (n : ℕ) (xs ys : List (ℕ × Load (List ℕ))) → asks_in (sent_by n (xs ++ ys)) ≡ asks_in (sent_by n xs) ++ asks_in (sent_by n ys)
 sent_more n xs ys =
-    ap asks_in (map-append (λ (out : ℕ × Load). record { from = Node n; to = out.0; load = out.1 }) xs ys) ∙ asks_in-append (sent_by n xs) (sent_by n ys)
+    ap asks_in (map-append (λ (out : ℕ × Load (List ℕ)). record { from = Node n; to = out.0; load = out.1 }) xs ys) ∙ asks_in-append (sent_by n xs) (sent_by n ys)
 
-pub asked_each : (n : ℕ) (s t : Progress) (ws : List (Expr × Port)) → AsksEach s ws t → AskedFor n s t ws
+pub asked_each : (n : ℕ) (s t : Progress) (ws : List (Expr × Port (List ℕ))) → AsksEach s ws t → AskedFor n s t ws
 asked_each n s t [] same = record {
   asks = [];
   letters = [];
@@ -139,8 +139,8 @@ asked_each n s t (w ∷ ws) (mid, first, rest) =
     zipped_append R (x ∷ xs) zs (y ∷ ys) ws all more = (all.0, zipped_append R xs zs ys ws all.1 more)
 
 -- an ask among them is for one of the expressions
-pub own_ask : {nodes : List Expr} (n : ℕ) (ws : List (Expr × Port)) (asks : List NodeAsk) → AllZip (IsAskFor nodes n) ws asks → (a : NodeAsk) → Contains asks a →
-    (w : Expr × Port) × Contains ws w × IsAskFor nodes n w a
+pub own_ask : {nodes : List Expr} (n : ℕ) (ws : List (Expr × Port (List ℕ))) (asks : List NodeAsk) → AllZip (IsAskFor nodes n) ws asks → (a : NodeAsk) → Contains asks a →
+    (w : Expr × Port (List ℕ)) × Contains ws w × IsAskFor nodes n w a
 own_ask n [] [] all a has = absurd (Contains-none a has)
 own_ask n [] (b ∷ asks) all a has = absurd all
 own_ask n (w ∷ ws) [] all a has = absurd all

@@ -30,7 +30,7 @@ use Rattle.search.proofs.Settled.{TakesOut, settled}
 use Rattle.search.proofs.Receive.{Receipt}
 
 -- what a node sends is numbered as it is sent
-sent_numbered : (to : ℕ) (k : ℕ) (outs : List (ℕ × Load)) → sent_of (numbered (Node to) k outs) ≡ sent_by to outs
+sent_numbered : (to : ℕ) (k : ℕ) (outs : List (ℕ × Load (List ℕ))) → sent_of (numbered (Node to) k outs) ≡ sent_by to outs
 sent_numbered to k [] = refl
 sent_numbered to k (o ∷ outs) = ap (λ (xs : List Sent). record { from = Node to; to = o.0; load = o.1 } ∷ xs) (sent_numbered to (k + 1) outs)
 
@@ -48,23 +48,23 @@ abbrev start_to : ℕ → Sent
 start_to n = record { from = Environment; to = n; load = load.Start }
 
 -- the letter of a number, as it stands in the list
-there_of : (c : Computation Load) (number : ℕ) (l : Letter Load) → StandByNumber c → letter_of c number ≡ Some l → Contains c.letters (number, l)
+there_of : (c : Computation (Load (List ℕ))) (number : ℕ) (l : Letter (Load (List ℕ))) → StandByNumber c → letter_of c number ≡ Some l → Contains c.letters (number, l)
 there_of c number l by is = (by number l).1 is
 
-sent_there : (c : Computation Load) (number : ℕ) (l : Letter Load) → Contains c.letters (number, l) → Contains (sent_of c.letters) (plain l)
-sent_there c number l there = Contains-map (λ (x : ℕ × Letter Load). plain x.1) c.letters (number, l) there
+sent_there : (c : Computation (Load (List ℕ))) (number : ℕ) (l : Letter (Load (List ℕ))) → Contains c.letters (number, l) → Contains (sent_of c.letters) (plain l)
+sent_there c number l there = Contains-map (λ (x : ℕ × Letter (Load (List ℕ))). plain x.1) c.letters (number, l) there
 
-sent_length : (letters : List (ℕ × Letter Load)) → length (sent_of letters) ≡ length letters
+sent_length : (letters : List (ℕ × Letter (Load (List ℕ)))) → length (sent_of letters) ≡ length letters
 sent_length [] = refl
 sent_length (x ∷ letters) = ap suc (sent_length letters)
 
 -- where the environment's letter is there, it is the letter of any number
-start_is : (c : Computation Load) (number : ℕ) (l : Letter Load) (n : ℕ) → StartsAlone c.letters → Contains c.letters (number, l) → Contains (sent_of c.letters) (start_to n) → plain l ≡ start_to n
+start_is : (c : Computation (Load (List ℕ))) (number : ℕ) (l : Letter (Load (List ℕ))) (n : ℕ) → StartsAlone c.letters → Contains c.letters (number, l) → Contains (sent_of c.letters) (start_to n) → plain l ≡ start_to n
 start_is c number l n starts there start =
     one_of (sent_of c.letters) (plain l) (start_to n) (sent_length c.letters ∙ starts n start) (sent_there c number l there) start
 
-pub awaits_letter : {rows : List Credential} {asked : Role} {work : ℕ} {g : GraphState} {ms : List Monitor} {c : Computation Load} → KeptBy rows asked work g ms c → StandByNumber c →
-    (number : ℕ) (l : Letter Load) → letter_of c number ≡ Some l → Awaits rows asked g ms (sent_of c.letters) l.from l.to l.load
+pub awaits_letter : {rows : List Credential} {asked : Role} {work : ℕ} {g : GraphState} {ms : List Monitor} {c : Computation (Load (List ℕ))} → KeptBy rows asked work g ms c → StandByNumber c →
+    (number : ℕ) (l : Letter (Load (List ℕ))) → letter_of c number ≡ Some l → Awaits rows asked g ms (sent_of c.letters) l.from l.to l.load
 awaits_letter {rows} {asked} {work} {g} {ms} {c} kept by number l is =
     let there = there_of c number l by is in
     record {
@@ -73,12 +73,12 @@ awaits_letter {rows} {asked} {work} {g} {ms} {c} kept by number l is =
       steady = subst (λ (pending : List Sent). IsSteady rows asked (record { graph = g; monitors = ms; pending = pending })) (sym (append-nil (sent_of c.letters))) kept.steady;
     }
 
-module _ (view : List Vault) (asked : Role) (work : ℕ) (g : GraphState) (ms : List Monitor) (c : Computation Load) (number : ℕ) (l : Letter Load) (t : Progress) (ordered : IsOrdered view)
+module _ (view : List Vault) (asked : Role) (work : ℕ) (g : GraphState) (ms : List Monitor) (c : Computation (Load (List ℕ))) (number : ℕ) (l : Letter (Load (List ℕ))) (t : Progress) (ordered : IsOrdered view)
     (kept : KeptBy (credentials view) asked work g ms c) (by : StandByNumber c) (is : letter_of c number ≡ Some l) where
-  abbrev other : ℕ × Letter Load → Bool
+  abbrev other : ℕ × Letter (Load (List ℕ)) → Bool
   other x = not (x.0 == number)
 
-  abbrev pub left : List (ℕ × Letter Load)
+  abbrev pub left : List (ℕ × Letter (Load (List ℕ)))
   left = filter other c.letters
 
   there : Contains c.letters (number, l)
@@ -87,35 +87,35 @@ module _ (view : List Vault) (asked : Role) (work : ℕ) (g : GraphState) (ms : 
   -- a letter that is left was there, under another number
   left_was : (y : Sent) → Contains (sent_of left) y → Contains (sent_of c.letters) y
   left_was y among =
-      let from = mapped (λ (x : ℕ × Letter Load). plain x.1) left y among in
+      let from = mapped (λ (x : ℕ × Letter (Load (List ℕ))). plain x.1) left y among in
       let kept_one = filtered other c.letters from.from from.among in
-      subst (Contains (sent_of c.letters)) from.is (Contains-map (λ (x : ℕ × Letter Load). plain x.1) c.letters from.from kept_one.0)
+      subst (Contains (sent_of c.letters)) from.is (Contains-map (λ (x : ℕ × Letter (Load (List ℕ))). plain x.1) c.letters from.from kept_one.0)
 
   left_no_start : (n : ℕ) → Contains (sent_of left) (start_to n) → ⊥
   left_no_start n among =
-      let from = mapped (λ (x : ℕ × Letter Load). plain x.1) left (start_to n) among in
+      let from = mapped (λ (x : ℕ × Letter (Load (List ℕ))). plain x.1) left (start_to n) among in
       let kept_one = filtered other c.letters from.from from.among in
       let one : length c.letters ≡ 1 = kept.starts n (left_was (start_to n) among) in
-      let same : ◌≡◌ {A = ℕ × Letter Load} from.from (number, l) = one_of c.letters from.from (number, l) one kept_one.0 there in
-      let is_number : (from.from.0 == number) ≡ true = eq-eqb from.from.0 number (ap (λ (x : ℕ × Letter Load). x.0) same) in
+      let same : ◌≡◌ {A = ℕ × Letter (Load (List ℕ))} from.from (number, l) = one_of c.letters from.from (number, l) one kept_one.0 there in
+      let is_number : (from.from.0 == number) ≡ true = eq-eqb from.from.0 number (ap (λ (x : ℕ × Letter (Load (List ℕ))). x.0) same) in
       false≢true (sym (ap not is_number) ∙ kept_one.1)
 
-  sent_no_start : (outs : List (ℕ × Load)) (n : ℕ) → Contains (sent_by l.to outs) (start_to n) → ⊥
+  sent_no_start : (outs : List (ℕ × Load (List ℕ))) (n : ℕ) → Contains (sent_by l.to outs) (start_to n) → ⊥
   sent_no_start outs n among =
-      let from = mapped (λ (out : ℕ × Load). record { from = Node l.to; to = out.0; load = out.1 }) outs (start_to n) among in
+      let from = mapped (λ (out : ℕ × Load (List ℕ)). record { from = Node l.to; to = out.0; load = out.1 }) outs (start_to n) among in
       let same : Node l.to ≡ Environment = ap (λ (x : Sent). x.from) from.is in
       cc
 
   remains_left : (y : Sent) → Contains (sent_of c.letters) y → Contains (sent_of left) y ⊎ (y ≡ plain l)
   remains_left y among =
-      let from = mapped (λ (x : ℕ × Letter Load). plain x.1) c.letters y among in
+      let from = mapped (λ (x : ℕ × Letter (Load (List ℕ))). plain x.1) c.letters y among in
       elim (cases_eq from.from.0 number) [
         | inl same ↦
             let at : letter_of c number ≡ Some from.from.1 = subst (λ (k : ℕ). letter_of c k ≡ Some from.from.1) same ((by from.from.0 from.from.1).0 from.among) in
             let letter : from.from.1 ≡ l = same_Some from.from.1 l (sym at ∙ is) in
             inr (sym from.is ∙ ap plain letter)
         | inr different ↦
-            inl (subst (Contains (sent_of left)) from.is (Contains-map (λ (x : ℕ × Letter Load). plain x.1) left from.from (kept_by other c.letters from.from from.among (other_true from.from.0 different))))
+            inl (subst (Contains (sent_of left)) from.is (Contains-map (λ (x : ℕ × Letter (Load (List ℕ))). plain x.1) left from.from (kept_by other c.letters from.from from.among (other_true from.from.0 different))))
       ]
     where
       other_true : (k : ℕ) → (k ≡ number → ⊥) → not (k == number) ≡ true
@@ -148,13 +148,13 @@ module _ (view : List Vault) (asked : Role) (work : ℕ) (g : GraphState) (ms : 
     steady_after =
         settled (credentials view) asked t.graph t.monitors (sent_of c.letters ++ sent_by l.to t.outs) (sent_of left ++ sent_by l.to t.outs) (plain l) takes_out receipt.received receipt.steady
 
-    module _ (d : Computation Load) (finishes : FinishesLetter c number t.outs d) where
+    module _ (d : Computation (Load (List ℕ))) (finishes : FinishesLetter c number t.outs d) where
       letters_are : d.letters ≡ left ++ numbered (Node l.to) (c.sent + 1) t.outs
       letters_are = finishes.letters ∙ ap (λ o. left ++ answers (c.sent + 1) o t.outs) is
 
       pub after_is : sent_of d.letters ≡ sent_of left ++ sent_by l.to t.outs
       after_is =
-          ap sent_of letters_are ∙ map-append (λ (x : ℕ × Letter Load). plain x.1) left (numbered (Node l.to) (c.sent + 1) t.outs)
+          ap sent_of letters_are ∙ map-append (λ (x : ℕ × Letter (Load (List ℕ))). plain x.1) left (numbered (Node l.to) (c.sent + 1) t.outs)
           ∙ ap (λ (xs : List Sent). sent_of left ++ xs) (sent_numbered l.to (c.sent + 1) t.outs)
 
       pub done_kept : c.sent + length t.outs ≤ work → KeptBy (credentials view) asked work t.graph t.monitors d
@@ -165,21 +165,21 @@ module _ (view : List Vault) (asked : Role) (work : ℕ) (g : GraphState) (ms : 
       }
 
 -- a letter that is held or waits again says what it said
-sent_marked : (number : ℕ) (held : Bool) (letters : List (ℕ × Letter Load)) → sent_of (map (λ l. cond (l.0 == number) (l.0, record l.1 { held = held }) l) letters) ≡ sent_of letters
+sent_marked : (number : ℕ) (held : Bool) (letters : List (ℕ × Letter (Load (List ℕ)))) → sent_of (map (λ l. cond (l.0 == number) (l.0, record l.1 { held = held }) l) letters) ≡ sent_of letters
 sent_marked number held [] = refl
 sent_marked number held (x ∷ letters) =
     ap (λ (y : Sent). y ∷ sent_of (map (λ l. cond (l.0 == number) (l.0, record l.1 { held = held }) l) letters)) (same (x.0 == number)) ∙ ap (λ (ys : List Sent). plain x.1 ∷ ys) (sent_marked number held letters)
   where
-    same : (b : Bool) → plain ((cond {A = ℕ × Letter Load} b (x.0, record x.1 { held = held }) x).1) ≡ plain x.1
+    same : (b : Bool) → plain ((cond {A = ℕ × Letter (Load (List ℕ))} b (x.0, record x.1 { held = held }) x).1) ≡ plain x.1
     same true = refl
     same false = refl
 
-length_marked : (number : ℕ) (held : Bool) (letters : List (ℕ × Letter Load)) → length (map (λ l. cond (l.0 == number) (l.0, record l.1 { held = held }) l) letters) ≡ length letters
+length_marked : (number : ℕ) (held : Bool) (letters : List (ℕ × Letter (Load (List ℕ)))) → length (map (λ l. cond (l.0 == number) (l.0, record l.1 { held = held }) l) letters) ≡ length letters
 length_marked number held [] = refl
 length_marked number held (x ∷ letters) = ap suc (length_marked number held letters)
 
 -- what is kept is kept by the letters that were sent alone
-pub kept_as : {rows : List Credential} {asked : Role} {work : ℕ} {g : GraphState} {ms : List Monitor} {c d : Computation Load} → KeptBy rows asked work g ms c →
+pub kept_as : {rows : List Credential} {asked : Role} {work : ℕ} {g : GraphState} {ms : List Monitor} {c d : Computation (Load (List ℕ))} → KeptBy rows asked work g ms c →
     sent_of d.letters ≡ sent_of c.letters → length d.letters ≡ length c.letters → d.sent ≡ c.sent → KeptBy rows asked work g ms d
 kept_as {rows} {asked} {work} {g} {ms} {c} {d} kept sent count number = record {
   steady = subst (λ (pending : List Sent). IsSteady rows asked (record { graph = g; monitors = ms; pending = pending })) (sym sent) kept.steady;
@@ -187,22 +187,22 @@ kept_as {rows} {asked} {work} {g} {ms} {c} {d} kept sent count number = record {
   within = subst (λ (k : ℕ). k ≤ work) (sym number) kept.within;
 }
 
-pub marked_kept : {rows : List Credential} {asked : Role} {work : ℕ} {g : GraphState} {ms : List Monitor} {c : Computation Load} → KeptBy rows asked work g ms c → (number : ℕ) (held : Bool) → KeptBy rows asked work g ms (marked c number held)
+pub marked_kept : {rows : List Credential} {asked : Role} {work : ℕ} {g : GraphState} {ms : List Monitor} {c : Computation (Load (List ℕ))} → KeptBy rows asked work g ms c → (number : ℕ) (held : Bool) → KeptBy rows asked work g ms (marked c number held)
 marked_kept {c = c} kept number held = kept_as kept (sent_marked number held c.letters) (length_marked number held c.letters) refl
 
-pub signalled_kept : {rows : List Credential} {asked : Role} {work : ℕ} {g : GraphState} {ms : List Monitor} {c d : Computation Load} → KeptBy rows asked work g ms c → (place : ℕ) → DeliversSignal c place d → KeptBy rows asked work g ms d
+pub signalled_kept : {rows : List Credential} {asked : Role} {work : ℕ} {g : GraphState} {ms : List Monitor} {c d : Computation (Load (List ℕ))} → KeptBy rows asked work g ms c → (place : ℕ) → DeliversSignal c place d → KeptBy rows asked work g ms d
 signalled_kept kept place delivers = kept_as kept (ap sent_of delivers.letters) (ap length delivers.letters) delivers.sent
 
 -- and so is the count
-tallied_as : {g : GraphState} {ms : List Monitor} {c d : Computation Load} → IsTallied g ms c → sent_of d.letters ≡ sent_of c.letters → d.sent ≡ c.sent → IsTallied g ms d
+tallied_as : {g : GraphState} {ms : List Monitor} {c d : Computation (Load (List ℕ))} → IsTallied g ms c → sent_of d.letters ≡ sent_of c.letters → d.sent ≡ c.sent → IsTallied g ms d
 tallied_as {g} {ms} {c} {d} tallied sent number = record {
   first = λ start. number ∙ tallied.first (start.0, subst (λ (xs : List Sent). Contains xs (start_to start.0)) sent start.1);
   counted = subst (λ (n : ℕ). IsCounted (net_of g ms d) n) (sym number)
       (subst (λ (pending : List Sent). IsCounted (record { graph = g; monitors = ms; pending = pending }) c.sent) (sym sent) tallied.counted);
 }
 
-pub marked_tallied : {g : GraphState} {ms : List Monitor} {c : Computation Load} → IsTallied g ms c → (number : ℕ) (held : Bool) → IsTallied g ms (marked c number held)
+pub marked_tallied : {g : GraphState} {ms : List Monitor} {c : Computation (Load (List ℕ))} → IsTallied g ms c → (number : ℕ) (held : Bool) → IsTallied g ms (marked c number held)
 marked_tallied {c = c} tallied number held = tallied_as tallied (sent_marked number held c.letters) refl
 
-pub signalled_tallied : {g : GraphState} {ms : List Monitor} {c d : Computation Load} → IsTallied g ms c → (place : ℕ) → DeliversSignal c place d → IsTallied g ms d
+pub signalled_tallied : {g : GraphState} {ms : List Monitor} {c d : Computation (Load (List ℕ))} → IsTallied g ms c → (place : ℕ) → DeliversSignal c place d → IsTallied g ms d
 signalled_tallied tallied place delivers = tallied_as tallied (ap sent_of delivers.letters) delivers.sent

@@ -42,13 +42,13 @@ no_ask_in_new : (n : ℕ) (who : List ℕ) (ls : List Listening) → asks_in (se
 no_ask_in_new n who [] = refl
 no_ask_in_new n who (l ∷ ls) = no_ask_in_new n who ls
 
-pub no_ask_in_known : (n m : ℕ) (p : Port) (known : List (List ℕ)) → asks_in (sent_by n (map (λ who. (m, load.Tell p who)) known)) ≡ []
+pub no_ask_in_known : (n m : ℕ) (p : Port (List ℕ)) (known : List (List ℕ)) → asks_in (sent_by n (map (λ who. (m, load.Tell p who)) known)) ≡ []
 no_ask_in_known n m p [] = refl
 no_ask_in_known n m p (who ∷ known) = no_ask_in_known n m p known
 
 module _ (rest : List Sent) (n sent : ℕ) {may_ask : NodeAsk → Type 0} (s t : Progress) (counted : IsCountedAt rest n sent may_ask s) where
   -- the asks under way, where more letters are sent
-  pub pending_more : (letters : List (ℕ × Load)) → t.outs ≡ s.outs ++ letters → asks_in (rest ++ sent_by n t.outs) ≡ asks_in (rest ++ sent_by n s.outs) ++ asks_in (sent_by n letters)
+  pub pending_more : (letters : List (ℕ × Load (List ℕ))) → t.outs ≡ s.outs ++ letters → asks_in (rest ++ sent_by n t.outs) ≡ asks_in (rest ++ sent_by n s.outs) ++ asks_in (sent_by n letters)
   pending_more letters outs =
       asks_in-append rest (sent_by n t.outs)
       ∙ ap (λ l. asks_in rest ++ asks_in (sent_by n l)) outs
@@ -57,25 +57,25 @@ module _ (rest : List Sent) (n sent : ℕ) {may_ask : NodeAsk → Type 0} (s t :
       ∙ ap (λ l. l ++ asks_in (sent_by n letters)) (sym (asks_in-append rest (sent_by n s.outs)))
 
   -- expressions are asked, by a node that might not ask so far
-  pub counted_at_asked : (ws : List (Expr × Port)) (asked : AskedFor n s t ws) → AreDistinct ws → ((a : NodeAsk) → Contains asked.asks a → may_ask a → ⊥) →
+  pub counted_at_asked : (ws : List (Expr × Port (List ℕ))) (asked : AskedFor n s t ws) → AreDistinct ws → ((a : NodeAsk) → Contains asked.asks a → may_ask a → ⊥) →
       IsCountedAt rest n sent (λ a. may_ask a ⊎ Contains asked.asks a) t
   counted_at_asked ws asked distinct fresh =
       same_count (same_members s.graph t.graph (sym asked.solutions)) (sym asked.heard_same)
       (ap (λ l. asks_in (rest ++ sent_by n s.outs) ++ l) (sym asked.sent) ∙ sym (pending_more asked.letters asked.outs))
-      (omega (arith, asked.number, ap (λ (l : List (ℕ × Load)). length l) asked.outs, length-append s.outs asked.letters))
+      (omega (arith, asked.number, ap (λ (l : List (ℕ × Load (List ℕ))). length l) asked.outs, length-append s.outs asked.letters))
       (counted_asked counted asked.asks (AreDistinct-zipped (IsAskFor t.graph.nodes n) (ask_for_one t.graph.nodes n) ws asked.asks asked.are distinct) fresh)
 
   -- the node finds a solution
-  pub counted_at_solved : (who : List ℕ) (why : Reason) → Solves s t n who why → IsCountedAt rest n sent may_ask t
+  pub counted_at_solved : (who : List ℕ) (why : Reason ℕ (List ℕ)) → Solves s t n who why → IsCountedAt rest n sent may_ask t
   counted_at_solved who why (monitors, inl (is, graph, outs)) =
-      same_count (ap members_of (sym graph)) (ap heard (sym graph)) (ap (λ l. asks_in (rest ++ sent_by n l)) (sym outs)) (ap (λ (l : List (ℕ × Load)). sent + length l) (sym outs)) counted
+      same_count (ap members_of (sym graph)) (ap heard (sym graph)) (ap (λ l. asks_in (rest ++ sent_by n l)) (sym outs)) (ap (λ (l : List (ℕ × Load (List ℕ))). sent + length l) (sym outs)) counted
   counted_at_solved who why (monitors, inr (isn't, graph, outs)) =
-      let tells : List (ℕ × Load) = new_tells s.graph n who in
+      let tells : List (ℕ × Load (List ℕ)) = new_tells s.graph n who in
       let told : length (filter (λ a. a.asked == n) (heard s.graph)) ≡ length (listeners_of s.graph n) =
       subst (λ k. length (filter (λ a. a.asked == k) (heard s.graph)) ≡ length (listeners_of s.graph n)) (omega arith) (heard_by 0 n s.graph.listeners) in
       let number : length tells ≡ length (listeners_of s.graph n) = length-map (listeners_of s.graph n) (λ (l : Listening). (l.asker, load.Tell l.port who)) in
       same_count (ap members_of (sym graph)) (ap heard (sym graph))
       (sym (pending_more tells outs ∙ ap (λ l. asks_in (rest ++ sent_by n s.outs) ++ l) (no_ask_in_new n who (listeners_of s.graph n)) ∙ append-nil (asks_in (rest ++ sent_by n s.outs))))
-      (omega (arith, told, number, ap (λ (l : List (ℕ × Load)). length l) outs, length-append s.outs tells))
+      (omega (arith, told, number, ap (λ (l : List (ℕ × Load (List ℕ))). length l) outs, length-append s.outs tells))
       (counted_solved counted (members_of (record s.graph { solutions = s.graph.solutions ++ record { node = n; who = who; reason = why } ∷ [] })) n
       (members_with s.graph (record { node = n; who = who; reason = why })))

@@ -40,7 +40,7 @@ apart (y ∷ xs) ys x distinct has other =
     ]
 
 -- the node hears the Ask of another, which then is under way no more
-module _ (before after : List Sent) (m n : ℕ) (p : Port) (sent : ℕ) (s t : Progress) where
+module _ (before after : List Sent) (m n : ℕ) (p : Port (List ℕ)) (sent : ℕ) (s t : Progress) where
   abbrev the_letter : Sent
   the_letter = record { from = Node m; to = n; load = load.Ask p }
 
@@ -50,7 +50,7 @@ module _ (before after : List Sent) (m n : ℕ) (p : Port) (sent : ℕ) (s t : P
   asks_with : asks_in ((before ++ (the_letter ∷ after)) ++ sent_by n s.outs) ≡ asks_in before ++ (the_ask ∷ (asks_in after ++ asks_in (sent_by n s.outs)))
   asks_with = simp (asks_in-append, append_assoc)
 
-  asks_without : (letters : List (ℕ × Load)) → asks_in ((before ++ after) ++ sent_by n letters) ≡ asks_in before ++ (asks_in after ++ asks_in (sent_by n letters))
+  asks_without : (letters : List (ℕ × Load (List ℕ))) → asks_in ((before ++ after) ++ sent_by n letters) ≡ asks_in before ++ (asks_in after ++ asks_in (sent_by n letters))
   asks_without letters = simp (asks_in-append, append_assoc)
 
   pub counted_at_heard : {may_ask : NodeAsk → Type 0} → n < length s.graph.listeners → IsCountedAt (before ++ (the_letter ∷ after)) n sent may_ask s → HearsAsk s t n m p →
@@ -66,7 +66,7 @@ module _ (before after : List Sent) (m n : ℕ) (p : Port) (sent : ℕ) (s t : P
       let l : Listening = record { asker = m; port = p } in
       let more : IsInserted (heard s.graph) (heard_from 0 t.graph.listeners) (heard_of (0 + n) l) =
       subst (λ (g : GraphState). IsInserted (heard s.graph) (heard_from 0 g.listeners) (heard_of (0 + n) l)) (sym graph) (heard_with 0 n s.graph.listeners l within) in
-      let tells : List (ℕ × Load) = known_tells s.graph n m p in
+      let tells : List (ℕ × Load (List ℕ)) = known_tells s.graph n m p in
       let number : length tells ≡ length (members_of s.graph n) = length-map (members_of s.graph n) (λ (who : List ℕ). (m, load.Tell p who)) in
       let parted : IsCountedBy may_ask (members_of s.graph) (more.before ++ more.after) (asks_in before ++ (the_ask ∷ (asks_in after ++ asks_in (sent_by n s.outs)))) (sent + length s.outs) =
       same_count refl more.was asks_with refl counted in
@@ -76,5 +76,5 @@ module _ (before after : List Sent) (m n : ℕ) (p : Port) (sent : ℕ) (s t : P
       (ap (λ j. more.before ++ (heard_of j l ∷ more.after)) (omega arith) ∙ sym more.is)
       (ap (λ k. asks_in before ++ (asks_in after ++ k)) (sym (ap (λ o. asks_in (sent_by n o)) outs ∙ sent_more n s.outs tells ∙ ap (λ k. asks_in (sent_by n s.outs) ++ k) (no_ask_in_known n m p (members_of s.graph n)) ∙ append-nil (asks_in (sent_by n s.outs))))
       ∙ sym (asks_without t.outs))
-      (omega (arith, number, ap (λ (o : List (ℕ × Load)). length o) outs, length-append s.outs tells))
+      (omega (arith, number, ap (λ (o : List (ℕ × Load (List ℕ))). length o) outs, length-append s.outs tells))
       one_heard

@@ -38,15 +38,15 @@ IsOwn (for_via b) = ⊥
 IsOwn (for_part i) = Unit {0}
 
 -- what a node may ask once it was told who on a port
-abbrev pub AsksOnceTold : Port → List ℕ → Why → Type 0
+abbrev pub AsksOnceTold : Port (List ℕ) → List ℕ → Why → Type 0
 AsksOnceTold port.Base who why = why ≡ for_via who
 AsksOnceTold _ who why = ⊥
 
-ports_from : (i : ℕ) (parts : List Part) (w : Expr × Port) → Contains (part_asks i parts) w → (j : ℕ) × (w.1 ≡ port.Part j) × (i ≤ j)
+ports_from : (i : ℕ) (parts : List Part) (w : Expr × Port (List ℕ)) → Contains (part_asks i parts) w → (j : ℕ) × (w.1 ≡ port.Part j) × (i ≤ j)
 ports_from i [] w has = absurd (Contains-none w has)
 ports_from i (p ∷ ps) w has =
     elim (Contains-cons_cases (part_expr p, port.Part i) (part_asks (i + 1) ps) w has) [
-      | inl same ↦ (i, ap (λ (v : Expr × Port). v.1) (sym same), omega arith)
+      | inl same ↦ (i, ap (λ (v : Expr × Port (List ℕ)). v.1) (sym same), omega arith)
       | inr later ↦ let (j, on, after) = ports_from (i + 1) ps w later in (j, on, omega arith)
     ]
 
@@ -61,18 +61,18 @@ parts_distinct i (p ∷ ps) = (
 )
 
 -- what a role asks for a row
-abbrev row_ask : Credential → Expr × Port
+abbrev row_ask : Credential → Expr × Port (List ℕ)
 row_ask c = (c.body, port.Body)
 
 rows_distinct : (rows : List Credential) → AreDistinct rows → ((c d : Credential) → Contains rows c → Contains rows d → c.head ≡ d.head) →
     AreDistinct (map row_ask rows)
 rows_distinct rows distinct one_head =
     AreDistinct-map row_ask rows
-    (λ c d has_c has_d same. same_credential c d (one_head c d has_c has_d) (ap (λ (w : Expr × Port). w.0) same)) distinct
+    (λ c d has_c has_d same. same_credential c d (one_head c d has_c has_d) (ap (λ (w : Expr × Port (List ℕ)). w.0) same)) distinct
 
 module _ (rest : List Sent) (n sent : ℕ) {may_ask : NodeAsk → Type 0} (s t : Progress)
     (closed : (a : NodeAsk) → a.asker ≡ n → IsOwn a.why → may_ask a → ⊥) (counted : IsCountedAt rest n sent may_ask s) where
-  opened_by : (ws : List (Expr × Port)) → AreDistinct ws → ((w : Expr × Port) → Contains ws w → IsOwn (why_of w.1)) → AsksEach s ws t →
+  opened_by : (ws : List (Expr × Port (List ℕ))) → AreDistinct ws → ((w : Expr × Port (List ℕ)) → Contains ws w → IsOwn (why_of w.1)) → AsksEach s ws t →
       IsCountedAt rest n sent (λ a. may_ask a ⊎ ((a.asker ≡ n) × IsOwn a.why)) t
   opened_by ws distinct own each =
       let asked : AskedFor n s t ws = asked_each n s t ws each in
@@ -89,11 +89,11 @@ module _ (rest : List Sent) (n sent : ℕ) {may_ask : NodeAsk → Type 0} (s t :
   counted_at_opened rows (Rol r) distinct one_head opens =
       opened_by (map row_ask rows) (rows_distinct rows distinct one_head)
       (λ w has. let from : IsMapped row_ask rows w = mapped row_ask rows w has in
-      subst (λ (v : Expr × Port). IsOwn (why_of v.1)) from.is tt) opens
+      subst (λ (v : Expr × Port (List ℕ)). IsOwn (why_of v.1)) from.is tt) opens
   counted_at_opened rows (Link r name) distinct one_head opens =
       opened_by ((Rol r, port.Base) ∷ []) ((λ has. Contains-none (Rol r, port.Base) has), tt)
       (λ w has. elim (Contains-cons_cases (Rol r, port.Base) [] w has) [
-        | inl same ↦ subst (λ (v : Expr × Port). IsOwn (why_of v.1)) same tt
+        | inl same ↦ subst (λ (v : Expr × Port (List ℕ)). IsOwn (why_of v.1)) same tt
         | inr none ↦ absurd (Contains-none w none)
       ]) opens
   counted_at_opened rows (Meet parts) distinct one_head opens =
@@ -109,14 +109,14 @@ module _ (rest : List Sent) (n sent : ℕ) {may_ask : NodeAsk → Type 0} (s t :
       counted_stays (subst (IsCountedAt rest n sent may_ask) (sym same) counted) (λ a may. inl may)
   counted_at_base base fresh (r, name, node, (new, ms, (x, y, at, hears, set), inr (is_new, asks))) =
       let absent : (Contains x.bases base → ⊥) = (subst (HearsBase x y base) is_new hears).0 in
-      let w : Expr × Port = (Rol (record { owner = base; name = name }), port.Via base) in
+      let w : Expr × Port (List ℕ) = (Rol (record { owner = base; name = name }), port.Via base) in
       let heard : Progress = record s { monitors = ms } in
       let asked : AskedFor n heard t (w ∷ []) = asked_each n heard t (w ∷ []) (t, asks, refl) in
       let by : (a : NodeAsk) → Contains asked.asks a → (a.asker ≡ n) × (a.why ≡ for_via base) = λ a has.
       let (v, among, is) = own_ask n (w ∷ []) asked.asks asked.are a has in (
         is.asker,
         elim (Contains-cons_cases w [] v among) [
-          | inl same ↦ is.why ∙ ap (λ (u : Expr × Port). why_of u.1) (sym same)
+          | inl same ↦ is.why ∙ ap (λ (u : Expr × Port (List ℕ)). why_of u.1) (sym same)
           | inr none ↦ absurd (Contains-none v none)
         ],
       ) in
@@ -129,7 +129,7 @@ module _ (rest : List Sent) (n sent : ℕ) {may_ask : NodeAsk → Type 0} (s t :
   counted_at_part i who (last, ms, heard, inr (is, solves)) = counted_at_solved rest n sent (record s { monitors = ms }) t counted who reason.Parts solves
 
   -- a node takes in what it was told
-  pub counted_at_taken : (m : ℕ) (p : Port) (who : List ℕ) →
+  pub counted_at_taken : (m : ℕ) (p : Port (List ℕ)) (who : List ℕ) →
       ((x : LinkTold) → slice_get s.monitors n ≡ Some (monitor.Link x) → (Contains x.bases who → ⊥) → (a : NodeAsk) → a.asker ≡ n → a.why ≡ for_via who → may_ask a → ⊥) →
       TakesIn s t n m p who → IsCountedAt rest n sent (λ a. may_ask a ⊎ ((a.asker ≡ n) × AsksOnceTold p who a.why)) t
   counted_at_taken m port.Body who fresh takes = counted_stays (counted_at_solved rest n sent s t counted who (reason.Body m) takes) (λ a may. inl may)
@@ -142,7 +142,7 @@ begun : (pending : List Sent) (n sent : ℕ) {may_ask : NodeAsk → Type 0} (s :
     IsCountedBy may_ask (members_of s.graph) (heard s.graph) (asks_in pending) sent → IsCountedAt pending n sent may_ask s
 begun pending n sent s none counted =
     same_count refl refl (ap asks_in (sym (append-nil pending)) ∙ ap (λ o. asks_in (pending ++ sent_by n o)) (sym none))
-    (omega (arith, ap (λ (o : List (ℕ × Load)). length o) none)) counted
+    (omega (arith, ap (λ (o : List (ℕ × Load (List ℕ))). length o) none)) counted
 
 module _ (rows : List Credential) (distinct : AreDistinct rows) (one_head : (c d : Credential) → Contains rows c → Contains rows d → c.head ≡ d.head)
     (before after : List Sent) (n sent : ℕ) {may_ask more : NodeAsk → Type 0} (s t : Progress) (stays : (a : NodeAsk) → may_ask a → more a) where
@@ -157,7 +157,7 @@ module _ (rows : List Credential) (distinct : AreDistinct rows) (one_head : (c d
       (λ a may_now. elim may_now [ inl was ↦ stays a was | inr own ↦ may a own.0 own.1 ]))
 
   -- the receipt of a first Ask: the node opens, then it hears who asked
-  pub counted_by_first_ask : (mid : Progress) (m : ℕ) (p : Port) (e : Expr) → n < length mid.graph.listeners →
+  pub counted_by_first_ask : (mid : Progress) (m : ℕ) (p : Port (List ℕ)) (e : Expr) → n < length mid.graph.listeners →
       ((a : NodeAsk) → a.asker ≡ n → IsOwn a.why → may_ask a → ⊥) → ((a : NodeAsk) → a.asker ≡ n → IsOwn a.why → more a) →
       s.outs ≡ [] → IsCountedBy may_ask (members_of s.graph) (heard s.graph) (asks_in (before ++ (record { from = Node m; to = n; load = load.Ask p } ∷ after))) sent →
       Opens rows s mid n e → HearsAsk mid t n m p → IsCountedAt (before ++ after) n sent more t
@@ -167,7 +167,7 @@ module _ (rows : List Credential) (distinct : AreDistinct rows) (one_head : (c d
       (counted_at_opened (before ++ (x ∷ after)) n sent s mid closed (begun (before ++ (x ∷ after)) n sent s none counted) rows e distinct one_head opens) hears)
       (λ a may_now. elim may_now [ inl was ↦ stays a was | inr own ↦ may a own.0 own.1 ])
 
-module _ (before after : List Sent) (n sent : ℕ) {may_ask more : NodeAsk → Type 0} (s t : Progress) (stays : (a : NodeAsk) → may_ask a → more a) (m : ℕ) (p : Port) where
+module _ (before after : List Sent) (n sent : ℕ) {may_ask more : NodeAsk → Type 0} (s t : Progress) (stays : (a : NodeAsk) → may_ask a → more a) (m : ℕ) (p : Port (List ℕ)) where
   -- the receipt of a later Ask
   pub counted_by_ask : n < length s.graph.listeners → s.outs ≡ [] →
       IsCountedBy may_ask (members_of s.graph) (heard s.graph) (asks_in (before ++ (record { from = Node m; to = n; load = load.Ask p } ∷ after))) sent →

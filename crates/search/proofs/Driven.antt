@@ -27,19 +27,19 @@ use Rattle.search.proofs.StepsLeft.{steps_left, marked_left, held_left, finished
 
 -- the letter that was taken was received, or the search has ended with it
 data IsReceipt (held t : SearchState) (number : ℕ) : Type 0 where
-  goes_on : (l : Letter Load) → held_in held.stage number ≡ Some l → Received held t number l → SameQuestion held t → IsReceipt held t number
-  ends : (l : Letter Load) → held_in held.stage number ≡ Some l → ((c : Computation Load) → t.stage ≡ stage.Running c → ⊥) → steps_left t.work t.stage ≡ 0 → SameQuestion held t → IsReceipt held t number
+  goes_on : (l : Letter (Load (List ℕ))) → held_in held.stage number ≡ Some l → Received held t number l → SameQuestion held t → IsReceipt held t number
+  ends : (l : Letter (Load (List ℕ))) → held_in held.stage number ≡ Some l → ((c : Computation (Load (List ℕ))) → t.stage ≡ stage.Running c → ⊥) → steps_left t.work t.stage ≡ 0 → SameQuestion held t → IsReceipt held t number
 
 module _ (s held t : SearchState) (number : ℕ) (need : Need) (takes : Takes s held 0 number need) where
   -- the letter that was taken needs what it was taken for
-  same_need : (l : Letter Load) (other : Need) → held_in held.stage number ≡ Some l → Needs held l other → other ≡ need
+  same_need : (l : Letter (Load (List ℕ))) (other : Need) → held_in held.stage number ≡ Some l → Needs held l other → other ≡ need
   same_need l other is (f, there, so) =
       let both : Some l ≡ Some (record takes.letter { held = true }) = sym is ∙ takes.held in
       let same : l ≡ record takes.letter { held = true } = cc in
       let e : Expr = takes.needs.0 in
-      let at : IsNode s.graph l.to e = subst (λ (x : Letter Load). IsNode s.graph x.to e) (sym same) takes.needs.1 in
+      let at : IsNode s.graph l.to e = subst (λ (x : Letter (Load (List ℕ))). IsNode s.graph x.to e) (sym same) takes.needs.1 in
       let at' : IsNode s.graph l.to f = subst (λ (x : SearchState). IsNode x.graph l.to f) takes.after there in
-      so ∙ ap (λ (x : Expr). need_of x l.load) (one_expr s.graph l.to f e at' at) ∙ ap (λ (x : Letter Load). need_of e x.load) same ∙ sym takes.needs.2
+      so ∙ ap (λ (x : Expr). need_of x l.load) (one_expr s.graph l.to f e at' at) ∙ ap (λ (x : Letter (Load (List ℕ))). need_of e x.load) same ∙ sym takes.needs.2
 
   -- so its finish with what the snapshot says is never refused
   receipt_of : (told : Finished) → Finishes held t number (right_hint s.snapshot.vaults need) told → IsReceipt held t number
@@ -92,13 +92,13 @@ question_on s m t one other = record {
   snapshot = other.snapshot ∙ one.snapshot;
 }
 
-waiting_runs : (st : Stage) (x : ℕ × Letter Load) → slice_get (waiting_in st) 0 ≡ Some x → (c : Computation Load) × (st ≡ stage.Running c)
+waiting_runs : (st : Stage) (x : ℕ × Letter (Load (List ℕ))) → slice_get (waiting_in st) 0 ≡ Some x → (c : Computation (Load (List ℕ))) × (st ≡ stage.Running c)
 waiting_runs (stage.Running c) x at = (c, refl)
 waiting_runs stage.Spent x at = cc
 waiting_runs stage.Broken x at = cc
 
 -- a search that makes a step runs
-makes_runs : (s : SearchState) (x : DriveStep) (t : SearchState) → Makes s x t → (c : Computation Load) × (s.stage ≡ stage.Running c)
+makes_runs : (s : SearchState) (x : DriveStep) (t : SearchState) → Makes s x t → (c : Computation (Load (List ℕ))) × (s.stage ≡ stage.Running c)
 makes_runs s a_signal t made = (made.delivered.0, made.delivered.2)
 makes_runs s (a_letter number need told) t made = waiting_runs s.stage (number, made.takes.letter) made.takes.waited
 
@@ -125,7 +125,7 @@ makes_left s a_signal t made =
 makes_left s (a_letter number need told) t made =
     receipt_left s made.held t number need made.takes (receipt_of s made.held t number need made.takes told made.finishes)
 
-each_runs : (xs : List DriveStep) (s t : SearchState) → MakesEach s xs t → (c : Computation Load) → t.stage ≡ stage.Running c → (b : Computation Load) × (s.stage ≡ stage.Running b)
+each_runs : (xs : List DriveStep) (s t : SearchState) → MakesEach s xs t → (c : Computation (Load (List ℕ))) → t.stage ≡ stage.Running c → (b : Computation (Load (List ℕ))) × (s.stage ≡ stage.Running b)
 each_runs [] s t same c now = (c, ap (λ (x : SearchState). x.stage) (sym same) ∙ now)
 each_runs (x ∷ xs) s t (mid, one, rest) c now = makes_runs s x mid one
 
@@ -200,7 +200,7 @@ same_search s t st g ms q = λ i. record {
 }
 
 -- the first letter is taken and received
-pub finishes_first : (s same held t : SearchState) (number : ℕ) (h : Held Load) (told : Finished) → length (signals_in s.stage) ≤ 0 → same ≡ s →
+pub finishes_first : (s same held t : SearchState) (number : ℕ) (h : Held (Load (List ℕ))) (told : Finished) → length (signals_in s.stage) ≤ 0 → same ≡ s →
     TakesHeld same held 0 number h → Settles same held → Receives held t number (letter_in h) told → Settles held t → (x : DriveStep) × Makes s x t
 finishes_first s same held t number h told few is takes takes_settles receives finish_settles =
     let takes' = subst (λ (x : SearchState). TakesHeld x held 0 number h) is takes in

@@ -35,12 +35,12 @@ use Rattle.search.proofs.Holding.{same_running}
 use Rattle.search.proofs.Ended.{same_question}
 
 -- the letter in hand is the held letter of its number
-pub held_letter_is : (st : Stage) (number : ℕ) (h : Held Load) → HoldsLetter st number h → held_in st number ≡ Some (letter_in h)
+pub held_letter_is : (st : Stage) (number : ℕ) (h : Held (Load (List ℕ))) → HoldsLetter st number h → held_in st number ≡ Some (letter_in h)
 held_letter_is st number h held =
     subst (λ (s : Stage). held_in s number ≡ Some (letter_in h)) (sym held.runs) (ap if_held held.letter)
 
 -- the hint is right for the need of the letter, whatever is known of its receiver
-pub rightly : (s : SearchState) (number : ℕ) (hint : Hint) (h : Held Load) (view : SnapshotState) → view ≡ s.snapshot → HoldsLetter s.stage number h →
+pub rightly : (s : SearchState) (number : ℕ) (hint : Hint) (h : Held (Load (List ℕ))) (view : SnapshotState) → view ≡ s.snapshot → HoldsLetter s.stage number h →
     ((e : Expr) → IsNode s.graph h.to e → hint ≡ right_hint view.vaults (need_of e h.load)) → IsRightly s number hint (letter_in h)
 rightly s number hint h view same held right = record {
   held = held_letter_is s.stage number h held;
@@ -49,7 +49,7 @@ rightly s number hint h view same held right = record {
 }
 
 -- what the snapshot says of the need of the letter in hand is right for it
-pub rightly_needed : (s : SearchState) (number : ℕ) (h : Held Load) (e : Expr) → IsNode s.graph h.to e → HoldsLetter s.stage number h → IsRightly s number (right_hint s.snapshot.vaults (need_of e h.load)) (letter_in h)
+pub rightly_needed : (s : SearchState) (number : ℕ) (h : Held (Load (List ℕ))) (e : Expr) → IsNode s.graph h.to e → HoldsLetter s.stage number h → IsRightly s number (right_hint s.snapshot.vaults (need_of e h.load)) (letter_in h)
 rightly_needed s number h e at held = record {
   held = held_letter_is s.stage number h held;
   hint_is = λ need needs.
@@ -57,7 +57,7 @@ rightly_needed s number h e at held = record {
 }
 
 -- a letter that was received is finished with a hint that is right for it
-pub finishes_rightly : (s t : SearchState) (number : ℕ) (hint : Hint) (l : Letter Load) → IsRightly s number hint l → (result : Finished) → Receives s t number l result → Finishes s t number hint result
+pub finishes_rightly : (s t : SearchState) (number : ℕ) (hint : Hint) (l : Letter (Load (List ℕ))) → IsRightly s number hint l → (result : Finished) → Receives s t number l result → Finishes s t number hint result
 finishes_rightly s t number hint l right finished.NotHeld receives = absurd receives
 finishes_rightly s t number hint l right finished.BadHint receives = absurd receives
 finishes_rightly s t number hint l right finished.Done receives = (l, right, receives.0, receives.1)
@@ -65,7 +65,7 @@ finishes_rightly s t number hint l right finished.Spent receives = (l, right, re
 finishes_rightly s t number hint l right finished.Broken receives = (l, right, receives.0, receives.1)
 
 -- a hint that is right says where the rows stand of the role that it is for
-pub span_for : (view : List Vault) (e : Expr) (l : Load) (hint : Hint) → hint ≡ right_hint view (need_of e l) → IsSpanFor view e (span_in hint)
+pub span_for : (view : List Vault) (e : Expr) (l : Load (List ℕ)) (hint : Hint) → hint ≡ right_hint view (need_of e l) → IsSpanFor view e (span_in hint)
 span_for view e l hint is = subst (λ (x : Hint). IsSpanFor view e (span_in x)) (sym is) (needed e l)
   where
     opened : (f : Expr) → IsSpanFor view f (span_in (right_hint view (rows_for f)))
@@ -74,19 +74,19 @@ span_for view e l hint is = subst (λ (x : Hint). IsSpanFor view e (span_in x)) 
     opened (Link r name) = tt
     opened (Meet parts) = tt
 
-    needed : (f : Expr) (k : Load) → IsSpanFor view f (span_in (right_hint view (need_of f k)))
+    needed : (f : Expr) (k : Load (List ℕ)) → IsSpanFor view f (span_in (right_hint view (need_of f k)))
     needed f load.Start = opened f
     needed f (load.Ask p) = opened f
     needed f (load.Tell p who) = tt
 
 -- where a search runs after a letter was finished, it ran before
-pub record RanBefore (old : Stage) (work number : ℕ) (outs : List (ℕ × Load)) (after : Computation Load) : Type 0 where
-  pub before : Computation Load
+pub record RanBefore (old : Stage) (work number : ℕ) (outs : List (ℕ × Load (List ℕ))) (after : Computation (Load (List ℕ))) : Type 0 where
+  pub before : Computation (Load (List ℕ))
   pub ran : old ≡ stage.Running before
   pub within : before.sent + length outs ≤ work
   pub finishes : FinishesLetter before number outs after
 
-sent_from : (old new : Stage) (work number : ℕ) (outs : List (ℕ × Load)) (result : Finished) → Sends old new work number outs result → (e : Computation Load) → new ≡ stage.Running e → RanBefore old work number outs e
+sent_from : (old new : Stage) (work number : ℕ) (outs : List (ℕ × Load (List ℕ))) (result : Finished) → Sends old new work number outs result → (e : Computation (Load (List ℕ))) → new ≡ stage.Running e → RanBefore old work number outs e
 sent_from old new work number outs finished.Done (c, d, ran, runs, within, finishes) e now =
     record { before = c; ran = ran; within = within; finishes = subst (FinishesLetter c number outs) (same_running d e (sym runs ∙ now)) finishes }
 sent_from old new work number outs finished.Spent (c, ran, over, is) e now = let clash : stage.Spent ≡ stage.Running e = sym is ∙ now in cc
@@ -95,15 +95,15 @@ sent_from old new work number outs finished.BadHint sent e now = absurd sent
 sent_from old new work number outs finished.NotHeld sent e now = absurd sent
 
 -- where a search is spent after a letter was finished, what was sent with the answers is above the limit
-spent_from : (old new : Stage) (work number : ℕ) (outs : List (ℕ × Load)) (result : Finished) → Sends old new work number outs result → new ≡ stage.Spent → (c : Computation Load) × (old ≡ stage.Running c) × (work < c.sent + length outs)
+spent_from : (old new : Stage) (work number : ℕ) (outs : List (ℕ × Load (List ℕ))) (result : Finished) → Sends old new work number outs result → new ≡ stage.Spent → (c : Computation (Load (List ℕ))) × (old ≡ stage.Running c) × (work < c.sent + length outs)
 spent_from old new work number outs finished.Done (c, d, ran, runs, within, finishes) now = let clash : stage.Running d ≡ stage.Spent = sym runs ∙ now in cc
 spent_from old new work number outs finished.Spent (c, ran, over, is) now = (c, ran, over)
 spent_from old new work number outs finished.Broken (c, ran, within, is) now = let clash : stage.Broken ≡ stage.Spent = sym is ∙ now in cc
 spent_from old new work number outs finished.BadHint sent now = absurd sent
 spent_from old new work number outs finished.NotHeld sent now = absurd sent
 
-module _ (s : SearchState) (number : ℕ) (h : Held Load) (held : HoldsLetter s.stage number h)
-    (g : GraphState) (ms : List Monitor) (outs : List (ℕ × Load)) (row : Answers s.snapshot.vaults (progress s.graph s.monitors []) (progress g ms outs) h.from h.to h.load) where
+module _ (s : SearchState) (number : ℕ) (h : Held (Load (List ℕ))) (held : HoldsLetter s.stage number h)
+    (g : GraphState) (ms : List Monitor) (outs : List (ℕ × Load (List ℕ))) (row : Answers s.snapshot.vaults (progress s.graph s.monitors []) (progress g ms outs) h.from h.to h.load) where
   abbrev after : Stage → SearchState
   after st = record s { graph = g; monitors = ms; stage = st }
 
@@ -123,24 +123,24 @@ module _ (s : SearchState) (number : ℕ) (h : Held Load) (held : HoldsLetter s.
     abbrev kept_now : KeptBy (rows_of s) asked s.work s.graph s.monitors held.running
     kept_now = kept.rules held.running held.runs
 
-    as_held : (c : Computation Load) → s.stage ≡ stage.Running c → c ≡ held.running
+    as_held : (c : Computation (Load (List ℕ))) → s.stage ≡ stage.Running c → c ≡ held.running
     as_held c ran = sym (same_running held.running c (sym held.runs ∙ ran))
 
-    done_rules : (c d : Computation Load) → s.stage ≡ stage.Running c → c.sent + length outs ≤ s.work → FinishesLetter c number outs d → KeptBy (rows_of s) asked s.work g ms d
+    done_rules : (c d : Computation (Load (List ℕ))) → s.stage ≡ stage.Running c → c.sent + length outs ≤ s.work → FinishesLetter c number outs d → KeptBy (rows_of s) asked s.work g ms d
     done_rules c d ran within finishes =
-        let finishes' : FinishesLetter held.running number outs d = subst (λ (x : Computation Load). FinishesLetter x number outs d) (as_held c ran) finishes in
-        let within' : held.running.sent + length outs ≤ s.work = subst (λ (x : Computation Load). x.sent + length outs ≤ s.work) (as_held c ran) within in
+        let finishes' : FinishesLetter held.running number outs d = subst (λ (x : Computation (Load (List ℕ))). FinishesLetter x number outs d) (as_held c ran) finishes in
+        let within' : held.running.sent + length outs ≤ s.work = subst (λ (x : Computation (Load (List ℕ))). x.sent + length outs ≤ s.work) (as_held c ran) within in
         let paid = receipt s.snapshot.vaults asked (sent_of held.running.letters) ordered s.graph s.monitors (progress g ms outs) h.from h.to h.load (held_awaits s kept.rules number h held) row in
         done_kept s.snapshot.vaults asked s.work s.graph s.monitors held.running number (letter_in h) (progress g ms outs) ordered kept_now held.by_number held.letter paid d finishes' within'
 
-    done_count : (c d : Computation Load) → s.stage ≡ stage.Running c → FinishesLetter c number outs d → IsTallied g ms d
+    done_count : (c d : Computation (Load (List ℕ))) → s.stage ≡ stage.Running c → FinishesLetter c number outs d → IsTallied g ms d
     done_count c d ran finishes =
-        let finishes' : FinishesLetter held.running number outs d = subst (λ (x : Computation Load). FinishesLetter x number outs d) (as_held c ran) finishes in
+        let finishes' : FinishesLetter held.running number outs d = subst (λ (x : Computation (Load (List ℕ))). FinishesLetter x number outs d) (as_held c ran) finishes in
         done_tallied s.snapshot.vaults asked s.work s.graph s.monitors held.running number (letter_in h) (progress g ms outs) ordered kept_now held.by_number held.letter held.numbers (kept.count held.running held.runs) row d finishes'
 
-    spent_limit : (c : Computation Load) → s.stage ≡ stage.Running c → s.work < c.sent + length outs → WorkExceeds (rows_of s) asked s.work
+    spent_limit : (c : Computation (Load (List ℕ))) → s.stage ≡ stage.Running c → s.work < c.sent + length outs → WorkExceeds (rows_of s) asked s.work
     spent_limit c ran over =
-        let over' : s.work < held.running.sent + length outs = subst (λ (x : Computation Load). s.work < x.sent + length outs) (as_held c ran) over in
+        let over' : s.work < held.running.sent + length outs = subst (λ (x : Computation (Load (List ℕ))). s.work < x.sent + length outs) (as_held c ran) over in
         work_exceeds s.snapshot.vaults asked s.work s.graph s.monitors held.running number (letter_in h) (progress g ms outs) ordered kept_now held.by_number held.letter held.numbers (kept.count held.running held.runs) row over'
 
     pub sent_kept : (st : Stage) (result : Finished) → Sends s.stage st s.work number outs result → IsKept (after st)
@@ -151,7 +151,7 @@ module _ (s : SearchState) (number : ℕ) (h : Held Load) (held : HoldsLetter s.
     }
 
 -- a hint that isn't right for the need of the letter
-pub wrongly : (s : SearchState) (number : ℕ) (hint : Hint) (h : Held Load) (view : SnapshotState) (st : Stage) → view ≡ s.snapshot → HoldsLetter s.stage number h → h.to < length s.graph.nodes →
+pub wrongly : (s : SearchState) (number : ℕ) (hint : Hint) (h : Held (Load (List ℕ))) (view : SnapshotState) (st : Stage) → view ≡ s.snapshot → HoldsLetter s.stage number h → h.to < length s.graph.nodes →
     (((e : Expr) → IsNode s.graph h.to e → hint ≡ right_hint view.vaults (need_of e h.load)) → ⊥) → st ≡ stage_marked number false s.stage → Finishes s (record s { stage = st }) number hint finished.BadHint
 wrongly s number hint h view st same held node_in wrong is =
     let e : Expr = get_or s.graph.nodes h.to (Ent []) in

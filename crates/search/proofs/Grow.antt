@@ -47,11 +47,11 @@ asks_more more (asks_base r n) = asks_base r n
 asks_more more (asks_via n b member) = asks_via n b (more b _ member)
 asks_more more (asks_part i p at) = asks_part i p at
 
-pub ask_fits_stays : {rows : List Credential} {old new : Net} → Grows old new → (m : ℕ) (p : Port) (n : ℕ) → AskFits rows old m p n → AskFits rows new m p n
+pub ask_fits_stays : {rows : List Credential} {old new : Net} → Grows old new → (m : ℕ) (p : Port (List ℕ)) (n : ℕ) → AskFits rows old m p n → AskFits rows new m p n
 ask_fits_stays grows m p n (e, f, asker, asked, asks) =
     (e, f, grows.nodes m e asker, grows.nodes n f asked, asks_more (known_stays grows) asks)
 
-pub letter_fits_stays : (rows : List Credential) {old new : Net} → Grows old new → (from : Parent) (to : ℕ) (l : Load) → LetterFits rows old from to l → LetterFits rows new from to l
+pub letter_fits_stays : (rows : List Credential) {old new : Net} → Grows old new → (from : Parent) (to : ℕ) (l : Load (List ℕ)) → LetterFits rows old from to l → LetterFits rows new from to l
 letter_fits_stays rows grows Neutral to load.Start fits = absurd fits
 letter_fits_stays rows grows Neutral to (load.Ask p) fits = absurd fits
 letter_fits_stays rows grows Neutral to (load.Tell p who) fits = absurd fits
@@ -63,7 +63,7 @@ letter_fits_stays rows grows (Node m) to (load.Ask p) fits = ask_fits_stays grow
 letter_fits_stays rows grows (Node m) to (load.Tell p who) (listens, solution) =
     (grows.listeners m (record { asker = to; port = p }) listens, solution_stays grows m who solution)
 
-pub by_row_stays : (rows : List Credential) {old new : Net} → Grows old new → (n : ℕ) (why : Reason) → ByRow rows old.graph n why → ByRow rows new.graph n why
+pub by_row_stays : (rows : List Credential) {old new : Net} → Grows old new → (n : ℕ) (why : Reason ℕ (List ℕ)) → ByRow rows old.graph n why → ByRow rows new.graph n why
 by_row_stays rows grows n reason.Leaf h = h
 by_row_stays rows grows n (reason.Body m) (c, among, head, body) = (c, among, grows.nodes n _ head, grows.nodes m _ body)
 by_row_stays rows grows n (reason.Via b) h = h
@@ -77,7 +77,7 @@ pub part_fits_stays : {old new : Net} → Grows old new → (m i : ℕ) (who : L
 part_fits_stays grows m i who fits =
     record { parts = fits.parts; part = fits.part; node = grows.nodes m _ fits.node; at = fits.at; known = known_stays grows who _ fits.known }
 
-pub asked_stays : {old new : Net} → Grows old new → (m : ℕ) (p : Port) (f : Expr) → IsAsked old m p f → IsAsked new m p f
+pub asked_stays : {old new : Net} → Grows old new → (m : ℕ) (p : Port (List ℕ)) (f : Expr) → IsAsked old m p f → IsAsked new m p f
 asked_stays grows m p f (n, node, inl listens) = (n, grows.nodes n f node, inl (grows.listeners n (record { asker = m; port = p }) listens))
 asked_stays grows m p f (n, node, inr pending) = (n, grows.nodes n f node, inr (grows.pending _ pending))
 
@@ -85,7 +85,7 @@ pub open_stays : {old new : Net} → Grows old new → (n : ℕ) → IsOpen old 
 open_stays grows n (inl (m, p, listens)) = inl (m, p, grows.listeners n (record { asker = m; port = p }) listens)
 open_stays grows n (inr (root, gone)) = inr (root, λ start. gone (grows.start start))
 
-pub taken_stays : {old new : Net} → Grows old new → (m : ℕ) (p : Port) (who : List ℕ) → IsTaken old m p who → IsTaken new m p who
+pub taken_stays : {old new : Net} → Grows old new → (m : ℕ) (p : Port (List ℕ)) (who : List ℕ) → IsTaken old m p who → IsTaken new m p who
 taken_stays grows m port.Body who taken = solution_stays grows m who taken
 taken_stays grows m port.Base who taken = grows.bases m who taken
 taken_stays grows m (port.Via b) who taken = solution_stays grows m who taken
@@ -138,7 +138,7 @@ pub record AddsRightly (rows : List Credential) (asked : Role) (old new : Net) :
   pub graph : IsGraph new.graph
   pub fit : MonitorsFit new.graph new.monitors
   pub nodes : (n : ℕ) (e : Expr) → IsNode new.graph n e → IsNode old.graph n e ⊎ Demanded rows asked e
-  pub listeners : (n m : ℕ) (p : Port) → HasListener new n m p → HasListener old n m p ⊎ AskFits rows new m p n
+  pub listeners : (n m : ℕ) (p : Port (List ℕ)) → HasListener new n m p → HasListener old n m p ⊎ AskFits rows new m p n
   pub solutions : (s : Solution) → Contains new.graph.solutions s → Contains old.graph.solutions s ⊎ SolutionFits rows new.graph s
   pub letters : (x : Sent) → Contains new.pending x → Contains old.pending x ⊎ LetterFits rows new x.from x.to x.load
   pub parts : (m i : ℕ) (who : List ℕ) → IsPartTold new m i who → IsPartTold old m i who ⊎ PartFits new m i who
@@ -172,7 +172,7 @@ pub record AddsPaid (rows : List Credential) (old new : Net) : Type 0 where
   pub opened : (m : ℕ) → IsOpen new m → IsOpen old m ⊎ ((e : Expr) → IsNode new.graph m e → OpenedPaid rows new m e)
   pub via : (m : ℕ) (b : List ℕ) → IsBaseTold new m b → IsBaseTold old m b ⊎ ((r : Role) (t : List ℕ) → IsNode new.graph m (Link r t) →
       IsAsked new m (port.Via b) (Rol (record { owner = b; name = t })))
-  pub told : (n m : ℕ) (p : Port) (who : List ℕ) → HasListener new n m p → IsSolution new.graph n who →
+  pub told : (n m : ℕ) (p : Port (List ℕ)) (who : List ℕ) → HasListener new n m p → IsSolution new.graph n who →
       (HasListener old n m p × IsSolution old.graph n who) ⊎ (IsPendingTell new n m p who ⊎ IsTaken new m p who)
   pub met : (m : ℕ) (parts : List Part) (who : List ℕ) → IsNode new.graph m (Meet parts) → ((i : ℕ) → i < length parts → IsPartTold new m i who) →
       ((i : ℕ) → i < length parts → IsPartTold old m i who) ⊎ IsSolution new.graph m who

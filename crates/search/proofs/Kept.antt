@@ -115,9 +115,9 @@ module _ (rows : List Credential) (asked : Role) (g : GraphState) (ms : List Mon
       })
 
 -- the node of a receiver sends more
-module _ (rest : List Sent) (node : ℕ) (outs more : List (ℕ × Load)) where
+module _ (rest : List Sent) (node : ℕ) (outs more : List (ℕ × Load (List ℕ))) where
   sent_split : sent_by node (outs ++ more) ≡ sent_by node outs ++ sent_by node more
-  sent_split = map-append (λ (out : ℕ × Load). record { from = Node node; to = out.0; load = out.1 }) outs more
+  sent_split = map-append (λ (out : ℕ × Load (List ℕ)). record { from = Node node; to = out.0; load = out.1 }) outs more
 
   pub pending_on : (x : Sent) → Contains (rest ++ sent_by node outs) x → Contains (rest ++ sent_by node (outs ++ more)) x
   pending_on x stands =
@@ -143,7 +143,7 @@ module _ (rest : List Sent) (node : ℕ) (outs more : List (ℕ × Load)) where
 
   start_no_node : (n : ℕ) → Contains (sent_by node more) (record { from = Environment; to = n; load = load.Start }) → ⊥
   start_no_node n stands =
-      let from = mapped (λ (out : ℕ × Load). record { from = Node node; to = out.0; load = out.1 }) more (record { from = Environment; to = n; load = load.Start }) stands in
+      let from = mapped (λ (out : ℕ × Load (List ℕ)). record { from = Node node; to = out.0; load = out.1 }) more (record { from = Environment; to = n; load = load.Start }) stands in
       let same : Node node ≡ Environment = ap (λ (x : Sent). x.from) from.is in
       cc
 

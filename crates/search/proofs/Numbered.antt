@@ -17,9 +17,7 @@ use Rattle.scholten_core.specs.declared.parents.Parent.{Parent}
 use Rattle.scholten_core.specs.declared.parents.Parent.TheVariants.{Neutral, Environment, Node}
 use Rattle.cred_graph.specs.GraphState.{GraphState, listed_at, listed_with}
 use Rattle.cred_graph.specs.Graph.{IsGraph, NodeGiven, ListenerGiven, SolutionGiven}
-use Rattle.cred_graph.specs.declared.reasons.NumberedReason.{NumberedReason}
 use Rattle.cred_graph.specs.declared.solutions.Solution.{Solution}
-use Rattle.cred_graph.specs.declared.ports.NumberedPort.{NumberedPort}
 use Rattle.cred_graph.specs.Numbers.{IsNamed, IsPort, entity_at, port_at, reason_at}
 use Rattle.cred_graph.proofs.Growth.{listed_at-pushed, listed_with_cases}
 use Rattle.cred_graph.proofs.NumberLemmas.{entity_goes_on, entity_stays, named_goes_on, port_goes_on, port_named, port_stays}
@@ -35,8 +33,6 @@ use Rattle.search.proofs.Holding.{same_running}
 use Rattle.search.proofs.InHand.{settles}
 use Rattle.search.specs.declared.letters.Load.{Load}
 use Rattle.search.specs.declared.letters.Load.TheVariants as load
-use Rattle.search.specs.declared.letters.NumberedLoad.{NumberedLoad}
-use Rattle.search.specs.declared.letters.NumberedLoad.TheVariants as numbered
 use Rattle.search.specs.declared.letters.Held.{Held}
 use Rattle.search.specs.declared.stages.NumberedStage.{NumberedStage}
 use Rattle.search.specs.declared.stages.NumberedStage.TheVariants as numbered_stage
@@ -48,26 +44,26 @@ use Rattle.search.proofs.Loops.{sent_next}
 use Rattle.search.specs.Numbered.{AreLetters, AreLoads, AreNumbered, IsLoad, IsStage, held_at, load_at, outs_at, progress_at, stage_at}
 
 module _ (nodes more : List Expr) where
-  pub load_goes_on : (l : NumberedLoad) → IsLoad nodes l → IsLoad (nodes ++ more) l
-  load_goes_on numbered.Start is = tt
-  load_goes_on (numbered.Ask p) is = port_goes_on nodes more p is
-  load_goes_on (numbered.Tell p k) is = (port_goes_on nodes more p is.0, entity_goes_on nodes more k is.1)
+  pub load_goes_on : (l : Load ℕ) → IsLoad nodes l → IsLoad (nodes ++ more) l
+  load_goes_on load.Start is = tt
+  load_goes_on (load.Ask p) is = port_goes_on nodes more p is
+  load_goes_on (load.Tell p k) is = (port_goes_on nodes more p is.0, entity_goes_on nodes more k is.1)
 
-  pub load_stays : (l : NumberedLoad) → IsLoad nodes l → load_at (nodes ++ more) l ≡ load_at nodes l
-  load_stays numbered.Start is = refl
-  load_stays (numbered.Ask p) is = ap load.Ask (port_stays nodes more p is)
-  load_stays (numbered.Tell p k) is = λ i. load.Tell (port_stays nodes more p is.0 i) (entity_stays nodes more k is.1 i)
+  pub load_stays : (l : Load ℕ) → IsLoad nodes l → load_at (nodes ++ more) l ≡ load_at nodes l
+  load_stays load.Start is = refl
+  load_stays (load.Ask p) is = ap load.Ask (port_stays nodes more p is)
+  load_stays (load.Tell p k) is = λ i. load.Tell (port_stays nodes more p is.0 i) (entity_stays nodes more k is.1 i)
 
-  pub loads_go_on : (outs : List (ℕ × NumberedLoad)) → AreLoads nodes outs → AreLoads (nodes ++ more) outs
-  loads_go_on outs are = All-weaker (λ (o : ℕ × NumberedLoad). IsLoad nodes o.1) (λ o. IsLoad (nodes ++ more) o.1) (λ o is. load_goes_on o.1 is) outs are
+  pub loads_go_on : (outs : List (ℕ × Load ℕ)) → AreLoads nodes outs → AreLoads (nodes ++ more) outs
+  loads_go_on outs are = All-weaker (λ (o : ℕ × Load ℕ). IsLoad nodes o.1) (λ o. IsLoad (nodes ++ more) o.1) (λ o is. load_goes_on o.1 is) outs are
 
-  pub outs_stay : (outs : List (ℕ × NumberedLoad)) → AreLoads nodes outs → outs_at (nodes ++ more) outs ≡ outs_at nodes outs
+  pub outs_stay : (outs : List (ℕ × Load ℕ)) → AreLoads nodes outs → outs_at (nodes ++ more) outs ≡ outs_at nodes outs
   outs_stay outs are =
-      map_alike (λ (o : ℕ × NumberedLoad). (o.0, load_at (nodes ++ more) o.1)) (λ o. (o.0, load_at nodes o.1)) (λ o. IsLoad nodes o.1) (λ o is i. (o.0, load_stays o.1 is i)) outs are
+      map_alike (λ (o : ℕ × Load ℕ). (o.0, load_at (nodes ++ more) o.1)) (λ o. (o.0, load_at nodes o.1)) (λ o. IsLoad nodes o.1) (λ o is i. (o.0, load_stays o.1 is i)) outs are
 
   pub stage_goes_on : (st : NumberedStage) → IsStage nodes st → IsStage (nodes ++ more) st
   stage_goes_on (numbered_stage.Running c) are =
-      All-weaker (λ (l : ℕ × Letter NumberedLoad). IsLoad nodes l.1.load) (λ l. IsLoad (nodes ++ more) l.1.load) (λ l is. load_goes_on l.1.load is) c.letters are
+      All-weaker (λ (l : ℕ × Letter (Load ℕ)). IsLoad nodes l.1.load) (λ l. IsLoad (nodes ++ more) l.1.load) (λ l is. load_goes_on l.1.load is) c.letters are
   stage_goes_on numbered_stage.Spent are = tt
   stage_goes_on numbered_stage.Broken are = tt
 
@@ -78,7 +74,7 @@ module _ (nodes more : List Expr) where
   stage_stays numbered_stage.Broken are = refl
 
 -- a node is added
-pub numbered_with_node : (g : GraphState) (e : Expr) (outs : List (ℕ × NumberedLoad)) → AreNumbered g outs → AreNumbered (record g { nodes = g.nodes ++ e ∷ []; listeners = g.listeners ++ [] ∷ [] }) outs
+pub numbered_with_node : (g : GraphState) (e : Expr) (outs : List (ℕ × Load ℕ)) → AreNumbered g outs → AreNumbered (record g { nodes = g.nodes ++ e ∷ []; listeners = g.listeners ++ [] ∷ [] }) outs
 numbered_with_node g e outs are = record {
   loads = loads_go_on g.nodes (e ∷ []) outs are.loads;
   ports = λ n l listens. named_goes_on g.nodes (e ∷ []) l.port (are.ports n l (subst (λ ls. Contains ls l) (listed_at-pushed g.listeners n) listens));
@@ -94,11 +90,11 @@ same_nodes s t same = ([], same ∙ sym (append-nil s.graph.nodes))
 then_more : (a b c : List Expr) → HasMore a b → HasMore b c → HasMore a c
 then_more a b c (x, ab) (y, bc) = (x ++ y, bc ∙ ap (λ l. l ++ y) ab ∙ append_assoc a x y)
 
-ask_more : (s t : Progress) (e : Expr) (p : Port) → AsksFor s t e p → HasMore s.graph.nodes t.graph.nodes
+ask_more : (s t : Progress) (e : Expr) (p : Port (List ℕ)) → AsksFor s t e p → HasMore s.graph.nodes t.graph.nodes
 ask_more s t e p (to, outs, inl (node, graph, monitors)) = same_nodes s t (ap (λ (g : GraphState). g.nodes) graph)
 ask_more s t e p (to, outs, inr (absent, range, is, graph, monitors)) = (e ∷ [], ap (λ (g : GraphState). g.nodes) graph)
 
-asks_more : (ws : List (Expr × Port)) (s t : Progress) → AsksEach s ws t → HasMore s.graph.nodes t.graph.nodes
+asks_more : (ws : List (Expr × Port (List ℕ))) (s t : Progress) → AsksEach s ws t → HasMore s.graph.nodes t.graph.nodes
 asks_more [] s t same = same_nodes s t (ap (λ (u : Progress). u.graph.nodes) same)
 asks_more (w ∷ ws) s t (mid, first, later) =
     then_more s.graph.nodes mid.graph.nodes t.graph.nodes (ask_more s mid w.0 w.1 first) (asks_more ws mid t later)
@@ -110,12 +106,12 @@ opens_more rows s t n (Rol r) step = asks_more (row_asks rows) s t step
 opens_more rows s t n (Link r name) step = asks_more ((Rol r, port.Base) ∷ []) s t step
 opens_more rows s t n (Meet parts) step = asks_more (part_asks 0 parts) s t step
 
-pub numbered_given : (g h : GraphState) (e : Expr) (n : ℕ) (b : Bool) (outs : List (ℕ × NumberedLoad)) → NodeGiven g h e n b → AreNumbered g outs → AreNumbered h outs
+pub numbered_given : (g h : GraphState) (e : Expr) (n : ℕ) (b : Bool) (outs : List (ℕ × Load ℕ)) → NodeGiven g h e n b → AreNumbered g outs → AreNumbered h outs
 numbered_given g h e n true outs (absent, range, is, with) are = subst (λ x. AreNumbered x outs) (sym with) (numbered_with_node g e outs are)
 numbered_given g h e n false outs (node, same) are = subst (λ x. AreNumbered x outs) (sym same) are
 
 -- the new node is asked, where the letters before it stay what they are
-pub asks_new : (s t : Progress) (g h : GraphState) (ms ms' : List Monitor) (outs : List (ℕ × NumberedLoad)) (e : Expr) (n : ℕ) (p : NumberedPort) → progress_at g ms outs ≡ s → AreNumbered g outs → IsPort g.nodes p →
+pub asks_new : (s t : Progress) (g h : GraphState) (ms ms' : List Monitor) (outs : List (ℕ × Load ℕ)) (e : Expr) (n : ℕ) (p : Port ℕ) → progress_at g ms outs ≡ s → AreNumbered g outs → IsPort g.nodes p →
     NodeGiven g h e n true → ms' ≡ ms ++ new_monitor e ∷ [] → t ≡ record (progress_at h ms' outs) { outs = outs_at h.nodes outs ++ (n, load.Ask (port_at h.nodes p)) ∷ [] } → AsksFor s t e (port_at s.graph.nodes p)
 asks_new s t g h ms ms' outs e n p is are port (absent, range, at, with) monitors done =
     subst (λ (x : Progress). AsksFor x t e (port_at x.graph.nodes p)) is (
@@ -124,7 +120,7 @@ asks_new s t g h ms ms' outs e n p is are port (absent, range, at, with) monitor
       inr (absent, range, at, ap (λ (x : Progress). x.graph) done ∙ with, ap (λ (x : Progress). x.monitors) done ∙ monitors),
     )
 
-pub asks_old : (s t : Progress) (g h : GraphState) (ms : List Monitor) (outs : List (ℕ × NumberedLoad)) (e : Expr) (n : ℕ) (p : NumberedPort) → progress_at g ms outs ≡ s →
+pub asks_old : (s t : Progress) (g h : GraphState) (ms : List Monitor) (outs : List (ℕ × Load ℕ)) (e : Expr) (n : ℕ) (p : Port ℕ) → progress_at g ms outs ≡ s →
     NodeGiven g h e n false → t ≡ record (progress_at h ms outs) { outs = outs_at h.nodes outs ++ (n, load.Ask (port_at h.nodes p)) ∷ [] } → AsksFor s t e (port_at s.graph.nodes p)
 asks_old s t g h ms outs e n p is (node, same) done =
     subst (λ (x : Progress). AsksFor x t e (port_at x.graph.nodes p)) is (
@@ -133,19 +129,19 @@ asks_old s t g h ms outs e n p is (node, same) done =
       inl (node, ap (λ (x : Progress). x.graph) done ∙ same, ap (λ (x : Progress). x.monitors) done),
     )
 
-pub port_given : (g h : GraphState) (e : Expr) (n : ℕ) (b : Bool) (p : NumberedPort) → NodeGiven g h e n b → IsPort g.nodes p → IsPort h.nodes p
+pub port_given : (g h : GraphState) (e : Expr) (n : ℕ) (b : Bool) (p : Port ℕ) → NodeGiven g h e n b → IsPort g.nodes p → IsPort h.nodes p
 port_given g h e n true p (absent, range, is, with) port = subst (λ (x : GraphState). IsPort x.nodes p) (sym with) (port_goes_on g.nodes (e ∷ []) p port)
 port_given g h e n false p (node, same) port = subst (λ (x : GraphState). IsPort x.nodes p) (sym same) port
 
 -- one more letter was sent of those that tell each element of a list of the graph
-pub tells_on : {A : Type 0} (f : GraphState → A → ℕ × Load) (xs : GraphState → List A) (x : GraphState → A) (s now mid next : Progress) (k : ℕ) → now ≡ record s { outs = s.outs ++ take k (map (f s.graph) (xs s.graph)) } → mid ≡ now →
+pub tells_on : {A : Type 0} (f : GraphState → A → ℕ × Load (List ℕ)) (xs : GraphState → List A) (x : GraphState → A) (s now mid next : Progress) (k : ℕ) → now ≡ record s { outs = s.outs ++ take k (map (f s.graph) (xs s.graph)) } → mid ≡ now →
     slice_get (xs mid.graph) k ≡ Some (x mid.graph) → next ≡ record now { outs = now.outs ++ f now.graph (x now.graph) ∷ [] } → next ≡ record s { outs = s.outs ++ take (k + 1) (map (f s.graph) (xs s.graph)) }
 tells_on f xs x s now mid next k so_far is at done =
     done ∙ ap (λ (u : Progress). record u { outs = u.outs ++ f u.graph (x u.graph) ∷ [] }) so_far
-    ∙ ap (λ (os : List (ℕ × Load)). record s { outs = os }) (sent_next (f s.graph) (xs s.graph) k (x s.graph) s.outs (s.outs ++ take k (map (f s.graph) (xs s.graph))) (subst (λ (u : Progress). slice_get (xs u.graph) k ≡ Some (x u.graph)) (is ∙ so_far) at) refl)
+    ∙ ap (λ (os : List (ℕ × Load (List ℕ))). record s { outs = os }) (sent_next (f s.graph) (xs s.graph) k (x s.graph) s.outs (s.outs ++ take k (map (f s.graph) (xs s.graph))) (subst (λ (u : Progress). slice_get (xs u.graph) k ≡ Some (x u.graph)) (is ∙ so_far) at) refl)
 
 -- a listener is added, on a port whose number is an entity's
-pub numbered_listened : (g h : GraphState) (n m : ℕ) (p : NumberedPort) (b : Bool) (outs : List (ℕ × NumberedLoad)) → ListenerGiven g h n (record { asker = m; port = port_at g.nodes p }) b → n < length g.nodes → IsGraph h → IsPort g.nodes p → AreNumbered g outs → AreNumbered h outs
+pub numbered_listened : (g h : GraphState) (n m : ℕ) (p : Port ℕ) (b : Bool) (outs : List (ℕ × Load ℕ)) → ListenerGiven g h n (record { asker = m; port = port_at g.nodes p }) b → n < length g.nodes → IsGraph h → IsPort g.nodes p → AreNumbered g outs → AreNumbered h outs
 numbered_listened g h n m p false outs (listens, same) node graph port are = subst (λ (k : GraphState). AreNumbered k outs) (sym same) are
 numbered_listened g h n m p true outs (new, with) node graph port are =
     subst (λ (k : GraphState). AreNumbered k outs) (sym with) (record { loads = are.loads; ports = ports })
@@ -168,17 +164,17 @@ numbered_listened g h n m p true outs (new, with) node graph port are =
           | inr other ↦ are.ports k l (subst (λ ls. Contains ls l) other listens)
         ]
 
-pub numbered_solved : (g h : GraphState) (s : Solution) (b : Bool) (outs : List (ℕ × NumberedLoad)) → SolutionGiven g h s b → AreNumbered g outs → AreNumbered h outs
+pub numbered_solved : (g h : GraphState) (s : Solution) (b : Bool) (outs : List (ℕ × Load ℕ)) → SolutionGiven g h s b → AreNumbered g outs → AreNumbered h outs
 numbered_solved g h s false outs (has, same) are = subst (λ (k : GraphState). AreNumbered k outs) (sym same) are
 numbered_solved g h s true outs (new, with) are =
     subst (λ (k : GraphState). AreNumbered k outs) (sym with) (record { loads = are.loads; ports = are.ports })
 
-module _ (s : Progress) (g h : GraphState) (ms : List Monitor) (outs : List (ℕ × NumberedLoad)) (is : progress_at g ms outs ≡ s) where
-  pub hears_old : (n m : ℕ) (p : NumberedPort) → ListenerGiven g h n (record { asker = m; port = port_at g.nodes p }) false → HearsAsk s (progress_at h ms outs) n m (port_at s.graph.nodes p)
+module _ (s : Progress) (g h : GraphState) (ms : List Monitor) (outs : List (ℕ × Load ℕ)) (is : progress_at g ms outs ≡ s) where
+  pub hears_old : (n m : ℕ) (p : Port ℕ) → ListenerGiven g h n (record { asker = m; port = port_at g.nodes p }) false → HearsAsk s (progress_at h ms outs) n m (port_at s.graph.nodes p)
   hears_old n m p (listens, same) =
       subst (λ (x : Progress). HearsAsk x (progress_at h ms outs) n m (port_at x.graph.nodes p)) is (refl, inl (listens, same, ap (λ (k : GraphState). outs_at k.nodes outs) same))
 
-  pub hears_new : (t : Progress) (n m : ℕ) (p : NumberedPort) → ListenerGiven g h n (record { asker = m; port = port_at g.nodes p }) true →
+  pub hears_new : (t : Progress) (n m : ℕ) (p : Port ℕ) → ListenerGiven g h n (record { asker = m; port = port_at g.nodes p }) true →
       t ≡ record (progress_at h ms outs) { outs = outs_at h.nodes outs ++ known_tells h n m (port_at h.nodes p) } → HearsAsk s t n m (port_at s.graph.nodes p)
   hears_new t n m p (new, with) done =
       subst (λ (x : Progress). HearsAsk x t n m (port_at x.graph.nodes p)) is (
@@ -186,12 +182,12 @@ module _ (s : Progress) (g h : GraphState) (ms : List Monitor) (outs : List (ℕ
         inr (new, ap (λ (x : Progress). x.graph) done ∙ with, ap (λ (x : Progress). x.outs) done ∙ ap (λ (k : GraphState). outs_at k.nodes outs ++ known_tells k n m (port_at k.nodes p)) with),
       )
 
-  pub solves_old : (n k : ℕ) (r : NumberedReason) → SolutionGiven g h (record { node = n; who = entity_at g.nodes k; reason = reason_at g.nodes r }) false →
+  pub solves_old : (n k : ℕ) (r : Reason ℕ ℕ) → SolutionGiven g h (record { node = n; who = entity_at g.nodes k; reason = reason_at g.nodes r }) false →
       Solves s (progress_at h ms outs) n (entity_at s.graph.nodes k) (reason_at s.graph.nodes r)
   solves_old n k r (has, same) =
       subst (λ (x : Progress). Solves x (progress_at h ms outs) n (entity_at x.graph.nodes k) (reason_at x.graph.nodes r)) is (refl, inl (has, same, ap (λ (y : GraphState). outs_at y.nodes outs) same))
 
-  pub solves_new : (t : Progress) (n k : ℕ) (r : NumberedReason) → SolutionGiven g h (record { node = n; who = entity_at g.nodes k; reason = reason_at g.nodes r }) true →
+  pub solves_new : (t : Progress) (n k : ℕ) (r : Reason ℕ ℕ) → SolutionGiven g h (record { node = n; who = entity_at g.nodes k; reason = reason_at g.nodes r }) true →
       t ≡ record (progress_at h ms outs) { outs = outs_at h.nodes outs ++ new_tells h n (entity_at h.nodes k) } → Solves s t n (entity_at s.graph.nodes k) (reason_at s.graph.nodes r)
   solves_new t n k r (new, with) done =
       subst (λ (x : Progress). Solves x t n (entity_at x.graph.nodes k) (reason_at x.graph.nodes r)) is (
@@ -200,26 +196,26 @@ module _ (s : Progress) (g h : GraphState) (ms : List Monitor) (outs : List (ℕ
       )
 
 -- a port stays what it is where nodes are added
-pub more_port : (old new : List Expr) (p : NumberedPort) → HasMore old new → IsPort old p → IsPort new p
+pub more_port : (old new : List Expr) (p : Port ℕ) → HasMore old new → IsPort old p → IsPort new p
 more_port old new p (more, with) port = subst (λ (nodes : List Expr). IsPort nodes p) (sym with) (port_goes_on old more p port)
 
-pub more_port_same : (old new : List Expr) (p : NumberedPort) → HasMore old new → IsPort old p → port_at new p ≡ port_at old p
+pub more_port_same : (old new : List Expr) (p : Port ℕ) → HasMore old new → IsPort old p → port_at new p ≡ port_at old p
 more_port_same old new p (more, with) port = ap (λ (nodes : List Expr). port_at nodes p) with ∙ port_stays old more p port
 
 -- where a search stands, by its computation of numbers
-module _ (nodes : List Expr) (st : NumberedStage) (d : Computation NumberedLoad) (runs : st ≡ numbered_stage.Running d) where
-  abbrev pub shown : Computation Load
+module _ (nodes : List Expr) (st : NumberedStage) (d : Computation (Load ℕ)) (runs : st ≡ numbered_stage.Running d) where
+  abbrev pub shown : Computation (Load (List ℕ))
   shown = named_with (load_at nodes) d
 
   pub shows : stage_at nodes st ≡ stage.Running shown
   shows = ap (stage_at nodes) runs
 
   -- what is shown to run
-  pub shown_is : (c : Computation Load) → stage_at nodes st ≡ stage.Running c → shown ≡ c
+  pub shown_is : (c : Computation (Load (List ℕ))) → stage_at nodes st ≡ stage.Running c → shown ≡ c
   shown_is c is = same_running shown c (sym shows ∙ is)
 
-  pub held_shown : (c : Computation Load) (number : ℕ) → stage_at nodes st ≡ stage.Running c → IsHeld c number → IsHeld d number
-  held_shown c number is held = held-unnamed (load_at nodes) d number (subst (λ (x : Computation Load). IsHeld x number) (sym (shown_is c is)) held)
+  pub held_shown : (c : Computation (Load (List ℕ))) (number : ℕ) → stage_at nodes st ≡ stage.Running c → IsHeld c number → IsHeld d number
+  held_shown c number is held = held-unnamed (load_at nodes) d number (subst (λ (x : Computation (Load (List ℕ))). IsHeld x number) (sym (shown_is c is)) held)
 
   pub loads_shown : IsStage nodes st → AreLetters nodes d.letters
   loads_shown are = subst (IsStage nodes) runs are
@@ -248,31 +244,31 @@ module _ (nodes : List Expr) (st : NumberedStage) (d : Computation NumberedLoad)
   past_waiting place count is past =
       ap (λ (s : Stage). slice_get (waiting_in s) place) shows ∙ waits-named (load_at nodes) d place ∙ ap (option_map (entry_with (load_at nodes))) (slice_get_past (waiting d) place (omega (arith, is, past)))
 
-pub outs_count : (nodes : List Expr) (outs : List (ℕ × NumberedLoad)) → length (outs_at nodes outs) ≡ length outs
-outs_count nodes outs = length-map {B = ℕ × Load} outs (λ o. (o.0, load_at nodes o.1))
+pub outs_count : (nodes : List Expr) (outs : List (ℕ × Load ℕ)) → length (outs_at nodes outs) ≡ length outs
+outs_count nodes outs = length-map {B = ℕ × Load (List ℕ)} outs (λ o. (o.0, load_at nodes o.1))
 
 -- the environment's letter says no number
-pub start_says : (nodes : List Expr) (root : ℕ) → AreLetters nodes (started root numbered.Start).letters
-start_says nodes root = All-cons (λ (l : ℕ × Letter NumberedLoad). IsLoad nodes l.1.load) _ [] tt (All-nil (λ (l : ℕ × Letter NumberedLoad). IsLoad nodes l.1.load))
+pub start_says : (nodes : List Expr) (root : ℕ) → AreLetters nodes (started root load.Start).letters
+start_says nodes root = All-cons (λ (l : ℕ × Letter (Load ℕ)). IsLoad nodes l.1.load) _ [] tt (All-nil (λ (l : ℕ × Letter (Load ℕ)). IsLoad nodes l.1.load))
 
 -- what was taken, in words
-abbrev pub taken_as : List Expr → Option (ℕ × Held NumberedLoad) → Option (ℕ × Held Load)
+abbrev pub taken_as : List Expr → Option (ℕ × Held (Load ℕ)) → Option (ℕ × Held (Load (List ℕ)))
 taken_as nodes None = None
 taken_as nodes (Some r) = Some (r.0, held_at nodes r.1)
 
-pub taken_holds : (nodes : List Expr) (P : Type 0) (Q : ℕ → Held Load → Type 0) (r : Option (ℕ × Held NumberedLoad)) → MatchOption r P (λ x. Q x.0 (held_at nodes x.1)) → MatchOption (taken_as nodes r) P (λ x. Q x.0 x.1)
+pub taken_holds : (nodes : List Expr) (P : Type 0) (Q : ℕ → Held (Load (List ℕ)) → Type 0) (r : Option (ℕ × Held (Load ℕ))) → MatchOption r P (λ x. Q x.0 (held_at nodes x.1)) → MatchOption (taken_as nodes r) P (λ x. Q x.0 x.1)
 taken_holds nodes P Q None holds = holds
 taken_holds nodes P Q (Some r) holds = holds
 
-solves_more : (s t : Progress) (n : ℕ) (who : List ℕ) (why : Reason) → Solves s t n who why → HasMore s.graph.nodes t.graph.nodes
+solves_more : (s t : Progress) (n : ℕ) (who : List ℕ) (why : Reason ℕ (List ℕ)) → Solves s t n who why → HasMore s.graph.nodes t.graph.nodes
 solves_more s t n who why (monitors, inl had) = same_nodes s t (ap (λ (g : GraphState). g.nodes) had.1)
 solves_more s t n who why (monitors, inr new) = same_nodes s t (ap (λ (g : GraphState). g.nodes) new.1)
 
-hears_more : (s t : Progress) (n m : ℕ) (p : Port) → HearsAsk s t n m p → HasMore s.graph.nodes t.graph.nodes
+hears_more : (s t : Progress) (n m : ℕ) (p : Port (List ℕ)) → HearsAsk s t n m p → HasMore s.graph.nodes t.graph.nodes
 hears_more s t n m p (monitors, inl had) = same_nodes s t (ap (λ (g : GraphState). g.nodes) had.1)
 hears_more s t n m p (monitors, inr new) = same_nodes s t (ap (λ (g : GraphState). g.nodes) new.1)
 
-takes_more : (s t : Progress) (n m : ℕ) (p : Port) (who : List ℕ) → TakesIn s t n m p who → HasMore s.graph.nodes t.graph.nodes
+takes_more : (s t : Progress) (n m : ℕ) (p : Port (List ℕ)) (who : List ℕ) → TakesIn s t n m p who → HasMore s.graph.nodes t.graph.nodes
 takes_more s t n m port.Body who solves = solves_more s t n who (reason.Body m) solves
 takes_more s t n m port.Base who (r, name, node, (new, ms, heard, inl (known, same))) = same_nodes s t (ap (λ (u : Progress). u.graph.nodes) same)
 takes_more s t n m port.Base who (r, name, node, (new, ms, heard, inr (fresh, asks))) =
@@ -282,7 +278,7 @@ takes_more s t n m (port.Part i) who (last, ms, heard, inl (others, same)) = sam
 takes_more s t n m (port.Part i) who (last, ms, heard, inr (all, solves)) = solves_more (record s { monitors = ms }) t n who reason.Parts solves
 
 -- to answer a letter adds nodes alone
-pub answers_more : (view : List Vault) (s t : Progress) (from : Parent) (to : ℕ) (l : Load) → to < length s.graph.nodes → Answers view s t from to l → HasMore s.graph.nodes t.graph.nodes
+pub answers_more : (view : List Vault) (s t : Progress) (from : Parent) (to : ℕ) (l : Load (List ℕ)) → to < length s.graph.nodes → Answers view s t from to l → HasMore s.graph.nodes t.graph.nodes
 answers_more view s t Neutral to load.Start there answers = absurd answers
 answers_more view s t Neutral to (load.Ask p) there answers = absurd answers
 answers_more view s t Neutral to (load.Tell p who) there answers = absurd answers

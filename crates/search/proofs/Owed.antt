@@ -21,12 +21,12 @@ use Rattle.search.proofs.Grow.{one_expr}
 
 module _ (rows : List Credential) (asked : Role) (net : Net) (right : IsRight rows asked net) (paid : IsPaid rows net) where
   -- what was asked is heard, or between the two a letter is under way
-  asks_owed : (m : ℕ) (e : Expr) (p : Port) (f : Expr) → IsNode net.graph m e → IsAsked net m p f → ListensFor net e (why_of p) f ⊎ IsPendingBetween net e f
+  asks_owed : (m : ℕ) (e : Expr) (p : Port (List ℕ)) (f : Expr) → IsNode net.graph m e → IsAsked net m p f → ListensFor net e (why_of p) f ⊎ IsPendingBetween net e f
   asks_owed m e p f node (n, at, inl listens) = inl (m, n, p, node, at, refl, listens)
   asks_owed m e p f node (n, at, inr pending) = inr (m, n, node, at, (load.Ask p, inl pending))
 
   -- what an asked expression has is taken in, or between the two a letter is under way
-  told_owed : (m : ℕ) (e : Expr) (p : Port) (f : Expr) (who : List ℕ) → IsNode net.graph m e → IsAsked net m p f → Known net.graph who f → IsTaken net m p who ⊎ IsPendingBetween net e f
+  told_owed : (m : ℕ) (e : Expr) (p : Port (List ℕ)) (f : Expr) (who : List ℕ) → IsNode net.graph m e → IsAsked net m p f → Known net.graph who f → IsTaken net m p who ⊎ IsPendingBetween net e f
   told_owed m e p f who node (n, at, inr pending) known = inr (m, n, node, at, (load.Ask p, inl pending))
   told_owed m e p f who node (n, at, inl listens) (k, place, found) =
       let same : k ≡ n = right.graph.one_node k n f place at in

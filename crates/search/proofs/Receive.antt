@@ -33,13 +33,13 @@ own_rows_are view (Link r n) ordered = tt
 own_rows_are view (Meet parts) ordered = tt
 
 -- the letter that is received fits
-pub awaited_fits : {rows : List Credential} {asked : Role} {g : GraphState} {ms : List Monitor} {rest : List Sent} {from : Parent} {to : ℕ} {l : Load} →
+pub awaited_fits : {rows : List Credential} {asked : Role} {g : GraphState} {ms : List Monitor} {rest : List Sent} {from : Parent} {to : ℕ} {l : Load (List ℕ)} →
     (awaits : Awaits rows asked g ms rest from to l) → LetterFits rows (net_at (progress g ms []) rest to) from to l
 awaited_fits {rest = rest} {from = from} {to = to} {l = l} awaits =
     awaits.steady.right.letters_fit (record { from = from; to = to; load = l }) (Contains-append_left rest [] (record { from = from; to = to; load = l }) awaits.there)
 
 -- a receiver is a node, and so is a sender that is one
-pub receiver_in : (rows : List Credential) (asked : Role) (net : Net) → IsRight rows asked net → (from : Parent) (to : ℕ) (l : Load) → LetterFits rows net from to l → to < length net.graph.nodes
+pub receiver_in : (rows : List Credential) (asked : Role) (net : Net) → IsRight rows asked net → (from : Parent) (to : ℕ) (l : Load (List ℕ)) → LetterFits rows net from to l → to < length net.graph.nodes
 receiver_in rows asked net right Neutral to load.Start fits = absurd fits
 receiver_in rows asked net right Neutral to (load.Ask p) fits = absurd fits
 receiver_in rows asked net right Neutral to (load.Tell p who) fits = absurd fits
@@ -52,7 +52,7 @@ receiver_in rows asked net right (Node m) to (load.Tell p who) fits =
     let asks = right.listeners_fit m to p fits.0 in
     slice_get_within net.graph.nodes to asks.0 asks.2
 
-pub told_by_letter : (rows : List Credential) (asked : Role) (g : GraphState) (ms : List Monitor) (rest : List Sent) (m to : ℕ) (p : Port) (who : List ℕ) →
+pub told_by_letter : (rows : List Credential) (asked : Role) (g : GraphState) (ms : List Monitor) (rest : List Sent) (m to : ℕ) (p : Port (List ℕ)) (who : List ℕ) →
     (awaits : Awaits rows asked g ms rest (Node m) to (load.Tell p who)) → IsTold rows asked rest to m (progress g ms []) awaits.steady p who
 told_by_letter rows asked g ms rest m to p who awaits =
     let fits = awaited_fits awaits in
@@ -60,7 +60,7 @@ told_by_letter rows asked g ms rest m to p who awaits =
 
 module _ (view : List Vault) (asked : Role) (rest : List Sent) (ordered : IsOrdered view) where
   -- what was received is paid, and the search is steady
-  pub record Receipt (s t : Progress) (from : Parent) (to : ℕ) (l : Load) : Type 0 where
+  pub record Receipt (s t : Progress) (from : Parent) (to : ℕ) (l : Load (List ℕ)) : Type 0 where
     pub grows : Grows (net_at s rest to) (net_at t rest to)
     pub steady : IsSteady (credentials view) asked (net_at t rest to)
     pub received : IsReceived (credentials view) (net_at t rest to) from to l
@@ -81,7 +81,7 @@ module _ (view : List Vault) (asked : Role) (rest : List Sent) (ordered : IsOrde
       }
 
   -- a node that was asked before has paid what it owes
-  paid_before : (g : GraphState) (ms : List Monitor) (m to : ℕ) (p : Port) → Awaits (credentials view) asked g ms rest (Node m) to (load.Ask p) → IsOpenAt g to → (e : Expr) → IsNode g to e → OpenedPaid (credentials view) (net_at (progress g ms []) rest to) to e
+  paid_before : (g : GraphState) (ms : List Monitor) (m to : ℕ) (p : Port (List ℕ)) → Awaits (credentials view) asked g ms rest (Node m) to (load.Ask p) → IsOpenAt g to → (e : Expr) → IsNode g to e → OpenedPaid (credentials view) (net_at (progress g ms []) rest to) to e
   paid_before g ms m to p awaits (inl root) e at =
       awaits.steady.paid.opened to e at (inr (root, λ start. awaits.alone (λ same. cc) start.0 (start_in_rest start.0 start.1)))
     where
@@ -91,7 +91,7 @@ module _ (view : List Vault) (asked : Role) (rest : List Sent) (ordered : IsOrde
       let first = get_or (listeners_of g to) 0 (record { asker = 0; port = p }) in
       awaits.steady.paid.opened to e at (inl (first.asker, first.port, Contains-get_or (listeners_of g to) 0 (record { asker = 0; port = p }) some))
 
-  hears_letter : (g : GraphState) (ms : List Monitor) (t : Progress) (m to : ℕ) (p : Port) → Awaits (credentials view) asked g ms rest (Node m) to (load.Ask p) →
+  hears_letter : (g : GraphState) (ms : List Monitor) (t : Progress) (m to : ℕ) (p : Port (List ℕ)) → Awaits (credentials view) asked g ms rest (Node m) to (load.Ask p) →
       AnswersAsk view (progress g ms []) t to m p → Receipt (progress g ms []) t (Node m) to (load.Ask p)
   hears_letter g ms t m to p awaits (mid, inl (opened, same), heard) =
       let fits = awaited_fits awaits in
@@ -105,13 +105,13 @@ module _ (view : List Vault) (asked : Role) (rest : List Sent) (ordered : IsOrde
       (λ e at. subst (OpenedPaid (credentials view) (net_at mid rest to) to) (one_expr mid.graph to fits.1 e (first.moves.grows.nodes to fits.1 fits.3) at) first.paid) in
       record { grows = grows_on first.moves.grows done.moves.grows; steady = done.moves.steady; received = done.listener }
 
-  takes_letter : (g : GraphState) (ms : List Monitor) (t : Progress) (m to : ℕ) (p : Port) (who : List ℕ) → (awaits : Awaits (credentials view) asked g ms rest (Node m) to (load.Tell p who)) →
+  takes_letter : (g : GraphState) (ms : List Monitor) (t : Progress) (m to : ℕ) (p : Port (List ℕ)) (who : List ℕ) → (awaits : Awaits (credentials view) asked g ms rest (Node m) to (load.Tell p who)) →
       TakesIn (progress g ms []) t to m p who → Receipt (progress g ms []) t (Node m) to (load.Tell p who)
   takes_letter g ms t m to p who awaits answers =
       let done = takes_in (credentials view) asked rest to m (progress g ms []) awaits.steady p who t (told_by_letter (credentials view) asked g ms rest m to p who awaits) answers in
       record { grows = done.moves.grows; steady = done.moves.steady; received = done.taken }
 
-  pub receipt : (g : GraphState) (ms : List Monitor) (t : Progress) (from : Parent) (to : ℕ) (l : Load) → Awaits (credentials view) asked g ms rest from to l → Answers view (progress g ms []) t from to l → Receipt (progress g ms []) t from to l
+  pub receipt : (g : GraphState) (ms : List Monitor) (t : Progress) (from : Parent) (to : ℕ) (l : Load (List ℕ)) → Awaits (credentials view) asked g ms rest from to l → Answers view (progress g ms []) t from to l → Receipt (progress g ms []) t from to l
   receipt g ms t Neutral to load.Start awaits answers = absurd answers
   receipt g ms t Neutral to (load.Ask p) awaits answers = absurd answers
   receipt g ms t Neutral to (load.Tell p who) awaits answers = absurd answers

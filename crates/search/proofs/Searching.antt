@@ -55,7 +55,7 @@ module _ (rows : List Credential) (role : Role) where
   only_node zero e at = (refl, same_Some (Rol role) e at)
   only_node (suc n) e at = cc
 
-  no_listener : (n : ℕ) (m : ℕ) (p : Port) → Listens (first_graph role) n (record { asker = m; port = p }) → ⊥
+  no_listener : (n : ℕ) (m : ℕ) (p : Port (List ℕ)) → Listens (first_graph role) n (record { asker = m; port = p }) → ⊥
   no_listener zero m p among = Contains-none (record { asker = m; port = p }) among
   no_listener (suc n) m p among = Contains-none (record { asker = m; port = p }) among
 
@@ -115,7 +115,7 @@ opened_count s g_is stage_is c runs =
     })
 
 -- a search that runs or is broken isn't spent
-runs_unspent : (st : Stage) (c : Computation Load) → st ≡ stage.Running c → st ≡ stage.Spent → ⊥
+runs_unspent : (st : Stage) (c : Computation (Load (List ℕ))) → st ≡ stage.Running c → st ≡ stage.Spent → ⊥
 runs_unspent st c runs spent = let clash : stage.Running c ≡ stage.Spent = sym runs ∙ spent in cc
 
 pub opened_kept : (s : SearchState) → s.graph ≡ first_graph (asked_role s.query) → s.monitors ≡ monitor.Plain ∷ [] → s.stage ≡ stage.Running (started 0 load.Start) → 0 < s.work → IsGraph s.graph → IsKept s
@@ -132,17 +132,17 @@ broken_kept s broken = record {
   limit = λ spent. absurd (other (sym broken ∙ spent));
 }
   where
-    apart : (c : Computation Load) → stage.Broken ≡ stage.Running c → ⊥
+    apart : (c : Computation (Load (List ℕ))) → stage.Broken ≡ stage.Running c → ⊥
     apart c e = cc
 
     other : stage.Broken ≡ stage.Spent → ⊥
     other e = cc
 
 -- a held letter is awaited
-pub held_awaits : (s : SearchState) → KeepsRules s → (number : ℕ) (h : Held Load) → (held : HoldsLetter s.stage number h) → Awaits (rows_of s) (asked_role s.query) s.graph s.monitors (sent_of held.running.letters) h.from h.to h.load
+pub held_awaits : (s : SearchState) → KeepsRules s → (number : ℕ) (h : Held (Load (List ℕ))) → (held : HoldsLetter s.stage number h) → Awaits (rows_of s) (asked_role s.query) s.graph s.monitors (sent_of held.running.letters) h.from h.to h.load
 held_awaits s kept number h held = awaits_letter (kept held.running held.runs) held.by_number number (letter_in h) held.letter
 
-module _ (rows : List Credential) (role : Role) (work : ℕ) (g : GraphState) (ms : List Monitor) (c : Computation Load) (kept : KeptBy rows role work g ms c) where
+module _ (rows : List Credential) (role : Role) (work : ℕ) (g : GraphState) (ms : List Monitor) (c : Computation (Load (List ℕ))) (kept : KeptBy rows role work g ms c) where
   pub rules_owed : OwesRules rows role (net_of g ms c)
   rules_owed = owes_rules rows role (net_of g ms c) kept.steady.right kept.steady.paid
 
@@ -156,7 +156,7 @@ module _ (rows : List Credential) (role : Role) (work : ℕ) (g : GraphState) (m
   pub no_letters : outstanding c ≡ 0 → sent_of c.letters ≡ []
   no_letters none = none_sent c.letters (omega arith)
     where
-      none_sent : (letters : List (ℕ × Letter Load)) → length letters ≡ 0 → sent_of letters ≡ []
+      none_sent : (letters : List (ℕ × Letter (Load (List ℕ)))) → length letters ≡ 0 → sent_of letters ≡ []
       none_sent [] e = refl
       none_sent (x ∷ letters) e = absurd (omega arith)
 
@@ -184,7 +184,7 @@ status_exact s stage.Spent runs kept completed = absurd completed
 status_exact s stage.Broken runs kept completed = absurd completed
 
 -- a letter that is held or waits again
-marked_from : (number : ℕ) (held : Bool) (st : Stage) (d : Computation Load) → stage_marked number held st ≡ stage.Running d → (c : Computation Load) × (st ≡ stage.Running c) × (marked c number held ≡ d)
+marked_from : (number : ℕ) (held : Bool) (st : Stage) (d : Computation (Load (List ℕ))) → stage_marked number held st ≡ stage.Running d → (c : Computation (Load (List ℕ))) × (st ≡ stage.Running c) × (marked c number held ≡ d)
 marked_from number held (stage.Running c) d e = (c, refl, same_running (marked c number held) d e)
 marked_from number held stage.Spent d e = cc
 marked_from number held stage.Broken d e = cc
@@ -237,18 +237,18 @@ delivered_kept s st place b kept delivers = record {
 }
 
 -- a letter that waits goes to a node
-waiting_to : (s : SearchState) (st : Stage) (place number : ℕ) (l : Letter Load) → KeepsRules s → s.stage ≡ st → slice_get (waiting_in st) place ≡ Some (number, l) → l.to < length s.graph.nodes
+waiting_to : (s : SearchState) (st : Stage) (place number : ℕ) (l : Letter (Load (List ℕ))) → KeepsRules s → s.stage ≡ st → slice_get (waiting_in st) place ≡ Some (number, l) → l.to < length s.graph.nodes
 waiting_to s (stage.Running c) place number l kept runs at =
     let kept_now = kept c runs in
-    let among = (filtered (λ (x : ℕ × Letter Load). not x.1.held) c.letters (number, l) (Contains-at_place (waiting c) place (number, l) at)).0 in
-    let sent = Contains-map (λ (x : ℕ × Letter Load). plain x.1) c.letters (number, l) among in
+    let among = (filtered (λ (x : ℕ × Letter (Load (List ℕ))). not x.1.held) c.letters (number, l) (Contains-at_place (waiting c) place (number, l) at)).0 in
+    let sent = Contains-map (λ (x : ℕ × Letter (Load (List ℕ))). plain x.1) c.letters (number, l) among in
     receiver_in (rows_of s) (asked_role s.query) (net_of s.graph s.monitors c) kept_now.steady.right l.from l.to l.load (kept_now.steady.right.letters_fit (plain l) sent)
 waiting_to s stage.Spent place number l kept runs at = cc
 waiting_to s stage.Broken place number l kept runs at = cc
 
-pub taken_to : (s : SearchState) (st : Stage) (place number : ℕ) (h : Held Load) → KeepsRules s → Holds s.stage st place number h → h.to < length s.graph.nodes
+pub taken_to : (s : SearchState) (st : Stage) (place number : ℕ) (h : Held (Load (List ℕ))) → KeepsRules s → Holds s.stage st place number h → h.to < length s.graph.nodes
 taken_to s st place number h kept holds =
-    subst (λ (n : ℕ). n < length s.graph.nodes) (ap (λ (l : Letter Load). l.to) holds.taken) (waiting_to s s.stage place number holds.letter kept refl holds.waited)
+    subst (λ (n : ℕ). n < length s.graph.nodes) (ap (λ (l : Letter (Load (List ℕ))). l.to) holds.taken) (waiting_to s s.stage place number holds.letter kept refl holds.waited)
 
 -- a completed search has a node for its role, whose solutions are its members
 pub completed_root : (s : SearchState) (st : Stage) → s.stage ≡ st → KeepsRules s → IsCompleted st → 0 < length s.graph.nodes

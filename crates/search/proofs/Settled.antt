@@ -16,7 +16,7 @@ use Rattle.search.specs.Net.{Net, Sent, HasListener, IsPendingStart, IsOpen, IsA
 use Rattle.search.specs.Steady.{IsPaid, IsSteady}
 
 -- the letter was received: the environment's opened the asked role, an Ask is heard, a Tell is taken in
-abbrev pub IsReceived : List Credential → Net → Parent → ℕ → Load → Type 0
+abbrev pub IsReceived : List Credential → Net → Parent → ℕ → Load (List ℕ) → Type 0
 IsReceived rows net Environment to load.Start = (e : Expr) → IsNode net.graph 0 e → OpenedPaid rows net 0 e
 IsReceived rows net (Node m) to (load.Ask p) = HasListener net to m p
 IsReceived rows net (Node n) to (load.Tell p who) = IsTaken net to p who
@@ -31,7 +31,7 @@ pub record TakesOut (before after : List Sent) (x : Sent) : Type 0 where
   pub remains : (y : Sent) → Contains before y → Contains after y ⊎ (y ≡ x)
   pub start : x.load ≡ load.Start → (n : ℕ) → Contains after (record { from = Environment; to = n; load = load.Start }) → ⊥
 
-cases_start : (l : Load) → (l ≡ load.Start) ⊎ (l ≡ load.Start → ⊥)
+cases_start : (l : Load (List ℕ)) → (l ≡ load.Start) ⊎ (l ≡ load.Start → ⊥)
 cases_start load.Start = inl cc
 cases_start (load.Ask p) = inr (λ e. cc)
 cases_start (load.Tell p who) = inr (λ e. cc)
@@ -52,7 +52,7 @@ module _ (rows : List Credential) (asked : Role) (g : GraphState) (ms : List Mon
   received_as : (y : Sent) → y ≡ x → IsReceived rows old y.from y.to y.load
   received_as y same = subst (λ (z : Sent). IsReceived rows old z.from z.to z.load) (sym same) received
 
-  asked_remains : (m : ℕ) (p : Port) (f : Expr) → IsAsked old m p f → IsAsked new m p f
+  asked_remains : (m : ℕ) (p : Port (List ℕ)) (f : Expr) → IsAsked old m p f → IsAsked new m p f
   asked_remains m p f (n, node, inl listens) = (n, node, inl listens)
   asked_remains m p f (n, node, inr pending) =
       elim (takes.remains _ pending) [

@@ -38,22 +38,22 @@ member_of_solution g n who (why, stands) =
     Contains-map (λ (s : Solution). s.who) (filter (λ (s : Solution). s.node == n) g.solutions) (record { node = n; who = who; reason = why })
     (kept_by (λ (s : Solution). s.node == n) g.solutions (record { node = n; who = who; reason = why }) stands (eq-eqb n n refl))
 
-module _ (rows : List Credential) (asked : Role) (g : GraphState) (ms : List Monitor) (rest : List Sent) (node : ℕ) (outs : List (ℕ × Load)) where
+module _ (rows : List Credential) (asked : Role) (g : GraphState) (ms : List Monitor) (rest : List Sent) (node : ℕ) (outs : List (ℕ × Load (List ℕ))) where
   abbrev old : Net
   old = record { graph = g; monitors = ms; pending = rest ++ sent_by node outs }
 
-  abbrev out_sent : ℕ × Load → Sent
+  abbrev out_sent : ℕ × Load (List ℕ) → Sent
   out_sent out = record { from = Node node; to = out.0; load = out.1 }
 
   -- a new solution
-  module _ (who : List ℕ) (why : Reason) where
+  module _ (who : List ℕ) (why : Reason ℕ (List ℕ)) where
     abbrev solution : Solution
     solution = record { node = node; who = who; reason = why }
 
     abbrev solved : Net
     solved = record { graph = with_solution g solution; monitors = ms; pending = rest ++ sent_by node (outs ++ new_tells g node who) }
 
-    abbrev tell_of : Listening → ℕ × Load
+    abbrev tell_of : Listening → ℕ × Load (List ℕ)
     tell_of l = (l.asker, load.Tell l.port who)
 
     pub solve_grows : Grows old solved
@@ -74,7 +74,7 @@ module _ (rows : List Credential) (asked : Role) (g : GraphState) (ms : List Mon
         let same : out_sent (tell_of tell.from) ≡ x = ap out_sent tell.is ∙ out.is in
         subst (λ (y : Sent). LetterFits rows solved y.from y.to y.load) same (tell.among, (why, Contains-push g.solutions solution))
 
-    tell_sent : (m : ℕ) (p : Port) → HasListener old node m p → Contains (rest ++ sent_by node (outs ++ new_tells g node who)) (record { from = Node node; to = m; load = load.Tell p who })
+    tell_sent : (m : ℕ) (p : Port (List ℕ)) → HasListener old node m p → Contains (rest ++ sent_by node (outs ++ new_tells g node who)) (record { from = Node node; to = m; load = load.Tell p who })
     tell_sent m p listens =
         pending_new rest node outs (new_tells g node who) (record { from = Node node; to = m; load = load.Tell p who })
         (Contains-map out_sent (new_tells g node who) (m, load.Tell p who) (Contains-map tell_of (listeners_of g node) (record { asker = m; port = p }) listens))
@@ -113,14 +113,14 @@ module _ (rows : List Credential) (asked : Role) (g : GraphState) (ms : List Mon
         })
 
   -- a new listener
-  module _ (asker : ℕ) (p : Port) where
+  module _ (asker : ℕ) (p : Port (List ℕ)) where
     abbrev listening : Listening
     listening = record { asker = asker; port = p }
 
     abbrev heard : Net
     heard = record { graph = with_listener g node listening; monitors = ms; pending = rest ++ sent_by node (outs ++ known_tells g node asker p) }
 
-    abbrev known_tell : List ℕ → ℕ × Load
+    abbrev known_tell : List ℕ → ℕ × Load (List ℕ)
     known_tell who = (asker, load.Tell p who)
 
     module _ (within : node < length g.listeners) where

@@ -56,9 +56,9 @@ grows_on first later = record {
   start = λ start. first.start (later.start start);
 }
 
-pub progress_is : (t : Progress) (g : GraphState) (ms : List Monitor) (outs : List (ℕ × Load)) → t.graph ≡ g → t.monitors ≡ ms → t.outs ≡ outs → t ≡ progress g ms outs
+pub progress_is : (t : Progress) (g : GraphState) (ms : List Monitor) (outs : List (ℕ × Load (List ℕ))) → t.graph ≡ g → t.monitors ≡ ms → t.outs ≡ outs → t ≡ progress g ms outs
 progress_is t g ms outs a b c =
-    subst (λ (h : GraphState). t ≡ progress h ms outs) a (subst (λ (ns : List Monitor). t ≡ progress t.graph ns outs) b (subst (λ (os : List (ℕ × Load)). t ≡ progress t.graph t.monitors os) c refl))
+    subst (λ (h : GraphState). t ≡ progress h ms outs) a (subst (λ (ns : List Monitor). t ≡ progress t.graph ns outs) b (subst (λ (os : List (ℕ × Load (List ℕ))). t ≡ progress t.graph t.monitors os) c refl))
 
 -- these are the rows of the role
 abbrev pub AreRowsOf : List Credential → Role → List Credential → Type 0
@@ -71,7 +71,7 @@ RowsFor C (Link r n) own = Unit {0}
 RowsFor C (Meet parts) own = Unit {0}
 
 -- an ask of an intersection is of one of its parts
-pub record IsPartAsk (i : ℕ) (parts : List Part) (e : Expr) (p : Port) : Type 0 where
+pub record IsPartAsk (i : ℕ) (parts : List Part) (e : Expr) (p : Port (List ℕ)) : Type 0 where
   pub offset : ℕ
   pub place : ℕ
   pub part : Part
@@ -80,24 +80,24 @@ pub record IsPartAsk (i : ℕ) (parts : List Part) (e : Expr) (p : Port) : Type 
   pub expr_is : e ≡ part_expr part
   pub port_is : p ≡ port.Part place
 
-part_asked_from : (i : ℕ) (parts : List Part) (e : Expr) (p : Port) → Contains (part_asks i parts) (e, p) → IsPartAsk i parts e p
+part_asked_from : (i : ℕ) (parts : List Part) (e : Expr) (p : Port (List ℕ)) → Contains (part_asks i parts) (e, p) → IsPartAsk i parts e p
 part_asked_from i [] e p among = absurd (Contains-none (e, p) among)
 part_asked_from i (q ∷ parts) e p among =
     elim (Contains-cons_cases (part_expr q, port.Part i) (part_asks (i + 1) parts) (e, p) among) [
-      | inl same ↦ record { offset = 0; place = i; part = q; at = refl; place_is = omega arith; expr_is = ap (λ (w : Expr × Port). w.0) (sym same); port_is = ap (λ (w : Expr × Port). w.1) (sym same) }
+      | inl same ↦ record { offset = 0; place = i; part = q; at = refl; place_is = omega arith; expr_is = ap (λ (w : Expr × Port (List ℕ)). w.0) (sym same); port_is = ap (λ (w : Expr × Port (List ℕ)). w.1) (sym same) }
       | inr later ↦
           let rest = part_asked_from (i + 1) parts e p later in
           record { offset = suc rest.offset; place = rest.place; part = rest.part; at = rest.at; place_is = omega (arith, rest.place_is); expr_is = rest.expr_is; port_is = rest.port_is }
     ]
 
-pub record IsAskOfPart (parts : List Part) (e : Expr) (p : Port) : Type 0 where
+pub record IsAskOfPart (parts : List Part) (e : Expr) (p : Port (List ℕ)) : Type 0 where
   pub place : ℕ
   pub part : Part
   pub at : slice_get parts place ≡ Some part
   pub expr_is : e ≡ part_expr part
   pub port_is : p ≡ port.Part place
 
-part_asked : (i : ℕ) (parts : List Part) (e : Expr) (p : Port) → i ≡ 0 → Contains (part_asks i parts) (e, p) → IsAskOfPart parts e p
+part_asked : (i : ℕ) (parts : List Part) (e : Expr) (p : Port (List ℕ)) → i ≡ 0 → Contains (part_asks i parts) (e, p) → IsAskOfPart parts e p
 part_asked i parts e p zero_is among =
     let from = part_asked_from i parts e p among in
     let place : from.offset ≡ from.place = omega (arith, from.place_is) in
@@ -108,7 +108,7 @@ all_parts_asked i [] k q place is at = cc
 all_parts_asked i (p ∷ parts) zero q place is at =
     let same : p ≡ q = same_Some p q at in
     let here : i ≡ place = omega arith in
-    subst (λ (w : Expr × Port). Contains ((part_expr p, port.Part i) ∷ part_asks (i + 1) parts) w)
+    subst (λ (w : Expr × Port (List ℕ)). Contains ((part_expr p, port.Part i) ∷ part_asks (i + 1) parts) w)
     (ap (λ (r : Part). (part_expr r, port.Part i)) same ∙ ap (λ (n : ℕ). (part_expr q, port.Part n)) here)
     (Contains-first (part_expr p, port.Part i) (part_asks (i + 1) parts))
 all_parts_asked i (p ∷ parts) (suc k) q place is at =
@@ -127,10 +127,10 @@ module _ (rows : List Credential) (asked : Role) (rest : List Sent) (node : ℕ)
   stays s t steady same = subst (Moves s) (sym same) (record { grows = same_net (net_at s rest node) (net_at s rest node) refl; steady = steady })
 
   -- one Ask to a node that is there
-  asks_there : (s : Progress) (to : ℕ) (p : Port) (d e : Expr) → IsSteady rows asked (net_at s rest node) → IsNode s.graph node d → IsNode s.graph to e → Asks rows (Known s.graph) d (why_of p) e →
+  asks_there : (s : Progress) (to : ℕ) (p : Port (List ℕ)) (d e : Expr) → IsSteady rows asked (net_at s rest node) → IsNode s.graph node d → IsNode s.graph to e → Asks rows (Known s.graph) d (why_of p) e →
       Moves s (progress s.graph s.monitors (s.outs ++ (to, load.Ask p) ∷ []))
   asks_there s to p d e steady asker at asks =
-      let out : List (ℕ × Load) = (to, load.Ask p) ∷ [] in
+      let out : List (ℕ × Load (List ℕ)) = (to, load.Ask p) ∷ [] in
       let loud : Net = net_at (progress s.graph s.monitors (s.outs ++ out)) rest node in
       record {
         grows = letters_grow rest node s.outs out s.graph s.monitors;
@@ -141,15 +141,15 @@ module _ (rows : List Credential) (asked : Role) (rest : List Sent) (node : ℕ)
             ]);
       }
 
-  ask_sent : (s : Progress) (to : ℕ) (p : Port) → Contains (rest ++ sent_by node (s.outs ++ (to, load.Ask p) ∷ [])) (record { from = Node node; to = to; load = load.Ask p })
+  ask_sent : (s : Progress) (to : ℕ) (p : Port (List ℕ)) → Contains (rest ++ sent_by node (s.outs ++ (to, load.Ask p) ∷ [])) (record { from = Node node; to = to; load = load.Ask p })
   ask_sent s to p = pending_new rest node s.outs ((to, load.Ask p) ∷ []) (record { from = Node node; to = to; load = load.Ask p }) (Contains-first (record { from = Node node; to = to; load = load.Ask p }) [])
 
   -- an Ask that stands to reason
-  pub record Asked (s t : Progress) (p : Port) (e : Expr) : Type 0 where
+  pub record Asked (s t : Progress) (p : Port (List ℕ)) (e : Expr) : Type 0 where
     pub moves : Moves s t
     pub asked_now : IsAsked (net_at t rest node) node p e
 
-  asks_had : (s t : Progress) (e : Expr) (p : Port) (to : ℕ) (d : Expr) → IsSteady rows asked (net_at s rest node) → IsNode s.graph node d → Asks rows (Known s.graph) d (why_of p) e →
+  asks_had : (s t : Progress) (e : Expr) (p : Port (List ℕ)) (to : ℕ) (d : Expr) → IsSteady rows asked (net_at s rest node) → IsNode s.graph node d → Asks rows (Known s.graph) d (why_of p) e →
       IsNode s.graph to e → t ≡ progress s.graph s.monitors (s.outs ++ (to, load.Ask p) ∷ []) → Asked s t p e
   asks_had s t e p to d steady asker asks at same =
       subst (λ (u : Progress). Asked s u p e) (sym same) (record {
@@ -157,7 +157,7 @@ module _ (rows : List Credential) (asked : Role) (rest : List Sent) (node : ℕ)
         asked_now = (to, at, inr (ask_sent s to p));
       })
 
-  asks_new : (s t : Progress) (e : Expr) (p : Port) (d : Expr) → IsSteady rows asked (net_at s rest node) → IsNode s.graph node d → Asks rows (Known s.graph) d (why_of p) e →
+  asks_new : (s t : Progress) (e : Expr) (p : Port (List ℕ)) (d : Expr) → IsSteady rows asked (net_at s rest node) → IsNode s.graph node d → Asks rows (Known s.graph) d (why_of p) e →
       (Contains s.graph.nodes e → ⊥) → HasPartsInRange e → t ≡ progress (with_node s.graph e) (s.monitors ++ new_monitor e ∷ []) (s.outs ++ (length s.graph.nodes, load.Ask p) ∷ []) → Asked s t p e
   asks_new s t e p d steady asker asks absent range same =
       let mid : Progress = progress (with_node s.graph e) (s.monitors ++ new_monitor e ∷ []) s.outs in
@@ -170,7 +170,7 @@ module _ (rows : List Credential) (asked : Role) (rest : List Sent) (node : ℕ)
       let later = asks_had mid t e p (length s.graph.nodes) d added.steady (added.grows.nodes node d asker) (asks_more (known_stays added.grows) asks) (slice_get_pushed s.graph.nodes e) same in
       record { moves = moves_on s mid t added later.moves; asked_now = later.asked_now }
 
-  pub asks_for : (s t : Progress) (e : Expr) (p : Port) (d : Expr) → AsksFor s t e p → IsSteady rows asked (net_at s rest node) → IsNode s.graph node d → Asks rows (Known s.graph) d (why_of p) e → Asked s t p e
+  pub asks_for : (s t : Progress) (e : Expr) (p : Port (List ℕ)) (d : Expr) → AsksFor s t e p → IsSteady rows asked (net_at s rest node) → IsNode s.graph node d → Asks rows (Known s.graph) d (why_of p) e → Asked s t p e
   asks_for s t e p d (to, outs, inl (at, graph, monitors)) steady asker asks =
       asks_had s t e p to d steady asker asks at (progress_is t s.graph s.monitors (s.outs ++ (to, load.Ask p) ∷ []) graph monitors outs)
   asks_for s t e p d (to, outs, inr (absent, range, place, graph, monitors)) steady asker asks =
@@ -178,12 +178,12 @@ module _ (rows : List Credential) (asked : Role) (rest : List Sent) (node : ℕ)
       (progress_is t (with_node s.graph e) (s.monitors ++ new_monitor e ∷ []) (s.outs ++ (length s.graph.nodes, load.Ask p) ∷ []) graph monitors (outs ∙ ap (λ (k : ℕ). s.outs ++ (k, load.Ask p) ∷ []) place))
 
   -- asks that stand to reason, in turn
-  pub record AskedEach (s t : Progress) (ws : List (Expr × Port)) : Type 0 where
+  pub record AskedEach (s t : Progress) (ws : List (Expr × Port (List ℕ))) : Type 0 where
     pub moves : Moves s t
-    pub asked_now : (e : Expr) (p : Port) → Contains ws (e, p) → IsAsked (net_at t rest node) node p e
+    pub asked_now : (e : Expr) (p : Port (List ℕ)) → Contains ws (e, p) → IsAsked (net_at t rest node) node p e
 
-  pub asks_each : (ws : List (Expr × Port)) (s t : Progress) (d : Expr) → AsksEach s ws t → IsSteady rows asked (net_at s rest node) → IsNode s.graph node d →
-      ((e : Expr) (p : Port) → Contains ws (e, p) → Asks rows (Known s.graph) d (why_of p) e) → AskedEach s t ws
+  pub asks_each : (ws : List (Expr × Port (List ℕ))) (s t : Progress) (d : Expr) → AsksEach s ws t → IsSteady rows asked (net_at s rest node) → IsNode s.graph node d →
+      ((e : Expr) (p : Port (List ℕ)) → Contains ws (e, p) → Asks rows (Known s.graph) d (why_of p) e) → AskedEach s t ws
   asks_each [] s t d same steady asker asks =
       record { moves = stays s t steady same; asked_now = λ e p among. absurd (Contains-none (e, p) among) }
   asks_each (w ∷ ws) s t d (mid, here, later) steady asker asks =
@@ -193,7 +193,7 @@ module _ (rows : List Credential) (asked : Role) (rest : List Sent) (node : ℕ)
       record {
         moves = moves_on s mid t first.moves others.moves;
         asked_now = λ e p among. elim (Contains-cons_cases w ws (e, p) among) [
-          | inl same ↦ subst (λ (v : Expr × Port). IsAsked (net_at t rest node) node v.1 v.0) same (asked_stays others.moves.grows node w.1 w.0 first.asked_now)
+          | inl same ↦ subst (λ (v : Expr × Port (List ℕ)). IsAsked (net_at t rest node) node v.1 v.0) same (asked_stays others.moves.grows node w.1 w.0 first.asked_now)
           | inr among ↦ others.asked_now e p among
         ];
       }
@@ -203,7 +203,7 @@ module _ (rows : List Credential) (asked : Role) (rest : List Sent) (node : ℕ)
     pub moves : Moves s t
     pub solution : IsSolution t.graph node who
 
-  pub solves : (s t : Progress) (who : List ℕ) (why : Reason) → Solves s t node who why → IsSteady rows asked (net_at s rest node) → Fits s.graph node who why →
+  pub solves : (s t : Progress) (who : List ℕ) (why : Reason ℕ (List ℕ)) → Solves s t node who why → IsSteady rows asked (net_at s rest node) → Fits s.graph node who why →
       SolutionFits rows s.graph (record { node = node; who = who; reason = why }) → Solved s t who
   solves s t who why (monitors, inl (there, graph, outs)) steady fits right =
       let same = progress_is t s.graph s.monitors s.outs graph monitors outs in
@@ -221,11 +221,11 @@ module _ (rows : List Credential) (asked : Role) (rest : List Sent) (node : ℕ)
       })
 
   -- an Ask that is heard
-  pub record Heard (s t : Progress) (m : ℕ) (p : Port) : Type 0 where
+  pub record Heard (s t : Progress) (m : ℕ) (p : Port (List ℕ)) : Type 0 where
     pub moves : Moves s t
     pub listener : HasListener (net_at t rest node) node m p
 
-  pub hears : (s t : Progress) (m : ℕ) (p : Port) → HearsAsk s t node m p → IsSteady rows asked (net_at s rest node) → AskFits rows (net_at s rest node) m p node →
+  pub hears : (s t : Progress) (m : ℕ) (p : Port (List ℕ)) → HearsAsk s t node m p → IsSteady rows asked (net_at s rest node) → AskFits rows (net_at s rest node) m p node →
       ((e : Expr) → IsNode s.graph node e → OpenedPaid rows (net_at s rest node) node e) → Heard s t m p
   hears s t m p (monitors, inl (there, graph, outs)) steady fits opened =
       record {
@@ -253,18 +253,18 @@ module _ (rows : List Credential) (asked : Role) (rest : List Sent) (node : ℕ)
 
   opens_role : (own : List Credential) (s t : Progress) (r : Role) → IsNode s.graph node (Rol r) → AsksEach s (map (λ c. (c.body, port.Body)) own) t → AreRowsOf rows r own → IsSteady rows asked (net_at s rest node) → Opened s t (Rol r)
   opens_role own s t r at asks are steady =
-      let body : Credential → Expr × Port = λ c. (c.body, port.Body) in
+      let body : Credential → Expr × Port (List ℕ) = λ c. (c.body, port.Body) in
       let each = asks_each (map body own) s t (Rol r) asks steady at (λ e p among. row_asks e p among) in
       record {
         moves = each.moves;
         paid = λ c among head. each.asked_now c.body port.Body (Contains-map body own c ((are c).1 (among, head)));
       }
     where
-      row_asks : (e : Expr) (p : Port) → Contains {X = Expr × Port} (map (λ c. (c.body, port.Body)) own) (e, p) → Asks rows (Known s.graph) (Rol r) (why_of p) e
+      row_asks : (e : Expr) (p : Port (List ℕ)) → Contains {X = Expr × Port (List ℕ)} (map (λ c. (c.body, port.Body)) own) (e, p) → Asks rows (Known s.graph) (Rol r) (why_of p) e
       row_asks e p among =
           let from = mapped (λ (c : Credential). (c.body, port.Body)) own (e, p) among in
           let row = (are from.from).0 from.among in
-          subst (λ (w : Expr × Port). Asks rows (Known s.graph) (Rol r) (why_of w.1) w.0) from.is (asks_body from.from row.0 row.1)
+          subst (λ (w : Expr × Port (List ℕ)). Asks rows (Known s.graph) (Rol r) (why_of w.1) w.0) from.is (asks_body from.from row.0 row.1)
 
   pub opens : (own : List Credential) (s t : Progress) (e : Expr) → IsNode s.graph node e → Opens own s t node e → RowsFor rows e own → IsSteady rows asked (net_at s rest node) → Opened s t e
   opens own s t (Ent d) at step are steady =
@@ -274,7 +274,7 @@ module _ (rows : List Credential) (asked : Role) (rest : List Sent) (node : ℕ)
   opens own s t (Link r n) at step are steady =
       let each = asks_each ((Rol r, port.Base) ∷ []) s t (Link r n) step steady at (λ e p among.
       elim (Contains-cons_cases (Rol r, port.Base) [] (e, p) among) [
-        | inl same ↦ subst (λ (w : Expr × Port). Asks rows (Known s.graph) (Link r n) (why_of w.1) w.0) same (asks_base r n)
+        | inl same ↦ subst (λ (w : Expr × Port (List ℕ)). Asks rows (Known s.graph) (Link r n) (why_of w.1) w.0) same (asks_base r n)
         | inr none ↦ absurd (Contains-none (e, p) none)
       ]) in
       record { moves = each.moves; paid = each.asked_now (Rol r) port.Base (Contains-first (Rol r, port.Base) []) }
@@ -282,7 +282,7 @@ module _ (rows : List Credential) (asked : Role) (rest : List Sent) (node : ℕ)
       let each = asks_each (part_asks 0 parts) s t (Meet parts) step steady at (λ e p among.
       let part = part_asked 0 parts e p refl among in
       let ask : Asks rows (Known s.graph) (Meet parts) (why_of (port.Part part.place)) (part_expr part.part) = asks_part part.place part.part part.at in
-      subst (λ (w : Port). Asks rows (Known s.graph) (Meet parts) (why_of w) e) (sym part.port_is) (subst (λ (f : Expr). Asks rows (Known s.graph) (Meet parts) (why_of (port.Part part.place)) f) (sym part.expr_is) ask)) in
+      subst (λ (w : Port (List ℕ)). Asks rows (Known s.graph) (Meet parts) (why_of w) e) (sym part.port_is) (subst (λ (f : Expr). Asks rows (Known s.graph) (Meet parts) (why_of (port.Part part.place)) f) (sym part.expr_is) ask)) in
       record {
         moves = each.moves;
         paid = λ i p place. each.asked_now (part_expr p) (port.Part i) (all_parts_asked 0 parts i p i (omega arith) place);

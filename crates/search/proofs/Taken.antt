@@ -84,7 +84,7 @@ module _ (rows : List Credential) (asked : Role) (rest : List Sent) (node m : �
   derived = sound rows asked net steady.right steady.paid
 
   -- what the node was told, by one that it listens to
-  pub record IsTold (p : Port) (who : List ℕ) : Type 0 where
+  pub record IsTold (p : Port (List ℕ)) (who : List ℕ) : Type 0 where
     pub asks : AskFits rows net node p m
     pub solution : IsSolution s.graph m who
 
@@ -187,7 +187,7 @@ module _ (rows : List Credential) (asked : Role) (rest : List Sent) (node m : �
       let known = all_known i who fits.parts x fits fits.node mat (parts_count fits.parts x fits.node mat) all in
       (fits.parts, fits.node, λ k d below. known k (get_or fits.parts k d) (slice_get-get_or fits.parts k d below))
 
-  pub may_take_in : (p : Port) (who : List ℕ) → IsTold p who → MayTakeIn s.graph s.monitors node m p who
+  pub may_take_in : (p : Port (List ℕ)) (who : List ℕ) → IsTold p who → MayTakeIn s.graph s.monitors node m p who
   may_take_in port.Body who told = (body_told who told).fits
   may_take_in (port.Via b) who told = (via_told b who told).fits
   may_take_in port.Base base told =
@@ -201,7 +201,7 @@ module _ (rows : List Credential) (asked : Role) (rest : List Sent) (node m : �
       ((x.0, x.1, subst (λ (n : ℕ). i < n) (sym x.2) (slice_get_within fits.parts i fits.part fits.at)), last_fits i who told)
 
   -- the node has taken in what it was told, and the search is steady
-  pub record TakenIn (t : Progress) (p : Port) (who : List ℕ) : Type 0 where
+  pub record TakenIn (t : Progress) (p : Port (List ℕ)) (who : List ℕ) : Type 0 where
     pub moves : Moves rows asked rest node s t
     pub taken : IsTaken (net_at t rest node) node p who
 
@@ -232,7 +232,7 @@ module _ (rows : List Credential) (asked : Role) (rest : List Sent) (node m : �
   told_base_new base t r name ms x told at mat ms_is (to, outs, cases) =
       let e : Expr = Rol (record { owner = base; name = name }) in
       let y : Monitor = monitor.Link (record x { bases = x.bases ++ base ∷ [] }) in
-      let out : List (ℕ × Load) = (to, load.Ask (port.Via base)) ∷ [] in
+      let out : List (ℕ × Load (List ℕ)) = (to, load.Ask (port.Via base)) ∷ [] in
       let is = base_told base told in
       let same_role : is.role ≡ r = same_base is.role r is.name name (one_expr s.graph node (Link is.role is.name) (Link r name) is.at at) in
       let asks : Asks rows (Known s.graph) (Link r name) (for_via base) e = asks_via name base (subst (λ (q : Role). Known s.graph base (Rol q)) same_role is.member) in
@@ -310,7 +310,7 @@ module _ (rows : List Credential) (asked : Role) (rest : List Sent) (node m : �
       ])
       (same ∙ ap (λ (ns : List Monitor). record s { monitors = ns }) ms_is)
 
-  pub takes_in : (p : Port) (who : List ℕ) (t : Progress) → IsTold p who → TakesIn s t node m p who → TakenIn t p who
+  pub takes_in : (p : Port (List ℕ)) (who : List ℕ) (t : Progress) → IsTold p who → TakesIn s t node m p who → TakenIn t p who
   takes_in port.Body who t told step =
       let is = body_told who told in
       let done = solves rows asked rest node s t who (reason.Body m) step steady is.fits is.right in

@@ -1,5 +1,5 @@
 -- The waiting letter at a place is taken, if there is one.
-use Rattle.std.proofs.Common.{ℕ, ◌≡◌, inl, refl, sym, subst, ap, true, [], Option, Some, None, get_or, slice_get}
+use Rattle.std.proofs.Common.{ℕ, ◌≡◌, inl, refl, sym, subst, ap, true, List, [], Option, Some, None, get_or, slice_get}
 use Rattle.std.specs.Option.{MatchOption}
 use Rattle.std.proofs.lemmas.Option.{slice_get-get_or}
 use Rattle.credential_text.specs.declared.exprs.Expr.{Expr}
@@ -18,22 +18,22 @@ use Rattle.search.proofs.Answered.{waits_outstanding}
 use Rattle.search.proofs.Ended.{same_question, settles}
 
 -- there is no letter at the place, or it is taken
-abbrev pub MayTake : SearchState → SearchState → ℕ → Option (ℕ × Held Load) → Type 0
+abbrev pub MayTake : SearchState → SearchState → ℕ → Option (ℕ × Held (Load (List ℕ))) → Type 0
 MayTake s t place r = MatchOption r ((slice_get (waiting_in s.stage) place ≡ None) × (t ≡ s)) (λ x. TakesHeld s t place x.0 x.1)
 
 -- what a search is then
-pub record TakenOrNot (s : SearchState) (st : Stage) (place : ℕ) (r : Option (ℕ × Held Load)) : Type 0 where
+pub record TakenOrNot (s : SearchState) (st : Stage) (place : ℕ) (r : Option (ℕ × Held (Load (List ℕ)))) : Type 0 where
   pub taken : MayTake s (record s { stage = st }) place r
   pub kept : IsKept (record s { stage = st })
   pub settles : Settles s (record s { stage = st })
 
 module _ (s : SearchState) (st : Stage) (place : ℕ) (kept : IsKept s) where
-  some_taken : (number : ℕ) (h : Held Load) → Holds s.stage st place number h → TakenOrNot s st place (Some (number, h))
+  some_taken : (number : ℕ) (h : Held (Load (List ℕ))) → Holds s.stage st place number h → TakenOrNot s st place (Some (number, h))
   some_taken number h holds =
       let e : Expr = get_or s.graph.nodes h.to (Ent []) in
       let at : IsNode s.graph h.to e = slice_get-get_or s.graph.nodes h.to (Ent []) (taken_to s st place number h kept.rules holds) in
-      let same_to : holds.letter.to ≡ h.to = ap (λ (l : Letter Load). l.to) holds.taken in
-      let same_load : holds.letter.load ≡ h.load = ap (λ (l : Letter Load). l.load) holds.taken in
+      let same_to : holds.letter.to ≡ h.to = ap (λ (l : Letter (Load (List ℕ))). l.to) holds.taken in
+      let same_load : holds.letter.load ≡ h.load = ap (λ (l : Letter (Load (List ℕ))). l.load) holds.taken in
       let after = marked_stage_kept s st number true kept holds.marked in
       record {
         taken = record {
@@ -62,6 +62,6 @@ module _ (s : SearchState) (st : Stage) (place : ℕ) (kept : IsKept s) where
         settles = inl (ap settled_of is);
       }
 
-pub taken_or_not : (s : SearchState) (st : Stage) (place : ℕ) (r : Option (ℕ × Held Load)) → IsKept s → MatchOption r ((slice_get (waiting_in s.stage) place ≡ None) × (st ≡ s.stage)) (λ x. Holds s.stage st place x.0 x.1) → TakenOrNot s st place r
+pub taken_or_not : (s : SearchState) (st : Stage) (place : ℕ) (r : Option (ℕ × Held (Load (List ℕ)))) → IsKept s → MatchOption r ((slice_get (waiting_in s.stage) place ≡ None) × (st ≡ s.stage)) (λ x. Holds s.stage st place x.0 x.1) → TakenOrNot s st place r
 taken_or_not s st place None kept (none, same) = none_taken s st place kept none same
 taken_or_not s st place (Some (number, h)) kept holds = some_taken s st place kept number h holds

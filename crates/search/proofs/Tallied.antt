@@ -49,7 +49,7 @@ open_asks net m (for_via b) own opened = absurd own
 open_asks net m (for_part i) own opened = opened
 
 -- who was told of a member of its base may ask on its behalf
-told_asks : (net : Net) (m : ℕ) (p : Port) (who : List ℕ) (why : Why) → IsTaken net m p who → AsksOnceTold p who why → MayAskFor net m why
+told_asks : (net : Net) (m : ℕ) (p : Port (List ℕ)) (who : List ℕ) (why : Why) → IsTaken net m p who → AsksOnceTold p who why → MayAskFor net m why
 told_asks net m port.Body who why taken once = absurd once
 told_asks net m port.Base who why taken once = subst (MayAskFor net m) (sym once) taken
 told_asks net m (port.Via b) who why taken once = absurd once
@@ -135,7 +135,7 @@ module _ (view : List Vault) (asked : Role) (ordered : IsOrdered view) (g : Grap
           root.1 (to, Contains-append_left (with start) [] start (Contains-append_right before (start ∷ after) start (Contains-first start after)))
 
   -- an Ask
-  module _ (m : ℕ) (p : Port) where
+  module _ (m : ℕ) (p : Port (List ℕ)) where
     abbrev ask : Sent
     ask = record { from = Node m; to = to; load = load.Ask p }
 
@@ -170,7 +170,7 @@ module _ (view : List Vault) (asked : Role) (ordered : IsOrdered view) (g : Grap
         closed shut (inr root) = shut (inl root.0)
 
   -- a Tell
-  tell_counted : (m : ℕ) (p : Port) (who : List ℕ) → Receipt view asked (with (record { from = Node m; to = to; load = load.Tell p who })) ordered s t (Node m) to (load.Tell p who) →
+  tell_counted : (m : ℕ) (p : Port (List ℕ)) (who : List ℕ) → Receipt view asked (with (record { from = Node m; to = to; load = load.Tell p who })) ordered s t (Node m) to (load.Tell p who) →
       Counted (with (record { from = Node m; to = to; load = load.Tell p who })) → TakesIn s t to m p who → IsCounted new (sent + length t.outs)
   tell_counted m p who receipt counted takes =
       let rest : List Sent = with (record { from = Node m; to = to; load = load.Tell p who }) in
@@ -180,14 +180,14 @@ module _ (view : List Vault) (asked : Role) (ordered : IsOrdered view) (g : Grap
       (λ a same once. told_asks new a.asker p who a.why (subst (λ (n : ℕ). IsTaken new n p who) (sym same) (taken_in p receipt.received)) once)
       refl (begun_with rest counted) takes
     where
-      taken_in : (q : Port) → IsTaken (net_at t (with (record { from = Node m; to = to; load = load.Tell p who })) to) to q who → IsTaken new to q who
+      taken_in : (q : Port (List ℕ)) → IsTaken (net_at t (with (record { from = Node m; to = to; load = load.Tell p who })) to) to q who → IsTaken new to q who
       taken_in port.Body taken = taken
       taken_in port.Base taken = taken
       taken_in (port.Via b) taken = taken
       taken_in (port.Part i) taken = taken
 
   -- whatever the letter says
-  pub receipt_counted : (from : Parent) (l : Load) → Awaits (credentials view) asked g ms (with (record { from = from; to = to; load = l })) from to l →
+  pub receipt_counted : (from : Parent) (l : Load (List ℕ)) → Awaits (credentials view) asked g ms (with (record { from = from; to = to; load = l })) from to l →
       Receipt view asked (with (record { from = from; to = to; load = l })) ordered s t from to l →
       (IsPendingStart (record { graph = g; monitors = ms; pending = with (record { from = from; to = to; load = l }) }) → sent ≡ 1) →
       Counted (with (record { from = from; to = to; load = l })) → Answers view s t from to l → IsCounted new (sent + length t.outs)

@@ -57,7 +57,7 @@ stands_between {X} low (e ∷ xs) high number x rising is =
           }
     ]
 
-module _ (view : List Vault) (asked : Role) (work : ℕ) (g : GraphState) (ms : List Monitor) (c : Computation Load) (number : ℕ) (l : Letter Load) (t : Progress) (ordered : IsOrdered view)
+module _ (view : List Vault) (asked : Role) (work : ℕ) (g : GraphState) (ms : List Monitor) (c : Computation (Load (List ℕ))) (number : ℕ) (l : Letter (Load (List ℕ))) (t : Progress) (ordered : IsOrdered view)
     (kept : KeptBy (credentials view) asked work g ms c) (by : StandByNumber c) (is : letter_of c number ≡ Some l) (numbers : IsNumbered 0 c.letters c.sent)
     (tallied : IsTallied g ms c) (row : Answers view (progress g ms []) t l.from l.to l.load) where
   abbrev still : List Sent
@@ -73,10 +73,10 @@ module _ (view : List Vault) (asked : Role) (work : ℕ) (g : GraphState) (ms : 
   last_ones = sent_of parted.after
 
   all_are : sent_of c.letters ≡ first_ones ++ (plain l ∷ last_ones)
-  all_are = ap sent_of parted.whole ∙ map-append (λ (x : ℕ × Letter Load). plain x.1) parted.before ((number, l) ∷ parted.after)
+  all_are = ap sent_of parted.whole ∙ map-append (λ (x : ℕ × Letter (Load (List ℕ))). plain x.1) parted.before ((number, l) ∷ parted.after)
 
   still_are : still ≡ first_ones ++ last_ones
-  still_are = ap sent_of parted.others ∙ map-append (λ (x : ℕ × Letter Load). plain x.1) parted.before parted.after
+  still_are = ap sent_of parted.others ∙ map-append (λ (x : ℕ × Letter (Load (List ℕ))). plain x.1) parted.before parted.after
 
   awaited : Awaits (credentials view) asked g ms (first_ones ++ (plain l ∷ last_ones)) l.from l.to l.load
   awaited = subst (λ (rest : List Sent). Awaits (credentials view) asked g ms rest l.from l.to l.load) all_are (awaits_letter kept by number l is)
@@ -92,7 +92,7 @@ module _ (view : List Vault) (asked : Role) (work : ℕ) (g : GraphState) (ms : 
       (subst (λ (rest : List Sent). IsPendingStart (record { graph = g; monitors = ms; pending = rest }) → c.sent ≡ 1) all_are tallied.first)
       (subst (λ (rest : List Sent). IsCounted (record { graph = g; monitors = ms; pending = rest }) c.sent) all_are tallied.counted) row)
 
-  pub done_tallied : (d : Computation Load) → FinishesLetter c number t.outs d → IsTallied t.graph t.monitors d
+  pub done_tallied : (d : Computation (Load (List ℕ))) → FinishesLetter c number t.outs d → IsTallied t.graph t.monitors d
   done_tallied d finishes =
       let paid = receipt view asked (sent_of c.letters) ordered g ms t l.from l.to l.load (awaits_letter kept by number l is) row in
       let after : sent_of d.letters ≡ still ++ sent_by l.to t.outs = after_is view asked work g ms c number l t ordered kept by is paid d finishes in

@@ -50,7 +50,7 @@ heard_is k (ls ∷ lists) a has =
     ]
 
 -- an ask under way is a letter's that may be sent
-asked_by_letter : (rows : List Credential) (net : Net) (from : Parent) (to : ℕ) (l : Load) (a : NodeAsk) → Contains (ask_from from to l) a → LetterFits rows net from to l →
+asked_by_letter : (rows : List Credential) (net : Net) (from : Parent) (to : ℕ) (l : Load (List ℕ)) (a : NodeAsk) → Contains (ask_from from to l) a → LetterFits rows net from to l →
     (e f : Expr) × IsNode net.graph a.asker e × IsNode net.graph a.asked f × Asks rows (Known net.graph) e a.why f
 asked_by_letter rows net Neutral to l a has fits = absurd (Contains-none a has)
 asked_by_letter rows net Environment to l a has fits = absurd (Contains-none a has)

@@ -20,19 +20,18 @@ use Rattle.scholten_core.specs.declared.parents.Parent.{Parent}
 use Rattle.scholten_core.specs.declared.parents.Parent.TheVariants.{Environment, Node}
 use Rattle.vaults.specs.Journal.{Vault}
 use Rattle.snapshots.specs.Span.{role_rows}
-use Rattle.search.specs.declared.letters.Load.{Load}
 use Rattle.search.specs.declared.letters.Load.TheVariants as load
 use Rattle.search.specs.declared.findings.Monitor.{Monitor}
 use Rattle.search.specs.declared.findings.Monitor.TheVariants as monitor
-use Rattle.search.specs.Net.{Net, Sent, sent_by}
+use Rattle.search.specs.Net.{Said, Net, Sent, sent_by}
 
 -- what was found while a node answers a letter, and what it sends
 pub record Progress : Type 0 where
   pub graph : GraphState
   pub monitors : List Monitor
-  pub outs : List (ℕ × Load)
+  pub outs : List (ℕ × Said)
 
-abbrev pub progress : GraphState → List Monitor → List (ℕ × Load) → Progress
+abbrev pub progress : GraphState → List Monitor → List (ℕ × Said) → Progress
 progress g ms outs = record { graph = g; monitors = ms; outs = outs }
 
 -- the search while a node answers a letter: the other letters, and those that it sends
@@ -47,7 +46,7 @@ new_monitor (Link r t) = monitor.Link (record { bases = []; members = [] })
 new_monitor (Meet parts) = monitor.Meet (record { parts = length parts; told = set.empty })
 
 -- an Ask goes to the node of the expression, which is added with its monitor where there is none
-abbrev pub AsksFor : Progress → Progress → Expr → Port → Type 0
+abbrev pub AsksFor : Progress → Progress → Expr → Port (List ℕ) → Type 0
 AsksFor s t e p =
     (to : ℕ) × (t.outs ≡ s.outs ++ (to, load.Ask p) ∷ [])
     × ((IsNode s.graph to e × (t.graph ≡ s.graph) × (t.monitors ≡ s.monitors))
@@ -56,16 +55,16 @@ AsksFor s t e p =
     × (t.monitors ≡ s.monitors ++ new_monitor e ∷ [])))
 
 -- these expressions are asked in turn
-abbrev pub AsksEach : Progress → List (Expr × Port) → Progress → Type 0
+abbrev pub AsksEach : Progress → List (Expr × Port (List ℕ)) → Progress → Type 0
 AsksEach s [] t = t ≡ s
 AsksEach s (w ∷ ws) t = (mid : Progress) × AsksFor s mid w.0 w.1 × AsksEach mid ws t
 
 -- a Tell to every listener of the node
-abbrev pub new_tells : GraphState → ℕ → List ℕ → List (ℕ × Load)
+abbrev pub new_tells : GraphState → ℕ → List ℕ → List (ℕ × Said)
 new_tells g n who = map (λ l. (l.asker, load.Tell l.port who)) (listeners_of g n)
 
 -- the entity is a solution of the node now; where it is new, every listener is told
-abbrev pub Solves : Progress → Progress → ℕ → List ℕ → Reason → Type 0
+abbrev pub Solves : Progress → Progress → ℕ → List ℕ → Reason ℕ (List ℕ) → Type 0
 Solves s t n who why =
     (t.monitors ≡ s.monitors)
     × ((IsSolution s.graph n who × (t.graph ≡ s.graph) × (t.outs ≡ s.outs))
@@ -74,11 +73,11 @@ Solves s t n who why =
     × (t.outs ≡ s.outs ++ new_tells s.graph n who)))
 
 -- a Tell to the asker for each solution that the node has
-abbrev pub known_tells : GraphState → ℕ → ℕ → Port → List (ℕ × Load)
+abbrev pub known_tells : GraphState → ℕ → ℕ → Port (List ℕ) → List (ℕ × Said)
 known_tells g n m p = map (λ who. (m, load.Tell p who)) (members_of g n)
 
 -- the node m listens to the node n now; where that is new, it is told each solution that the node has
-abbrev pub HearsAsk : Progress → Progress → ℕ → ℕ → Port → Type 0
+abbrev pub HearsAsk : Progress → Progress → ℕ → ℕ → Port (List ℕ) → Type 0
 HearsAsk s t n m p =
     (t.monitors ≡ s.monitors)
     × ((Listens s.graph n (record { asker = m; port = p }) × (t.graph ≡ s.graph) × (t.outs ≡ s.outs))
@@ -112,7 +111,7 @@ TellsPart s t node i who =
     ⊎ ((last ≡ true) × Solves (record s { monitors = ms }) t node who reason.Parts))
 
 -- a node takes in what the node m told it on a port
-abbrev pub TakesIn : Progress → Progress → ℕ → ℕ → Port → List ℕ → Type 0
+abbrev pub TakesIn : Progress → Progress → ℕ → ℕ → Port (List ℕ) → List ℕ → Type 0
 TakesIn s t n m port.Body who = Solves s t n who (reason.Body m)
 TakesIn s t n m port.Base who = TellsBase s t n who
 TakesIn s t n m (port.Via b) who = Solves s t n who (reason.Via b)
@@ -124,7 +123,7 @@ TellsLast g ms n i who =
     (x : MeetTold) → slice_get ms n ≡ Some (monitor.Meet x) → AllTold (with_tell x i who) who → Fits g n who reason.Parts
 
 -- the node is one that the node m may tell this
-abbrev pub MayTakeIn : GraphState → List Monitor → ℕ → ℕ → Port → List ℕ → Type 0
+abbrev pub MayTakeIn : GraphState → List Monitor → ℕ → ℕ → Port (List ℕ) → List ℕ → Type 0
 MayTakeIn g ms n m port.Body who = Fits g n who (reason.Body m)
 MayTakeIn g ms n m port.Base who =
     ((r : Role) × (name : List ℕ) × IsNode g n (Link r name)) × ((x : LinkTold) × (slice_get ms n ≡ Some (monitor.Link x)))
@@ -133,11 +132,11 @@ MayTakeIn g ms n m (port.Part i) who =
     ((x : MeetTold) × (slice_get ms n ≡ Some (monitor.Meet x)) × (i < x.parts)) × TellsLast g ms n i who
 
 -- the asks of a role: the body of each of its rows
-abbrev pub row_asks : List Credential → List (Expr × Port)
+abbrev pub row_asks : List Credential → List (Expr × Port (List ℕ))
 row_asks rows = map (λ c. (c.body, port.Body)) rows
 
 -- the asks of an intersection, from its part i on
-abbrev pub part_asks : ℕ → List Part → List (Expr × Port)
+abbrev pub part_asks : ℕ → List Part → List (Expr × Port (List ℕ))
 part_asks i [] = []
 part_asks i (p ∷ ps) = (part_expr p, port.Part i) ∷ part_asks (i + 1) ps
 
@@ -160,7 +159,7 @@ own_rows view (Link r name) = []
 own_rows view (Meet parts) = []
 
 -- a node is asked on a port by the node m: at its first Ask it opens, and then it hears the asker
-abbrev pub AnswersAsk : List Vault → Progress → Progress → ℕ → ℕ → Port → Type 0
+abbrev pub AnswersAsk : List Vault → Progress → Progress → ℕ → ℕ → Port (List ℕ) → Type 0
 AnswersAsk view s t n m p =
     (mid : Progress)
     × ((IsOpenAt s.graph n × (mid ≡ s))
@@ -168,7 +167,7 @@ AnswersAsk view s t n m p =
     × HearsAsk mid t n m p
 
 -- how a node answers a letter from this sender: the environment's opens it
-abbrev pub Answers : List Vault → Progress → Progress → Parent → ℕ → Load → Type 0
+abbrev pub Answers : List Vault → Progress → Progress → Parent → ℕ → Said → Type 0
 Answers view s t Environment to load.Start = (e : Expr) → IsNode s.graph to e → Opens (own_rows view e) s t to e
 Answers view s t (Node m) to (load.Ask p) = AnswersAsk view s t to m p
 Answers view s t (Node m) to (load.Tell p who) = TakesIn s t to m p who

@@ -8,9 +8,8 @@ use Rattle.cred_graph.specs.declared.listeners.Listening.{Listening}
 use Rattle.cred_graph.specs.GraphState.{GraphState, members_of}
 use Rattle.scholten_core.specs.declared.parents.Parent.{Parent}
 use Rattle.scholten_core.specs.declared.parents.Parent.TheVariants.{Neutral, Environment, Node}
-use Rattle.search.specs.declared.letters.Load.{Load}
 use Rattle.search.specs.declared.letters.Load.TheVariants as load
-use Rattle.search.specs.Net.{Net, Sent, IsBaseTold, IsOpen, why_of}
+use Rattle.search.specs.Net.{Said, Net, Sent, IsBaseTold, IsOpen, why_of}
 
 -- what a listener of the node asked
 abbrev pub heard_of : ℕ → Listening → NodeAsk
@@ -25,12 +24,12 @@ abbrev pub heard : GraphState → List NodeAsk
 heard g = heard_from 0 g.listeners
 
 -- what a letter of a node asks
-abbrev pub ask_by : ℕ → ℕ → Load → List NodeAsk
+abbrev pub ask_by : ℕ → ℕ → Said → List NodeAsk
 ask_by m n load.Start = []
 ask_by m n (load.Ask p) = record { asker = m; why = why_of p; asked = n } ∷ []
 ask_by m n (load.Tell p who) = []
 
-abbrev pub ask_from : Parent → ℕ → Load → List NodeAsk
+abbrev pub ask_from : Parent → ℕ → Said → List NodeAsk
 ask_from Neutral n l = []
 ask_from Environment n l = []
 ask_from (Node m) n l = ask_by m n l

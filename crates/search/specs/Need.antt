@@ -5,7 +5,7 @@ use Rattle.credential_text.specs.declared.exprs.Expr.TheVariants.{Ent, Rol, Link
 use Rattle.vaults.specs.Journal.{Vault}
 use Rattle.snapshots.specs.declared.spans.Span.{Span}
 use Rattle.snapshots.specs.Span.{span_of}
-use Rattle.search.specs.declared.letters.Load.{Load}
+use Rattle.search.specs.Net.{Said}
 use Rattle.search.specs.declared.letters.Load.TheVariants as load
 use Rattle.search.specs.declared.queries.Need.{Need}
 use Rattle.search.specs.declared.queries.Need.TheVariants as need
@@ -19,7 +19,7 @@ rows_for (Link r name) = need.Nothing
 rows_for (Meet parts) = need.Nothing
 
 -- rows are needed by a letter that asks a role, and by no other
-abbrev pub need_of : Expr → Load → Need
+abbrev pub need_of : Expr → Said → Need
 need_of e load.Start = rows_for e
 need_of e (load.Ask p) = rows_for e
 need_of e (load.Tell p who) = need.Nothing

@@ -23,11 +23,15 @@ use Rattle.search.specs.declared.letters.Load.TheVariants as load
 use Rattle.search.specs.declared.findings.Monitor.{Monitor}
 use Rattle.search.specs.declared.findings.Monitor.TheVariants as monitor
 
+-- what a letter says, of entities by name
+abbrev pub Said : Type 0
+Said = Load (List ℕ)
+
 -- a letter that is waiting or held, without its number
 pub record Sent : Type 0 where
   pub from : Parent
   pub to : ℕ
-  pub load : Load
+  pub load : Said
 
 -- what a search has found, and what is under way
 pub record Net : Type 0 where
@@ -36,35 +40,35 @@ pub record Net : Type 0 where
   pub pending : List Sent
 
 -- a letter of a diffusing computation, whether it is held or waits
-abbrev pub plain : Letter Load → Sent
+abbrev pub plain : Letter Said → Sent
 plain l = record { from = l.from; to = l.to; load = l.load }
 
-abbrev pub sent_of : List (ℕ × Letter Load) → List Sent
+abbrev pub sent_of : List (ℕ × Letter Said) → List Sent
 sent_of letters = map (λ l. plain l.1) letters
 
 -- what a node sends in one receipt
-abbrev pub sent_by : ℕ → List (ℕ × Load) → List Sent
+abbrev pub sent_by : ℕ → List (ℕ × Said) → List Sent
 sent_by node outs = map (λ out. record { from = Node node; to = out.0; load = out.1 }) outs
 
 -- the reason for which a port listens
-abbrev pub why_of : Port → Why
+abbrev pub why_of : Port (List ℕ) → Why
 why_of port.Body = for_body
 why_of port.Base = for_base
 why_of (port.Via b) = for_via b
 why_of (port.Part i) = for_part i
 
 -- the node m listens to the node n
-abbrev pub HasListener : Net → ℕ → ℕ → Port → Type 0
+abbrev pub HasListener : Net → ℕ → ℕ → Port (List ℕ) → Type 0
 HasListener net n m p = Listens net.graph n (record { asker = m; port = p })
 
 -- the environment's letter is under way
 abbrev pub IsPendingStart : Net → Type 0
 IsPendingStart net = (n : ℕ) × Contains net.pending (record { from = Environment; to = n; load = load.Start })
 
-abbrev pub IsPendingAsk : Net → ℕ → ℕ → Port → Type 0
+abbrev pub IsPendingAsk : Net → ℕ → ℕ → Port (List ℕ) → Type 0
 IsPendingAsk net m n p = Contains net.pending (record { from = Node m; to = n; load = load.Ask p })
 
-abbrev pub IsPendingTell : Net → ℕ → ℕ → Port → List ℕ → Type 0
+abbrev pub IsPendingTell : Net → ℕ → ℕ → Port (List ℕ) → List ℕ → Type 0
 IsPendingTell net n m p who = Contains net.pending (record { from = Node n; to = m; load = load.Tell p who })
 
 -- the linked role at m was told this member of its base
@@ -77,37 +81,35 @@ IsPartTold net m i who = (x : MeetTold) × (slice_get net.monitors m ≡ Some (m
 
 -- the node was asked: a node listens to it, or it is the asked role's and the environment's letter was received
 abbrev pub IsOpen : Net → ℕ → Type 0
-IsOpen net n = ((m : ℕ) × (p : Port) × HasListener net n m p) ⊎ ((n ≡ 0) × (IsPendingStart net → ⊥))
+IsOpen net n = ((m : ℕ) × (p : Port (List ℕ)) × HasListener net n m p) ⊎ ((n ≡ 0) × (IsPendingStart net → ⊥))
 
 -- m listens to the node of the expression, or its Ask is under way
-abbrev pub IsAsked : Net → ℕ → Port → Expr → Type 0
+abbrev pub IsAsked : Net → ℕ → Port (List ℕ) → Expr → Type 0
 IsAsked net m p f = (n : ℕ) × IsNode net.graph n f × (HasListener net n m p ⊎ IsPendingAsk net m n p)
 
 -- m has taken in what it was told on this port
-abbrev pub IsTaken : Net → ℕ → Port → List ℕ → Type 0
+abbrev pub IsTaken : Net → ℕ → Port (List ℕ) → List ℕ → Type 0
 IsTaken net m port.Body who = IsSolution net.graph m who
 IsTaken net m port.Base who = IsBaseTold net m who
 IsTaken net m (port.Via b) who = IsSolution net.graph m who
 IsTaken net m (port.Part i) who = IsPartTold net m i who
 
 -- m may ask n on this port
-abbrev pub AskFits : List Credential → Net → ℕ → Port → ℕ → Type 0
+abbrev pub AskFits : List Credential → Net → ℕ → Port (List ℕ) → ℕ → Type 0
 AskFits rows net m p n = (e f : Expr) × IsNode net.graph m e × IsNode net.graph n f × Asks rows (Known net.graph) e (why_of p) f
 
 -- the letter may be sent: the environment's goes to the asked role's node, an Ask stands to reason, a Tell is of a
 -- listener and a solution
-abbrev pub LetterFits : List Credential → Net → Parent → ℕ → Load → Type 0
+abbrev pub LetterFits : List Credential → Net → Parent → ℕ → Said → Type 0
 LetterFits rows net Environment to load.Start = to ≡ 0
 LetterFits rows net (Node m) to (load.Ask p) = AskFits rows net m p to
 LetterFits rows net (Node n) to (load.Tell p who) = HasListener net n to p × IsSolution net.graph n who
 LetterFits rows net _ to _ = ⊥
 
 -- a role's solution by the body at m is by a credential with that body
-abbrev pub ByRow : List Credential → GraphState → ℕ → Reason → Type 0
-ByRow rows g n reason.Leaf = Unit {0}
+abbrev pub ByRow : List Credential → GraphState → ℕ → Reason ℕ (List ℕ) → Type 0
 ByRow rows g n (reason.Body m) = (c : Credential) × Contains rows c × IsNode g n (Rol c.head) × IsNode g m c.body
-ByRow rows g n (reason.Via b) = Unit {0}
-ByRow rows g n reason.Parts = Unit {0}
+ByRow rows g n _ = Unit {0}
 
 -- a solution is derivable, and by a row where a body gave it
 pub record SolutionFits (rows : List Credential) (g : GraphState) (s : Solution) : Type 0 where
@@ -133,7 +135,7 @@ OpenedPaid rows net m (Meet parts) = (i : ℕ) (p : Part) → slice_get parts i 
 
 -- the same by expressions: one listens to another, one is open, and a letter between two is under way
 abbrev pub ListensFor : Net → Expr → Why → Expr → Type 0
-ListensFor net e why f = (m n : ℕ) × (p : Port) × IsNode net.graph m e × IsNode net.graph n f × (why_of p ≡ why) × HasListener net n m p
+ListensFor net e why f = (m n : ℕ) × (p : Port (List ℕ)) × IsNode net.graph m e × IsNode net.graph n f × (why_of p ≡ why) × HasListener net n m p
 
 abbrev pub IsOpenExpr : Net → Expr → Type 0
 IsOpenExpr net e = (n : ℕ) × IsNode net.graph n e × IsOpen net n
@@ -141,6 +143,6 @@ IsOpenExpr net e = (n : ℕ) × IsNode net.graph n e × IsOpen net n
 abbrev pub IsPendingBetween : Net → Expr → Expr → Type 0
 IsPendingBetween net e f =
     (m n : ℕ) × IsNode net.graph m e × IsNode net.graph n f
-    × ((l : Load)
+    × ((l : Said)
     × (Contains net.pending (record { from = Node m; to = n; load = l })
     ⊎ Contains net.pending (record { from = Node n; to = m; load = l })))

@@ -1,7 +1,7 @@
 -- When nothing of a search can be carried on, and which letters it holds.
 use Rattle.std.specs.Prelude.{ℕ, [], ◌≡◌, None}
 use Rattle.scholten_core.specs.Computation.{Computation}
-use Rattle.search.specs.declared.letters.Load.{Load}
+use Rattle.search.specs.Net.{Said}
 use Rattle.search.specs.declared.stages.Stage.{Stage}
 use Rattle.search.specs.declared.stages.Stage.TheVariants as stage
 use Rattle.search.specs.Stage.{waiting_in, signals_in, held_in}
@@ -16,4 +16,4 @@ NoneHeld st = (number : ℕ) → held_in st number ≡ None
 
 -- where a search still runs, it holds just the letters that it held
 abbrev pub HoldsAsBefore : Stage → Stage → Type 0
-HoldsAsBefore old new = (c : Computation Load) → new ≡ stage.Running c → (number : ℕ) → held_in new number ≡ held_in old number
+HoldsAsBefore old new = (c : Computation Said) → new ≡ stage.Running c → (number : ℕ) → held_in new number ≡ held_in old number

@@ -12,7 +12,6 @@ use Rattle.scholten_core.specs.declared.letters.Letter.{Letter}
 use Rattle.scholten_core.specs.Computation.{Computation, outstanding}
 use Rattle.scholten_core.specs.Sound.{IsSound}
 use Rattle.scholten_core.specs.Step.{started}
-use Rattle.search.specs.declared.letters.Load.{Load}
 use Rattle.search.specs.declared.letters.Load.TheVariants as load
 use Rattle.search.specs.declared.findings.Monitor.{Monitor}
 use Rattle.search.specs.declared.findings.Monitor.TheVariants as monitor
@@ -22,7 +21,7 @@ use Rattle.search.specs.declared.stages.Stage.TheVariants as stage
 use Rattle.search.specs.Ending.{Settled, MaySettle}
 use Rattle.search.specs.Found.{come_to}
 pub use Rattle.search.specs.Ending.{asked_role}
-use Rattle.search.specs.Net.{Net, IsPendingStart, sent_of}
+use Rattle.search.specs.Net.{Said, Net, IsPendingStart, sent_of}
 use Rattle.search.specs.Steady.{IsSteady}
 use Rattle.search.specs.Counted.{IsCounted}
 
@@ -70,29 +69,29 @@ pub record IsNew (s : SearchState) (query : Query) (work : ℕ) (snapshot : Snap
   pub stage_is : s.stage ≡ stage.Running (started 0 load.Start)
 
 -- while the environment's letter is there it is the only one
-abbrev pub StartsAlone : List (ℕ × Letter Load) → Type 0
+abbrev pub StartsAlone : List (ℕ × Letter Said) → Type 0
 StartsAlone letters = (n : ℕ) → Contains (sent_of letters) (record { from = Environment; to = n; load = load.Start }) → length letters ≡ 1
 
 -- what a running search keeps: each rule is applied or owed, and no more letters were sent than it may send
 pub record KeptBy (rows : List Credential) (asked : Role) (work : ℕ) (g : GraphState) (ms : List Monitor)
-    (c : Computation Load) : Type 0 where
+    (c : Computation Said) : Type 0 where
   pub steady : IsSteady rows asked (record { graph = g; monitors = ms; pending = sent_of c.letters })
   pub starts : StartsAlone c.letters
   pub within : c.sent ≤ work
 
-abbrev pub net_of : GraphState → List Monitor → Computation Load → Net
+abbrev pub net_of : GraphState → List Monitor → Computation Said → Net
 net_of g ms c = record { graph = g; monitors = ms; pending = sent_of c.letters }
 
 -- its letters are counted by what was asked and found, and while the environment's letter is there it was the only one
-pub record IsTallied (g : GraphState) (ms : List Monitor) (c : Computation Load) : Type 0 where
+pub record IsTallied (g : GraphState) (ms : List Monitor) (c : Computation Said) : Type 0 where
   pub first : IsPendingStart (net_of g ms c) → c.sent ≡ 1
   pub counted : IsCounted (net_of g ms c) c.sent
 
 abbrev pub KeepsRules : SearchState → Type 0
-KeepsRules s = (c : Computation Load) → s.stage ≡ stage.Running c → KeptBy (rows_of s) (asked_role s.query) s.work s.graph s.monitors c
+KeepsRules s = (c : Computation Said) → s.stage ≡ stage.Running c → KeptBy (rows_of s) (asked_role s.query) s.work s.graph s.monitors c
 
 abbrev pub KeepsCount : SearchState → Type 0
-KeepsCount s = (c : Computation Load) → s.stage ≡ stage.Running c → IsTallied s.graph s.monitors c
+KeepsCount s = (c : Computation Said) → s.stage ≡ stage.Running c → IsTallied s.graph s.monitors c
 
 -- where a search is spent its work is greater than its limit
 abbrev pub KeepsLimit : SearchState → Type 0

@@ -6,7 +6,7 @@ use Rattle.scholten_core.specs.Computation.{Computation, IsHeld, StandByNumber, 
 use Rattle.scholten_core.specs.Sound.{IsNumbered}
 use Rattle.scholten_core.specs.Call.{FinishesLetter, DeliversSignal}
 use Rattle.scholten_core.specs.Step.{marked}
-use Rattle.search.specs.declared.letters.Load.{Load}
+use Rattle.search.specs.Net.{Said}
 use Rattle.search.specs.declared.letters.Held.{Held}
 use Rattle.search.specs.declared.outcomes.Finished.{Finished}
 use Rattle.search.specs.declared.outcomes.Finished.TheVariants as finished
@@ -14,7 +14,7 @@ use Rattle.search.specs.declared.stages.Stage.{Stage}
 use Rattle.search.specs.declared.stages.Stage.TheVariants as stage
 
 -- the letters that wait, in order of number; a search that is spent or broken has none
-abbrev pub waiting_in : Stage → List (ℕ × Letter Load)
+abbrev pub waiting_in : Stage → List (ℕ × Letter Said)
 waiting_in (stage.Running c) = waiting c
 waiting_in stage.Spent = []
 waiting_in stage.Broken = []
@@ -25,23 +25,23 @@ signals_in (stage.Running c) = c.signals
 signals_in stage.Spent = []
 signals_in stage.Broken = []
 
-abbrev pub if_held : Option (Letter Load) → Option (Letter Load)
+abbrev pub if_held : Option (Letter Said) → Option (Letter Said)
 if_held None = None
 if_held (Some l) = if l.held then Some l else None
 
 -- the held letter of a number
-abbrev pub held_in : Stage → ℕ → Option (Letter Load)
+abbrev pub held_in : Stage → ℕ → Option (Letter Said)
 held_in (stage.Running c) number = if_held (letter_of c number)
 held_in stage.Spent number = None
 held_in stage.Broken number = None
 
 -- the letter in the hands of who finishes it
-abbrev pub letter_in : Held Load → Letter Load
+abbrev pub letter_in : Held Said → Letter Said
 letter_in h = record { from = h.from; to = h.to; held = true; load = h.load }
 
 -- this letter is held, in this computation
-pub record HoldsLetter (old : Stage) (number : ℕ) (h : Held Load) : Type 0 where
-  pub running : Computation Load
+pub record HoldsLetter (old : Stage) (number : ℕ) (h : Held Said) : Type 0 where
+  pub running : Computation Said
   pub runs : old ≡ stage.Running running
   pub letter : letter_of running number ≡ Some (letter_in h)
   pub held : IsHeld running number
@@ -55,8 +55,8 @@ stage_marked number held stage.Spent = stage.Spent
 stage_marked number held stage.Broken = stage.Broken
 
 -- the waiting letter at a place, which nobody held, is held from now on
-pub record Holds (old new : Stage) (place number : ℕ) (h : Held Load) : Type 0 where
-  pub letter : Letter Load
+pub record Holds (old new : Stage) (place number : ℕ) (h : Held Said) : Type 0 where
+  pub letter : Letter Said
   pub waited : slice_get (waiting_in old) place ≡ Some (number, letter)
   pub taken : record letter { held = true } ≡ letter_in h
   pub marked : new ≡ stage_marked number true old
@@ -65,20 +65,20 @@ pub record Holds (old new : Stage) (place number : ℕ) (h : Held Load) : Type 0
   pub holds : HoldsLetter new number h
 
 -- the held letter of a number is finished, and its receiver sends these, where the work limit allows it
-abbrev pub Sends : Stage → Stage → ℕ → ℕ → List (ℕ × Load) → Finished → Type 0
+abbrev pub Sends : Stage → Stage → ℕ → ℕ → List (ℕ × Said) → Finished → Type 0
 Sends old new work number outs finished.Done =
-    (c d : Computation Load) × (old ≡ stage.Running c) × (new ≡ stage.Running d)
+    (c d : Computation Said) × (old ≡ stage.Running c) × (new ≡ stage.Running d)
     × (c.sent + length outs ≤ work) × FinishesLetter c number outs d
 Sends old new work number outs finished.Spent =
-    (c : Computation Load) × (old ≡ stage.Running c) × (work < c.sent + length outs) × (new ≡ stage.Spent)
+    (c : Computation Said) × (old ≡ stage.Running c) × (work < c.sent + length outs) × (new ≡ stage.Spent)
 Sends old new work number outs finished.Broken =
-    (c : Computation Load) × (old ≡ stage.Running c) × (c.sent + length outs ≤ work) × (new ≡ stage.Broken)
+    (c : Computation Said) × (old ≡ stage.Running c) × (c.sent + length outs ≤ work) × (new ≡ stage.Broken)
 Sends old new work number outs finished.BadHint = ⊥
 Sends old new work number outs finished.NotHeld = ⊥
 
 -- the signal at a place is delivered, where there is one
 abbrev pub Delivers : Stage → Stage → ℕ → Bool → Type 0
 Delivers old new place true =
-    (c d : Computation Load) × (old ≡ stage.Running c) × (new ≡ stage.Running d)
+    (c d : Computation Said) × (old ≡ stage.Running c) × (new ≡ stage.Running d)
     × (place < length c.signals) × DeliversSignal c place d
 Delivers old new place false = (length (signals_in old) ≤ place) × (new ≡ old)

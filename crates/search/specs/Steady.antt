@@ -35,7 +35,7 @@ pub record IsRight (rows : List Credential) (asked : Role) (net : Net) : Type 0 
   pub fit : MonitorsFit net.graph net.monitors
   pub root_node : IsNode net.graph 0 (Rol asked)
   pub demanded : (n : ℕ) (e : Expr) → IsNode net.graph n e → Demanded rows asked e
-  pub listeners_fit : (n m : ℕ) (p : Port) → HasListener net n m p → AskFits rows net m p n
+  pub listeners_fit : (n m : ℕ) (p : Port (List ℕ)) → HasListener net n m p → AskFits rows net m p n
   pub solutions_fit : (s : Solution) → Contains net.graph.solutions s → SolutionFits rows net.graph s
   pub letters_fit : (x : Sent) → Contains net.pending x → LetterFits rows net x.from x.to x.load
   pub parts_fit : (m i : ℕ) (who : List ℕ) → IsPartTold net m i who → PartFits net m i who
@@ -57,7 +57,7 @@ pub record IsPaid (rows : List Credential) (net : Net) : Type 0 where
   pub via : (m : ℕ) (r : Role) (t b : List ℕ) → IsNode net.graph m (Link r t) → IsBaseTold net m b →
       IsAsked net m (port.Via b) (Rol (record { owner = b; name = t }))
   -- a listener has taken in each solution, or its Tell is under way
-  pub told : (n m : ℕ) (p : Port) (who : List ℕ) → HasListener net n m p → IsSolution net.graph n who →
+  pub told : (n m : ℕ) (p : Port (List ℕ)) (who : List ℕ) → HasListener net n m p → IsSolution net.graph n who →
       IsPendingTell net n m p who ⊎ IsTaken net m p who
   -- who was told by each part of an intersection is its solution
   pub met : (m : ℕ) (parts : List Part) (who : List ℕ) → IsNode net.graph m (Meet parts) →

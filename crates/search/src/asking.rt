@@ -4,8 +4,8 @@ ghost use Rattle.cred_graph.specs.Numbers.{IsPort, port_at};
 ghost use Rattle.search.specs.Answers.{new_monitor, AsksFor};
 
 use crate::findings::{Findings, Monitor};
-use crate::letters::NumberedLoad;
-use cred_graph::NumberedPort;
+use crate::letters::Load;
+use cred_graph::Port;
 use credential_text::Expr;
 use monitors::{LinkMonitor, MeetMonitor};
 use std::alloc::{AllocError, Global};
@@ -27,15 +27,15 @@ pub(crate) fn ask(
     alloc: Global,
     found: &mut Findings,
     expr: &Expr,
-    port: NumberedPort,
+    port: Port<u32>,
 ) -> Result<(), AllocError>
     requires { IsPort found.old.graph.nodes port }
     ensures { OnOk result (AsksFor found.old found.new expr.now (port_at found.old.graph.nodes port)) }
 {
     let (node, is_new) = found.graph.node_of(expr)?;
     if !is_new {
-        return found.send(node, NumberedLoad::Ask(port));
+        return found.send(node, Load::Ask(port));
     }
     found.monitors.push(monitor_for(alloc, expr))?;
-    found.send(node, NumberedLoad::Ask(port))
+    found.send(node, Load::Ask(port))
 }

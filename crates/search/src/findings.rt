@@ -2,7 +2,7 @@ ghost use Rattle.std.specs.Prelude.{◌≡◌, [], ◌∷◌, ◌++◌, IfOk, On
 ghost use Rattle.credential_text.specs.declared.exprs.Expr.TheVariants as exprs;
 ghost use Rattle.cred_graph.specs.Graph.{IsGraph};
 
-use crate::letters::NumberedLoad;
+use crate::letters::Load;
 use cred_graph::{Graph, Port};
 use credential_text::Expr;
 use monitors::{LinkMonitor, MeetMonitor};
@@ -26,11 +26,12 @@ pub enum Monitor {
 pub struct Findings {
     pub(crate) graph: Graph,
     pub(crate) monitors: Vec<Monitor>,
-    pub(crate) outs: VecDeque<(u64, NumberedLoad)>,
+    pub(crate) outs: VecDeque<(u64, Load<u32>)>,
 }
 
 impl Model for Findings {
     ghost use Rattle.std.specs.Coded.{codes};
+    ghost use Rattle.names.specs.contracts.entities.Entity as entity;
     ghost use Rattle.search.specs.contracts.letters.Load as said;
     ghost use Rattle.search.specs.contracts.findings.Monitor as memory;
     ghost use Rattle.search.specs.Answers.{Progress};
@@ -38,7 +39,7 @@ impl Model for Findings {
 
     ghost Value = { Progress };
 
-    ghost coded = { Prim.hlevel (codes, said.the_row.coded, memory.the_row.coded) };
+    ghost coded = { Prim.hlevel (codes, (said.the_row entity.the_row).coded, memory.the_row.coded) };
 
     ghost view = { λ f. progress_at f.graph f.monitors.items f.outs.items };
 
@@ -88,7 +89,7 @@ impl Findings {
 
     // A letter for the node goes to the end of the list of answers.
     #[inline(always)]
-    pub(crate) fn send(&mut self, to: u64, load: NumberedLoad) -> Result<(), AllocError>
+    pub(crate) fn send(&mut self, to: u64, load: Load<u32>) -> Result<(), AllocError>
         requires { IsLoad self.old.graph.nodes load }
         ensures sent { OnOk result (self.new
             ≡ record self.old { outs = self.old.outs ++ (to, load_at self.old.graph.nodes load) ∷ [] }) }

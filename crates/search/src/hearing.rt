@@ -4,8 +4,8 @@ ghost use Rattle.cred_graph.specs.Numbers.{IsPort, port_at};
 ghost use Rattle.search.specs.Answers.{HearsAsk, known_tells};
 
 use crate::findings::Findings;
-use crate::letters::NumberedLoad;
-use cred_graph::NumberedPort;
+use crate::letters::Load;
+use cred_graph::Port;
 use std::alloc::AllocError;
 
 // The asker is told each solution of the node.
@@ -13,7 +13,7 @@ fn tell_known(
     found: &mut Findings,
     node: u64,
     asker: u64,
-    port: NumberedPort,
+    port: Port<u32>,
 ) -> Result<(), AllocError>
     requires node { node < length found.old.graph.nodes }
     requires port { IsPort found.old.graph.nodes port }
@@ -23,7 +23,7 @@ fn tell_known(
 {
     for place in 0..found.graph.solutions(node) {
         let who = found.graph.numbered_solution(node, place);
-        found.send(asker, NumberedLoad::Tell(port, who))?;
+        found.send(asker, Load::Tell(port, who))?;
     }
     Ok(())
 }
@@ -33,7 +33,7 @@ pub(crate) fn hear_ask(
     found: &mut Findings,
     node: u64,
     asker: u64,
-    port: NumberedPort,
+    port: Port<u32>,
 ) -> Result<(), AllocError>
     requires node { node < length found.old.graph.nodes }
     requires asker { asker < length found.old.graph.nodes }

@@ -6,7 +6,7 @@ ghost use Rattle.snapshots.specs.Snapshot.{IsOrdered};
 ghost use Rattle.search.specs.Need.{rows_for, need_of, right_hint};
 ghost use Rattle.search.specs.Numbered.{load_at};
 
-use crate::letters::{Held, NumberedLoad};
+use crate::letters::{Held, Load};
 use crate::queries::{Hint, Need};
 use crate::rows_checks::is_span_of;
 use cred_graph::Graph;
@@ -25,15 +25,15 @@ fn rows_needed(expr: &Expr) -> Need
 }
 
 // Rows are needed by a letter that asks a role, and by no other.
-pub(crate) fn needed(graph: &Graph, held: &Held<NumberedLoad>) -> Need
+pub(crate) fn needed(graph: &Graph, held: &Held<Load<u32>>) -> Need
     requires { held.now.to < length graph.now.nodes }
     ensures { (e : Expr) × IsNode graph.now held.now.to e × (result ≡ need_of e (load_at graph.now.nodes held.now.load)) }
 {
     let expr = graph.expr(held.to);
     match held.load {
-        NumberedLoad::Start => rows_needed(expr),
-        NumberedLoad::Ask(_port) => rows_needed(expr),
-        NumberedLoad::Tell(_port, _who) => Need::Nothing,
+        Load::Start => rows_needed(expr),
+        Load::Ask(_port) => rows_needed(expr),
+        Load::Tell(_port, _who) => Need::Nothing,
     }
 }
 
@@ -65,7 +65,7 @@ fn is_nothing(hint: &Hint) -> bool
 pub(crate) fn hint_is_right(
     graph: &Graph,
     snapshot: &Snapshot,
-    held: &Held<NumberedLoad>,
+    held: &Held<Load<u32>>,
     hint: &Hint,
 ) -> bool
     requires { held.now.to < length graph.now.nodes }
@@ -77,8 +77,8 @@ pub(crate) fn hint_is_right(
     let _asker = snapshot.asker();
     let expr = graph.expr(held.to);
     match held.load {
-        NumberedLoad::Start => meets(snapshot, expr, hint),
-        NumberedLoad::Ask(_port) => meets(snapshot, expr, hint),
-        NumberedLoad::Tell(_port, _who) => is_nothing(hint),
+        Load::Start => meets(snapshot, expr, hint),
+        Load::Ask(_port) => meets(snapshot, expr, hint),
+        Load::Tell(_port, _who) => is_nothing(hint),
     }
 }

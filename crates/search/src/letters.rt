@@ -1,24 +1,17 @@
-use cred_graph::{NumberedPort, Port};
+use cred_graph::Port;
 use names::Entity;
 use scholten_core::Parent;
 
-/// What a letter of a search says, as contracts see it. Who says it to whom is the letter's.
+/// What a letter of a search says, of entities by name, as contracts see it, or by number. Who says it to whom is the
+/// letter's.
 #[derive(Clone, Copy)]
-pub enum Load {
+pub enum Load<E = Entity> {
     /// The environment asks the role that the search is for.
     Start,
     /// The sender listens to the receiver on this port.
-    Ask(Port),
+    Ask(Port<E>),
     /// The entity is a member of what the receiver asked on this port.
-    Tell(Port, Entity),
-}
-
-/// The same with the number of each entity.
-#[derive(Clone, Copy)]
-pub enum NumberedLoad {
-    Start,
-    Ask(NumberedPort),
-    Tell(NumberedPort, u32),
+    Tell(Port<E>, E),
 }
 
 /// A letter in the hands of who finishes it.

@@ -10,7 +10,7 @@ ghost use Rattle.search.specs.Need.{IsSpanFor};
 use crate::asking::ask;
 use crate::findings::Findings;
 use crate::solving::solve;
-use cred_graph::{NumberedPort, NumberedReason};
+use cred_graph::{Port, Reason};
 use credential_text::{Expr, Part};
 use snapshots::{Snapshot, Span};
 use std::alloc::{AllocError, Global};
@@ -30,7 +30,7 @@ fn ask_rows(
     found.reserve(count)?;
     for place in 0..count {
         let row = snapshot.row(span, place);
-        ask(alloc, found, &row.body, NumberedPort::Body)?;
+        ask(alloc, found, &row.body, Port::Body)?;
     }
     Ok(())
 }
@@ -41,7 +41,7 @@ fn ask_parts(alloc: Global, found: &mut Findings, parts: &[Part]) -> Result<(), 
     ensures { OnOk result (AsksEach found.old (part_asks 0 parts.now) found.new) }
 {
     for (place, part) in parts.iter().enumerate() {
-        ask(alloc, found, &part.expr(), NumberedPort::Part(place as u8))?;
+        ask(alloc, found, &part.expr(), Port::Part(place as u8))?;
     }
     Ok(())
 }
@@ -63,7 +63,7 @@ pub(crate) fn open(
     match found.graph.expr(node) {
         Expr::Ent(_who) => {
             let who = found.graph.short(node);
-            solve(found, node, who, NumberedReason::Leaf)
+            solve(found, node, who, Reason::Leaf)
         }
         Expr::Rol(role) => {
             let span = looked_up.unwrap_or_else(|| snapshot.find(role));
@@ -71,7 +71,7 @@ pub(crate) fn open(
         }
         Expr::Link(base, _name) => {
             let base = Expr::Rol(*base);
-            ask(alloc, found, &base, NumberedPort::Base)
+            ask(alloc, found, &base, Port::Base)
         }
         Expr::Meet(parts) => {
             let parts = parts.try_clone()?;

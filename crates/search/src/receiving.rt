@@ -13,10 +13,10 @@ ghost use Rattle.search.specs.Numbered.{IsLoad, load_at};
 
 use crate::findings::Findings;
 use crate::hearing::hear_ask;
-use crate::letters::{Held, NumberedLoad};
+use crate::letters::{Held, Load};
 use crate::opening::open;
 use crate::telling::take_in;
-use cred_graph::{Graph, NumberedPort};
+use cred_graph::{Graph, Port};
 use scholten_core::Parent;
 use snapshots::{Snapshot, Span};
 use std::alloc::{AllocError, Global};
@@ -48,7 +48,7 @@ fn asked(
     snapshot: &Snapshot,
     node: u64,
     asker: u64,
-    port: NumberedPort,
+    port: Port<u32>,
     looked_up: Option<Span>,
 ) -> Result<(), AllocError>
     requires node { node < length found.old.graph.nodes }
@@ -69,7 +69,7 @@ pub(crate) fn receive(
     alloc: Global,
     found: &mut Findings,
     snapshot: &Snapshot,
-    held: &Held<NumberedLoad>,
+    held: &Held<Load<u32>>,
     looked_up: Option<Span>,
 ) -> Result<(), AllocError>
     requires none { found.old.outs ≡ [] }
@@ -82,12 +82,12 @@ pub(crate) fn receive(
         held.now.from held.now.to (load_at found.old.graph.nodes held.now.load)) }
 {
     match held.load {
-        NumberedLoad::Start => open(alloc, found, snapshot, held.to, looked_up),
-        NumberedLoad::Ask(port) => {
+        Load::Start => open(alloc, found, snapshot, held.to, looked_up),
+        Load::Ask(port) => {
             let asker = sender(held.from);
             asked(alloc, found, snapshot, held.to, asker, port, looked_up)
         }
-        NumberedLoad::Tell(port, who) => {
+        Load::Tell(port, who) => {
             let teller = sender(held.from);
             take_in(alloc, found, held.to, teller, port, who)
         }

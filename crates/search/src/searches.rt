@@ -8,7 +8,7 @@ ghost use Rattle.rt0_rules.specs.FixedPoint.{IsExact};
 ghost use Rattle.cred_graph.specs.GraphState.{GraphState, IsNode, Known};
 ghost use Rattle.scholten_core.specs.declared.letters.Letter.{Letter};
 ghost use Rattle.scholten_core.specs.Computation.{Computation, IsHeld};
-ghost use Rattle.search.specs.declared.letters.Load.{Load};
+ghost use Rattle.search.specs.Net.{Said};
 ghost use Rattle.search.specs.Steady.{OwesRules, IsJustified};
 ghost use Rattle.search.specs.Ending.{MaySettle, Nothing, Members};
 ghost use Rattle.search.specs.Found.{IsAnswered, status_of, found, come_to};
@@ -18,7 +18,7 @@ ghost use Rattle.search.specs.Stage.{Sends};
 
 use crate::findings::Findings;
 use crate::hints::{hint_is_right, needed};
-use crate::letters::{Held, NumberedLoad};
+use crate::letters::{Held, Load};
 use crate::members::solutions_in_order;
 use crate::outcomes::{Finished, Status};
 use crate::queries::{Hint, Need, Query, Task};
@@ -108,7 +108,7 @@ impl Search {
         ensures { IfOk result (λ s. IsNew s query work (arc_value snapshot)) }
     {
         let found = Findings::first(alloc, query.role())?;
-        let running = Diffusion::start(alloc, 0, NumberedLoad::Start)?;
+        let running = Diffusion::start(alloc, 0, Load::Start)?;
         let _ports: Option<Port> = None;
         Ok(Search {
             query,
@@ -142,7 +142,7 @@ impl Search {
         ensures sound { IsSoundStage self.now.stage }
         ensures ending { MaySettle self.now.work (rows_of self.now) self.now.query Nothing (settled_of self.now) }
         ensures exact { IsCompleted self.now.stage → IsExact (rows_of self.now) (asked_role self.now.query) (Known self.now.graph) }
-        ensures rules { (c : Computation Load) → self.now.stage ≡ Stage.Running c
+        ensures rules { (c : Computation Said) → self.now.stage ≡ Stage.Running c
             → OwesRules (rows_of self.now)
             (asked_role self.now.query) (net_of self.now.graph self.now.monitors c) }
     {
@@ -192,7 +192,7 @@ impl Search {
     pub fn put_back(&mut self, letter: u64) -> bool
         ensures held { result ≡ false → held_in self.old.stage letter ≡ None }
         ensures unchanged { result ≡ false → self.new ≡ self.old }
-        ensures waits { result ≡ true → ((l : Letter Load) × (held_in self.old.stage letter ≡ Some l))
+        ensures waits { result ≡ true → ((l : Letter Said) × (held_in self.old.stage letter ≡ Some l))
             × (self.new ≡ record self.old { stage = stage_marked letter false self.old.stage }) }
         ensures settles { Settles self.old self.new }
     {
@@ -220,7 +220,7 @@ impl Search {
 
     // Takes the waiting letter at that place, in order of sending: its number, and what it says.
     #[inline(always)]
-    pub(crate) fn take_held(&mut self, place: u64) -> Option<(u64, Held<NumberedLoad>)>
+    pub(crate) fn take_held(&mut self, place: u64) -> Option<(u64, Held<Load<u32>>)>
         ensures taken { MatchOption result ((slice_get (waiting_in self.old.stage) place ≡ None) × (self.new ≡ self.old))
             (λ r. TakesHeld self.old self.new place r.0 (held_at self.old.graph.nodes r.1)) }
         ensures load { IfSome result (λ r. IsLoad self.old.graph.nodes r.1.load) }
@@ -235,7 +235,7 @@ impl Search {
     pub(crate) fn receive_held(
         &mut self,
         letter: u64,
-        held: &Held<NumberedLoad>,
+        held: &Held<Load<u32>>,
         looked_up: Option<Span>,
     ) -> Finished
         requires held { HoldsLetter self.old.stage letter (held_at self.old.graph.nodes held.now) }
@@ -295,7 +295,7 @@ impl Search {
     /// What the search has found.
     pub fn graph(&self) -> &Graph
         ensures graph { result.now ≡ self.now.graph }
-        ensures reasons { (c : Computation Load) → self.now.stage ≡ Stage.Running c
+        ensures reasons { (c : Computation Said) → self.now.stage ≡ Stage.Running c
             → IsJustified (rows_of self.now) (asked_role self.now.query) self.now.graph }
     {
         self.found.graph()
@@ -314,7 +314,7 @@ fn tidy(stage: &NumberedStage, found: &mut Findings, alloc: Global)
 
 // What the receiver of the held letter of that number answers is sent, where the work limit allows it.
 fn send_found(stage: &mut NumberedStage, work: u64, number: u64, found: &mut Findings) -> Finished
-    requires { (nodes : List Expr) × (c : Computation Load) × (stage_at nodes stage.old ≡ Stage.Running c)
+    requires { (nodes : List Expr) × (c : Computation Said) × (stage_at nodes stage.old ≡ Stage.Running c)
         × IsHeld c number × (c.sent ≤ work) }
     ensures sends { Sends (stage_at found.old.graph.nodes stage.old) (stage_at found.old.graph.nodes stage.new) work number
         found.old.outs result }

@@ -5,8 +5,8 @@ ghost use Rattle.cred_graph.specs.Reason.{Fits};
 ghost use Rattle.search.specs.Answers.{Solves, new_tells};
 
 use crate::findings::Findings;
-use crate::letters::NumberedLoad;
-use cred_graph::NumberedReason;
+use crate::letters::Load;
+use cred_graph::Reason;
 use std::alloc::AllocError;
 
 // Each listener of the node is told of the entity.
@@ -19,7 +19,7 @@ fn tell_listeners(found: &mut Findings, node: u64, who: u32) -> Result<(), Alloc
 {
     for place in 0..found.graph.listeners(node) {
         let (asker, port) = found.graph.numbered_listener(node, place);
-        found.send(asker, NumberedLoad::Tell(port, who))?;
+        found.send(asker, Load::Tell(port, who))?;
     }
     Ok(())
 }
@@ -29,7 +29,7 @@ pub(crate) fn solve(
     found: &mut Findings,
     node: u64,
     who: u32,
-    reason: NumberedReason,
+    reason: Reason<u32, u32>,
 ) -> Result<(), AllocError>
     requires node { node < length found.old.graph.nodes }
     requires entity { IsEntity found.old.graph.nodes who }

@@ -1,13 +1,14 @@
 //! Where a search stands, and the steps of its computation.
 ghost use Rattle.std.specs.Prelude.{◌≡◌, ◌≤◌, ◌↔◌, false, List, None, length, slice_get, IsTrue, IfSome, MatchOption};
 ghost use Rattle.scholten_core.specs.Computation.{Computation, IsHeld};
+ghost use Rattle.search.specs.Net.{Said};
 ghost use Rattle.search.specs.Stage.{waiting_in, signals_in, held_in, HoldsLetter, Holds, stage_marked, Sends, Delivers};
 ghost use Rattle.search.specs.Quiet.{IsQuiet, NoneHeld};
 ghost use Rattle.search.specs.Search.{IsOutstanding};
 ghost use Rattle.credential_text.specs.declared.exprs.Expr.{Expr};
 ghost use Rattle.search.specs.Numbered.{AreLoads, IsLoad, IsStage, held_at, outs_at, stage_at};
 
-use crate::letters::{Held, Load, NumberedLoad};
+use crate::letters::{Held, Load};
 use crate::outcomes::Finished;
 use scholten_core::Diffusion;
 use std::collections::VecDeque;
@@ -26,13 +27,13 @@ pub enum Stage {
 /// The same with numbers for names.
 #[derive(Drop)]
 pub enum NumberedStage {
-    Running(Diffusion<NumberedLoad>),
+    Running(Diffusion<Load<u32>>),
     Spent,
     Broken,
 }
 
 // The held letter of that number.
-pub(crate) fn held_letter(stage: &NumberedStage, number: u64) -> Option<Held<NumberedLoad>>
+pub(crate) fn held_letter(stage: &NumberedStage, number: u64) -> Option<Held<Load<u32>>>
     ensures held { (nodes : List Expr) → MatchOption result (held_in (stage_at nodes stage.now) number ≡ None)
         (λ h. HoldsLetter (stage_at nodes stage.now) number (held_at nodes h)) }
     ensures load { (nodes : List Expr) → IsStage nodes stage.now → IfSome result (λ h. IsLoad nodes h.load) }
@@ -55,7 +56,7 @@ pub(crate) fn held_letter(stage: &NumberedStage, number: u64) -> Option<Held<Num
 
 // The waiting letter at that place is held from now on; its number and what it says.
 #[inline(always)]
-pub(crate) fn hold(stage: &mut NumberedStage, place: u64) -> Option<(u64, Held<NumberedLoad>)>
+pub(crate) fn hold(stage: &mut NumberedStage, place: u64) -> Option<(u64, Held<Load<u32>>)>
     ensures held { (nodes : List Expr) → MatchOption result
         ((slice_get (waiting_in (stage_at nodes stage.old)) place ≡ None) × (stage_at nodes stage.new ≡ stage_at nodes stage.old))
         (λ r. Holds (stage_at nodes stage.old) (stage_at nodes stage.new) place r.0 (held_at nodes r.1)) }
@@ -80,7 +81,7 @@ pub(crate) fn hold(stage: &mut NumberedStage, place: u64) -> Option<(u64, Held<N
 
 // The held letter of that number waits again.
 pub(crate) fn wait_again(stage: &mut NumberedStage, number: u64)
-    requires { (nodes : List Expr) × (c : Computation Load) × (stage_at nodes stage.old ≡ Stage.Running c) × IsHeld c number }
+    requires { (nodes : List Expr) × (c : Computation Said) × (stage_at nodes stage.old ≡ Stage.Running c) × IsHeld c number }
     ensures waits { (nodes : List Expr) → stage_at nodes stage.new ≡ stage_marked number false (stage_at nodes stage.old) }
     ensures loads { (nodes : List Expr) → IsStage nodes stage.old → IsStage nodes stage.new }
 {
@@ -94,9 +95,9 @@ pub(crate) fn send(
     stage: &mut NumberedStage,
     work: u64,
     number: u64,
-    outs: &mut VecDeque<(u64, NumberedLoad)>,
+    outs: &mut VecDeque<(u64, Load<u32>)>,
 ) -> Finished
-    requires { (nodes : List Expr) × (c : Computation Load) × (stage_at nodes stage.old ≡ Stage.Running c)
+    requires { (nodes : List Expr) × (c : Computation Said) × (stage_at nodes stage.old ≡ Stage.Running c)
         × IsHeld c number × (c.sent ≤ work) }
     ensures sends { (nodes : List Expr)
         → Sends (stage_at nodes stage.old) (stage_at nodes stage.new) work number (outs_at nodes outs.old.items) result }

@@ -11,7 +11,7 @@ ghost use Rattle.search.specs.Answers.{BaseHeard, PartHeard, TellsLast, TellsBas
 use crate::asking::ask;
 use crate::findings::{Findings, Monitor};
 use crate::solving::solve;
-use cred_graph::{Graph, NumberedPort, NumberedReason};
+use cred_graph::{Graph, Port, Reason};
 use credential_text::Expr;
 use names::{Entity, Role};
 use std::alloc::{AllocError, Global};
@@ -73,7 +73,7 @@ fn told_base(alloc: Global, found: &mut Findings, node: u64, base: u32) -> Resul
         return Ok(());
     }
     let role = given_role(&found.graph, node, who);
-    ask(alloc, found, &role, NumberedPort::Via(base))
+    ask(alloc, found, &role, Port::Via(base))
 }
 
 // An intersection hears that a part told the entity; with the last part it is a solution.
@@ -88,7 +88,7 @@ fn told_part(found: &mut Findings, node: u64, part: u8, who: u32) -> Result<(), 
     if !hear_part(&mut found.monitors, node, part, name)? {
         return Ok(());
     }
-    solve(found, node, who, NumberedReason::Parts)
+    solve(found, node, who, Reason::Parts)
 }
 
 // The node is told on a port, by the node that it listens to, that the entity is a member.
@@ -97,7 +97,7 @@ pub(crate) fn take_in(
     found: &mut Findings,
     node: u64,
     from: u64,
-    port: NumberedPort,
+    port: Port<u32>,
     who: u32,
 ) -> Result<(), AllocError>
     requires node { node < length found.old.graph.nodes }
@@ -109,12 +109,12 @@ pub(crate) fn take_in(
         (port_at found.old.graph.nodes port) (entity_at found.old.graph.nodes who)) }
 {
     match port {
-        NumberedPort::Body => {
+        Port::Body => {
             let body = found.graph.short(from);
-            solve(found, node, who, NumberedReason::Body(body))
+            solve(found, node, who, Reason::Body(body))
         }
-        NumberedPort::Via(base) => solve(found, node, who, NumberedReason::Via(base)),
-        NumberedPort::Base => told_base(alloc, found, node, who),
-        NumberedPort::Part(part) => told_part(found, node, part, who),
+        Port::Via(base) => solve(found, node, who, Reason::Via(base)),
+        Port::Base => told_base(alloc, found, node, who),
+        Port::Part(part) => told_part(found, node, part, who),
     }
 }

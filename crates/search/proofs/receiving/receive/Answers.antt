@@ -40,8 +40,8 @@ take_in-requires-clause-may c =
     may_tell c.requires.awaits.2 (port_at nodes c.in-Tell.port) (entity_at nodes c.in-Tell.who) c.sender-teller.result (ap (load_at nodes) c.in-Tell.is) c.sender-teller.ensures
 
 -- the list of answers was empty
-from_none : (view : List Vault) (s t : Progress) (from : Parent) (to : ℕ) (l : Load) → s.outs ≡ [] → Answers view s t from to l → Answers view (progress s.graph s.monitors []) t from to l
-from_none view s t from to l none = subst (λ (os : List (ℕ × Load)). Answers view (progress s.graph s.monitors os) t from to l) none
+from_none : (view : List Vault) (s t : Progress) (from : Parent) (to : ℕ) (l : Load (List ℕ)) → s.outs ≡ [] → Answers view s t from to l → Answers view (progress s.graph s.monitors []) t from to l
+from_none view s t from to l none = subst (λ (os : List (ℕ × Load (List ℕ))). Answers view (progress s.graph s.monitors os) t from to l) none
 
 pub returns-in-Start : goal.returns-in-Start
 returns-in-Start c =

@@ -5,7 +5,7 @@ use Rattle.scholten_core.specs.Computation.{Computation}
 use Rattle.scholten_core.specs.Call.{DeliversSignal}
 use Rattle.scholten_core.specs.Named.{named_with}
 use Rattle.scholten_core.proofs.Named.{delivers-named}
-use Rattle.search.specs.declared.letters.NumberedLoad.{NumberedLoad}
+use Rattle.search.specs.declared.letters.Load.{Load}
 use Rattle.search.specs.Numbered.{load_at}
 use Rattle.search.proofs.Numbered.{shown, shows}
 use Rattle.search.proofs.stages.deliver.Goals as goal
@@ -19,5 +19,5 @@ returns-clause-delivers c =
       shows nodes c.args.stage.now d c.in-Running.is,
       refl,
       subst (λ (n : ℕ). c.args.place < n) c.signals.ensures c.if-place-signals.false,
-      delivers-named (load_at nodes) d c.give_back.new.self c.args.place (subst (λ (e : Computation NumberedLoad). DeliversSignal d c.args.place e) (sym c.give_back.ensures) c.signal.ensures),
+      delivers-named (load_at nodes) d c.give_back.new.self c.args.place (subst (λ (e : Computation (Load ℕ)). DeliversSignal d c.args.place e) (sym c.give_back.ensures) c.signal.ensures),
     )

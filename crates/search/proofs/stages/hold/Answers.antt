@@ -1,11 +1,11 @@
 -- The letter that was taken is in hand.
-use Rattle.std.proofs.Common.{◌∙◌, List, ap, sym, subst, true}
+use Rattle.std.proofs.Common.{◌∙◌, List, ap, sym, subst, true, ℕ}
 use Rattle.std.specs.Option.{option_map}
 use Rattle.credential_text.specs.declared.exprs.Expr.{Expr}
 use Rattle.scholten_core.specs.Computation.{Computation}
 use Rattle.scholten_core.specs.Named.{letter_with, named_with}
 use Rattle.scholten_core.proofs.Named.{by_number-named, letter_of-named, letter_says, marked_say, takes-named}
-use Rattle.search.specs.declared.letters.NumberedLoad.{NumberedLoad}
+use Rattle.search.specs.declared.letters.Load.{Load}
 use Rattle.search.specs.Numbered.{AreLetters, IsLoad, load_at, stage_at}
 use Rattle.search.proofs.InHand.{holds_taken}
 use Rattle.search.proofs.Numbered.{shown, shows, loads_shown, past_waiting}
@@ -29,12 +29,12 @@ returns-clause-held c =
 pub returns-clause-loads : goal.returns-clause-loads
 returns-clause-loads c =
     λ (nodes : List Expr) are.
-    subst (λ (e : Computation NumberedLoad). AreLetters nodes e.letters) (sym c.take-number.ensures.marked)
+    subst (λ (e : Computation (Load ℕ)). AreLetters nodes e.letters) (sym c.take-number.ensures.marked)
     (marked_say (IsLoad nodes) c.in-Running.running c.take-number.result true (loads_shown nodes c.args.stage.now c.in-Running.running c.in-Running.is are))
 
 pub returns-clause-load : goal.returns-clause-load
 returns-clause-load c =
     λ (nodes : List Expr) are.
-    let all = subst (λ (e : Computation NumberedLoad). AreLetters nodes e.letters) (sym c.take-number.ensures.marked)
+    let all = subst (λ (e : Computation (Load ℕ)). AreLetters nodes e.letters) (sym c.take-number.ensures.marked)
     (marked_say (IsLoad nodes) c.in-Running.running c.take-number.result true (loads_shown nodes c.args.stage.now c.in-Running.running c.in-Running.is are)) in
     letter_says (IsLoad nodes) c.take-number.new.self c.take-number.result c.in_ok-letter.letter.now all (sym c.in_ok-letter.ensures.letter)

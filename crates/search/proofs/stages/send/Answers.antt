@@ -1,5 +1,5 @@
 -- The letters sent with these are compared with the work limit.
-use Rattle.std.proofs.Common.{List, ◌≤◌, ◌≡◌, ◌∙◌, refl, sym, subst, length, arith}
+use Rattle.std.proofs.Common.{List, ◌≤◌, ◌≡◌, ◌∙◌, refl, sym, subst, length, arith, ℕ}
 use Rattle.credential_text.specs.declared.exprs.Expr.{Expr}
 use Rattle.scholten_core.specs.Computation.{Computation}
 use Rattle.scholten_core.specs.Named.{named_with}
@@ -15,14 +15,14 @@ finish_with-requires-clause-held c = held_shown c.requires.0 c.args.stage.now c.
 pub returns-then-work-sent-clause-sends : goal.returns-then-work-sent-clause-sends
 returns-then-work-sent-clause-sends c =
     λ (nodes : List Expr).
-    let within : c.in-Running.running.sent ≤ c.args.work = subst (λ (d : Computation Load). d.sent ≤ c.args.work) (sym (shown_is c.requires.0 c.args.stage.now c.in-Running.running c.in-Running.is c.requires.1 c.requires.2)) c.requires.4 in
+    let within : c.in-Running.running.sent ≤ c.args.work = subst (λ (d : Computation (Load (List ℕ))). d.sent ≤ c.args.work) (sym (shown_is c.requires.0 c.args.stage.now c.in-Running.running c.in-Running.is c.requires.1 c.requires.2)) c.requires.4 in
     let count : c.len.result ≡ length c.args.outs.now.items = c.len.ensures ∙ c.args.outs.now.ok.0 in
     (shown nodes c.args.stage.now c.in-Running.running c.in-Running.is, shows nodes c.args.stage.now c.in-Running.running c.in-Running.is, omega (arith, c.if-work-sent.true, c.sent.ensures, outs_count nodes c.args.outs.now.items), refl)
 
 pub returns-in-Ok-clause-sends : goal.returns-in-Ok-clause-sends
 returns-in-Ok-clause-sends c =
     λ (nodes : List Expr).
-    let within : c.in-Running.running.sent ≤ c.args.work = subst (λ (d : Computation Load). d.sent ≤ c.args.work) (sym (shown_is c.requires.0 c.args.stage.now c.in-Running.running c.in-Running.is c.requires.1 c.requires.2)) c.requires.4 in
+    let within : c.in-Running.running.sent ≤ c.args.work = subst (λ (d : Computation (Load (List ℕ))). d.sent ≤ c.args.work) (sym (shown_is c.requires.0 c.args.stage.now c.in-Running.running c.in-Running.is c.requires.1 c.requires.2)) c.requires.4 in
     let count : c.len.result ≡ length c.args.outs.now.items = c.len.ensures ∙ c.args.outs.now.ok.0 in (
       shown nodes c.args.stage.now c.in-Running.running c.in-Running.is,
       named_with (load_at nodes) c.finish_with.new.self,
@@ -40,6 +40,6 @@ returns-in-Ok-clause-loads c =
 pub returns-in-Err-clause-sends : goal.returns-in-Err-clause-sends
 returns-in-Err-clause-sends c =
     λ (nodes : List Expr).
-    let within : c.in-Running.running.sent ≤ c.args.work = subst (λ (d : Computation Load). d.sent ≤ c.args.work) (sym (shown_is c.requires.0 c.args.stage.now c.in-Running.running c.in-Running.is c.requires.1 c.requires.2)) c.requires.4 in
+    let within : c.in-Running.running.sent ≤ c.args.work = subst (λ (d : Computation (Load (List ℕ))). d.sent ≤ c.args.work) (sym (shown_is c.requires.0 c.args.stage.now c.in-Running.running c.in-Running.is c.requires.1 c.requires.2)) c.requires.4 in
     let count : c.len.result ≡ length c.args.outs.now.items = c.len.ensures ∙ c.args.outs.now.ok.0 in
     (shown nodes c.args.stage.now c.in-Running.running c.in-Running.is, shows nodes c.args.stage.now c.in-Running.running c.in-Running.is, omega (arith, c.if-work-sent.false, c.sent.ensures, outs_count nodes c.args.outs.now.items), refl)

@@ -1,9 +1,9 @@
 -- A new search keeps what it has to.
-use Rattle.std.proofs.Common.{◌∙◌, ap, sym, subst}
+use Rattle.std.proofs.Common.{◌∙◌, ap, sym, subst, ℕ}
 use Rattle.std.specs.Arc.{arc_value}
 use Rattle.scholten_core.specs.Computation.{Computation}
 use Rattle.scholten_core.specs.Named.{named_with}
-use Rattle.search.specs.declared.letters.NumberedLoad.{NumberedLoad}
+use Rattle.search.specs.declared.letters.Load.{Load}
 use Rattle.search.specs.declared.stages.Stage.TheVariants as stage
 use Rattle.search.specs.Answers.{Progress}
 use Rattle.search.specs.Numbered.{AreLetters, load_at}
@@ -14,8 +14,8 @@ use Rattle.search.proofs.searches.Search.open.Goals as goal
 pub invariant_of-result : goal.invariant_of-result
 invariant_of-result c =
     let found = c.in_ok-found.found in
-    let runs = ap (λ (d : Computation NumberedLoad). stage.Running (named_with (load_at found.graph.nodes) d)) c.in_ok-running.ensures.started in (
+    let runs = ap (λ (d : Computation (Load ℕ)). stage.Running (named_with (load_at found.graph.nodes) d)) c.in_ok-running.ensures.started in (
       opened_kept (record { query = c.args.query; work = c.args.work; snapshot = arc_value c.args.snapshot; graph = found.graph; monitors = found.monitors; stage = stage.Running (named_with (load_at found.graph.nodes) c.in_ok-running.running) })
           (ap (λ (s : Progress). s.graph) c.in_ok-found.ensures.found ∙ ap first_graph c.role.ensures) (ap (λ (s : Progress). s.monitors) c.in_ok-found.ensures.found) runs c.requires c.in_ok-found.ensures.laws,
-      subst (λ (d : Computation NumberedLoad). AreLetters found.graph.nodes d.letters) (sym c.in_ok-running.ensures.started) (start_says found.graph.nodes 0),
+      subst (λ (d : Computation (Load ℕ)). AreLetters found.graph.nodes d.letters) (sym c.in_ok-running.ensures.started) (start_says found.graph.nodes 0),
     )

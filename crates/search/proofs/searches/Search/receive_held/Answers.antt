@@ -1,5 +1,5 @@
 -- A held letter is awaited by its receiver, whose receipt keeps what a search keeps.
-use Rattle.std.proofs.Common.{◌≡◌, refl, sym, subst, ap, []}
+use Rattle.std.proofs.Common.{◌≡◌, refl, sym, subst, ap, [], ℕ, List}
 use Rattle.vaults.specs.Journal.{credentials}
 use Rattle.snapshots.specs.Snapshot.{SnapshotState, IsOrdered}
 use Rattle.cred_graph.specs.GraphState.{GraphState}
@@ -25,7 +25,7 @@ use Rattle.search.proofs.searches.Search.receive_held.Goals as goal
 use Rattle.search.proofs.searches.Search.receive_held.Goals.{After-clear, After-send_found}
 
 -- the letter in hand, in words
-abbrev in_words : (c : After-clear) → Held Load
+abbrev in_words : (c : After-clear) → Held (Load (List ℕ))
 in_words c = held_at c.self.inside.found.graph.nodes c.args.held.now
 
 in_hand : (c : After-clear) → HoldsLetter (the_view c.self.inside).stage c.args.letter (in_words c)

@@ -3,7 +3,6 @@ use Rattle.std.proofs.Common.{ℕ, ◌≡◌, List, Option, Some, None, slice_ge
 use Rattle.std.specs.Option.{IfSome, MatchOption}
 use Rattle.credential_text.specs.declared.exprs.Expr.{Expr}
 use Rattle.search.specs.declared.letters.Load.{Load}
-use Rattle.search.specs.declared.letters.NumberedLoad.{NumberedLoad}
 use Rattle.search.specs.declared.letters.Held.{Held}
 use Rattle.search.specs.Stage.{Holds, waiting_in}
 use Rattle.search.specs.Finish.{TakesHeld}
@@ -16,7 +15,7 @@ use Rattle.search.proofs.searches.Search.take_held.Goals as goal
 use Rattle.search.proofs.searches.Search.take_held.Goals.{After-hold}
 
 -- what is taken is said with numbers
-taken_numbered : (nodes : List Expr) (s t : SearchState) (place : ℕ) (r : Option (ℕ × Held NumberedLoad)) → MayTake s t place (taken_as nodes r) → MatchOption r ((slice_get (waiting_in s.stage) place ≡ None) × (t ≡ s)) (λ x. TakesHeld s t place x.0 (held_at nodes x.1))
+taken_numbered : (nodes : List Expr) (s t : SearchState) (place : ℕ) (r : Option (ℕ × Held (Load ℕ))) → MayTake s t place (taken_as nodes r) → MatchOption r ((slice_get (waiting_in s.stage) place ≡ None) × (t ≡ s)) (λ x. TakesHeld s t place x.0 (held_at nodes x.1))
 taken_numbered nodes s t place None taken = taken
 taken_numbered nodes s t place (Some r) taken = taken
 
@@ -27,7 +26,7 @@ done c =
     let s = the_view c.self.inside in
     let st = stage_at nodes c.hold.new.stage in
     taken_or_not s st c.args.place (taken_as nodes c.hold.result) c.self.invariant.0
-    (taken_holds nodes ((slice_get (waiting_in s.stage) c.args.place ≡ None) × (st ≡ s.stage)) (λ (number : ℕ) (h : Held Load). Holds s.stage st c.args.place number h) c.hold.result (c.hold.ensures.held nodes))
+    (taken_holds nodes ((slice_get (waiting_in s.stage) c.args.place ≡ None) × (st ≡ s.stage)) (λ (number : ℕ) (h : Held (Load (List ℕ))). Holds s.stage st c.args.place number h) c.hold.result (c.hold.ensures.held nodes))
 
 pub invariant_of-self : goal.invariant_of-self
 invariant_of-self c =
