@@ -12,7 +12,8 @@ use Rattle.cred_graph.specs.declared.listeners.Listening.{Listening}
 use Rattle.cred_graph.specs.declared.solutions.Solution.{Solution}
 use Rattle.cred_graph.specs.declared.solutions.Reason.{Reason}
 use Rattle.cred_graph.specs.declared.solutions.Reason.TheVariants as reason
-use Rattle.cred_graph.specs.GraphState.{GraphState, IsNode, Listens, IsSolution, Known, listed_at, listed_with, before}
+use Rattle.cred_graph.specs.GraphState.{GraphState, IsNode, Listens, IsSolution, Known, listed_with, before}
+use Rattle.cred_graph.specs.NodeLists.{list_at}
 use Rattle.cred_graph.specs.Reason.{Fits}
 use Rattle.cred_graph.specs.Graph.{IsGraph}
 use Rattle.cred_graph.proofs.Lists.{Contains-at_place, slice_get_stays, slice_get_push_cases}
@@ -63,7 +64,7 @@ one_place xs y absent once i j x p q =
     ]
 
 -- a new node has no listener, and the others keep theirs
-pub listed_at-pushed : (lists : List (List Listening)) (m : ℕ) → listed_at (lists ++ [] ∷ []) m ≡ listed_at lists m
+pub listed_at-pushed : (lists : List (List Listening)) (m : ℕ) → list_at (lists ++ [] ∷ []) m ≡ list_at lists m
 listed_at-pushed [] zero = refl
 listed_at-pushed [] (suc m) = refl
 listed_at-pushed (ls ∷ lists) zero = refl
@@ -71,11 +72,11 @@ listed_at-pushed (ls ∷ lists) (suc m) = listed_at-pushed lists m
 
 -- the list of this number has one more listener, and the others stay
 pub listed_with_cases : (lists : List (List Listening)) (n : ℕ) (l : Listening) (m : ℕ) → n < length lists →
-    ((m ≡ n) × (listed_at (listed_with lists n l) m ≡ listed_at lists m ++ l ∷ [])) ⊎ (listed_at (listed_with lists n l) m ≡ listed_at lists m)
+    ((m ≡ n) × (list_at (listed_with lists n l) m ≡ list_at lists m ++ l ∷ [])) ⊎ (list_at (listed_with lists n l) m ≡ list_at lists m)
 listed_with_cases lists n l m within =
     elim (cases_eq m n) [
-      | inl same ↦ inl (same, rw same (get_or-set_same lists n (listed_at lists n ++ l ∷ []) [] within))
-      | inr other ↦ inr (get_or-set_other lists n m (listed_at lists n ++ l ∷ []) [] other)
+      | inl same ↦ inl (same, rw same (get_or-set_same lists n (list_at lists n ++ l ∷ []) [] within))
+      | inr other ↦ inr (get_or-set_other lists n m (list_at lists n ++ l ∷ []) [] other)
     ]
 
 pub node_grows : (g : GraphState) (e : Expr) (i : ℕ) → Grows (before i g) (before i (with_node g e))
@@ -106,9 +107,9 @@ graph_with_listener g n l graph absent asked asker =
     record {
       one_node = graph.one_node;
       parts_in_range = graph.parts_in_range;
-      one_list_each = length-set g.listeners n (listed_at g.listeners n ++ l ∷ []) ∙ graph.one_list_each;
+      one_list_each = length-set g.listeners n (list_at g.listeners n ++ l ∷ []) ∙ graph.one_list_each;
       askers_in_range = λ m k listens. elim (listed_with_cases g.listeners n l m within) [
-        | inl here ↦ elim (Contains-push_cases (listed_at g.listeners m) l k (subst (λ ls. Contains ls k) here.1 listens)) [
+        | inl here ↦ elim (Contains-push_cases (list_at g.listeners m) l k (subst (λ ls. Contains ls k) here.1 listens)) [
           | inl before ↦ graph.askers_in_range m k before
           | inr new ↦ subst (λ (x : Listening). x.asker < length g.nodes) new asker
         ]
@@ -116,7 +117,7 @@ graph_with_listener g n l graph absent asked asker =
       ];
       one_listening = λ m i j k p q. elim (listed_with_cases g.listeners n l m within) [
         | inl here ↦
-            one_place (listed_at g.listeners m) l (subst (λ x. Listens g x l → ⊥) (sym here.0) absent) (graph.one_listening m) i j k
+            one_place (list_at g.listeners m) l (subst (λ x. Listens g x l → ⊥) (sym here.0) absent) (graph.one_listening m) i j k
             (subst (λ ls. slice_get ls i ≡ Some k) here.1 p)
             (subst (λ ls. slice_get ls j ≡ Some k) here.1 q)
         | inr other ↦

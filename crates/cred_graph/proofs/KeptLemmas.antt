@@ -10,7 +10,8 @@ use Rattle.cred_graph.specs.declared.listeners.Listening.{Listening}
 use Rattle.cred_graph.specs.declared.listeners.KeptListening.{KeptListening}
 use Rattle.cred_graph.specs.declared.ports.KeptPort.{KeptPort}
 use Rattle.cred_graph.specs.declared.ports.KeptPort.TheVariants as kept
-use Rattle.cred_graph.specs.Interned.{name_at, IsOnce}
+use Rattle.cred_graph.specs.Interned.{IsOnce}
+use Rattle.cred_graph.specs.NodeLists.{list_at}
 use Rattle.cred_graph.specs.Numbers.{entity_at}
 use Rattle.cred_graph.specs.Kept.{kept_as, IsKept, Joins, listening_as}
 use Rattle.cred_graph.proofs.Growth.{one_place}
@@ -52,7 +53,7 @@ module _ (nodes : List Expr) (strangers : List (List ℕ)) (x : List ℕ) (out :
   same_with_stranger kept.Base is = refl
   same_with_stranger (kept.Via k) is = refl
   same_with_stranger (kept.Stranger j) is =
-      ap port.Via (get_or_from_slice_get (strangers ++ x ∷ []) j (name_at strangers j) [] (slice_get_stays strangers (x ∷ []) j (name_at strangers j) (slice_get-get_or strangers j [] is)))
+      ap port.Via (get_or_from_slice_get (strangers ++ x ∷ []) j (list_at strangers j) [] (slice_get_stays strangers (x ∷ []) j (list_at strangers j) (slice_get-get_or strangers j [] is)))
   same_with_stranger (kept.Part i) is = refl
 
 pub kept_joined : (nodes : List Expr) (old new : List (List ℕ)) → Joins nodes old new → (p : KeptPort) → IsKept nodes old p → IsKept nodes new p
@@ -64,7 +65,7 @@ same_joined nodes old new (inl same) p is = ap (λ s. kept_as nodes s p) same
 same_joined nodes old new (inr (x, out, new_name, joined)) p is = ap (λ s. kept_as nodes s p) joined ∙ same_with_stranger nodes old x out p is
 
 module _ (nodes : List Expr) (strangers : List (List ℕ)) (one_node : (m n : ℕ) (e : Expr) → slice_get nodes m ≡ Some e → slice_get nodes n ≡ Some e → m ≡ n) (once : IsOnce strangers) where
-  via_stranger : (k j : ℕ) → IsKept nodes strangers (kept.Via k) → j < length strangers → entity_at nodes k ≡ name_at strangers j → ⊥
+  via_stranger : (k j : ℕ) → IsKept nodes strangers (kept.Via k) → j < length strangers → entity_at nodes k ≡ list_at strangers j → ⊥
   via_stranger k j (who, at, known) within same =
       known (Contains-at_place strangers j who (slice_get-get_or strangers j [] within ∙ ap Some (sym same ∙ entity_is nodes k who at)))
 
@@ -85,14 +86,14 @@ module _ (nodes : List Expr) (strangers : List (List ℕ)) (one_node : (m n : �
       let named : entity_at nodes k ≡ entity_at nodes l = cc in
       let who_same : other ≡ who = sym (entity_is nodes l other here) ∙ sym named ∙ entity_is nodes k who at in
       ap kept.Via (one_node k l (Ent who) at (here ∙ ap (λ (y : List ℕ). Some (Ent y)) who_same))
-  kept_once (kept.Via k) (kept.Stranger l) is also same = let named : entity_at nodes k ≡ name_at strangers l = cc in absurd (via_stranger k l is also named)
+  kept_once (kept.Via k) (kept.Stranger l) is also same = let named : entity_at nodes k ≡ list_at strangers l = cc in absurd (via_stranger k l is also named)
   kept_once (kept.Via k) (kept.Part l) is also same = cc
   kept_once (kept.Stranger k) kept.Body is also same = cc
   kept_once (kept.Stranger k) kept.Base is also same = cc
-  kept_once (kept.Stranger k) (kept.Via l) is also same = let named : entity_at nodes l ≡ name_at strangers k = cc in absurd (via_stranger l k also is named)
+  kept_once (kept.Stranger k) (kept.Via l) is also same = let named : entity_at nodes l ≡ list_at strangers k = cc in absurd (via_stranger l k also is named)
   kept_once (kept.Stranger k) (kept.Stranger l) is also same =
-      let named : name_at strangers k ≡ name_at strangers l = cc in
-      ap kept.Stranger (once k l (name_at strangers k) (slice_get-get_or strangers k [] is) (slice_get-get_or strangers l [] also ∙ ap Some (sym named)))
+      let named : list_at strangers k ≡ list_at strangers l = cc in
+      ap kept.Stranger (once k l (list_at strangers k) (slice_get-get_or strangers k [] is) (slice_get-get_or strangers l [] also ∙ ap Some (sym named)))
   kept_once (kept.Stranger k) (kept.Part l) is also same = cc
   kept_once (kept.Part k) kept.Body is also same = cc
   kept_once (kept.Part k) kept.Base is also same = cc

@@ -11,7 +11,7 @@ use Rattle.cred_graph.specs.declared.listeners.KeptListening.{KeptListening}
 use Rattle.cred_graph.specs.declared.solutions.Solution.{Solution}
 use Rattle.cred_graph.specs.declared.solutions.Reason.{Reason}
 use Rattle.cred_graph.specs.declared.solutions.Solved.{Solved}
-use Rattle.cred_graph.specs.GraphState.{IsSolution, Listens, listed_at, listed_with}
+use Rattle.cred_graph.specs.GraphState.{IsSolution, Listens, listed_with}
 use Rattle.cred_graph.specs.Reason.{Fits}
 use Rattle.cred_graph.specs.Graph.{IsGraph, NodeGiven}
 use Rattle.cred_graph.specs.Numbers.{IsEntity, IsReason, entity_at, reason_at}
@@ -40,7 +40,7 @@ at_list nodes strangers n (suc k) lists (suc m) within =
 
 -- each node's list
 pub listed_at-lists_from : (nodes : List Expr) (strangers : List (List ℕ)) (k : ℕ) (lists : List (List KeptListening)) (n : ℕ) → n < k →
-    listed_at (lists_from nodes strangers 0 k lists) n ≡ map (listening_as nodes strangers) (list_at lists n)
+    list_at (lists_from nodes strangers 0 k lists) n ≡ map (listening_as nodes strangers) (list_at lists n)
 listed_at-lists_from nodes strangers k lists n within =
     at_list nodes strangers 0 k lists n within ∙ ap (λ i. map (listening_as nodes strangers) (list_at lists i)) (zero-add n)
 
@@ -65,7 +65,7 @@ lists_with : (nodes : List Expr) (strangers : List (List ℕ)) (k : ℕ) (lists 
     lists_from nodes strangers 0 k after ≡ listed_with (lists_from nodes strangers 0 k lists) n (listening_as nodes strangers l)
 lists_with nodes strangers k lists after n l asked adds =
     let old = lists_from nodes strangers 0 k lists in
-    let one_more : List Listening = listed_at old n ++ listening_as nodes strangers l ∷ [] in
+    let one_more : List Listening = list_at old n ++ listening_as nodes strangers l ∷ [] in
     let many : length old ≡ k = length-lists_from nodes strangers 0 k lists in
     let within : n < length old = omega (arith, many) in
     ext_get_or [] (lists_from nodes strangers 0 k after) (set old n one_more)
@@ -77,7 +77,7 @@ lists_with nodes strangers k lists after n l asked adds =
       | inl same ↦
           ap (map (listening_as nodes strangers)) (cond-true (m == n) (list_at lists m ++ l ∷ []) (list_at lists m) (eq-eqb m n same)) ∙
           map_push (listening_as nodes strangers) (list_at lists m) l ∙
-          ap (λ ls. ls ++ listening_as nodes strangers l ∷ []) (sym (listed_at-lists_from nodes strangers k lists m small) ∙ ap (listed_at old) same) ∙
+          ap (λ ls. ls ++ listening_as nodes strangers l ∷ []) (sym (listed_at-lists_from nodes strangers k lists m small) ∙ ap (list_at old) same) ∙
           sym (get_or-set_same old n one_more [] within) ∙
           ap (λ i. get_or (set old n one_more) i []) (sym same)
       | inr other ↦

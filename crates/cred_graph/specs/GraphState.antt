@@ -1,9 +1,10 @@
 -- What a graph is seen as, and what it says.
-use Rattle.std.specs.Prelude.{ℕ, List, [], ◌∷◌, ◌++◌, ◌≡◌, ◌==◌, Some, Contains, slice_get, slice_set, slice_index_or, take, filter, map}
+use Rattle.std.specs.Prelude.{ℕ, List, [], ◌∷◌, ◌++◌, ◌≡◌, ◌==◌, Some, Contains, slice_get, slice_set, take, filter, map}
 use Rattle.credential_text.specs.declared.exprs.Expr.{Expr}
 use Rattle.cred_graph.specs.declared.listeners.Listening.{Listening}
 use Rattle.cred_graph.specs.declared.solutions.Reason.{Reason}
 use Rattle.cred_graph.specs.declared.solutions.Solution.{Solution}
+use Rattle.cred_graph.specs.NodeLists.{list_at}
 
 -- the expressions and the lists of listeners by node number, and the solutions of all nodes; each list in order of adding
 pub record GraphState : Type 0 where
@@ -30,17 +31,13 @@ IsSolution g n who = HasSolution g.solutions n who
 abbrev pub Known : GraphState → List ℕ → Expr → Type 0
 Known g who e = (n : ℕ) × IsNode g n e × IsSolution g n who
 
--- the list of this number
-abbrev pub listed_at : List (List Listening) → ℕ → List Listening
-listed_at lists n = slice_index_or lists n []
-
 -- the lists, with one more listener at the end of that of this number
 abbrev pub listed_with : List (List Listening) → ℕ → Listening → List (List Listening)
-listed_with lists n l = slice_set lists n (listed_at lists n ++ l ∷ [])
+listed_with lists n l = slice_set lists n (list_at lists n ++ l ∷ [])
 
 -- the node's listeners, in order of adding
 abbrev pub listeners_of : GraphState → ℕ → List Listening
-listeners_of g n = listed_at g.listeners n
+listeners_of g n = list_at g.listeners n
 
 -- the listener is one of the node's
 abbrev pub Listens : GraphState → ℕ → Listening → Type 0

@@ -1,9 +1,5 @@
 -- Names that are kept once and spoken of by number.
-use Rattle.std.specs.Prelude.{ℕ, List, [], ◌≡◌, ◌≤◌, ◌^◌, Some, length, slice_get, slice_index_or}
-
--- the name of this number
-abbrev pub name_at : List (List ℕ) → ℕ → List ℕ
-name_at names k = slice_index_or names k []
+use Rattle.std.specs.Prelude.{ℕ, List, ◌≡◌, ◌≤◌, ◌^◌, Some, length, slice_get}
 
 -- each name has one number
 abbrev pub IsOnce : List (List ℕ) → Type 0

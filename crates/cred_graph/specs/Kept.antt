@@ -10,7 +10,6 @@ use Rattle.cred_graph.specs.declared.listeners.KeptListening.{KeptListening}
 use Rattle.cred_graph.specs.declared.listeners.FarListening.{FarListening}
 use Rattle.cred_graph.specs.declared.ports.KeptPort.{KeptPort}
 use Rattle.cred_graph.specs.declared.ports.KeptPort.TheVariants as kept
-use Rattle.cred_graph.specs.Interned.{name_at}
 use Rattle.cred_graph.specs.Numbers.{entity_at}
 use Rattle.cred_graph.specs.NodeLists.{list_at, AddsAt, AreSame}
 
@@ -19,7 +18,7 @@ abbrev pub kept_as : List Expr → List (List ℕ) → KeptPort → Port (List �
 kept_as nodes strangers kept.Body = port.Body
 kept_as nodes strangers kept.Base = port.Base
 kept_as nodes strangers (kept.Via k) = port.Via (entity_at nodes k)
-kept_as nodes strangers (kept.Stranger j) = port.Via (name_at strangers j)
+kept_as nodes strangers (kept.Stranger j) = port.Via (list_at strangers j)
 kept_as nodes strangers (kept.Part i) = port.Part i
 
 -- its number is that of an entity that is no stranger, or of a stranger

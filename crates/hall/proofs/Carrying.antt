@@ -3,7 +3,7 @@ use Rattle.std.proofs.Common.{◌≡◌, ◌∙◌, ℕ, List, ap, sym, refl, su
 use Rattle.std.specs.Option.{MatchOption}
 use Rattle.std.specs.FinMap.{get}
 use Rattle.search.specs.Search.{SearchState, settled_of}
-use Rattle.search.specs.Quiet.{IsQuiet}
+use Rattle.search.specs.Stage.{IsQuiet}
 use Rattle.hall.specs.declared.faults.Fault.{Fault}
 use Rattle.hall.specs.declared.faults.Fault.TheVariants.{NoTenant, NoSuchSearch}
 use Rattle.hall.specs.declared.calls.answers.Answer.{Answer}

@@ -10,8 +10,7 @@ use Rattle.vaults.specs.declared.changes.Entry.{Entry}
 use Rattle.vaults.proofs.Orders.{names_exact}
 use Rattle.search.specs.declared.queries.Need.{Need}
 use Rattle.search.specs.Search.{SearchState}
-use Rattle.search.specs.Quiet.{IsQuiet}
-use Rattle.search.specs.Stage.{waiting_in, signals_in}
+use Rattle.search.specs.Stage.{waiting_in, signals_in, IsQuiet}
 use Rattle.hall.specs.declared.calls.steps.Step.{Step}
 use Rattle.hall.specs.declared.calls.steps.Step.TheVariants as step
 use Rattle.hall.specs.Steps.{TakesAt, Signals, took, signalled}

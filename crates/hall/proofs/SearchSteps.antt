@@ -14,9 +14,8 @@ use Rattle.search.specs.declared.stages.Stage.{Stage}
 use Rattle.search.specs.Ending.{Settled, Nothing, MaySettle, asked_role}
 use Rattle.search.specs.Found.{found}
 use Rattle.search.specs.Search.{SearchState, SameQuestion, settled_of}
-use Rattle.search.specs.Quiet.{NoneHeld}
 use Rattle.search.specs.Finish.{Finishes}
-use Rattle.search.specs.Stage.{if_held}
+use Rattle.search.specs.Stage.{if_held, NoneHeld}
 use Rattle.scholten_core.specs.declared.parents.Parent.TheVariants.{Environment}
 use Rattle.hall.specs.declared.calls.steps.Step.{Step}
 use Rattle.hall.specs.declared.calls.steps.Step.TheVariants as step
@@ -39,9 +38,9 @@ staged old new at is = record {
 pub finish_keeps : (old new : SearchState) (letter : ℕ) (hint : Hint) (f : Finished) → Finishes old new letter hint f → SameQuestion old new
 finish_keeps old new letter hint finished.NotHeld finishes = staged old new old.stage finishes.1
 finish_keeps old new letter hint finished.BadHint (l, need, held, needs, wrong, is) = staged old new _ is
-finish_keeps old new letter hint finished.Done (l, rightly, received, question) = question
-finish_keeps old new letter hint finished.Spent (l, rightly, exceeds, spent, question) = question
-finish_keeps old new letter hint finished.Broken (l, rightly, broken, question) = question
+finish_keeps old new letter hint finished.Done (l, rightly, (received, question)) = question
+finish_keeps old new letter hint finished.Spent (l, rightly, (exceeds, spent, question)) = question
+finish_keeps old new letter hint finished.Broken (l, rightly, (broken, question)) = question
 
 made_keeps : (old new : SearchState) (made : Step) (answer : Stepped) → IsMade old made answer new → SameQuestion old new
 made_keeps old new (step.Take name k place) answer (got, takes, is) = by got takes

@@ -9,7 +9,7 @@ use Rattle.std.specs.Ordering.{nat_cmp}
 use Rattle.indexmap.specs.IndexMap.{IndexMap, WritesThrough}
 use Rattle.indexmap.specs.IndexMap as table
 use Rattle.quotas.specs.Quota.{Quota}
-use Rattle.search.specs.Quiet.{IsQuiet}
+use Rattle.search.specs.Stage.{IsQuiet}
 use Rattle.hall.specs.declared.calls.steps.Step.{Step}
 use Rattle.hall.specs.Hall.{Running, Tenant}
 use Rattle.hall.specs.Kept.{AreQuiet, IsNextAmong, IsIdle, IsNextOf}

@@ -3,9 +3,8 @@ use Rattle.std.proofs.Common.{◌≡◌, ◌∙◌, ◌≤◌, ℕ, List, [], su
 use Rattle.std.specs.Result.{IsErr}
 use Rattle.std.proofs.lemmas.List.{append-nil}
 use Rattle.search.specs.declared.stages.Stage.{Stage}
-use Rattle.search.specs.Stage.{Delivers}
+use Rattle.search.specs.Stage.{Delivers, IsQuiet}
 use Rattle.search.specs.Search.{SearchState, IsSoundStage}
-use Rattle.search.specs.Quiet.{IsQuiet}
 use Rattle.search.specs.Driven.{SignalsFirst}
 use Rattle.hall.specs.declared.calls.steps.Step.TheVariants.{Take, Signal}
 use Rattle.hall.specs.declared.calls.steps.Stepped.TheVariants as stepped

@@ -10,7 +10,7 @@ use Rattle.search.specs.declared.queries.Query.{Query}
 use Rattle.search.specs.Ending.{Nothing, MaySettle}
 use Rattle.search.specs.Search.{SearchState, IsSoundStage, settled_of}
 use Rattle.search.specs.Driven.{IsDriven}
-use Rattle.search.specs.Quiet.{NoneHeld, IsQuiet}
+use Rattle.search.specs.Stage.{NoneHeld, IsQuiet}
 use Rattle.hall.specs.declared.faults.Fault.{Fault}
 use Rattle.hall.specs.declared.faults.Fault.TheVariants.{NoTenant}
 use Rattle.hall.specs.declared.calls.requests.Request.{Request}

@@ -4,9 +4,8 @@ use Rattle.std.specs.List.{Contains, AllByRecursion}
 use Rattle.std.specs.FinMap.{get}
 use Rattle.search.specs.Ending.{Settled, Members}
 use Rattle.search.specs.Search.{SearchState, Settles, IsOutstanding, IsSoundStage, settled_of}
-use Rattle.search.specs.Stage.{waiting_in, signals_in}
+use Rattle.search.specs.Stage.{waiting_in, signals_in, IsQuiet, NoneHeld}
 use Rattle.search.specs.Finish.{Takes}
-use Rattle.search.specs.Quiet.{IsQuiet, NoneHeld}
 use Rattle.search.specs.Driven.{IsDriven, SignalsFirst}
 use Rattle.hall.specs.declared.faults.Fault.{Fault}
 use Rattle.hall.specs.declared.faults.Fault.TheVariants.{Memory}

@@ -2,7 +2,7 @@
 use Rattle.std.specs.Prelude.{◌≡◌, ◌⊎◌, ◌≤◌, ◌+◌, ◌++◌, [], ◌∷◌, ℕ, List, Option, None, Some, Result, Ok, Err}
 use Rattle.snapshots.specs.Snapshot.{SnapshotState}
 use Rattle.search.specs.declared.queries.Need.{Need}
-use Rattle.search.specs.Quiet.{IsQuiet}
+use Rattle.search.specs.Stage.{IsQuiet}
 use Rattle.hall.specs.declared.calls.steps.Step.{Step}
 use Rattle.hall.specs.declared.calls.steps.Step.TheVariants.{Take, Signal}
 use Rattle.hall.specs.declared.calls.steps.Stepped.{Stepped}

@@ -1,6 +1,6 @@
 //! A search that was opened and not ended, and what one of its tenant's calls does to it.
 ghost use Rattle.std.specs.Prelude.{◌≡◌, ◌≤◌, ◌+◌, ◌<◌, MatchOption, vec_len, vec_capacity};
-ghost use Rattle.search.specs.Quiet.{IsQuiet};
+ghost use Rattle.search.specs.Stage.{IsQuiet};
 ghost use Rattle.hall.specs.Kept.{DrivesTo, TakesJob, MakesStep, Visits, IsNext};
 
 use crate::calls::{Answer, Step};

@@ -21,14 +21,9 @@ pub record Computation (P : Type 0) : Type 0 where
 -- whether two are one and the same
 abbrev pub same_parent : Parent → Parent → Bool
 same_parent Neutral Neutral = true
-same_parent Neutral Environment = false
-same_parent Neutral (Node n) = false
-same_parent Environment Neutral = false
 same_parent Environment Environment = true
-same_parent Environment (Node n) = false
-same_parent (Node m) Neutral = false
-same_parent (Node m) Environment = false
 same_parent (Node m) (Node n) = m == n
+same_parent _ _ = false
 
 module _ {P : Type 0} where
   -- the letters that wait, in order of number

@@ -41,9 +41,8 @@ kept owed m (Node n) = deficit_kept m n
 
 -- who engaged one
 abbrev pub engager : List (Option Engagement) → Parent → Option Parent
-engager m Neutral = None
-engager m Environment = None
 engager m (Node n) = parent_kept m n
+engager m _ = None
 
 -- 1 where two are the same, else 0
 abbrev pub hit : Parent → Parent → ℕ

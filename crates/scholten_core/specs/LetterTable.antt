@@ -2,7 +2,7 @@
 use Rattle.std.specs.Prelude.{◌≡◌, ℕ, ◌+◌, ◌≤◌, ◌==◌, Bool, true, false, not, List, [], ◌∷◌, Option, None, Some}
 use Rattle.std.specs.Prelude.{length, take, is_some, slice_get, IsSomeAnd, IsTrue}
 use Rattle.scholten_core.specs.declared.parents.Parent.{Parent}
-use Rattle.scholten_core.specs.declared.parents.Parent.TheVariants.{Neutral, Environment, Node}
+use Rattle.scholten_core.specs.declared.parents.Parent.TheVariants.{Neutral}
 use Rattle.scholten_core.specs.declared.letters.Letter.{Letter}
 use Rattle.scholten_core.specs.Sound.{IsNumbered}
 
@@ -17,8 +17,7 @@ module _ {P : Type 0} where
   -- a letter from somebody; what is from nobody is a hole
   abbrev pub from_somebody : Parent → Letter P → Option (Letter P)
   from_somebody Neutral l = None
-  from_somebody Environment l = Some l
-  from_somebody (Node n) l = Some l
+  from_somebody _ l = Some l
 
   -- the letters that stand: an entry with none is a hole
   abbrev pub standing : List (ℕ × Option (Letter P)) → List (ℕ × Letter P)

@@ -42,9 +42,8 @@ module _ {P : Type 0} where
 
   -- the same of anyone: nobody and the environment have nobody to signal
   abbrev pub settles : Computation P → Parent → Computation P
-  settles d Neutral = d
-  settles d Environment = d
   settles d (Node n) = settles_under d n (fin.get d.engaged n)
+  settles d _ = d
 
   -- a letter is received: it engages a neutral node, and otherwise a signal to its sender goes
   -- under way

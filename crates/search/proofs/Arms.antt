@@ -13,8 +13,7 @@ use Rattle.search.specs.declared.letters.Load.{Load}
 use Rattle.search.specs.declared.letters.Load.TheVariants as load
 use Rattle.search.specs.declared.findings.Monitor.{Monitor}
 use Rattle.search.specs.Net.{Net, Sent, LetterFits}
-use Rattle.search.specs.Receipt.{Awaits}
-use Rattle.search.specs.Answers.{Progress, progress, net_at, MayTakeIn, Opens, own_rows, AnswersAsk, TakesIn, Answers}
+use Rattle.search.specs.Answers.{Progress, progress, net_at, MayTakeIn, Opens, own_rows, AnswersAsk, TakesIn, Answers, Awaits}
 use Rattle.search.proofs.Receive.{awaited_fits, receiver_in, told_by_letter}
 use Rattle.search.proofs.Taken.{may_take_in}
 

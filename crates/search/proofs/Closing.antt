@@ -22,8 +22,7 @@ use Rattle.search.specs.declared.letters.Load.TheVariants as load
 use Rattle.search.specs.declared.findings.Monitor.{Monitor}
 use Rattle.search.specs.Net.{Sent, IsPendingStart, plain, sent_of, sent_by}
 use Rattle.search.specs.Steady.{IsSteady}
-use Rattle.search.specs.Receipt.{Awaits}
-use Rattle.search.specs.Answers.{Progress, progress, net_at}
+use Rattle.search.specs.Answers.{Progress, progress, net_at, Awaits}
 use Rattle.search.specs.Counted.{IsCounted}
 use Rattle.search.specs.Search.{StartsAlone, KeptBy, IsTallied, net_of}
 use Rattle.search.proofs.Settled.{TakesOut, settled}

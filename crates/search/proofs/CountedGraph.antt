@@ -10,7 +10,8 @@ use Rattle.std.proofs.lemmas.Grind.{flat_map-append}
 use Rattle.rt0_rules.specs.Letters.{NodeAsk}
 use Rattle.cred_graph.specs.declared.listeners.Listening.{Listening}
 use Rattle.cred_graph.specs.declared.solutions.Solution.{Solution}
-use Rattle.cred_graph.specs.GraphState.{GraphState, listed_at, listed_with, members_of}
+use Rattle.cred_graph.specs.GraphState.{GraphState, listed_with, members_of}
+use Rattle.cred_graph.specs.NodeLists.{list_at}
 use Rattle.search.specs.Net.{Sent}
 use Rattle.search.specs.Counted.{heard_of, heard_from, ask_from, asks_in}
 
@@ -70,7 +71,7 @@ of_later k n (ls ∷ lists) before =
     simp (filter-append, length-append) (omega arith)
 
 -- a node has heard as many asks as it has listeners
-pub heard_by : (k j : ℕ) (lists : List (List Listening)) → length (filter (λ a. a.asked == k + j) (heard_from k lists)) ≡ length (listed_at lists j)
+pub heard_by : (k j : ℕ) (lists : List (List Listening)) → length (filter (λ a. a.asked == k + j) (heard_from k lists)) ≡ length (list_at lists j)
 heard_by k j [] = refl
 heard_by k zero (ls ∷ lists) =
     let here : length (filter (λ a. a.asked == k + 0) (map (heard_of k) ls)) ≡ length ls = of_node k (k + 0) ls (omega arith) in
@@ -78,9 +79,9 @@ heard_by k zero (ls ∷ lists) =
     simp (filter-append, length-append) (omega arith)
 heard_by k (suc j) (ls ∷ lists) =
     let here : length (filter (λ a. a.asked == k + suc j) (map (heard_of k) ls)) ≡ 0 = of_others k (k + suc j) ls (λ same. omega arith) in
-    let rest : length (filter (λ a. a.asked == suc k + j) (heard_from (suc k) lists)) ≡ length (listed_at lists j) = heard_by (suc k) j lists in
-    let again : length (filter (λ a. a.asked == k + suc j) (heard_from (suc k) lists)) ≡ length (listed_at lists j) =
-    subst (λ n. length (filter (λ a. a.asked == n) (heard_from (suc k) lists)) ≡ length (listed_at lists j)) (omega arith) rest in
+    let rest : length (filter (λ a. a.asked == suc k + j) (heard_from (suc k) lists)) ≡ length (list_at lists j) = heard_by (suc k) j lists in
+    let again : length (filter (λ a. a.asked == k + suc j) (heard_from (suc k) lists)) ≡ length (list_at lists j) =
+    subst (λ n. length (filter (λ a. a.asked == n) (heard_from (suc k) lists)) ≡ length (list_at lists j)) (omega arith) rest in
     simp (filter-append, length-append) (omega arith)
 
 -- a solution more is a member more of its node
@@ -103,7 +104,7 @@ pub asks_in-append : (xs ys : List Sent) → asks_in (xs ++ ys) ≡ asks_in xs +
 asks_in-append xs ys = flat_map-append (λ (x : Sent). ask_from x.from x.to x.load) xs ys
 
 -- what a listener asked was heard
-pub heard_has : (k n : ℕ) (lists : List (List Listening)) (l : Listening) → Contains (listed_at lists n) l → Contains (heard_from k lists) (heard_of (k + n) l)
+pub heard_has : (k n : ℕ) (lists : List (List Listening)) (l : Listening) → Contains (list_at lists n) l → Contains (heard_from k lists) (heard_of (k + n) l)
 heard_has k n [] l has = absurd (Contains-none l has)
 heard_has k zero (ls ∷ lists) l has =
     Contains-append_left (map (heard_of k) ls) (heard_from (suc k) lists) (heard_of (k + 0) l)

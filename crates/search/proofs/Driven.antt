@@ -14,10 +14,9 @@ use Rattle.search.specs.declared.outcomes.Finished.TheVariants as finished
 use Rattle.search.specs.declared.stages.Stage.{Stage}
 use Rattle.search.specs.declared.stages.Stage.TheVariants as stage
 use Rattle.search.specs.Need.{need_of, right_hint}
-use Rattle.search.specs.Stage.{waiting_in, signals_in, held_in, letter_in}
+use Rattle.search.specs.Stage.{waiting_in, signals_in, held_in, letter_in, IsQuiet, NoneHeld, HoldsAsBefore}
 use Rattle.search.specs.Search.{SearchState, SameQuestion, Settles, settled_of}
 use Rattle.search.specs.Finish.{Needs, Takes, TakesHeld, Received, Receives, Finishes}
-use Rattle.search.specs.Quiet.{IsQuiet, NoneHeld, HoldsAsBefore}
 use Rattle.search.specs.Driven.{DriveStep, a_signal, a_letter, Makes, MakesEach, IsDriven}
 use Rattle.search.proofs.Grow.{one_expr}
 use Rattle.search.proofs.Ended.{settles_on}
@@ -43,10 +42,10 @@ module _ (s held t : SearchState) (number : ℕ) (need : Need) (takes : Takes s 
 
   -- so its finish with what the snapshot says is never refused
   receipt_of : (told : Finished) → Finishes held t number (right_hint s.snapshot.vaults need) told → IsReceipt held t number
-  receipt_of finished.Done (l, rightly, received, same) = goes_on l rightly.held received same
-  receipt_of finished.Spent (l, rightly, exceeds, is, same) =
+  receipt_of finished.Done (l, rightly, (received, same)) = goes_on l rightly.held received same
+  receipt_of finished.Spent (l, rightly, (exceeds, is, same)) =
       ends l rightly.held (λ c runs. let clash : stage.Spent ≡ stage.Running c = sym is ∙ runs in cc) (ap (steps_left t.work) is) same
-  receipt_of finished.Broken (l, rightly, is, same) =
+  receipt_of finished.Broken (l, rightly, (is, same)) =
       ends l rightly.held (λ c runs. let clash : stage.Broken ≡ stage.Running c = sym is ∙ runs in cc) (ap (steps_left t.work) is) same
   receipt_of finished.NotHeld (none, same) = let clash = sym none ∙ takes.held in cc
   receipt_of finished.BadHint (l, other, is, needs, wrong, after) =

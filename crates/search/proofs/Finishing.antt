@@ -60,9 +60,9 @@ rightly_needed s number h e at held = record {
 pub finishes_rightly : (s t : SearchState) (number : ℕ) (hint : Hint) (l : Letter (Load (List ℕ))) → IsRightly s number hint l → (result : Finished) → Receives s t number l result → Finishes s t number hint result
 finishes_rightly s t number hint l right finished.NotHeld receives = absurd receives
 finishes_rightly s t number hint l right finished.BadHint receives = absurd receives
-finishes_rightly s t number hint l right finished.Done receives = (l, right, receives.0, receives.1)
-finishes_rightly s t number hint l right finished.Spent receives = (l, right, receives.0, receives.1, receives.2)
-finishes_rightly s t number hint l right finished.Broken receives = (l, right, receives.0, receives.1)
+finishes_rightly s t number hint l right finished.Done receives = (l, right, receives)
+finishes_rightly s t number hint l right finished.Spent receives = (l, right, receives)
+finishes_rightly s t number hint l right finished.Broken receives = (l, right, receives)
 
 -- a hint that is right says where the rows stand of the role that it is for
 pub span_for : (view : List Vault) (e : Expr) (l : Load (List ℕ)) (hint : Hint) → hint ≡ right_hint view (need_of e l) → IsSpanFor view e (span_in hint)

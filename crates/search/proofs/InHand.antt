@@ -13,9 +13,8 @@ use Rattle.scholten_core.proofs.Lists.{lookup_from_filter, filter_passes}
 use Rattle.search.specs.declared.letters.Load.{Load}
 use Rattle.search.specs.declared.stages.Stage.{Stage}
 use Rattle.search.specs.declared.stages.Stage.TheVariants as stage
-use Rattle.search.specs.Stage.{waiting_in, held_in, if_held, letter_in, stage_marked, Holds}
+use Rattle.search.specs.Stage.{waiting_in, held_in, if_held, letter_in, stage_marked, Holds, IsQuiet, NoneHeld}
 use Rattle.search.specs.Search.{IsOutstanding}
-use Rattle.search.specs.Quiet.{IsQuiet, NoneHeld}
 use Rattle.search.proofs.Holding.{holds_letter}
 use Rattle.search.proofs.ByNumber.{lookup-rest, lookup-rest_other, lookup-changed_other, numbered_before}
 

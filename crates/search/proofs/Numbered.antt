@@ -15,7 +15,8 @@ use Rattle.cred_graph.specs.declared.solutions.Reason.{Reason}
 use Rattle.cred_graph.specs.declared.solutions.Reason.TheVariants as reason
 use Rattle.scholten_core.specs.declared.parents.Parent.{Parent}
 use Rattle.scholten_core.specs.declared.parents.Parent.TheVariants.{Neutral, Environment, Node}
-use Rattle.cred_graph.specs.GraphState.{GraphState, listed_at, listed_with}
+use Rattle.cred_graph.specs.GraphState.{GraphState, listed_with}
+use Rattle.cred_graph.specs.NodeLists.{list_at}
 use Rattle.cred_graph.specs.Graph.{IsGraph, NodeGiven, ListenerGiven, SolutionGiven}
 use Rattle.cred_graph.specs.declared.solutions.Solution.{Solution}
 use Rattle.cred_graph.specs.Numbers.{IsNamed, IsPort, entity_at, port_at, reason_at}
@@ -26,8 +27,7 @@ use Rattle.scholten_core.specs.Computation.{Computation, IsHeld, outstanding, wa
 use Rattle.scholten_core.specs.Step.{started}
 use Rattle.scholten_core.specs.Named.{entry_with, named_with}
 use Rattle.scholten_core.proofs.Named.{held-unnamed, map_alike, named_alike, outstanding-named, waiting-named, waits-named}
-use Rattle.search.specs.Stage.{signals_in, waiting_in}
-use Rattle.search.specs.Quiet.{IsQuiet, NoneHeld}
+use Rattle.search.specs.Stage.{signals_in, waiting_in, IsQuiet, NoneHeld}
 use Rattle.search.specs.Search.{IsOutstanding}
 use Rattle.search.proofs.Holding.{same_running}
 use Rattle.search.proofs.InHand.{settles}
@@ -152,12 +152,12 @@ numbered_listened g h n m p true outs (new, with) node graph port are =
     list_there : n < length g.listeners
     list_there =
         let lists : length (listed_with g.listeners n added) ≡ length g.nodes = ap (λ (k : GraphState). length k.listeners) (sym with) ∙ graph.one_list_each ∙ ap (λ (k : GraphState). length k.nodes) with in
-        omega (arith, node, lists, length-set g.listeners n (listed_at g.listeners n ++ added ∷ []))
+        omega (arith, node, lists, length-set g.listeners n (list_at g.listeners n ++ added ∷ []))
 
-    ports : (k : ℕ) (l : Listening) → Contains (listed_at (listed_with g.listeners n added) k) l → IsNamed g.nodes l.port
+    ports : (k : ℕ) (l : Listening) → Contains (list_at (listed_with g.listeners n added) k) l → IsNamed g.nodes l.port
     ports k l listens =
         elim (listed_with_cases g.listeners n added k list_there) [
-          | inl here ↦ elim (Contains-push_cases (listed_at g.listeners k) added l (subst (λ ls. Contains ls l) here.1 listens)) [
+          | inl here ↦ elim (Contains-push_cases (list_at g.listeners k) added l (subst (λ ls. Contains ls l) here.1 listens)) [
             | inl before ↦ are.ports k l before
             | inr this ↦ subst (λ (x : Listening). IsNamed g.nodes x.port) this (port_named g.nodes p port)
           ]

@@ -18,7 +18,7 @@ use Rattle.search.specs.declared.letters.Load.TheVariants as load
 use Rattle.search.specs.declared.findings.Monitor.{Monitor}
 use Rattle.search.specs.Net.{Net, Sent, LetterFits, OpenedPaid}
 use Rattle.search.specs.Steady.{IsRight, IsSteady}
-use Rattle.search.specs.Receipt.{Awaits}
+use Rattle.search.specs.Answers.{Awaits}
 use Rattle.search.specs.Answers.{Progress, progress, net_at, HearsAsk, TakesIn, Opens, IsOpenAt, own_rows, AnswersAsk, Answers}
 use Rattle.search.proofs.Grow.{Grows, one_expr, ask_fits_stays}
 use Rattle.search.proofs.Steps.{RowsFor, grows_on, opens, hears}

@@ -18,6 +18,7 @@ use Rattle.cred_graph.specs.GraphState.{GraphState, IsNode, IsSolution, Known, L
 use Rattle.cred_graph.specs.Graph.{IsGraph}
 use Rattle.scholten_core.specs.declared.parents.Parent.TheVariants.{Environment}
 use Rattle.scholten_core.specs.declared.letters.Letter.{Letter}
+use Rattle.rt0_rules.specs.Work.{WorkExceeds}
 use Rattle.scholten_core.specs.Computation.{Computation, outstanding, waiting}
 use Rattle.scholten_core.specs.Step.{started, marked}
 use Rattle.search.specs.declared.letters.Load.{Load}
@@ -29,16 +30,25 @@ use Rattle.search.specs.declared.stages.Stage.{Stage}
 use Rattle.search.specs.declared.stages.Stage.TheVariants as stage
 use Rattle.search.specs.Net.{Net, Sent, plain, sent_of, IsPendingBetween, IsOpen, LetterFits}
 use Rattle.search.specs.Steady.{IsRight, IsPaid, IsJustified, OwesRules}
-use Rattle.search.specs.Receipt.{Awaits}
+use Rattle.search.specs.Answers.{Awaits}
 use Rattle.search.specs.Stage.{HoldsLetter, Holds, letter_in, stage_marked, waiting_in, Delivers}
 use Rattle.search.specs.Counted.{MayAsk}
-use Rattle.search.specs.Search.{SearchState, KeptBy, IsTallied, KeepsRules, KeepsCount, KeepsLimit, IsKept, IsCompleted, asked_role, rows_of, net_of}
+use Rattle.search.specs.Search.{SearchState, KeptBy, IsTallied, IsKept, IsCompleted, asked_role, rows_of, net_of}
 use Rattle.search.proofs.Owed.{owes_rules}
 use Rattle.search.proofs.Solve.{solution_of_member, member_of_solution}
 use Rattle.search.proofs.Closing.{awaits_letter, marked_kept, signalled_kept, marked_tallied, signalled_tallied}
 use Rattle.search.proofs.WorkOf.{opened_counted}
 use Rattle.search.proofs.Receive.{receiver_in}
 use Rattle.search.proofs.Holding.{same_running}
+
+abbrev pub KeepsRules : SearchState → Type 0
+KeepsRules s = (c : Computation (Load (List ℕ))) → s.stage ≡ stage.Running c → KeptBy (rows_of s) (asked_role s.query) s.work s.graph s.monitors c
+
+abbrev KeepsCount : SearchState → Type 0
+KeepsCount s = (c : Computation (Load (List ℕ))) → s.stage ≡ stage.Running c → IsTallied s.graph s.monitors c
+
+abbrev KeepsLimit : SearchState → Type 0
+KeepsLimit s = s.stage ≡ stage.Spent → WorkExceeds (rows_of s) (asked_role s.query) s.work
 
 -- the graph of a search just opened
 abbrev pub first_graph : Role → GraphState

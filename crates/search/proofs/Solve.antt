@@ -12,7 +12,8 @@ use Rattle.cred_graph.specs.declared.listeners.Port.{Port}
 use Rattle.cred_graph.specs.declared.listeners.Listening.{Listening}
 use Rattle.cred_graph.specs.declared.solutions.Reason.{Reason}
 use Rattle.cred_graph.specs.declared.solutions.Solution.{Solution}
-use Rattle.cred_graph.specs.GraphState.{GraphState, IsNode, IsSolution, Listens, listed_at, listeners_of, members_of}
+use Rattle.cred_graph.specs.GraphState.{GraphState, IsNode, IsSolution, Listens, listeners_of, members_of}
+use Rattle.cred_graph.specs.NodeLists.{list_at}
 use Rattle.cred_graph.specs.Reason.{Fits}
 use Rattle.cred_graph.proofs.Growth.{with_solution, with_listener, graph_with_solution, graph_with_listener, listed_with_cases}
 use Rattle.scholten_core.specs.declared.parents.Parent.TheVariants.{Node}
@@ -133,7 +134,7 @@ module _ (rows : List Credential) (asked : Role) (g : GraphState) (ms : List Mon
 
       pub listens_new : Listens (with_listener g node listening) node listening
       listens_new =
-          subst (λ ls. Contains ls listening) (sym (get_or-set_same g.listeners node (listed_at g.listeners node ++ listening ∷ []) [] within)) (Contains-push (listeners_of g node) listening)
+          subst (λ ls. Contains ls listening) (sym (get_or-set_same g.listeners node (list_at g.listeners node ++ listening ∷ []) [] within)) (Contains-push (listeners_of g node) listening)
 
       listens_cases : (n : ℕ) (k : Listening) → Listens (with_listener g node listening) n k → Listens g n k ⊎ ((n ≡ node) × (listening ≡ k))
       listens_cases n k listens =

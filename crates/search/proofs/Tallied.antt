@@ -24,7 +24,7 @@ use Rattle.search.specs.declared.findings.Monitor.{Monitor}
 use Rattle.search.specs.declared.findings.Monitor.TheVariants as monitor
 use Rattle.search.specs.Net.{Net, Sent, HasListener, IsPendingStart, IsBaseTold, IsOpen, IsTaken}
 use Rattle.search.specs.Steady.{IsSteady}
-use Rattle.search.specs.Receipt.{Awaits}
+use Rattle.search.specs.Answers.{Awaits}
 use Rattle.search.specs.Answers.{Progress, progress, net_at, HearsAsk, TakesIn, Opens, IsOpenAt, own_rows, AnswersAsk, Answers}
 use Rattle.search.specs.Counted.{MayAskFor, MayAsk, heard, asks_in, IsCountedBy, IsCounted}
 use Rattle.search.proofs.Grow.{Grows}

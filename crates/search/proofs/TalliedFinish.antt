@@ -20,8 +20,7 @@ use Rattle.search.specs.declared.letters.Load.TheVariants as load
 use Rattle.search.specs.declared.findings.Monitor.{Monitor}
 use Rattle.search.specs.Net.{Sent, IsPendingStart, plain, sent_of, sent_by}
 use Rattle.search.specs.Counted.{IsCounted}
-use Rattle.search.specs.Receipt.{Awaits}
-use Rattle.search.specs.Answers.{Progress, progress, net_at, Answers}
+use Rattle.search.specs.Answers.{Progress, progress, net_at, Answers, Awaits}
 use Rattle.search.specs.Search.{KeptBy, IsTallied, net_of}
 use Rattle.search.proofs.Receive.{receipt}
 use Rattle.search.proofs.Closing.{awaits_letter, left, started_before, steady_after, after_is}

@@ -17,7 +17,8 @@ use Rattle.rt0_rules.proofs.FixedPoint.{asks_kept, all_heard, exact}
 use Rattle.rt0_rules.proofs.Letters.{letters_exceed, letters_are_work}
 use Rattle.cred_graph.specs.declared.listeners.Listening.{Listening}
 use Rattle.cred_graph.specs.declared.solutions.Solution.{Solution}
-use Rattle.cred_graph.specs.GraphState.{GraphState, IsNode, IsSolution, Known, listed_at, members_of}
+use Rattle.cred_graph.specs.GraphState.{GraphState, IsNode, IsSolution, Known, members_of}
+use Rattle.cred_graph.specs.NodeLists.{list_at}
 use Rattle.cred_graph.proofs.Lists.{place_of_Contains}
 use Rattle.scholten_core.specs.declared.parents.Parent.{Parent}
 use Rattle.scholten_core.specs.declared.parents.Parent.TheVariants.{Neutral, Environment, Node}
@@ -34,7 +35,7 @@ use Rattle.search.proofs.Solve.{member_of_solution}
 pub record IsHeard (k : ℕ) (lists : List (List Listening)) (a : NodeAsk) : Type 0 where
   pub node : ℕ
   pub listener : Listening
-  pub among : Contains (listed_at lists node) listener
+  pub among : Contains (list_at lists node) listener
   pub is : a ≡ heard_of (k + node) listener
 
 heard_is : (k : ℕ) (lists : List (List Listening)) (a : NodeAsk) → Contains (heard_from k lists) a → IsHeard k lists a

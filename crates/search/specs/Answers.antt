@@ -1,4 +1,4 @@
--- How a node answers a letter: what it finds, and what it sends.
+-- How a node answers a letter: what it finds, and what it sends; and when it may.
 use Rattle.std.specs.Prelude.{ℕ, ◌+◌, ◌<◌, Bool, true, false, List, [], ◌∷◌, ◌++◌, ◌≡◌, ◌⊎◌, Some}
 use Rattle.std.specs.Prelude.{Contains, length, map, slice_get, slice_set}
 use Rattle.std.specs.FinSet as set
@@ -24,6 +24,7 @@ use Rattle.search.specs.declared.letters.Load.TheVariants as load
 use Rattle.search.specs.declared.findings.Monitor.{Monitor}
 use Rattle.search.specs.declared.findings.Monitor.TheVariants as monitor
 use Rattle.search.specs.Net.{Said, Net, Sent, sent_by}
+use Rattle.search.specs.Steady.{IsSteady}
 
 -- what was found while a node answers a letter, and what it sends
 pub record Progress : Type 0 where
@@ -40,10 +41,9 @@ net_at s rest node = record { graph = s.graph; monitors = s.monitors; pending = 
 
 -- what a new node remembers: nothing was told yet
 abbrev pub new_monitor : Expr → Monitor
-new_monitor (Ent d) = monitor.Plain
-new_monitor (Rol r) = monitor.Plain
 new_monitor (Link r t) = monitor.Link (record { bases = []; members = [] })
 new_monitor (Meet parts) = monitor.Meet (record { parts = length parts; told = set.empty })
+new_monitor _ = monitor.Plain
 
 -- an Ask goes to the node of the expression, which is added with its monitor where there is none
 abbrev pub AsksFor : Progress → Progress → Expr → Port (List ℕ) → Type 0
@@ -153,10 +153,8 @@ IsOpenAt g n = (n ≡ 0) ⊎ (0 < length (listeners_of g n))
 
 -- the rows that the expression asks, where it is a role
 abbrev pub own_rows : List Vault → Expr → List Credential
-own_rows view (Ent d) = []
 own_rows view (Rol r) = role_rows view r
-own_rows view (Link r name) = []
-own_rows view (Meet parts) = []
+own_rows view _ = []
 
 -- a node is asked on a port by the node m: at its first Ask it opens, and then it hears the asker
 abbrev pub AnswersAsk : List Vault → Progress → Progress → ℕ → ℕ → Port (List ℕ) → Type 0
@@ -172,3 +170,10 @@ Answers view s t Environment to load.Start = (e : Expr) → IsNode s.graph to e 
 Answers view s t (Node m) to (load.Ask p) = AnswersAsk view s t to m p
 Answers view s t (Node m) to (load.Tell p who) = TakesIn s t to m p who
 Answers view s t _ to _ = ⊥
+
+-- a letter among those under way is to be received: the environment's is the only one
+pub record Awaits (rows : List Credential) (asked : Role) (g : GraphState) (ms : List Monitor) (rest : List Sent)
+    (from : Parent) (to : ℕ) (l : Said) : Type 0 where
+  pub there : Contains rest (record { from = from; to = to; load = l })
+  pub alone : (l ≡ load.Start → ⊥) → (n : ℕ) → Contains rest (record { from = Environment; to = n; load = load.Start }) → ⊥
+  pub steady : IsSteady rows asked (net_at (progress g ms []) rest to)

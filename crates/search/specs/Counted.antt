@@ -1,13 +1,13 @@
 -- How many letters a search has sent, by what was asked and found.
 use Rattle.std.specs.Prelude.{ℕ, suc, List, [], ◌∷◌, ◌++◌, ◌≡◌, Contains, map}
 use Rattle.std.specs.List.{flat_map}
-use Rattle.rt0_rules.specs.Asks.{Why, for_body, for_base, for_via, for_part}
+use Rattle.rt0_rules.specs.Asks.{Why, for_via}
 use Rattle.rt0_rules.specs.Work.{AreDistinct}
 use Rattle.rt0_rules.specs.Letters.{NodeAsk, letters_sent}
 use Rattle.cred_graph.specs.declared.listeners.Listening.{Listening}
 use Rattle.cred_graph.specs.GraphState.{GraphState, members_of}
 use Rattle.scholten_core.specs.declared.parents.Parent.{Parent}
-use Rattle.scholten_core.specs.declared.parents.Parent.TheVariants.{Neutral, Environment, Node}
+use Rattle.scholten_core.specs.declared.parents.Parent.TheVariants.{Node}
 use Rattle.search.specs.declared.letters.Load.TheVariants as load
 use Rattle.search.specs.Net.{Said, Net, Sent, IsBaseTold, IsOpen, why_of}
 
@@ -24,15 +24,9 @@ abbrev pub heard : GraphState → List NodeAsk
 heard g = heard_from 0 g.listeners
 
 -- what a letter of a node asks
-abbrev pub ask_by : ℕ → ℕ → Said → List NodeAsk
-ask_by m n load.Start = []
-ask_by m n (load.Ask p) = record { asker = m; why = why_of p; asked = n } ∷ []
-ask_by m n (load.Tell p who) = []
-
 abbrev pub ask_from : Parent → ℕ → Said → List NodeAsk
-ask_from Neutral n l = []
-ask_from Environment n l = []
-ask_from (Node m) n l = ask_by m n l
+ask_from (Node m) n (load.Ask p) = record { asker = m; why = why_of p; asked = n } ∷ []
+ask_from _ n _ = []
 
 -- the asks among the letters
 abbrev pub asks_in : List Sent → List NodeAsk
@@ -40,10 +34,8 @@ asks_in letters = flat_map (λ x. ask_from x.from x.to x.load) letters
 
 -- an open node may ask for itself, and a linked role for the members of its base that it was told
 abbrev pub MayAskFor : Net → ℕ → Why → Type 0
-MayAskFor net m for_body = IsOpen net m
-MayAskFor net m for_base = IsOpen net m
 MayAskFor net m (for_via b) = IsBaseTold net m b
-MayAskFor net m (for_part i) = IsOpen net m
+MayAskFor net m _ = IsOpen net m
 
 abbrev pub MayAsk : Net → NodeAsk → Type 0
 MayAsk net a = MayAskFor net a.asker a.why

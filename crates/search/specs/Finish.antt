@@ -63,11 +63,10 @@ pub record IsRightly (s : SearchState) (number : ℕ) (hint : Hint) (l : Letter 
 
 -- the letter of a number is received, and goes on as its result says
 abbrev pub Receives : SearchState → SearchState → ℕ → Letter Said → Finished → Type 0
-Receives s t number l finished.NotHeld = ⊥
-Receives s t number l finished.BadHint = ⊥
 Receives s t number l finished.Done = Received s t number l × SameQuestion s t
 Receives s t number l finished.Spent = Exceeds s l × (t.stage ≡ stage.Spent) × SameQuestion s t
 Receives s t number l finished.Broken = (t.stage ≡ stage.Broken) × SameQuestion s t
+Receives s t number l _ = ⊥
 
 -- the letter of a number is finished with this hint
 abbrev pub Finishes : SearchState → SearchState → ℕ → Hint → Finished → Type 0
@@ -75,7 +74,4 @@ Finishes s t number hint finished.NotHeld = (held_in s.stage number ≡ None) ×
 Finishes s t number hint finished.BadHint =
     (l : Letter Said) × (need : Need) × (held_in s.stage number ≡ Some l) × Needs s l need × (hint ≡ right_hint s.snapshot.vaults need → ⊥)
     × (t ≡ record s { stage = stage_marked number false s.stage })
-Finishes s t number hint finished.Done = (l : Letter Said) × IsRightly s number hint l × Received s t number l × SameQuestion s t
-Finishes s t number hint finished.Spent =
-    (l : Letter Said) × IsRightly s number hint l × Exceeds s l × (t.stage ≡ stage.Spent) × SameQuestion s t
-Finishes s t number hint finished.Broken = (l : Letter Said) × IsRightly s number hint l × (t.stage ≡ stage.Broken) × SameQuestion s t
+Finishes s t number hint told = (l : Letter Said) × IsRightly s number hint l × Receives s t number l told

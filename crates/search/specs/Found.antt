@@ -24,12 +24,10 @@ status_of Broken = status.Broken
 
 -- a status that answers the query
 abbrev pub IsAnswered : Status → Type 0
-IsAnswered status.Working = ⊥
 IsAnswered status.Yes = Unit {0}
 IsAnswered status.No = Unit {0}
 IsAnswered status.Members = Unit {0}
-IsAnswered status.Spent = ⊥
-IsAnswered status.Broken = ⊥
+IsAnswered _ = ⊥
 
 -- the answer of a completed search, by what it found of the asked role's node
 abbrev pub found : GraphState → Query → Settled

@@ -1,7 +1,6 @@
 pub mod Net
 pub mod Steady
 pub mod Answers
-pub mod Receipt
 pub mod Stage
 pub mod Search
 pub mod Need
@@ -9,6 +8,5 @@ pub mod Finish
 pub mod Ending
 pub mod Found
 pub mod Counted
-pub mod Quiet
 pub mod Driven
 pub mod Numbered

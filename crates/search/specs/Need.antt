@@ -1,7 +1,7 @@
 -- What a letter needs to be finished, and the hint that this asks for.
 use Rattle.std.specs.Prelude.{List, ◌≡◌, Option, Some, None}
 use Rattle.credential_text.specs.declared.exprs.Expr.{Expr}
-use Rattle.credential_text.specs.declared.exprs.Expr.TheVariants.{Ent, Rol, Link, Meet}
+use Rattle.credential_text.specs.declared.exprs.Expr.TheVariants.{Rol}
 use Rattle.vaults.specs.Journal.{Vault}
 use Rattle.snapshots.specs.declared.spans.Span.{Span}
 use Rattle.snapshots.specs.Span.{span_of}
@@ -13,10 +13,8 @@ use Rattle.search.specs.declared.queries.Hint.{Hint}
 use Rattle.search.specs.declared.queries.Hint.TheVariants as hint
 
 abbrev pub rows_for : Expr → Need
-rows_for (Ent d) = need.Nothing
 rows_for (Rol r) = need.Rows r
-rows_for (Link r name) = need.Nothing
-rows_for (Meet parts) = need.Nothing
+rows_for _ = need.Nothing
 
 -- rows are needed by a letter that asks a role, and by no other
 abbrev pub need_of : Expr → Said → Need
@@ -37,7 +35,5 @@ span_in hint.Nothing = None
 -- where a span was looked up for a role, it is that of its rows
 abbrev pub IsSpanFor : List Vault → Expr → Option Span → Type 0
 IsSpanFor view e None = Unit {0}
-IsSpanFor view (Ent d) (Some span) = Unit {0}
 IsSpanFor view (Rol r) (Some span) = span ≡ span_of view r
-IsSpanFor view (Link r name) (Some span) = Unit {0}
-IsSpanFor view (Meet parts) (Some span) = Unit {0}
+IsSpanFor view _ (Some span) = Unit {0}

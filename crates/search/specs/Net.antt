@@ -89,10 +89,9 @@ IsAsked net m p f = (n : ℕ) × IsNode net.graph n f × (HasListener net n m p 
 
 -- m has taken in what it was told on this port
 abbrev pub IsTaken : Net → ℕ → Port (List ℕ) → List ℕ → Type 0
-IsTaken net m port.Body who = IsSolution net.graph m who
 IsTaken net m port.Base who = IsBaseTold net m who
-IsTaken net m (port.Via b) who = IsSolution net.graph m who
 IsTaken net m (port.Part i) who = IsPartTold net m i who
+IsTaken net m _ who = IsSolution net.graph m who
 
 -- m may ask n on this port
 abbrev pub AskFits : List Credential → Net → ℕ → Port (List ℕ) → ℕ → Type 0

@@ -52,8 +52,7 @@ AreLetters nodes letters = All (λ l. IsLoad nodes l.1.load) letters
 -- the numbers in its letters are entities'
 abbrev pub IsStage : List Expr → NumberedStage → Type 0
 IsStage nodes (numbered_stage.Running c) = AreLetters nodes c.letters
-IsStage nodes numbered_stage.Spent = Unit {0}
-IsStage nodes numbered_stage.Broken = Unit {0}
+IsStage nodes _ = Unit {0}
 
 -- what was found while a node answers a letter, and what it sends
 abbrev pub progress_at : GraphState → List Monitor → List (ℕ × Load ℕ) → Progress

@@ -44,20 +44,17 @@ settled_of s = come_to s.stage s.graph s.query
 -- something of the search is outstanding
 abbrev pub IsOutstanding : Stage → Type 0
 IsOutstanding (stage.Running c) = outstanding c ≡ 0 → ⊥
-IsOutstanding stage.Spent = ⊥
-IsOutstanding stage.Broken = ⊥
+IsOutstanding _ = ⊥
 
 -- the search ran until nothing was outstanding
 abbrev pub IsCompleted : Stage → Type 0
 IsCompleted (stage.Running c) = outstanding c ≡ 0
-IsCompleted stage.Spent = ⊥
-IsCompleted stage.Broken = ⊥
+IsCompleted _ = ⊥
 
 -- where a search runs, its computation keeps the laws of a diffusing computation
 abbrev pub IsSoundStage : Stage → Type 0
 IsSoundStage (stage.Running c) = IsSound c
-IsSoundStage stage.Spent = Unit {0}
-IsSoundStage stage.Broken = Unit {0}
+IsSoundStage _ = Unit {0}
 
 -- the letter to the asked role waits, and nothing else was done
 pub record IsNew (s : SearchState) (query : Query) (work : ℕ) (snapshot : SnapshotState) : Type 0 where
@@ -87,21 +84,12 @@ pub record IsTallied (g : GraphState) (ms : List Monitor) (c : Computation Said)
   pub first : IsPendingStart (net_of g ms c) → c.sent ≡ 1
   pub counted : IsCounted (net_of g ms c) c.sent
 
-abbrev pub KeepsRules : SearchState → Type 0
-KeepsRules s = (c : Computation Said) → s.stage ≡ stage.Running c → KeptBy (rows_of s) (asked_role s.query) s.work s.graph s.monitors c
-
-abbrev pub KeepsCount : SearchState → Type 0
-KeepsCount s = (c : Computation Said) → s.stage ≡ stage.Running c → IsTallied s.graph s.monitors c
-
--- where a search is spent its work is greater than its limit
-abbrev pub KeepsLimit : SearchState → Type 0
-KeepsLimit s = s.stage ≡ stage.Spent → WorkExceeds (rows_of s) (asked_role s.query) s.work
-
--- what a search keeps
+-- what a search keeps; where it is spent, its work is greater than its limit
 pub record IsKept (s : SearchState) : Type 0 where
-  pub rules : KeepsRules s
-  pub count : KeepsCount s
-  pub limit : KeepsLimit s
+  pub rules : (c : Computation Said) → s.stage ≡ stage.Running c
+      → KeptBy (rows_of s) (asked_role s.query) s.work s.graph s.monitors c
+  pub count : (c : Computation Said) → s.stage ≡ stage.Running c → IsTallied s.graph s.monitors c
+  pub limit : s.stage ≡ stage.Spent → WorkExceeds (rows_of s) (asked_role s.query) s.work
 
 -- one question
 pub record SameQuestion (s t : SearchState) : Type 0 where

@@ -1,4 +1,4 @@
--- The steps of a search's computation.
+-- The steps of a search's computation, when nothing of it can be carried on, and which letters it holds.
 use Rattle.std.specs.Prelude.{ℕ, ◌+◌, ◌<◌, ◌≤◌, Bool, true, false, List, [], ◌≡◌, Option, Some, None, length, slice_get, if◌then◌else◌}
 use Rattle.scholten_core.specs.declared.parents.Parent.{Parent}
 use Rattle.scholten_core.specs.declared.letters.Letter.{Letter}
@@ -16,14 +16,12 @@ use Rattle.search.specs.declared.stages.Stage.TheVariants as stage
 -- the letters that wait, in order of number; a search that is spent or broken has none
 abbrev pub waiting_in : Stage → List (ℕ × Letter Said)
 waiting_in (stage.Running c) = waiting c
-waiting_in stage.Spent = []
-waiting_in stage.Broken = []
+waiting_in _ = []
 
 -- the signals under way, oldest first
 abbrev pub signals_in : Stage → List Parent
 signals_in (stage.Running c) = c.signals
-signals_in stage.Spent = []
-signals_in stage.Broken = []
+signals_in _ = []
 
 abbrev pub if_held : Option (Letter Said) → Option (Letter Said)
 if_held None = None
@@ -32,8 +30,7 @@ if_held (Some l) = if l.held then Some l else None
 -- the held letter of a number
 abbrev pub held_in : Stage → ℕ → Option (Letter Said)
 held_in (stage.Running c) number = if_held (letter_of c number)
-held_in stage.Spent number = None
-held_in stage.Broken number = None
+held_in _ number = None
 
 -- the letter in the hands of who finishes it
 abbrev pub letter_in : Held Said → Letter Said
@@ -51,8 +48,7 @@ pub record HoldsLetter (old : Stage) (number : ℕ) (h : Held Said) : Type 0 whe
 -- the same, with the letter of a number held or waiting
 abbrev pub stage_marked : ℕ → Bool → Stage → Stage
 stage_marked number held (stage.Running c) = stage.Running (marked c number held)
-stage_marked number held stage.Spent = stage.Spent
-stage_marked number held stage.Broken = stage.Broken
+stage_marked number held st = st
 
 -- the waiting letter at a place, which nobody held, is held from now on
 pub record Holds (old new : Stage) (place number : ℕ) (h : Held Said) : Type 0 where
@@ -73,8 +69,7 @@ Sends old new work number outs finished.Spent =
     (c : Computation Said) × (old ≡ stage.Running c) × (work < c.sent + length outs) × (new ≡ stage.Spent)
 Sends old new work number outs finished.Broken =
     (c : Computation Said) × (old ≡ stage.Running c) × (c.sent + length outs ≤ work) × (new ≡ stage.Broken)
-Sends old new work number outs finished.BadHint = ⊥
-Sends old new work number outs finished.NotHeld = ⊥
+Sends old new work number outs _ = ⊥
 
 -- the signal at a place is delivered, where there is one
 abbrev pub Delivers : Stage → Stage → ℕ → Bool → Type 0
@@ -82,3 +77,15 @@ Delivers old new place true =
     (c d : Computation Said) × (old ≡ stage.Running c) × (new ≡ stage.Running d)
     × (place < length c.signals) × DeliversSignal c place d
 Delivers old new place false = (length (signals_in old) ≤ place) × (new ≡ old)
+
+-- no letter waits and no signal is under way
+abbrev pub IsQuiet : Stage → Type 0
+IsQuiet st = (waiting_in st ≡ []) × (signals_in st ≡ [])
+
+-- no letter is held
+abbrev pub NoneHeld : Stage → Type 0
+NoneHeld st = (number : ℕ) → held_in st number ≡ None
+
+-- where a search still runs, it holds just the letters that it held
+abbrev pub HoldsAsBefore : Stage → Stage → Type 0
+HoldsAsBefore old new = (c : Computation Said) → new ≡ stage.Running c → (number : ℕ) → held_in new number ≡ held_in old number

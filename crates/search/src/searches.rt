@@ -14,7 +14,7 @@ ghost use Rattle.search.specs.Ending.{MaySettle, Nothing, Members};
 ghost use Rattle.search.specs.Found.{IsAnswered, status_of, found, come_to};
 ghost use Rattle.search.specs.Numbered.{IsLoad, IsStage, held_at, stage_at};
 ghost use Rattle.search.specs.Search.{IsSoundStage};
-ghost use Rattle.search.specs.Stage.{Sends};
+ghost use Rattle.search.specs.Stage.{Sends, IsQuiet, NoneHeld};
 
 use crate::findings::Findings;
 use crate::hints::{hint_is_right, needed};
@@ -95,7 +95,6 @@ impl Search {
     ghost use Rattle.search.specs.Stage.{HoldsLetter, letter_in, waiting_in, signals_in, held_in, stage_marked, Delivers};
     ghost use Rattle.search.specs.Need.{IsSpanFor};
     ghost use Rattle.search.specs.Finish.{Takes, TakesHeld, Receives, Finishes};
-    ghost use Rattle.search.specs.Quiet.{IsQuiet, NoneHeld};
 
     /// A search over the snapshot that may send so many letters, at least one. One letter, to the asked role, waits.
     pub fn open(

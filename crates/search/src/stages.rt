@@ -3,7 +3,7 @@ ghost use Rattle.std.specs.Prelude.{◌≡◌, ◌≤◌, ◌↔◌, false, List
 ghost use Rattle.scholten_core.specs.Computation.{Computation, IsHeld};
 ghost use Rattle.search.specs.Net.{Said};
 ghost use Rattle.search.specs.Stage.{waiting_in, signals_in, held_in, HoldsLetter, Holds, stage_marked, Sends, Delivers};
-ghost use Rattle.search.specs.Quiet.{IsQuiet, NoneHeld};
+ghost use Rattle.search.specs.Stage.{IsQuiet, NoneHeld};
 ghost use Rattle.search.specs.Search.{IsOutstanding};
 ghost use Rattle.credential_text.specs.declared.exprs.Expr.{Expr};
 ghost use Rattle.search.specs.Numbered.{AreLoads, IsLoad, IsStage, held_at, outs_at, stage_at};

@@ -2,7 +2,7 @@
 use Rattle.std.proofs.Common.{◌≡◌, ℕ, List, Option, Some, None, sym, refl, subst}
 use Rattle.quotas.specs.Quota.{Quota}
 use Rattle.vaults.specs.Journal.{view}
-use Rattle.search.specs.Quiet.{NoneHeld}
+use Rattle.search.specs.Stage.{NoneHeld}
 use Rattle.hall.specs.declared.calls.requests.Request.{Request}
 use Rattle.hall.specs.declared.calls.requests.Request.TheVariants.{Poll}
 use Rattle.hall.specs.declared.calls.replies.Reply.{Reply}

@@ -1,5 +1,5 @@
 use Rattle.std.proofs.Common.{ℕ, sym, subst}
-use Rattle.search.specs.Quiet.{IsQuiet}
+use Rattle.search.specs.Stage.{IsQuiet}
 use Rattle.hall.specs.Hall.{Running}
 use Rattle.hall.specs.Kept.{AreQuiet, IsNext}
 use Rattle.hall.proofs.Rounds.{first_left, later_left}

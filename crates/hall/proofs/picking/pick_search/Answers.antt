@@ -1,6 +1,6 @@
 use Rattle.std.proofs.Common.{ℕ, List, subst}
 use Rattle.std.specs.Option.{MatchOption}
-use Rattle.search.specs.Quiet.{IsQuiet}
+use Rattle.search.specs.Stage.{IsQuiet}
 use Rattle.hall.specs.declared.calls.steps.Step.{Step}
 use Rattle.hall.specs.Hall.{Running}
 use Rattle.hall.specs.Kept.{AreQuiet, IsNext, IsNextAmong}

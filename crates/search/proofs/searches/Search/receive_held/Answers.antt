@@ -8,8 +8,7 @@ use Rattle.search.specs.declared.letters.Held.{Held}
 use Rattle.search.specs.declared.stages.Stage.{Stage}
 use Rattle.search.specs.declared.stages.Stage.TheVariants as stage
 use Rattle.search.specs.Net.{sent_of}
-use Rattle.search.specs.Receipt.{Awaits}
-use Rattle.search.specs.Answers.{Progress, progress, Answers}
+use Rattle.search.specs.Answers.{Progress, progress, Answers, Awaits}
 use Rattle.search.specs.Stage.{HoldsLetter, Sends, letter_in}
 use Rattle.search.specs.Search.{SearchState, IsKept, asked_role}
 use Rattle.search.specs.Finish.{Receives}
