@@ -10,8 +10,7 @@ use Rattle.cred_graph.specs.declared.listeners.Listening.{Listening}
 use Rattle.cred_graph.specs.declared.listeners.KeptListening.{KeptListening}
 use Rattle.cred_graph.specs.declared.ports.KeptPort.{KeptPort}
 use Rattle.cred_graph.specs.declared.ports.KeptPort.TheVariants as kept
-use Rattle.cred_graph.specs.Interned.{IsOnce}
-use Rattle.cred_graph.specs.NodeLists.{list_at}
+use Rattle.cred_graph.specs.NodeLists.{IsOnce, list_at}
 use Rattle.cred_graph.specs.Numbers.{entity_at}
 use Rattle.cred_graph.specs.Kept.{kept_as, IsKept, Joins, listening_as}
 use Rattle.cred_graph.proofs.Growth.{one_place}

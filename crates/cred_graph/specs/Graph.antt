@@ -5,17 +5,17 @@ use Rattle.credential_text.specs.Expr.{HasPartsInRange}
 use Rattle.cred_graph.specs.declared.listeners.Listening.{Listening}
 use Rattle.cred_graph.specs.declared.solutions.Solution.{Solution}
 use Rattle.cred_graph.specs.GraphState.{GraphState, IsNode, Listens, IsSolution, listeners_of, listed_with, before}
+use Rattle.cred_graph.specs.NodeLists.{IsOnce}
 use Rattle.cred_graph.specs.Reason.{Fits}
 
 -- each expression and solution stands once, and so does each listener of a node; listeners are nodes of the graph; each
 -- solution's premises were found before it
 pub record IsGraph (g : GraphState) : Type 0 where
-  pub one_node : (m n : ℕ) (e : Expr) → IsNode g m e → IsNode g n e → m ≡ n
+  pub one_node : IsOnce g.nodes
   pub parts_in_range : (n : ℕ) (e : Expr) → IsNode g n e → HasPartsInRange e
   pub one_list_each : length g.listeners ≡ length g.nodes
   pub askers_in_range : (n : ℕ) (l : Listening) → Listens g n l → l.asker < length g.nodes
-  pub one_listening : (n i j : ℕ) (l : Listening) → slice_get (listeners_of g n) i ≡ Some l →
-      slice_get (listeners_of g n) j ≡ Some l → i ≡ j
+  pub one_listening : (n : ℕ) → IsOnce (listeners_of g n)
   pub one_solution : (i j : ℕ) (s t : Solution) → slice_get g.solutions i ≡ Some s → slice_get g.solutions j ≡ Some t →
       s.node ≡ t.node → s.who ≡ t.who → i ≡ j
   pub justified : (i : ℕ) (s : Solution) → slice_get g.solutions i ≡ Some s → Fits (before i g) s.node s.who s.reason

@@ -2,7 +2,6 @@ pub mod GraphState
 pub mod Reason
 pub mod Graph
 pub mod Numbers
-pub mod Interned
 pub mod NodeLists
 pub mod Kept
 pub mod Solved

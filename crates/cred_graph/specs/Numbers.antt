@@ -1,15 +1,11 @@
 -- Entities, ports and reasons by number: an entity's number is that of its node.
-use Rattle.std.specs.Prelude.{ℕ, List, [], Option, Some, ◌≡◌, ◌≤◌, ◌<◌, ◌^◌, Contains, length, slice_get}
+use Rattle.std.specs.Prelude.{ℕ, List, [], Option, Some, ◌≡◌, ◌<◌, Contains, length, slice_get}
 use Rattle.credential_text.specs.declared.exprs.Expr.{Expr}
 use Rattle.credential_text.specs.declared.exprs.Expr.TheVariants.{Ent}
 use Rattle.cred_graph.specs.declared.listeners.Port.{Port}
 use Rattle.cred_graph.specs.declared.listeners.Port.TheVariants as port
 use Rattle.cred_graph.specs.declared.solutions.Reason.{Reason}
 use Rattle.cred_graph.specs.declared.solutions.Reason.TheVariants as reason
-
--- each node's number has 32 bits
-abbrev pub AreShort : List Expr → Type 0
-AreShort nodes = length nodes ≤ 2 ^ 32
 
 -- the number is that of an entity's node
 abbrev pub IsEntity : List Expr → ℕ → Type 0

@@ -6,9 +6,8 @@ use Rattle.cred_graph.specs.declared.solutions.Solved.{Solved}
 use Rattle.cred_graph.specs.declared.solutions.Reason.{Reason}
 use Rattle.cred_graph.specs.GraphState.{GraphState}
 use Rattle.cred_graph.specs.Graph.{IsGraph}
-use Rattle.cred_graph.specs.Interned.{IsOnce}
 use Rattle.cred_graph.specs.Numbers.{IsEntity, IsReason}
-use Rattle.cred_graph.specs.NodeLists.{list_at}
+use Rattle.cred_graph.specs.NodeLists.{IsOnce, list_at}
 use Rattle.cred_graph.specs.Kept.{IsKept, lists_from}
 use Rattle.cred_graph.specs.Solved.{solution_as}
 

@@ -15,13 +15,13 @@ pub struct Interned {
 
 impl Model for Interned {
     ghost use Rattle.std.specs.Prelude.{ℕ, List};
-    ghost use Rattle.cred_graph.specs.Interned.{AreInterned};
+    ghost use Rattle.cred_graph.specs.NodeLists.{AreShort};
 
     ghost Value = { List (List ℕ) };
 
     ghost view = { λ n. n.names.keys };
 
-    ghost invariant = { λ n. AreInterned n.names.keys };
+    ghost invariant = { λ n. AreShort n.names.keys };
 }
 
 impl Interned {

@@ -19,7 +19,7 @@ pub struct Nodes {
 impl Model for Nodes {
     ghost use Rattle.std.specs.Prelude.{List};
     ghost use Rattle.credential_text.specs.declared.exprs.Expr.{Expr};
-    ghost use Rattle.cred_graph.specs.Numbers.{AreShort};
+    ghost use Rattle.cred_graph.specs.NodeLists.{AreShort};
 
     ghost Value = { List Expr };
 

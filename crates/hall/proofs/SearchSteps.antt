@@ -9,6 +9,7 @@ use Rattle.search.specs.declared.outcomes.Finished.TheVariants as finished
 use Rattle.scholten_core.specs.Computation.{outstanding}
 use Rattle.scholten_core.specs.Step.{started}
 use Rattle.credential_text.specs.declared.exprs.Expr.TheVariants.{Rol}
+use Rattle.search.specs.declared.letters.Load.{Load}
 use Rattle.search.specs.declared.letters.Load.TheVariants as load
 use Rattle.search.specs.declared.stages.Stage.{Stage}
 use Rattle.search.specs.Ending.{Settled, Nothing, MaySettle, asked_role}
@@ -59,14 +60,17 @@ made_keeps old new (step.Signal name k place) answer (delivered, signals, is) = 
 pub step_goes_on : (old new : SearchState) (made : Step) (answer : Stepped) → StepsSearch old made answer new → SearchGoesOn old new
 step_goes_on old new made answer steps = record { question = made_keeps old new made answer steps.is_made; settles = steps.settles }
 
--- the first letter is outstanding
-first_waits : outstanding (started 0 load.Start) ≡ 0 → ⊥
+-- what the first letter says, which is outstanding
+abbrev first_load : Load (List ℕ)
+first_load = load.Start
+
+first_waits : outstanding (started 0 first_load) ≡ 0 → ⊥
 first_waits none = omega (arith, none)
 
 -- a search just opened has come to nothing
 pub nothing_yet : (asker : List ℕ) (v : List Vault) (q : Query) (work : ℕ) → settled_of (just_opened asker v q work) ≡ Nothing
 unfolding settled_of just_opened
-nothing_yet asker v q work = ap (λ (b : Bool). cond b (come q) Nothing) (ne_eqb (outstanding (started 0 load.Start)) 0 first_waits)
+nothing_yet asker v q work = ap (λ (b : Bool). cond b (come q) Nothing) (ne_eqb (outstanding (started 0 first_load)) 0 first_waits)
   where
     come : Query → Settled
     come q = found (record { nodes = Rol (asked_role q) ∷ []; listeners = [] ∷ []; solutions = [] }) q

@@ -1,6 +1,9 @@
 -- Among so many parts, all are told where as many are told as there are parts.
-use Rattle.std.proofs.Common.{◌≡◌, ℕ, suc, zero, ◌+◌, ◌<◌, ◌≤◌, ◌↔◌, Bool, true, false, List, [], ◌∷◌, length, refl, sym, arith, get_or, set, true≢false}
-use Rattle.monitors.specs.Counting.{how_many}
+use Rattle.std.proofs.Common.{◌≡◌, ℕ, suc, zero, ◌+◌, ◌<◌, ◌≤◌, ◌↔◌, Bool, true, false, List, [], ◌∷◌, filter, length, refl, sym, arith, get_or, set, true≢false}
+
+-- how many of these are true
+abbrev pub how_many : List Bool → ℕ
+how_many told = length (filter (λ b. b) told)
 
 -- no more are told than the parts
 pub how_many-le : (told : List Bool) (parts : ℕ) → ((part : ℕ) → parts ≤ part → get_or told part false ≡ false) → how_many told ≤ parts

@@ -1,5 +1,4 @@
-ghost use Rattle.std.specs.Prelude.{◌≡◌, ◌<◌, false, true, length, slice_index_or, slice_set, replicate};
-ghost use Rattle.monitors.specs.Counting.{how_many};
+ghost use Rattle.std.specs.Prelude.{◌≡◌, ◌<◌, false, true, filter, length, slice_index_or, slice_set, replicate};
 
 /// Which of up to 8 parts of an intersection told an entity, and how many did. Parts are counted from 0.
 #[derive(Clone, Copy)]
@@ -7,7 +6,7 @@ pub struct Tellers {
     told: [bool; 8],
     count: u8,
     ghost eight: { length told ≡ 8 },
-    ghost counted: { count ≡ how_many told },
+    ghost counted: { count ≡ length (filter (λ b. b) told) },
 }
 
 impl Tellers {

@@ -3,7 +3,7 @@ use Rattle.std.specs.Prelude.{ℕ, ◌+◌, ◌==◌, Bool, false, not, List, []
 use Rattle.std.specs.Prelude.{map, remove, slice_get, if◌then◌else◌}
 use Rattle.std.specs.FinMap as fin
 use Rattle.scholten_core.specs.declared.parents.Parent.{Parent}
-use Rattle.scholten_core.specs.declared.parents.Parent.TheVariants.{Neutral, Environment, Node}
+use Rattle.scholten_core.specs.declared.parents.Parent.TheVariants.{Environment, Node}
 use Rattle.scholten_core.specs.declared.letters.Letter.{Letter}
 use Rattle.scholten_core.specs.Computation.{Computation, deficit, is_engaged, letter_of}
 

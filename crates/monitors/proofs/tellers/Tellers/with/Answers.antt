@@ -1,7 +1,6 @@
 use Rattle.std.proofs.Common.{◌+◌, ◌≤◌, ◌∙◌, sym, ap, arith, false, length-set}
 use Rattle.std.proofs.lemmas.List.{get_or_past}
-use Rattle.monitors.specs.Counting.{how_many}
-use Rattle.monitors.proofs.CountLemmas.{how_many-le, how_many-set}
+use Rattle.monitors.proofs.CountLemmas.{how_many, how_many-le, how_many-set}
 use Rattle.monitors.proofs.tellers.Tellers.with.Goals as goal
 
 pub overflow_add-result : goal.overflow_add-result
