@@ -4,7 +4,7 @@ use Rattle.credential_text.specs.declared.exprs.Expr.TheVariants.{Rol}
 use Rattle.vaults.specs.Journal.{Vault}
 use Rattle.scholten_core.specs.declared.letters.Letter.{Letter}
 use Rattle.scholten_core.specs.Step.{started}
-use Rattle.search.specs.declared.letters.Load.{Load}
+use Rattle.search.specs.Net.{Said}
 use Rattle.search.specs.declared.letters.Load.TheVariants as load
 use Rattle.search.specs.declared.findings.Monitor.TheVariants as monitor
 use Rattle.search.specs.declared.queries.Query.{Query}
@@ -43,7 +43,7 @@ TakesAt old place (Some got) new = Takes old new place got.0 got.1
 abbrev pub PutsBack : SearchState → ℕ → Bool → SearchState → Type 0
 PutsBack old letter false new = (held_in old.stage letter ≡ None) × (new ≡ old)
 PutsBack old letter true new =
-    ((l : Letter (Load (List ℕ))) × (held_in old.stage letter ≡ Some l)) × (new ≡ record old { stage = stage_marked letter false old.stage })
+    ((l : Letter Said) × (held_in old.stage letter ≡ Some l)) × (new ≡ record old { stage = stage_marked letter false old.stage })
 
 -- the signal at a place is delivered, where there is one
 pub record Signals (old : SearchState) (place : ℕ) (delivered : Bool) (new : SearchState) : Type 0 where

@@ -134,7 +134,8 @@ OpenedPaid rows net m (Meet parts) = (i : ℕ) (p : Part) → slice_get parts i 
 
 -- the same by expressions: one listens to another, one is open, and a letter between two is under way
 abbrev pub ListensFor : Net → Expr → Why → Expr → Type 0
-ListensFor net e why f = (m n : ℕ) × (p : Port (List ℕ)) × IsNode net.graph m e × IsNode net.graph n f × (why_of p ≡ why) × HasListener net n m p
+ListensFor net e why f =
+    (m n : ℕ) × (p : Port (List ℕ)) × IsNode net.graph m e × IsNode net.graph n f × (why_of p ≡ why) × HasListener net n m p
 
 abbrev pub IsOpenExpr : Net → Expr → Type 0
 IsOpenExpr net e = (n : ℕ) × IsNode net.graph n e × IsOpen net n
