@@ -6,7 +6,7 @@ ghost use Rattle.credential_text.specs.Spelling.{canonical};
 ghost use Rattle.hall.specs.declared.calls.replies.Reply.TheVariants as reply;
 ghost use Rattle.service.specs.Refusal.{text_of, refusal_number};
 ghost use Rattle.service.specs.Reply.{front_of, line_after, error_text, listed, seen_text, seen_listed};
-ghost use Rattle.service.specs.Reply.{text_lines, lines_after, IsFilled};
+ghost use Rattle.service.specs.Reply.{answer_text, text_lines, lines_after, IsLong, IsFilled};
 ghost use Rattle.service.specs.Session.{bye, hello_to};
 ghost use Rattle.service.specs.SessionReply.{IsToldBy};
 
@@ -34,26 +34,29 @@ pub(crate) fn fill_refusal(room: &mut Room, who: &Speaker, refusal: Refusal)
 pub(crate) fn fill_reply(room: &mut Room, who: &Speaker, reply: &Reply)
     ensures { IsFilled (front_of who.now) reply.now room.new }
 {
+    match write_reply(room, who, reply) {
+        Ok(()) => {}
+        Err(_lacking) => fill_error(room, who, Fault::Memory.number()),
+    }
+}
+
+/// Fills the room with the lines of a reply. Memory may lack for a long one.
+fn write_reply(room: &mut Room, who: &Speaker, reply: &Reply) -> Result<(), AllocError>
+    ensures whole { OnOk result (room.new ≡ lines_after (front_of who.now) reply.now) }
+    ensures lacking { OnErr result (IsLong reply.now) }
+{
     match reply {
         Reply::Counted(count) => fill_counted(room, who, b"ok ", *count),
         Reply::Opened(number) => fill_counted(room, who, b"search ", *number),
-        Reply::Answered(answer) => fill_answer(room, who, answer),
+        Reply::Answered(answer) => write_answer(room, who, answer)?,
         Reply::Closed => fill_text(room, who, b"ended"),
-        Reply::Vault(rows) => {
-            let written = write_vault(room, who, rows.as_slice());
-            or_lacking(room, who, written);
-        }
-        Reply::Sees(seen) => {
-            let written = write_sees(room, who, seen.as_slice());
-            or_lacking(room, who, written);
-        }
-        Reply::Proof(proof) => {
-            let written = write_steps(room, who, proof);
-            or_lacking(room, who, written);
-        }
+        Reply::Vault(rows) => write_vault(room, who, rows.as_slice())?,
+        Reply::Sees(seen) => write_sees(room, who, seen.as_slice())?,
+        Reply::Proof(proof) => write_steps(room, who, proof)?,
         Reply::Refused(fault) => fill_error(room, who, fault.number()),
         Reply::Stepped(_outcome) => room.clear(),
     }
+    Ok(())
 }
 
 /// Fills the room with the line that ends a session. It takes no memory.
@@ -84,21 +87,20 @@ pub(crate) fn fill_told(room: &mut Room, told: &Result<Reply, DeskFault>)
     }
 }
 
-/// What a search has come to.
-fn fill_answer(room: &mut Room, who: &Speaker, answer: &Answer)
-    ensures { IsFilled (front_of who.now) (reply.Answered answer.now) room.new }
+/// What a search has come to. Memory may lack for a list of members.
+fn write_answer(room: &mut Room, who: &Speaker, answer: &Answer) -> Result<(), AllocError>
+    ensures whole { OnOk result (room.new ≡ line_after (front_of who.now) (answer_text answer.now)) }
+    ensures lacking { OnErr result (IsLong (reply.Answered answer.now)) }
 {
     match answer {
         Answer::Working => fill_text(room, who, b"working"),
         Answer::Yes => fill_text(room, who, b"yes"),
         Answer::No => fill_text(room, who, b"no"),
-        Answer::Members(names) => {
-            let written = write_members(room, who, names.as_slice());
-            or_lacking(room, who, written);
-        }
+        Answer::Members(names) => write_members(room, who, names.as_slice())?,
         Answer::Spent => fill_text(room, who, b"spent"),
         Answer::Broken => fill_text(room, who, b"broken"),
     }
+    Ok(())
 }
 
 /// A word.
@@ -140,17 +142,6 @@ fn text_after(number: u64) -> &'static str
     ensures short { length result.now ≤ 19 }
 {
     fault_text(number).unwrap_or("")
-}
-
-/// Where memory lacked for what was to be written, says so in its place.
-fn or_lacking(room: &mut Room, who: &Speaker, written: Result<(), AllocError>)
-    ensures whole { OnOk written (room.new ≡ room.old) }
-    ensures lacking { OnErr written (room.new ≡ line_after (front_of who.now) (error_text 90)) }
-{
-    match written {
-        Ok(()) => {}
-        Err(_fault) => fill_error(room, who, Fault::Memory.number()),
-    }
 }
 
 /// How many steps there are, and a line for each.
