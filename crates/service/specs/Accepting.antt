@@ -1,14 +1,18 @@
 -- What the error of a failed accept says of the next one.
-use Rattle.std.specs.Prelude.{◌≡◌, ◌⊎◌, Some, pos}
+use Rattle.std.specs.Prelude.{◌≡◌, ◌⊎◌, ℤ, Option, Some, pos}
 use Rattle.std.specs.IoError.{error_kind, raw_os_error}
 use Rattle.std.specs.declared.io.Error.{Error}
+use Rattle.std.specs.declared.io.ErrorKind.{ErrorKind}
 use Rattle.std.specs.declared.io.ErrorKind.TheVariants.{InvalidInput, Unsupported, WouldBlock}
 
--- The listener itself is at fault: it isn't listening, no connections can be had of it, or it doesn't wait for them; or its
--- descriptor isn't open, or no socket, which the system tells by these numbers alone.
+-- it isn't listening, no connections can be had of it, or it doesn't wait for them
+abbrev pub IsLastingKind : ErrorKind → Type 0
+IsLastingKind kind = (kind ≡ InvalidInput) ⊎ (kind ≡ Unsupported) ⊎ (kind ≡ WouldBlock)
+
+-- its descriptor isn't open, or no socket, which the system tells by these numbers alone
+abbrev pub IsLastingNumber : Option ℤ → Type 0
+IsLastingNumber number = (number ≡ Some (pos 9)) ⊎ (number ≡ Some (pos 88))
+
+-- the listener itself is at fault
 abbrev pub IsLasting : Error → Type 0
-IsLasting e = (error_kind e ≡ InvalidInput)
-    ⊎ (error_kind e ≡ Unsupported)
-    ⊎ (error_kind e ≡ WouldBlock)
-    ⊎ (raw_os_error e ≡ Some (pos 9))
-    ⊎ (raw_os_error e ≡ Some (pos 88))
+IsLasting e = IsLastingKind (error_kind e) ⊎ IsLastingNumber (raw_os_error e)

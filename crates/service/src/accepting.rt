@@ -1,7 +1,7 @@
 //! How connections are accepted: one after another, also after an accept that failed.
 ghost use Rattle.std.specs.Prelude.{◌≡◌, ◌*◌, ◌↔◌, min, IsTrue, IfErr};
 ghost use Rattle.service.specs.declared.serve_faults.ServeFault.TheVariants as fault;
-ghost use Rattle.service.specs.Accepting.{IsLasting};
+ghost use Rattle.service.specs.Accepting.{IsLasting, IsLastingKind, IsLastingNumber};
 
 use crate::serve_faults::ServeFault;
 use std::io::{Error, ErrorKind};
@@ -53,10 +53,23 @@ fn next_pause(pause: u64) -> u64
 fn is_lasting(error: &Error) -> bool
     ensures { IsTrue result ↔ IsLasting error.now }
 {
-    match error.kind() {
-        ErrorKind::InvalidInput | ErrorKind::Unsupported | ErrorKind::WouldBlock => true,
-        _ => matches!(error.raw_os_error(), Some(NOT_OPEN | NO_SOCKET)),
-    }
+    is_lasting_kind(error.kind()) || is_lasting_number(error.raw_os_error())
+}
+
+/// Whether it isn't listening, no connections can be had of it, or it doesn't wait for them.
+fn is_lasting_kind(kind: ErrorKind) -> bool
+    ensures { IsTrue result ↔ IsLastingKind kind }
+{
+    kind == ErrorKind::InvalidInput
+        || kind == ErrorKind::Unsupported
+        || kind == ErrorKind::WouldBlock
+}
+
+/// Whether its descriptor isn't open, or no socket.
+fn is_lasting_number(number: Option<i32>) -> bool
+    ensures { IsTrue result ↔ IsLastingNumber number }
+{
+    number == Some(NOT_OPEN) || number == Some(NO_SOCKET)
 }
 
 #[cfg(test)]
