@@ -1,11 +1,7 @@
 -- Lemmas on what a tenant said.
-use Rattle.std.proofs.Common.{◌≡◌, ℕ, List, ◌++◌, codes, refl, sym, Result, Ok, Err}
-use Rattle.std.specs.Prelude.{MatchResult, IsOkAnd}
-use Rattle.hall.specs.declared.faults.Fault.{Fault}
-use Rattle.hall.specs.declared.calls.answers.Answer.{Answer}
+use Rattle.std.proofs.Common.{◌≡◌, ℕ, List, ◌++◌, codes, refl, sym, Ok, Err}
 use Rattle.hall.specs.declared.calls.replies.Reply.{Reply}
-use Rattle.hall.specs.declared.calls.replies.Reply.TheVariants.{Answered, Refused}
-use Rattle.hall.specs.Hall.{HallState, CarriesOut, told_as}
+use Rattle.hall.specs.Hall.{HallState, CarriesOut}
 use Rattle.service.specs.declared.commands.Command.{Command}
 use Rattle.service.specs.declared.refusals.Refusal.{Refusal}
 use Rattle.service.specs.Command.{Form, Reads}
@@ -14,17 +10,6 @@ use Rattle.service.specs.Refusal.{refusal_number}
 use Rattle.service.specs.Reply.{line_after, error_text, IsFilled}
 use Rattle.service.specs.Turn.{Says}
 use Rattle.service.proofs.PrintedLemmas.{printed_done}
-
--- what a call came to is told
-pub told_through : (came : Result Reply Fault) (told : Reply) → MatchResult came (λ r. told ≡ r) (λ f. told ≡ Refused f) → told_as (λ r. r) came ≡ told
-told_through (Ok r) told is = sym is
-told_through (Err f) told is = sym is
-
-pub told_answered : (came : Result Answer Fault) (told : Result Reply Fault) → MatchResult came (λ a. IsOkAnd told (λ r. r ≡ Answered a)) (λ f. told ≡ Err f) →
-    told_as Answered came ≡ told_as (λ r. r) told
-told_answered (Ok a) (Ok r) is = sym is
-told_answered (Ok a) (Err f) is = absurd is
-told_answered (Err f) told is = rw is refl
 
 -- a command that was read and carried out
 pub Says-served : (old new : HallState) (who : List ℕ) (form : Form) (command : Command) (told : Reply) (bytes : List ℕ) → Reads form (Ok command) →

@@ -59,9 +59,14 @@ fn answer_tenant(alloc: Global, who: Entity, said: &[u8], hall: &mut Hall, reply
 fn carry_out(hall: &mut Hall, who: Entity, command: Command) -> Reply
     ensures { CarriesOut hall.old who (deed_of command) result hall.new }
 {
-    let told = match command {
-        Command::Request(request) => hall.ask(who, request),
-        Command::Wait(number) => hall.drive(who, number).map(Reply::Answered),
-    };
-    told.unwrap_or_else(Reply::Refused)
+    match command {
+        Command::Request(request) => match hall.ask(who, request) {
+            Ok(reply) => reply,
+            Err(fault) => Reply::Refused(fault),
+        },
+        Command::Wait(number) => match hall.drive(who, number) {
+            Ok(answer) => Reply::Answered(answer),
+            Err(fault) => Reply::Refused(fault),
+        },
+    }
 }
