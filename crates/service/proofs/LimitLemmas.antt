@@ -1,20 +1,8 @@
 -- Lemmas on the limits of a roster's line.
-use Rattle.std.proofs.Common.{◌≡◌, ℕ, List, [], ◌∷◌, map, Option, Some, refl, sym, ap, ◌∙◌, inl, inr}
+use Rattle.std.proofs.Common.{◌≡◌, ℕ, List, [], ◌∷◌, map, Option, Some, sym, ap, ◌∙◌, inl, inr}
 use Rattle.quotas.specs.Quota.{Quota, usual_quota}
 use Rattle.service.specs.Words.{number_of}
 use Rattle.service.specs.Roster.{numbers_of, IsLimits}
-use Rattle.service.specs.RosterReading.{BeginsWith}
-
--- words that are numbers begin with the first of them
-pub numbers_begin : (ws : List (List ℕ)) (n : ℕ) (more : List (Option ℕ)) → map number_of ws ≡ Some n ∷ more → (rest : List (List ℕ)) × BeginsWith ws n rest
-numbers_begin [] n more all = absurd (cc)
-numbers_begin (w ∷ ws) n more all = let is : number_of w ≡ Some n = cc in (ws, record { word = w; are = refl; is = is })
-
--- and the others stand after it
-pub numbers_after : (ws rest : List (List ℕ)) (m n : ℕ) (more : List (Option ℕ)) → BeginsWith ws m rest → map number_of ws ≡ Some n ∷ more → (n ≡ m) × (map number_of rest ≡ more)
-numbers_after ws rest m n more begins all =
-    let there : number_of begins.word ∷ map number_of rest ≡ Some n ∷ more = sym (ap (map number_of) begins.are) ∙ all in
-    let first = begins.is in (cc, cc)
 
 -- the limits of six numbers
 abbrev quota_of : List (Option ℕ) → Quota

@@ -1,5 +1,5 @@
 -- How a roster is read.
-use Rattle.std.specs.Prelude.{◌≡◌, ◌⊎◌, ⊤, ℕ, ◌≤◌, List, [], ◌∷◌, ◌++◌, length, true, false, Some, Result, Ok, Err}
+use Rattle.std.specs.Prelude.{◌≡◌, ◌⊎◌, ⊤, ℕ, ◌≤◌, List, [], ◌∷◌, ◌++◌, length, true, false, Result, Ok, Err}
 use Rattle.std.specs.List.{list_all, list_any}
 use Rattle.names.specs.Name.{is_same}
 use Rattle.service.specs.declared.script_faults.ScriptFault.{ScriptFault}
@@ -8,14 +8,8 @@ use Rattle.service.specs.declared.roster_lines.RosterLine.{RosterLine}
 use Rattle.service.specs.declared.roster_lines.RosterLine.TheVariants.{Blank, Tenant, Begin}
 use Rattle.service.specs.Line.{Line, text, commands_of}
 use Rattle.service.specs.LineReader.{Source, known, TakesFirst, TakesBlank}
-use Rattle.service.specs.Words.{is_space, number_of}
+use Rattle.service.specs.Words.{is_space}
 use Rattle.service.specs.Roster.{Row, IsRow, IsRowLine, IsBeginLine, HasRoster, HasNoRoster}
-
--- the first word is this number, and these words follow it
-pub record BeginsWith (ws : List (List ℕ)) (n : ℕ) (rest : List (List ℕ)) : Type 0 where
-  pub word : List ℕ
-  pub are : ws ≡ word ∷ rest
-  pub is : number_of word ≡ Some n
 
 -- the row that words are, unless memory lacked
 abbrev pub ReadsRow : List (List ℕ) → Result Row ScriptFault → Type 0

@@ -1,9 +1,9 @@
 //! The lines of a roster.
-ghost use Rattle.std.specs.Prelude.{◌≡◌, ℕ, List, IfSome, IfNone};
+ghost use Rattle.std.specs.Prelude.{◌≡◌, ◌∷◌, None, Some, map, get_or, IfSome, IfNone};
 ghost use Rattle.quotas.specs.Quota.{Quota};
-ghost use Rattle.service.specs.Words.{words};
+ghost use Rattle.service.specs.Words.{words, number_of};
 ghost use Rattle.service.specs.Roster.{AreLimits, IsLimits};
-ghost use Rattle.service.specs.RosterReading.{BeginsWith, ReadsRow, ReadsBegin, IsTakenFor};
+ghost use Rattle.service.specs.RosterReading.{ReadsRow, ReadsBegin, IsTakenFor};
 
 use crate::script_faults::ScriptFault;
 use crate::words::{next_word, number};
@@ -124,8 +124,8 @@ fn given_limits(text: &[u8]) -> Option<Limits>
 
 /// The number that the text begins with, and what stands after it.
 fn next_number(text: &[u8]) -> Option<(u64, &[u8])>
-    ensures some { IfSome result (λ parts. BeginsWith (words text.now) parts.0 (words parts.1.now)) }
-    ensures none { IfNone result ((n : ℕ) (rest : List (List ℕ)) → BeginsWith (words text.now) n rest → ⊥) }
+    ensures some { IfSome result (λ parts. map number_of (words text.now) ≡ Some parts.0 ∷ map number_of (words parts.1.now)) }
+    ensures none { IfNone result (get_or (map number_of (words text.now)) 0 None ≡ None) }
 {
     let (word, rest) = next_word(text)?;
     let n = number(word)?;
