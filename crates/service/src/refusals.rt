@@ -6,7 +6,7 @@ use credential_text::CredFault;
 use names::NameFault;
 
 /// Why the text of a line or a command is refused.
-#[derive(Clone, Copy, Debug, PartialEq, Eq)]
+#[derive(Clone, Copy)]
 pub(crate) enum Refusal {
     /// An argument is no name, or no role.
     Name(NameFault),

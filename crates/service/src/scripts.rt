@@ -2,6 +2,7 @@
 ghost use Rattle.std.specs.Prelude.{◌≡◌, IfSome};
 ghost use Rattle.std.specs.Io.KnownBytes.{Appends};
 ghost use Rattle.service.specs.Line.{commands_of};
+ghost use Rattle.service.specs.LineReader.{IfKnown};
 ghost use Rattle.service.specs.Turn.{script_result};
 ghost use Rattle.service.specs.Written.{ScriptWrote};
 
@@ -46,11 +47,23 @@ pub fn run_script<R: Read + Drop, W: Write>(
 {
     let mut reply = Room::make(alloc)?;
     let mut lines = LineReader::make(alloc, reader)?;
-    let roster = take_roster(alloc, &mut lines, writer)?;
+    run_lines(alloc, &mut lines, &mut reply, writer)
+}
+
+/// Runs a script of these lines.
+fn run_lines<R: Read + Drop, W: Write>(
+    alloc: Global,
+    lines: &mut LineReader<R>,
+    reply: &mut Room,
+    writer: &mut W,
+) -> Result<(), ScriptFault>
+    ensures { IfKnown lines.old (λ commands. ScriptWrote commands result (Appends (W.contents writer.old) (W.contents writer.new))) }
+{
+    let roster = take_roster(alloc, lines, writer)?;
     let Ok(mut hall) = roster.hall(alloc) else {
         return Err(ScriptFault::Memory);
     };
-    ended(converse(&mut hall, &mut lines, &mut reply, writer))
+    ended(converse(&mut hall, lines, reply, writer))
 }
 
 /// How a script ended, by the end of its conversation.

@@ -1,27 +1,6 @@
--- The roster, and then its commands, or what answers a fault of the roster.
-use Rattle.std.proofs.Common.{List, ℕ, Err}
-use Rattle.std.specs.Io.KnownBytes.{Appends}
-use Rattle.std.proofs.lemmas.Result.{err_from_is_err_and}
-use Rattle.service.specs.Turn.{script_result}
-use Rattle.service.proofs.ScriptLemmas.{ScriptWrote-after_roster, ScriptWrote-fault, ScriptWrote-known}
+-- What the script of the reader's lines wrote.
+use Rattle.service.proofs.ScriptLemmas.{ScriptWrote-known}
 use Rattle.service.proofs.scripts.run_script.Goals as goal
 
-pub returns-in_err-roster : goal.returns-in_err-roster
-returns-in_err-roster g c =
-    let failed = c.from_residual-in_err-roster in
-    let why = c.in_err-roster.field-0.0 in
-    let p = err_from_is_err_and failed.result failed.ensures.1 in
-    let out : List ℕ → Type 0 = Appends (g.W.Write.contents c.args.writer.now) (g.W.Write.contents c.take_roster.new.writer) in
-    rw (p.1, p.2)
-    (ScriptWrote-known (g.R.Read.remaining c.args.reader) c.in_ok-lines.lines (Err why) out c.in_ok-lines.ensures.source
-    (ScriptWrote-fault c.in_ok-lines.lines why out c.in_err-roster.ensures.roster))
-
 pub returns : goal.returns
-returns g c =
-    let source = c.in_ok-lines.lines in
-    let how = c.converse.result in
-    let out : List ℕ → Type 0 = Appends (g.W.Write.contents c.args.writer.now) (g.W.Write.contents c.converse.new.writer) in
-    let wrote = rw (c.in_ok-roster.ensures.silent, c.in-Ok.ensures.hall) at c.converse.ensures in
-    rw c.ended.ensures
-    (ScriptWrote-known (g.R.Read.remaining c.args.reader) source (script_result how) out c.in_ok-lines.ensures.source
-    (ScriptWrote-after_roster source c.take_roster.new.lines c.in_ok-roster.roster how out c.in_ok-roster.ensures.roster wrote))
+returns g c = ScriptWrote-known (g.R.Read.remaining c.args.reader) c.in_ok-lines.lines c.run_lines.result _ c.in_ok-lines.ensures.source c.run_lines.ensures
