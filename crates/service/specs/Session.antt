@@ -24,10 +24,16 @@ bye = session_line (codes "bye")
 abbrev pub hello_to : List ℕ → List ℕ
 hello_to name = session_line (codes "hello " ++ name)
 
+-- the pass is a tenant's own, who said its word
+pub record IsLetIn (rows : List Row) (name word : List ℕ) (pass : PassState) : Type 0 where
+  pub known : IsTenant rows name word
+  pub own : pass.tenant ≡ name
+  pub share : pass.share ≡ 0
+  pub admitted : IsAdmitted pass
+
 -- A tenant with its word is let in by a pass of its own, unless memory lacks for that. Any other hello has the one answer.
 pub data IsGreeted (rows : List Row) (name word reply : List ℕ) (after : Phase) : Type 0 where
-  let_in : (pass : PassState) → IsTenant rows name word → pass.tenant ≡ name → pass.share ≡ 0 → IsAdmitted pass →
-      reply ≡ hello_to name → after ≡ of_tenant pass → IsGreeted rows name word reply after
+  let_in : (pass : PassState) → IsLetIn rows name word pass → reply ≡ hello_to name → after ≡ of_tenant pass → IsGreeted rows name word reply after
   turned_away : (IsTenant rows name word → ⊥) → reply ≡ session_refusal 62 → after ≡ new → IsGreeted rows name word reply after
   lacks_memory : IsTenant rows name word → reply ≡ session_refusal 90 → after ≡ new → IsGreeted rows name word reply after
 

@@ -63,8 +63,7 @@ fn write_reply(room: &mut Room, who: &Speaker, reply: &Reply) -> Result<(), Allo
 pub(crate) fn fill_bye(room: &mut Room)
     ensures { room.new ≡ bye }
 {
-    room.begin(&Speaker::Peer);
-    room.append(b"bye\n");
+    fill_text(room, &Speaker::Peer, b"bye");
 }
 
 /// Fills the room with the line that lets a tenant in. It takes no memory.

@@ -1,11 +1,10 @@
 //! What a session's line is answered.
 ghost use Rattle.std.specs.Prelude.{◌≡◌, ◌⊎◌, IfOk, IfErr, None, Some};
-ghost use Rattle.pool.specs.Served.{IsAdmitted};
 ghost use Rattle.service.specs.declared.refusals.Refusal.TheVariants as refusal;
 ghost use Rattle.service.specs.Command.{form_of};
 ghost use Rattle.service.specs.Line.{text};
 ghost use Rattle.service.specs.Roster.{IsTenant, names_of};
-ghost use Rattle.service.specs.Session.{IsGreeted, IsAnswer, IsLater, of_tenant, phase_of};
+ghost use Rattle.service.specs.Session.{IsLetIn, IsGreeted, IsAnswer, IsLater, of_tenant, phase_of};
 ghost use Rattle.service.specs.SessionReply.{IsTold};
 ghost use Rattle.service.specs.Talk.{talk_of};
 
@@ -100,10 +99,7 @@ fn admit<L: Ledger, R: Wait>(
     word: &[u8],
 ) -> Result<Pass<L>, Refusal>
     requires tenants { host.now.desk.now ≡ names_of host.now.roster.now }
-    ensures tenant { IfOk result (λ pass. pass.tenant ≡ name.now) }
-    ensures share { IfOk result (λ pass. pass.share ≡ 0) }
-    ensures admitted { IfOk result IsAdmitted }
-    ensures known { IfOk result (λ pass. IsTenant host.now.roster.now name.now word.now) }
+    ensures let_in { IfOk result (λ pass. IsLetIn host.now.roster.now name.now word.now pass) }
     ensures refused { IfErr result (λ why. ((why ≡ refusal.BadHello) × (IsTenant host.now.roster.now name.now word.now → ⊥))
         ⊎ ((why ≡ refusal.Memory) × IsTenant host.now.roster.now name.now word.now)) }
 {

@@ -23,15 +23,17 @@ pub(crate) fn read_said(text: &[u8]) -> Said<'_>
     let Some((word, rest)) = next_word(text) else {
         return Said::Command;
     };
-    match word {
-        b"quit" => match next_word(rest) {
+    if word == b"quit".as_slice() {
+        return match next_word(rest) {
             None => Said::Quit,
             Some(_) => Said::Command,
-        },
-        b"hello" => match split_words(rest) {
+        };
+    }
+    if word == b"hello".as_slice() {
+        return match split_words(rest) {
             Arguments::Two(name, word) => Said::Hello(name, word),
             _ => Said::WrongHello,
-        },
-        _ => Said::Command,
+        };
     }
+    Said::Command
 }

@@ -6,7 +6,7 @@ ghost use Rattle.service.specs.Written.{WritesFront};
 use std::io::Write;
 
 /// A writer failed, or took no byte.
-#[derive(Clone, Copy, Debug, PartialEq, Eq)]
+#[derive(Clone, Copy)]
 pub(crate) struct WriteFault;
 
 /// Writes the whole reply, in as many calls as the writer needs. Each error of `write` is a fault, and so is

@@ -5,5 +5,5 @@ use Rattle.service.proofs.session_answers.greet.Goals as goal
 
 pub returns-in-Ok : goal.returns-in-Ok
 returns-in-Ok g c =
-    let given = c.in-Ok.ensures in
-    IsGreeted.let_in c.in-Ok.pass given.known given.tenant given.share given.admitted (c.fill_hello.ensures ∙ ap hello_to (c.tenant.ensures ∙ given.tenant)) refl
+    let given = c.in-Ok.ensures.let_in in
+    IsGreeted.let_in c.in-Ok.pass given (c.fill_hello.ensures ∙ ap hello_to (c.tenant.ensures ∙ given.own)) refl
