@@ -34,14 +34,14 @@ pub(crate) fn fill_refusal(room: &mut Room, who: &Speaker, refusal: Refusal)
 pub(crate) fn fill_reply(room: &mut Room, who: &Speaker, reply: &Reply)
     ensures { IsFilled (front_of who.now) reply.now room.new }
 {
-    match write_reply(room, who, reply) {
+    match write_reply_lines(room, who, reply) {
         Ok(()) => {}
         Err(_lacking) => fill_error(room, who, Fault::Memory.number()),
     }
 }
 
 /// Fills the room with the lines of a reply. Memory may lack for a long one.
-fn write_reply(room: &mut Room, who: &Speaker, reply: &Reply) -> Result<(), AllocError>
+fn write_reply_lines(room: &mut Room, who: &Speaker, reply: &Reply) -> Result<(), AllocError>
     ensures whole { OnOk result (room.new ≡ lines_after (front_of who.now) reply.now) }
     ensures lacking { OnErr result (IsLong reply.now) }
 {

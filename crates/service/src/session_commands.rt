@@ -1,5 +1,4 @@
 //! What sessions share, and what a tenant's command comes to there.
-ghost use Rattle.service.specs.declared.commands.Command.TheVariants as command;
 ghost use Rattle.service.specs.SessionReply.{IsCarriedOut};
 
 use crate::commands::Command;
@@ -29,20 +28,9 @@ pub(crate) fn carry_out<L: Ledger, R: Wait>(
 {
     match command {
         Command::Request(request) => host.desk.serve(host.rt, pass, request),
-        Command::Wait(number) => wait(host, pass, number),
-    }
-}
-
-/// Waits for the search of the number, and answers what it came to.
-fn wait<L: Ledger, R: Wait>(
-    host: &Shared<'_, L, R>,
-    pass: &mut Pass<L>,
-    number: u64,
-) -> Result<Reply, DeskFault>
-    ensures { IsCarriedOut pass.old pass.new (command.Wait number) result }
-{
-    match host.desk.wait(host.rt, pass, number) {
-        Ok(verdict) => Ok(Reply::Answered(verdict.answer)),
-        Err(fault) => Err(fault),
+        Command::Wait(number) => match host.desk.wait(host.rt, pass, number) {
+            Ok(verdict) => Ok(Reply::Answered(verdict.answer)),
+            Err(fault) => Err(fault),
+        },
     }
 }

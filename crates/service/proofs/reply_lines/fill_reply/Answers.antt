@@ -4,7 +4,7 @@ use Rattle.service.proofs.ReplyLemmas.{IsFilled-whole, IsFilled-lacking}
 use Rattle.service.proofs.reply_lines.fill_reply.Goals as goal
 
 pub returns-in-Ok : goal.returns-in-Ok
-returns-in-Ok c = IsFilled-whole (front_of c.args.who.now) c.write_reply.new.room c.args.reply.now c.in-Ok.ensures.whole
+returns-in-Ok c = IsFilled-whole (front_of c.args.who.now) c.write_reply_lines.new.room c.args.reply.now c.in-Ok.ensures.whole
 
 pub returns-in-Err : goal.returns-in-Err
 returns-in-Err c =
