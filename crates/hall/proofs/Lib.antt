@@ -16,6 +16,7 @@ pub mod Runs
 pub mod SearchSteps
 pub mod Seated
 pub mod Reached
+pub mod Refused
 pub mod Seeking
 pub mod Telling
 pub mod Truths

@@ -1,4 +1,6 @@
 ghost use Rattle.std.specs.Prelude.{◌≡◌};
+ghost use Rattle.hall.specs.Fault.{fault_number, vault_fault, quota_fault, proof_fault};
+ghost use Rattle.hall.specs.declared.faults.Fault.TheVariants.{Memory};
 
 use proof_trees::ProofFault;
 use quotas::QuotaFault;
@@ -11,85 +13,64 @@ use vaults::VaultFault;
 pub enum Fault {
     /// The tenant isn't the issuer of the credential.
     #[error("not issuer")]
-    NotIssuer,
+    NotIssuer = 31,
     /// The tenant holds the credential that it uploads.
     #[error("already held")]
-    AlreadyHeld,
+    AlreadyHeld = 32,
     /// The tenant doesn't hold the credential that it withdraws.
     #[error("not held")]
-    NotHeld,
+    NotHeld = 33,
     /// The grant stands already: to the reader, or to every tenant.
     #[error("already granted")]
-    AlreadyGranted,
+    AlreadyGranted = 34,
     /// No such grant stands that could be revoked: to the reader, or to every tenant.
     #[error("not granted")]
-    NotGranted,
+    NotGranted = 35,
     /// The tenant grants itself, who reads its own vault anyway.
     #[error("grant self")]
-    GrantSelf,
+    GrantSelf = 36,
     /// The tenant holds as many credentials as it may.
     #[error("creds limit")]
-    Creds,
+    Creds = 41,
     /// As many grants of the tenant stand as may, one to every tenant counting as one.
     #[error("grants limit")]
-    Grants,
+    Grants = 42,
     /// The tenant has as many searches that it has not ended as it may.
     #[error("searches limit")]
-    Searches,
+    Searches = 43,
     /// The tenant has made as many changes as it may.
     #[error("changes limit")]
-    Changes,
+    Changes = 44,
     /// The tenant has opened as many searches as it may.
     #[error("opens limit")]
-    Opens,
+    Opens = 45,
     /// The tenant has no search of this number that it has not ended.
     #[error("no such search")]
-    NoSuchSearch,
+    NoSuchSearch = 51,
     /// The search has no answer that could be proved.
     #[error("not done")]
-    NotDone,
+    NotDone = 52,
     /// The entity is no member, so there is no proof that it is.
     #[error("no proof")]
-    NoProof,
+    NoProof = 53,
     /// The name doesn't stand in the roster.
     #[error("bad hello")]
-    NoTenant,
+    NoTenant = 62,
     /// There is no memory for the request.
     #[error("memory")]
-    Memory,
+    Memory = 90,
 }
 
 impl Fault {
-    ghost use Rattle.hall.specs.Fault.{fault_number};
-
     /// The number under which a reply names this fault.
     pub fn number(self) -> u64
         ensures { result ≡ fault_number self }
     {
-        match self {
-            Fault::NotIssuer => 31,
-            Fault::AlreadyHeld => 32,
-            Fault::NotHeld => 33,
-            Fault::AlreadyGranted => 34,
-            Fault::NotGranted => 35,
-            Fault::GrantSelf => 36,
-            Fault::Creds => 41,
-            Fault::Grants => 42,
-            Fault::Searches => 43,
-            Fault::Changes => 44,
-            Fault::Opens => 45,
-            Fault::NoSuchSearch => 51,
-            Fault::NotDone => 52,
-            Fault::NoProof => 53,
-            Fault::NoTenant => 62,
-            Fault::Memory => 90,
-        }
+        self as u64
     }
 }
 
 impl From<VaultFault> for Fault {
-    ghost use Rattle.hall.specs.Fault.{vault_fault};
-
     ghost from_gives = { λ f fault. fault ≡ vault_fault f };
 
     fn from(fault: VaultFault) -> Fault {
@@ -106,8 +87,6 @@ impl From<VaultFault> for Fault {
 }
 
 impl From<QuotaFault> for Fault {
-    ghost use Rattle.hall.specs.Fault.{quota_fault};
-
     ghost from_gives = { λ f fault. fault ≡ quota_fault f };
 
     fn from(fault: QuotaFault) -> Fault {
@@ -122,8 +101,6 @@ impl From<QuotaFault> for Fault {
 }
 
 impl From<ProofFault> for Fault {
-    ghost use Rattle.hall.specs.Fault.{proof_fault};
-
     ghost from_gives = { λ f fault. fault ≡ proof_fault f };
 
     fn from(fault: ProofFault) -> Fault {
@@ -136,8 +113,6 @@ impl From<ProofFault> for Fault {
 }
 
 impl From<AllocError> for Fault {
-    ghost use Rattle.hall.specs.declared.faults.Fault.TheVariants.{Memory};
-
     ghost from_gives = { λ _ fault. fault ≡ Memory };
 
     fn from(_fault: AllocError) -> Fault {
@@ -146,8 +121,6 @@ impl From<AllocError> for Fault {
 }
 
 impl<T: Drop> From<AllocFailed<T>> for Fault {
-    ghost use Rattle.hall.specs.declared.faults.Fault.TheVariants.{Memory};
-
     ghost from_gives = { λ _ fault. fault ≡ Memory };
 
     fn from(_fault: AllocFailed<T>) -> Fault {

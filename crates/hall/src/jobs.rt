@@ -1,5 +1,4 @@
 ghost use Rattle.std.specs.Prelude.{◌≡◌};
-ghost use Rattle.std.specs.Arc.{arc_value};
 ghost use Rattle.search.specs.Need.{right_hint};
 
 use names::Entity;
@@ -9,9 +8,9 @@ use std::marker::Model;
 /// A letter that was taken from a tenant's search, with what it is to be looked up in. It is spent by finishing it or
 /// giving it back.
 pub struct Job {
-    who: Entity,
-    number: u64,
-    task: Task,
+    pub(crate) who: Entity,
+    pub(crate) number: u64,
+    pub(crate) task: Task,
 }
 
 impl Model for Job {
@@ -30,13 +29,6 @@ impl Model for Job {
 }
 
 impl Job {
-    /// The job of the task, which stems from this search.
-    pub(crate) fn new(who: Entity, number: u64, task: Task) -> Job
-        ensures { result ≡ record { who = who; number = number; letter = task.letter; need = task.need; snapshot = arc_value task.snap } }
-    {
-        Job { who, number, task }
-    }
-
     /// Whose search it is.
     pub fn who(&self) -> &Entity
         ensures { result.now ≡ self.now.who }

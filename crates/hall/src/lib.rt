@@ -17,7 +17,6 @@ mod registry;
 mod run_laws;
 mod running;
 mod seats;
-mod stepping;
 #[cfg(test)]
 mod tests;
 

@@ -43,11 +43,4 @@ impl<T> Listed<T> {
     {
         &self.items
     }
-
-    /// The vector again.
-    pub fn into_vec(self) -> Vec<T>
-        ensures { result.items ≡ self }
-    {
-        self.items
-    }
 }

@@ -1,14 +1,17 @@
-//! A search that was opened and not ended, and what one of its tenant's calls does to it.
-ghost use Rattle.std.specs.Prelude.{◌≡◌, ◌≤◌, ◌+◌, ◌<◌, MatchOption, vec_len, vec_capacity};
+//! A search that was opened and not ended: its steps, what one of its tenant's calls does to it, and what is told of it.
+ghost use Rattle.std.specs.Prelude.{◌≡◌, ◌≤◌, ◌+◌, ◌<◌, MatchOption, vec_len, vec_capacity, IfOk, OnErr};
 ghost use Rattle.search.specs.Stage.{IsQuiet};
-ghost use Rattle.hall.specs.Kept.{DrivesTo, TakesJob, MakesStep, Visits, IsNext};
+ghost use Rattle.search.specs.Search.{IsSoundStage, Settles};
+ghost use Rattle.hall.specs.Answers.{answer_of};
+ghost use Rattle.hall.specs.Kept.{DrivesTo, TakesJob, MakesStep, Visits, IsNext, ListsMembers};
+ghost use Rattle.hall.specs.Steps.{settled_of, IsMade, StepsSearch, finish_answer};
 
-use crate::calls::{Answer, Step};
+use crate::calls::{Answer, Step, Stepped};
 use crate::faults::Fault;
 use crate::jobs::Job;
-use crate::stepping::told_of;
+use crate::lists::Names;
 use names::Entity;
-use search::Search;
+use search::{Finished, Search, Status};
 use std::alloc::AllocError;
 use std::marker::Model;
 
@@ -30,6 +33,22 @@ impl Model for Opened {
     ghost coded = { Prim.hlevel (codes, running.the_row.coded, memory.the_row.coded) };
 
     ghost view = { λ o. record { opened_at = o.opened_at; search = o.search } };
+}
+
+/// What is told of the search.
+pub(crate) fn told_of(search: &Search) -> Result<Answer, AllocError>
+    ensures told { IfOk result (λ told. told ≡ answer_of (settled_of search.now)) }
+    ensures memory { OnErr result (ListsMembers (settled_of search.now)) }
+    ensures sound { IsSoundStage search.now.stage }
+{
+    match search.status() {
+        Status::Working => Ok(Answer::Working),
+        Status::Yes => Ok(Answer::Yes),
+        Status::No => Ok(Answer::No),
+        Status::Members => Ok(Answer::Members(Names::new(search.members()?))),
+        Status::Spent => Ok(Answer::Spent),
+        Status::Broken => Ok(Answer::Broken),
+    }
 }
 
 /// Carries the search on until nothing more of it can be, and tells what it has come to.
@@ -54,7 +73,7 @@ pub(crate) fn take(
     let Some(task) = task else {
         return Ok(None);
     };
-    Ok(Some(Job::new(who, number, task)))
+    Ok(Some(Job { who, number, task }))
 }
 
 /// Makes up to so many steps of the tenant's search of the number, one after another: delivers the oldest signal, or else
@@ -113,4 +132,52 @@ pub(crate) fn next_step(search: &Search, who: Entity, number: u64) -> Option<Ste
         return Some(Step::Take(who, number, 0));
     }
     None
+}
+
+/// Makes the step of the search.
+pub(crate) fn make(search: &mut Search, step: &Step) -> Stepped
+    ensures { StepsSearch search.old step.now result search.new }
+{
+    let answer = go_on(search, step);
+    search.kept();
+    answer
+}
+
+fn go_on(search: &mut Search, step: &Step) -> Stepped
+    ensures made { IsMade search.old step.now result search.new }
+    ensures settles { Settles search.old search.new }
+{
+    match *step {
+        Step::Take(_who, _number, place) => match search.take_letter(place) {
+            Some((letter, need)) => Stepped::Took(letter, need),
+            None => Stepped::Nothing,
+        },
+        Step::GiveBack(_who, _number, letter) => {
+            if search.put_back(letter) {
+                Stepped::Back
+            } else {
+                Stepped::NotHeld
+            }
+        }
+        Step::Finish(_who, _number, letter, hint) => answer(search.finish(letter, hint)),
+        Step::Signal(_who, _number, place) => {
+            if search.signal(place) {
+                Stepped::Signalled
+            } else {
+                Stepped::Nothing
+            }
+        }
+    }
+}
+
+fn answer(finished: Finished) -> Stepped
+    ensures { result ≡ finish_answer finished }
+{
+    match finished {
+        Finished::Done => Stepped::Done,
+        Finished::BadHint => Stepped::BadHint,
+        Finished::Spent => Stepped::Spent,
+        Finished::Broken => Stepped::Broken,
+        Finished::NotHeld => Stepped::NotHeld,
+    }
 }

@@ -15,10 +15,12 @@ pub(crate) fn pick_seat(seats: Slice<'_, Entity, Seat>, turn: u64) -> Option<Ste
 {
     let (place, round) = begin_at(seats.len(), turn);
     let (before, from_there) = seats.split_at(place);
-    if let Some(step) = first_seat(from_there, round) {
-        return Some(step);
+    for (who, seat) in from_there.iter().chain(before.iter()) {
+        if let Some(step) = seat.next(*who, round) {
+            return Some(step);
+        }
     }
-    first_seat(before, round)
+    None
 }
 
 /// The step that goes on with a search of this tenant. It begins at the search that the turn picks, and goes round.
@@ -27,43 +29,18 @@ pub(crate) fn pick_search(who: Entity, searches: Slice<'_, u64, Opened>, turn: u
 {
     let (place, _round) = begin_at(searches.len(), turn);
     let (before, from_there) = searches.split_at(place);
-    if let Some(step) = first_search(who, from_there) {
-        return Some(step);
+    for (number, opened) in from_there.iter().chain(before.iter()) {
+        if let Some(step) = next_step(&opened.search, who, *number) {
+            return Some(step);
+        }
     }
-    first_search(who, before)
+    None
 }
 
 /// The place among so many that the turn picks, and how often all of them had their turn before.
 fn begin_at(count: usize, turn: u64) -> (usize, u64)
     ensures { result.0 ≤ count }
 {
-    if count == 0 {
-        return (0, turn);
-    }
-    let each = count as u64;
+    let each = count.max(1) as u64;
     ((turn % each) as usize, turn / each)
-}
-
-/// The step of the first tenant that has one.
-fn first_seat(seats: Slice<'_, Entity, Seat>, turn: u64) -> Option<Step>
-    ensures { MatchOption result (AllByRecursion (λ e. IsIdle e.1) seats.entry) (IsNextOfAny seats.entry) }
-{
-    for (who, seat) in seats.iter() {
-        if let Some(step) = seat.next(*who, turn) {
-            return Some(step);
-        }
-    }
-    None
-}
-
-/// The step of the first search that has one.
-fn first_search(who: Entity, searches: Slice<'_, u64, Opened>) -> Option<Step>
-    ensures { MatchOption result (AreQuiet searches.entry) (IsNextAmong who searches.entry) }
-{
-    for (number, opened) in searches.iter() {
-        if let Some(step) = next_step(&opened.search, who, *number) {
-            return Some(step);
-        }
-    }
-    None
 }

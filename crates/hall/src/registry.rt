@@ -14,12 +14,12 @@ use crate::calls::{Answer, Step, Stepped};
 use crate::faults::Fault;
 use crate::jobs::Job;
 use crate::lists::{Rows, Sights};
-use crate::opened::{drive, take, visit};
+use crate::opened::{drive, make, take, told_of, visit};
 use crate::picking::pick_seat;
 use crate::seats::Seat;
-use crate::stepping::{make, told_of};
 use indexmap::IndexMap;
 use names::Entity;
+use proof_trees::{Proof, proof_of};
 use quotas::Limits;
 use search::{Hint, Query, Search};
 use std::alloc::{AllocError, Global};
@@ -29,7 +29,7 @@ use vaults::{Book, Change};
 /// The journal of all tenants, and by its name what each has opened.
 #[derive(Drop)]
 pub struct Hall {
-    alloc: Global,
+    pub(crate) alloc: Global,
     book: Book,
     tenants: IndexMap<Entity, Seat>,
 }
@@ -58,12 +58,10 @@ impl Hall {
         ensures hall { IfOk result (λ h. h ≡ new_hall roster.items) }
         ensures only_memory { IfErr result (λ f. f ≡ Fault.Memory) }
     {
-        let book = Book::new(alloc);
-        let tenants = seats_of(alloc, &roster)?;
         Ok(Hall {
             alloc,
-            book,
-            tenants,
+            book: Book::new(alloc),
+            tenants: seats_of(alloc, &roster)?,
         })
     }
 
@@ -83,23 +81,13 @@ impl Hall {
         self.book.journal_len()
     }
 
-    /// Where the hall takes its memory from.
-    pub(crate) fn alloc(&self) -> Global
-        ensures sound { IsSound self.now }
-    {
-        let _ = &self.tenants;
-        self.alloc
-    }
-
     /// Enters the tenant's change, and answers how many of its changes were accepted so far. The order of refusals: 62,
     /// then 44 of all changes, 41 of an upload and 42 of a grant to one reader or to all, then the journal's own (31 to
     /// 36), and want of memory.
     pub fn change(&mut self, who: Entity, change: Change) -> Result<u64, Fault>
         ensures served { IsServed self.old who (request.Alter change) (told_as reply.Counted result) self.new }
     {
-        let Some(seat) = self.tenants.get(&who) else {
-            return Err(Fault::NoTenant);
-        };
+        let seat = self.tenants.get(&who).ok_or(Fault::NoTenant)?;
         seat.may_alter(&self.book, &who, &change)?;
         Ok(self.book.change(who, change)?)
     }
@@ -111,9 +99,7 @@ impl Hall {
         ensures allowed { OnOk result (revokes change.now ≡ false
             → IsServed self.now who (request.Alter change.now) (reply.Refused faults.Memory) self.now) }
     {
-        let Some(seat) = self.tenants.get(&who) else {
-            return Err(Fault::NoTenant);
-        };
+        let seat = self.tenants.get(&who).ok_or(Fault::NoTenant)?;
         seat.may_alter(&self.book, &who, change)?;
         match self.book.refusal_of(&who, change) {
             Some(fault) => Err(Fault::from(fault)),
@@ -126,9 +112,7 @@ impl Hall {
     pub fn open(&mut self, who: Entity, query: Query) -> Result<u64, Fault>
         ensures served { IsServed self.old who (request.Seek query) (told_as reply.Opened result) self.new }
     {
-        let Some(seat) = self.tenants.get_mut(&who) else {
-            return Err(Fault::NoTenant);
-        };
+        let seat = self.tenants.get_mut(&who).ok_or(Fault::NoTenant)?;
         seat.open(self.alloc, &mut self.book, who, query)
     }
 
@@ -139,19 +123,27 @@ impl Hall {
         if !self.has(who) {
             return Err(Fault::NoTenant);
         }
-        let Some(search) = self.search(who, number) else {
-            return Err(Fault::NoSuchSearch);
-        };
+        let search = self.search(who, number).ok_or(Fault::NoSuchSearch)?;
         Ok(told_of(search)?)
+    }
+
+    /// Why the entity is a member of the role that the tenant's search of the number asked about. The order of refusals:
+    /// 62, 51, 52, 53, and want of memory.
+    pub fn proof(&self, who: Entity, number: u64, member: Entity) -> Result<Proof, Fault>
+        ensures served { IsServed self.now who (request.Proof number member) (told_as reply.Proof result) self.now }
+    {
+        if !self.has(who) {
+            return Err(Fault::NoTenant);
+        }
+        let search = self.search(who, number).ok_or(Fault::NoSuchSearch)?;
+        Ok(proof_of(self.alloc, search, &member)?)
     }
 
     /// Ends the tenant's search of the number. It takes no memory.
     pub fn end(&mut self, who: Entity, number: u64) -> Result<(), Fault>
         ensures served { IsServed self.old who (request.Close number) (told_as (λ u. reply.Closed) result) self.new }
     {
-        let Some(seat) = self.tenants.get_mut(&who) else {
-            return Err(Fault::NoTenant);
-        };
+        let seat = self.tenants.get_mut(&who).ok_or(Fault::NoTenant)?;
         seat.end(number)
     }
 
@@ -262,12 +254,8 @@ impl Hall {
         ensures driven { CarriesOut self.old who (waits number) (told_as reply.Answered result) self.new }
         ensures quiet { SearchIsQuiet self.new who number }
     {
-        let Some(seat) = self.tenants.get_mut(&who) else {
-            return Err(Fault::NoTenant);
-        };
-        let Some(opened) = seat.searches.get_mut(&number) else {
-            return Err(Fault::NoSuchSearch);
-        };
+        let seat = self.tenants.get_mut(&who).ok_or(Fault::NoTenant)?;
+        let opened = seat.searches.get_mut(&number).ok_or(Fault::NoSuchSearch)?;
         drive(&mut opened.search)
     }
 

@@ -10,26 +10,10 @@ use crate::calls::{Event, Reply, Request};
 use crate::faults::Fault;
 use crate::registry::Hall;
 use names::Entity;
-use proof_trees::{Proof, proof_of};
 use std::alloc::AllocError;
 use vaults::Change;
 
 impl Hall {
-    /// Why the entity is a member of the role that the tenant's search of the number asked about. The order of refusals:
-    /// 62, 51, 52, 53, and want of memory.
-    pub fn proof(&self, who: Entity, number: u64, member: Entity) -> Result<Proof, Fault>
-        ensures served { IsServed self.now who (request.Proof number member) (told_as reply.Proof result) self.now }
-    {
-        let alloc = self.alloc();
-        if !self.has(who) {
-            return Err(Fault::NoTenant);
-        }
-        let Some(search) = self.search(who, number) else {
-            return Err(Fault::NoSuchSearch);
-        };
-        Ok(proof_of(alloc, search, &member)?)
-    }
-
     /// Lets the events happen one after another, and answers a reply for each. Room for the replies is taken first.
     pub fn run(&mut self, events: &[Event]) -> Result<Vec<Reply>, Fault>
         ensures tenants { IfOk result (λ replies. (tenant : List ℕ)
@@ -39,7 +23,7 @@ impl Hall {
         ensures refused { IfErr result (λ f. f ≡ Fault.Memory) }
         ensures unchanged { OnErr result (self.new ≡ self.old) }
     {
-        let mut replies = Vec::with_capacity(self.alloc(), events.len())?;
+        let mut replies = Vec::with_capacity(self.alloc, events.len())?;
         for event in events {
             let reply = self.happen(event);
             replies.push_reserved(reply);
@@ -51,18 +35,10 @@ impl Hall {
     pub fn ask(&mut self, who: Entity, request: Request) -> Result<Reply, Fault>
         ensures served { IsServed self.old who request (told_as (λ r. r) result) self.new }
     {
-        Ok(match request {
-            Request::Alter(change) => Reply::Counted(self.change(who, change)?),
-            Request::Seek(query) => Reply::Opened(self.open(who, query)?),
-            Request::Poll(number) => Reply::Answered(self.poll(who, number)?),
-            Request::Close(number) => {
-                self.end(who, number)?;
-                Reply::Closed
-            }
-            Request::Vault => Reply::Vault(self.vault(who)?),
-            Request::Sees => Reply::Sees(self.sees(who)?),
-            Request::Proof(number, member) => Reply::Proof(self.proof(who, number, member)?),
-        })
+        match request {
+            Request::Alter(change) => Ok(Reply::Counted(self.change(who, change)?)),
+            other => self.serve(who, &other),
+        }
     }
 
     /// Lets the event happen.
@@ -70,10 +46,9 @@ impl Hall {
         ensures { Happens self.old event.now result self.new }
     {
         match event {
-            Event::Request(who, request) => match self.serve(*who, request) {
-                Ok(reply) => reply,
-                Err(fault) => Reply::Refused(fault),
-            },
+            Event::Request(who, request) => {
+                self.serve(*who, request).unwrap_or_else(Reply::Refused)
+            }
             Event::Step(step) => Reply::Stepped(self.step(*step)),
         }
     }
@@ -82,24 +57,26 @@ impl Hall {
     fn serve(&mut self, who: Entity, request: &Request) -> Result<Reply, Fault>
         ensures served { IsServed self.old who request.now (told_as (λ r. r) result) self.new }
     {
-        match request {
-            Request::Alter(change) => self.alter(who, change),
-            Request::Seek(query) => self.ask(who, Request::Seek(*query)),
-            Request::Poll(number) => self.ask(who, Request::Poll(*number)),
-            Request::Close(number) => self.ask(who, Request::Close(*number)),
-            Request::Vault => self.ask(who, Request::Vault),
-            Request::Sees => self.ask(who, Request::Sees),
-            Request::Proof(number, member) => self.ask(who, Request::Proof(*number, *member)),
-        }
+        Ok(match request {
+            Request::Alter(change) => Reply::Counted(self.alter(who, change)?),
+            Request::Seek(query) => Reply::Opened(self.open(who, *query)?),
+            Request::Poll(number) => Reply::Answered(self.poll(who, *number)?),
+            Request::Close(number) => {
+                self.end(who, *number)?;
+                Reply::Closed
+            }
+            Request::Vault => Reply::Vault(self.vault(who)?),
+            Request::Sees => Reply::Sees(self.sees(who)?),
+            Request::Proof(number, member) => Reply::Proof(self.proof(who, *number, *member)?),
+        })
     }
 
     /// Enters a copy of the change. It is copied where no refusal is due.
-    fn alter(&mut self, who: Entity, change: &Change) -> Result<Reply, Fault>
-        ensures served { IsServed self.old who (request.Alter change.now) (told_as (λ r. r) result) self.new }
+    fn alter(&mut self, who: Entity, change: &Change) -> Result<u64, Fault>
+        ensures served { IsServed self.old who (request.Alter change.now) (told_as reply.Counted result) self.new }
     {
         self.may_change(who, change)?;
-        let copy = same_change(change)?;
-        self.ask(who, Request::Alter(copy))
+        self.change(who, same_change(change)?)
     }
 }
 

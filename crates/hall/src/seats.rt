@@ -69,8 +69,7 @@ impl Seat {
         self.limits.may_change(&used)?;
         match change {
             Change::Upload(_) => self.limits.may_hold(&used)?,
-            Change::Grant(_) => self.limits.may_grant(&used)?,
-            Change::GrantAll => self.limits.may_grant(&used)?,
+            Change::Grant(_) | Change::GrantAll => self.limits.may_grant(&used)?,
             Change::Withdraw(_) | Change::Revoke(_) | Change::RevokeAll => {}
         }
         Ok(())

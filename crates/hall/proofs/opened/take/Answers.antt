@@ -1,4 +1,4 @@
-use Rattle.std.proofs.Common.{◌≡◌, subst, IfSome}
+use Rattle.std.proofs.Common.{◌≡◌, refl, subst, IfSome}
 use Rattle.std.proofs.lemmas.Result.{err_from_is_err_and}
 use Rattle.std.specs.Arc.{arc_value}
 use Rattle.std.specs.declared.alloc.AllocError.{AllocError}
@@ -18,4 +18,4 @@ returns c =
     let takes = subst (λ o. IfSome o (λ t. Takes old new c.args.place t.letter t.need)) c.in-Some.is c.in_ok-task.ensures.task in
     let snapshot = subst (λ o. IfSome o (λ t. arc_value t.snap ≡ old.snapshot)) c.in-Some.is c.in_ok-task.ensures.snapshot in
     job_of AllocError c.args.who c.args.number c.args.place c.in-Some.task.letter c.in-Some.task.need (arc_value c.in-Some.task.snap)
-    old new c.new.result c.new.ensures takes snapshot c.in_ok-task.ensures.settles c.kept.ensures.sound
+    old new _ refl takes snapshot c.in_ok-task.ensures.settles c.kept.ensures.sound

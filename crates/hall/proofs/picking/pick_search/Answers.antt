@@ -1,19 +1,25 @@
-use Rattle.std.proofs.Common.{ℕ, List, subst}
-use Rattle.std.specs.Option.{MatchOption}
+use Rattle.std.proofs.Common.{subst}
+use Rattle.std.proofs.lemmas.List.Elements.{All-push}
 use Rattle.search.specs.Stage.{IsQuiet}
-use Rattle.hall.specs.declared.calls.steps.Step.{Step}
 use Rattle.hall.specs.Hall.{Running}
-use Rattle.hall.specs.Kept.{AreQuiet, IsNext, IsNextAmong}
-use Rattle.hall.proofs.Rounds.{from_there, went_round}
+use Rattle.hall.specs.Kept.{IsNext}
+use Rattle.hall.proofs.Rounds.{one_of_round, whole_round}
 use Rattle.hall.proofs.picking.pick_search.Goals as goal
 
-pub returns-in-Some : goal.returns-in-Some
-returns-in-Some c =
-    from_there (λ (e : ℕ × Running) (made : Step). IsNext c.args.who e.0 e.1.search made) c.begin_at-place.result.0 c.args.searches c.in-Some.step
-    (subst (λ (es : List (ℕ × Running)). IsNextAmong c.args.who es c.in-Some.step) c.split_at-before.ensures.back c.in-Some.ensures)
+pub returns-in-Some-next_step : goal.returns-in-Some-next_step
+returns-in-Some-next_step c = (
+  (c.in-Some.number.now, c.in-Some.opened.now),
+  one_of_round c.begin_at-place.result.0 c.args.searches {s = c.into_iter-number-iterator.result} (cc) (cc) (cc) (cc) c.loop-number.yielded _ _ c.loop-number.yielded_by _ c.next.ensures.steps
+      (c.in-Some.number, c.in-Some.opened) c.in-Some.is,
+  subst (λ (r : Running). IsNext c.args.who c.in-Some.number.now r.search c.in-Some-next_step.step) c.opened.view_is c.in-Some-next_step.ensures,
+)
+
+pub loop-number-preserved : goal.loop-number-preserved
+loop-number-preserved c =
+    All-push (λ e. IsQuiet e.1.now.search.stage) c.loop-number.yielded (c.in-Some.number, c.in-Some.opened) c.loop-number.invariant
+    (subst (λ (r : Running). IsQuiet r.search.stage) c.opened.view_is c.in_default.ensures)
 
 pub returns : goal.returns
 returns c =
-    let later = subst AreQuiet c.split_at-before.ensures.back c.in_default.ensures in
-    let before = subst (λ (es : List (ℕ × Running)). MatchOption c.first_search-2.result (AreQuiet es) (IsNextAmong c.args.who es)) c.split_at-before.ensures.front c.first_search-2.ensures in
-    went_round (λ (e : ℕ × Running) (made : Step). IsNext c.args.who e.0 e.1.search made) c.begin_at-place.result.0 c.args.searches (λ (e : ℕ × Running). IsQuiet e.1.search.stage) c.first_search-2.result later before
+    whole_round c.begin_at-place.result.0 c.args.searches {s = c.into_iter-number-iterator.result} (cc) (cc) (cc) (cc) c.loop-number.yielded _ _ c.loop-number.yielded_by _ c.next.ensures.steps
+    (λ e. IsQuiet e.1.search.stage) c.in-None.is c.loop-number.invariant

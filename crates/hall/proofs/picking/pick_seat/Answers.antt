@@ -1,19 +1,21 @@
-use Rattle.std.proofs.Common.{ℕ, List, subst}
-use Rattle.std.specs.Option.{MatchOption}
-use Rattle.std.specs.List.{AllByRecursion}
-use Rattle.hall.specs.declared.calls.steps.Step.{Step}
-use Rattle.hall.specs.Hall.{Tenant}
-use Rattle.hall.specs.Kept.{IsIdle, IsNextOf, IsNextOfAny}
-use Rattle.hall.proofs.Rounds.{from_there, went_round}
+use Rattle.std.proofs.lemmas.List.Elements.{All-push}
+use Rattle.hall.specs.Kept.{IsIdle}
+use Rattle.hall.proofs.Rounds.{one_of_round, whole_round}
 use Rattle.hall.proofs.picking.pick_seat.Goals as goal
 
-pub returns-in-Some : goal.returns-in-Some
-returns-in-Some c =
-    from_there (λ (e : List ℕ × Tenant) (made : Step). IsNextOf e.0 e.1 made) c.begin_at-place.result.0 c.args.seats c.in-Some.step
-    (subst (λ (es : List (List ℕ × Tenant)). IsNextOfAny es c.in-Some.step) c.split_at-before.ensures.back c.in-Some.ensures)
+pub returns-in-Some-next : goal.returns-in-Some-next
+returns-in-Some-next c = (
+  (c.in-Some.who.now, c.in-Some.seat.now),
+  one_of_round c.begin_at-place.result.0 c.args.seats {s = c.into_iter-who-iterator.result} (cc) (cc) (cc) (cc) c.loop-who.yielded _ _ c.loop-who.yielded_by _ c.next.ensures.steps
+      (c.in-Some.who, c.in-Some.seat) c.in-Some.is,
+  c.in-Some-next.ensures,
+)
+
+pub loop-who-preserved : goal.loop-who-preserved
+loop-who-preserved c =
+    All-push (λ e. IsIdle e.1.now) c.loop-who.yielded (c.in-Some.who, c.in-Some.seat) c.loop-who.invariant c.in_default.ensures
 
 pub returns : goal.returns
 returns c =
-    let later = subst (AllByRecursion (λ (e : List ℕ × Tenant). IsIdle e.1)) c.split_at-before.ensures.back c.in_default.ensures in
-    let before = subst (λ (es : List (List ℕ × Tenant)). MatchOption c.first_seat-2.result ((AllByRecursion (λ (e : List ℕ × Tenant). IsIdle e.1)) es) (IsNextOfAny es)) c.split_at-before.ensures.front c.first_seat-2.ensures in
-    went_round (λ (e : List ℕ × Tenant) (made : Step). IsNextOf e.0 e.1 made) c.begin_at-place.result.0 c.args.seats (λ (e : List ℕ × Tenant). IsIdle e.1) c.first_seat-2.result later before
+    whole_round c.begin_at-place.result.0 c.args.seats {s = c.into_iter-who-iterator.result} (cc) (cc) (cc) (cc) c.loop-who.yielded _ _ c.loop-who.yielded_by _ c.next.ensures.steps
+    (λ e. IsIdle e.1) c.in-None.is c.loop-who.invariant

@@ -8,65 +8,70 @@ use Rattle.hall.specs.Run.{waits}
 use Rattle.hall.specs.Hall.{HallState, CarriesOut, IsSound, told_as, search_of}
 use Rattle.hall.specs.Visits.{SearchIsQuiet}
 use Rattle.hall.specs.Kept.{DrivesTo}
+use Rattle.std.specs.Option.{option_copied_mut}
+use Rattle.std.proofs.lemmas.Result.{err_from_is_err_and}
+use Rattle.hall.proofs.Refused.{refused_as}
 use Rattle.hall.proofs.Seated.{tenant_of}
 use Rattle.hall.proofs.Placed.{hall_of, tenant_at, table_left}
 use Rattle.hall.proofs.Carrying.{Moves, none_quiet, nobody_driven, drives_as, drives_quiet}
 use Rattle.hall.proofs.Reached.{nowhere, there, stays}
 use Rattle.hall.proofs.laws.HallSound.{carried_sound}
 use Rattle.hall.proofs.registry.Hall.drive.Goals as goal
-use Rattle.hall.proofs.registry.Hall.drive.Goals.{In_default-get_mut, After-drive}
+use Rattle.hall.proofs.registry.Hall.drive.Goals.{After-from_residual-in_err-opened, After-drive}
 
 pub invariant_of-self : goal.invariant_of-self
 invariant_of-self c =
     subst IsSound (sym (table_left c.self.inside.book c.self.inside.tenants _ c.get_mut.follows.holds-at-none)) c.self.invariant
 
-pub returns-in_default-clause-driven : goal.returns-in_default-clause-driven
-returns-in_default-clause-driven c =
+pub returns-in_err-seat-clause-driven : goal.returns-in_err-seat-clause-driven
+returns-in_err-seat-clause-driven c =
+    let p = err_from_is_err_and c.from_residual.result c.from_residual.ensures.1 in
     let h : HallState = hall_of c.self.inside.book c.self.inside.tenants in
-    let nobody : get h.tenants c.args.who ≡ None = tenant_at c.self.inside.tenants.entries c.args.who _ c.in_default.ensures.value in
+    let nobody : get h.tenants c.args.who ≡ None = tenant_at c.self.inside.tenants.entries c.args.who _ (ap option_copied_mut (sym c.in_err-seat.ensures.ok_part) ∙ c.get_mut.ensures.value) in
     let left = table_left c.self.inside.book c.self.inside.tenants _ c.get_mut.follows.holds-at-none in
-    rw (← c.self.view_is) (subst (CarriesOut h c.args.who (waits c.args.number) (Refused NoTenant)) (sym left) (nobody_driven h c.args.who c.args.number nobody))
+    rw (p.1, p.2, refused_as c.in_err-seat.ensures.value c.in_err-seat.ensures.ok_part, ← c.self.view_is) (subst (CarriesOut h c.args.who (waits c.args.number) (Refused NoTenant)) (sym left) (nobody_driven h c.args.who c.args.number nobody))
 
-pub returns-in_default-clause-quiet : goal.returns-in_default-clause-quiet
-returns-in_default-clause-quiet c =
+pub returns-in_err-seat-clause-quiet : goal.returns-in_err-seat-clause-quiet
+returns-in_err-seat-clause-quiet c =
     let h : HallState = hall_of c.self.inside.book c.self.inside.tenants in
-    let nobody : get h.tenants c.args.who ≡ None = tenant_at c.self.inside.tenants.entries c.args.who _ c.in_default.ensures.value in
+    let nobody : get h.tenants c.args.who ≡ None = tenant_at c.self.inside.tenants.entries c.args.who _ (ap option_copied_mut (sym c.in_err-seat.ensures.ok_part) ∙ c.get_mut.ensures.value) in
     let left = table_left c.self.inside.book c.self.inside.tenants _ c.get_mut.follows.holds-at-none in
     subst (λ (g : HallState). SearchIsQuiet g c.args.who c.args.number) (sym left) (none_quiet h c.args.who c.args.number (ap (search_of c.args.number) nobody))
 
 -- where there is no such search
-left_alone : (c : In_default-get_mut) → Moves (hall_of c.self.inside.book c.self.inside.tenants) c.args.who c.args.number (◌≡◌ {A = Result Answer Fault} (Err NoSuchSearch) (Err NoSuchSearch)) (λ s t. DrivesTo s (Err NoSuchSearch) t) (hall_of c.self.inside.book (c.get_mut.follows.lender (tenant_of c.seat.inside.limits c.seat.inside.opens c.get_mut-2.follows.lender-at-none)))
+left_alone : (c : After-from_residual-in_err-opened) → Moves (hall_of c.self.inside.book c.self.inside.tenants) c.args.who c.args.number (◌≡◌ {A = Result Answer Fault} (Err NoSuchSearch) (Err NoSuchSearch)) (λ s t. DrivesTo s (Err NoSuchSearch) t) (hall_of c.self.inside.book (c.get_mut.follows.lender (tenant_of c.seat.inside.limits c.seat.inside.opens c.get_mut-2.follows.lender-at-none)))
 left_alone c =
-    nowhere c.self.inside.book c.self.inside.tenants _ c.args.who c.seat.inside.limits c.seat.inside.opens c.seat.inside.searches _ c.in-Some.seat.now c.args.number
-    c.in-Some.ensures.value c.seat.view_is (c.get_mut.follows.holds _) (◌≡◌ {A = Result Answer Fault} (Err NoSuchSearch) (Err NoSuchSearch)) (λ s t. DrivesTo s (Err NoSuchSearch) t)
-    (sym c.in_default-get_mut.ensures.value) c.get_mut-2.follows.holds-at-none refl
+    nowhere c.self.inside.book c.self.inside.tenants _ c.args.who c.seat.inside.limits c.seat.inside.opens c.seat.inside.searches _ c.in_ok-seat.seat.now c.args.number
+    (ap option_copied_mut (sym c.in_ok-seat.ensures.ok_part) ∙ c.get_mut.ensures.value) c.seat.view_is (c.get_mut.follows.holds _) (◌≡◌ {A = Result Answer Fault} (Err NoSuchSearch) (Err NoSuchSearch)) (λ s t. DrivesTo s (Err NoSuchSearch) t)
+    (sym (ap option_copied_mut (sym c.in_err-opened.ensures.ok_part) ∙ c.get_mut-2.ensures.value)) c.get_mut-2.follows.holds-at-none refl
 
-pub invariant_of-self-in_default-get_mut : goal.invariant_of-self-in_default-get_mut
-invariant_of-self-in_default-get_mut c =
-    subst IsSound (sym (stays c.self.inside.book c.self.inside.tenants _ c.args.who c.seat.inside.limits c.seat.inside.opens c.seat.inside.searches _ c.in-Some.seat.now c.args.number
-    c.in-Some.ensures.value c.seat.view_is (c.get_mut.follows.holds _) c.get_mut-2.follows.holds-at-none)) c.self.invariant
+pub invariant_of-self-in_err-opened : goal.invariant_of-self-in_err-opened
+invariant_of-self-in_err-opened c =
+    subst IsSound (sym (stays c.self.inside.book c.self.inside.tenants _ c.args.who c.seat.inside.limits c.seat.inside.opens c.seat.inside.searches _ c.in_ok-seat.seat.now c.args.number
+    (ap option_copied_mut (sym c.in_ok-seat.ensures.ok_part) ∙ c.get_mut.ensures.value) c.seat.view_is (c.get_mut.follows.holds _) c.get_mut-2.follows.holds-at-none)) c.self.invariant
 
-pub returns-in_default-get_mut-clause-driven : goal.returns-in_default-get_mut-clause-driven
-returns-in_default-get_mut-clause-driven c =
-    rw (← c.self.view_is)
-    (drives_as (hall_of c.self.inside.book c.self.inside.tenants) c.args.who c.args.number (hall_of c.self.inside.book (c.get_mut.follows.lender (tenant_of c.seat.inside.limits c.seat.inside.opens c.get_mut-2.follows.lender-at-none))) (tenant_of c.seat.inside.limits c.seat.inside.opens c.seat.inside.searches) (tenant_at c.self.inside.tenants.entries c.args.who _ c.in-Some.ensures.value ∙ ap Some (sym c.seat.view_is))
-    (Err NoSuchSearch) (left_alone c.before.before.before))
+pub returns-in_err-opened-clause-driven : goal.returns-in_err-opened-clause-driven
+returns-in_err-opened-clause-driven c =
+    let p = err_from_is_err_and c.from_residual-in_err-opened.result c.from_residual-in_err-opened.ensures.1 in
+    rw (p.1, p.2, refused_as c.in_err-opened.ensures.value c.in_err-opened.ensures.ok_part, ← c.self.view_is)
+    (drives_as (hall_of c.self.inside.book c.self.inside.tenants) c.args.who c.args.number (hall_of c.self.inside.book (c.get_mut.follows.lender (tenant_of c.seat.inside.limits c.seat.inside.opens c.get_mut-2.follows.lender-at-none))) (tenant_of c.seat.inside.limits c.seat.inside.opens c.seat.inside.searches) (tenant_at c.self.inside.tenants.entries c.args.who _ (ap option_copied_mut (sym c.in_ok-seat.ensures.ok_part) ∙ c.get_mut.ensures.value) ∙ ap Some (sym c.seat.view_is))
+    (Err NoSuchSearch) (left_alone c))
 
-pub returns-in_default-get_mut-clause-quiet : goal.returns-in_default-get_mut-clause-quiet
-returns-in_default-get_mut-clause-quiet c = drives_quiet (hall_of c.self.inside.book c.self.inside.tenants) c.args.who c.args.number (hall_of c.self.inside.book (c.get_mut.follows.lender (tenant_of c.seat.inside.limits c.seat.inside.opens c.get_mut-2.follows.lender-at-none))) (Err NoSuchSearch) (left_alone c.before.before.before)
+pub returns-in_err-opened-clause-quiet : goal.returns-in_err-opened-clause-quiet
+returns-in_err-opened-clause-quiet c = drives_quiet (hall_of c.self.inside.book c.self.inside.tenants) c.args.who c.args.number (hall_of c.self.inside.book (c.get_mut.follows.lender (tenant_of c.seat.inside.limits c.seat.inside.opens c.get_mut-2.follows.lender-at-none))) (Err NoSuchSearch) (left_alone c)
 
 -- what becomes of the hall
 moves : (c : After-drive) → Moves (hall_of c.self.inside.book c.self.inside.tenants) c.args.who c.args.number (c.drive.result ≡ Err NoSuchSearch) (λ s t. DrivesTo s c.drive.result t) (hall_of c.self.inside.book (c.get_mut.follows.lender (tenant_of c.seat.inside.limits c.seat.inside.opens (c.get_mut-2.follows.lender (record { opened_at = c.opened.inside.opened_at; search = c.drive.new.search })))))
 moves c =
-    there c.self.inside.book c.self.inside.tenants _ c.args.who c.seat.inside.limits c.seat.inside.opens c.seat.inside.searches _ c.in-Some.seat.now c.args.number
-    c.in-Some.ensures.value c.seat.view_is (c.get_mut.follows.holds _) (c.drive.result ≡ Err NoSuchSearch) (λ s t. DrivesTo s c.drive.result t)
+    there c.self.inside.book c.self.inside.tenants _ c.args.who c.seat.inside.limits c.seat.inside.opens c.seat.inside.searches _ c.in_ok-seat.seat.now c.args.number
+    (ap option_copied_mut (sym c.in_ok-seat.ensures.ok_part) ∙ c.get_mut.ensures.value) c.seat.view_is (c.get_mut.follows.holds _) (c.drive.result ≡ Err NoSuchSearch) (λ s t. DrivesTo s c.drive.result t)
     (record { opened_at = c.opened.inside.opened_at; search = c.opened.inside.search }) c.drive.new.search
-    (sym c.in-Some-get_mut.ensures.value ∙ ap Some (sym c.opened.view_is)) (c.get_mut-2.follows.holds (record { opened_at = c.opened.inside.opened_at; search = c.drive.new.search })) c.drive.ensures
+    (sym (ap option_copied_mut (sym c.in_ok-opened.ensures.ok_part) ∙ c.get_mut-2.ensures.value) ∙ ap Some (sym c.opened.view_is)) (c.get_mut-2.follows.holds (record { opened_at = c.opened.inside.opened_at; search = c.drive.new.search })) c.drive.ensures
 
 -- the wait that is carried out
 driven : (c : After-drive) → CarriesOut (hall_of c.self.inside.book c.self.inside.tenants) c.args.who (waits c.args.number) (told_as Answered c.drive.result) (hall_of c.self.inside.book (c.get_mut.follows.lender (tenant_of c.seat.inside.limits c.seat.inside.opens (c.get_mut-2.follows.lender (record { opened_at = c.opened.inside.opened_at; search = c.drive.new.search })))))
 driven c =
-    drives_as (hall_of c.self.inside.book c.self.inside.tenants) c.args.who c.args.number (hall_of c.self.inside.book (c.get_mut.follows.lender (tenant_of c.seat.inside.limits c.seat.inside.opens (c.get_mut-2.follows.lender (record { opened_at = c.opened.inside.opened_at; search = c.drive.new.search }))))) (tenant_of c.seat.inside.limits c.seat.inside.opens c.seat.inside.searches) (tenant_at c.self.inside.tenants.entries c.args.who _ c.in-Some.ensures.value ∙ ap Some (sym c.seat.view_is))
+    drives_as (hall_of c.self.inside.book c.self.inside.tenants) c.args.who c.args.number (hall_of c.self.inside.book (c.get_mut.follows.lender (tenant_of c.seat.inside.limits c.seat.inside.opens (c.get_mut-2.follows.lender (record { opened_at = c.opened.inside.opened_at; search = c.drive.new.search }))))) (tenant_of c.seat.inside.limits c.seat.inside.opens c.seat.inside.searches) (tenant_at c.self.inside.tenants.entries c.args.who _ (ap option_copied_mut (sym c.in_ok-seat.ensures.ok_part) ∙ c.get_mut.ensures.value) ∙ ap Some (sym c.seat.view_is))
     c.drive.result (moves c)
 
 pub invariant_of-self-2 : goal.invariant_of-self-2

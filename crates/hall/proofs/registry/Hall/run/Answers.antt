@@ -1,8 +1,14 @@
-use Rattle.std.proofs.Common.{◌+◌, List, sym, subst, arith}
+use Rattle.std.proofs.Common.{rules, ◌+◌, List, sym, subst, arith}
 use Rattle.hall.specs.declared.calls.replies.Reply.{Reply}
+use Rattle.hall.specs.Hall.{IsSound}
 use Rattle.hall.proofs.Runs.{RunsSoFar, runs_more, all_ran}
 use Rattle.hall.proofs.laws.HallRuns.{runs_allowed}
 use Rattle.hall.proofs.registry.Hall.run.Goals as goal
+
+pub loop-event-init : goal.loop-event-init
+loop-event-init c =
+    let sound : IsSound c.args.self.now = subst IsSound c.self.view_is c.self.invariant in
+    search rules
 
 pub loop-event-preserved : goal.loop-event-preserved
 loop-event-preserved c = record {

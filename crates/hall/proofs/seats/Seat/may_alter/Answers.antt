@@ -18,14 +18,11 @@ returns-in_ok-may_hold-in-Upload-clause-allowed c = refused_alike c.args.book.no
 pub returns-in_ok-may_grant-in-Grant-clause-allowed : goal.returns-in_ok-may_grant-in-Grant-clause-allowed
 returns-in_ok-may_grant-in-Grant-clause-allowed c = refused_alike c.args.book.now c.args.who.now c.args.change.now (search rules)
 
-pub returns-in_ok-may_grant-in-GrantAll-clause-allowed : goal.returns-in_ok-may_grant-in-GrantAll-clause-allowed
-returns-in_ok-may_grant-in-GrantAll-clause-allowed c = refused_alike c.args.book.now c.args.who.now c.args.change.now (search rules)
+pub returns-in-Withdraw-clause-allowed : goal.returns-in-Withdraw-clause-allowed
+returns-in-Withdraw-clause-allowed c = refused_alike c.args.book.now c.args.who.now c.args.change.now (search rules)
 
-pub returns-in_ok-may_change-clause-allowed : goal.returns-in_ok-may_change-clause-allowed
-returns-in_ok-may_change-clause-allowed c = refused_alike c.args.book.now c.args.who.now c.args.change.now (search rules)
+pub returns-in-Withdraw-2-clause-allowed : goal.returns-in-Withdraw-2-clause-allowed
+returns-in-Withdraw-2-clause-allowed c = refused_alike c.args.book.now c.args.who.now c.args.change.now (search rules)
 
-pub returns-in_ok-may_change-2-clause-allowed : goal.returns-in_ok-may_change-2-clause-allowed
-returns-in_ok-may_change-2-clause-allowed c = refused_alike c.args.book.now c.args.who.now c.args.change.now (search rules)
-
-pub returns-in_ok-may_change-3-clause-allowed : goal.returns-in_ok-may_change-3-clause-allowed
-returns-in_ok-may_change-3-clause-allowed c = refused_alike c.args.book.now c.args.who.now c.args.change.now (search rules)
+pub returns-in-Withdraw-3-clause-allowed : goal.returns-in-Withdraw-3-clause-allowed
+returns-in-Withdraw-3-clause-allowed c = refused_alike c.args.book.now c.args.who.now c.args.change.now (search rules)

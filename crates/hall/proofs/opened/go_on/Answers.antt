@@ -2,7 +2,7 @@ use Rattle.std.proofs.Common.{true, sym, subst, refl}
 use Rattle.hall.specs.Steps.{IsMade}
 use Rattle.hall.specs.declared.calls.steps.Step.{Step}
 use Rattle.search.specs.Stage.{Delivers}
-use Rattle.hall.proofs.stepping.go_on.Goals as goal
+use Rattle.hall.proofs.opened.go_on.Goals as goal
 
 pub returns-then-signal-clause-made : goal.returns-then-signal-clause-made
 returns-then-signal-clause-made c =
