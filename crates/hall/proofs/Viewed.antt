@@ -17,13 +17,15 @@ use Rattle.proof_trees.proofs.Soundness.{sound}
 use Rattle.hall.specs.declared.faults.Fault.{Fault}
 use Rattle.hall.specs.declared.faults.Fault.TheVariants.{NoSuchSearch, NotDone, NoProof, Memory}
 use Rattle.hall.specs.declared.calls.answers.Answer.{Answer}
+use Rattle.hall.specs.declared.calls.requests.Request.{Request}
+use Rattle.hall.specs.declared.calls.replies.Reply.{Reply}
 use Rattle.hall.specs.declared.calls.requests.Request.TheVariants as request
 use Rattle.hall.specs.declared.calls.replies.Reply.TheVariants.{Refused}
 use Rattle.hall.specs.declared.calls.replies.Reply.TheVariants as reply
 use Rattle.hall.specs.Fault.{proof_fault}
 use Rattle.hall.specs.Account.{Asked}
 use Rattle.hall.specs.Answers.{RefusesProof, refuses, grants, lacks}
-use Rattle.hall.specs.Hall.{Running, Tenant, HallState, seen, account, search_of, search_at, IsServed, told_as}
+use Rattle.hall.specs.Hall.{Running, Tenant, HallState, seen, account, search_of, search_at, IsServed, IsToldOver, told_as}
 use Rattle.hall.specs.Kept.{IsToldOf}
 use Rattle.hall.proofs.Maps.{numbers_exact, get_mapped}
 use Rattle.hall.proofs.Completed.{answer_completed}
@@ -134,3 +136,35 @@ module _ (h : HallState) (who : List ℕ) (is : is_some (get h.tenants who) ≡ 
       proof_refused f g is why =
           subst (λ (x : Fault). IsServed h who (request.Proof k member) (Refused x) h) (sym is)
           (by_fault f (subst (λ (x : SearchState). WhyRefused x member f) own.2 why))
+
+-- what a search has come to is told alike in each hall that has it
+module _ (h : HallState) (who : List ℕ) (k : ℕ) (r : Running) (at : search_at h who k ≡ Some r) where
+  is_known : is_some (get h.tenants who) ≡ true
+  is_known = by (get h.tenants who) refl at
+    where
+      by : (o : Option Tenant) → get h.tenants who ≡ o → search_of k o ≡ Some r → is_some (get h.tenants who) ≡ true
+      by None here at = cc
+      by (Some t) here at = ap is_some here
+
+  has_search : (s : SearchState) → r.search ≡ s → Some s ≡ option_map (λ (r : Running). r.search) (search_at h who k)
+  has_search s same = sym (ap (option_map (λ (r : Running). r.search)) at ∙ ap Some same)
+
+pub polled_over : (s : SearchState) (told : Result Answer Fault) → IsToldOf (settled_of s) told → IsToldOver s request.Poll (told_as reply.Answered told)
+polled_over s told is h who k r at same = poll_told h who (is_known h who k r at) k s (has_search h who k r at s same) told is
+
+module _ (s : SearchState) (member : List ℕ) where
+  pub proved_over : (steps : List ProofStep) → IsCompleted s.stage → IsProof (rows_of s) (asked_role s.query) member steps →
+      IsToldOver s (λ k. request.Proof k member) (reply.Proof steps)
+  proved_over steps done proves h who k r at same = proof_told h who (is_known h who k r at) k member s (has_search h who k r at s same) steps done proves
+
+  pub unproved_over : (f : ProofFault) (g : Fault) → g ≡ proof_fault f → WhyRefused s member f → IsToldOver s (λ k. request.Proof k member) (Refused g)
+  unproved_over f g is why h who k r at same = proof_refused h who (is_known h who k r at) k member s (has_search h who k r at s same) f g is why
+
+-- a hall that has the search serves what is told over it
+pub served_over : (h : HallState) (who : List ℕ) (k : ℕ) (s : SearchState) (wanted : ℕ → Request) (told : Reply) →
+    Some s ≡ option_map (λ (r : Running). r.search) (search_at h who k) → IsToldOver s wanted told → IsServed h who (wanted k) told h
+served_over h who k s wanted told at over = by (search_at h who k) refl at
+  where
+    by : (o : Option Running) → search_at h who k ≡ o → Some s ≡ option_map (λ (r : Running). r.search) o → IsServed h who (wanted k) told h
+    by None is at = cc
+    by (Some r) is at = over h who k r is cc

@@ -108,6 +108,11 @@ abbrev pub told_as : {X : Type 0} → (X → Reply) → Result X Fault → Reply
 told_as reply (Ok x) = reply x
 told_as reply (Err f) = Refused f
 
+-- in each hall that has this search, its tenant's request for it is told this, and changes nothing
+abbrev pub IsToldOver : SearchState → (ℕ → Request) → Reply → Type 0
+IsToldOver s wanted told =
+    (h : HallState) (who : List ℕ) (k : ℕ) (r : Running) → search_at h who k ≡ Some r → r.search ≡ s → IsServed h who (wanted k) told h
+
 -- whose search a step is made of, and its number
 abbrev pub step_name : Step → List ℕ
 step_name (step.Take name k place) = name

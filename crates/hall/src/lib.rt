@@ -24,6 +24,7 @@ pub use calls::{Answer, Event, Reply, Request, Step, Stepped};
 pub use faults::Fault;
 pub use jobs::Job;
 pub use lists::{Listed, Names, Rows, Sights};
+pub use opened::{proof_of, told_of};
 pub use proof_trees::{Proof, write_proof};
 pub use registry::Hall;
 pub use run_laws::{

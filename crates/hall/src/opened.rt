@@ -3,7 +3,10 @@ ghost use Rattle.std.specs.Prelude.{◌≡◌, ◌≤◌, ◌+◌, ◌<◌, Matc
 ghost use Rattle.search.specs.Stage.{IsQuiet};
 ghost use Rattle.search.specs.Search.{IsSoundStage, Settles};
 ghost use Rattle.hall.specs.Answers.{answer_of};
-ghost use Rattle.hall.specs.Kept.{DrivesTo, TakesJob, MakesStep, Visits, IsNext, ListsMembers};
+ghost use Rattle.hall.specs.declared.calls.requests.Request.TheVariants as request;
+ghost use Rattle.hall.specs.declared.calls.replies.Reply.TheVariants as reply;
+ghost use Rattle.hall.specs.Hall.{IsToldOver, told_as};
+ghost use Rattle.hall.specs.Kept.{DrivesTo, IsToldOf, TakesJob, MakesStep, Visits, IsNext, ListsMembers};
 ghost use Rattle.hall.specs.Steps.{settled_of, IsMade, StepsSearch, finish_answer};
 
 use crate::calls::{Answer, Step, Stepped};
@@ -11,8 +14,9 @@ use crate::faults::Fault;
 use crate::jobs::Job;
 use crate::lists::Names;
 use names::Entity;
+use proof_trees::Proof;
 use search::{Finished, Search, Status};
-use std::alloc::AllocError;
+use std::alloc::{AllocError, Global};
 use std::marker::Model;
 
 /// A search, with the journal's length at its opening.
@@ -35,8 +39,24 @@ impl Model for Opened {
     ghost view = { λ o. record { opened_at = o.opened_at; search = o.search } };
 }
 
-/// What is told of the search.
-pub(crate) fn told_of(search: &Search) -> Result<Answer, AllocError>
+/// What is told of the search: in each hall that has it, a poll of it is answered so. Memory may lack for a list alone.
+pub fn told_of(search: &Search) -> Result<Answer, Fault>
+    ensures told { IsToldOf (settled_of search.now) result }
+    ensures served { IsToldOver search.now request.Poll (told_as reply.Answered result) }
+{
+    Ok(come_to(search)?)
+}
+
+/// Why the entity is a member of the role that the search asked about: in each hall that has it, a request for the proof is
+/// answered so. The order of refusals: 52, 53, and want of memory.
+pub fn proof_of(alloc: Global, search: &Search, member: &Entity) -> Result<Proof, Fault>
+    ensures { IsToldOver search.now (λ k. request.Proof k member.now) (told_as reply.Proof result) }
+{
+    Ok(proof_trees::proof_of(alloc, search, member)?)
+}
+
+/// What the search has come to.
+fn come_to(search: &Search) -> Result<Answer, AllocError>
     ensures told { IfOk result (λ told. told ≡ answer_of (settled_of search.now)) }
     ensures memory { OnErr result (ListsMembers (settled_of search.now)) }
     ensures sound { IsSoundStage search.now.stage }
@@ -56,7 +76,7 @@ pub(crate) fn drive(search: &mut Search) -> Result<Answer, Fault>
     ensures { DrivesTo search.old result search.new }
 {
     search.drive();
-    Ok(told_of(search)?)
+    Ok(come_to(search)?)
 }
 
 /// Takes the waiting letter at a place of the tenant's search of the number.

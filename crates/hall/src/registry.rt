@@ -14,12 +14,12 @@ use crate::calls::{Answer, Step, Stepped};
 use crate::faults::Fault;
 use crate::jobs::Job;
 use crate::lists::{Rows, Sights};
-use crate::opened::{drive, make, take, told_of, visit};
+use crate::opened::{drive, make, proof_of, take, told_of, visit};
 use crate::picking::pick_seat;
 use crate::seats::Seat;
 use indexmap::IndexMap;
 use names::Entity;
-use proof_trees::{Proof, proof_of};
+use proof_trees::Proof;
 use quotas::Limits;
 use search::{Hint, Query, Search};
 use std::alloc::{AllocError, Global};
@@ -124,7 +124,7 @@ impl Hall {
             return Err(Fault::NoTenant);
         }
         let search = self.search(who, number).ok_or(Fault::NoSuchSearch)?;
-        Ok(told_of(search)?)
+        told_of(search)
     }
 
     /// Why the entity is a member of the role that the tenant's search of the number asked about. The order of refusals:
@@ -136,7 +136,7 @@ impl Hall {
             return Err(Fault::NoTenant);
         }
         let search = self.search(who, number).ok_or(Fault::NoSuchSearch)?;
-        Ok(proof_of(self.alloc, search, &member)?)
+        proof_of(self.alloc, search, &member)
     }
 
     /// Ends the tenant's search of the number. It takes no memory.

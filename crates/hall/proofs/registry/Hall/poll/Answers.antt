@@ -1,8 +1,11 @@
-use Rattle.std.proofs.Common.{◌∙◌, sym, Ok, Err, ap}
+use Rattle.std.proofs.Common.{◌∙◌, sym, ap}
 use Rattle.std.proofs.lemmas.Result.{err_from_is_err_and}
 use Rattle.std.specs.Prelude.{option_copied}
+use Rattle.hall.specs.declared.calls.requests.Request.TheVariants.{Poll}
+use Rattle.hall.specs.declared.calls.replies.Reply.TheVariants.{Answered}
+use Rattle.hall.specs.Hall.{told_as}
 use Rattle.hall.proofs.Refused.{refused_as}
-use Rattle.hall.proofs.Viewed.{nothing_polled, poll_told}
+use Rattle.hall.proofs.Viewed.{nothing_polled, served_over}
 use Rattle.hall.proofs.registry.Hall.poll.Goals as goal
 
 pub returns-in_err-search : goal.returns-in_err-search
@@ -10,16 +13,8 @@ returns-in_err-search c =
     let p = err_from_is_err_and c.from_residual.result c.from_residual.ensures.1 in
     rw (p.1, p.2, refused_as c.in_err-search.ensures.value c.in_err-search.ensures.ok_part) record { served = nothing_polled c.args.self.now c.args.who (sym c.has.ensures ∙ c.if-not-has.false) c.args.number (ap option_copied (sym c.in_err-search.ensures.ok_part) ∙ c.search.ensures) }
 
-pub returns-in_err-told_of : goal.returns-in_err-told_of
-returns-in_err-told_of c =
-    let p = err_from_is_err_and c.from_residual-in_err-told_of.result c.from_residual-in_err-told_of.ensures.1 in
-    rw p.1 record {
-      served = poll_told c.args.self.now c.args.who (sym c.has.ensures ∙ c.if-not-has.false) c.args.number c.in_ok-search.search.now (ap option_copied (sym c.in_ok-search.ensures.ok_part) ∙ c.search.ensures)
-          (Err p.0) (p.2, c.in_err-told_of.ensures.memory);
-    }
-
 pub returns : goal.returns
 returns c = record {
-  served = poll_told c.args.self.now c.args.who (sym c.has.ensures ∙ c.if-not-has.false) c.args.number c.in_ok-search.search.now (ap option_copied (sym c.in_ok-search.ensures.ok_part) ∙ c.search.ensures)
-      (Ok c.in_ok-told_of.field-0) c.in_ok-told_of.ensures.told;
+  served = served_over c.args.self.now c.args.who c.args.number c.in_ok-search.search.now Poll (told_as Answered c.told_of.result)
+      (ap option_copied (sym c.in_ok-search.ensures.ok_part) ∙ c.search.ensures) c.told_of.ensures.served;
 }
