@@ -1,5 +1,5 @@
 use Rattle.std.proofs.Common.{All}
-use Rattle.search.specs.Quiet.{IsQuiet}
+use Rattle.search.specs.Stage.{IsQuiet}
 use Rattle.hall.proofs.picking.pick_search.Given as goal
 
 -- the searches so far are quiet
