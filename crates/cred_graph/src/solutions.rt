@@ -1,4 +1,4 @@
-ghost use Rattle.std.specs.Prelude.{◌≡◌, [], Some, IfOk, OnErr, MatchOption, ◌<◌, length, slice_get};
+ghost use Rattle.std.specs.Prelude.{◌≡◌, [], Some, IfOk, OnErr, MatchOption, ◌<◌, ◌≤◌, length, slice_get};
 
 use crate::member_lists::MemberLists;
 use indexmap::IndexMap;
@@ -35,6 +35,9 @@ pub struct Solved {
     pub node: u32,
     pub who: u32,
 }
+
+/// A table of fewer solutions grows fourfold, so that it is moved and indexed anew less often.
+const SMALL: usize = 4096;
 
 /// The solutions of all nodes with their reasons, in order of adding, and the entities of each node's. Entities are
 /// spoken of by number.
@@ -104,10 +107,23 @@ impl Solutions {
         if let Some(_found) = self.find(&solved) {
             return Ok(false);
         }
-        self.reasons.reserve(1)?;
+        let room = self.room_for_one();
+        self.reasons.reserve(room)?;
         self.members.add(solved.node, solved.who)?;
         let _earlier = self.reasons.insert(solved, reason).unwrap();
         Ok(true)
+    }
+
+    /// For how many solutions room is made where it is asked for one: a table that is still small grows fourfold.
+    fn room_for_one(&self) -> usize
+        ensures { 1 ≤ result }
+    {
+        let count = self.reasons.len();
+        if count == self.reasons.capacity() {
+            (3 * count.min(SMALL)).max(1)
+        } else {
+            1
+        }
     }
 
     /// How many solutions the node has.
