@@ -1,5 +1,5 @@
 //! How a node opens, at its first Ask: an entity is its own solution, any other expression asks.
-ghost use Rattle.std.specs.Prelude.{◌≡◌, ◌<◌, ◌≤◌, length, OnOk};
+ghost use Rattle.std.specs.Prelude.{◌≡◌, ◌+◌, ◌<◌, ◌≤◌, length, OnOk};
 ghost use Rattle.names.specs.declared.roles.Role.{Role};
 ghost use Rattle.credential_text.specs.declared.exprs.Expr.{Expr};
 ghost use Rattle.snapshots.specs.Span.{role_rows, span_of};
@@ -15,6 +15,28 @@ use credential_text::{Expr, Part};
 use snapshots::{Snapshot, Span};
 use std::alloc::{AllocError, Global};
 
+/// For the bodies of so many rows room is made as they are asked.
+const FEW_ROWS: u64 = 16;
+
+// Makes room for the nodes of the rows' bodies at once, unless the last of these has a node already.
+fn make_room(
+    found: &mut Findings,
+    snapshot: &Snapshot,
+    span: Span,
+    count: u64,
+) -> Result<(), AllocError>
+    requires span { (role : Role) × (span ≡ span_of snapshot.now.vaults role) }
+    requires rows { span.lo + count ≡ span.hi }
+    requires some { 0 < count }
+    ensures { found.new ≡ found.old }
+{
+    let last = snapshot.row(span, count - 1);
+    match found.graph().node(&last.body) {
+        Some(_node) => Ok(()),
+        None => found.reserve(count),
+    }
+}
+
 // A role asks the body of each of its rows.
 fn ask_rows(
     alloc: Global,
@@ -27,7 +49,9 @@ fn ask_rows(
         → AsksEach found.old (row_asks (role_rows snapshot.now.vaults role)) found.new) }
 {
     let count = span.hi - span.lo;
-    found.reserve(count)?;
+    if count > FEW_ROWS {
+        make_room(found, snapshot, span, count)?;
+    }
     for place in 0..count {
         let row = snapshot.row(span, place);
         ask(alloc, found, &row.body, Port::Body)?;
