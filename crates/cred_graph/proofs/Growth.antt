@@ -181,23 +181,3 @@ graph_with_solution g s graph absent fits = record {
   one_solution = one_solution_more g s graph absent;
   justified = justified_more g s graph fits;
 }
-
--- the same graphs, by their parts
-
-pub node_added : (g h : GraphState) (e : Expr) → IsGraph g → (Contains g.nodes e → ⊥) → HasPartsInRange e →
-    h.nodes ≡ g.nodes ++ e ∷ [] → h.listeners ≡ g.listeners ++ [] ∷ [] → h.solutions ≡ g.solutions → IsGraph h
-node_added g h e graph absent range nodes listeners solutions =
-    let same : h ≡ with_node g e = λ i. record { nodes = nodes i; listeners = listeners i; solutions = solutions i } in
-    subst IsGraph (sym same) (graph_with_node g e graph absent range)
-
-pub listener_added : (g h : GraphState) (n : ℕ) (l : Listening) → IsGraph g → (Listens g n l → ⊥) → n < length g.nodes → l.asker < length g.nodes →
-    h.nodes ≡ g.nodes → h.listeners ≡ listed_with g.listeners n l → h.solutions ≡ g.solutions → IsGraph h
-listener_added g h n l graph absent asked asker nodes listeners solutions =
-    let same : h ≡ with_listener g n l = λ i. record { nodes = nodes i; listeners = listeners i; solutions = solutions i } in
-    subst IsGraph (sym same) (graph_with_listener g n l graph absent asked asker)
-
-pub solution_added : (g h : GraphState) (s : Solution) → IsGraph g → (IsSolution g s.node s.who → ⊥) → Fits g s.node s.who s.reason →
-    h.nodes ≡ g.nodes → h.listeners ≡ g.listeners → h.solutions ≡ g.solutions ++ s ∷ [] → IsGraph h
-solution_added g h s graph absent fits nodes listeners solutions =
-    let same : h ≡ with_solution g s = λ i. record { nodes = nodes i; listeners = listeners i; solutions = solutions i } in
-    subst IsGraph (sym same) (graph_with_solution g s graph absent fits)

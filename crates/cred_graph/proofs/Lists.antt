@@ -36,10 +36,6 @@ pub map-pushed_at : {A B : Type 0} (f : A → List B) (xs : List A) (n : ℕ) (o
 map-pushed_at f xs n old new y within at is =
     map-set f xs n new ∙ ap (set (map f xs) n) (is ∙ ap (λ l. l ++ y ∷ []) (ap f at ∙ sym (get_or-map f xs n old [] within)))
 
--- the list at a place, seen by f
-pub at_seen : {A B : Type 0} (f : A → List B) (xs : List A) (n : ℕ) (x : A) → n < length xs → x ≡ get_or xs n x → get_or (map f xs) n [] ≡ f x
-at_seen f xs n x within at = get_or-map f xs n x [] within ∙ ap f (sym at)
-
 -- an element that was added is there
 pub pushed_there : {X : Type 0} (xs after : List X) (x : X) → after ≡ xs ++ x ∷ [] → Contains after x
 pushed_there xs after x is = subst (λ l. Contains l x) (sym is) (Contains-push xs x)

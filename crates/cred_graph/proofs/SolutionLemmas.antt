@@ -8,7 +8,7 @@ use Rattle.indexmap.specs.IndexMap.{insert_entry}
 use Rattle.cred_graph.specs.declared.solutions.Solved.{Solved}
 use Rattle.cred_graph.specs.declared.solutions.Reason.{Reason}
 use Rattle.cred_graph.specs.contracts.solutions.SolvedPartialEq.TheImpl as solved
-use Rattle.cred_graph.specs.NodeLists.{list_at, AreSame, AddsAt}
+use Rattle.cred_graph.specs.NodeLists.{list_at, AddsAt}
 use Rattle.cred_graph.specs.Solved.{HasKey, members_by, AreMembers}
 use Rattle.cred_graph.proofs.Keys.{solved_decided}
 use Rattle.cred_graph.proofs.Lists.{Contains-at_place, place_of_Contains}
@@ -18,9 +18,6 @@ pub found_entry : (es : List (Solved × Reason ℕ ℕ)) (key k : Solved) (r : R
     Some k ≡ lookup_key (solved.ghosts.eq key) es → slice_get es place ≡ Some (k, r) → slice_get es place ≡ Some (key, r)
 found_entry es key k r place found at =
     at ∙ ap (λ (x : Solved). Some (x, r)) (sym (lookup_key_is solved.ghosts.eq solved_decided es key k (sym found)))
-
-pub entry_there : (es : List (Solved × Reason ℕ ℕ)) (key : Solved) (r : Reason ℕ ℕ) (place : ℕ) → slice_get es place ≡ Some (key, r) → HasKey es key
-entry_there es key r place at = (r, Contains-at_place es place (key, r) at)
 
 pub no_entry : (es : List (Solved × Reason ℕ ℕ)) (key : Solved) → None ≡ lookup_key (solved.ghosts.eq key) es → HasKey es key → ⊥
 no_entry es key none (r, stands) =
@@ -38,9 +35,6 @@ entry_added es mid after key r absent reserved is =
 members_pushed : (n : ℕ) (es : List (Solved × Reason ℕ ℕ)) (e : Solved × Reason ℕ ℕ) →
     members_by n (es ++ e ∷ []) ≡ map (λ (x : Solved × Reason ℕ ℕ). x.0.who) (filter (λ (x : Solved × Reason ℕ ℕ). x.0.node == n) es ++ (if e.0.node == n then e ∷ [] else []))
 members_pushed n es e = ap (map (λ (x : Solved × Reason ℕ ℕ). x.0.who)) (filter-append (λ (x : Solved × Reason ℕ ℕ). x.0.node == n) es (e ∷ []))
-
-pub members_again : (es after : List (Solved × Reason ℕ ℕ)) (old new : List (List ℕ)) → AreMembers es old → after ≡ es → AreSame old new → AreMembers after new
-members_again es after old new are same lists = subst (λ l. AreMembers l new) (sym same) (λ n. lists n ∙ are n)
 
 pub members_added : (es after : List (Solved × Reason ℕ ℕ)) (old new : List (List ℕ)) (key : Solved) (r : Reason ℕ ℕ) → AreMembers es old →
     AddsAt old new key.node key.who → after ≡ es ++ (key, r) ∷ [] → AreMembers after new

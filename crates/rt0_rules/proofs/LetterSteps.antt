@@ -1,21 +1,14 @@
 -- How the letters that were sent grow: by what is asked, by what a new listener is told, and by a new member.
-use Rattle.std.proofs.Common.{ℕ, List, [], ◌∷◌, ◌++◌, ◌+◌, ◌≡◌, ◌==◌, ◌∙◌, inl, inr, arith, cond, suc, length, length-append, refl}
+use Rattle.std.proofs.Common.{ℕ, List, [], ◌∷◌, ◌++◌, ◌+◌, ◌≡◌, ◌==◌, ◌∙◌, inl, inr, arith, cond, length, length-append, refl}
 use Rattle.std.specs.List.{filter, sum_by}
 use Rattle.std.proofs.lemmas.Bool.{cases_Bool}
-use Rattle.std.proofs.lemmas.List.{length_push}
-use Rattle.std.proofs.lemmas.List.Sums.{sum_by-cons, sum_by_push}
+use Rattle.std.proofs.lemmas.List.Sums.{sum_by-cons}
 use Rattle.rt0_rules.specs.Letters.{NodeAsk, letters_sent}
 
 -- asks are sent
 pub letters_asked : (members : ℕ → List (List ℕ)) (listeners pending asks : List NodeAsk) →
     letters_sent members listeners (pending ++ asks) ≡ letters_sent members listeners pending + length asks
 letters_asked members listeners pending asks = omega (arith, length-append pending asks)
-
--- an ask under way is heard, and its asker is told the members that are known
-pub letters_heard : (members : ℕ → List (List ℕ)) (listeners pending rest : List NodeAsk) (a : NodeAsk) → length pending ≡ suc (length rest) →
-    letters_sent members (listeners ++ a ∷ []) rest ≡ letters_sent members listeners pending + length (members a.asked)
-letters_heard members listeners pending rest a taken =
-    omega (arith, taken, length_push listeners a, sum_by_push (λ (l : NodeAsk). length (members l.asked)) listeners a)
 
 told_once : (before after : ℕ → List (List ℕ)) (listeners : List NodeAsk) (n : ℕ) →
     ((m : ℕ) → length (after m) ≡ length (before m) + cond (m == n) 1 0) →

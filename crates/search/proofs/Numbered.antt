@@ -120,15 +120,6 @@ asks_new s t g h ms ms' outs e n p is are port (absent, range, at, with) monitor
       inr (absent, range, at, ap (λ (x : Progress). x.graph) done ∙ with, ap (λ (x : Progress). x.monitors) done ∙ monitors),
     )
 
-pub asks_old : (s t : Progress) (g h : GraphState) (ms : List Monitor) (outs : List (ℕ × Load ℕ)) (e : Expr) (n : ℕ) (p : Port ℕ) → progress_at g ms outs ≡ s →
-    NodeGiven g h e n false → t ≡ record (progress_at h ms outs) { outs = outs_at h.nodes outs ++ (n, load.Ask (port_at h.nodes p)) ∷ [] } → AsksFor s t e (port_at s.graph.nodes p)
-asks_old s t g h ms outs e n p is (node, same) done =
-    subst (λ (x : Progress). AsksFor x t e (port_at x.graph.nodes p)) is (
-      n,
-      ap (λ (x : Progress). x.outs) done ∙ ap (λ (k : GraphState). outs_at k.nodes outs ++ (n, load.Ask (port_at k.nodes p)) ∷ []) same,
-      inl (node, ap (λ (x : Progress). x.graph) done ∙ same, ap (λ (x : Progress). x.monitors) done),
-    )
-
 pub port_given : (g h : GraphState) (e : Expr) (n : ℕ) (b : Bool) (p : Port ℕ) → NodeGiven g h e n b → IsPort g.nodes p → IsPort h.nodes p
 port_given g h e n true p (absent, range, is, with) port = subst (λ (x : GraphState). IsPort x.nodes p) (sym with) (port_goes_on g.nodes (e ∷ []) p port)
 port_given g h e n false p (node, same) port = subst (λ (x : GraphState). IsPort x.nodes p) (sym same) port

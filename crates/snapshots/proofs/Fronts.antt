@@ -1,5 +1,5 @@
 -- Cuts that are found by the names of roles, and among few rows.
-use Rattle.std.proofs.Common.{ℕ, zero, suc, Bool, true, false, List, [], ◌∷◌, ◌≡◌, ◌∙◌, ◌+◌, ◌-◌, ◌<◌, ◌≤◌, sym, ap, subst, length, length-drop, take, drop, get_or, arith, inl, inr}
+use Rattle.std.proofs.Common.{ℕ, zero, suc, true, false, List, [], ◌∷◌, ◌≡◌, ◌∙◌, ◌+◌, ◌-◌, ◌<◌, ◌≤◌, sym, ap, subst, length, length-drop, take, drop, get_or, arith, inl, inr}
 use Rattle.std.specs.List.{All}
 use Rattle.std.specs.List.Sorted.{IsPartitionedBy, IsPartitionPoint, IsStrictlySortedBy}
 use Rattle.std.specs.declared.cmp.Ordering.{Ordering}
@@ -71,9 +71,6 @@ pub own_behind : (owner : List ℕ) (n : ℕ) (rows behind : List Credential) �
 own_behind owner n rows behind is own =
     subst (All (λ (c : Credential). c.head.owner ≡ owner)) (sym is)
     (λ k d inside. ap (λ (c : Credential). c.head.owner) (get_or-drop n rows k d) ∙ own (n + k) d (omega (arith, inside, length-drop n rows)))
-
-pub few_before : (role : Role) (rows : List Credential) → IsStrictlySortedBy credential_order rows → how_many (is_before role) rows ≤ length rows
-few_before role rows sorted = (point_at (is_before role) rows (parted_rows Before role rows sorted)).0
 
 -- the rows through a role's are those before them and, of those behind these, the ones through the role's
 pub through_behind : (role : Role) (rows behind : List Credential) (lo hi : ℕ) → IsStrictlySortedBy credential_order rows → lo ≡ how_many (is_before role) rows → behind ≡ drop lo rows →

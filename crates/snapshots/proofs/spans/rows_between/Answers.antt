@@ -1,4 +1,4 @@
-use Rattle.snapshots.proofs.Fronts.{behind_is, sorted_behind, own_behind, through_behind}
+use Rattle.snapshots.proofs.Fronts.{behind_is, sorted_behind, through_behind}
 use Rattle.snapshots.proofs.spans.rows_between.Goals as goal
 
 pub rows_until-requires-clause-in_order : goal.rows_until-requires-clause-in_order
