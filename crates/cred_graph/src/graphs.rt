@@ -64,7 +64,8 @@ impl Graph {
         }
     }
 
-    /// Makes room for so many nodes more. A graph is the same with it, and nodes are added quicker.
+    /// Makes room for so many nodes more. It is a hint: a graph is the same with it, nodes are added quicker, and no contract
+    /// counts on the room.
     pub fn reserve(&mut self, count: u64) -> Result<(), AllocError>
         ensures unchanged { self.new ≡ self.old }
     {
@@ -74,7 +75,7 @@ impl Graph {
         self.solutions.reserve(nodes)
     }
 
-    /// Gives back the memory that nothing takes.
+    /// Gives back the memory that nothing takes. It is a hint too: a graph is the same without it.
     pub fn give_back(&mut self)
         ensures unchanged { self.new ≡ self.old }
     {
