@@ -1,6 +1,6 @@
 #!/usr/bin/env python3
-"""Changes a vault of thousands of credentials in no order, so that the changes stand apart from its rows and are merged into
-them, again and again, because they are many or because the rows are listed or opened. Compares what the program prints with
+"""Changes a vault of thousands of credentials in no order, so that its rows are parted in blocks, which grow, are made two and
+go, and are gathered in one list again and again, where the rows are listed or opened. Compares what the program prints with
 what the protocol wants, which comes from tenants.py, a second, plain reading of it.
 
   checks/late_changes.py [SEED..]          scripts drawn from these numbers in place of 1, 2 and 3

@@ -5,7 +5,7 @@ pub mod Exactness
 pub mod Accepted
 pub mod Places
 pub mod Steps
-pub mod Late
+pub mod Parts
 pub mod PageWrites
 pub mod Merging
 pub mod Granting

@@ -1,5 +1,5 @@
 -- What a binary search finds in a list in order, and what an edit at its place gives.
-use Rattle.std.proofs.Common.{ℕ, zero, suc, Bool, take, drop, length-drop, ◌-◌, true, false, cond, not, List, [], ◌∷◌, ◌≡◌, ◌∙◌, ◌+◌, ◌<◌, ◌≤◌, ◌||◌, sym, ap, refl, subst, All, length, get_or, arith, insert, remove, Result, Ok, Err, is_ok, inl, inr}
+use Rattle.std.proofs.Common.{ℕ, zero, suc, Bool, drop, true, false, cond, not, List, [], ◌∷◌, ◌≡◌, ◌∙◌, ◌+◌, ◌<◌, ◌≤◌, ◌||◌, sym, ap, refl, subst, All, length, get_or, arith, insert, remove, Result, Ok, Err, is_ok, inl, inr}
 use Rattle.std.specs.List.{HoldsAt}
 use Rattle.std.specs.List.Sorted.{IsStrictlySortedBy, IsSortedBy, IsPartitionPoint, IsBinarySearchResult, IsSearchInRange}
 use Rattle.std.specs.BTreeSet.{insert_key}
@@ -10,7 +10,6 @@ use Rattle.std.proofs.lemmas.Bool.{cases_lt, or_parts}
 use Rattle.std.proofs.lemmas.List.Elements.{All-from_recursion, All-weaker}
 use Rattle.std.proofs.lemmas.List.Sorted.{searchable_from_sorted}
 use Rattle.std.proofs.lemmas.List.Folds.{list_any_none, list_any_at}
-use Rattle.std.proofs.lemmas.List.{get_or-drop, get_or_default, take_all}
 use Rattle.std.proofs.lemmas.Map.Keys.{Less-from_sorted, sorted_head, sorted_tail}
 use Rattle.vaults.specs.InOrder.{IsPlace, without}
 use Rattle.vaults.proofs.Elements.{IsExactOrder, has, turned, tied_both_ways, same_from_tied, same_in_order, sorted-insert_key, has-insert_key}
@@ -24,50 +23,11 @@ module _ {K : Type 0} {R : K → K → Ordering} (o : IsExactOrder R) where
   place_found xs x (Ok i) sorted within found = (within, found)
   place_found xs x (Err i) sorted within found = (within, found (searchable_from_sorted o.total (λ (y : K). y) xs x (rises xs sorted)))
 
-  -- what stands before an element that isn't above another is below that one
-  pub below_all : (xs : List K) (x y : K) (n : ℕ) (r : Ordering) → IsStrictlySortedBy R xs → n < length xs → y ≡ get_or xs n y → R x y ≡ r → is_lt r ≡ false →
-      (k : ℕ) (d : K) → k < n → R (get_or xs k d) x ≡ Less
-  below_all xs x y n r sorted within at is apart k d low = by r is apart
-    where
-      above : R (get_or xs k d) y ≡ Less
-      above = subst (λ (z : K). R (get_or xs k d) z ≡ Less) (get_or_default xs n d y within ∙ sym at) (Less-from_sorted R xs k n d sorted low within)
-
-      by : (p : Ordering) → R x y ≡ p → is_lt p ≡ false → R (get_or xs k d) x ≡ Less
-      by Less e apart = cc
-      by Equal e apart = subst (λ (z : K). R (get_or xs k d) z ≡ Less) (sym (o.exact x y e)) above
-      by Greater e apart = o.total.trans (get_or xs k d) y x above (turned o x y Greater e)
-
   -- what stands behind in a list in order is in order
   pub sorted_behind : (n : ℕ) (xs : List K) → IsStrictlySortedBy R xs → IsStrictlySortedBy R (drop n xs)
   sorted_behind zero xs sorted = sorted
   sorted_behind (suc n) [] sorted = sorted
   sorted_behind (suc n) (x ∷ xs) sorted = sorted_behind n xs (sorted_tail R x xs sorted)
-
-  pub all_behind : (n : ℕ) (xs : List K) → take (length xs - n) (drop n xs) ≡ drop n xs
-  all_behind n xs = take_all (length xs - n) (drop n xs) (omega (arith, length-drop n xs))
-
-  -- a place behind elements that are below is the place among all
-  pub place_behind_ok : (xs ys : List K) (x : K) (n i : ℕ) → n ≤ length xs → ys ≡ drop n xs → IsPlace R ys x (Ok i) → IsPlace R xs x (Ok (n + i))
-  place_behind_ok xs ys x n i within are place =
-      (omega (arith, place.0, ap length are, length-drop n xs), λ d. ap (λ (y : K). R y x) (sym (get_or-drop n xs i d) ∙ ap (λ (l : List K). get_or l i d) (sym are)) ∙ place.1 d)
-
-  pub place_behind_err : (xs ys : List K) (x : K) (n i : ℕ) → n ≤ length xs → ((k : ℕ) (d : K) → k < n → R (get_or xs k d) x ≡ Less) → ys ≡ drop n xs → IsPlace R ys x (Err i) →
-      IsPlace R xs x (Err (n + i))
-  place_behind_err xs ys x n i within below are place = (
-    omega (arith, place.0, ap length are, length-drop n xs),
-    (
-      λ k d low high. elim (cases_lt k n) [
-        | inl before ↦ below k d before
-        | inr behind ↦ at k d behind ∙ place.1.0 (k - n) d (omega arith) (omega (arith, behind))
-      ],
-      λ k d low high. at k d (omega (arith, low)) ∙ place.1.1 (k - n) d (omega (arith, low)) (omega (arith, low, high, ap length are, length-drop n xs)),
-    ),
-  )
-    where
-      at : (k : ℕ) (d : K) → n ≤ k → R (get_or xs k d) x ≡ R (get_or ys (k - n) d) x
-      at k d behind =
-          let whole : k ≡ n + (k - n) = omega (arith, behind) in
-          ap (λ (m : ℕ). R (get_or xs m d) x) whole ∙ ap (λ (y : K). R y x) (sym (get_or-drop n xs (k - n) d) ∙ ap (λ (l : List K). get_or l (k - n) d) (sym are))
 
   -- it answers Ok where the list has the element
   pub is_ok-place : (xs : List K) (x : K) (r : Result ℕ ℕ) → IsPlace R xs x r → is_ok r ≡ has R xs x

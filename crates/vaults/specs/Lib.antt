@@ -3,7 +3,7 @@ pub mod Fault
 pub mod Journal
 pub mod Laws
 pub mod Version
-pub mod Late
+pub mod Blocks
 pub mod Page
 pub mod Book
 pub mod Merge

@@ -22,7 +22,7 @@ pub record PageState : Type 0 where
 abbrev pub empty_page : PageState
 empty_page = record { rows = []; readers = []; changes = 0 }
 
--- a page, and how many late changes of its rows are kept apart
+-- a page, and how many blocks of its rows stand apart
 pub record Leaf : Type 0 where
   pub page : PageState
   pub apart : ℕ
@@ -34,7 +34,7 @@ empty_leaf = record { page = empty_page; apart = 0 }
 abbrev pub page_at : BTreeMap (List ℕ) Leaf → List ℕ → PageState
 page_at pages tenant = (unwrap_or (get name_order pages tenant) empty_leaf).page
 
--- how many late changes of the tenant's rows are kept apart
+-- how many blocks of the tenant's rows stand apart
 abbrev pub apart_at : BTreeMap (List ℕ) Leaf → List ℕ → ℕ
 apart_at pages tenant = (unwrap_or (get name_order pages tenant) empty_leaf).apart
 

@@ -14,7 +14,7 @@ abbrev pub rows_shown : {A : Type 0} → Option (Arc (List Credential) A) → Li
 rows_shown None own = own
 rows_shown (Some version) own = arc_value version
 
--- how many late changes of one's own rows are kept apart, where there is no version
+-- how many blocks of one's own rows stand apart, where there is no version
 abbrev pub apart_shown : {A : Type 0} → Option (Arc (List Credential) A) → ℕ → ℕ
 apart_shown None apart = apart
 apart_shown (Some version) apart = 0

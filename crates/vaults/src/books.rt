@@ -395,7 +395,7 @@ fn keep_on_page(
     }
 }
 
-/// Merges what is late into the rows on the tenant's page.
+/// Gathers the rows on the tenant's page in one list.
 fn settle_page(pages: &mut BTreeMap<Entity, Page>, who: Entity)
     ensures unchanged { IsUnchanged pages.old pages.new }
     ensures settled { apart_at pages.new who ≡ 0 }

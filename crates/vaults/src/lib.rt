@@ -8,21 +8,21 @@
 //! (`specs/Laws.antt`) say that a tenant's own entries decide what it holds and grants.
 #![tactic(auto)]
 
+mod blocks;
 mod books;
 mod changes;
 mod copies;
 mod entries;
 mod faults;
 mod journals;
-mod late_rows;
 mod laws;
 mod marks;
 mod merges;
 mod name_sets;
 mod own_rows;
 mod pages;
+mod parting;
 mod rows;
-mod settling;
 #[cfg(test)]
 mod tests;
 mod versions;

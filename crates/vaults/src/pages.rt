@@ -53,7 +53,7 @@ impl Page {
         }
     }
 
-    /// Merges what is late into the rows.
+    /// Gathers the rows in one list.
     pub fn settle(&mut self)
         ensures page { self.new.page ≡ self.old.page }
         ensures settled { self.new.apart ≡ 0 }

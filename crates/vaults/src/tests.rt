@@ -231,6 +231,69 @@ fn a_vault_is_in_order(rt: HostRuntime) -> Result<(), Fail> {
     Ok(())
 }
 
+/// Whether the book accepts a change of each credential from `A.r <- E000` on to the 899th, or of each second one, in no
+/// order, after so many changes before.
+fn accepts_in_no_order(
+    alloc: Global,
+    book: &mut Book,
+    word: &str,
+    second: bool,
+    before: u64,
+) -> Result<bool, Fail> {
+    let mut count = before;
+    for place in 0..900u64 {
+        let number = place * 389 % 900;
+        if second && number % 2 == 0 {
+            continue;
+        }
+        count = count.wrapping_add(1);
+        let body = format!(in alloc; "E{number:03}")?;
+        if answer(book, "A", word, "A.r", body.as_str())? != count {
+            return Ok(false);
+        }
+    }
+    Ok(true)
+}
+
+/// Whether the rows are `A.r <- E000` and each second one on to the 899th.
+fn are_even(alloc: Global, rows: &[Row]) -> Result<bool, Fail> {
+    for (place, row) in rows.iter().enumerate() {
+        let body = format!(in alloc; "E{:03}", (place as u64).wrapping_mul(2))?;
+        if !row
+            .credential()
+            .compare(&credential("A.r", body.as_str())?)
+            .is_eq()
+        {
+            return Ok(false);
+        }
+    }
+    Ok(rows.len() == 450)
+}
+
+#[test]
+fn a_vault_is_changed_in_no_order(rt: HostRuntime) -> Result<(), Fail> {
+    let alloc = rt.alloc();
+    let mut book = Book::new(alloc);
+    assert!(rt; accepts_in_no_order(alloc, &mut book, "put", false, 0)?);
+    assert!(rt; accepts_in_no_order(alloc, &mut book, "drop", true, 900)?);
+    let again = [
+        ("A", "put", "A.r", "E000", 32),
+        ("A", "put", "A.r", "E450", 32),
+        ("A", "put", "A.r", "E898", 32),
+        ("A", "drop", "A.r", "E001", 33),
+        ("A", "drop", "A.r", "E449", 33),
+        ("A", "drop", "A.r", "E899", 33),
+    ];
+    assert!(rt; answers(&mut book, &again)?);
+    assert_eq!(rt; book.creds_of(entity("A")?), 450);
+    assert!(rt; are_even(alloc, book.vault_of(entity("A")?))?);
+    assert!(rt; answers(&mut book, &[("A", "put", "A.r", "E451", 1_351)])?);
+    assert!(rt; answers(&mut book, &[("A", "drop", "A.r", "E451", 1_352)])?);
+    let version = book.version_of(entity("A")?)?.ok_or("a version")?;
+    assert!(rt; are_even(alloc, version.rows())?);
+    Ok(())
+}
+
 #[test]
 fn a_grant_lets_its_reader_read(rt: HostRuntime) -> Result<(), Fail> {
     let mut book = Book::new(rt.alloc());
