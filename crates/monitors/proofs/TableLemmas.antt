@@ -1,5 +1,5 @@
 -- The table of an intersection's monitor, as a set of pairs.
-use Rattle.std.proofs.Common.{◌≡◌, ◌≢◌, ℕ, suc, zero, ◌+◌, ◌<◌, ◌==◌, ◌&&◌, ◌||◌, Bool, true, false, cond, List, [], ◌∷◌, Some, None, refl, sym, ap, ◌∙◌, arith, nat_eq, get_or, set, true≢false}
+use Rattle.std.proofs.Common.{◌≡◌, ◌≢◌, ℕ, suc, zero, ◌+◌, ◌<◌, ◌≤◌, ◌==◌, ◌&&◌, ◌||◌, Bool, true, false, cond, List, [], ◌∷◌, Some, None, refl, sym, ap, subst, ◌∙◌, arith, nat_eq, get_or, set, true≢false}
 use Rattle.std.specs.Ordering.{eq_by_cmp}
 use Rattle.std.specs.Cmp.Lexicographic.{pointwise}
 use Rattle.std.specs.List.{IsDistinct, AllByRecursion, list_any}
@@ -13,9 +13,12 @@ use Rattle.std.proofs.lemmas.List.{get_or-set_other}
 use Rattle.std.proofs.lemmas.List.Folds.{list_any-append}
 use Rattle.monitors.specs.declared.tellers.Tellers.{Tellers}
 use Rattle.monitors.specs.MeetMonitor.{told_order, MeetTold, HasTold, with_tell, HearsPart}
+use Rattle.monitors.specs.KeyedMeet.{IsTable}
 use Rattle.monitors.specs.Tellers.{pairs_from, pairs_of, tellers_at, is_among, is_teller, AreTellers}
 use Rattle.monitors.proofs.CountLemmas.{all_told}
-use Rattle.monitors.proofs.KeyLemmas.{same_name}
+use Rattle.indexmap.specs.IndexMap.{insert_entry}
+use Rattle.monitors.specs.Keys.{same_name}
+use Rattle.monitors.proofs.NamedLemmas.{inserted_line, once_still}
 use Rattle.monitors.proofs.ToldOrder.{told_order_total, told_order_tied, told_order_ties, told_again}
 
 -- the pair is one of these
@@ -65,6 +68,11 @@ stands_in (e ∷ es) part who once =
     by true same = ap (λ t. get_or e.1.told part false || is_among part t) (no_line es who e.0 same once.0) ∙ or-false _
     by false other = refl
 
+-- a table without a line
+pub empty_table : {K : Type 0} (parts : ℕ) → parts ≤ 8 → IsTable {K = K} parts []
+unfolding IsDistinct
+empty_table parts few = record { few = few; tellers = λ name apart. record { few = few; once = tt; within = λ who part above. refl } }
+
 abbrev pub seen : ℕ → List (List ℕ × Tellers) → MeetTold
 seen parts es = record { parts = parts; told = fin.from_list (pairs_of es) }
 
@@ -80,17 +88,19 @@ told_already parts es are part who there =
 pub never_told : (parts : ℕ) (es : List (List ℕ × Tellers)) → AreTellers parts es → (part : ℕ) (who : List ℕ) → is_teller es part who ≡ false → HasTold (seen parts es) part who → ⊥
 never_told parts es are part who absent has = true≢false (sym has ∙ told_as parts es are part who ∙ absent)
 
--- the part of whom the entity's line said nothing is on it afterwards, and all else stays
-pub record AddsTeller (parts : ℕ) (old new : List (List ℕ × Tellers)) (part : ℕ) (who : List ℕ) (t u : Tellers) : Type 0 where
+-- the part of whom the entity's line said nothing is to be on it
+pub record AddsTeller (parts : ℕ) (old : List (List ℕ × Tellers)) (part : ℕ) (who : List ℕ) (t u : Tellers) : Type 0 where
   pub are : AreTellers parts old
-  pub once : IsDistinct (pointwise nat_eq) (keys_of new)
-  pub updates : (q : List ℕ) → tellers_at new q ≡ cond (pointwise nat_eq who q) (Some u) (tellers_at old q)
   pub line : (p : ℕ) → get_or t.told p false ≡ is_teller old p who
   pub written : u.told ≡ set t.told part true
   pub below : part < parts
   pub absent : get_or t.told part false ≡ false
 
-module _ {parts : ℕ} {old new : List (List ℕ × Tellers)} {part : ℕ} {who : List ℕ} {t u : Tellers} (adds : AddsTeller parts old new part who t u) where
+-- and all else stays
+module _ {parts : ℕ} {old : List (List ℕ × Tellers)} {part : ℕ} {who : List ℕ} {t u : Tellers} (adds : AddsTeller parts old part who t u) where
+  abbrev new : List (List ℕ × Tellers)
+  new = insert_entry (pointwise nat_eq) old who u
+
   on_line : (p : ℕ) → get_or u.told p false ≡ ((p == part) || get_or t.told p false)
   on_line p = ap (λ told. get_or told p false) adds.written ∙ by (p == part) refl
     where
@@ -99,7 +109,7 @@ module _ {parts : ℕ} {old new : List (List ℕ × Tellers)} {part : ℕ} {who 
       by false e = get_or-set_other t.told part p true false (eqb-false p part e)
 
   teller_after : (p : ℕ) (q : List ℕ) → is_teller new p q ≡ ((p == part && pointwise nat_eq q who) || is_teller old p q)
-  teller_after p q = ap (is_among p) (adds.updates q) ∙ by (pointwise nat_eq who q) refl
+  teller_after p q = ap (is_among p) (inserted_line old who u q) ∙ by (pointwise nat_eq who q) refl
     where
       by : (b : Bool) → pointwise nat_eq who q ≡ b → is_among p (cond b (Some u) (tellers_at old q)) ≡ ((p == part && pointwise nat_eq q who) || is_teller old p q)
       by true same =
@@ -113,7 +123,7 @@ module _ {parts : ℕ} {old new : List (List ℕ × Tellers)} {part : ℕ} {who 
   pub still_tellers : AreTellers parts new
   still_tellers = record {
     few = adds.are.few;
-    once = adds.once;
+    once = once_still old who u adds.are.once;
     within = λ q p above.
         let other : p ≢ part = omega (arith, adds.below) in
         teller_after p q ∙ ap (λ b. (b && pointwise nat_eq q who) || is_teller old p q) (ne_eqb p part other) ∙ adds.are.within q p above;
@@ -132,10 +142,7 @@ module _ {parts : ℕ} {old new : List (List ℕ × Tellers)} {part : ℕ} {who 
   new_line : (p : ℕ) → fin.contains (seen parts new).told (p, who) ≡ get_or u.told p false
   new_line p =
       told_as parts new still_tellers p who
-      ∙ ap (is_among p) (adds.updates who ∙ ap (λ b. cond b (Some u) (tellers_at old who)) (nat_list_eq_equiv.refl who))
-
-  pub has_told : HasTold (seen parts new) part who
-  has_told = new_line part ∙ on_line part ∙ ap (λ b. b || get_or t.told part false) (eq-eqb part part refl)
+      ∙ ap (is_among p) (inserted_line old who u who ∙ ap (λ b. cond b (Some u) (tellers_at old who)) (nat_list_eq_equiv.refl who))
 
   -- a new tell is the last where as many parts are on the entity's line as there are
   pub tells_last : HearsPart (seen parts old) (seen parts new) part who (u.count == parts)
@@ -147,3 +154,10 @@ module _ {parts : ℕ} {old new : List (List ℕ × Tellers)} {part : ℕ} {who 
           λ h. eq-eqb u.count parts (u.counted ∙ counts.1 (λ p below. sym (new_line p) ∙ h.0 p below)),
         ),
       )
+
+-- what was heard was told
+pub told_now : (old now : MeetTold) (part : ℕ) (who : List ℕ) (last : Bool) → HearsPart old now part who last → HasTold now part who
+told_now old now part who last hears =
+    subst (λ (m : MeetTold). HasTold m part who) (sym hears.0)
+    (fin.contains-insert told_order_total old.told (part, who) (part, who)
+    ∙ ap (λ b. b || fin.contains old.told (part, who)) (told_order_ties (part, who) (part, who) ∙ (λ i. eq-eqb part part refl i && nat_list_eq_equiv.refl who i)))

@@ -1,10 +1,14 @@
 //! What the nodes of a search remember of the letters that told them something: a linked role, which members its base
 //! has and whom these gave to it; an intersection, which of its parts told which entity.
 //!
-//! `LinkMonitor` and `MeetMonitor` are seen as who told what (`specs/Tellers.antt`). A call answers true exactly where something new
-//! follows from what it was told, and a repeat changes nothing.
+//! `LinkMonitor` and `MeetMonitor` are seen as who told what (`specs/LinkMonitor.antt`, `specs/MeetMonitor.antt`). A call
+//! answers true exactly where something new follows from what it was told, and a repeat changes nothing. A search speaks of
+//! entities by number, and keeps `LinkMonitor<u32>` and `KeyedMeet<u32>`: what they hear is what the monitors by name hear,
+//! whatever names the numbers stand for, as long as no two of them stand for one name (`specs/KeyedMeet.antt`).
 #![tactic(auto)]
 
+mod keyed_meets;
+mod keys;
 mod link_monitors;
 mod link_sets;
 mod meet_monitors;
@@ -13,5 +17,7 @@ mod tellers;
 #[cfg(test)]
 mod tests;
 
+pub use keyed_meets::KeyedMeet;
+pub use keys::Key;
 pub use link_monitors::LinkMonitor;
 pub use meet_monitors::MeetMonitor;

@@ -1,5 +1,6 @@
 ghost use Rattle.std.specs.Prelude.{◌≡◌, [], IfOk, OnOk, OnErr, Contains};
 
+use crate::keys::Key;
 use crate::link_sets::LinkSets;
 use names::Entity;
 use std::alloc::{AllocError, Global};
@@ -7,30 +8,30 @@ use std::marker::Model;
 
 /// What a linked role keeps of what it was told: nothing, until it is told something.
 #[derive(Drop)]
-enum LinkMemory {
+enum LinkMemory<K: Key> {
     Untold,
-    Told(Box<LinkSets>),
+    Told(Box<LinkSets<K>>),
 }
 
 /// What a linked role `A.s.t` was told: the members of its base `A.s`, and the entities that came to it by way of
-/// these. Contracts see it as the two lists, each in order of telling. What it was told stands on the heap, since most
-/// monitors of a search are told nothing and stand side by side.
+/// these, by name or by another key. Contracts see it as the two lists, each in order of telling. What it was told stands
+/// on the heap, since most monitors of a search are told nothing and stand side by side.
 #[derive(Drop)]
-pub struct LinkMonitor {
-    memory: LinkMemory,
+pub struct LinkMonitor<K: Key = Entity> {
+    memory: LinkMemory<K>,
     alloc: Global,
 }
 
-impl Model for LinkMonitor {
-    ghost use Rattle.monitors.specs.LinkMonitor.{LinkTold};
+impl<K: Key> Model for LinkMonitor<K> {
+    ghost use Rattle.monitors.specs.LinkMonitor.{LinkToldBy};
     ghost use Rattle.monitors.specs.Memories.{link_told};
 
-    ghost Value = { LinkTold };
+    ghost Value = { LinkToldBy K };
 
     ghost view = { λ m. link_told m.memory };
 }
 
-impl LinkMonitor {
+impl<K: Key> LinkMonitor<K> {
     ghost use Rattle.monitors.specs.LinkMonitor.{HearsBase, HearsVia};
 
     /// The monitor of a linked role that was told nothing yet.
@@ -44,7 +45,7 @@ impl LinkMonitor {
     }
 
     /// Hears that the entity is a member of the base, and answers whether that is new.
-    pub fn base_told(&mut self, base: Entity) -> Result<bool, AllocError>
+    pub fn base_told(&mut self, base: K) -> Result<bool, AllocError>
         ensures ok { IfOk result (λ new. HearsBase self.old self.new base new) }
         ensures told { OnOk result (Contains self.new.bases base) }
         ensures growth { OnErr result (Contains self.old.bases base → ⊥) }
@@ -63,7 +64,7 @@ impl LinkMonitor {
 
     /// Hears that the entity is in the role which a member of the base gives it, and answers whether that is new: by
     /// way of which member it came doesn't count.
-    pub fn via_told(&mut self, base: Entity, who: Entity) -> Result<bool, AllocError>
+    pub fn via_told(&mut self, base: K, who: K) -> Result<bool, AllocError>
         requires { Contains self.old.bases base }
         ensures ok { IfOk result (λ new. HearsVia self.old self.new who new) }
         ensures told { OnOk result (Contains self.new.members who) }

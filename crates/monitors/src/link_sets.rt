@@ -1,26 +1,26 @@
 ghost use Rattle.std.specs.Prelude.{◌≡◌, [], IfOk, OnOk, OnErr, Contains};
 
+use crate::keys::Key;
 use indexmap::IndexSet;
-use names::Entity;
 use std::alloc::{AllocError, Global};
 use std::marker::Model;
 
 /// What a linked role was told, once it was told something: as sets in order of telling.
 #[derive(Drop)]
-pub struct LinkSets {
-    bases: IndexSet<Entity>,
-    members: IndexSet<Entity>,
+pub struct LinkSets<K: Key> {
+    bases: IndexSet<K>,
+    members: IndexSet<K>,
 }
 
-impl Model for LinkSets {
-    ghost use Rattle.monitors.specs.LinkMonitor.{LinkTold};
+impl<K: Key> Model for LinkSets<K> {
+    ghost use Rattle.monitors.specs.LinkMonitor.{LinkToldBy};
 
-    ghost Value = { LinkTold };
+    ghost Value = { LinkToldBy K };
 
     ghost view = { λ m. record { bases = m.bases.keys; members = m.members.keys } };
 }
 
-impl LinkSets {
+impl<K: Key> LinkSets<K> {
     ghost use Rattle.monitors.specs.LinkMonitor.{HearsBase, HearsVia};
 
     /// Nothing was told yet.
@@ -34,7 +34,7 @@ impl LinkSets {
     }
 
     /// As `LinkMonitor::base_told`.
-    pub fn base_told(&mut self, base: Entity) -> Result<bool, AllocError>
+    pub fn base_told(&mut self, base: K) -> Result<bool, AllocError>
         ensures ok { IfOk result (λ new. HearsBase self.old self.new base new) }
         ensures told { OnOk result (Contains self.new.bases base) }
         ensures growth { OnErr result (Contains self.old.bases base → ⊥) }
@@ -44,7 +44,7 @@ impl LinkSets {
     }
 
     /// As `LinkMonitor::via_told`.
-    pub fn via_told(&mut self, base: Entity, who: Entity) -> Result<bool, AllocError>
+    pub fn via_told(&mut self, base: K, who: K) -> Result<bool, AllocError>
         requires { Contains self.old.bases base }
         ensures ok { IfOk result (λ new. HearsVia self.old self.new who new) }
         ensures told { OnOk result (Contains self.new.members who) }

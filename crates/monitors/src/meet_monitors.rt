@@ -1,38 +1,27 @@
 ghost use Rattle.std.specs.Prelude.{◌≡◌, ◌<◌, ◌≤◌, IfOk, OnOk, OnErr};
 ghost use Rattle.std.specs.FinSet as set;
 
-use crate::meet_tables::MeetTable;
+use crate::keyed_meets::KeyedMeet;
 use names::Entity;
 use std::alloc::{AllocError, Global};
 use std::marker::Model;
 
-/// What an intersection keeps of what it was told: the number of its parts alone, until it is told something.
-#[derive(Drop)]
-enum MeetMemory {
-    Untold(u8),
-    Told(Box<MeetTable>),
-}
-
 /// What an intersection of 2 to 8 parts was told: which part told which entity. Contracts see the set of these pairs.
-/// Parts are counted from 0. What it was told stands on the heap, since most monitors of a search are told nothing and
-/// stand side by side.
+/// Parts are counted from 0.
 #[derive(Drop)]
 pub struct MeetMonitor {
-    memory: MeetMemory,
-    alloc: Global,
+    told: KeyedMeet<Entity>,
 }
 
 impl Model for MeetMonitor {
     ghost use Rattle.monitors.specs.MeetMonitor.{MeetTold, meet_code};
-    ghost use Rattle.monitors.specs.Memories.{meet_told, IsMeetMemory};
+    ghost use Rattle.monitors.specs.KeyedMeet.{told_by};
 
     ghost Value = { MeetTold };
 
     ghost coded = { meet_code };
 
-    ghost view = { λ m. meet_told m.memory };
-
-    ghost invariant = { λ m. IsMeetMemory m.memory };
+    ghost view = { λ m. told_by (λ who. who) m.told };
 }
 
 impl MeetMonitor {
@@ -45,8 +34,7 @@ impl MeetMonitor {
         ensures { result ≡ record { parts = parts; told = set.empty } }
     {
         MeetMonitor {
-            memory: MeetMemory::Untold(parts),
-            alloc,
+            told: KeyedMeet::make(alloc, parts),
         }
     }
 
@@ -59,14 +47,6 @@ impl MeetMonitor {
         ensures growth { OnErr result (HasTold self.old part who → ⊥) }
         ensures unchanged { OnErr result (self.new ≡ self.old) }
     {
-        match &mut self.memory {
-            MeetMemory::Told(table) => table.part_told(part, who),
-            MeetMemory::Untold(parts) => {
-                let mut table = Box::new(self.alloc, MeetTable::make(self.alloc, *parts))?;
-                let is_last = table.part_told(part, who)?;
-                self.memory = MeetMemory::Told(table);
-                Ok(is_last)
-            }
-        }
+        self.told.part_told(part, who)
     }
 }

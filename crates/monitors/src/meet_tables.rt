@@ -1,43 +1,38 @@
-ghost use Rattle.std.specs.Prelude.{◌≡◌, ◌<◌, ◌≤◌, ℕ, false, Some, slice_get, slice_index_or, IfOk, OnOk, OnErr, MatchOption};
-ghost use Rattle.std.specs.FinSet as set;
-ghost use Rattle.monitors.specs.Tellers.{is_teller};
+ghost use Rattle.std.specs.Prelude.{◌≡◌, ◌<◌, ◌≤◌, ℕ, false, [], Some, slice_get, slice_index_or, IfOk, OnErr, MatchOption};
+ghost use Rattle.indexmap.specs.IndexMap.{get};
+ghost use Rattle.monitors.specs.Tellers.{is_among};
 
+use crate::keys::Key;
 use crate::tellers::Tellers;
 use indexmap::IndexMap;
-use names::Entity;
 use std::alloc::{AllocError, Global};
 use std::marker::Model;
 
 /// What an intersection was told, once it was told something: for each entity the parts that told it.
 #[derive(Drop)]
-pub struct MeetTable {
+pub struct MeetTable<K: Key> {
     parts: u8,
-    told: IndexMap<Entity, Tellers>,
+    told: IndexMap<K, Tellers>,
 }
 
-impl Model for MeetTable {
-    ghost use Rattle.std.specs.FinSet as set;
-    ghost use Rattle.monitors.specs.MeetMonitor.{MeetTold, meet_code};
+impl<K: Key> Model for MeetTable<K> {
+    ghost use Rattle.monitors.specs.KeyedMeet.{MeetLines, IsTable};
 
-    ghost Value = { MeetTold };
+    ghost Value = { MeetLines K };
 
-    ghost coded = { meet_code };
+    ghost view = { λ m. record { parts = m.parts; lines = m.told.entries } };
 
-    ghost use Rattle.monitors.specs.Tellers.{pairs_of, AreTellers};
-
-    ghost view = { λ m. record { parts = m.parts; told = set.from_list (pairs_of m.told.entries) } };
-
-    ghost invariant = { λ m. AreTellers m.parts m.told.entries };
+    ghost invariant = { λ m. IsTable m.parts m.told.entries };
 }
 
-impl MeetTable {
-    ghost use Rattle.monitors.specs.MeetMonitor.{HasTold, HearsPart};
+impl<K: Key> MeetTable<K> {
+    ghost use Rattle.monitors.specs.KeyedMeet.{HearsByName, IsUntold, HasKeysOf};
 
     /// So many parts, of which none told anything yet.
     pub fn make(alloc: Global, parts: u8) -> Self
         requires low { 2 ≤ parts }
         requires high { parts ≤ 8 }
-        ensures { result ≡ record { parts = parts; told = set.empty } }
+        ensures { result ≡ record { parts = parts; lines = [] } }
     {
         MeetTable {
             parts,
@@ -45,22 +40,25 @@ impl MeetTable {
         }
     }
 
-    /// As `MeetMonitor::part_told`.
-    pub fn part_told(&mut self, part: u8, who: Entity) -> Result<bool, AllocError>
+    /// As `KeyedMeet::part_told`.
+    pub fn part_told(&mut self, part: u8, who: K) -> Result<bool, AllocError>
         requires { part < self.old.parts }
-        ensures ok { IfOk result (λ last. HearsPart self.old self.new part who last) }
-        ensures told { OnOk result (HasTold self.new part who) }
+        ensures ok { IfOk result (λ last. HearsByName self.old self.new part who last) }
+        ensures keys { HasKeysOf self.old self.new who }
         ensures parts { self.new.parts ≡ self.old.parts }
-        ensures growth { OnErr result (HasTold self.old part who → ⊥) }
+        ensures growth { OnErr result (IsUntold self.old part who) }
         ensures unchanged { OnErr result (self.new ≡ self.old) }
     {
-        let (line, tellers) = line_of(&self.told, &who);
+        let (place, tellers) = line_of(&self.told, &who);
         if tellers.has(part) {
             return Ok(false);
         }
         let tellers = tellers.with(part);
-        match line {
-            Some(place) => self.told[place] = tellers,
+        match place {
+            Some(place) => {
+                let (_who, line) = self.told.pair_mut(place);
+                *line = tellers;
+            }
             None => {
                 let _nobody = self.told.insert(who, tellers)?;
             }
@@ -70,8 +68,8 @@ impl MeetTable {
 }
 
 /// The place of the entity's line in the table, if it has one, and the parts that told it.
-fn line_of(told: &IndexMap<Entity, Tellers>, who: &Entity) -> (Option<usize>, Tellers)
-    ensures tellers { (part : ℕ) → slice_index_or result.1.told part false ≡ is_teller told.now.entries part who.now }
+fn line_of<K: Key>(told: &IndexMap<K, Tellers>, who: &K) -> (Option<usize>, Tellers)
+    ensures tellers { (part : ℕ) → slice_index_or result.1.told part false ≡ is_among part (get K.eq told.now who.now) }
     ensures place { MatchOption result.0 Unit (λ place. slice_get told.now.entries place ≡ Some (who.now, result.1)) }
 {
     match told.get_full(who) {

@@ -1,4 +1,4 @@
-ghost use Rattle.std.specs.Prelude.{◌≡◌, ◌↔◌, List, IsTrue, IfOk, IfErr, OnOk, MatchOption};
+ghost use Rattle.std.specs.Prelude.{◌≡◌, List, IfOk, IfErr, OnOk, MatchOption};
 ghost use Rattle.credential_text.specs.declared.credentials.Credential.{Credential};
 ghost use Rattle.credential_text.specs.declared.exprs.Expr.{Expr};
 ghost use Rattle.credential_text.specs.declared.exprs.Expr.TheVariants.{Rol};
@@ -19,7 +19,7 @@ use crate::proofs::Proof;
 use crate::rules::rule_for;
 use cred_graph::Graph;
 use names::Entity;
-use search::{Search, Status};
+use search::Search;
 use std::alloc::{AllocError, Global};
 
 /// The node of the asked role, which is the first of a search's graph.
@@ -36,7 +36,7 @@ pub fn proof_of(alloc: Global, search: &Search, who: &Entity) -> Result<Proof, P
     ensures completed { OnOk result (IsCompleted search.now.stage) }
     ensures refused { IfErr result (WhyRefused search.now who.now) }
 {
-    if !is_completed(search) {
+    if !search.is_completed() {
         return Err(ProofFault::NotDone);
     }
     let Some(asked) = asked_finding(search, who) else {
@@ -44,17 +44,6 @@ pub fn proof_of(alloc: Global, search: &Search, who: &Entity) -> Result<Proof, P
     };
     let proof = written(alloc, search.graph(), asked)?;
     Ok(proof)
-}
-
-/// Whether the search has come to an answer.
-fn is_completed(search: &Search) -> bool
-    ensures completed { IsTrue result ↔ IsCompleted search.now.stage }
-    ensures exact { IsCompleted search.now.stage → IsExact (rows_of search.now) (asked_role search.now.query) (Known search.now.graph) }
-{
-    match search.status() {
-        Status::Working | Status::Spent | Status::Broken => false,
-        Status::Yes | Status::No | Status::Members => true,
-    }
 }
 
 /// That the entity is in the asked role, where the search found it.

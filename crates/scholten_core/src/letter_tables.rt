@@ -12,9 +12,6 @@ use std::alloc::{AllocError, Global};
 use std::collections::VecDeque;
 use std::marker::Model;
 
-/// A table of fewer letters grows fourfold, so that it is moved and indexed anew less often.
-const SMALL: usize = 4096;
-
 /// The letters that wait or are held, by number, in order of number. A letter that is finished leaves a hole, so that
 /// the others keep their places. Holes at the end are popped when the last letter is finished; all of them are dropped
 /// where room lacks and they are at least half of the entries.
@@ -240,19 +237,7 @@ impl<P: Drop> LetterTable<P> {
         if self.lacks_room(count) && self.is_half_holes() {
             self.drop_holes();
         }
-        let room = self.room_for(count);
-        self.letters.reserve(room)
-    }
-
-    // For how many letters room is made where it is asked for so many: a table that is still small grows fourfold.
-    fn room_for(&self, count: usize) -> usize
-        ensures { count ≤ result }
-    {
-        if self.lacks_room(count) {
-            count.max(3 * self.letters.len().min(SMALL))
-        } else {
-            count
-        }
+        self.letters.reserve(count)
     }
 
     /// Gives back the room that no letter takes.

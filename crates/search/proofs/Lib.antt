@@ -33,3 +33,5 @@ pub mod InHand
 pub mod Numbered
 pub mod StepsLeft
 pub mod Driven
+pub mod Stays
+pub mod Heard

@@ -1,9 +1,9 @@
 -- What the numbers in letters stand for goes on while nodes are added.
-use Rattle.std.proofs.Common.{ℕ, ◌+◌, ◌<◌, ◌≤◌, get_or, Option, None, MatchOption, length, arith, ◌≡◌, ◌∙◌, Some, map, take, slice_get, Bool, true, false, Contains, refl, sym, subst, ap, List, [], ◌∷◌, ◌++◌, inl, inr, append-nil, append_assoc}
-use Rattle.std.proofs.lemmas.List.Elements.{All-cons, All-nil, All-weaker, Contains-push_cases}
+use Rattle.std.proofs.Common.{ℕ, ◌+◌, ◌<◌, ◌≤◌, All, get_or, Option, None, MatchOption, length, arith, ◌≡◌, ◌∙◌, Some, map, take, slice_get, Bool, true, false, Contains, refl, sym, subst, ap, List, [], ◌∷◌, ◌++◌, inl, inr, append-nil, append_assoc}
+use Rattle.std.proofs.lemmas.List.Elements.{All-cons, All-head, All-nil, All-push, All-tail, All-weaker, Contains-push_cases}
 use Rattle.std.specs.Option.{option_map}
 use Rattle.std.proofs.lemmas.Option.{slice_get-get_or, slice_get_past}
-use Rattle.std.proofs.lemmas.List.{length-append, length-map, length-set, nil_from_length}
+use Rattle.std.proofs.lemmas.List.{map-append, length-append, length-map, length-set, nil_from_length}
 use Rattle.credential_text.specs.declared.exprs.Expr.{Expr}
 use Rattle.credential_text.specs.declared.exprs.Expr.TheVariants.{Ent, Rol, Link, Meet}
 use Rattle.credential_text.specs.declared.credentials.Credential.{Credential}
@@ -19,7 +19,13 @@ use Rattle.cred_graph.specs.GraphState.{GraphState, listed_with}
 use Rattle.cred_graph.specs.NodeLists.{list_at}
 use Rattle.cred_graph.specs.Graph.{IsGraph, NodeGiven, ListenerGiven, SolutionGiven}
 use Rattle.cred_graph.specs.declared.solutions.Solution.{Solution}
-use Rattle.cred_graph.specs.Numbers.{IsNamed, IsPort, entity_at, port_at, reason_at}
+use Rattle.std.specs.FinSet as set
+use Rattle.std.specs.Map.{keys_of}
+use Rattle.monitors.specs.declared.tellers.Tellers.{Tellers}
+use Rattle.monitors.specs.Tellers.{pairs_of}
+use Rattle.monitors.specs.KeyedMeet.{named}
+use Rattle.cred_graph.specs.NodeLists.{IsOnce}
+use Rattle.cred_graph.specs.Numbers.{IsEntity, IsNamed, IsPort, entity_at, port_at, reason_at}
 use Rattle.cred_graph.proofs.Growth.{listed_at-pushed, listed_with_cases}
 use Rattle.cred_graph.proofs.NumberLemmas.{entity_goes_on, entity_stays, named_goes_on, port_goes_on, port_named, port_stays}
 use Rattle.scholten_core.specs.declared.letters.Letter.{Letter}
@@ -38,10 +44,12 @@ use Rattle.search.specs.declared.stages.NumberedStage.{NumberedStage}
 use Rattle.search.specs.declared.stages.NumberedStage.TheVariants as numbered_stage
 use Rattle.search.specs.declared.stages.Stage.{Stage}
 use Rattle.search.specs.declared.stages.Stage.TheVariants as stage
-use Rattle.search.specs.declared.findings.Monitor.{Monitor}
+use Rattle.search.specs.declared.findings.Monitor.TheVariants as monitor
+use Rattle.search.specs.declared.findings.NumberedMonitor.{NumberedMonitor}
+use Rattle.search.specs.declared.findings.NumberedMonitor.TheVariants as numbered_monitor
 use Rattle.search.specs.Answers.{Progress, Answers, AsksFor, AsksEach, HearsAsk, Opens, Solves, TakesIn, own_rows, known_tells, new_monitor, new_tells, row_asks, part_asks}
 use Rattle.search.proofs.Loops.{sent_next}
-use Rattle.search.specs.Numbered.{AreLetters, AreLoads, AreNumbered, IsLoad, IsStage, held_at, load_at, outs_at, progress_at, stage_at}
+use Rattle.search.specs.Numbered.{AreLetters, AreLoads, AreMonitors, AreNumbered, IsLoad, IsMonitor, IsStage, monitor_at, monitors_at, held_at, load_at, outs_at, progress_at, stage_at}
 
 module _ (nodes more : List Expr) where
   pub load_goes_on : (l : Load ℕ) → IsLoad nodes l → IsLoad (nodes ++ more) l
@@ -73,12 +81,52 @@ module _ (nodes more : List Expr) where
   stage_stays numbered_stage.Spent are = refl
   stage_stays numbered_stage.Broken are = refl
 
+  entities_go_on : (keys : List ℕ) → All (IsEntity nodes) keys → All (IsEntity (nodes ++ more)) keys
+  entities_go_on keys are = All-weaker (IsEntity nodes) (IsEntity (nodes ++ more)) (entity_goes_on nodes more) keys are
+
+  monitor_goes_on : (m : NumberedMonitor) → IsMonitor nodes m → IsMonitor (nodes ++ more) m
+  monitor_goes_on numbered_monitor.Plain is = tt
+  monitor_goes_on (numbered_monitor.Link x) is = (entities_go_on x.bases is.0, entities_go_on x.members is.1)
+  monitor_goes_on (numbered_monitor.Meet x) is = entities_go_on (keys_of x.lines) is
+
+  names_stay : (keys : List ℕ) → All (IsEntity nodes) keys → map (entity_at (nodes ++ more)) keys ≡ map (entity_at nodes) keys
+  names_stay keys are = map_alike (entity_at (nodes ++ more)) (entity_at nodes) (IsEntity nodes) (entity_stays nodes more) keys are
+
+  lines_stay : (lines : List (ℕ × Tellers)) → All (IsEntity nodes) (keys_of lines) → named (entity_at (nodes ++ more)) lines ≡ named (entity_at nodes) lines
+  lines_stay [] are = refl
+  lines_stay (l ∷ ls) are =
+      let first = entity_stays nodes more l.0 (All-head (IsEntity nodes) l.0 (keys_of ls) are) in
+      let rest = lines_stay ls (All-tail (IsEntity nodes) l.0 (keys_of ls) are) in
+      λ i. (first i, l.1) ∷ rest i
+
+  monitor_stays : (m : NumberedMonitor) → IsMonitor nodes m → monitor_at (nodes ++ more) m ≡ monitor_at nodes m
+  monitor_stays numbered_monitor.Plain is = refl
+  monitor_stays (numbered_monitor.Link x) is = λ i. monitor.Link (record { bases = names_stay x.bases is.0 i; members = names_stay x.members is.1 i })
+  monitor_stays (numbered_monitor.Meet x) is =
+      ap (λ (lines : List (List ℕ × Tellers)). monitor.Meet (record { parts = x.parts; told = set.from_list (pairs_of lines) })) (lines_stay x.lines is)
+
+  pub monitors_go_on : (ms : List NumberedMonitor) → AreMonitors nodes ms → AreMonitors (nodes ++ more) ms
+  monitors_go_on ms are = All-weaker (IsMonitor nodes) (IsMonitor (nodes ++ more)) monitor_goes_on ms are
+
+  pub monitors_stay : (ms : List NumberedMonitor) → AreMonitors nodes ms → monitors_at (nodes ++ more) ms ≡ monitors_at nodes ms
+  monitors_stay ms are = map_alike (monitor_at (nodes ++ more)) (monitor_at nodes) (IsMonitor nodes) monitor_stays ms are
+
 -- a node is added
-pub numbered_with_node : (g : GraphState) (e : Expr) (outs : List (ℕ × Load ℕ)) → AreNumbered g outs → AreNumbered (record g { nodes = g.nodes ++ e ∷ []; listeners = g.listeners ++ [] ∷ [] }) outs
-numbered_with_node g e outs are = record {
+numbered_with_node : (g : GraphState) (e : Expr) (ms : List NumberedMonitor) (outs : List (ℕ × Load ℕ)) → IsOnce (g.nodes ++ e ∷ []) → AreNumbered g ms outs → AreNumbered (record g { nodes = g.nodes ++ e ∷ []; listeners = g.listeners ++ [] ∷ [] }) ms outs
+numbered_with_node g e ms outs once are = record {
+  once = once;
   loads = loads_go_on g.nodes (e ∷ []) outs are.loads;
+  monitors = monitors_go_on g.nodes (e ∷ []) ms are.monitors;
   ports = λ n l listens. named_goes_on g.nodes (e ∷ []) l.port (are.ports n l (subst (λ ls. Contains ls l) (listed_at-pushed g.listeners n) listens));
 }
+
+-- and a monitor
+pub numbered_with_monitor : (g : GraphState) (ms : List NumberedMonitor) (m : NumberedMonitor) (outs : List (ℕ × Load ℕ)) → IsMonitor g.nodes m → AreNumbered g ms outs → AreNumbered g (ms ++ m ∷ []) outs
+numbered_with_monitor g ms m outs is are = record { once = are.once; loads = are.loads; monitors = All-push (IsMonitor g.nodes) ms m are.monitors is; ports = are.ports }
+
+-- the monitors hear
+pub numbered_heard : (g : GraphState) (ms ms' : List NumberedMonitor) (outs : List (ℕ × Load ℕ)) → AreNumbered g ms outs → AreMonitors g.nodes ms' → AreNumbered g ms' outs
+numbered_heard g ms ms' outs are monitors = record { once = are.once; loads = are.loads; monitors = monitors; ports = are.ports }
 
 -- nodes are added alone
 abbrev pub HasMore : List Expr → List Expr → Type 0
@@ -106,18 +154,36 @@ opens_more rows s t n (Rol r) step = asks_more (row_asks rows) s t step
 opens_more rows s t n (Link r name) step = asks_more ((Rol r, port.Base) ∷ []) s t step
 opens_more rows s t n (Meet parts) step = asks_more (part_asks 0 parts) s t step
 
-pub numbered_given : (g h : GraphState) (e : Expr) (n : ℕ) (b : Bool) (outs : List (ℕ × Load ℕ)) → NodeGiven g h e n b → AreNumbered g outs → AreNumbered h outs
-numbered_given g h e n true outs (absent, range, is, with) are = subst (λ x. AreNumbered x outs) (sym with) (numbered_with_node g e outs are)
-numbered_given g h e n false outs (node, same) are = subst (λ x. AreNumbered x outs) (sym same) are
+pub numbered_given : (g h : GraphState) (e : Expr) (n : ℕ) (b : Bool) (ms : List NumberedMonitor) (outs : List (ℕ × Load ℕ)) → NodeGiven g h e n b → IsGraph h → AreNumbered g ms outs → AreNumbered h ms outs
+numbered_given g h e n true ms outs (absent, range, is, with) graph are =
+    subst (λ x. AreNumbered x ms outs) (sym with) (numbered_with_node g e ms outs (subst (λ (x : GraphState). IsOnce x.nodes) with graph.one_node) are)
+numbered_given g h e n false ms outs (node, same) graph are = subst (λ x. AreNumbered x ms outs) (sym same) are
 
--- the new node is asked, where the letters before it stay what they are
-pub asks_new : (s t : Progress) (g h : GraphState) (ms ms' : List Monitor) (outs : List (ℕ × Load ℕ)) (e : Expr) (n : ℕ) (p : Port ℕ) → progress_at g ms outs ≡ s → AreNumbered g outs → IsPort g.nodes p →
-    NodeGiven g h e n true → ms' ≡ ms ++ new_monitor e ∷ [] → t ≡ record (progress_at h ms' outs) { outs = outs_at h.nodes outs ++ (n, load.Ask (port_at h.nodes p)) ∷ [] } → AsksFor s t e (port_at s.graph.nodes p)
-asks_new s t g h ms ms' outs e n p is are port (absent, range, at, with) monitors done =
+-- a node that is there is asked
+pub asks_old : (s t : Progress) (g h : GraphState) (ms : List NumberedMonitor) (outs : List (ℕ × Load ℕ)) (e : Expr) (n : ℕ) (p : Port ℕ) → progress_at g ms outs ≡ s → NodeGiven g h e n false →
+    t ≡ record (progress_at h ms outs) { outs = outs_at h.nodes outs ++ (n, load.Ask (port_at h.nodes p)) ∷ [] } → AsksFor s t e (port_at s.graph.nodes p)
+asks_old s t g h ms outs e n p is (node, same) done =
+    subst (λ (x : Progress). AsksFor x t e (port_at x.graph.nodes p)) is (
+      n,
+      ap (λ (x : Progress). x.outs) done ∙ ap (λ (k : GraphState). outs_at k.nodes outs ++ (n, load.Ask (port_at k.nodes p)) ∷ []) same,
+      inl (node, ap (λ (x : Progress). x.graph) done ∙ same, ap (λ (x : Progress). x.monitors) done ∙ ap (λ (k : GraphState). monitors_at k.nodes ms) same),
+    )
+
+-- the new node is asked, where the letters before it and the other monitors stay what they are
+pub asks_new : (s t : Progress) (g h : GraphState) (ms ms' : List NumberedMonitor) (m : NumberedMonitor) (outs : List (ℕ × Load ℕ)) (e : Expr) (n : ℕ) (p : Port ℕ) → progress_at g ms outs ≡ s → AreNumbered g ms outs → IsPort g.nodes p →
+    NodeGiven g h e n true → ms' ≡ ms ++ m ∷ [] → monitor_at h.nodes m ≡ new_monitor e → t ≡ record (progress_at h ms' outs) { outs = outs_at h.nodes outs ++ (n, load.Ask (port_at h.nodes p)) ∷ [] } → AsksFor s t e (port_at s.graph.nodes p)
+asks_new s t g h ms ms' m outs e n p is are port (absent, range, at, with) pushed new done =
     subst (λ (x : Progress). AsksFor x t e (port_at x.graph.nodes p)) is (
       n,
       ap (λ (x : Progress). x.outs) done ∙ ap (λ (k : GraphState). outs_at k.nodes outs ++ (n, load.Ask (port_at k.nodes p)) ∷ []) with ∙ (λ i. outs_stay g.nodes (e ∷ []) outs are.loads i ++ (n, load.Ask (port_stays g.nodes (e ∷ []) p port i)) ∷ []),
-      inr (absent, range, at, ap (λ (x : Progress). x.graph) done ∙ with, ap (λ (x : Progress). x.monitors) done ∙ monitors),
+      inr (
+        absent,
+        range,
+        at,
+        ap (λ (x : Progress). x.graph) done ∙ with,
+        ap (λ (x : Progress). x.monitors) done ∙ ap (monitors_at h.nodes) pushed ∙ map-append (monitor_at h.nodes) ms (m ∷ [])
+            ∙ (λ i. (ap (λ (k : GraphState). monitors_at k.nodes ms) with ∙ monitors_stay g.nodes (e ∷ []) ms are.monitors) i ++ new i ∷ []),
+      ),
     )
 
 pub port_given : (g h : GraphState) (e : Expr) (n : ℕ) (b : Bool) (p : Port ℕ) → NodeGiven g h e n b → IsPort g.nodes p → IsPort h.nodes p
@@ -132,10 +198,10 @@ tells_on f xs x s now mid next k so_far is at done =
     ∙ ap (λ (os : List (ℕ × Load (List ℕ))). record s { outs = os }) (sent_next (f s.graph) (xs s.graph) k (x s.graph) s.outs (s.outs ++ take k (map (f s.graph) (xs s.graph))) (subst (λ (u : Progress). slice_get (xs u.graph) k ≡ Some (x u.graph)) (is ∙ so_far) at) refl)
 
 -- a listener is added, on a port whose number is an entity's
-pub numbered_listened : (g h : GraphState) (n m : ℕ) (p : Port ℕ) (b : Bool) (outs : List (ℕ × Load ℕ)) → ListenerGiven g h n (record { asker = m; port = port_at g.nodes p }) b → n < length g.nodes → IsGraph h → IsPort g.nodes p → AreNumbered g outs → AreNumbered h outs
-numbered_listened g h n m p false outs (listens, same) node graph port are = subst (λ (k : GraphState). AreNumbered k outs) (sym same) are
-numbered_listened g h n m p true outs (new, with) node graph port are =
-    subst (λ (k : GraphState). AreNumbered k outs) (sym with) (record { loads = are.loads; ports = ports })
+pub numbered_listened : (g h : GraphState) (n m : ℕ) (p : Port ℕ) (b : Bool) (ms : List NumberedMonitor) (outs : List (ℕ × Load ℕ)) → ListenerGiven g h n (record { asker = m; port = port_at g.nodes p }) b → n < length g.nodes → IsGraph h → IsPort g.nodes p → AreNumbered g ms outs → AreNumbered h ms outs
+numbered_listened g h n m p false ms outs (listens, same) node graph port are = subst (λ (k : GraphState). AreNumbered k ms outs) (sym same) are
+numbered_listened g h n m p true ms outs (new, with) node graph port are =
+    subst (λ (k : GraphState). AreNumbered k ms outs) (sym with) (record { once = are.once; loads = are.loads; monitors = are.monitors; ports = ports })
   where
     added : Listening
     added = record { asker = m; port = port_at g.nodes p }
@@ -155,34 +221,34 @@ numbered_listened g h n m p true outs (new, with) node graph port are =
           | inr other ↦ are.ports k l (subst (λ ls. Contains ls l) other listens)
         ]
 
-pub numbered_solved : (g h : GraphState) (s : Solution) (b : Bool) (outs : List (ℕ × Load ℕ)) → SolutionGiven g h s b → AreNumbered g outs → AreNumbered h outs
-numbered_solved g h s false outs (has, same) are = subst (λ (k : GraphState). AreNumbered k outs) (sym same) are
-numbered_solved g h s true outs (new, with) are =
-    subst (λ (k : GraphState). AreNumbered k outs) (sym with) (record { loads = are.loads; ports = are.ports })
+pub numbered_solved : (g h : GraphState) (s : Solution) (b : Bool) (ms : List NumberedMonitor) (outs : List (ℕ × Load ℕ)) → SolutionGiven g h s b → AreNumbered g ms outs → AreNumbered h ms outs
+numbered_solved g h s false ms outs (has, same) are = subst (λ (k : GraphState). AreNumbered k ms outs) (sym same) are
+numbered_solved g h s true ms outs (new, with) are =
+    subst (λ (k : GraphState). AreNumbered k ms outs) (sym with) (record { once = are.once; loads = are.loads; monitors = are.monitors; ports = are.ports })
 
-module _ (s : Progress) (g h : GraphState) (ms : List Monitor) (outs : List (ℕ × Load ℕ)) (is : progress_at g ms outs ≡ s) where
+module _ (s : Progress) (g h : GraphState) (ms : List NumberedMonitor) (outs : List (ℕ × Load ℕ)) (is : progress_at g ms outs ≡ s) where
   pub hears_old : (n m : ℕ) (p : Port ℕ) → ListenerGiven g h n (record { asker = m; port = port_at g.nodes p }) false → HearsAsk s (progress_at h ms outs) n m (port_at s.graph.nodes p)
   hears_old n m p (listens, same) =
-      subst (λ (x : Progress). HearsAsk x (progress_at h ms outs) n m (port_at x.graph.nodes p)) is (refl, inl (listens, same, ap (λ (k : GraphState). outs_at k.nodes outs) same))
+      subst (λ (x : Progress). HearsAsk x (progress_at h ms outs) n m (port_at x.graph.nodes p)) is (ap (λ (k : GraphState). monitors_at k.nodes ms) same, inl (listens, same, ap (λ (k : GraphState). outs_at k.nodes outs) same))
 
   pub hears_new : (t : Progress) (n m : ℕ) (p : Port ℕ) → ListenerGiven g h n (record { asker = m; port = port_at g.nodes p }) true →
       t ≡ record (progress_at h ms outs) { outs = outs_at h.nodes outs ++ known_tells h n m (port_at h.nodes p) } → HearsAsk s t n m (port_at s.graph.nodes p)
   hears_new t n m p (new, with) done =
       subst (λ (x : Progress). HearsAsk x t n m (port_at x.graph.nodes p)) is (
-        ap (λ (x : Progress). x.monitors) done,
+        ap (λ (x : Progress). x.monitors) done ∙ ap (λ (k : GraphState). monitors_at k.nodes ms) with,
         inr (new, ap (λ (x : Progress). x.graph) done ∙ with, ap (λ (x : Progress). x.outs) done ∙ ap (λ (k : GraphState). outs_at k.nodes outs ++ known_tells k n m (port_at k.nodes p)) with),
       )
 
   pub solves_old : (n k : ℕ) (r : Reason ℕ ℕ) → SolutionGiven g h (record { node = n; who = entity_at g.nodes k; reason = reason_at g.nodes r }) false →
       Solves s (progress_at h ms outs) n (entity_at s.graph.nodes k) (reason_at s.graph.nodes r)
   solves_old n k r (has, same) =
-      subst (λ (x : Progress). Solves x (progress_at h ms outs) n (entity_at x.graph.nodes k) (reason_at x.graph.nodes r)) is (refl, inl (has, same, ap (λ (y : GraphState). outs_at y.nodes outs) same))
+      subst (λ (x : Progress). Solves x (progress_at h ms outs) n (entity_at x.graph.nodes k) (reason_at x.graph.nodes r)) is (ap (λ (k : GraphState). monitors_at k.nodes ms) same, inl (has, same, ap (λ (y : GraphState). outs_at y.nodes outs) same))
 
   pub solves_new : (t : Progress) (n k : ℕ) (r : Reason ℕ ℕ) → SolutionGiven g h (record { node = n; who = entity_at g.nodes k; reason = reason_at g.nodes r }) true →
       t ≡ record (progress_at h ms outs) { outs = outs_at h.nodes outs ++ new_tells h n (entity_at h.nodes k) } → Solves s t n (entity_at s.graph.nodes k) (reason_at s.graph.nodes r)
   solves_new t n k r (new, with) done =
       subst (λ (x : Progress). Solves x t n (entity_at x.graph.nodes k) (reason_at x.graph.nodes r)) is (
-        ap (λ (x : Progress). x.monitors) done,
+        ap (λ (x : Progress). x.monitors) done ∙ ap (λ (k : GraphState). monitors_at k.nodes ms) with,
         inr (new, ap (λ (x : Progress). x.graph) done ∙ with, ap (λ (x : Progress). x.outs) done ∙ ap (λ (y : GraphState). outs_at y.nodes outs ++ new_tells y n (entity_at y.nodes k)) with),
       )
 

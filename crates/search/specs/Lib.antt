@@ -10,3 +10,4 @@ pub mod Found
 pub mod Counted
 pub mod Driven
 pub mod Numbered
+pub mod Carried

@@ -1,9 +1,13 @@
 -- Letters with numbers for names, and what they stand for.
-use Rattle.std.specs.Prelude.{ℕ, List, All}
+use Rattle.std.specs.Prelude.{ℕ, List, All, map}
+use Rattle.std.specs.Map.{keys_of}
 use Rattle.credential_text.specs.declared.exprs.Expr.{Expr}
 use Rattle.cred_graph.specs.declared.listeners.Listening.{Listening}
 use Rattle.cred_graph.specs.GraphState.{GraphState, Listens}
 use Rattle.cred_graph.specs.Numbers.{IsEntity, IsNamed, IsPort, entity_at, port_at}
+use Rattle.cred_graph.specs.NodeLists.{IsOnce}
+use Rattle.monitors.specs.LinkMonitor.{LinkTold, LinkToldBy}
+use Rattle.monitors.specs.KeyedMeet.{told_by}
 use Rattle.scholten_core.specs.declared.letters.Letter.{Letter}
 use Rattle.scholten_core.specs.Named.{named_with, outs_with}
 use Rattle.search.specs.declared.letters.Load.{Load}
@@ -14,6 +18,9 @@ use Rattle.search.specs.declared.stages.Stage.TheVariants as stage
 use Rattle.search.specs.declared.stages.NumberedStage.{NumberedStage}
 use Rattle.search.specs.declared.stages.NumberedStage.TheVariants as numbered_stage
 use Rattle.search.specs.declared.findings.Monitor.{Monitor}
+use Rattle.search.specs.declared.findings.Monitor.TheVariants as monitor
+use Rattle.search.specs.declared.findings.NumberedMonitor.{NumberedMonitor}
+use Rattle.search.specs.declared.findings.NumberedMonitor.TheVariants as numbered_monitor
 use Rattle.search.specs.Net.{Said}
 use Rattle.search.specs.Answers.{Progress, progress}
 
@@ -54,11 +61,35 @@ abbrev pub IsStage : List Expr → NumberedStage → Type 0
 IsStage nodes (numbered_stage.Running c) = AreLetters nodes c.letters
 IsStage nodes _ = Unit {0}
 
--- what was found while a node answers a letter, and what it sends
-abbrev pub progress_at : GraphState → List Monitor → List (ℕ × Load ℕ) → Progress
-progress_at g ms outs = progress g ms (outs_at g.nodes outs)
+-- what a linked role was told
+abbrev pub link_at : List Expr → LinkToldBy ℕ → LinkTold
+link_at nodes x = record { bases = map (entity_at nodes) x.bases; members = map (entity_at nodes) x.members }
 
--- each entity that is named in a letter or by a listener has a node
-pub record AreNumbered (g : GraphState) (outs : List (ℕ × Load ℕ)) : Type 0 where
+-- what a node remembers
+abbrev pub monitor_at : List Expr → NumberedMonitor → Monitor
+monitor_at nodes numbered_monitor.Plain = monitor.Plain
+monitor_at nodes (numbered_monitor.Link x) = monitor.Link (link_at nodes x)
+monitor_at nodes (numbered_monitor.Meet x) = monitor.Meet (told_by (entity_at nodes) x)
+
+abbrev pub monitors_at : List Expr → List NumberedMonitor → List Monitor
+monitors_at nodes ms = map (monitor_at nodes) ms
+
+-- the numbers that it remembers are entities'
+abbrev pub IsMonitor : List Expr → NumberedMonitor → Type 0
+IsMonitor nodes numbered_monitor.Plain = Unit {0}
+IsMonitor nodes (numbered_monitor.Link x) = All (IsEntity nodes) x.bases × All (IsEntity nodes) x.members
+IsMonitor nodes (numbered_monitor.Meet x) = All (IsEntity nodes) (keys_of x.lines)
+
+abbrev pub AreMonitors : List Expr → List NumberedMonitor → Type 0
+AreMonitors nodes ms = All (IsMonitor nodes) ms
+
+-- what was found while a node answers a letter, and what it sends
+abbrev pub progress_at : GraphState → List NumberedMonitor → List (ℕ × Load ℕ) → Progress
+progress_at g ms outs = progress g (monitors_at g.nodes ms) (outs_at g.nodes outs)
+
+-- each entity that is named in a letter, in a monitor or by a listener has a node, and no other has the same
+pub record AreNumbered (g : GraphState) (ms : List NumberedMonitor) (outs : List (ℕ × Load ℕ)) : Type 0 where
+  pub once : IsOnce g.nodes
   pub loads : AreLoads g.nodes outs
+  pub monitors : AreMonitors g.nodes ms
   pub ports : (n : ℕ) (l : Listening) → Listens g n l → IsNamed g.nodes l.port

@@ -5,13 +5,13 @@ ghost use Rattle.cred_graph.specs.Graph.{IsGraph};
 use crate::letters::Load;
 use cred_graph::{Graph, Port};
 use credential_text::Expr;
-use monitors::{LinkMonitor, MeetMonitor};
+use monitors::{KeyedMeet, LinkMonitor, MeetMonitor};
 use names::Role;
 use std::alloc::{AllocError, Global};
 use std::collections::VecDeque;
 use std::marker::Model;
 
-/// What a node remembers of what it was told.
+/// What a node remembers of what it was told, as contracts see it.
 #[derive(Drop)]
 pub enum Monitor {
     /// An entity or a role remembers its solutions alone.
@@ -20,12 +20,20 @@ pub enum Monitor {
     Meet(MeetMonitor),
 }
 
+/// The same with numbers for names.
+#[derive(Drop)]
+pub enum NumberedMonitor {
+    Plain,
+    Link(LinkMonitor<u32>),
+    Meet(KeyedMeet<u32>),
+}
+
 /// What a search has found: the graph, and beside each node its monitor. And what a receiver answers, until it is sent,
-/// in a list that serves the next receipt too, where it isn't long. Contracts see its letters with names.
+/// in a list that serves the next receipt too, where it isn't long. Contracts see its letters and monitors with names.
 #[derive(Drop)]
 pub struct Findings {
     pub(crate) graph: Graph,
-    pub(crate) monitors: Vec<Monitor>,
+    pub(crate) monitors: Vec<NumberedMonitor>,
     pub(crate) outs: VecDeque<(u64, Load<u32>)>,
 }
 
@@ -43,7 +51,7 @@ impl Model for Findings {
 
     ghost view = { λ f. progress_at f.graph f.monitors.items f.outs.items };
 
-    ghost invariant = { λ f. AreNumbered f.graph f.outs.items };
+    ghost invariant = { λ f. AreNumbered f.graph f.monitors.items f.outs.items };
 }
 
 /// A list of answers with more room than this is given back.
@@ -62,7 +70,7 @@ impl Findings {
         let mut graph = Graph::new(alloc);
         graph.node_of(&Expr::Rol(role))?;
         let mut monitors = Vec::new(alloc);
-        monitors.push(Monitor::Plain)?;
+        monitors.push(NumberedMonitor::Plain)?;
         let _ports: Option<Port> = None;
         Ok(Findings {
             graph,

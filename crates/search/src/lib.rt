@@ -8,6 +8,7 @@
 #![tactic(auto)]
 
 mod asking;
+mod carried;
 mod driving;
 mod findings;
 mod hearing;
@@ -27,6 +28,7 @@ mod telling;
 #[cfg(test)]
 mod tests;
 
+pub use carried::Carried;
 pub use findings::{Findings, Monitor};
 pub use letters::Load;
 pub use outcomes::{Finished, Status};

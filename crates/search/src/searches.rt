@@ -277,6 +277,17 @@ impl Search {
         nothing_moves(&self.stage)
     }
 
+    /// Whether the search is completed. Then it holds no letter, and nothing changes it again.
+    pub fn is_completed(&self) -> bool
+        ensures completed { IsTrue result ↔ IsCompleted self.now.stage }
+        ensures exact { IsCompleted self.now.stage → IsExact (rows_of self.now) (asked_role self.now.query) (Known self.now.graph) }
+    {
+        match self.status() {
+            Status::Yes | Status::No | Status::Members => true,
+            Status::Working | Status::Spent | Status::Broken => false,
+        }
+    }
+
     /// What the search is for.
     pub fn query(&self) -> Query
         ensures { result ≡ self.now.query }

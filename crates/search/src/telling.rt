@@ -4,12 +4,17 @@ ghost use Rattle.names.specs.declared.roles.Role.{Role};
 ghost use Rattle.credential_text.specs.declared.exprs.Expr.TheVariants as exprs;
 ghost use Rattle.cred_graph.specs.GraphState.{GraphState, IsNode};
 ghost use Rattle.cred_graph.specs.Numbers.{IsEntity, IsPort, entity_at, port_at};
-ghost use Rattle.monitors.specs.LinkMonitor.{LinkTold};
+ghost use Rattle.monitors.specs.LinkMonitor.{LinkTold, LinkToldBy};
 ghost use Rattle.monitors.specs.MeetMonitor.{MeetTold};
+ghost use Rattle.credential_text.specs.declared.exprs.Expr.{Expr};
+ghost use Rattle.cred_graph.specs.NodeLists.{IsOnce};
+ghost use Rattle.monitors.specs.KeyedMeet.{MeetLines};
+ghost use Rattle.search.specs.Numbered.{AreMonitors, monitors_at};
+ghost use Rattle.search.specs.declared.findings.Monitor.TheVariants as Monitor;
 ghost use Rattle.search.specs.Answers.{BaseHeard, PartHeard, TellsLast, TellsBase, TellsPart, MayTakeIn, TakesIn};
 
 use crate::asking::ask;
-use crate::findings::{Findings, Monitor};
+use crate::findings::{Findings, NumberedMonitor};
 use crate::solving::solve;
 use cred_graph::{Graph, Port, Reason};
 use credential_text::Expr;
@@ -17,31 +22,41 @@ use names::{Entity, Role};
 use std::alloc::{AllocError, Global};
 
 // The monitor of a linked role hears a member of its base, and answers whether that is new.
-fn hear_base(monitors: &mut Vec<Monitor>, node: u64, base: Entity) -> Result<bool, AllocError>
-    requires { (x : LinkTold) × (slice_get monitors.old.items node ≡ Some (Monitor.Link x)) }
-    ensures { IfOk result (λ new. BaseHeard monitors.old.items monitors.new.items node base new) }
+fn hear_base(monitors: &mut Vec<NumberedMonitor>, node: u64, base: u32) -> Result<bool, AllocError>
+    requires { (x : LinkToldBy ℕ) × (slice_get monitors.old.items node ≡ Some (NumberedMonitor.Link x)) }
+    ensures heard { IfOk result (λ new. (nodes : List Expr) → IsOnce nodes
+        → AreMonitors nodes monitors.old.items → IsEntity nodes base
+        → BaseHeard (monitors_at nodes monitors.old.items) (monitors_at nodes monitors.new.items)
+        node (entity_at nodes base) new) }
+    ensures numbers { (nodes : List Expr) → AreMonitors nodes monitors.old.items → IsEntity nodes base
+        → AreMonitors nodes monitors.new.items }
 {
     match &mut monitors[node as usize] {
-        Monitor::Link(told) => told.base_told(base),
-        Monitor::Plain => unreachable!(),
-        Monitor::Meet(_told) => unreachable!(),
+        NumberedMonitor::Link(told) => told.base_told(base),
+        NumberedMonitor::Plain => unreachable!(),
+        NumberedMonitor::Meet(_told) => unreachable!(),
     }
 }
 
 // The monitor of an intersection hears that a part told the entity, and answers whether it is the last.
 fn hear_part(
-    monitors: &mut Vec<Monitor>,
+    monitors: &mut Vec<NumberedMonitor>,
     node: u64,
     part: u8,
-    who: Entity,
+    who: u32,
 ) -> Result<bool, AllocError>
-    requires { (x : MeetTold) × (slice_get monitors.old.items node ≡ Some (Monitor.Meet x)) × (part < x.parts) }
-    ensures { IfOk result (λ last. PartHeard monitors.old.items monitors.new.items node part who last) }
+    requires { (x : MeetLines ℕ) × (slice_get monitors.old.items node ≡ Some (NumberedMonitor.Meet x)) × (part < x.parts) }
+    ensures heard { IfOk result (λ last. (nodes : List Expr) → IsOnce nodes
+        → AreMonitors nodes monitors.old.items → IsEntity nodes who
+        → PartHeard (monitors_at nodes monitors.old.items) (monitors_at nodes monitors.new.items)
+        node part (entity_at nodes who) last) }
+    ensures numbers { (nodes : List Expr) → AreMonitors nodes monitors.old.items → IsEntity nodes who
+        → AreMonitors nodes monitors.new.items }
 {
     match &mut monitors[node as usize] {
-        Monitor::Meet(told) => told.part_told(part, who),
-        Monitor::Plain => unreachable!(),
-        Monitor::Link(_told) => unreachable!(),
+        NumberedMonitor::Meet(told) => told.part_told(part, who),
+        NumberedMonitor::Plain => unreachable!(),
+        NumberedMonitor::Link(_told) => unreachable!(),
     }
 }
 
@@ -68,10 +83,10 @@ fn told_base(alloc: Global, found: &mut Findings, node: u64, base: u32) -> Resul
     requires monitor { (x : LinkTold) × (slice_get found.old.monitors node ≡ Some (Monitor.Link x)) }
     ensures { OnOk result (TellsBase found.old found.new node (entity_at found.old.graph.nodes base)) }
 {
-    let who = found.graph.entity(base);
-    if !hear_base(&mut found.monitors, node, who)? {
+    if !hear_base(&mut found.monitors, node, base)? {
         return Ok(());
     }
+    let who = found.graph.entity(base);
     let role = given_role(&found.graph, node, who);
     ask(alloc, found, &role, Port::Via(base))
 }
@@ -84,8 +99,7 @@ fn told_part(found: &mut Findings, node: u64, part: u8, who: u32) -> Result<(), 
     requires last { TellsLast found.old.graph found.old.monitors node part (entity_at found.old.graph.nodes who) }
     ensures { OnOk result (TellsPart found.old found.new node part (entity_at found.old.graph.nodes who)) }
 {
-    let name = found.graph.entity(who);
-    if !hear_part(&mut found.monitors, node, part, name)? {
+    if !hear_part(&mut found.monitors, node, part, who)? {
         return Ok(());
     }
     solve(found, node, who, Reason::Parts)

@@ -1,8 +1,9 @@
-//! Whole searches: stepped in three orders, driven, letter by letter, and compared with the plain programs.
+//! Whole searches: stepped in three orders, driven, letter by letter, shared, and compared with the plain programs.
 mod drives;
 mod letters;
 mod plain;
 mod refusals;
+mod sharing;
 
 use crate::{Finished, Hint, Need, Query, Search, Status};
 use credential_text::read_credential;

@@ -16,7 +16,7 @@ returns-then-not-branch c =
 pub invariant_of-found-2 : goal.invariant_of-found-2
 invariant_of-found-2 c =
     let old = c.found.inside in
-    numbered_listened old.graph c.add_numbered_listener.new.self c.args.node c.args.asker c.args.port c.in_ok-add_numbered_listener.field-0 old.outs.items c.in_ok-add_numbered_listener.ensures.ok
+    numbered_listened old.graph c.add_numbered_listener.new.self c.args.node c.args.asker c.args.port c.in_ok-add_numbered_listener.field-0 old.monitors.items old.outs.items c.in_ok-add_numbered_listener.ensures.ok
     (subst (λ (s : Progress). c.args.node < length s.graph.nodes) (sym c.found.view_is) c.requires.node) c.add_numbered_listener.ensures.graph
     (subst (λ (s : Progress). IsPort s.graph.nodes c.args.port) (sym c.found.view_is) c.requires.port) c.found.invariant
 

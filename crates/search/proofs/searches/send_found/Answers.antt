@@ -7,6 +7,8 @@ use Rattle.search.proofs.searches.send_found.Goals as goal
 
 pub invariant_of-found : goal.invariant_of-found
 invariant_of-found c = record {
+  once = c.found.invariant.once;
+  monitors = c.found.invariant.monitors;
   loads = c.send.ensures.left c.found.inside.graph.nodes c.found.invariant.loads;
   ports = c.found.invariant.ports;
 }

@@ -24,7 +24,7 @@ pub invariant_of-found-2 : goal.invariant_of-found-2
 invariant_of-found-2 c =
     let old = c.found.inside in
     let given : Solution = record { node = c.args.node; who = entity_at old.graph.nodes c.args.who; reason = reason_at old.graph.nodes c.args.reason } in
-    numbered_solved old.graph c.add_numbered_solution.new.self given c.in_ok-add_numbered_solution.field-0 old.outs.items c.in_ok-add_numbered_solution.ensures.ok c.found.invariant
+    numbered_solved old.graph c.add_numbered_solution.new.self given c.in_ok-add_numbered_solution.field-0 old.monitors.items old.outs.items c.in_ok-add_numbered_solution.ensures.ok c.found.invariant
 
 pub returns : goal.returns
 returns c =

@@ -1,19 +1,37 @@
 -- The monitor that hears is the one at the node.
-use Rattle.std.proofs.Common.{◌≡◌, refl, subst, Some, Bool, length, get_or, slice_get}
+use Rattle.std.proofs.Common.{◌≡◌, refl, subst, Some, Bool, List, length, set, get_or, slice_get}
 use Rattle.std.proofs.lemmas.Option.{slice_get_within, slice_get_read}
 use Rattle.std.proofs.lemmas.Result.{IfOk-weaker}
+use Rattle.credential_text.specs.declared.exprs.Expr.{Expr}
+use Rattle.cred_graph.specs.NodeLists.{IsOnce}
+use Rattle.cred_graph.specs.Numbers.{IsEntity, entity_at}
 use Rattle.monitors.specs.LinkMonitor.{HearsBase}
-use Rattle.search.specs.declared.findings.Monitor.{Monitor}
-use Rattle.search.specs.declared.findings.Monitor.TheVariants as monitor
+use Rattle.search.specs.declared.findings.NumberedMonitor.{NumberedMonitor}
+use Rattle.search.specs.declared.findings.NumberedMonitor.TheVariants as numbered_monitor
 use Rattle.search.specs.Answers.{BaseHeard}
+use Rattle.search.specs.Numbered.{AreMonitors, monitors_at}
+use Rattle.search.proofs.Heard.{base_heard, link_after, monitor_there, still_monitors}
+use Rattle.search.proofs.telling.hear_base.Goals.{After-base_told}
 use Rattle.search.proofs.telling.hear_base.Goals as goal
 
-pub returns : goal.returns
-returns c =
+told_at : (c : After-base_told) → slice_get c.args.monitors.now.items c.args.node ≡ Some (numbered_monitor.Link c.in-Link.told)
+told_at c =
     let ms = c.args.monitors.now.items in
-    let is : monitor.Link c.in-Link.told ≡ get_or ms c.args.node (monitor.Link c.in-Link.told) = subst (λ (m : Monitor). m ≡ get_or ms c.args.node m) c.in-Link.is c.index_mut.ensures.value in
-    let at : slice_get ms c.args.node ≡ Some (monitor.Link c.in-Link.told) = slice_get_read ms (length ms) c.args.node (monitor.Link c.in-Link.told) refl (slice_get_within ms c.args.node (monitor.Link c.requires.0) c.requires.1) is in
+    let is : numbered_monitor.Link c.in-Link.told ≡ get_or ms c.args.node (numbered_monitor.Link c.in-Link.told) = subst (λ (m : NumberedMonitor). m ≡ get_or ms c.args.node m) c.in-Link.is c.index_mut.ensures.value in
+    slice_get_read ms (length ms) c.args.node (numbered_monitor.Link c.in-Link.told) refl (slice_get_within ms c.args.node (numbered_monitor.Link c.requires.0) c.requires.1) is
+
+pub returns-clause-heard : goal.returns-clause-heard
+returns-clause-heard c =
+    let after = (goal.at.returns-clause-heard c).After-base_told in
+    let ms = c.args.monitors.now.items in
     IfOk-weaker c.base_told.result
     (λ (new : Bool). HearsBase c.in-Link.told c.base_told.new.self c.args.base new)
-    (λ (new : Bool). BaseHeard ms _ c.args.node c.args.base new)
-    (λ new hears. (c.in-Link.told, c.base_told.new.self, at, hears, refl)) c.base_told.ensures.ok
+    (λ (new : Bool). (nodes : List Expr) → IsOnce nodes → AreMonitors nodes ms → IsEntity nodes c.args.base → BaseHeard (monitors_at nodes ms) (monitors_at nodes (set ms c.args.node (numbered_monitor.Link c.base_told.new.self))) c.args.node (entity_at nodes c.args.base) new)
+    (λ new heard nodes once are is. base_heard nodes once ms c.args.node c.in-Link.told c.base_told.new.self c.args.base new are (told_at after) is heard) c.base_told.ensures.ok
+
+pub returns-clause-numbers : goal.returns-clause-numbers
+returns-clause-numbers c nodes are is =
+    let after = (goal.at.returns-clause-numbers c).After-base_told in
+    let ms = c.args.monitors.now.items in
+    let own = monitor_there nodes ms c.args.node (numbered_monitor.Link c.in-Link.told) are (told_at after) in
+    still_monitors nodes ms c.args.node (numbered_monitor.Link c.base_told.new.self) are (link_after nodes c.in-Link.told c.base_told.new.self c.args.base c.base_told.result own is c.base_told.ensures.ok c.base_told.ensures.unchanged)

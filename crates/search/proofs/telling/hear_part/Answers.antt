@@ -1,19 +1,37 @@
 -- The monitor that hears is the one at the node.
-use Rattle.std.proofs.Common.{◌≡◌, refl, subst, Some, Bool, length, get_or, slice_get}
+use Rattle.std.proofs.Common.{◌≡◌, refl, subst, Some, Bool, List, length, set, get_or, slice_get}
 use Rattle.std.proofs.lemmas.Option.{slice_get_within, slice_get_read}
 use Rattle.std.proofs.lemmas.Result.{IfOk-weaker}
-use Rattle.monitors.specs.MeetMonitor.{HearsPart}
-use Rattle.search.specs.declared.findings.Monitor.{Monitor}
-use Rattle.search.specs.declared.findings.Monitor.TheVariants as monitor
+use Rattle.credential_text.specs.declared.exprs.Expr.{Expr}
+use Rattle.cred_graph.specs.NodeLists.{IsOnce}
+use Rattle.cred_graph.specs.Numbers.{IsEntity, entity_at}
+use Rattle.monitors.specs.KeyedMeet.{HearsByName}
+use Rattle.search.specs.declared.findings.NumberedMonitor.{NumberedMonitor}
+use Rattle.search.specs.declared.findings.NumberedMonitor.TheVariants as numbered_monitor
 use Rattle.search.specs.Answers.{PartHeard}
+use Rattle.search.specs.Numbered.{AreMonitors, monitors_at}
+use Rattle.search.proofs.Heard.{meet_after, part_heard, monitor_there, still_monitors}
+use Rattle.search.proofs.telling.hear_part.Goals.{After-part_told}
 use Rattle.search.proofs.telling.hear_part.Goals as goal
 
-pub returns : goal.returns
-returns c =
+told_at : (c : After-part_told) → slice_get c.args.monitors.now.items c.args.node ≡ Some (numbered_monitor.Meet c.in-Meet.told)
+told_at c =
     let ms = c.args.monitors.now.items in
-    let is : monitor.Meet c.in-Meet.told ≡ get_or ms c.args.node (monitor.Meet c.in-Meet.told) = subst (λ (m : Monitor). m ≡ get_or ms c.args.node m) c.in-Meet.is c.index_mut.ensures.value in
-    let at : slice_get ms c.args.node ≡ Some (monitor.Meet c.in-Meet.told) = slice_get_read ms (length ms) c.args.node (monitor.Meet c.in-Meet.told) refl (slice_get_within ms c.args.node (monitor.Meet c.requires.0) c.requires.1) is in
+    let is : numbered_monitor.Meet c.in-Meet.told ≡ get_or ms c.args.node (numbered_monitor.Meet c.in-Meet.told) = subst (λ (m : NumberedMonitor). m ≡ get_or ms c.args.node m) c.in-Meet.is c.index_mut.ensures.value in
+    slice_get_read ms (length ms) c.args.node (numbered_monitor.Meet c.in-Meet.told) refl (slice_get_within ms c.args.node (numbered_monitor.Meet c.requires.0) c.requires.1) is
+
+pub returns-clause-heard : goal.returns-clause-heard
+returns-clause-heard c =
+    let after = (goal.at.returns-clause-heard c).After-part_told in
+    let ms = c.args.monitors.now.items in
     IfOk-weaker c.part_told.result
-    (λ (last : Bool). HearsPart c.in-Meet.told c.part_told.new.self c.args.part c.args.who last)
-    (λ (last : Bool). PartHeard ms _ c.args.node c.args.part c.args.who last)
-    (λ last hears. (c.in-Meet.told, c.part_told.new.self, at, hears, refl)) c.part_told.ensures.ok
+    (λ (new : Bool). HearsByName c.in-Meet.told c.part_told.new.self c.args.part c.args.who new)
+    (λ (new : Bool). (nodes : List Expr) → IsOnce nodes → AreMonitors nodes ms → IsEntity nodes c.args.who → PartHeard (monitors_at nodes ms) (monitors_at nodes (set ms c.args.node (numbered_monitor.Meet c.part_told.new.self))) c.args.node c.args.part (entity_at nodes c.args.who) new)
+    (λ new heard nodes once are is. part_heard nodes once ms c.args.node c.args.part c.in-Meet.told c.part_told.new.self c.args.who new are (told_at after) is heard) c.part_told.ensures.ok
+
+pub returns-clause-numbers : goal.returns-clause-numbers
+returns-clause-numbers c nodes are is =
+    let after = (goal.at.returns-clause-numbers c).After-part_told in
+    let ms = c.args.monitors.now.items in
+    let own = monitor_there nodes ms c.args.node (numbered_monitor.Meet c.in-Meet.told) are (told_at after) in
+    still_monitors nodes ms c.args.node (numbered_monitor.Meet c.part_told.new.self) are (meet_after nodes c.in-Meet.told c.part_told.new.self c.args.who own is c.part_told.ensures.keys)

@@ -1,18 +1,17 @@
-use Rattle.std.proofs.Common.{rules, subst, sym, Contains, nat_eq}
-use Rattle.std.specs.Cmp.Lexicographic.{pointwise}
+use Rattle.std.proofs.Common.{rules, subst, sym, Contains}
 use Rattle.indexmap.proofs.CallerLemmas.{Contains-insert_key}
-use Rattle.monitors.proofs.KeyLemmas.{same_name, is_new, hears_via}
+use Rattle.monitors.proofs.KeyLemmas.{is_new, hears_via}
 use Rattle.monitors.proofs.link_sets.LinkSets.via_told.Goals as goal
 
 pub returns-in_err-insert-clause-growth : goal.returns-in_err-insert-clause-growth
-returns-in_err-insert-clause-growth c =
-    let new = is_new c.self.inside.members.keys c.args.who c.in_err-insert.ensures.absent in
+returns-in_err-insert-clause-growth g c =
+    let new = is_new g.K.PartialEq.eq g.met.K.Eq.laws g.met.K.Key.exact c.self.inside.members.keys c.args.who c.in_err-insert.ensures.absent in
     rw (← c.self.view_is) (search (rules, new))
 
 pub returns-clause-ok : goal.returns-clause-ok
-returns-clause-ok c =
-    rw (← c.self.view_is) (hears_via _ c.args.who _ _ c.in_ok-insert.ensures.added c.in_ok-insert.ensures.keys)
+returns-clause-ok g c =
+    rw (← c.self.view_is) (hears_via g.K.PartialEq.eq g.met.K.Eq.laws g.met.K.Key.exact _ c.args.who _ _ c.in_ok-insert.ensures.added c.in_ok-insert.ensures.keys)
 
 pub returns-clause-told : goal.returns-clause-told
-returns-clause-told c =
-    subst (λ keys. Contains keys c.args.who) (sym c.in_ok-insert.ensures.keys) (Contains-insert_key (pointwise nat_eq) same_name c.self.inside.members.keys c.args.who)
+returns-clause-told g c =
+    subst (λ keys. Contains keys c.args.who) (sym c.in_ok-insert.ensures.keys) (Contains-insert_key g.K.PartialEq.eq g.met.K.Key.exact c.self.inside.members.keys c.args.who)

@@ -1,13 +1,17 @@
--- Who was told nothing wasn't told this.
-use Rattle.std.proofs.Common.{rules, ◌≡◌, ◌∙◌, ap, sym, subst, true≢false}
-use Rattle.std.specs.FinSet as set
-use Rattle.monitors.specs.MeetMonitor.{MeetTold, HasTold, told_order}
-use Rattle.monitors.specs.Memories.{meet_told}
+-- Each name stands for itself.
+use Rattle.std.proofs.Common.{Bool}
+use Rattle.std.proofs.lemmas.Result.{IfOk-weaker, on_err_weaker}
+use Rattle.monitors.specs.MeetMonitor.{HasTold}
+use Rattle.monitors.specs.KeyedMeet.{told_by, HearsByName}
+use Rattle.monitors.proofs.TableLemmas.{told_now}
 use Rattle.monitors.proofs.meet_monitors.MeetMonitor.part_told.Goals as goal
 
-pub returns-in_err-table-in-Untold-clause-growth : goal.returns-in_err-table-in-Untold-clause-growth
-returns-in_err-table-in-Untold-clause-growth c =
-    let nothing : record { parts = c.in-Untold.parts; told = set.empty } ≡ c.args.self.now = ap meet_told (sym c.in-Untold.is) ∙ c.self.view_is in
-    let new : HasTold c.args.self.now c.args.part c.args.who → ⊥ =
-    subst (λ (m : MeetTold). HasTold m c.args.part c.args.who → ⊥) nothing (λ told. true≢false (sym told ∙ set.contains-empty told_order (c.args.part, c.args.who))) in
-    search (rules, new)
+pub returns-clause-told : goal.returns-clause-told
+returns-clause-told c =
+    IfOk-weaker c.part_told.result
+    (λ (last : Bool). HearsByName c.self.inside.told c.part_told.new.self c.args.part c.args.who last)
+    (λ (last : Bool). HasTold (told_by (λ who. who) c.part_told.new.self) c.args.part c.args.who)
+    (λ last hears. told_now _ _ c.args.part c.args.who last (hears (λ who. who) (λ a b x y e. e))) c.part_told.ensures.ok
+
+pub returns-clause-growth : goal.returns-clause-growth
+returns-clause-growth c = rw (← c.self.view_is) (on_err_weaker c.part_told.result (λ new. new.untold (λ who. who) (λ a b x y e. e)) c.part_told.ensures.growth)

@@ -2,4 +2,4 @@ use Rattle.std.proofs.Common.{rules}
 use Rattle.search.proofs.findings.Findings.give_back.Goals as goal
 
 pub invariant_of-self : goal.invariant_of-self
-invariant_of-self c = rw (c.give_back.ensures.unchanged, c.new.ensures.items) (record { loads = search rules; ports = c.self.invariant.ports })
+invariant_of-self c = rw (c.give_back.ensures.unchanged, c.new.ensures.items, c.shrink_to_fit.ensures.items) (record { once = c.self.invariant.once; loads = search rules; monitors = c.self.invariant.monitors; ports = c.self.invariant.ports })

@@ -1,0 +1,87 @@
+-- What a table of lines by key hears, by the names that its keys stand for.
+use Rattle.std.proofs.Common.{◌≡◌, ◌<◌, ◌==◌, ◌⊎◌, inl, inr, ℕ, Bool, true, false, List, [], ◌∷◌, ◌++◌, Contains, refl, sym, ap, subst, ◌∙◌, arith, get_or, set, if◌then◌else◌}
+use Rattle.std.specs.Cmp.{IsEquivalence}
+use Rattle.std.specs.Map.{keys_of, lookup}
+use Rattle.std.proofs.lemmas.List.Elements.{Contains-get_or, Contains-append_left, Contains-append_right, Contains-append_cases, Contains-push_cases}
+use Rattle.indexmap.specs.IndexMap.{insert_entry}
+use Rattle.monitors.specs.declared.tellers.Tellers.{Tellers}
+use Rattle.monitors.specs.MeetMonitor.{HearsPart}
+use Rattle.monitors.specs.Tellers.{is_among, is_teller, AreTellers}
+use Rattle.monitors.specs.KeyedMeet.{MeetLines, TellsApart, named, HearsByName, IsUntold, IsTable}
+use Rattle.monitors.proofs.NamedLemmas.{named_lookup, named_insert}
+use Rattle.monitors.proofs.TableLemmas.{seen, told_already, never_told, AddsTeller, still_tellers, tells_last}
+
+module _ {K : Type 0} (eq : K → K → Bool) (laws : IsEquivalence eq) (exact : (x y : K) → eq x y ≡ true → x ≡ y) where
+  -- an inserted key is one of the keys, or goes last
+  keys_inserted : {X : Type 0} (es : List (K × X)) (k : K) (x : X) → (Contains (keys_of es) k × (keys_of (insert_entry eq es k x) ≡ keys_of es)) ⊎ (keys_of (insert_entry eq es k x) ≡ keys_of es ++ k ∷ [])
+  keys_inserted [] k x = inr refl
+  keys_inserted {X} (e ∷ es) k x = by (eq k e.0) refl (keys_inserted es k x)
+    where
+      by : (b : Bool) → eq k e.0 ≡ b → (Contains (keys_of es) k × (keys_of (insert_entry eq es k x) ≡ keys_of es)) ⊎ (keys_of (insert_entry eq es k x) ≡ keys_of es ++ k ∷ []) →
+          (Contains (e.0 ∷ keys_of es) k × (keys_of (if b then (e.0, x) ∷ es else e ∷ insert_entry eq es k x) ≡ e.0 ∷ keys_of es)) ⊎ (keys_of (if b then (e.0, x) ∷ es else e ∷ insert_entry eq es k x) ≡ e.0 ∷ keys_of es ++ k ∷ [])
+      by true same later = inl (subst (Contains (e.0 ∷ keys_of es)) (sym (exact k e.0 same)) (Contains-get_or (e.0 ∷ keys_of es) 0 e.0 (omega arith)), refl)
+      by false other (inl (there, is)) = inl (Contains-append_right (e.0 ∷ []) (keys_of es) k there, ap (λ ks. e.0 ∷ ks) is)
+      by false other (inr is) = inr (ap (λ ks. e.0 ∷ ks) is)
+
+  pub still_known : {X : Type 0} (es : List (K × X)) (who : K) (x : X) (k : K) → Contains (keys_of (insert_entry eq es who x)) k → Contains (who ∷ keys_of es) k
+  still_known es who x k there =
+      elim (keys_inserted es who x) [
+        | inl had ↦ Contains-append_right (who ∷ []) (keys_of es) k (subst (λ ks. Contains ks k) had.1 there)
+        | inr is ↦ elim (Contains-push_cases (keys_of es) who k (subst (λ ks. Contains ks k) is there)) [
+          | inl before ↦ Contains-append_right (who ∷ []) (keys_of es) k before
+          | inr this ↦ subst (Contains (who ∷ keys_of es)) this (Contains-get_or (who ∷ keys_of es) 0 who (omega arith))
+        ]
+      ]
+
+  now_known : {X : Type 0} (es : List (K × X)) (who : K) (x : X) (k : K) → Contains (who ∷ keys_of es) k → Contains (keys_of (insert_entry eq es who x)) k
+  now_known es who x k there =
+      elim (keys_inserted es who x) [
+        | inl had ↦ subst (λ ks. Contains ks k) (sym had.1) (elim (Contains-append_cases (who ∷ []) (keys_of es) k there) [
+          | inl this ↦ elim (Contains-push_cases [] who k this) [
+            | inl none ↦ absurd (omega (arith, none.1))
+            | inr is ↦ subst (Contains (keys_of es)) is had.0
+          ]
+          | inr before ↦ before
+        ])
+        | inr is ↦ subst (λ ks. Contains ks k) (sym is) (elim (Contains-append_cases (who ∷ []) (keys_of es) k there) [
+          | inl this ↦ Contains-append_right (keys_of es) (who ∷ []) k this
+          | inr before ↦ Contains-append_left (keys_of es) (who ∷ []) k before
+        ])
+      ]
+
+  -- the line of the entity is t
+  module _ (parts : ℕ) (es : List (K × Tellers)) (table : IsTable parts es) (part : ℕ) (who : K) (t : Tellers) (line : (p : ℕ) → get_or t.told p false ≡ is_among p (lookup (eq who) es)) where
+    abbrev before : MeetLines K
+    before = record { parts = parts; lines = es }
+
+    are : (name : K → List ℕ) → TellsApart name (who ∷ keys_of es) → AreTellers parts (named name es)
+    are name apart = table.tellers name (λ a b x y. apart a b (Contains-append_right (who ∷ []) (keys_of es) a x) (Contains-append_right (who ∷ []) (keys_of es) b y))
+
+    named_line : (name : K → List ℕ) → TellsApart name (who ∷ keys_of es) → (p : ℕ) → get_or t.told p false ≡ is_teller (named name es) p (name who)
+    named_line name apart p = line p ∙ ap (is_among p) (sym (named_lookup eq laws exact name es who apart))
+
+    pub heard_already : get_or t.told part false ≡ true → HearsByName before before part who false
+    heard_already there name apart = told_already parts (named name es) (are name apart) part (name who) (sym (named_line name apart part) ∙ there)
+
+    pub never_heard : get_or t.told part false ≡ false → IsUntold before part who
+    never_heard absent = record { untold = λ name apart. never_told parts (named name es) (are name apart) part (name who) (sym (named_line name apart part) ∙ absent) }
+
+    -- and u is that line and the part
+    module _ (u : Tellers) (written : u.told ≡ set t.told part true) (below : part < parts) (absent : get_or t.told part false ≡ false) where
+      abbrev after : List (K × Tellers)
+      after = insert_entry eq es who u
+
+      adds : (name : K → List ℕ) → TellsApart name (who ∷ keys_of es) → AddsTeller parts (named name es) part (name who) t u
+      adds name apart = record { are = are name apart; line = named_line name apart; written = written; below = below; absent = absent }
+
+      pub heard_new : HearsByName before (record { parts = parts; lines = after }) part who (u.count == parts)
+      heard_new name apart =
+          subst (λ ls. HearsPart (seen parts (named name es)) (seen parts ls) part (name who) (u.count == parts)) (sym (named_insert eq laws exact name es who u apart)) (tells_last (adds name apart))
+
+      pub table_still : IsTable parts after
+      table_still = record {
+        few = table.few;
+        tellers = λ name apart.
+            let also : TellsApart name (who ∷ keys_of es) = λ a b x y. apart a b (now_known es who u a x) (now_known es who u b y) in
+            subst (AreTellers parts) (sym (named_insert eq laws exact name es who u also)) (still_tellers (adds name also));
+      }

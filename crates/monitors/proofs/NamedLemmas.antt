@@ -1,0 +1,114 @@
+-- Lines by key and the same by name: a key is found where its name is, and inserted there.
+use Rattle.std.proofs.Common.{◌≡◌, ℕ, zero, suc, Bool, true, false, cond, List, [], ◌∷◌, Some, None, refl, sym, ap, ◌∙◌, nat_eq, if◌then◌else◌, slice_get, true≢false, arith}
+use Rattle.std.specs.Cmp.{IsEquivalence}
+use Rattle.std.specs.Cmp.Lexicographic.{pointwise}
+use Rattle.std.specs.List.{IsDistinct, AllByRecursion}
+use Rattle.std.specs.Map.{keys_of, lookup}
+use Rattle.std.proofs.lemmas.Cmp.{nat_list_eq_equiv}
+use Rattle.std.proofs.lemmas.Option.{same_Some}
+use Rattle.std.proofs.lemmas.List.Elements.{Contains-get_or, Contains-append_right, All-contains_itself, recursion_from_All}
+use Rattle.indexmap.specs.IndexMap.{insert_entry, set_value_at}
+use Rattle.monitors.specs.declared.tellers.Tellers.{Tellers}
+use Rattle.monitors.specs.Keys.{same_name}
+use Rattle.monitors.specs.Tellers.{tellers_at}
+use Rattle.monitors.specs.KeyedMeet.{TellsApart, named}
+
+-- to write a line at its place is to insert it
+pub written_line : {K X : Type 0} (eq : K → K → Bool) → IsEquivalence eq → (es : List (K × X)) (i : ℕ) (k : K) (x y : X) → IsDistinct eq (keys_of es) → slice_get es i ≡ Some (k, x) → set_value_at es i y ≡ insert_entry eq es k y
+unfolding IsDistinct
+written_line eq laws [] i k x y once at = cc
+written_line eq laws (e ∷ es) zero k x y once at =
+    let is : e ≡ (k, x) = same_Some e (k, x) at in
+    sym (ap (λ b. if b then (e.0, y) ∷ es else e ∷ insert_entry eq es k y) (ap (λ (p : _). eq k p.0) is ∙ laws.refl k))
+written_line {K} {X} eq laws (e ∷ es) (suc i) k x y (others, once) at =
+    let other : eq k e.0 ≡ false = laws.symm k e.0 ∙ apart es i others at in
+    ap (λ l. e ∷ l) (written_line eq laws es i k x y once at)
+    ∙ sym (ap (λ b. if b then (e.0, y) ∷ es else e ∷ insert_entry eq es k y) other)
+  where
+    apart : (fs : List (K × X)) (j : ℕ) → AllByRecursion (λ z. eq e.0 z ≡ false) (keys_of fs) → slice_get fs j ≡ Some (k, x) → eq e.0 k ≡ false
+    apart [] j none there = cc
+    apart (f ∷ fs) zero none there = ap (λ (p : K × X). eq e.0 p.0) (sym (same_Some f (k, x) there)) ∙ none.0
+    apart (f ∷ fs) (suc j) none there = apart fs j none.1 there
+
+module _ {K : Type 0} (eq : K → K → Bool) (laws : IsEquivalence eq) (exact : (x y : K) → eq x y ≡ true → x ≡ y) (name : K → List ℕ) where
+  -- two keys are the same where their names are
+  same_keys : (who k : K) → (name who ≡ name k → who ≡ k) → eq who k ≡ pointwise nat_eq (name who) (name k)
+  same_keys who k apart = by (eq who k) (pointwise nat_eq (name who) (name k)) refl refl
+    where
+      by : (a b : Bool) → eq who k ≡ a → pointwise nat_eq (name who) (name k) ≡ b → eq who k ≡ pointwise nat_eq (name who) (name k)
+      by true b e f = e ∙ sym (ap (λ (x : K). pointwise nat_eq (name who) (name x)) (sym (exact who k e)) ∙ nat_list_eq_equiv.refl (name who))
+      by false true e f = absurd (true≢false (sym (ap (eq who) (sym (apart (same_name (name who) (name k) f))) ∙ laws.refl who) ∙ e))
+      by false false e f = e ∙ sym f
+
+  abbrev Agrees : K → List (K × Tellers) → Type 0
+  Agrees who es = AllByRecursion (λ k. eq who k ≡ pointwise nat_eq (name who) (name k)) (keys_of es)
+
+  agrees : (es : List (K × Tellers)) (who : K) → TellsApart name (who ∷ keys_of es) → Agrees who es
+  agrees es who apart =
+      recursion_from_All _ (keys_of es) (λ k d below.
+      same_keys who _ (apart who _ (Contains-get_or (who ∷ keys_of es) 0 who (omega arith)) (Contains-append_right (who ∷ []) (keys_of es) _ (All-contains_itself (keys_of es) k d below))))
+
+  lookup_agrees : (es : List (K × Tellers)) (who : K) → Agrees who es → tellers_at (named name es) (name who) ≡ lookup (eq who) es
+  lookup_agrees [] who same = refl
+  lookup_agrees (e ∷ es) who same = λ i. cond (sym same.0 i) (Some e.1) (lookup_agrees es who same.1 i)
+
+  insert_agrees : (es : List (K × Tellers)) (who : K) (t : Tellers) → Agrees who es → named name (insert_entry eq es who t) ≡ insert_entry (pointwise nat_eq) (named name es) (name who) t
+  insert_agrees [] who t same = refl
+  insert_agrees (e ∷ es) who t same =
+      by (eq who e.0) ∙ (λ i. if same.0 i then (name e.0, t) ∷ named name es else (name e.0, e.1) ∷ insert_agrees es who t same.1 i)
+    where
+      by : (b : Bool) → named name (if b then (e.0, t) ∷ es else e ∷ insert_entry eq es who t) ≡ (if b then (name e.0, t) ∷ named name es else (name e.0, e.1) ∷ named name (insert_entry eq es who t))
+      by true = refl
+      by false = refl
+
+  -- a line is found by name where it is by key
+  pub named_lookup : (es : List (K × Tellers)) (who : K) → TellsApart name (who ∷ keys_of es) → tellers_at (named name es) (name who) ≡ lookup (eq who) es
+  named_lookup es who apart = lookup_agrees es who (agrees es who apart)
+
+  -- and a line by key is inserted where it is by name
+  pub named_insert : (es : List (K × Tellers)) (who : K) (t : Tellers) → TellsApart name (who ∷ keys_of es) → named name (insert_entry eq es who t) ≡ insert_entry (pointwise nat_eq) (named name es) (name who) t
+  named_insert es who t apart = insert_agrees es who t (agrees es who apart)
+
+-- whose line is found after one is inserted
+pub inserted_line : (es : List (List ℕ × Tellers)) (who : List ℕ) (u : Tellers) (q : List ℕ) → tellers_at (insert_entry (pointwise nat_eq) es who u) q ≡ cond (pointwise nat_eq who q) (Some u) (tellers_at es q)
+inserted_line [] who u q = ap (λ b. cond b (Some u) None) (nat_list_eq_equiv.symm q who)
+inserted_line (e ∷ es) who u q = by (pointwise nat_eq who e.0) (pointwise nat_eq who q) refl refl (inserted_line es who u q)
+  where
+    by : (a b : Bool) → pointwise nat_eq who e.0 ≡ a → pointwise nat_eq who q ≡ b → tellers_at (insert_entry (pointwise nat_eq) es who u) q ≡ cond (pointwise nat_eq who q) (Some u) (tellers_at es q) →
+        tellers_at (insert_entry (pointwise nat_eq) (e ∷ es) who u) q ≡ cond (pointwise nat_eq who q) (Some u) (tellers_at (e ∷ es) q)
+    by true b here same more =
+        let is : pointwise nat_eq q e.0 ≡ pointwise nat_eq who q = ap (pointwise nat_eq q) (sym (same_name who e.0 here)) ∙ nat_list_eq_equiv.symm q who in
+        ap (λ a. tellers_at (if a then (e.0, u) ∷ es else e ∷ insert_entry (pointwise nat_eq) es who u) q) here
+        ∙ ap (λ a. cond a (Some u) (tellers_at es q)) is
+        ∙ later (pointwise nat_eq who q) is
+      where
+        later : (c : Bool) → pointwise nat_eq q e.0 ≡ c → cond c (Some u) (tellers_at es q) ≡ cond c (Some u) (tellers_at (e ∷ es) q)
+        later true is = refl
+        later false is = sym (ap (λ d. cond d (Some e.1) (tellers_at es q)) is)
+    by false true other same more =
+        ap (λ a. tellers_at (if a then (e.0, u) ∷ es else e ∷ insert_entry (pointwise nat_eq) es who u) q) other
+        ∙ ap (λ d. cond d (Some e.1) (tellers_at (insert_entry (pointwise nat_eq) es who u) q)) (ap (λ x. pointwise nat_eq x e.0) (sym (same_name who q same)) ∙ other)
+        ∙ more ∙ ap (λ d. cond d (Some u) (tellers_at es q)) same ∙ sym (ap (λ d. cond d (Some u) (tellers_at (e ∷ es) q)) same)
+    by false false other apart more =
+        ap (λ a. tellers_at (if a then (e.0, u) ∷ es else e ∷ insert_entry (pointwise nat_eq) es who u) q) other
+        ∙ ap (λ t. cond (pointwise nat_eq q e.0) (Some e.1) t) (more ∙ ap (λ d. cond d (Some u) (tellers_at es q)) apart)
+        ∙ sym (ap (λ d. cond d (Some u) (tellers_at (e ∷ es) q)) apart)
+
+others_still : (es : List (List ℕ × Tellers)) (k who : List ℕ) (u : Tellers) → pointwise nat_eq k who ≡ false → AllByRecursion (λ y. pointwise nat_eq k y ≡ false) (keys_of es) →
+    AllByRecursion (λ y. pointwise nat_eq k y ≡ false) (keys_of (insert_entry (pointwise nat_eq) es who u))
+others_still [] k who u other none = (other, tt)
+others_still (e ∷ es) k who u other (first, rest) = by (pointwise nat_eq who e.0) (others_still es k who u other rest)
+  where
+    by : (b : Bool) → AllByRecursion (λ y. pointwise nat_eq k y ≡ false) (keys_of (insert_entry (pointwise nat_eq) es who u)) → AllByRecursion (λ y. pointwise nat_eq k y ≡ false) (keys_of (if b then (e.0, u) ∷ es else e ∷ insert_entry (pointwise nat_eq) es who u))
+    by true more = (first, rest)
+    by false more = (first, more)
+
+-- each key stands once after an insert
+pub once_still : (es : List (List ℕ × Tellers)) (who : List ℕ) (u : Tellers) → IsDistinct (pointwise nat_eq) (keys_of es) → IsDistinct (pointwise nat_eq) (keys_of (insert_entry (pointwise nat_eq) es who u))
+unfolding IsDistinct
+once_still [] who u once = (tt, tt)
+once_still (e ∷ es) who u (first, rest) = by (pointwise nat_eq who e.0) refl (once_still es who u rest)
+  where
+    by : (b : Bool) → pointwise nat_eq who e.0 ≡ b → IsDistinct (pointwise nat_eq) (keys_of (insert_entry (pointwise nat_eq) es who u)) → IsDistinct (pointwise nat_eq) (keys_of (if b then (e.0, u) ∷ es else e ∷ insert_entry (pointwise nat_eq) es who u))
+    by true same more = (first, rest)
+    by false other more = (others_still es e.0 who u (nat_list_eq_equiv.symm e.0 who ∙ other) first, more)
