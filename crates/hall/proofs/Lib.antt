@@ -18,6 +18,7 @@ pub mod Seated
 pub mod Reached
 pub mod Refused
 pub mod Seeking
+pub mod Stays
 pub mod Telling
 pub mod Truths
 pub mod Viewed

@@ -1,10 +1,12 @@
 -- What a search begins with.
-use Rattle.std.proofs.Common.{◌≡◌, ◌∙◌, ℕ, List}
+use Rattle.std.proofs.Common.{rules, arith, ◌≡◌, ◌∙◌, ◌<◌, ℕ, List, None}
+use Rattle.std.specs.FinMap.{len}
 use Rattle.vaults.specs.declared.changes.Entry.{Entry}
 use Rattle.vaults.specs.Journal.{view}
 use Rattle.snapshots.specs.Snapshot.{SnapshotState}
 use Rattle.search.specs.declared.queries.Query.{Query}
 use Rattle.search.specs.Search.{SearchState, IsNew}
+use Rattle.hall.specs.Account.{Account, seek_refusal}
 use Rattle.hall.specs.Steps.{just_opened}
 
 -- a search over the snapshot just taken is a search just opened
@@ -21,3 +23,7 @@ begun journal who query work taken shared s is same new =
       monitors = new.monitors_is i;
       stage = new.stage_is i;
     }
+
+-- within both limits no refusal is due
+pub within_limits : (a : Account) → len a.searches < a.limits.searches → a.opens < a.limits.opens → seek_refusal a ≡ None
+within_limits a searches opens = grind (arith, rules)

@@ -7,9 +7,9 @@ use Rattle.indexmap.specs.IndexMap.{IndexMap, WritesThrough}
 use Rattle.indexmap.specs.IndexMap as table
 use Rattle.quotas.specs.Quota.{Quota}
 use Rattle.vaults.specs.declared.changes.Entry.{Entry}
-use Rattle.search.specs.Search.{SearchState}
-use Rattle.hall.specs.Hall.{Running, Tenant, search_of, search_at}
-use Rattle.hall.proofs.Maps.{numbers_exact}
+use Rattle.search.specs.Search.{SearchState, IsSoundStage}
+use Rattle.hall.specs.Hall.{Running, Tenant, IsSound, search_of, search_at}
+use Rattle.hall.proofs.Maps.{numbers_exact, insert_again}
 use Rattle.hall.proofs.Indexed.{written}
 use Rattle.hall.proofs.Seated.{tenant_of, search_found}
 use Rattle.hall.proofs.Placed.{hall_of, put, put_again, put_changed, tenant_at, tenant_put}
@@ -30,6 +30,25 @@ module _ {S Z : Type 0} (journal : List Entry) (m n : IndexMap (List ℕ) Tenant
   stays same =
       after ∙ put_again (hall_of journal m) who (tenant_of limits opens sm) (tenant_of limits opens sn) here (ap (tenant_of limits opens) same)
 
+  -- the search that the table finds
+  pub found_there : (r : Running) → table.get (◌==◌) sm k ≡ Some r → search_at (hall_of journal m) who k ≡ Some r
+  found_there r at = ap (search_of k) here ∙ search_found sm k ∙ at
+
+  pub sound_there : (r : Running) → table.get (◌==◌) sm k ≡ Some r → IsSound (hall_of journal m) → IsSoundStage r.search.stage
+  sound_there r at sound = (sound who (tenant_of limits opens sm) k r here (search_found sm k ∙ at)).2.computation
+
+  -- a search that is put back as it was leaves the hall so
+  pub left : (r : Running) → table.get (◌==◌) sm k ≡ Some r → WritesThrough (◌==◌) (λ j. k == j) sm r sn → hall_of journal n ≡ hall_of journal m
+  left r at goes_through =
+      after
+      ∙ put_again (hall_of journal m) who (tenant_of limits opens sm) (tenant_of limits opens sn) here
+      (λ i. record {
+        limits = limits;
+        opens = opens;
+        searches = (written numbers_exact (◌==◌) unsigned_tied sm sn k r r at goes_through
+            ∙ insert_again numbers_exact (from_entries sm.entries) k r (search_found sm k ∙ at)) i;
+      })
+
   -- a number that the tenant has no search of
   pub nobody_there : table.get (◌==◌) sm k ≡ None → search_at (hall_of journal m) who k ≡ None
   nobody_there none = ap (search_of k) here ∙ search_found sm k ∙ none
@@ -44,7 +63,7 @@ module _ {S Z : Type 0} (journal : List Entry) (m n : IndexMap (List ℕ) Tenant
       WritesThrough (◌==◌) (λ j. k == j) sm (record r { search = s }) sn → goes r.search s →
       Moves (hall_of journal m) who k gone goes (hall_of journal n)
   there gone goes r s at goes_through does =
-      moves_at (hall_of journal m) who k gone goes (hall_of journal n) (Some r) (ap (search_of k) here ∙ search_found sm k ∙ at) (
+      moves_at (hall_of journal m) who k gone goes (hall_of journal n) (Some r) (found_there r at) (
         s,
         does,
         after

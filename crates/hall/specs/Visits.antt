@@ -2,6 +2,7 @@
 use Rattle.std.specs.Prelude.{◌≡◌, ◌⊎◌, ◌≤◌, ◌+◌, ◌++◌, [], ◌∷◌, ℕ, List, Option, None, Some, Result, Ok, Err}
 use Rattle.snapshots.specs.Snapshot.{SnapshotState}
 use Rattle.search.specs.declared.queries.Need.{Need}
+use Rattle.search.specs.Search.{SearchState, IsCompleted}
 use Rattle.search.specs.Stage.{IsQuiet}
 use Rattle.hall.specs.declared.calls.steps.Step.{Step}
 use Rattle.hall.specs.declared.calls.steps.Step.TheVariants.{Take, Signal}
@@ -72,3 +73,14 @@ abbrev pub IsVisited : {E : Type 0} → List ℕ → ℕ → ℕ → HallState �
 IsVisited who number most old held result new holds =
     (n : ℕ) × (taken : List TakenLetter) × (n ≤ most) × IsWorkedOn who number old n taken new × (holds ≡ held ++ taken)
     × IsWhole most n (SearchIsQuiet new who number) result
+
+-- this is the tenant's search of that number, and it is completed
+pub record IsCompletedAt (h : HallState) (who : List ℕ) (number : ℕ) (s : SearchState) : Type 0 where
+  pub running : Running
+  pub there : search_at h who number ≡ Some running
+  pub is : running.search ≡ s
+  pub completed : IsCompleted s.stage
+
+-- the tenant has no search of that number that is completed
+abbrev pub NoneIsCompletedAt : HallState → List ℕ → ℕ → Type 0
+NoneIsCompletedAt h who number = (s : SearchState) → IsCompletedAt h who number s → ⊥

@@ -1,12 +1,12 @@
 //! A search that was opened and not ended: its steps, what one of its tenant's calls does to it, and what is told of it.
 ghost use Rattle.std.specs.Prelude.{◌≡◌, ◌≤◌, ◌+◌, ◌<◌, MatchOption, vec_len, vec_capacity, IfOk, OnErr};
 ghost use Rattle.search.specs.Stage.{IsQuiet};
-ghost use Rattle.search.specs.Search.{IsSoundStage, Settles};
-ghost use Rattle.hall.specs.Answers.{answer_of};
+ghost use Rattle.search.specs.Search.{SearchState, IsCompleted, IsSoundStage, Settles};
+ghost use Rattle.search.specs.Carried.{IsCarried, carried_search};
 ghost use Rattle.hall.specs.declared.calls.requests.Request.TheVariants as request;
 ghost use Rattle.hall.specs.declared.calls.replies.Reply.TheVariants as reply;
 ghost use Rattle.hall.specs.Hall.{IsToldOver, told_as};
-ghost use Rattle.hall.specs.Kept.{DrivesTo, IsToldOf, TakesJob, MakesStep, Visits, IsNext, ListsMembers};
+ghost use Rattle.hall.specs.Kept.{DrivesTo, IsToldOf, TakesJob, MakesStep, Visits, IsNext};
 ghost use Rattle.hall.specs.Steps.{settled_of, IsMade, StepsSearch, finish_answer};
 
 use crate::calls::{Answer, Step, Stepped};
@@ -15,7 +15,7 @@ use crate::jobs::Job;
 use crate::lists::Names;
 use names::Entity;
 use proof_trees::Proof;
-use search::{Finished, Search, Status};
+use search::{Carried, Finished, Search, Status};
 use std::alloc::{AllocError, Global};
 use std::marker::Model;
 
@@ -23,20 +23,23 @@ use std::marker::Model;
 #[derive(Drop)]
 pub(crate) struct Opened {
     pub(crate) opened_at: u64,
-    pub(crate) search: Search,
+    pub(crate) carried: Carried,
 }
 
 impl Model for Opened {
     ghost use Rattle.std.specs.Coded.{codes};
     ghost use Rattle.search.specs.contracts.stages.Stage as running;
     ghost use Rattle.search.specs.contracts.findings.Monitor as memory;
+    ghost use Rattle.search.specs.Carried.{IsCarried, carried_search};
     ghost use Rattle.hall.specs.Hall.{Running};
 
     ghost Value = { Running };
 
     ghost coded = { Prim.hlevel (codes, running.the_row.coded, memory.the_row.coded) };
 
-    ghost view = { λ o. record { opened_at = o.opened_at; search = o.search } };
+    ghost view = { λ o. record { opened_at = o.opened_at; search = carried_search o.carried } };
+
+    ghost invariant = { λ o. IsCarried o.carried };
 }
 
 /// What is told of the search: in each hall that has it, a poll of it is answered so. Memory may lack for a list alone.
@@ -44,7 +47,14 @@ pub fn told_of(search: &Search) -> Result<Answer, Fault>
     ensures told { IsToldOf (settled_of search.now) result }
     ensures served { IsToldOver search.now request.Poll (told_as reply.Answered result) }
 {
-    Ok(come_to(search)?)
+    Ok(match search.status() {
+        Status::Working => Answer::Working,
+        Status::Yes => Answer::Yes,
+        Status::No => Answer::No,
+        Status::Members => Answer::Members(Names::new(search.members()?)),
+        Status::Spent => Answer::Spent,
+        Status::Broken => Answer::Broken,
+    })
 }
 
 /// Why the entity is a member of the role that the search asked about: in each hall that has it, a request for the proof is
@@ -55,28 +65,18 @@ pub fn proof_of(alloc: Global, search: &Search, member: &Entity) -> Result<Proof
     Ok(proof_trees::proof_of(alloc, search, member)?)
 }
 
-/// What the search has come to.
-fn come_to(search: &Search) -> Result<Answer, AllocError>
-    ensures told { IfOk result (λ told. told ≡ answer_of (settled_of search.now)) }
-    ensures memory { OnErr result (ListsMembers (settled_of search.now)) }
-    ensures sound { IsSoundStage search.now.stage }
-{
-    match search.status() {
-        Status::Working => Ok(Answer::Working),
-        Status::Yes => Ok(Answer::Yes),
-        Status::No => Ok(Answer::No),
-        Status::Members => Ok(Answer::Members(Names::new(search.members()?))),
-        Status::Spent => Ok(Answer::Spent),
-        Status::Broken => Ok(Answer::Broken),
-    }
-}
-
 /// Carries the search on until nothing more of it can be, and tells what it has come to.
-pub(crate) fn drive(search: &mut Search) -> Result<Answer, Fault>
-    ensures { DrivesTo search.old result search.new }
+pub(crate) fn drive(carried: &mut Carried) -> Result<Answer, Fault>
+    requires { IsCarried carried.old }
+    ensures driven { DrivesTo (carried_search carried.old) result (carried_search carried.new) }
+    ensures carried { IsCarried carried.new }
 {
-    search.drive();
-    Ok(come_to(search)?)
+    if let Carried::Own(search) = carried {
+        search.drive();
+    }
+    let search = carried.search();
+    search.kept();
+    told_of(search)
 }
 
 /// Takes the waiting letter at a place of the tenant's search of the number.
@@ -140,8 +140,7 @@ fn make_step(
     Ok(true)
 }
 
-/// The step that goes on with the tenant's search of the number, if anything of it waits or is under way: the oldest signal
-/// first.
+/// The step that goes on with the tenant's search of the number, if there is one: the oldest signal first.
 pub(crate) fn next_step(search: &Search, who: Entity, number: u64) -> Option<Step>
     ensures { MatchOption result (IsQuiet search.now.stage) (IsNext who number search.now) }
 {
@@ -152,6 +151,16 @@ pub(crate) fn next_step(search: &Search, who: Entity, number: u64) -> Option<Ste
         return Some(Step::Take(who, number, 0));
     }
     None
+}
+
+/// What becomes of a step of a completed search, which stays as it is.
+pub(crate) fn unmoved(step: &Step) -> Stepped
+    ensures { (s : SearchState) → IsCompleted s.stage → IsMade s step.now result s }
+{
+    match step {
+        Step::Take(..) | Step::Signal(..) => Stepped::Nothing,
+        Step::GiveBack(..) | Step::Finish(..) => Stepped::NotHeld,
+    }
 }
 
 /// Makes the step of the search.

@@ -27,10 +27,13 @@ pub(crate) fn pick_seat(seats: Slice<'_, Entity, Seat>, turn: u64) -> Option<Ste
 pub(crate) fn pick_search(who: Entity, searches: Slice<'_, u64, Opened>, turn: u64) -> Option<Step>
     ensures { MatchOption result (AreQuiet searches.entry) (IsNextAmong who searches.entry) }
 {
+    if searches.is_empty() {
+        return None;
+    }
     let (place, _round) = begin_at(searches.len(), turn);
     let (before, from_there) = searches.split_at(place);
     for (number, opened) in from_there.iter().chain(before.iter()) {
-        if let Some(step) = next_step(&opened.search, who, *number) {
+        if let Some(step) = next_step(opened.carried.search(), who, *number) {
             return Some(step);
         }
     }

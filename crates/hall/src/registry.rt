@@ -4,8 +4,6 @@ ghost use Rattle.std.specs.Prelude.{OnOk, OnErr, is_some, option_copied, option_
 ghost use Rattle.std.specs.FinMap.{get};
 ghost use Rattle.std.specs.List.{IsDistinct};
 ghost use Rattle.names.specs.Name.{is_same};
-ghost use Rattle.vaults.specs.Journal.{revokes};
-ghost use Rattle.hall.specs.declared.faults.Fault.TheVariants as faults;
 ghost use Rattle.hall.specs.declared.calls.requests.Request.TheVariants as request;
 ghost use Rattle.hall.specs.declared.calls.replies.Reply.TheVariants as reply;
 ghost use Rattle.hall.specs.Hall.{IsSound, IsServed, told_as, new_tenant, new_hall, search_at};
@@ -14,16 +12,18 @@ use crate::calls::{Answer, Step, Stepped};
 use crate::faults::Fault;
 use crate::jobs::Job;
 use crate::lists::{Rows, Sights};
-use crate::opened::{drive, make, proof_of, take, told_of, visit};
+use crate::opened::{drive, make, proof_of, take, told_of, unmoved, visit};
 use crate::picking::pick_seat;
+use crate::running::same_change;
 use crate::seats::Seat;
 use indexmap::IndexMap;
 use names::Entity;
 use proof_trees::Proof;
 use quotas::Limits;
-use search::{Hint, Query, Search};
+use search::{Carried, Hint, Query, Search};
 use std::alloc::{AllocError, Global};
 use std::marker::Model;
+use std::sync::Arc;
 use vaults::{Book, Change};
 
 /// The journal of all tenants, and by its name what each has opened.
@@ -52,6 +52,13 @@ impl Model for Hall {
 }
 
 impl Hall {
+    ghost use Rattle.hall.specs.declared.calls.steps.Step.TheVariants as step;
+    ghost use Rattle.std.specs.Prelude.{◌+◌, ◌≤◌, MatchOption, vec_len, vec_capacity};
+    ghost use Rattle.std.specs.Arc.{arc_value};
+    ghost use Rattle.hall.specs.Run.{waits};
+    ghost use Rattle.hall.specs.Hall.{IsStepped, CarriesOut, step_name, step_search};
+    ghost use Rattle.hall.specs.Visits.{IsTaken, IsVisited, SearchIsQuiet, CanBeMade, NothingToDo, IsCompletedAt, NoneIsCompletedAt};
+
     /// The hall of these tenants, where nothing was done yet.
     pub fn make(alloc: Global, roster: Vec<(Entity, Limits)>) -> Result<Hall, Fault>
         requires { IsDistinct is_same (map (λ row. row.0) roster.items) }
@@ -92,18 +99,15 @@ impl Hall {
         Ok(self.book.change(who, change)?)
     }
 
-    /// Whether the tenant may make the change now, for which memory alone may lack then, unless it revokes something. The
-    /// order of refusals is that of `change`.
-    pub(crate) fn may_change(&self, who: Entity, change: &Change) -> Result<(), Fault>
-        ensures refused { IfErr result (λ f. IsServed self.now who (request.Alter change.now) (reply.Refused f) self.now) }
-        ensures allowed { OnOk result (revokes change.now ≡ false
-            → IsServed self.now who (request.Alter change.now) (reply.Refused faults.Memory) self.now) }
+    /// Enters a copy of the change. It is copied where no refusal is due.
+    pub(crate) fn alter(&mut self, who: Entity, change: &Change) -> Result<u64, Fault>
+        ensures served { IsServed self.old who (request.Alter change.now) (told_as reply.Counted result) self.new }
     {
         let seat = self.tenants.get(&who).ok_or(Fault::NoTenant)?;
         seat.may_alter(&self.book, &who, change)?;
         match self.book.refusal_of(&who, change) {
             Some(fault) => Err(Fault::from(fault)),
-            None => Ok(()),
+            None => self.change(who, same_change(change)?),
         }
     }
 
@@ -169,27 +173,23 @@ impl Hall {
         let seen = self.book.owners_read_by(who)?;
         Ok(Sights::new(seen))
     }
-}
-
-impl Hall {
-    ghost use Rattle.hall.specs.declared.calls.steps.Step.TheVariants as step;
-    ghost use Rattle.std.specs.Prelude.{◌+◌, ◌≤◌, vec_len, vec_capacity};
-    ghost use Rattle.hall.specs.Run.{waits};
-    ghost use Rattle.hall.specs.Hall.{IsStepped, CarriesOut, step_name, step_search};
-    ghost use Rattle.hall.specs.Visits.{IsTaken, IsVisited, SearchIsQuiet, CanBeMade, NothingToDo};
 
     /// Makes the step of the search that it names. It takes no memory that it couldn't do without: where a search lacks
     /// it, that search alone is broken.
     pub fn step(&mut self, step: Step) -> Stepped
         ensures { IsStepped self.old step result self.new }
     {
-        let Some(seat) = self.tenants.get_mut(&step.who()) else {
+        let (who, number) = step.search();
+        let Some(seat) = self.tenants.get_mut(&who) else {
             return Stepped::Gone;
         };
-        let Some(opened) = seat.searches.get_mut(&step.number()) else {
+        let Some(opened) = seat.searches.get_mut(&number) else {
             return Stepped::Gone;
         };
-        make(&mut opened.search, &step)
+        let Carried::Own(search) = &mut opened.carried else {
+            return unmoved(&step);
+        };
+        make(search, &step)
     }
 
     /// Takes the waiting letter at a place of the tenant's search of the number, with what it is to be looked up in.
@@ -204,7 +204,10 @@ impl Hall {
         let Some(opened) = seat.searches.get_mut(&number) else {
             return Ok(None);
         };
-        Ok(take(&mut opened.search, who, number, place)?)
+        let Carried::Own(search) = &mut opened.carried else {
+            return Ok(None);
+        };
+        Ok(take(search, who, number, place)?)
     }
 
     /// Makes up to so many steps of the tenant's search of the number, one after another: delivers the oldest signal, or
@@ -229,7 +232,10 @@ impl Hall {
         let Some(opened) = seat.searches.get_mut(&number) else {
             return Ok(());
         };
-        Ok(visit(&mut opened.search, who, number, most, held)?)
+        let Carried::Own(search) = &mut opened.carried else {
+            return Ok(());
+        };
+        Ok(visit(search, who, number, most, held)?)
     }
 
     /// Finishes the letter of the job with what was looked up.
@@ -256,11 +262,10 @@ impl Hall {
     {
         let seat = self.tenants.get_mut(&who).ok_or(Fault::NoTenant)?;
         let opened = seat.searches.get_mut(&number).ok_or(Fault::NoSuchSearch)?;
-        drive(&mut opened.search)
+        drive(&mut opened.carried)
     }
 
-    /// A step that goes on with a search, if anything waits or is under way. It begins at the tenant and the search that
-    /// the turn picks, and goes round.
+    /// A step that goes on with a search, if anything waits or is under way. Tenants take turns, and a tenant's searches do.
     pub fn pick(&self, turn: u64) -> Option<Step>
         ensures progress { IfSome result (λ step. CanBeMade self.now step) }
         ensures left { IfSome result (λ step. SearchIsQuiet self.now (step_name step) (step_search step) → ⊥) }
@@ -275,7 +280,26 @@ impl Hall {
     {
         let seat = self.tenants.get(&who)?;
         let opened = seat.searches.get(&number)?;
-        Some(&opened.search)
+        Some(opened.carried.search())
+    }
+
+    /// The tenant's search of the number, shared, where there is one that is completed. Nothing changes it again, so who has it
+    /// makes its list and its proofs without the hall. Memory may lack the first time, to share it.
+    pub fn completed(&mut self, who: Entity, number: u64) -> Result<Option<Arc<Search>>, AllocError>
+        ensures completed { IfOk result (λ r. MatchOption r (NoneIsCompletedAt self.old who number)
+            (λ shared. IsCompletedAt self.old who number (arc_value shared))) }
+        ensures same { self.new ≡ self.old }
+    {
+        let Some(seat) = self.tenants.get_mut(&who) else {
+            return Ok(None);
+        };
+        let Some(opened) = seat.searches.get_mut(&number) else {
+            return Ok(None);
+        };
+        if !opened.carried.search().is_completed() {
+            return Ok(None);
+        }
+        Ok(Some(opened.carried.lend(self.alloc)?))
     }
 }
 

@@ -70,18 +70,10 @@ impl Hall {
             Request::Proof(number, member) => Reply::Proof(self.proof(who, *number, *member)?),
         })
     }
-
-    /// Enters a copy of the change. It is copied where no refusal is due.
-    fn alter(&mut self, who: Entity, change: &Change) -> Result<u64, Fault>
-        ensures served { IsServed self.old who (request.Alter change.now) (told_as reply.Counted result) self.new }
-    {
-        self.may_change(who, change)?;
-        self.change(who, same_change(change)?)
-    }
 }
 
 /// The same change again. A revocation is copied without memory.
-fn same_change(change: &Change) -> Result<Change, AllocError>
+pub(crate) fn same_change(change: &Change) -> Result<Change, AllocError>
     ensures copy { IfOk result (λ copy. copy ≡ change.now) }
     ensures memory { OnErr result (revokes change.now ≡ false) }
 {

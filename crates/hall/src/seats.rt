@@ -16,14 +16,14 @@ use crate::picking::pick_search;
 use indexmap::IndexMap;
 use names::Entity;
 use quotas::{Limits, Used};
-use search::{Query, Search};
+use search::{Carried, Query, Search};
 use snapshots::Snapshot;
 use std::alloc::Global;
 use std::marker::Model;
 use std::sync::Arc;
 use vaults::{Book, Change};
 
-/// A tenant's limits, how many searches it has opened, and those that it has not ended by their numbers, the oldest first.
+/// A tenant's limits, how many searches it has opened, and those that it has not ended by their numbers.
 #[derive(Drop)]
 pub(crate) struct Seat {
     limits: Limits,
@@ -94,11 +94,13 @@ impl Seat {
         ensures unchanged { OnErr result (self.new ≡ self.old) }
         ensures same { book.new ≡ book.old }
     {
-        self.may_open(book, &who)?;
-        let search = begin(alloc, book, who, query, self.limits.work())?;
+        let used = self.used(book, &who);
+        self.limits.may_search(&used)?;
+        self.limits.may_open(&used)?;
+        let carried = Carried::Own(begin(alloc, book, who, query, self.limits.work())?);
         let number = self.opens + 1;
         let opened_at = book.journal_len();
-        self.searches.insert(number, Opened { opened_at, search })?;
+        self.searches.insert(number, Opened { opened_at, carried })?;
         self.opens = number;
         Ok(number)
     }
@@ -110,7 +112,7 @@ impl Seat {
         ensures refused { IfErr result (λ f. (f ≡ faults.NoSuchSearch) × (get self.old.searches number ≡ None)) }
         ensures unchanged { OnErr result (self.new ≡ self.old) }
     {
-        let Some(_ended) = self.searches.shift_remove(&number) else {
+        let Some(_ended) = self.searches.swap_remove(&number) else {
             return Err(Fault::NoSuchSearch);
         };
         Ok(())
@@ -121,18 +123,6 @@ impl Seat {
         ensures { MatchOption result (IsIdle self.now) (IsNextOf who self.now) }
     {
         pick_search(who, self.searches.as_slice(), turn)
-    }
-
-    /// Whether the limits allow one search more.
-    fn may_open(&self, book: &Book, who: &Entity) -> Result<(), Fault>
-        ensures allowed { OnOk result (seek_refusal (account book.now who.now self.now) ≡ None) }
-        ensures small { OnOk result (self.now.opens < 1000000000) }
-        ensures refused { IfErr result (λ f. seek_refusal (account book.now who.now self.now) ≡ Some f) }
-    {
-        let used = self.used(book, who);
-        self.limits.may_search(&used)?;
-        self.limits.may_open(&used)?;
-        Ok(())
     }
 
     /// What the tenant uses of its limits, by its account.

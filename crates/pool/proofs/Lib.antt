@@ -6,5 +6,6 @@ pub mod Kept
 pub mod Visiting
 pub mod HandingIn
 pub mod Joined
-pub mod Passed
+pub mod Lent
+pub mod Told
 pub mod Under

@@ -2,7 +2,7 @@
 use Rattle.std.specs.Option.{IsSomeAnd}
 use Rattle.std.specs.Arc.{arc_value}
 use Rattle.std.specs.FinMap.{get}
-use Rattle.std.proofs.Common.{◌≡◌, ◌∙◌, ℕ, Bool, true, false, List, ap, sym, subst, inl, inr, Some, Option, None, option_map, refl, Result, Ok, Err}
+use Rattle.std.proofs.Common.{◌≡◌, ◌∙◌, ℕ, Bool, true, false, List, length, ap, sym, subst, inl, inr, Some, Option, None, option_map, refl, Result, Ok, Err}
 use Rattle.credential_text.specs.declared.credentials.Credential.{Credential}
 use Rattle.vaults.specs.Journal.{credentials}
 use Rattle.search.specs.Found.{status_of}
@@ -21,8 +21,8 @@ use Rattle.hall.proofs.Maps.{numbers_exact, get_mapped}
 use Rattle.pool.specs.declared.verdicts.Verdict.{Verdict}
 use Rattle.pool.specs.Verdicts.{IsTrueWhereCompleted}
 use Rattle.pool.specs.declared.faults.DeskFault.{DeskFault}
-use Rattle.pool.specs.Passes.{PassState}
-use Rattle.pool.specs.Rooms.{RoomState}
+use Rattle.pool.specs.Passes.{PassState, IsSeenAt}
+use Rattle.pool.specs.Rooms.{RoomState, IsKept}
 use Rattle.pool.specs.Served.{IsServedAt, IsVerdictOf, IsPolledAt, GoesOnWaiting, IsOverAt}
 use Rattle.pool.proofs.Served.{granted}
 
@@ -71,6 +71,17 @@ polled_search h who k a sound served =
     let told = has.gets.2 in
     let tells : a ≡ answer_of has.gets.0.settled = cc in
     told_of h who has.tenant k a has.gets.0 sound has.there (get has.tenant.searches k) refl (sym (get_mapped numbers_exact seen has.tenant.searches k) ∙ has.gets.1) tells
+
+-- a poll that the hall served, by a pass that has seen its journal
+pub served_now : (at : RoomState) (old new : PassState) (who : List ℕ) (h : HallState) (k : ℕ) (a : Answer) → h ≡ at.hall → who ≡ old.tenant → IsKept at → IsSeenAt (length at.hall.journal) old new →
+    IsServed h who (Poll k) (Answered a) h → IsServedAt at at old new (Poll k) (Answered a)
+served_now at old new who h k a same is_who kept seen served = record {
+  kept = kept;
+  seen = seen.0;
+  served = subst (λ (g : HallState). IsServed g old.tenant (Poll k) (Answered a) g) same (subst (λ (n : List ℕ). IsServed h n (Poll k) (Answered a) h) is_who served);
+  pass = seen.1;
+  room = refl;
+}
 
 -- where a poll is served in a room, the search that is found there is the one of which the answer tells
 module _ (at : RoomState) (old new : PassState) (who : List ℕ) (h : HallState) (k : ℕ) (a : Answer) (same : h ≡ at.hall) (is_who : who ≡ old.tenant)

@@ -10,9 +10,6 @@ use Rattle.hall.specs.declared.calls.replies.Reply.TheVariants.{Refused}
 use Rattle.hall.specs.Account.{Account}
 use Rattle.hall.specs.Answers.{sight, Grants, Answers, refuses, grants, lacks}
 use Rattle.hall.specs.Hall.{HallState, Tenant, account, account_of, AnswersTo, IsServed}
-use Rattle.pool.specs.Passes.{PassState}
-use Rattle.pool.specs.Rooms.{RoomState}
-use Rattle.pool.specs.Served.{IsServedAt}
 
 -- the tenant of that name is told this, by its account
 pub record IsGranted (h : HallState) (who : List ℕ) (q : Request) (told : Reply) : Type 0 where
@@ -33,10 +30,3 @@ granted h new who q told other served = by (get h.tenants who) refl served.answe
     by : (o : Option Tenant) → get h.tenants who ≡ o → AnswersTo h who (option_map (account h.journal who) o) q told (account_of new who) → IsGranted h who q told
     by None at is = absurd (other NoTenant is.0)
     by (Some t) at is = record { tenant = t; after = is.0; there = at; gets = gets t is.0 told refl is.2 }
-
--- what is served is served under other names
-pub served_as : (before a b : RoomState) (old p r : PassState) (q s : Request) (t u : Reply) → IsServedAt before b old r s u → a ≡ b → p ≡ r → q ≡ s → t ≡ u → IsServedAt before a old p q t
-served_as before a b old p r q s t u at is_room is_pass is_request is_reply =
-    subst (λ (x : RoomState). IsServedAt before x old p q t) (sym is_room)
-    (subst (λ (x : PassState). IsServedAt before b old x q t) (sym is_pass)
-    (subst (λ (x : Request). IsServedAt before b old r x t) (sym is_request) (subst (λ (x : Reply). IsServedAt before b old r s x) (sym is_reply) at)))

@@ -3,21 +3,22 @@ use Rattle.std.specs.Prelude.{◌≡◌, ◌⊎◌, ◌<◌, ◌≤◌, ◌+◌,
 use Rattle.std.specs.Arc.{arc_value}
 use Rattle.search.specs.Found.{status_of}
 use Rattle.search.specs.declared.outcomes.Status.TheVariants as status
-use Rattle.search.specs.Search.{settled_of}
+use Rattle.search.specs.Search.{SearchState, settled_of}
 use Rattle.hall.specs.declared.faults.Fault.TheVariants.{Memory}
 use Rattle.hall.specs.declared.calls.answers.Answer.{Answer}
 use Rattle.hall.specs.declared.calls.answers.Answer.TheVariants.{Working}
 use Rattle.hall.specs.declared.calls.requests.Request.{Request}
-use Rattle.hall.specs.declared.calls.requests.Request.TheVariants.{Poll}
+use Rattle.hall.specs.declared.calls.requests.Request.TheVariants.{Poll, Proof}
 use Rattle.hall.specs.declared.calls.replies.Reply.{Reply}
 use Rattle.hall.specs.declared.calls.replies.Reply.TheVariants.{Counted, Answered, Refused}
 use Rattle.hall.specs.Answers.{answer_of}
-use Rattle.hall.specs.Hall.{Running, search_at, IsServed}
+use Rattle.hall.specs.Hall.{HallState, Running, search_at, IsServed}
+use Rattle.hall.specs.Visits.{IsCompletedAt}
 use Rattle.pool.specs.declared.faults.DeskFault.{DeskFault}
 use Rattle.pool.specs.declared.faults.DeskFault.TheVariants.{Hall, Rewound, PassesOut, NoThread}
 use Rattle.pool.specs.declared.verdicts.Verdict.{Verdict}
 use Rattle.pool.specs.declared.verdicts.Gathered.{Gathered}
-use Rattle.pool.specs.Passes.{PassState}
+use Rattle.pool.specs.Passes.{PassState, IsSeenAt}
 use Rattle.pool.specs.Rooms.{RoomState, IsKept}
 
 -- the pass after a reply that it was told over a journal of this length: of an accepted change it is told, and it has seen it
@@ -53,6 +54,22 @@ IsRefusedAt before after old new q NoThread = ⊥
 abbrev pub IsAnsweredAt : {X : Type 0} → (X → Reply) → RoomState → RoomState → PassState → PassState → Request → Result X DeskFault → Type 0
 IsAnsweredAt reply before after old new q (Ok x) = IsServedAt before after old new q (reply x)
 IsAnsweredAt reply before after old new q (Err fault) = IsRefusedAt before after old new q fault
+
+-- the request reads this search of the hall's, which is completed, and nothing else
+abbrev pub Reads : HallState → List ℕ → Request → SearchState → Type 0
+Reads h who (Poll k) s = IsCompletedAt h who k s
+Reads h who (Proof k member) s = IsCompletedAt h who k s
+Reads h who _ s = ⊥
+
+-- in each hall where the request reads this search it is told this, and changes nothing
+abbrev pub IsReadOff : SearchState → Request → Reply → Type 0
+IsReadOff s q told = (h : HallState) (who : List ℕ) → Reads h who q s → IsServed h who q told h
+
+-- the pass has seen the journal, which is no shorter than it had seen, and the request of its tenant reads this search
+pub record IsLentAt (at : RoomState) (old new : PassState) (q : Request) (s : SearchState) : Type 0 where
+  pub kept : IsKept at
+  pub seen : IsSeenAt (length at.hall.journal) old new
+  pub reads : Reads at.hall old.tenant q s
 
 -- the same in some room, as nobody knows who came before
 abbrev pub IsAnswered : {X : Type 0} → (X → Reply) → PassState → PassState → Request → Result X DeskFault → Type 0

@@ -1,15 +1,19 @@
 -- What workers did, all together.
-use Rattle.std.specs.Prelude.{◌≡◌, ◌-◌, ◌^◌, ℕ, List, length, min, false}
+use Rattle.std.specs.Prelude.{◌≡◌, ◌+◌, ◌-◌, ◌^◌, ℕ, List, length, min, Option, None, Some, unwrap_or, is_none, if◌then◌else◌}
 use Rattle.std.specs.List.{sum_by, list_any}
-use Rattle.pool.specs.declared.workers.Worked.{Worked}
 
--- so many workers, each of which counts, finished so many letters, as far as the sum fits; and whether one of them lacked memory
-pub record IsDoneBy (n : ℕ) (all : Worked) : Type 0 where
-  pub each : List Worked
+-- what two did: as many letters as both finished, as far as the sum fits, and nothing where one of them lacked memory
+abbrev pub done_by_both : Option ℕ → Option ℕ → Option ℕ
+done_by_both (Some m) (Some n) = Some (min (m + n) (2 ^ 64 - 1))
+done_by_both _ _ = None
+
+-- so many workers, each of which counts, did this, where nothing stands for one that lacked memory
+pub record IsDoneBy (n : ℕ) (all : Option ℕ) : Type 0 where
+  pub each : List (Option ℕ)
   pub long : length each ≡ n
-  pub finished : all.finished ≡ min (sum_by (λ (w : Worked). w.finished) each) (2 ^ 64 - 1)
-  pub no_memory : all.no_memory ≡ list_any (λ (w : Worked). w.no_memory) each
+  pub done :
+      all ≡ (if list_any is_none each then None else Some (min (sum_by (λ (one : Option ℕ). unwrap_or one 0) each) (2 ^ 64 - 1)))
 
 -- so many workers, none of which lacked memory, finished so many letters
 abbrev pub DoneBy : ℕ → ℕ → Type 0
-DoneBy n letters = IsDoneBy n (record { finished = letters; no_memory = false })
+DoneBy n letters = IsDoneBy n (Some letters)

@@ -7,19 +7,20 @@ ghost use Rattle.hall.specs.declared.calls.replies.Reply.TheVariants as reply;
 ghost use Rattle.pool.specs.Passes.{shares_of};
 ghost use Rattle.pool.specs.Rooms.{IsKept};
 ghost use Rattle.pool.specs.Refusals.{IsPassRefusal};
-ghost use Rattle.pool.specs.Served.{IsAnswered, IsPolled, IsWaited, IsAdmitted, IsGathered, MoreAreOut};
+ghost use Rattle.pool.specs.Served.{IsAnswered, IsPolled, IsPolledAt, IsWaited, IsAdmitted, IsGathered, MoreAreOut};
 
 use crate::bells::Bells;
 use crate::faults::{DeskFault, Told};
 use crate::passes::Pass;
-use crate::rooms::{PARTS, Room};
+use crate::rooms::{PARTS, Room, read_off};
 use crate::verdicts::{Gathered, Ticket, Verdict};
 use crate::visits::{BATCH, Found, Looked};
-use hall::{Fault, Hall, Job, Proof, Query, Reply, Request, Rows, Sights};
+use hall::{Fault, Hall, Job, Proof, Query, Reply, Request, Rows, Sights, told_of};
 use names::Entity;
 use quotas::Limits;
 use std::alloc::Global;
 use std::marker::Model;
+use std::mem;
 use std::sync::ledger::{Blank, Ledger};
 use std::sync::{Condvar, Mutex, MutexGuard, Wait};
 use vaults::Change;
@@ -29,6 +30,7 @@ use vaults::Change;
 /// if they return. Contracts see of a desk the names of its tenants, which never change.
 #[derive(Drop)]
 pub struct Desk<L: Ledger> {
+    alloc: Global,
     room: Mutex<Room<L>>,
     /// Where callers wait for the end of a search, each at the bell of that search. The tenants' names stand here, outside of
     /// the lock, so that a contract can tell who gets a pass.
@@ -62,6 +64,7 @@ impl<L: Ledger> Desk<L> {
         let over = Bells::make(alloc, &roster)?;
         let hall = Hall::make(alloc, roster)?;
         Ok(Desk {
+            alloc,
             room: Mutex::new(Room::new(hall, blank)),
             over,
             work: Condvar::new(),
@@ -99,6 +102,10 @@ impl<L: Ledger> Desk<L> {
         ensures { IsAnswered (λ r. r) pass.old pass.new request result }
     {
         let mut room = self.enter(rt);
+        if let Some(search) = room.lent(pass, &request) {
+            drop(room);
+            return Ok(read_off(self.alloc, &search, &request)?);
+        }
         let answered = room.serve(pass, request);
         self.release(room);
         if matches!(answered, Ok(Reply::Opened(_))) {
@@ -111,7 +118,11 @@ impl<L: Ledger> Desk<L> {
     pub fn change<R: Wait>(&self, rt: &R, pass: &mut Pass<L>, change: Change) -> Told<u64>
         ensures { IsAnswered reply.Counted pass.old pass.new (request.Alter change) result }
     {
-        self.enter(rt).change(pass, change)
+        match self.serve(rt, pass, Request::Alter(change))? {
+            Reply::Counted(count) => Ok(count),
+            Reply::Refused(fault) => Err(DeskFault::Hall(fault)),
+            _ => unreachable!(),
+        }
     }
 
     /// Opens a search over what the tenant sees now. Refused as `serve` is.
@@ -119,11 +130,14 @@ impl<L: Ledger> Desk<L> {
         ensures answered { IsAnswered (λ t. reply.Opened t.no) pass.old pass.new (request.Seek query) result }
         ensures opened_at { IfOk result (λ t. t.opened_at ≡ pass.new.front) }
     {
-        let opened = self.enter(rt).open(pass, query);
-        if opened.is_ok() {
-            self.work.notify_one();
+        match self.serve(rt, pass, Request::Seek(query))? {
+            Reply::Opened(no) => Ok(Ticket {
+                no,
+                opened_at: pass.front(),
+            }),
+            Reply::Refused(fault) => Err(DeskFault::Hall(fault)),
+            _ => unreachable!(),
         }
-        opened
     }
 
     /// What the tenant's search of the number has come to. Refused as `serve` is, and also where memory lacks to share what the
@@ -131,7 +145,18 @@ impl<L: Ledger> Desk<L> {
     pub fn poll<R: Wait>(&self, rt: &R, pass: &mut Pass<L>, number: u64) -> Told<Verdict>
         ensures { IsPolled pass.old pass.new number result }
     {
-        self.enter(rt).poll(pass, number)
+        Self::look(self.enter(rt), pass, number)
+    }
+
+    /// Gives the lock back, and tells what the search has come to: of a completed one when nobody waits for the lock any more.
+    fn look(mut room: MutexGuard<'_, Room<L>>, pass: &mut Pass<L>, number: u64) -> Told<Verdict>
+        ensures { IsPolledAt (mutex_guard_value room.entry) pass.old pass.new number result }
+    {
+        let Some(search) = room.lent(pass, &Request::Poll(number)) else {
+            return room.poll(pass, number);
+        };
+        drop(room);
+        Ok(Verdict::new(&search, told_of(&search)?)?)
     }
 
     /// Waits until the tenant's search of the number has come to an end, or the desk was stopped, and then answers as `poll`
@@ -144,24 +169,29 @@ impl<L: Ledger> Desk<L> {
         let room = self.enter(rt);
         let bell = self.over.of(&who, number);
         let room = bell.wait_while(rt, room, |room| !room.is_over(who, number, front));
-        room.poll_over(pass, number)
+        Self::look(room, pass, number)
     }
 
     /// Ends the tenant's search of the number. Refused as `serve` is.
     pub fn end<R: Wait>(&self, rt: &R, pass: &mut Pass<L>, number: u64) -> Told<()>
         ensures { IsAnswered (λ u. reply.Closed) pass.old pass.new (request.Close number) result }
     {
-        let mut room = self.enter(rt);
-        let ended = room.end(pass, number);
-        self.release(room);
-        ended
+        match self.serve(rt, pass, Request::Close(number))? {
+            Reply::Closed => Ok(()),
+            Reply::Refused(fault) => Err(DeskFault::Hall(fault)),
+            _ => unreachable!(),
+        }
     }
 
     /// The credentials that the tenant issues and holds, in order. Refused as `serve` is.
     pub fn vault<R: Wait>(&self, rt: &R, pass: &mut Pass<L>) -> Told<Rows>
         ensures { IsAnswered reply.Vault pass.old pass.new request.Vault result }
     {
-        self.enter(rt).vault(pass)
+        match self.serve(rt, pass, Request::Vault)? {
+            Reply::Vault(rows) => Ok(rows),
+            Reply::Refused(fault) => Err(DeskFault::Hall(fault)),
+            _ => unreachable!(),
+        }
     }
 
     /// The names whose vaults the tenant reads, in order, its own among them, each with whether its vault is public. Refused
@@ -169,7 +199,11 @@ impl<L: Ledger> Desk<L> {
     pub fn sees<R: Wait>(&self, rt: &R, pass: &mut Pass<L>) -> Told<Sights>
         ensures { IsAnswered reply.Sees pass.old pass.new request.Sees result }
     {
-        self.enter(rt).sees(pass)
+        match self.serve(rt, pass, Request::Sees)? {
+            Reply::Sees(sights) => Ok(sights),
+            Reply::Refused(fault) => Err(DeskFault::Hall(fault)),
+            _ => unreachable!(),
+        }
     }
 
     /// Why the entity is a member of the role that the tenant's search of the number asked about. Refused as `serve` is.
@@ -182,7 +216,11 @@ impl<L: Ledger> Desk<L> {
     ) -> Told<Proof>
         ensures { IsAnswered reply.Proof pass.old pass.new (request.Proof number member) result }
     {
-        self.enter(rt).proof(pass, number, member)
+        match self.serve(rt, pass, Request::Proof(number, member))? {
+            Reply::Proof(proof) => Ok(proof),
+            Reply::Refused(fault) => Err(DeskFault::Hall(fault)),
+            _ => unreachable!(),
+        }
     }
 
     /// Takes a pass back. Its share counts as that of a pass that left.
@@ -215,7 +253,7 @@ impl<L: Ledger> Desk<L> {
 
     /// Gives the lock back, and wakes the callers who wait for the search that came to its end meanwhile.
     fn release(&self, mut room: MutexGuard<'_, Room<L>>) {
-        let ended = room.take_ended();
+        let ended = mem::take(&mut room.ended);
         drop(room);
         if let Some((who, number)) = ended {
             self.over.of(&who, number).notify_all();

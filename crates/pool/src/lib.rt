@@ -6,13 +6,11 @@
 //! once in a ledger (`specs/Passes.antt`). Who wakes whom is shown by tests, since no clause speaks of it.
 #![tactic(auto)]
 
-mod asking;
 mod bells;
 #[cfg(test)]
 mod desk_tests;
 mod desks;
 mod faults;
-mod gates;
 mod laws;
 mod passes;
 mod rooms;
@@ -24,9 +22,8 @@ mod workers;
 
 pub use desks::Desk;
 pub use faults::{DeskFault, Told};
-pub use gates::{Gate, NoGate};
 pub use laws::replies_are_own;
 pub use passes::Pass;
 pub use rooms::PARTS;
 pub use verdicts::{Gathered, Ticket, Verdict};
-pub use workers::run_workers;
+pub use workers::{Gate, NoGate, run_workers};

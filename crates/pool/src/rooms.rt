@@ -1,19 +1,21 @@
 //! What lies under the lock of a desk: the hall, and the count of the changes of which passes were told.
-ghost use Rattle.std.specs.Prelude.{◌≡◌, ◌+◌, ◌<◌, true, false, [], length, vec_len, IfOk, IfErr, OnOk, OnErr};
-ghost use Rattle.hall.specs.declared.calls.requests.Request.TheVariants as request;
-ghost use Rattle.hall.specs.declared.calls.replies.Reply.TheVariants as reply;
+ghost use Rattle.std.specs.Prelude.{◌≡◌, ◌↔◌, ◌+◌, ◌<◌, true, false, [], length, vec_len, None, IfSome, IfOk, IfErr, OnOk, OnErr};
+ghost use Rattle.std.specs.Arc.{arc_value};
+ghost use Rattle.hall.specs.Hall.{told_as};
 ghost use Rattle.pool.specs.Passes.{IsSeenAt, shares_of};
 ghost use Rattle.pool.specs.Rooms.{IsKept};
-ghost use Rattle.pool.specs.Served.{IsAnsweredAt};
+ghost use Rattle.pool.specs.Served.{IsAnsweredAt, IsLentAt, IsReadOff, IsPolledAt, GoesOnWaiting};
 
 use crate::faults::{DeskFault, Told};
 use crate::passes::Pass;
-use crate::verdicts::Gathered;
-use hall::{Fault, Hall};
+use crate::verdicts::{Gathered, Verdict};
+use hall::{Fault, Hall, Reply, Request, proof_of, told_of};
 use names::Entity;
+use search::{Search, Status};
+use std::alloc::Global;
 use std::marker::Model;
+use std::sync::Arc;
 use std::sync::ledger::{Blank, Book, Ledger, Share};
-use vaults::Change;
 
 /// How many parts the ledger of a desk has: one for each pass that may be out, and one that stays.
 pub const PARTS: u64 = (1 << 32) + 1;
@@ -122,14 +124,68 @@ impl<L: Ledger> Room<L> {
         Ok(())
     }
 
-    /// Makes a change of the pass's tenant. Where the hall accepts it, the pass is told of one change more.
-    pub(crate) fn change(&mut self, pass: &mut Pass<L>, change: Change) -> Told<u64>
-        ensures { IsAnsweredAt reply.Counted self.old self.new pass.old pass.new (request.Alter change) result }
+    /// Serves the request of the pass's tenant. Where the hall accepts a change, the pass is told of one change more.
+    pub(crate) fn serve(&mut self, pass: &mut Pass<L>, request: Request) -> Told<Reply>
+        ensures { IsAnsweredAt (λ r. r) self.old self.new pass.old pass.new request result }
     {
         self.show(pass)?;
-        let count = self.hall.change(pass.tenant(), change)?;
-        pass.count(&mut self.book, self.hall.journal_len());
-        Ok(count)
+        let who = pass.tenant();
+        self.note_closing(who, &request);
+        let reply = self.hall.ask(who, request)?;
+        if let Reply::Counted(_) = reply {
+            pass.count(&mut self.book, self.hall.journal_len());
+        }
+        Ok(reply)
+    }
+
+    /// Notes the search that the tenant's request takes away, if it does.
+    fn note_closing(&mut self, who: Entity, request: &Request)
+        ensures { self.new ≡ self.old }
+    {
+        if let Request::Close(number) = *request {
+            self.ended = Some((who, number));
+        }
+    }
+
+    /// Where the request reads a completed search of the pass's tenant, that search: it doesn't change any more, so the reply
+    /// is made of it once the lock is given back. It is lent to none who would be refused, nor where memory to share it lacks.
+    pub(crate) fn lent(&mut self, pass: &mut Pass<L>, request: &Request) -> Option<Arc<Search>>
+        ensures lent { IfSome result (λ search. IsLentAt self.old pass.old pass.new request.now (arc_value search)) }
+        ensures pass { result ≡ None → pass.new ≡ pass.old }
+        ensures room { self.new ≡ self.old }
+    {
+        let (Request::Poll(number) | Request::Proof(number, _)) = *request else {
+            return None;
+        };
+        let search = self.hall.completed(pass.tenant(), number).ok()??;
+        self.show(pass).ok()?;
+        Some(search)
+    }
+
+    /// What the search of the pass's tenant has come to, with what it is for and what it reads.
+    pub(crate) fn poll(&self, pass: &mut Pass<L>, number: u64) -> Told<Verdict>
+        ensures { IsPolledAt self.now pass.old pass.new number result }
+    {
+        let who = pass.tenant();
+        self.show(pass)?;
+        let answer = self.hall.poll(who, number)?;
+        let Some(search) = self.hall.search(who, number) else {
+            unreachable!()
+        };
+        Ok(Verdict::new(search, answer)?)
+    }
+
+    /// Whether a wait for the search of this tenant, by a pass of this front, is over.
+    pub(crate) fn is_over(&self, who: Entity, number: u64, front: u64) -> bool
+        ensures { (result ≡ false) ↔ GoesOnWaiting self.now who number front }
+    {
+        if self.stopped || self.hall.journal_len() < front {
+            return true;
+        }
+        match self.hall.search(who, number) {
+            Some(search) => search.status() != Status::Working,
+            None => true,
+        }
     }
 
     /// Takes a pass back, with its share.
@@ -188,4 +244,14 @@ impl<L: Ledger> Room<L> {
         let _ = &self.book;
         self.stopped = true;
     }
+}
+
+/// The reply to a request that reads the search.
+pub(crate) fn read_off(alloc: Global, search: &Search, request: &Request) -> Result<Reply, Fault>
+    ensures { IsReadOff search.now request.now (told_as (λ r. r) result) }
+{
+    Ok(match request {
+        Request::Proof(_, member) => Reply::Proof(proof_of(alloc, search, member)?),
+        _ => Reply::Answered(told_of(search)?),
+    })
 }

@@ -1,12 +1,11 @@
 //! What a desk answers.
-ghost use Rattle.std.specs.Prelude.{◌≡◌, IfOk};
+ghost use Rattle.std.specs.Prelude.{◌≡◌, IfOk, IfErr};
 ghost use Rattle.std.specs.Arc.{arc_value};
 ghost use Rattle.pool.specs.Verdicts.{IsTrueWhereCompleted, rows_read};
 
-use hall::{Answer, Query};
+use hall::{Answer, Fault, Query};
 use search::Search;
 use snapshots::Snapshot;
-use std::alloc::AllocError;
 use std::sync::Arc;
 
 /// What a search has come to, with what it is for and what it reads. Where it is completed, the answer is the one that
@@ -24,11 +23,12 @@ pub struct Verdict {
 
 impl Verdict {
     /// The verdict on the search, of which this is told.
-    pub(crate) fn new(search: &Search, answer: Answer) -> Result<Verdict, AllocError>
+    pub(crate) fn new(search: &Search, answer: Answer) -> Result<Verdict, Fault>
         requires { IsTrueWhereCompleted (rows_read search.now.snapshot) search.now.query answer }
         ensures query { IfOk result (λ v. v.query ≡ search.now.query) }
         ensures snapshot { IfOk result (λ v. arc_value v.snapshot ≡ search.now.snapshot) }
         ensures answer { IfOk result (λ v. v.answer ≡ answer) }
+        ensures only_memory { IfErr result (λ f. f ≡ Fault.Memory) }
         ensures truth { IfOk result (λ v. IsTrueWhereCompleted (rows_read (arc_value v.snapshot)) v.query v.answer) }
     {
         let snapshot = search.snapshot().clone()?;

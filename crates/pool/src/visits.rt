@@ -1,13 +1,11 @@
 //! What a worker does when it has the lock: the steps of one search in a row, and what it hands in.
 ghost use Rattle.std.specs.Prelude.{◌≡◌, ◌≤◌, ◌↔◌, true, false, IsTrue, vec_len, vec_capacity};
-ghost use Rattle.hall.specs.Hall.{step_name, step_search};
 ghost use Rattle.search.specs.Need.{right_hint};
 
 use crate::rooms::Room;
-use hall::{Job, Step, Stepped};
+use hall::{Job, Stepped};
 use names::Entity;
 use search::Hint;
-use std::mem;
 use std::sync::ledger::Ledger;
 
 /// How many steps a worker makes in one visit, and how many letters it holds, at the most.
@@ -33,18 +31,6 @@ pub(crate) struct Looked {
     pub(crate) ghost right: { hint ≡ right_hint job.snapshot.vaults job.need },
 }
 
-/// Whose search the step is made of, and its number.
-fn search_of(step: &Step) -> (Entity, u64)
-    ensures { result ≡ (step_name step.now, step_search step.now) }
-{
-    match *step {
-        Step::Take(who, number, _)
-        | Step::GiveBack(who, number, _)
-        | Step::Finish(who, number, _, _)
-        | Step::Signal(who, number, _) => (who, number),
-    }
-}
-
 impl<L: Ledger> Room<L> {
     ghost use Rattle.pool.specs.Rooms.{IsIdle};
     ghost use Rattle.pool.specs.Visits.{IsHandedIn, AreHandedIn, IsVisit};
@@ -63,15 +49,6 @@ impl<L: Ledger> Room<L> {
         if self.is_over(who, number, 0) {
             self.ended = Some((who, number));
         }
-    }
-
-    /// The search that came to an end since this was asked last, which is to be asked before the lock is given back: those who
-    /// wait for it are to look then.
-    pub(crate) fn take_ended(&mut self) -> Option<(Entity, u64)>
-        ensures { self.new ≡ self.old }
-    {
-        let _ = &self.hall;
-        mem::take(&mut self.ended)
     }
 
     /// The steps of one visit of a worker, all of one search: it delivers signals and takes letters as long as there are any
@@ -95,7 +72,7 @@ impl<L: Ledger> Room<L> {
             return Found::Nothing;
         };
         self.turn = self.turn.wrapping_add(1);
-        let (who, number) = search_of(&first);
+        let (who, number) = first.search();
         let made = self.hall.visit(who, number, BATCH, held);
         self.note(who, number);
         match made {

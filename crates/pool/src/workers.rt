@@ -1,39 +1,43 @@
 //! Workers: threads that take letters, look up outside the lock, and hand in.
-ghost use Rattle.std.specs.Prelude.{◌≡◌, ◌≤◌, ◌+◌, ◌-◌, ◌^◌, ◌||◌, min, IfOk, IfErr, vec_len, vec_capacity, reverse};
+ghost use Rattle.std.specs.Prelude.{ℕ, List, ◌≡◌, ◌≤◌, IfOk, IfErr, vec_len, vec_capacity, reverse};
 ghost use Rattle.pool.specs.Refusals.{IsWorkRefusal};
 ghost use Rattle.pool.specs.Visits.{letters_of, AreLetThrough};
-ghost use Rattle.pool.specs.Workers.{IsDoneBy, DoneBy};
+ghost use Rattle.pool.specs.Workers.{done_by_both, IsDoneBy, DoneBy};
 
 use crate::desks::Desk;
 use crate::faults::{DeskFault, Told};
-use crate::gates::Gate;
 use crate::visits::{BATCH, Found, Looked};
 use hall::{Fault, Job};
+use names::Entity;
 use std::alloc::Global;
 use std::sync::Wait;
 use std::sync::ledger::Ledger;
 use std::thread;
 use std::thread::{JoinHandle, Threads};
 
-/// How many letters a worker finished, and whether memory was refused to it.
-#[derive(Clone, Copy)]
-pub(crate) struct Worked {
-    finished: u64,
-    no_memory: bool,
+/// Where a worker passes with each letter, after it took it and before it looks up what the letter needs. No lock is held
+/// then.
+pub trait Gate: Sync {
+    /// That the gate let the letter of this number pass, of the tenant's search of that number.
+    ghost LetThrough: { List ℕ → ℕ → ℕ → Type 0 };
+
+    /// Passes with the letter of this number, of the tenant's search of that number.
+    fn pass(&self, who: &Entity, search: u64, letter: u64)
+        ensures { LetThrough who.now search letter };
 }
 
-impl Worked {
-    /// What both did.
-    fn with(self, other: Worked) -> Worked
-        ensures finished { result.finished ≡ min (self.finished + other.finished) (2 ^ 64 - 1) }
-        ensures no_memory { result.no_memory ≡ (other.no_memory || self.no_memory) }
-    {
-        Worked {
-            finished: self.finished.saturating_add(other.finished),
-            no_memory: other.no_memory || self.no_memory,
-        }
-    }
+/// A gate that lets every letter pass at once.
+#[derive(Clone, Copy, Drop)]
+pub struct NoGate;
+
+impl Gate for NoGate {
+    ghost LetThrough = { λ who search letter. Unit {0} };
+
+    fn pass(&self, _who: &Entity, _search: u64, _letter: u64) {}
 }
+
+/// How many letters a worker finished, or nothing where memory was refused to it.
+type Worked = Option<u64>;
 
 /// Passes the gate with each letter, and looks up what it needs.
 fn look_up_all<G: Gate>(gate: &G, held: &mut Vec<Job>, looked: &mut Vec<Looked>)
@@ -54,44 +58,41 @@ fn look_up_all<G: Gate>(gate: &G, held: &mut Vec<Job>, looked: &mut Vec<Looked>)
 
 /// Works until the desk is stopped, or memory is refused. Room for the letters is taken first.
 fn work<L: Ledger, G: Gate, R: Wait>(rt: &R, alloc: Global, desk: &Desk<L>, gate: &G) -> Worked {
-    let mut worked = Worked {
-        finished: 0,
-        no_memory: true,
-    };
-    let Ok(mut held) = Vec::with_capacity(alloc, BATCH) else {
-        return worked;
-    };
+    let mut held = Vec::with_capacity(alloc, BATCH).ok()?;
     let Ok(mut looked) = Vec::with_capacity(alloc, BATCH) else {
         held.destroy_empty();
-        return worked;
+        return None;
     };
+    let mut finished = 0u64;
+    let mut found = Found::Work;
     for _ in rt.forever() {
-        let found = desk.visit(rt, &mut held);
+        found = desk.visit(rt, &mut held);
         look_up_all(gate, &mut held, &mut looked);
-        let finished = desk.hand_in(rt, &mut looked);
-        worked.finished = worked.finished.saturating_add(finished);
+        finished = finished.saturating_add(desk.hand_in(rt, &mut looked));
         if found != Found::Work {
-            worked.no_memory = found == Found::NoMemory;
             break;
         }
     }
     desk.replace_worker();
     held.destroy_empty();
     looked.destroy_empty();
-    worked
+    (found != Found::NoMemory).then_some(finished)
+}
+
+/// What both did.
+fn both(all: Worked, one: Worked) -> Worked
+    ensures { result ≡ done_by_both all one }
+{
+    Some(all?.saturating_add(one?))
 }
 
 /// Waits for all workers, and adds up what they did.
 fn join_all<R: Threads>(rt: &R, handles: Vec<JoinHandle<Worked>>) -> Worked
     ensures { IsDoneBy (vec_len handles) result }
 {
-    let mut all = Worked {
-        finished: 0,
-        no_memory: false,
-    };
+    let mut all = Some(0);
     for handle in handles {
-        let one = handle.join(rt);
-        all = all.with(one);
+        all = both(all, handle.join(rt));
     }
     all
 }
@@ -139,10 +140,7 @@ pub fn run_workers<L: Ledger + Send + Sync, G: Gate, R: Threads + Wait + Sync>(
             if refused {
                 return Err(DeskFault::NoThread);
             }
-            if all.no_memory {
-                return Err(DeskFault::Hall(Fault::Memory));
-            }
-            Ok(all.finished)
+            all.ok_or(DeskFault::Hall(Fault::Memory))
         },
     )
 }

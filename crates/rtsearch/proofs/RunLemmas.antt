@@ -4,7 +4,7 @@ use Rattle.std.specs.Prelude.{IfSome, MatchBool}
 use Rattle.std.specs.Io.KnownBytes.{Appends}
 use Rattle.clap.specs.Words.{Row, Text}
 use Rattle.service.specs.Line.{commands_of}
-use Rattle.service.specs.declared.script_faults.ScriptFault.TheVariants.{Memory}
+use Rattle.service.specs.declared.faults.ScriptFault.TheVariants.{Memory}
 use Rattle.service.proofs.ScriptLemmas.{Appends-nothing}
 use Rattle.rtsearch.specs.CommandLine.{IsGiven, is_serve, value_of}
 use Rattle.rtsearch.specs.Serving.{Served, NotServed}

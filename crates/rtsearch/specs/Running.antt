@@ -3,7 +3,7 @@ use Rattle.std.specs.Prelude.{◌⊎◌, ℕ, List, [], Option, Some, Ok, Err, M
 use Rattle.clap.specs.Words.{Row, Text}
 use Rattle.service.specs.Line.{Line}
 use Rattle.service.specs.Written.{ScriptWrote}
-use Rattle.service.specs.declared.script_faults.ScriptFault.{ScriptFault}
+use Rattle.service.specs.declared.faults.ScriptFault.{ScriptFault}
 use Rattle.rtsearch.specs.CommandLine.{is_serve, value_of, IsGiven}
 use Rattle.rtsearch.specs.Serving.{Served, NotServed}
 

@@ -4,7 +4,7 @@ use Rattle.service.specs.Line.{Line}
 use Rattle.service.specs.Roster.{Row, HasRoster, HasNoRoster}
 use Rattle.service.specs.Served.{ServeWrote}
 use Rattle.service.specs.Written.{WroteFront, roster_refusal}
-use Rattle.service.specs.declared.serve_faults.ServeFault.{ServeFault}
+use Rattle.service.specs.declared.faults.ServeFault.{ServeFault}
 
 -- the input begins with a roster
 abbrev pub BeginsWithRoster : List Line → Type 0

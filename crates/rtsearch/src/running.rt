@@ -2,7 +2,7 @@ ghost use Rattle.std.specs.Prelude.{◌≡◌, ◌≤◌, ℕ, List, Ok, Err, If
 ghost use Rattle.std.specs.Io.KnownBytes.{Appends};
 ghost use Rattle.service.specs.Line.{commands_of};
 ghost use Rattle.service.specs.Written.{ScriptWrote};
-ghost use Rattle.service.specs.declared.script_faults.ScriptFault.{ScriptFault};
+ghost use Rattle.service.specs.declared.faults.ScriptFault.{ScriptFault};
 ghost use Rattle.rtsearch.specs.CommandLine.{AsksForScript, IsCommandLine, entered};
 ghost use Rattle.rtsearch.specs.Running.{Ran, Failed};
 

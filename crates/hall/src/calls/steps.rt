@@ -19,27 +19,15 @@ impl Step {
     ghost use Rattle.std.specs.Prelude.{◌≡◌};
     ghost use Rattle.hall.specs.Hall.{step_name, step_search};
 
-    /// Whose search it is made of.
-    pub(crate) fn who(&self) -> Entity
-        ensures { result ≡ step_name self.now }
+    /// Whose search it is made of, and its number.
+    pub fn search(&self) -> (Entity, u64)
+        ensures { result ≡ (step_name self.now, step_search self.now) }
     {
         match *self {
-            Step::Take(who, _, _)
-            | Step::GiveBack(who, _, _)
-            | Step::Finish(who, _, _, _)
-            | Step::Signal(who, _, _) => who,
-        }
-    }
-
-    /// The number of the search.
-    pub(crate) fn number(&self) -> u64
-        ensures { result ≡ step_search self.now }
-    {
-        match *self {
-            Step::Take(_, number, _)
-            | Step::GiveBack(_, number, _)
-            | Step::Finish(_, number, _, _)
-            | Step::Signal(_, number, _) => number,
+            Step::Take(who, number, _)
+            | Step::GiveBack(who, number, _)
+            | Step::Finish(who, number, _, _)
+            | Step::Signal(who, number, _) => (who, number),
         }
     }
 }

@@ -1,9 +1,10 @@
 //! Letters that are taken from a hall, and what becomes of them.
 use super::runs::two_tenants;
 use super::{credential, entity};
-use crate::{Answer, Fault, Hall, Job, Query, Step, Stepped};
+use crate::{Answer, Fault, Hall, Job, Query, Step, Stepped, told_of};
 use names::{Entity, Role};
 use quotas::Limits;
+use search::Hint;
 use std::alloc::Global;
 use std::test::Fail;
 use vaults::Change;
@@ -64,6 +65,39 @@ fn a_job_is_given_back_and_then_finished(rt: HostRuntime) -> Result<(), Fail> {
     Ok(())
 }
 
+/// Whether no step of A's search moves anything, and no letter of it is taken.
+fn stays(hall: &mut Hall, a: Entity) -> Result<bool, Fail> {
+    let still = matches!(hall.step(Step::Take(a, 1, 0)), Stepped::Nothing)
+        && matches!(hall.step(Step::Signal(a, 1, 0)), Stepped::Nothing)
+        && matches!(hall.step(Step::GiveBack(a, 1, 1)), Stepped::NotHeld)
+        && matches!(
+            hall.step(Step::Finish(a, 1, 1, Hint::Nothing)),
+            Stepped::NotHeld
+        );
+    let Some(job) = hall.take(a, 1, 0)? else {
+        return Ok(still);
+    };
+    let _back = hall.give_back(job);
+    Ok(false)
+}
+
+// What was shared is told of after its tenant ended it.
+#[test]
+fn a_completed_search_is_shared(rt: HostRuntime) -> Result<(), Fail> {
+    let a = entity("A")?;
+    let mut hall = asked(rt.alloc(), a)?;
+    assert!(rt; hall.completed(a, 1)?.is_none());
+    assert!(rt; is_answered(&mut hall, a)?);
+    let shared = hall.completed(a, 1)?.ok_or("it is completed")?;
+    assert!(rt; stays(&mut hall, a)?);
+    assert!(rt; is_answered(&mut hall, a)?);
+    hall.end(a, 1)?;
+    assert!(rt; hall.completed(a, 1)?.is_none());
+    assert!(rt; hall.completed(entity("B")?, 1)?.is_none());
+    assert!(rt; matches!(told_of(&shared)?, Answer::Yes));
+    Ok(())
+}
+
 /// The hall of A and B, where A has asked two questions and B one.
 fn three_asked(alloc: Global, a: Entity, b: Entity) -> Result<Hall, Fail> {
     let mut hall = two_tenants(alloc)?;
@@ -79,7 +113,8 @@ fn is_picked(hall: &Hall, turn: u64, who: Entity, number: u64) -> bool {
     let Some(step) = hall.pick(turn) else {
         return false;
     };
-    step.who() == who && step.number() == number
+    let (whose, of) = step.search();
+    whose == who && of == number
 }
 
 // Tenants take turns, and so do a tenant's searches from one of its turns to the next.

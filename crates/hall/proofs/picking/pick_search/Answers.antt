@@ -1,5 +1,6 @@
-use Rattle.std.proofs.Common.{subst}
+use Rattle.std.proofs.Common.{◌∙◌, ap, subst}
 use Rattle.std.proofs.lemmas.List.Elements.{All-push}
+use Rattle.search.specs.Search.{SearchState}
 use Rattle.search.specs.Stage.{IsQuiet}
 use Rattle.hall.specs.Hall.{Running}
 use Rattle.hall.specs.Kept.{IsNext}
@@ -11,13 +12,13 @@ returns-in-Some-next_step c = (
   (c.in-Some.number.now, c.in-Some.opened.now),
   one_of_round c.begin_at-place.result.0 c.args.searches {s = c.into_iter-number-iterator.result} (cc) (cc) (cc) (cc) c.loop-number.yielded _ _ c.loop-number.yielded_by _ c.next.ensures.steps
       (c.in-Some.number, c.in-Some.opened) c.in-Some.is,
-  subst (λ (r : Running). IsNext c.args.who c.in-Some.number.now r.search c.in-Some-next_step.step) c.opened.view_is c.in-Some-next_step.ensures,
+  subst (λ (s : SearchState). IsNext c.args.who c.in-Some.number.now s c.in-Some-next_step.step) (c.search.ensures ∙ ap (λ (r : Running). r.search) c.opened.view_is) c.in-Some-next_step.ensures,
 )
 
 pub loop-number-preserved : goal.loop-number-preserved
 loop-number-preserved c =
     All-push (λ e. IsQuiet e.1.now.search.stage) c.loop-number.yielded (c.in-Some.number, c.in-Some.opened) c.loop-number.invariant
-    (subst (λ (r : Running). IsQuiet r.search.stage) c.opened.view_is c.in_default.ensures)
+    (subst (λ (s : SearchState). IsQuiet s.stage) (c.search.ensures ∙ ap (λ (r : Running). r.search) c.opened.view_is) c.in_default.ensures)
 
 pub returns : goal.returns
 returns c =

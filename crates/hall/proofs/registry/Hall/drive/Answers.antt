@@ -1,5 +1,6 @@
 use Rattle.std.proofs.Common.{◌≡◌, ◌∙◌, Some, None, Result, Err, ap, refl, sym, subst}
 use Rattle.std.specs.FinMap.{get}
+use Rattle.search.specs.Carried.{carried_search}
 use Rattle.hall.specs.declared.calls.answers.Answer.{Answer}
 use Rattle.hall.specs.declared.calls.replies.Reply.TheVariants.{Answered, Refused}
 use Rattle.hall.specs.declared.faults.Fault.{Fault}
@@ -61,24 +62,24 @@ pub returns-in_err-opened-clause-quiet : goal.returns-in_err-opened-clause-quiet
 returns-in_err-opened-clause-quiet c = drives_quiet (hall_of c.self.inside.book c.self.inside.tenants) c.args.who c.args.number (hall_of c.self.inside.book (c.get_mut.follows.lender (tenant_of c.seat.inside.limits c.seat.inside.opens c.get_mut-2.follows.lender-at-none))) (Err NoSuchSearch) (left_alone c)
 
 -- what becomes of the hall
-moves : (c : After-drive) → Moves (hall_of c.self.inside.book c.self.inside.tenants) c.args.who c.args.number (c.drive.result ≡ Err NoSuchSearch) (λ s t. DrivesTo s c.drive.result t) (hall_of c.self.inside.book (c.get_mut.follows.lender (tenant_of c.seat.inside.limits c.seat.inside.opens (c.get_mut-2.follows.lender (record { opened_at = c.opened.inside.opened_at; search = c.drive.new.search })))))
+moves : (c : After-drive) → Moves (hall_of c.self.inside.book c.self.inside.tenants) c.args.who c.args.number (c.drive.result ≡ Err NoSuchSearch) (λ s t. DrivesTo s c.drive.result t) (hall_of c.self.inside.book (c.get_mut.follows.lender (tenant_of c.seat.inside.limits c.seat.inside.opens (c.get_mut-2.follows.lender (record { opened_at = c.opened.inside.opened_at; search = carried_search c.drive.new.carried })))))
 moves c =
     there c.self.inside.book c.self.inside.tenants _ c.args.who c.seat.inside.limits c.seat.inside.opens c.seat.inside.searches _ c.in_ok-seat.seat.now c.args.number
     (ap option_copied_mut (sym c.in_ok-seat.ensures.ok_part) ∙ c.get_mut.ensures.value) c.seat.view_is (c.get_mut.follows.holds _) (c.drive.result ≡ Err NoSuchSearch) (λ s t. DrivesTo s c.drive.result t)
-    (record { opened_at = c.opened.inside.opened_at; search = c.opened.inside.search }) c.drive.new.search
-    (sym (ap option_copied_mut (sym c.in_ok-opened.ensures.ok_part) ∙ c.get_mut-2.ensures.value) ∙ ap Some (sym c.opened.view_is)) (c.get_mut-2.follows.holds (record { opened_at = c.opened.inside.opened_at; search = c.drive.new.search })) c.drive.ensures
+    (record { opened_at = c.opened.inside.opened_at; search = carried_search c.opened.inside.carried }) (carried_search c.drive.new.carried)
+    (sym (ap option_copied_mut (sym c.in_ok-opened.ensures.ok_part) ∙ c.get_mut-2.ensures.value) ∙ ap Some (sym c.opened.view_is)) (c.get_mut-2.follows.holds (record { opened_at = c.opened.inside.opened_at; search = carried_search c.drive.new.carried })) c.drive.ensures.driven
 
 -- the wait that is carried out
-driven : (c : After-drive) → CarriesOut (hall_of c.self.inside.book c.self.inside.tenants) c.args.who (waits c.args.number) (told_as Answered c.drive.result) (hall_of c.self.inside.book (c.get_mut.follows.lender (tenant_of c.seat.inside.limits c.seat.inside.opens (c.get_mut-2.follows.lender (record { opened_at = c.opened.inside.opened_at; search = c.drive.new.search })))))
+driven : (c : After-drive) → CarriesOut (hall_of c.self.inside.book c.self.inside.tenants) c.args.who (waits c.args.number) (told_as Answered c.drive.result) (hall_of c.self.inside.book (c.get_mut.follows.lender (tenant_of c.seat.inside.limits c.seat.inside.opens (c.get_mut-2.follows.lender (record { opened_at = c.opened.inside.opened_at; search = carried_search c.drive.new.carried })))))
 driven c =
-    drives_as (hall_of c.self.inside.book c.self.inside.tenants) c.args.who c.args.number (hall_of c.self.inside.book (c.get_mut.follows.lender (tenant_of c.seat.inside.limits c.seat.inside.opens (c.get_mut-2.follows.lender (record { opened_at = c.opened.inside.opened_at; search = c.drive.new.search }))))) (tenant_of c.seat.inside.limits c.seat.inside.opens c.seat.inside.searches) (tenant_at c.self.inside.tenants.entries c.args.who _ (ap option_copied_mut (sym c.in_ok-seat.ensures.ok_part) ∙ c.get_mut.ensures.value) ∙ ap Some (sym c.seat.view_is))
+    drives_as (hall_of c.self.inside.book c.self.inside.tenants) c.args.who c.args.number (hall_of c.self.inside.book (c.get_mut.follows.lender (tenant_of c.seat.inside.limits c.seat.inside.opens (c.get_mut-2.follows.lender (record { opened_at = c.opened.inside.opened_at; search = carried_search c.drive.new.carried }))))) (tenant_of c.seat.inside.limits c.seat.inside.opens c.seat.inside.searches) (tenant_at c.self.inside.tenants.entries c.args.who _ (ap option_copied_mut (sym c.in_ok-seat.ensures.ok_part) ∙ c.get_mut.ensures.value) ∙ ap Some (sym c.seat.view_is))
     c.drive.result (moves c)
 
 pub invariant_of-self-2 : goal.invariant_of-self-2
-invariant_of-self-2 c = carried_sound (hall_of c.self.inside.book c.self.inside.tenants) (hall_of c.self.inside.book (c.get_mut.follows.lender (tenant_of c.seat.inside.limits c.seat.inside.opens (c.get_mut-2.follows.lender (record { opened_at = c.opened.inside.opened_at; search = c.drive.new.search }))))) c.args.who (waits c.args.number) (told_as Answered c.drive.result) c.self.invariant (driven c.before.before)
+invariant_of-self-2 c = carried_sound (hall_of c.self.inside.book c.self.inside.tenants) (hall_of c.self.inside.book (c.get_mut.follows.lender (tenant_of c.seat.inside.limits c.seat.inside.opens (c.get_mut-2.follows.lender (record { opened_at = c.opened.inside.opened_at; search = carried_search c.drive.new.carried }))))) c.args.who (waits c.args.number) (told_as Answered c.drive.result) c.self.invariant (driven c.before.before)
 
 pub returns-clause-driven : goal.returns-clause-driven
 returns-clause-driven c = rw (← c.self.view_is) (driven c.before.before)
 
 pub returns-clause-quiet : goal.returns-clause-quiet
-returns-clause-quiet c = drives_quiet (hall_of c.self.inside.book c.self.inside.tenants) c.args.who c.args.number (hall_of c.self.inside.book (c.get_mut.follows.lender (tenant_of c.seat.inside.limits c.seat.inside.opens (c.get_mut-2.follows.lender (record { opened_at = c.opened.inside.opened_at; search = c.drive.new.search }))))) c.drive.result (moves c.before.before)
+returns-clause-quiet c = drives_quiet (hall_of c.self.inside.book c.self.inside.tenants) c.args.who c.args.number (hall_of c.self.inside.book (c.get_mut.follows.lender (tenant_of c.seat.inside.limits c.seat.inside.opens (c.get_mut-2.follows.lender (record { opened_at = c.opened.inside.opened_at; search = carried_search c.drive.new.carried }))))) c.drive.result (moves c.before.before)

@@ -20,6 +20,7 @@ returns-in_err-opened c =
 
 pub returns : goal.returns
 returns c =
-    ap (option_map (λ (r : Running). r.search)) (sym (ap (search_of c.args.number) (tenant_at c.self.inside.tenants.entries c.args.who _ c.in_ok-seat.ensures.value ∙ ap Some (sym c.seat.view_is))
+    ap Some c.search.ensures
+    ∙ ap (option_map (λ (r : Running). r.search)) (sym (ap (search_of c.args.number) (tenant_at c.self.inside.tenants.entries c.args.who _ c.in_ok-seat.ensures.value ∙ ap Some (sym c.seat.view_is))
     ∙ search_found c.seat.inside.searches c.args.number ∙ sym c.in_ok-opened.ensures.value ∙ ap Some (sym c.opened.view_is)))
     ∙ ap (λ (g : HallState). option_map (λ (r : Running). r.search) (search_at g c.args.who c.args.number)) c.self.view_is

@@ -1,13 +1,15 @@
 use Rattle.std.proofs.Common.{◌≡◌, ◌∙◌, Some, None, Ok, ap, sym, subst}
 use Rattle.std.specs.FinMap.{get}
+use Rattle.search.specs.Carried.{carried_search}
 use Rattle.hall.specs.declared.faults.Fault.{Fault}
-use Rattle.hall.specs.Hall.{HallState, IsSound, search_of}
+use Rattle.hall.specs.Hall.{Running, HallState, IsSound, search_of}
 use Rattle.hall.specs.Visits.{IsVisited}
 use Rattle.hall.specs.Kept.{Visits}
 use Rattle.hall.proofs.Seated.{tenant_of}
 use Rattle.hall.proofs.Placed.{hall_of, tenant_at, table_left}
 use Rattle.hall.proofs.Carrying.{Moves, none_quiet}
-use Rattle.hall.proofs.Reached.{nobody_there, there, stays}
+use Rattle.hall.proofs.Reached.{nobody_there, found_there, there, left, stays}
+use Rattle.hall.proofs.Stays.{lent, own, quiet_there}
 use Rattle.hall.proofs.Visiting.{no_visit, visits_as, visits_soundly, visited_well, visited_in_part}
 use Rattle.hall.proofs.registry.Hall.visit.Goals as goal
 use Rattle.hall.proofs.registry.Hall.visit.Goals.{After-branch-visit}
@@ -42,13 +44,34 @@ returns-in_default-get_mut-clause-visited c =
     (nobody_there c.self.inside.book c.self.inside.tenants _ c.args.who c.seat.inside.limits c.seat.inside.opens c.seat.inside.searches c.get_mut-2.follows.lender-at-none c.in-Some.seat.now c.args.number
     c.in-Some.ensures.value c.seat.view_is (c.get_mut.follows.holds _) (sym c.in_default-get_mut.ensures.value)))))
 
+pub invariant_of-self-in_default-carried : goal.invariant_of-self-in_default-carried
+invariant_of-self-in_default-carried c =
+    subst IsSound (sym (left c.self.inside.book c.self.inside.tenants _ c.args.who c.seat.inside.limits c.seat.inside.opens c.seat.inside.searches _ c.in-Some.seat.now c.args.number
+    c.in-Some.ensures.value c.seat.view_is (c.get_mut.follows.holds _) (record { opened_at = c.opened.inside.opened_at; search = carried_search c.opened.inside.carried })
+    (sym c.in-Some-get_mut.ensures.value ∙ ap Some (sym c.opened.view_is)) (c.get_mut-2.follows.holds _))) c.self.invariant
+
+pub returns-in_default-carried-clause-visited : goal.returns-in_default-carried-clause-visited
+returns-in_default-carried-clause-visited c =
+    let r : Running = record { opened_at = c.opened.inside.opened_at; search = carried_search c.opened.inside.carried } in
+    let at = sym c.in-Some-get_mut.ensures.value ∙ ap Some (sym c.opened.view_is) in
+    let done = lent c.opened.inside.carried c.opened.invariant c.in_default-carried.not-Own in
+    let h : HallState = hall_of c.self.inside.book c.self.inside.tenants in
+    rw (← c.self.view_is)
+    (subst (λ (g : HallState). IsVisited {E = Fault} c.args.who c.args.number c.args.most h c.args.held.now.items (Ok tt) g c.args.held.now.items)
+    (sym (left c.self.inside.book c.self.inside.tenants _ c.args.who c.seat.inside.limits c.seat.inside.opens c.seat.inside.searches _ c.in-Some.seat.now c.args.number
+    c.in-Some.ensures.value c.seat.view_is (c.get_mut.follows.holds _) r at (c.get_mut-2.follows.holds _)))
+    (no_visit {E = Fault} c.args.who c.args.number c.args.most c.args.held.now.items h (Ok tt)
+    (quiet_there h c.args.who c.args.number r
+    (found_there c.self.inside.book c.self.inside.tenants _ c.args.who c.seat.inside.limits c.seat.inside.opens c.seat.inside.searches c.get_mut-2.follows.lender-at-none c.in-Some.seat.now c.args.number
+    c.in-Some.ensures.value c.seat.view_is (c.get_mut.follows.holds _) r at) done)))
+
 -- what becomes of the hall
 moves : (c : After-branch-visit) → Moves (hall_of c.self.inside.book c.self.inside.tenants) c.args.who c.args.number (c.visit.new.held.items ≡ c.args.held.now.items) (λ s t. Visits c.args.who c.args.number c.args.most c.args.held.now.items c.visit.new.held.items c.visit.result s t) (hall_of c.self.inside.book (c.get_mut.follows.lender (tenant_of c.seat.inside.limits c.seat.inside.opens (c.get_mut-2.follows.lender (record { opened_at = c.opened.inside.opened_at; search = c.visit.new.search })))))
 moves c =
     there c.self.inside.book c.self.inside.tenants _ c.args.who c.seat.inside.limits c.seat.inside.opens c.seat.inside.searches _ c.in-Some.seat.now c.args.number
     c.in-Some.ensures.value c.seat.view_is (c.get_mut.follows.holds _) (c.visit.new.held.items ≡ c.args.held.now.items) (λ s t. Visits c.args.who c.args.number c.args.most c.args.held.now.items c.visit.new.held.items c.visit.result s t)
-    (record { opened_at = c.opened.inside.opened_at; search = c.opened.inside.search }) c.visit.new.search
-    (sym c.in-Some-get_mut.ensures.value ∙ ap Some (sym c.opened.view_is)) (c.get_mut-2.follows.holds (record { opened_at = c.opened.inside.opened_at; search = c.visit.new.search })) c.visit.ensures.visited
+    (record { opened_at = c.opened.inside.opened_at; search = c.in-Own.search }) c.visit.new.search
+    (sym c.in-Some-get_mut.ensures.value ∙ ap Some (sym c.opened.view_is) ∙ own c.opened.inside.opened_at c.in-Own.is) (c.get_mut-2.follows.holds (record { opened_at = c.opened.inside.opened_at; search = c.visit.new.search })) c.visit.ensures.visited
 
 sound : (c : After-branch-visit) → IsSound (hall_of c.self.inside.book (c.get_mut.follows.lender (tenant_of c.seat.inside.limits c.seat.inside.opens (c.get_mut-2.follows.lender (record { opened_at = c.opened.inside.opened_at; search = c.visit.new.search })))))
 sound c = visits_soundly (hall_of c.self.inside.book c.self.inside.tenants) c.args.who c.args.number c.args.most c.args.held.now.items c.visit.new.held.items c.visit.result (hall_of c.self.inside.book (c.get_mut.follows.lender (tenant_of c.seat.inside.limits c.seat.inside.opens (c.get_mut-2.follows.lender (record { opened_at = c.opened.inside.opened_at; search = c.visit.new.search }))))) (moves c) c.self.invariant

@@ -26,5 +26,5 @@ returns-clause-ended c =
     (λ i. record {
       limits = s.limits;
       opens = s.opens;
-      searches = removed numbers_exact (◌==◌) unsigned_tied s.searches c.shift_remove.new.self c.args.number c.in-Some.ensures.updates i;
+      searches = removed numbers_exact (◌==◌) unsigned_tied s.searches c.swap_remove.new.self c.args.number c.in-Some.ensures.updates i;
     })
