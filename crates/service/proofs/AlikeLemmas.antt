@@ -1,5 +1,5 @@
 -- What became of the same lines is the same but for the replies, and so by its replies.
-use Rattle.std.proofs.Common.{◌≡◌, ◌≢◌, ℕ, Bool, true, false, cond, List, [], ◌∷◌, ◌++◌, map, refl, sym, ap, ◌∙◌, subst, subst₂, inl, inr}
+use Rattle.std.proofs.Common.{◌≡◌, ◌≢◌, ℕ, Bool, true, false, cond, List, [], ◌∷◌, ◌++◌, map, refl, sym, ap, ◌∙◌, subst, subst₂, Result, Ok, Err, inl, inr}
 use Rattle.std.specs.List.{AllZip, AllByRecursion}
 use Rattle.names.specs.Name.{is_same}
 use Rattle.vaults.specs.declared.changes.Entry.{Entry}
@@ -14,11 +14,11 @@ use Rattle.hall.specs.Laws.{Agree, same, proofs, first_early, second_early, HasM
 use Rattle.hall.proofs.Elements.{zip_mapped}
 use Rattle.service.specs.declared.commands.Command.{Command}
 use Rattle.service.specs.declared.refusals.Refusal.{Refusal}
-use Rattle.service.specs.Command.{form_of}
-use Rattle.service.specs.Outcome.{Outcome, nobody, refused, served, IsSaid, deed_of, told_in}
-use Rattle.service.specs.Reply.{refusal_line, reply_lines}
-use Rattle.service.specs.Isolation.{own_outcomes, sights_of, FoundMemory, ArePrintedAlike}
-use Rattle.service.proofs.CommandLemmas.{one_command, one_refusal, read_kept}
+use Rattle.service.specs.declared.refusals.Refusal.TheVariants as refusal
+use Rattle.service.specs.Command.{form_of, Reads}
+use Rattle.service.specs.Outcome.{Outcome, nobody, refused, served, outcome_text, IsSaid, deed_of, told_in}
+use Rattle.service.specs.Laws.{own_outcomes, sights_of, FoundMemory, ArePrintedAlike}
+use Rattle.service.proofs.CommandLemmas.{one_reading}
 
 -- the same but for the reply
 abbrev pub AreOneLine : Outcome → Outcome → Type 0
@@ -26,18 +26,31 @@ AreOneLine (refused who why) (refused other also) = (who ≡ other) × (why ≡ 
 AreOneLine (served who command reply) (served other also told) = (who ≡ other) × (command ≡ also)
 AreOneLine _ _ = ⊥
 
+-- what is no want of memory
+lacks : (why : Refusal) → why ≢ refusal.Memory → ◌≢◌ {A = Result Command Refusal} (Err why) (Err refusal.Memory)
+lacks why other is = other (cc)
+
+found : (command : Command) → ◌≢◌ {A = Result Command Refusal} (Ok command) (Err refusal.Memory)
+found command is = cc
+
+-- a text is read in one way
+abbrev reads_same : (said : List ℕ) (one two : Result Command Refusal) → one ≢ Err refusal.Memory → two ≢ Err refusal.Memory →
+    Reads (form_of said) one → Reads (form_of said) two → one ≡ two
+reads_same said = one_reading (form_of said)
+
 -- so are two that one text may become, where memory didn't lack
 one_line : (tenant said : List ℕ) (one two : Outcome) → IsSaid tenant (form_of said) one → IsSaid tenant (form_of said) two → FoundMemory one → FoundMemory two → AreOneLine one two
 one_line tenant said (nobody why) two is also memory more = absurd is
 one_line tenant said (refused who why) (nobody other) is also memory more = absurd also
-one_line tenant said (refused who why) (refused name other) is also memory more = (is.0 ∙ sym also.0, one_refusal (form_of said) why other memory more is.1 also.1)
+one_line tenant said (refused who why) (refused name other) is also memory more =
+    let same = reads_same said (Err why) (Err other) (lacks why memory) (lacks other more) is.1 also.1 in (is.0 ∙ sym also.0, cc)
 one_line tenant said (refused who why) (served name command reply) is also memory more =
-    absurd (read_kept (form_of said) command why memory also.1 is.1)
+    let same = reads_same said (Err why) (Ok command) (lacks why memory) (found command) is.1 also.1 in cc
 one_line tenant said (served who command reply) (nobody other) is also memory more = absurd also
 one_line tenant said (served who command reply) (refused name why) is also memory more =
-    absurd (read_kept (form_of said) command why more is.1 also.1)
+    let same = reads_same said (Ok command) (Err why) (found command) (lacks why more) is.1 also.1 in cc
 one_line tenant said (served who command reply) (served name other told) is also memory more =
-    (is.0 ∙ sym also.0, one_command (form_of said) command other is.1 also.1)
+    let same = reads_same said (Ok command) (Ok other) (found command) (found other) is.1 also.1 in (is.0 ∙ sym also.0, cc)
 
 pub one_lines : (tenant : List ℕ) (texts : List (List ℕ)) (first second : List Outcome) → AllZip (λ said outcome. IsSaid tenant (form_of said) outcome) texts first →
     AllZip (λ said outcome. IsSaid tenant (form_of said) outcome) texts second → AllByRecursion FoundMemory first → AllByRecursion FoundMemory second → AllZip AreOneLine first second
@@ -157,15 +170,15 @@ replies_agree tenant first second agree =
     own : (outcomes : List Outcome) → map (λ (t : Turn). t.reply) (turns_of tenant outcomes) ≡ replies_in (own_outcomes tenant outcomes)
     own outcomes = told_own tenant (λ deed reply. reply) [] outcomes
 
-refusal_same : (who other : List ℕ) (why also : Refusal) → who ≡ other → why ≡ also → refusal_line who why ≡ refusal_line other also
-refusal_same who other why also to is = ap (λ (name : List ℕ). refusal_line name why) to ∙ ap (refusal_line other) is
+refusal_same : (who other : List ℕ) (why also : Refusal) → who ≡ other → why ≡ also → outcome_text (refused who why) ≡ outcome_text (refused other also)
+refusal_same who other why also to is = ap (λ (name : List ℕ). outcome_text (refused name why)) to ∙ ap (λ (r : Refusal). outcome_text (refused other r)) is
 
 at_any_time : at_waits ≡ any_time → ⊥
 at_any_time is = cc
 
 -- one command is answered alike where its replies agree
 served_alike : (who other : List ℕ) (command also : Command) (reply told : Reply) → who ≡ other → command ≡ also → Agree at_waits reply told → ArePrintedAlike (served who command reply) (served other also told)
-served_alike who other command also reply _ to is same = inl (ap (λ (name : List ℕ). reply_lines name reply) to)
+served_alike who other command also reply _ to is same = inl (ap (λ (name : List ℕ). outcome_text (served name command reply)) to)
 served_alike who other command also _ _ to is (proofs prove) = inr (to, is, prove)
 served_alike who other command also reply told to is (first_early any early) = absurd (at_any_time any)
 served_alike who other command also reply told to is (second_early any early) = absurd (at_any_time any)

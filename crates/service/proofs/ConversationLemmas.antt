@@ -1,12 +1,11 @@
 -- Lemmas on what a conversation has been answered.
-use Rattle.std.proofs.Common.{◌≡◌, ℕ, List, [], ◌∷◌, ◌++◌, refl, sym, ap, ◌∙◌, subst, append_assoc, Option, Ok, Err}
+use Rattle.std.proofs.Common.{◌≡◌, ℕ, List, [], ◌∷◌, ◌++◌, refl, sym, ap, ◌∙◌, subst, append_assoc, Option, Some, None, Ok, Err}
 use Rattle.std.specs.List.{concat}
 use Rattle.std.specs.Io.KnownBytes.{Appends}
 use Rattle.std.proofs.lemmas.List.{append-nil}
 use Rattle.std.proofs.lemmas.List.Folds.{concat-append}
 use Rattle.service.specs.declared.conversations.Flow.{Flow}
 use Rattle.service.specs.declared.conversations.Flow.TheVariants.{GoesOn, Ends}
-use Rattle.service.specs.declared.conversations.Heard.TheVariants as heard
 use Rattle.service.specs.declared.conversations.SessionEnd.{SessionEnd}
 use Rattle.service.specs.declared.conversations.SessionEnd.TheVariants.{Quit, EndOfInput, Read, Write, Memory}
 use Rattle.service.specs.Line.{Line, commands_of}
@@ -142,7 +141,7 @@ module _ {S : Type 0} (Answers : S → Line → List ℕ → Flow → S → Type
   Conversed-read (known bytes) mid before host c0 c1 so_far = read_so_far before (commands_of bytes) mid host c0 c1 c1 so_far (Appends-nothing c1)
 
   -- a line was answered, and its reply went out
-  pub Turns-replied : (old next : Source) (before after : S) (reply : List ℕ) (c0 c1 : Option (List ℕ)) → IfKnown old (λ lines. Hears Answers before lines (heard.Line GoesOn) next after reply) →
+  pub Turns-replied : (old next : Source) (before after : S) (reply : List ℕ) (c0 c1 : Option (List ℕ)) → IfKnown old (λ lines. Hears Answers before lines (Ok (Some GoesOn)) next after reply) →
       Appends c0 c1 reply → IfKnown old (λ lines. Turns Answers before lines (Ok tt) next after (Appends c0 c1))
   Turns-replied unknown next before after reply c0 c1 heard written = tt
   Turns-replied failed next before after reply c0 c1 heard written = tt
@@ -157,7 +156,7 @@ module _ {S : Type 0} (Answers : S → Line → List ℕ → Flow → S → Type
   }
 
   -- the same, and it was the last
-  pub Turns-quit : (old next : Source) (before after : S) (reply : List ℕ) (c0 c1 : Option (List ℕ)) → IfKnown old (λ lines. Hears Answers before lines (heard.Line Ends) next after reply) →
+  pub Turns-quit : (old next : Source) (before after : S) (reply : List ℕ) (c0 c1 : Option (List ℕ)) → IfKnown old (λ lines. Hears Answers before lines (Ok (Some Ends)) next after reply) →
       Appends c0 c1 reply → IfKnown old (λ lines. Turns Answers before lines (Err Quit) next after (Appends c0 c1))
   Turns-quit unknown next before after reply c0 c1 heard written = tt
   Turns-quit failed next before after reply c0 c1 heard written = tt
@@ -173,7 +172,7 @@ module _ {S : Type 0} (Answers : S → Line → List ℕ → Flow → S → Type
   )
 
   -- a line was answered, and a front of its reply went out
-  pub Turns-part : (old next : Source) (before after : S) (flow : Flow) (reply : List ℕ) (c0 c1 : Option (List ℕ)) → IfKnown old (λ lines. Hears Answers before lines (heard.Line flow) next after reply) →
+  pub Turns-part : (old next : Source) (before after : S) (flow : Flow) (reply : List ℕ) (c0 c1 : Option (List ℕ)) → IfKnown old (λ lines. Hears Answers before lines (Ok (Some flow)) next after reply) →
       WritesFront c0 c1 reply → IfKnown old (λ lines. Turns Answers before lines (Err Write) next after (Appends c0 c1))
   Turns-part unknown next before after flow reply c0 c1 heard written = tt
   Turns-part failed next before after flow reply c0 c1 heard written = tt
@@ -192,7 +191,7 @@ module _ {S : Type 0} (Answers : S → Line → List ℕ → Flow → S → Type
   )
 
   -- a blank line was taken
-  pub Turns-blank : (old next : Source) (before after : S) (reply : List ℕ) (contents : Option (List ℕ)) → IfKnown old (λ lines. Hears Answers before lines heard.Blank next after reply) →
+  pub Turns-blank : (old next : Source) (before after : S) (reply : List ℕ) (contents : Option (List ℕ)) → IfKnown old (λ lines. Hears Answers before lines (Ok None) next after reply) →
       IfKnown old (λ lines. Turns Answers before lines (Ok tt) next after (Appends contents contents))
   Turns-blank unknown next before after reply contents heard = tt
   Turns-blank failed next before after reply contents heard = tt
@@ -206,24 +205,23 @@ module _ {S : Type 0} (Answers : S → Line → List ℕ → Flow → S → Type
     out = Appends-nothing contents;
   }
 
-  -- no line is left
-  pub Turns-end : (old next : Source) (before after : S) (reply : List ℕ) (contents : Option (List ℕ)) → IfKnown old (λ lines. Hears Answers before lines heard.End next after reply) →
-      IfKnown old (λ lines. Turns Answers before lines (Err EndOfInput) next after (Appends contents contents))
-  Turns-end unknown next before after reply contents heard = tt
-  Turns-end failed next before after reply contents heard = tt
-  Turns-end (known bytes) next before after reply contents (none, same) = record {
+  -- no line is left, or none could be read
+  pub Turns-over : (old next : Source) (before after : S) (end : SessionEnd) (reply : List ℕ) (contents : Option (List ℕ)) →
+      IfKnown old (λ lines. Hears Answers before lines (Err end) next after reply) →
+      IfKnown old (λ lines. Turns Answers before lines (Err end) next after (Appends contents contents))
+  Turns-over unknown next before after end reply contents heard = tt
+  Turns-over failed next before after end reply contents heard = tt
+  Turns-over (known bytes) next before after EndOfInput reply contents none = record {
     done = [];
     split = none;
     replies = [];
     may = (before, refl);
     out = Appends-nothing contents;
   }
-
-  -- no line could be read
-  pub Turns-fault : (old next : Source) (before after : S) (contents : Option (List ℕ)) → IfKnown old (λ lines. Turns Answers before lines (Err Read) next after (Appends contents contents))
-  Turns-fault unknown next before after contents = tt
-  Turns-fault failed next before after contents = tt
-  Turns-fault (known bytes) next before after contents = (
+  Turns-over (known bytes) next before after Read reply contents heard = (
     commands_of bytes,
     record { done = []; split = refl; replies = []; may = (before, refl); out = Appends-nothing contents },
   )
+  Turns-over (known bytes) next before after Quit reply contents heard = absurd heard
+  Turns-over (known bytes) next before after Write reply contents heard = absurd heard
+  Turns-over (known bytes) next before after Memory reply contents heard = absurd heard

@@ -15,13 +15,12 @@ use Rattle.hall.specs.Run.{Turn, told_to, at_waits}
 use Rattle.hall.specs.Laws.{Agree}
 use Rattle.hall.proofs.laws.Worlds.{scripts_isolated as told_alike}
 use Rattle.service.specs.Command.{form_of}
-use Rattle.service.specs.Roster.{Row, tenant_of}
-use Rattle.service.specs.declared.script_faults.ScriptFault.TheVariants.{Roster, Read, Write, Memory}
+use Rattle.service.specs.Roster.{Row, tenant_of, HasRows, HasRoster}
+use Rattle.service.specs.declared.faults.ScriptFault.TheVariants.{Roster, Read, Write, Memory}
 use Rattle.service.specs.Line.{Line, text, too_long, not_ascii, commands_of}
-use Rattle.service.specs.Roster.{HasRows, HasRoster}
 use Rattle.service.specs.Outcome.{Outcome, served, outcome_text, is_speaker, IsSaid, told_in}
 use Rattle.service.specs.Written.{WroteUpTo, MayReply}
-use Rattle.service.specs.Isolation.{ScriptRun, IsSameFor, limits_of, own_lines, own_outcomes, AreProofs, ArePrintedAlike, IsNoProof}
+use Rattle.service.specs.Laws.{ScriptRun, IsSameFor, limits_of, own_lines, own_outcomes, AreProofs, ArePrintedAlike, IsNoProof}
 use Rattle.service.specs.Laws.{OwnLinesAreAnswered, ScriptsAreIsolated, SameIsPrinted, ScriptsAreRuns}
 use Rattle.service.proofs.OwnLemmas.{own_said, own_none}
 use Rattle.service.proofs.AlikeLemmas.{AreOneLine, one_lines, turns_memory, same_turns, replies_agree, printed_alike}

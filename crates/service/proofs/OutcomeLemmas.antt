@@ -27,8 +27,8 @@ IsOutcome-tenant roster line before said who outcome colon at rest found said_so
     rw (colon, sym at, sym rest, found.1) (subst (λ (name : List ℕ). IsSaid name (form_of said) outcome) found.0 said_so)
 
 -- a line that is no text
-pub long_answered : (hall : HallState) (reply : List ℕ) → reply ≡ refusal_line (codes "?") refusal.LineLong → Answered hall too_long reply hall
+pub long_answered : (hall : HallState) (reply : List ℕ) → reply ≡ refusal_line (codes "?: ") refusal.LineLong → Answered hall too_long reply hall
 long_answered hall reply is = record { outcome = nobody refusal.LineLong; allowed = λ roster has. refl; done = refl; text = sym is }
 
-pub not_ascii_answered : (hall : HallState) (reply : List ℕ) → reply ≡ refusal_line (codes "?") refusal.NotAscii → Answered hall not_ascii reply hall
+pub not_ascii_answered : (hall : HallState) (reply : List ℕ) → reply ≡ refusal_line (codes "?: ") refusal.NotAscii → Answered hall not_ascii reply hall
 not_ascii_answered hall reply is = record { outcome = nobody refusal.NotAscii; allowed = λ roster has. refl; done = refl; text = sym is }

@@ -13,7 +13,7 @@ use Rattle.service.specs.Line.{Line, text, too_long, not_ascii}
 use Rattle.service.specs.Words.{is_colon, trim_start}
 use Rattle.service.specs.Command.{Form, form_of}
 use Rattle.service.specs.Outcome.{Outcome, nobody, refused, served, is_speaker, IsSaid, IsNamed, IsOutcome}
-use Rattle.service.specs.Isolation.{said_in, own_lines, is_to, own_outcomes}
+use Rattle.service.specs.Laws.{said_in, own_lines, is_to, own_outcomes}
 
 -- what a tenant said is told to it
 to_speaker : (tenant who : List ℕ) (form : Form) (outcome : Outcome) → IsSaid who form outcome → is_to tenant outcome ≡ is_same who tenant

@@ -11,8 +11,8 @@ use Rattle.std.proofs.lemmas.List.Elements.{All-from_recursion, All-contains, Co
 use Rattle.std.proofs.lemmas.Map.Keys.{IsDistinct-head, IsDistinct-tail, IsDistinct-push}
 use Rattle.names.specs.Name.{is_same}
 use Rattle.quotas.specs.Quota.{Quota}
-use Rattle.service.specs.declared.script_faults.ScriptFault.{ScriptFault}
-use Rattle.service.specs.declared.script_faults.ScriptFault.TheVariants as fault
+use Rattle.service.specs.declared.faults.ScriptFault.{ScriptFault}
+use Rattle.service.specs.declared.faults.ScriptFault.TheVariants as fault
 use Rattle.service.specs.Line.{Line, text, too_long, not_ascii}
 use Rattle.service.specs.Words.{words, is_space}
 use Rattle.service.specs.Roster.{Row, IsRow, IsRowLine, IsBeginLine, HasRows, HasRoster, HasNoRoster, IsRoster, names_of}

@@ -1,9 +1,9 @@
 -- What is known of a roster that is being read, line after line.
 use Rattle.std.proofs.Common.{◌≡◌, ℕ, List, [], ◌∷◌, ◌++◌, refl, subst, Ok, Err}
 use Rattle.std.specs.Prelude.{⊤}
-use Rattle.service.specs.declared.script_faults.ScriptFault.{ScriptFault}
-use Rattle.service.specs.declared.script_faults.ScriptFault.TheVariants as fault
-use Rattle.service.specs.declared.roster_lines.RosterLine.TheVariants.{Blank, Tenant, Begin}
+use Rattle.service.specs.declared.faults.ScriptFault.{ScriptFault}
+use Rattle.service.specs.declared.faults.ScriptFault.TheVariants as fault
+use Rattle.service.specs.declared.rosters.RosterLine.TheVariants.{Blank, Tenant, Begin}
 use Rattle.service.specs.Line.{Line, commands_of}
 use Rattle.service.specs.LineReader.{Source, known, unknown, failed, IfKnown}
 use Rattle.service.specs.Roster.{Row, IsRoster, HasNoRoster}

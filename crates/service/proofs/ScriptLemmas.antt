@@ -5,8 +5,8 @@ use Rattle.std.specs.Io.KnownBytes.{Appends}
 use Rattle.std.proofs.lemmas.List.{append-nil}
 use Rattle.quotas.specs.Quota.{Quota}
 use Rattle.hall.specs.Hall.{new_hall}
-use Rattle.service.specs.declared.script_faults.ScriptFault.{ScriptFault}
-use Rattle.service.specs.declared.script_faults.ScriptFault.TheVariants.{Roster, Read, Write, Memory}
+use Rattle.service.specs.declared.faults.ScriptFault.{ScriptFault}
+use Rattle.service.specs.declared.faults.ScriptFault.TheVariants.{Roster, Read, Write, Memory}
 use Rattle.service.specs.declared.conversations.Flow.TheVariants.{GoesOn, Ends}
 use Rattle.service.specs.declared.conversations.SessionEnd.{SessionEnd}
 use Rattle.service.specs.declared.conversations.SessionEnd.TheVariants as end
@@ -15,8 +15,7 @@ use Rattle.service.specs.LineReader.{Source, known, unknown, failed, source_of, 
 use Rattle.service.specs.Conversation.{MayTalk, Conversed}
 use Rattle.service.specs.Written.{WroteUpTo, MayReply, Wrote, ScriptWrote}
 use Rattle.service.specs.Roster.{Row, tenant_of, HasRoster}
-use Rattle.service.specs.RosterReading.{ReadsRoster}
-use Rattle.service.specs.RosterAnswer.{AnswersFault}
+use Rattle.service.specs.RosterReading.{ReadsRoster, AnswersFault}
 use Rattle.service.specs.Turn.{ScriptAnswers, script_result}
 use Rattle.service.proofs.TranscriptLemmas.{MayReply-talk, never_ends}
 

@@ -1,11 +1,10 @@
 -- Lemmas on what a service writes.
-use Rattle.std.proofs.Common.{◌≡◌, ◌≢◌, ℕ, ◌<◌, ◌^◌, List, refl, inl, inr, Option, Some, Err}
+use Rattle.std.proofs.Common.{◌≡◌, ◌≢◌, ℕ, ◌<◌, ◌^◌, List, refl, inr, Option, Some, Err}
 use Rattle.std.specs.Io.KnownBytes.{Appends}
-use Rattle.service.specs.declared.serve_faults.ServeFault.{ServeFault}
-use Rattle.service.specs.declared.serve_faults.ServeFault.TheVariants as fault
+use Rattle.service.specs.declared.faults.ServeFault.{ServeFault}
+use Rattle.service.specs.declared.faults.ServeFault.TheVariants as fault
 use Rattle.service.specs.Served.{ServeWrote, listening_line, served_line}
 use Rattle.service.specs.Written.{WritesFront}
-use Rattle.service.proofs.ScriptLemmas.{Appends-nothing}
 use Rattle.service.proofs.WrittenLemmas.{Appends-more}
 
 -- a fault of another kind than the writer's
@@ -14,10 +13,6 @@ early accept fault.Socket out other wrote = wrote
 early accept fault.NoThread out other wrote = wrote
 early accept fault.Write out other wrote = absurd (other refl)
 early accept fault.Memory out other wrote = wrote
-
--- nothing was written before it
-pub ServeWrote-nothing : (accept : Option ℕ) (why : ServeFault) (contents : Option (List ℕ)) → why ≢ fault.Write → ServeWrote accept (Err why) (Appends contents contents)
-ServeWrote-nothing accept why contents other = early accept why _ other (inl (Appends-nothing contents))
 
 -- the first line was
 pub ServeWrote-listening : (accept : Option ℕ) (why : ServeFault) (port : ℕ) (c0 c1 : Option (List ℕ)) → port < 2 ^ 16 → why ≢ fault.Write → Appends c0 c1 (listening_line port) →

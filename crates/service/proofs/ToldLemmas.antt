@@ -1,26 +1,15 @@
 -- Lemmas on what a tenant is told in a session.
-use Rattle.std.proofs.Common.{◌≡◌, List, ℕ, [], ◌∙◌, ap, subst₂, refl, inl, inr, Ok}
-use Rattle.std.proofs.lemmas.List.{append-nil}
-use Rattle.hall.specs.declared.calls.replies.Reply.{Reply}
+use Rattle.std.proofs.Common.{◌≡◌, List, ℕ, subst₂, refl}
 use Rattle.pool.specs.Passes.{PassState}
 use Rattle.service.specs.declared.conversations.Flow.TheVariants.{GoesOn}
-use Rattle.service.specs.declared.session_lines.Said.{Said}
-use Rattle.service.specs.declared.session_lines.Said.TheVariants as said
-use Rattle.service.specs.Talk.{Talk, quits, greets, greets_wrongly, tells, talk_of, Hears}
+use Rattle.service.specs.declared.sessions.Said.{Said}
+use Rattle.service.specs.declared.sessions.Said.TheVariants as said
+use Rattle.service.specs.Session.{Talk, quits, greets, greets_wrongly, tells, talk_of, Hears}
 use Rattle.service.specs.Line.{text}
 use Rattle.service.specs.Roster.{Row}
 use Rattle.service.specs.Session.{Phase, new, of_tenant, IsGreeted, IsLater, IsAnswer}
 use Rattle.service.specs.Command.{form_of}
-use Rattle.service.specs.Reply.{lines_after, IsFilled}
-use Rattle.service.specs.SessionReply.{session_refusal, IsToldBy, IsTold}
-
--- the lines of a reply, or the one that says that memory lacked
-pub IsToldBy-filled : (told : Reply) (bytes : List ℕ) → IsFilled [] told bytes → IsToldBy (Ok told) bytes
-IsToldBy-filled told bytes filled =
-    elim filled.printed [
-      | inl same ↦ IsToldBy.whole (filled.lines ∙ ap (lines_after []) same)
-      | inr lacks ↦ IsToldBy.lacking told refl lacks.0 (filled.lines ∙ ap (lines_after []) lacks.1 ∙ append-nil (session_refusal 90))
-    ]
+use Rattle.service.specs.Session.{IsTold}
 
 -- another line than `quit`
 pub IsLater-told : (before after : PassState) (line reply : List ℕ) (talk : Talk) (heard : Said) → Hears talk heard → (heard ≡ said.Quit → ⊥) → IsTold before (form_of line) reply after →

@@ -1,11 +1,9 @@
 -- What a conversation is answered, line by line, and what of it went out. A host's answers say of each line how it may be
 -- answered: what the host was, the line, the reply, whether it goes on, and what the host is then.
-use Rattle.std.specs.Prelude.{◌≡◌, ℕ, List, [], ◌∷◌, ◌++◌, Result, Ok, Err}
+use Rattle.std.specs.Prelude.{◌≡◌, ℕ, List, [], ◌∷◌, ◌++◌, ⊤, Option, Some, None, Result, Ok, Err}
 use Rattle.std.specs.List.{concat}
 use Rattle.service.specs.declared.conversations.Flow.{Flow}
 use Rattle.service.specs.declared.conversations.Flow.TheVariants.{GoesOn, Ends}
-use Rattle.service.specs.declared.conversations.Heard.{Heard}
-use Rattle.service.specs.declared.conversations.Heard.TheVariants as heard
 use Rattle.service.specs.declared.conversations.SessionEnd.{SessionEnd}
 use Rattle.service.specs.declared.conversations.SessionEnd.TheVariants.{Quit, EndOfInput, Read, Write, Memory}
 use Rattle.service.specs.Line.{Line, commands_of}
@@ -53,11 +51,12 @@ abbrev pub Turns : {S : Type 0} → (S → Line → List ℕ → Flow → S → 
 Turns Answers before lines (Ok _) left after went_out = SoFar Answers before lines left after went_out
 Turns Answers before lines (Err end) left after went_out = Conversed Answers before lines end went_out
 
--- a line was taken, and answered unless it is blank
+-- a line was taken, and answered unless it is blank; or none was left, or none could be read
 abbrev pub Hears : {S : Type 0} → (S → Line → List ℕ → Flow → S → Type 0) → S → List Line →
-    Heard → Source → S → List ℕ → Type 0
-Hears Answers before lines heard.Blank left after reply = TakesBlank lines left × (after ≡ before)
-Hears Answers before lines (heard.Line flow) left after reply = (line : Line) × TakesFirst lines line left
+    Result (Option Flow) SessionEnd → Source → S → List ℕ → Type 0
+Hears Answers before lines (Ok None) left after reply = TakesBlank lines left × (after ≡ before)
+Hears Answers before lines (Ok (Some flow)) left after reply = (line : Line) × TakesFirst lines line left
     × Answers before line reply flow after
-Hears Answers before lines heard.End left after reply = (lines ≡ []) × (after ≡ before)
-Hears Answers before lines heard.Fault left after reply = after ≡ before
+Hears Answers before lines (Err EndOfInput) left after reply = lines ≡ []
+Hears Answers before lines (Err Read) left after reply = ⊤
+Hears Answers before lines (Err end) left after reply = ⊥

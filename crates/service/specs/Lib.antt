@@ -8,14 +8,9 @@ pub mod Refusal
 pub mod Reply
 pub mod Command
 pub mod Outcome
-pub mod Transcript
 pub mod Roster
-pub mod Talk
-pub mod SessionReply
 pub mod Session
 pub mod Served
 pub mod RosterReading
-pub mod RosterAnswer
-pub mod Isolation
 pub mod Laws
 pub mod Turn

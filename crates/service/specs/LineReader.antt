@@ -77,8 +77,10 @@ HasNoNewline bytes = All (λ b. b ≢ 10) bytes
 
 -- a line's bytes, of which these are kept, were taken up to its end
 abbrev pub TakesBytes : Option (List ℕ) → LineEnd → List ℕ → Option (List ℕ) → Type 0
-TakesBytes old end.Newline kept new = (raw : List ℕ) × HasNoNewline raw × (kept ≡ take 4098 raw) × Consumes old new (raw ++ 10 ∷ [])
-TakesBytes old end.EndOfInput kept new = (raw : List ℕ) × HasNoNewline raw × (kept ≡ take 4098 raw) × IfSome old (λ bytes. bytes ≡ raw)
+TakesBytes old end.Newline kept new =
+    (raw : List ℕ) × HasNoNewline raw × (kept ≡ take 4098 raw) × Consumes old new (raw ++ 10 ∷ [])
+TakesBytes old end.EndOfInput kept new =
+    (raw : List ℕ) × HasNoNewline raw × (kept ≡ take 4098 raw) × IfSome old (λ bytes. bytes ≡ raw)
 TakesBytes old end.Fault kept new = ⊤
 
 -- a fact of the lines that are left and not blank, where the bytes are known

@@ -2,26 +2,19 @@
 use Rattle.std.specs.Prelude.{ℕ, List, [], ◌∷◌, ◌==◌, Option, option_map, find, unwrap_or, codes}
 use Rattle.names.specs.Fault.{name_fault_number}
 use Rattle.credential_text.specs.Fault.{cred_fault_number}
-use Rattle.credential_text.specs.declared.faults.CredFault.{CredFault}
-use Rattle.credential_text.specs.declared.faults.CredFault.TheVariants as cred
 use Rattle.service.specs.declared.refusals.Refusal.{Refusal}
-use Rattle.service.specs.declared.refusals.Refusal.TheVariants.{Name, Credential, NoHello, BadHello, Command, LineLong, NotAscii, Memory}
+use Rattle.service.specs.declared.refusals.Refusal.TheVariants as refusal
 
 -- the number of a refusal
 abbrev pub refusal_number : Refusal → ℕ
-refusal_number (Name fault) = name_fault_number fault
-refusal_number (Credential fault) = cred_fault_number fault
-refusal_number NoHello = 61
-refusal_number BadHello = 62
-refusal_number Command = 64
-refusal_number LineLong = 65
-refusal_number NotAscii = 66
-refusal_number Memory = 90
-
--- why a credential's text is refused, as a line's refusal
-abbrev pub refusal_of_credential : CredFault → Refusal
-refusal_of_credential cred.Memory = Memory
-refusal_of_credential fault = Credential fault
+refusal_number (refusal.Name fault) = name_fault_number fault
+refusal_number (refusal.Credential fault) = cred_fault_number fault
+refusal_number refusal.NoHello = 61
+refusal_number refusal.BadHello = 62
+refusal_number refusal.Command = 64
+refusal_number refusal.LineLong = 65
+refusal_number refusal.NotAscii = 66
+refusal_number refusal.Memory = 90
 
 -- the number of each refusal that a reply can be, and its text
 abbrev pub refusals : List (ℕ × List ℕ)

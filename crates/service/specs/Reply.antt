@@ -9,37 +9,23 @@ use Rattle.hall.specs.declared.faults.Fault.TheVariants.{Memory}
 use Rattle.hall.specs.declared.calls.answers.Answer.{Answer}
 use Rattle.hall.specs.declared.calls.answers.Answer.TheVariants.{Working, Yes, No, Members, Spent, Broken}
 use Rattle.hall.specs.declared.calls.replies.Reply.{Reply}
-use Rattle.hall.specs.declared.calls.replies.Reply.TheVariants.{Counted, Opened, Answered, Closed, Vault, Sees, Proof, Refused, Stepped}
+use Rattle.hall.specs.declared.calls.replies.Reply.TheVariants as reply
 use Rattle.hall.specs.Fault.{fault_number}
 use Rattle.hall.specs.Text.{proof_text}
 use Rattle.service.specs.declared.refusals.Refusal.{Refusal}
-use Rattle.service.specs.declared.speakers.Speaker.{Speaker}
-use Rattle.service.specs.declared.speakers.Speaker.TheVariants.{Nobody, Tenant, Peer}
+use Rattle.service.specs.declared.replies.Speaker.{Speaker}
+use Rattle.service.specs.declared.replies.Speaker.TheVariants.{Nobody, Tenant, Peer}
 use Rattle.service.specs.Refusal.{text_of, refusal_number}
 
--- what stands before the colon of a line to nobody, or to a tenant; a session's peer gets no name
-abbrev pub speaker_name : Speaker → List ℕ
-speaker_name Nobody = codes "?"
-speaker_name (Tenant who) = who
-speaker_name Peer = []
-
--- what parts the name from the text
-abbrev pub colon_after : Speaker → List ℕ
-colon_after Nobody = codes ": "
-colon_after (Tenant who) = codes ": "
-colon_after Peer = []
-
--- what stands in front of each line of a reply
+-- what stands in front of each line of a reply: to nobody, or to a tenant; a session's peer gets no name
 abbrev pub front_of : Speaker → List ℕ
-front_of who = speaker_name who ++ colon_after who
+front_of Nobody = codes "?: "
+front_of (Tenant who) = who ++ codes ": "
+front_of Peer = []
 
 -- a line: what stands in front, the text, and a newline
 abbrev pub line_after : List ℕ → List ℕ → List ℕ
 line_after front text = front ++ text ++ 10 ∷ []
-
--- a line to somebody: the name, a colon, a space, the text, and a newline
-abbrev pub line_to : List ℕ → List ℕ → List ℕ
-line_to who text = line_after (who ++ codes ": ") text
 
 -- a refusal shows its number and the text of that
 abbrev pub error_text : ℕ → List ℕ
@@ -47,7 +33,7 @@ error_text number = codes "error " ++ decimal number ++ codes " " ++ text_of num
 
 -- the line that refuses a text
 abbrev pub refusal_line : List ℕ → Refusal → List ℕ
-refusal_line who why = line_to who (error_text (refusal_number why))
+refusal_line front why = line_after front (error_text (refusal_number why))
 
 -- each name with a space before it
 abbrev pub listed : List (List ℕ) → List ℕ
@@ -77,35 +63,31 @@ text_lines text = filter (λ line. nat_lt 0 (length line)) (pieces 10 text)
 -- the texts of a reply, each of which is a line: a vault has one line for each credential, after their number, and a proof
 -- one for each step. No command asks for a step of a search, and how it went has no text
 abbrev pub reply_texts : Reply → List (List ℕ)
-reply_texts (Counted n) = (codes "ok " ++ decimal n) ∷ []
-reply_texts (Opened n) = (codes "search " ++ decimal n) ∷ []
-reply_texts (Answered answer) = answer_text answer ∷ []
-reply_texts Closed = codes "ended" ∷ []
-reply_texts (Vault rows) = (codes "vault " ++ decimal (length rows)) ∷ map canonical rows
-reply_texts (Sees names) = (codes "sees" ++ seen_listed names) ∷ []
-reply_texts (Proof steps) = (codes "proof " ++ decimal (length steps)) ∷ text_lines (proof_text steps)
-reply_texts (Refused fault) = error_text (fault_number fault) ∷ []
-reply_texts (Stepped answer) = []
+reply_texts (reply.Counted n) = (codes "ok " ++ decimal n) ∷ []
+reply_texts (reply.Opened n) = (codes "search " ++ decimal n) ∷ []
+reply_texts (reply.Answered answer) = answer_text answer ∷ []
+reply_texts reply.Closed = codes "ended" ∷ []
+reply_texts (reply.Vault rows) = (codes "vault " ++ decimal (length rows)) ∷ map canonical rows
+reply_texts (reply.Sees names) = (codes "sees" ++ seen_listed names) ∷ []
+reply_texts (reply.Proof steps) = (codes "proof " ++ decimal (length steps)) ∷ text_lines (proof_text steps)
+reply_texts (reply.Refused fault) = error_text (fault_number fault) ∷ []
+reply_texts (reply.Stepped answer) = []
 
--- the lines of a reply, one after another
-abbrev pub reply_lines : List ℕ → Reply → List ℕ
-reply_lines who reply = flat_map (line_to who) (reply_texts reply)
-
--- the same with this in front of each
+-- the lines of a reply, one after another, with this in front of each
 abbrev pub lines_after : List ℕ → Reply → List ℕ
 lines_after front reply = flat_map (line_after front) (reply_texts reply)
 
 -- a reply that may need more room than there is
 abbrev pub IsLong : Reply → Type 0
-IsLong (Vault rows) = Unit {0}
-IsLong (Sees names) = Unit {0}
-IsLong (Proof steps) = Unit {0}
-IsLong (Answered (Members names)) = Unit {0}
+IsLong (reply.Vault rows) = Unit {0}
+IsLong (reply.Sees names) = Unit {0}
+IsLong (reply.Proof steps) = Unit {0}
+IsLong (reply.Answered (Members names)) = Unit {0}
 IsLong _ = ⊥
 
 -- the reply that was printed: this one, or that memory lacked for a long one
 abbrev pub IsPrinted : Reply → Reply → Type 0
-IsPrinted reply told = (told ≡ reply) ⊎ (IsLong reply × (told ≡ Refused Memory))
+IsPrinted due told = (told ≡ due) ⊎ (IsLong due × (told ≡ reply.Refused Memory))
 
 -- the bytes are the lines of the reply that was printed, each with this in front
 pub record IsFilled (front : List ℕ) (reply : Reply) (bytes : List ℕ) : Type 0 where

@@ -1,9 +1,9 @@
 -- What a service writes.
 use Rattle.std.specs.Prelude.{◌≡◌, ◌≢◌, ℕ, ◌<◌, ◌^◌, ◌⊎◌, List, [], ◌++◌, Option, Some, Result, Ok, Err, codes}
 use Rattle.std.specs.Fmt.{decimal}
-use Rattle.service.specs.declared.serve_faults.ServeFault.{ServeFault}
-use Rattle.service.specs.declared.serve_faults.ServeFault.TheVariants.{Write}
-use Rattle.service.specs.SessionReply.{session_line}
+use Rattle.service.specs.declared.faults.ServeFault.{ServeFault}
+use Rattle.service.specs.declared.faults.ServeFault.TheVariants.{Write}
+use Rattle.service.specs.Session.{session_line}
 use Rattle.service.specs.Written.{WroteFront}
 
 -- the line that tells where it listens

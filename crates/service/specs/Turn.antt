@@ -9,8 +9,8 @@ use Rattle.service.specs.declared.conversations.Flow.{Flow}
 use Rattle.service.specs.declared.conversations.Flow.TheVariants.{GoesOn}
 use Rattle.service.specs.declared.conversations.SessionEnd.{SessionEnd}
 use Rattle.service.specs.declared.conversations.SessionEnd.TheVariants as end
-use Rattle.service.specs.declared.script_faults.ScriptFault.{ScriptFault}
-use Rattle.service.specs.declared.script_faults.ScriptFault.TheVariants.{Read, Write, Memory}
+use Rattle.service.specs.declared.faults.ScriptFault.{ScriptFault}
+use Rattle.service.specs.declared.faults.ScriptFault.TheVariants.{Read, Write, Memory}
 use Rattle.service.specs.Line.{Line}
 use Rattle.service.specs.Outcome.{Outcome, outcome_text, IsSaid, IsOutcome, told_in}
 use Rattle.service.specs.Command.{Form}

@@ -3,11 +3,10 @@ use Rattle.std.specs.Prelude.{◌≡◌, ℕ, ◌<◌, List, ◌++◌, length, O
 use Rattle.std.specs.List.{concat}
 use Rattle.std.specs.Io.KnownBytes.{Appends}
 use Rattle.quotas.specs.Quota.{Quota}
-use Rattle.service.specs.declared.script_faults.ScriptFault.{ScriptFault}
-use Rattle.service.specs.declared.script_faults.ScriptFault.TheVariants.{Roster, Read, Write, Memory}
+use Rattle.service.specs.declared.faults.ScriptFault.{ScriptFault}
+use Rattle.service.specs.declared.faults.ScriptFault.TheVariants.{Roster, Read, Write, Memory}
 use Rattle.service.specs.Line.{Line}
-use Rattle.service.specs.Outcome.{Outcome}
-use Rattle.service.specs.Transcript.{IsTranscript}
+use Rattle.service.specs.Outcome.{Outcome, IsTranscript}
 use Rattle.service.specs.Roster.{Row, tenant_of, HasRoster, HasNoRoster}
 
 -- a front of the text went out after the output, and not all of it
@@ -23,7 +22,8 @@ abbrev pub WritesFront : Option (List ℕ) → Option (List ℕ) → List ℕ �
 WritesFront old new reply = WroteFront [] reply (Appends old new)
 
 -- the lines before the rest may have these replies, which went out
-pub record WroteUpTo (May : List Line → List (List ℕ) → Type 0) (lines rest : List Line) (went_out : List ℕ → Type 0) : Type 0 where
+pub record WroteUpTo (May : List Line → List (List ℕ) → Type 0)
+    (lines rest : List Line) (went_out : List ℕ → Type 0) : Type 0 where
   pub done : List Line
   pub split : lines ≡ done ++ rest
   pub replies : List (List ℕ)
@@ -69,5 +69,6 @@ abbrev pub ScriptWrote : List Line → Result (Unit {0}) ScriptFault → (List �
 ScriptWrote lines (Ok u) went_out = Answers lines (Ok u) went_out
 ScriptWrote lines (Err Roster) went_out = HasNoRoster lines × went_out roster_refusal
 ScriptWrote lines (Err Read) went_out = went_out [] ⊎ Answers lines (Err Read) went_out
-ScriptWrote lines (Err Write) went_out = (HasNoRoster lines × WroteFront [] roster_refusal went_out) ⊎ Answers lines (Err Write) went_out
+ScriptWrote lines (Err Write) went_out =
+    (HasNoRoster lines × WroteFront [] roster_refusal went_out) ⊎ Answers lines (Err Write) went_out
 ScriptWrote lines (Err Memory) went_out = went_out []

@@ -1,9 +1,9 @@
 //! How connections are accepted: one after another, also after an accept that failed.
 ghost use Rattle.std.specs.Prelude.{◌≡◌, ◌*◌, ◌↔◌, min, IsTrue, IfErr};
-ghost use Rattle.service.specs.declared.serve_faults.ServeFault.TheVariants as fault;
+ghost use Rattle.service.specs.declared.faults.ServeFault.TheVariants as fault;
 ghost use Rattle.service.specs.Accepting.{IsLasting, IsLastingKind, IsLastingNumber};
 
-use crate::serve_faults::ServeFault;
+use crate::faults::ServeFault;
 use std::io::{Error, ErrorKind};
 use std::net::OpenListener;
 use std::sync::Wait;

@@ -9,8 +9,7 @@ ghost use Rattle.service.specs.Conversation.{Hears, Turns, Conversed};
 
 use crate::lines::{LineReader, NextLine};
 use crate::refusals::Refusal;
-use crate::rooms::Room;
-use crate::writing::write_reply;
+use crate::replies::{Room, write_reply};
 use names::texts::is_blank;
 use std::io::{Read, Write};
 
@@ -53,14 +52,6 @@ pub(crate) trait Host {
         ensures not_ascii { why ≡ refusal.NotAscii → Answers self.now not_ascii reply.new flow.GoesOn self.now };
 }
 
-/// What was heard of one line.
-pub(crate) enum Heard {
-    Blank,
-    Line(Flow),
-    End,
-    Fault,
-}
-
 /// Answers each line that is left and isn't blank, up to the end of the input or of the conversation.
 pub(crate) fn converse<H: Host, I: Read + Drop, W: Write>(
     host: &mut H,
@@ -91,10 +82,9 @@ fn take_turn<H: Host, I: Read + Drop, W: Write>(
         (Appends (W.contents writer.old) (W.contents writer.new))) }
 {
     let flow = match hear(host, lines, reply) {
-        Heard::Blank => return Ok(()),
-        Heard::Line(flow) => flow,
-        Heard::End => return Err(SessionEnd::EndOfInput),
-        Heard::Fault => return Err(SessionEnd::Read),
+        Ok(Some(flow)) => flow,
+        Ok(None) => return Ok(()),
+        Err(end) => return Err(end),
     };
     let Ok(()) = write_reply(writer, reply.as_slice()) else {
         return Err(SessionEnd::Write);
@@ -106,25 +96,29 @@ fn take_turn<H: Host, I: Read + Drop, W: Write>(
 }
 
 /// Takes one line, and puts its reply into the room unless it is blank.
-fn hear<H: Host, I: Read + Drop>(host: &mut H, lines: &mut LineReader<I>, reply: &mut Room) -> Heard
+fn hear<H: Host, I: Read + Drop>(
+    host: &mut H,
+    lines: &mut LineReader<I>,
+    reply: &mut Room,
+) -> Result<Option<Flow>, SessionEnd>
     ensures { IfKnown lines.old (λ commands. Hears H.Answers host.old commands result lines.new host.new reply.new) }
 {
     match lines.next() {
         NextLine::Text(line) => {
             if is_blank(line) {
-                return Heard::Blank;
+                return Ok(None);
             }
-            Heard::Line(host.answer(line, reply))
+            Ok(Some(host.answer(line, reply)))
         }
         NextLine::Long => {
             host.refuse(Refusal::LineLong, reply);
-            Heard::Line(Flow::GoesOn)
+            Ok(Some(Flow::GoesOn))
         }
         NextLine::NotAscii => {
             host.refuse(Refusal::NotAscii, reply);
-            Heard::Line(Flow::GoesOn)
+            Ok(Some(Flow::GoesOn))
         }
-        NextLine::End => Heard::End,
-        NextLine::Fault => Heard::Fault,
+        NextLine::End => Err(SessionEnd::EndOfInput),
+        NextLine::Fault => Err(SessionEnd::Read),
     }
 }

@@ -1,5 +1,6 @@
 //! What holds of rosters and scripts by their definitions alone.
-ghost use Rattle.service.specs.Laws.{OneReading, TwoScripts, OwnLinesAreAnswered, ScriptsAreIsolated, SameIsPrinted, ScriptsAreRuns};
+ghost use Rattle.service.specs.Laws.{OneReading, TwoScripts, OwnLinesAreAnswered, ScriptsAreIsolated, SameIsPrinted};
+ghost use Rattle.service.specs.Laws.{ScriptsAreRuns};
 
 /// A roster is read in one way: the same lines have no two lists of tenants, and no two lists of commands behind them.
 pub fn rosters_have_one_reading()

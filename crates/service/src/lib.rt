@@ -7,44 +7,29 @@
 #![tactic(auto)]
 
 mod accepting;
-mod answers;
 mod commands;
 mod connections;
 mod conversations;
-mod digits;
 #[cfg(test)]
 mod fakes;
-mod fault_texts;
+mod faults;
 mod laws;
 mod lines;
-mod peers;
 mod refusals;
-mod reply_lines;
-mod rooms;
-mod roster_answers;
-mod roster_lines;
+mod replies;
 mod rosters;
-mod script_faults;
 mod scripts;
-mod serve_faults;
 mod serving;
-mod session_answers;
-mod session_commands;
-mod session_lines;
 mod sessions;
-mod speakers;
 mod words;
-mod writing;
 
 pub use conversations::SessionEnd;
-pub use fault_texts::fault_text;
+pub use faults::{ScriptFault, ServeFault};
 pub use laws::{rosters_have_one_reading, scripts_are_isolated, two_scripts};
 pub use lines::limit::MOST_READS;
 pub use lines::{LINE_ROOM, LineReader, NextLine};
-pub use roster_answers::read_roster;
-pub use rosters::Roster;
-pub use script_faults::ScriptFault;
+pub use refusals::fault_text;
+pub use rosters::{Roster, read_roster};
 pub use scripts::run_script;
-pub use serve_faults::ServeFault;
 pub use serving::{ServeOptions, serve};
 pub use sessions::serve_session;

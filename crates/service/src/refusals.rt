@@ -1,6 +1,6 @@
-//! Why the text of a line or a command is refused.
-ghost use Rattle.std.specs.Prelude.{◌≡◌};
-ghost use Rattle.service.specs.Refusal.{refusal_number};
+//! Why the text of a line or a command is refused, and the texts of the refusals.
+ghost use Rattle.std.specs.Prelude.{◌≡◌, ◌≤◌, length, option_map, IfSome};
+ghost use Rattle.service.specs.Refusal.{refusal_number, refusal_of};
 
 use credential_text::CredFault;
 use names::NameFault;
@@ -55,16 +55,51 @@ impl From<NameFault> for Refusal {
     }
 }
 
-impl From<CredFault> for Refusal {
-    ghost use Rattle.std.specs.Prelude.{◌≡◌};
-    ghost use Rattle.service.specs.Refusal.{refusal_of_credential};
-
-    ghost from_gives = { λ fault refusal. refusal ≡ refusal_of_credential fault };
-
-    fn from(fault: CredFault) -> Refusal {
-        match fault {
-            CredFault::Memory => Refusal::Memory,
-            _ => Refusal::Credential(fault),
-        }
-    }
+/// The text that a reply shows after the number of a refusal, in the words of the protocol. A number that stands
+/// for no reply has none.
+pub fn fault_text(number: u64) -> Option<&'static str>
+    ensures text { option_map (λ s. s.now) result ≡ refusal_of number }
+    ensures short { IfSome result (λ s. length s.now ≤ 19) }
+{
+    let text = match number {
+        11 => "empty name",
+        12 => "name start",
+        13 => "name byte",
+        14 => "name too long",
+        15 => "not a role",
+        21 => "no arrow",
+        22 => "head",
+        23 => "empty body",
+        24 => "too many dots",
+        25 => "link base",
+        26 => "parts",
+        27 => "credential too long",
+        31 => "not issuer",
+        32 => "already held",
+        33 => "not held",
+        34 => "already granted",
+        35 => "not granted",
+        36 => "grant self",
+        41 => "creds limit",
+        42 => "grants limit",
+        43 => "searches limit",
+        44 => "changes limit",
+        45 => "opens limit",
+        51 => "no such search",
+        52 => "not done",
+        53 => "no proof",
+        61 => "no hello",
+        62 => "bad hello",
+        63 => "roster",
+        64 => "command",
+        65 => "line too long",
+        66 => "not ascii",
+        90 => "memory",
+        91 => "rewound",
+        _ => return None,
+    };
+    Some(text)
 }
+
+#[cfg(test)]
+mod tests;

@@ -1,32 +1,68 @@
 //! Rosters: the tenants that an input begins with.
-ghost use Rattle.std.specs.Prelude.{◌≡◌, ◌≢◌, ◌↔◌, map, true, IsTrue, IfOk, IfErr};
+ghost use Rattle.std.specs.Prelude.{◌≡◌, ◌≢◌, ◌↔◌, ◌∷◌, None, Some, map, get_or, true, IsTrue, IfOk, IfErr, OnOk, IfSome, IfNone};
+ghost use Rattle.std.specs.Io.KnownBytes.{Appends};
 ghost use Rattle.std.specs.List.{list_any, IsDistinct};
 ghost use Rattle.names.specs.Name.{IsName, is_same};
+ghost use Rattle.quotas.specs.Quota.{Quota};
 ghost use Rattle.hall.specs.Hall.{new_hall};
-ghost use Rattle.service.specs.declared.script_faults.ScriptFault.TheVariants as fault;
-ghost use Rattle.service.specs.Roster.{IsTenant, IsRoster, names_of, tenant_of};
-ghost use Rattle.service.specs.RosterReading.{FindsLine, AddsRow, ReadsRoster};
+ghost use Rattle.service.specs.declared.faults.ScriptFault.TheVariants as fault;
+ghost use Rattle.service.specs.Line.{commands_of};
 ghost use Rattle.service.specs.LineReader.{IfKnown};
+ghost use Rattle.service.specs.Roster.{AreLimits, IsLimits, IsTenant, IsRoster, names_of, tenant_of};
+ghost use Rattle.service.specs.RosterReading.{OpensWith, TakesRoster, FindsLine, AddsRow, ReadsRoster, ReadsRow, IsTakenFor};
+ghost use Rattle.service.specs.Words.{words, number_of};
 
+use crate::faults::ScriptFault;
 use crate::lines::{LineReader, NextLine};
-use crate::roster_lines::{RosterLine, Row, roster_line};
-use crate::script_faults::ScriptFault;
+use crate::replies::{WriteFault, write_reply};
+use crate::words::{next_word, number};
 use hall::{Fault, Hall};
 use names::Entity;
+use names::texts::is_blank;
 use pool::{Desk, PARTS};
 use quotas::Limits;
 use std::alloc::{AllocError, Global};
-use std::io::Read;
+use std::io::{Read, Write};
 use std::marker::Model;
 use std::sync::ledger::{Blank, Ledger};
 
 /// The most tenants of a roster.
 const MOST_TENANTS: usize = 1_000;
 
+/// The most bytes of a tenant's word.
+const MOST_WORD: usize = 64;
+
+/// What answers a faulty roster.
+const ROSTER_REFUSAL: &[u8; 19] = b"?: error 63 roster\n";
+
 /// Who may speak: 1 to 1,000 tenants, each with a name of its own, a word and its limits.
 #[derive(Drop)]
 pub struct Roster {
     rows: Vec<Row>,
+}
+
+/// One tenant of a roster: its name, the word by which it is known, and its limits.
+#[derive(Drop)]
+struct Row {
+    name: Entity,
+    word: Vec<u8>,
+    limits: Limits,
+}
+
+/// What a line of a roster is.
+#[derive(Drop)]
+enum RosterLine {
+    Blank,
+    Tenant(Row),
+    Begin,
+}
+
+impl Model for Row {
+    ghost use Rattle.service.specs.Roster as roster;
+
+    ghost Value = { roster.Row };
+
+    ghost view = { λ r. record { name = r.name; word = r.word.items; limits = r.limits } };
 }
 
 impl Model for Roster {
@@ -137,8 +173,10 @@ fn add_row(rows: &mut Vec<Row>, row: Row) -> Result<(), ScriptFault>
     if is_named(rows, &row.name) {
         return Err(ScriptFault::Roster);
     }
-    rows.push(row)?;
-    Ok(())
+    match rows.push(row) {
+        Ok(()) => Ok(()),
+        Err(_unplaced) => Err(ScriptFault::Memory),
+    }
 }
 
 /// Whether a tenant has this name.
@@ -168,6 +206,125 @@ fn is_text(kept: &[u8], said: &[u8]) -> bool
         is_same &= is_there;
     }
     is_same
+}
+
+/// What a text is that a roster has: `tenant`, a name, a word and maybe six limits, or `begin`. Any other text that
+/// isn't blank is a faulty roster.
+fn roster_line(alloc: Global, text: &[u8]) -> Result<RosterLine, ScriptFault>
+    ensures { IsTakenFor text.now result }
+{
+    if is_blank(text) {
+        return Ok(RosterLine::Blank);
+    }
+    let Some((first, rest)) = next_word(text) else {
+        return Err(ScriptFault::Roster);
+    };
+    if first == b"begin".as_slice() {
+        return match next_word(rest) {
+            None => Ok(RosterLine::Begin),
+            Some(_) => Err(ScriptFault::Roster),
+        };
+    }
+    if first == b"tenant".as_slice() {
+        let row = read_row(alloc, rest)?;
+        return Ok(RosterLine::Tenant(row));
+    }
+    Err(ScriptFault::Roster)
+}
+
+/// The tenant of a line with this rest after `tenant`.
+fn read_row(alloc: Global, text: &[u8]) -> Result<Row, ScriptFault>
+    ensures { ReadsRow (words text.now) result }
+{
+    let Some((name, rest)) = next_word(text) else {
+        return Err(ScriptFault::Roster);
+    };
+    let Some((word, rest)) = next_word(rest) else {
+        return Err(ScriptFault::Roster);
+    };
+    if word.len() > MOST_WORD {
+        return Err(ScriptFault::Roster);
+    }
+    let Ok(name) = Entity::read(name) else {
+        return Err(ScriptFault::Roster);
+    };
+    let Some(limits) = read_limits(rest) else {
+        return Err(ScriptFault::Roster);
+    };
+    let word = Vec::from_slice(alloc, word)?;
+    Ok(Row { name, word, limits })
+}
+
+/// The limits that the text gives: the usual ones where it is empty.
+fn read_limits(text: &[u8]) -> Option<Limits>
+    ensures some { IfSome result (IsLimits (words text.now)) }
+    ensures none { IfNone result ((q : Quota) → IsLimits (words text.now) q → ⊥) }
+{
+    if next_word(text).is_none() {
+        return Some(Limits::usual());
+    }
+    given_limits(text)
+}
+
+/// The limits that six numbers give.
+fn given_limits(text: &[u8]) -> Option<Limits>
+    ensures some { IfSome result (AreLimits (words text.now)) }
+    ensures none { IfNone result ((q : Quota) → AreLimits (words text.now) q → ⊥) }
+{
+    let (creds, rest) = next_number(text)?;
+    let (grants, rest) = next_number(rest)?;
+    let (searches, rest) = next_number(rest)?;
+    let (changes, rest) = next_number(rest)?;
+    let (opens, rest) = next_number(rest)?;
+    let (work, rest) = next_number(rest)?;
+    if next_word(rest).is_some() {
+        return None;
+    }
+    Limits::make(creds, grants, searches, changes, opens, work)
+}
+
+/// The number that the text begins with, and what stands after it.
+fn next_number(text: &[u8]) -> Option<(u64, &[u8])>
+    ensures some { IfSome result (λ parts. map number_of (words text.now) ≡ Some parts.0 ∷ map number_of (words parts.1.now)) }
+    ensures none { IfNone result (get_or (map number_of (words text.now)) 0 None ≡ None) }
+{
+    let (word, rest) = next_word(text)?;
+    let n = number(word)?;
+    Some((n, rest))
+}
+
+/// The roster that an input begins with. A faulty one is answered at once by one line. What was read ahead of the
+/// roster's end is lost with the reader.
+pub fn read_roster<R: Read + Drop, W: Write>(
+    alloc: Global,
+    reader: R,
+    writer: &mut W,
+) -> Result<Roster, ScriptFault>
+    ensures roster { IfSome (R.remaining reader)
+        (λ input. OpensWith (commands_of input) result (Appends (W.contents writer.old) (W.contents writer.new))) }
+    ensures silent { OnOk result (W.contents writer.new ≡ W.contents writer.old) }
+{
+    let mut lines = LineReader::make(alloc, reader)?;
+    take_roster(alloc, &mut lines, writer)
+}
+
+/// The roster that the lines begin with. A faulty one is answered at once by one line.
+pub(crate) fn take_roster<R: Read + Drop, W: Write>(
+    alloc: Global,
+    lines: &mut LineReader<R>,
+    writer: &mut W,
+) -> Result<Roster, ScriptFault>
+    ensures roster { IfKnown lines.old (λ commands. TakesRoster commands result lines.new
+        (Appends (W.contents writer.old) (W.contents writer.new))) }
+    ensures silent { OnOk result (W.contents writer.new ≡ W.contents writer.old) }
+{
+    match Roster::read(alloc, lines) {
+        Err(ScriptFault::Roster) => match write_reply(writer, ROSTER_REFUSAL) {
+            Ok(()) => Err(ScriptFault::Roster),
+            Err(WriteFault) => Err(ScriptFault::Write),
+        },
+        read => read,
+    }
 }
 
 #[cfg(test)]

@@ -1,21 +1,25 @@
 //! A script: a roster, then the commands of its tenants, each with its reply.
-ghost use Rattle.std.specs.Prelude.{◌≡◌, IfSome};
+ghost use Rattle.std.specs.Prelude.{◌≡◌, true, false, IfSome, MatchOption};
 ghost use Rattle.std.specs.Io.KnownBytes.{Appends};
-ghost use Rattle.service.specs.Line.{commands_of};
+ghost use Rattle.hall.specs.Hall.{CarriesOut};
+ghost use Rattle.service.specs.Command.{form_of};
+ghost use Rattle.service.specs.Line.{commands_of, text};
 ghost use Rattle.service.specs.LineReader.{IfKnown};
-ghost use Rattle.service.specs.Turn.{script_result};
+ghost use Rattle.service.specs.Outcome.{deed_of};
+ghost use Rattle.service.specs.Turn.{Answered, Says, script_result, speaks};
 ghost use Rattle.service.specs.Written.{ScriptWrote};
 
-use crate::answers::answer_line;
+use crate::commands::{Command, read_command};
 use crate::conversations::{Flow, Host, SessionEnd, converse};
+use crate::faults::ScriptFault;
 use crate::lines::LineReader;
 use crate::refusals::Refusal;
-use crate::reply_lines::fill_refusal;
-use crate::rooms::Room;
-use crate::roster_answers::take_roster;
-use crate::script_faults::ScriptFault;
-use crate::speakers::Speaker;
-use hall::Hall;
+use crate::replies::{Room, Speaker, fill_refusal, fill_reply};
+use crate::rosters::take_roster;
+use crate::words::split_at_colon;
+use hall::{Hall, Reply};
+use names::Entity;
+use names::texts::trim_start;
 use std::alloc::Global;
 use std::io::{Read, Write};
 
@@ -57,7 +61,8 @@ fn run_lines<R: Read + Drop, W: Write>(
     reply: &mut Room,
     writer: &mut W,
 ) -> Result<(), ScriptFault>
-    ensures { IfKnown lines.old (λ commands. ScriptWrote commands result (Appends (W.contents writer.old) (W.contents writer.new))) }
+    ensures { IfKnown lines.old (λ commands. ScriptWrote commands result
+        (Appends (W.contents writer.old) (W.contents writer.new))) }
 {
     let roster = take_roster(alloc, lines, writer)?;
     let Ok(mut hall) = roster.hall(alloc) else {
@@ -75,6 +80,60 @@ fn ended(end: SessionEnd) -> Result<(), ScriptFault>
         SessionEnd::Read => Err(ScriptFault::Read),
         SessionEnd::Write => Err(ScriptFault::Write),
         SessionEnd::Memory => Err(ScriptFault::Memory),
+    }
+}
+
+/// Answers a line that isn't blank.
+fn answer_line(alloc: Global, line: &[u8], hall: &mut Hall, reply: &mut Room)
+    ensures { Answered hall.old (text line.now) reply.new hall.new }
+{
+    let Some((before, said)) = split_at_colon(trim_start(line)) else {
+        return fill_refusal(reply, &Speaker::Nobody, Refusal::Command);
+    };
+    match speaker(hall, before) {
+        Some(who) => answer_tenant(alloc, who, said, hall, reply),
+        None => fill_refusal(reply, &Speaker::Nobody, Refusal::BadHello),
+    }
+}
+
+/// The tenant of this name, if there is one.
+fn speaker(hall: &Hall, name: &[u8]) -> Option<Entity>
+    ensures { MatchOption result
+        (speaks hall.now name.now ≡ false)
+        (λ who. (who ≡ name.now) × (speaks hall.now name.now ≡ true)) }
+{
+    match Entity::read(name) {
+        Ok(who) if hall.has(who) => Some(who),
+        _ => None,
+    }
+}
+
+/// Answers what a tenant said.
+fn answer_tenant(alloc: Global, who: Entity, said: &[u8], hall: &mut Hall, reply: &mut Room)
+    ensures { Says hall.old who (form_of said.now) reply.new hall.new }
+{
+    match read_command(alloc, said) {
+        Ok(command) => {
+            let told = carry_out(hall, who, command);
+            fill_reply(reply, &Speaker::Tenant(who), &told);
+        }
+        Err(refusal) => fill_refusal(reply, &Speaker::Tenant(who), refusal),
+    }
+}
+
+/// Carries a tenant's command out, and answers its reply.
+fn carry_out(hall: &mut Hall, who: Entity, command: Command) -> Reply
+    ensures { CarriesOut hall.old who (deed_of command) result hall.new }
+{
+    match command {
+        Command::Request(request) => match hall.ask(who, request) {
+            Ok(reply) => reply,
+            Err(fault) => Reply::Refused(fault),
+        },
+        Command::Wait(number) => match hall.drive(who, number) {
+            Ok(answer) => Reply::Answered(answer),
+            Err(fault) => Reply::Refused(fault),
+        },
     }
 }
 

@@ -1,18 +1,17 @@
 //! The service: connections that are answered, and the workers beside them.
-ghost use Rattle.std.specs.Prelude.{◌≡◌, ◌≤◌, ◌<◌, ◌^◌, ◌⊎◌, ◌↔◌, Some, IsOk, IfOk, IfErr, OnOk, OnErr};
+ghost use Rattle.std.specs.Prelude.{◌≡◌, ◌≤◌, ◌<◌, ◌^◌, ◌⊎◌, ◌↔◌, ◌++◌, Some, length, IsOk, IfOk, IfErr, OnOk, OnErr};
+ghost use Rattle.std.specs.Fmt.{decimal};
 ghost use Rattle.std.specs.Io.KnownBytes.{Appends};
-ghost use Rattle.service.specs.declared.serve_faults.ServeFault.TheVariants as fault;
+ghost use Rattle.service.specs.declared.faults.ServeFault.TheVariants as fault;
 ghost use Rattle.service.specs.Roster.{names_of};
-ghost use Rattle.service.specs.Served.{Answered, ServeWrote, listening_line, served_line};
+ghost use Rattle.service.specs.Served.{Answered, ServeWrote, listening_line};
+ghost use Rattle.service.specs.Session.{session_line};
 ghost use Rattle.service.specs.Written.{WritesFront};
 
 use crate::connections::answer_connections;
-use crate::reply_lines::fill_counted;
-use crate::rooms::Room;
+use crate::faults::ServeFault;
+use crate::replies::{Room, Speaker, WriteFault, fill_counted, write_reply};
 use crate::rosters::Roster;
-use crate::serve_faults::ServeFault;
-use crate::speakers::Speaker;
-use crate::writing::{WriteFault, write_reply};
 use pool::{Desk, DeskFault, NoGate, PARTS, run_workers};
 use std::alloc::Global;
 use std::io::Write;
@@ -99,13 +98,19 @@ fn serve_at<L: Ledger + Send + Sync, R: Threads + Wait + Clock + Sync, W: Write>
     ensures count { IfOk result (λ n. options.accept ≡ Some n) }
     ensures wrote { ServeWrote options.accept result (Appends (W.contents writer.old) (W.contents writer.new)) }
 {
-    let mut line = Room::make(alloc)?;
+    let Ok(mut line) = Room::make(alloc) else {
+        return Err(ServeFault::Memory);
+    };
     let Ok(address) = listener.local_addr() else {
         return Err(ServeFault::Socket);
     };
-    tell_port(writer, &mut line, address.port())?;
+    let Ok(()) = tell_port(writer, &mut line, address.port()) else {
+        return Err(ServeFault::Write);
+    };
     let count = answer_beside_workers(rt, alloc, desk, roster, listener, options)?;
-    tell_count(writer, &mut line, count)?;
+    let Ok(()) = tell(writer, &mut line, b"served ", count) else {
+        return Err(ServeFault::Write);
+    };
     Ok(count)
 }
 
@@ -115,21 +120,23 @@ fn tell_port<W: Write>(writer: &mut W, line: &mut Room, port: u16) -> Result<(),
     ensures err { OnErr result (WritesFront (W.contents writer.old) (W.contents writer.new) (listening_line port)) }
     ensures fits { port < 2 ^ 16 }
 {
-    fill_counted(
-        line,
-        &Speaker::Peer,
-        b"listening 127.0.0.1:",
-        u64::from(port),
-    );
-    write_reply(writer, line.as_slice())
+    tell(writer, line, b"listening 127.0.0.1:", u64::from(port))
 }
 
-/// Writes the line that tells how many connections were answered.
-fn tell_count<W: Write>(writer: &mut W, line: &mut Room, count: u64) -> Result<(), WriteFault>
-    ensures ok { OnOk result (Appends (W.contents writer.old) (W.contents writer.new) (served_line count)) }
-    ensures err { OnErr result (WritesFront (W.contents writer.old) (W.contents writer.new) (served_line count)) }
+/// Writes a line of these words and this number.
+fn tell<W: Write>(
+    writer: &mut W,
+    line: &mut Room,
+    words: &[u8],
+    number: u64,
+) -> Result<(), WriteFault>
+    requires { length words.now ≤ 20 }
+    ensures ok { OnOk result
+        (Appends (W.contents writer.old) (W.contents writer.new) (session_line (words.now ++ decimal number))) }
+    ensures err { OnErr result
+        (WritesFront (W.contents writer.old) (W.contents writer.new) (session_line (words.now ++ decimal number))) }
 {
-    fill_counted(line, &Speaker::Peer, b"served ", count);
+    fill_counted(line, &Speaker::Peer, words, number);
     write_reply(writer, line.as_slice())
 }
 

@@ -1,7 +1,0 @@
-use Rattle.std.proofs.Common.{◌≡◌, ◌++◌, take, codes}
-use Rattle.service.specs.Reply.{front_of, listed}
-use Rattle.service.proofs.reply_lines.write_members.Given as goal
-
--- the first names stand in the line
-abbrev pub invariant-loop-name : goal.invariant-loop-name
-invariant-loop-name l = l.room ≡ front_of l.who ++ codes "members" ++ listed (take l.name-index l.names)

@@ -1,0 +1,383 @@
+//! Replies: the room in which the lines of one are put together, and its lines. Only a vault, lists of names and a proof may
+//! take memory.
+ghost use Rattle.std.specs.Prelude.{◌≡◌, ◌≤◌, ◌+◌, ◌++◌, [], ◌∷◌, length, codes, vec_len, vec_capacity, IfOk, OnOk, OnErr};
+ghost use Rattle.std.specs.List.{flat_map};
+ghost use Rattle.std.specs.Fmt.{decimal};
+ghost use Rattle.std.specs.Io.KnownBytes.{Appends};
+ghost use Rattle.credential_text.specs.Spelling.{canonical};
+ghost use Rattle.hall.specs.declared.calls.replies.Reply.TheVariants as reply;
+ghost use Rattle.service.specs.Refusal.{text_of, refusal_number};
+ghost use Rattle.service.specs.Reply.{front_of, line_after, error_text, listed, seen_text, seen_listed};
+ghost use Rattle.service.specs.Reply.{text_lines, lines_after, IsLong, IsFilled};
+ghost use Rattle.service.specs.Session.{hello_to, IsToldBy};
+ghost use Rattle.service.specs.Written.{WritesFront};
+
+use crate::refusals::{Refusal, fault_text};
+use credential_text::{Credential, write_credential};
+use hall::{Answer, Fault, Proof, Reply, write_proof};
+use names::Entity;
+use names::texts::cut;
+use pool::DeskFault;
+use std::alloc::{AllocError, Global};
+use std::io::Write;
+use std::marker::Model;
+use vaults::Seen;
+
+/// Who a reply is for. In a script that is the tenant that the line names, or nobody where it names none; in a session
+/// it is the peer, whose lines have nothing in front.
+#[derive(Clone, Copy)]
+pub(crate) enum Speaker {
+    Nobody,
+    Tenant(Entity),
+    Peer,
+}
+
+impl Speaker {
+    /// What stands in front of each line: a name, and what parts it from the text.
+    fn front(&self) -> (&[u8], &[u8])
+        ensures front { result.0.now ++ result.1.now ≡ front_of self.now }
+        ensures short { length result.0.now + length result.1.now ≤ 66 }
+    {
+        match self {
+            Speaker::Nobody => (b"?", b": "),
+            Speaker::Tenant(who) => (who.bytes(), b": "),
+            Speaker::Peer => (&[], &[]),
+        }
+    }
+}
+
+/// What a short reply needs: a name of 64 bytes, a colon and a space, the reply, and a newline.
+const SHORT_REPLY: usize = 128;
+
+/// Room for the lines of a reply. That of a short one is always there, so it takes no memory.
+#[derive(Drop)]
+pub(crate) struct Room {
+    bytes: Vec<u8>,
+}
+
+impl Model for Room {
+    ghost use Rattle.std.specs.Prelude.{List, ℕ, ◌≤◌, vec_capacity};
+
+    ghost Value = { List ℕ };
+
+    ghost view = { λ r. r.bytes.items };
+
+    ghost invariant = { λ r. 128 ≤ vec_capacity r.bytes };
+}
+
+impl Room {
+    /// Takes the memory that short replies need.
+    pub(crate) fn make(alloc: Global) -> Result<Room, AllocError>
+        ensures { IfOk result (λ r. r ≡ []) }
+    {
+        let bytes = Vec::with_capacity(alloc, SHORT_REPLY)?;
+        Ok(Room { bytes })
+    }
+
+    /// Where it takes its memory from.
+    pub(crate) fn alloc(&self) -> Global {
+        *self.bytes.allocator()
+    }
+
+    /// What stands in it.
+    pub(crate) fn as_slice(&self) -> &[u8]
+        ensures { result.now ≡ self.now }
+    {
+        self.bytes.as_slice()
+    }
+
+    /// Empties it.
+    pub(crate) fn clear(&mut self)
+        ensures { self.new ≡ [] }
+    {
+        self.bytes.clear();
+    }
+
+    /// Empties it, and begins a line to this one.
+    pub(crate) fn begin(&mut self, who: &Speaker)
+        ensures items { self.new ≡ front_of who.now }
+        ensures short { length self.new ≤ 66 }
+    {
+        let (name, colon) = who.front();
+        self.bytes.clear();
+        self.append(name);
+        self.append(colon);
+    }
+
+    /// Appends a text of a short reply.
+    pub(crate) fn append(&mut self, text: &[u8])
+        requires { length self.old + length text.now ≤ 128 }
+        ensures { self.new ≡ self.old ++ text.now }
+    {
+        self.bytes.extend_from_slice(text).unwrap();
+    }
+
+    /// Appends the digits of a number, which are 20 at most.
+    pub(crate) fn append_number(&mut self, number: u64)
+        requires { length self.old + 20 ≤ 128 }
+        ensures digits { self.new ≡ self.old ++ decimal number }
+        ensures short { length (decimal number) ≤ 20 }
+    {
+        append_digits(&mut self.bytes, number);
+    }
+
+    /// Begins a further line to this one.
+    pub(crate) fn extend_front(&mut self, who: &Speaker) -> Result<(), AllocError>
+        ensures begun { OnOk result (self.new ≡ self.old ++ front_of who.now) }
+        ensures unchanged { OnErr result (self.new ≡ self.old) }
+    {
+        let (name, colon) = who.front();
+        self.bytes.reserve(name.len() + colon.len())?;
+        self.bytes.extend_from_slice(name).unwrap();
+        self.bytes.extend_from_slice(colon).unwrap();
+        Ok(())
+    }
+
+    /// Appends a text of a long reply.
+    pub(crate) fn extend(&mut self, text: &[u8]) -> Result<(), AllocError>
+        ensures appended { OnOk result (self.new ≡ self.old ++ text.now) }
+        ensures unchanged { OnErr result (self.new ≡ self.old) }
+    {
+        self.bytes.extend_from_slice(text)
+    }
+
+    /// Appends the canonical spelling of a credential.
+    pub(crate) fn extend_by(&mut self, credential: &Credential) -> Result<(), AllocError>
+        ensures spelled { OnOk result (self.new ≡ self.old ++ canonical credential.now) }
+        ensures unchanged { OnErr result (self.new ≡ self.old) }
+    {
+        write_credential(credential, &mut self.bytes)
+    }
+}
+
+/// Appends the decimal digits of a number into just the room that they take.
+fn append_digits(out: &mut Vec<u8>, number: u64)
+    requires room { vec_len out.old + length (decimal number) ≤ vec_capacity out.old }
+    ensures items { out.new.items ≡ out.old.items ++ decimal number }
+    ensures capacity { vec_capacity out.old ≤ vec_capacity out.new }
+{
+    if number >= 10 {
+        append_digits(out, number / 10);
+    }
+    out.push(b'0' + (number % 10) as u8).unwrap();
+}
+
+/// Fills the room with the line that refuses a text. It takes no memory.
+pub(crate) fn fill_refusal(room: &mut Room, who: &Speaker, refusal: Refusal)
+    ensures { room.new ≡ line_after (front_of who.now) (error_text (refusal_number refusal)) }
+{
+    fill_error(room, who, refusal.number());
+}
+
+/// Fills the room with the lines of a reply. A vault, a list of names and a proof take memory, and without it the one line
+/// says so. How a step of a search went, for which no command asks, has no line.
+pub(crate) fn fill_reply(room: &mut Room, who: &Speaker, reply: &Reply)
+    ensures { IsFilled (front_of who.now) reply.now room.new }
+{
+    match write_reply_lines(room, who, reply) {
+        Ok(()) => {}
+        Err(_lacking) => fill_error(room, who, Fault::Memory.number()),
+    }
+}
+
+/// Fills the room with the lines of a reply. Memory may lack for a long one.
+fn write_reply_lines(room: &mut Room, who: &Speaker, reply: &Reply) -> Result<(), AllocError>
+    ensures whole { OnOk result (room.new ≡ lines_after (front_of who.now) reply.now) }
+    ensures lacking { OnErr result (IsLong reply.now) }
+{
+    match reply {
+        Reply::Counted(count) => fill_counted(room, who, b"ok ", *count),
+        Reply::Opened(number) => fill_counted(room, who, b"search ", *number),
+        Reply::Answered(Answer::Working) => fill_text(room, who, b"working"),
+        Reply::Answered(Answer::Yes) => fill_text(room, who, b"yes"),
+        Reply::Answered(Answer::No) => fill_text(room, who, b"no"),
+        Reply::Answered(Answer::Members(names)) => write_members(room, who, names.as_slice())?,
+        Reply::Answered(Answer::Spent) => fill_text(room, who, b"spent"),
+        Reply::Answered(Answer::Broken) => fill_text(room, who, b"broken"),
+        Reply::Closed => fill_text(room, who, b"ended"),
+        Reply::Vault(rows) => write_vault(room, who, rows.as_slice())?,
+        Reply::Sees(seen) => write_sees(room, who, seen.as_slice())?,
+        Reply::Proof(proof) => write_steps(room, who, proof)?,
+        Reply::Refused(fault) => fill_error(room, who, fault.number()),
+        Reply::Stepped(_outcome) => room.clear(),
+    }
+    Ok(())
+}
+
+/// Fills the room with the line that lets a tenant in. It takes no memory.
+pub(crate) fn fill_hello(room: &mut Room, name: &Entity)
+    ensures { room.new ≡ hello_to name.now }
+{
+    room.begin(&Speaker::Peer);
+    room.append(b"hello ");
+    room.append(name.bytes());
+    room.append(b"\n");
+}
+
+/// Fills the room with the lines of what a command came to. A long reply takes memory, and without it the one line says so.
+pub(crate) fn fill_told(room: &mut Room, told: &Result<Reply, DeskFault>)
+    ensures { IsToldBy told.now room.new }
+{
+    match told {
+        Ok(reply) => fill_reply(room, &Speaker::Peer, reply),
+        Err(fault) => fill_error(room, &Speaker::Peer, fault.number()),
+    }
+}
+
+/// Fills the room with a word. It takes no memory.
+pub(crate) fn fill_text(room: &mut Room, who: &Speaker, text: &[u8])
+    requires word { length text.now ≤ 8 }
+    ensures { room.new ≡ line_after (front_of who.now) text.now }
+{
+    room.begin(who);
+    room.append(text);
+    room.append(b"\n");
+}
+
+/// Fills the room with a few words and a number. It takes no memory.
+pub(crate) fn fill_counted(room: &mut Room, who: &Speaker, word: &[u8], number: u64)
+    requires word { length word.now ≤ 20 }
+    ensures { room.new ≡ line_after (front_of who.now) (word.now ++ decimal number) }
+{
+    room.begin(who);
+    room.append(word);
+    room.append_number(number);
+    room.append(b"\n");
+}
+
+/// Fills the room with a refusal's number and text. It takes no memory.
+pub(crate) fn fill_error(room: &mut Room, who: &Speaker, number: u64)
+    ensures { room.new ≡ line_after (front_of who.now) (error_text number) }
+{
+    room.begin(who);
+    room.append(b"error ");
+    room.append_number(number);
+    room.append(b" ");
+    room.append(text_after(number).as_bytes());
+    room.append(b"\n");
+}
+
+/// The text that stands after a refusal's number.
+fn text_after(number: u64) -> &'static str
+    ensures text { result.now ≡ text_of number }
+    ensures short { length result.now ≤ 19 }
+{
+    fault_text(number).unwrap_or("")
+}
+
+/// How many steps there are, and a line for each.
+fn write_steps(room: &mut Room, who: &Speaker, proof: &Proof) -> Result<(), AllocError>
+    ensures { OnOk result (room.new ≡ lines_after (front_of who.now) (reply.Proof proof.now)) }
+{
+    let mut text = Vec::new(room.alloc());
+    write_proof(proof, &mut text)?;
+    fill_counted(room, who, b"proof ", proof.steps().len() as u64);
+    write_lines(room, who, &text)
+}
+
+/// Appends the lines of a text.
+fn write_lines(room: &mut Room, who: &Speaker, text: &[u8]) -> Result<(), AllocError>
+    ensures { OnOk result (room.new ≡ room.old ++ flat_map (line_after (front_of who.now)) (text_lines text.now)) }
+{
+    let (line, rest) = cut(text, b'\n');
+    if !line.is_empty() {
+        write_line(room, who, line)?;
+    }
+    match rest {
+        Some(rest) => write_lines(room, who, rest),
+        None => Ok(()),
+    }
+}
+
+/// Appends one line.
+fn write_line(room: &mut Room, who: &Speaker, text: &[u8]) -> Result<(), AllocError>
+    ensures { OnOk result (room.new ≡ room.old ++ line_after (front_of who.now) text.now) }
+{
+    room.extend_front(who)?;
+    room.extend(text)?;
+    room.extend(b"\n")
+}
+
+/// How many credentials there are, and a line for each.
+fn write_vault(room: &mut Room, who: &Speaker, rows: &[Credential]) -> Result<(), AllocError>
+    ensures { OnOk result (room.new ≡ lines_after (front_of who.now) (reply.Vault rows.now)) }
+{
+    fill_counted(room, who, b"vault ", rows.len() as u64);
+    for row in rows {
+        write_row(room, who, row)?;
+    }
+    Ok(())
+}
+
+/// Appends the line of one credential.
+fn write_row(room: &mut Room, who: &Speaker, row: &Credential) -> Result<(), AllocError>
+    ensures { OnOk result (room.new ≡ room.old ++ line_after (front_of who.now) (canonical row.now)) }
+{
+    room.extend_front(who)?;
+    room.extend_by(row)?;
+    room.extend(b"\n")
+}
+
+/// The names that are seen in one line.
+fn write_sees(room: &mut Room, who: &Speaker, seen: &[Seen]) -> Result<(), AllocError>
+    ensures { OnOk result (room.new ≡ line_after (front_of who.now) (codes "sees" ++ seen_listed seen.now)) }
+{
+    room.begin(who);
+    room.append(b"sees");
+    for one in seen {
+        write_seen(room, one)?;
+    }
+    room.extend(b"\n")
+}
+
+/// Appends a space and a name, and a star directly behind it where its vault is public.
+fn write_seen(room: &mut Room, seen: &Seen) -> Result<(), AllocError>
+    ensures { OnOk result (room.new ≡ room.old ++ 32 ∷ seen_text seen.now) }
+{
+    write_name(room, &seen.name)?;
+    if seen.to_all {
+        room.extend(b"*")?;
+    }
+    Ok(())
+}
+
+/// The members of a role in one line.
+fn write_members(room: &mut Room, who: &Speaker, names: &[Entity]) -> Result<(), AllocError>
+    ensures { OnOk result (room.new ≡ line_after (front_of who.now) (codes "members" ++ listed names.now)) }
+{
+    room.begin(who);
+    room.append(b"members");
+    for name in names {
+        write_name(room, name)?;
+    }
+    room.extend(b"\n")
+}
+
+/// Appends a space and a name.
+fn write_name(room: &mut Room, name: &Entity) -> Result<(), AllocError>
+    ensures { OnOk result (room.new ≡ room.old ++ 32 ∷ name.now) }
+{
+    room.extend(b" ")?;
+    room.extend(name.bytes())
+}
+
+/// A writer failed, or took no byte.
+#[derive(Clone, Copy)]
+pub(crate) struct WriteFault;
+
+/// Writes the whole reply, in as many calls as the writer needs. Each error of `write` is a fault, and so is
+/// a call that takes no byte: nothing is tried again.
+pub(crate) fn write_reply<W: Write>(writer: &mut W, reply: &[u8]) -> Result<(), WriteFault>
+    ensures ok { OnOk result (Appends (W.contents writer.old) (W.contents writer.new) reply.now) }
+    ensures err { OnErr result (WritesFront (W.contents writer.old) (W.contents writer.new) reply.now) }
+{
+    let mut sent = 0;
+    while sent < reply.len() {
+        match writer.write(&reply[sent..]) {
+            Ok(0) => return Err(WriteFault),
+            Ok(count) => sent += count,
+            Err(_) => return Err(WriteFault),
+        }
+    }
+    Ok(())
+}
