@@ -14,7 +14,7 @@ use std::marker::Model;
 
 /// The letters that wait or are held, by number, in order of number. A letter that is finished leaves a hole, so that
 /// the others keep their places. Holes at the end are popped when the last letter is finished; all of them are dropped
-/// where room lacks and they are at least half of the entries.
+/// where room lacks and they are at least an eighth of the entries.
 #[derive(Debug, Drop)]
 pub(crate) struct LetterTable<P> {
     // How many letters were ever sent, the number of the last one.
@@ -227,14 +227,14 @@ impl<P: Drop> LetterTable<P> {
         self.last = self.last.max(at + 1);
     }
 
-    /// Makes room for so many letters more. Where it lacks and at least half of the entries are holes, these are dropped
-    /// before the table grows.
+    /// Makes room for so many letters more. Where it lacks and at least an eighth of the entries are holes, these are dropped
+    /// before the table grows. So some seven letters at most are moved for each hole that is dropped.
     pub(crate) fn reserve(&mut self, count: usize) -> Result<(), AllocError>
         ensures room { OnOk result (count ≤ self.new.room) }
         ensures letters { self.new.letters ≡ self.old.letters }
         ensures sent { self.new.sent ≡ self.old.sent }
     {
-        if self.lacks_room(count) && self.is_half_holes() {
+        if self.lacks_room(count) && self.has_many_holes() {
             self.drop_holes();
         }
         self.letters.reserve(count)
@@ -252,9 +252,9 @@ impl<P: Drop> LetterTable<P> {
         self.letters.capacity() - self.letters.len() < count
     }
 
-    // Whether at least half of the entries are holes.
-    fn is_half_holes(&self) -> bool {
-        self.holes >= self.letters.len() - self.holes
+    // Whether at least an eighth of the entries are holes.
+    fn has_many_holes(&self) -> bool {
+        self.holes >= self.letters.len() / 8
     }
 
     /// Sends letters that wait, where there is room for them.

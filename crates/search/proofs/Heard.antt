@@ -1,10 +1,10 @@
 -- What monitors hear by number, they hear by name: the nodes stand once, so that two entities don't have one number.
-use Rattle.std.proofs.Common.{ℕ, ◌<◌, ◌≡◌, ◌∙◌, sym, subst, ap, Bool, true, false, List, [], ◌∷◌, Result, Ok, Err, Some, All, Contains, map, set, slice_get, get_or, IfOk, OnErr, arith}
+use Rattle.std.proofs.Common.{ℕ, ◌<◌, ◌≡◌, ◌∙◌, sym, subst, refl, ap, Bool, true, false, List, [], ◌∷◌, Result, Ok, Err, Some, All, Contains, length, map, set, slice_get, get_or, IfOk, OnErr, arith}
 use Rattle.std.specs.Option.{option_map}
 use Rattle.std.specs.Map.{keys_of}
 use Rattle.std.proofs.lemmas.List.{length-map, map-append, map-set}
 use Rattle.std.proofs.lemmas.List.Elements.{All-cons, All-contains, All-push, All-set, Contains-get_or}
-use Rattle.std.proofs.lemmas.Option.{same_Some, slice_get-get_or, slice_get-map, slice_get_within}
+use Rattle.std.proofs.lemmas.Option.{same_Some, slice_get-get_or, slice_get-map, slice_get_read, slice_get_within}
 use Rattle.std.specs.declared.alloc.AllocError.{AllocError}
 use Rattle.credential_text.specs.declared.exprs.Expr.{Expr}
 use Rattle.credential_text.specs.declared.exprs.Expr.TheVariants.{Ent}
@@ -23,6 +23,11 @@ use Rattle.search.specs.declared.findings.NumberedMonitor.{NumberedMonitor}
 use Rattle.search.specs.declared.findings.NumberedMonitor.TheVariants as numbered_monitor
 use Rattle.search.specs.Answers.{BaseHeard, PartHeard}
 use Rattle.search.specs.Numbered.{AreMonitors, IsMonitor, link_at, monitor_at, monitors_at}
+
+-- a monitor that was read where one stands is the one there
+pub read_there : (ms : List NumberedMonitor) (node : ℕ) (k m read : NumberedMonitor) → slice_get ms node ≡ Some k → m ≡ get_or ms node m → m ≡ read → slice_get ms node ≡ Some read
+read_there ms node k m read at value is =
+    slice_get_read ms (length ms) node read refl (slice_get_within ms node k at) (subst (λ (x : NumberedMonitor). x ≡ get_or ms node x) is value)
 
 -- the monitor at a node, by what it is seen as
 module _ (nodes : List Expr) (ms : List NumberedMonitor) (node : ℕ) where

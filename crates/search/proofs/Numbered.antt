@@ -124,9 +124,9 @@ numbered_with_node g e ms outs once are = record {
 pub numbered_with_monitor : (g : GraphState) (ms : List NumberedMonitor) (m : NumberedMonitor) (outs : List (ℕ × Load ℕ)) → IsMonitor g.nodes m → AreNumbered g ms outs → AreNumbered g (ms ++ m ∷ []) outs
 numbered_with_monitor g ms m outs is are = record { once = are.once; loads = are.loads; monitors = All-push (IsMonitor g.nodes) ms m are.monitors is; ports = are.ports }
 
--- the monitors hear
-pub numbered_heard : (g : GraphState) (ms ms' : List NumberedMonitor) (outs : List (ℕ × Load ℕ)) → AreNumbered g ms outs → AreMonitors g.nodes ms' → AreNumbered g ms' outs
-numbered_heard g ms ms' outs are monitors = record { once = are.once; loads = are.loads; monitors = monitors; ports = are.ports }
+-- the monitors hear of an entity
+pub numbered_heard : (g : GraphState) (ms ms' : List NumberedMonitor) (outs : List (ℕ × Load ℕ)) (k : ℕ) → AreNumbered g ms outs → IsEntity g.nodes k → ((nodes : List Expr) → AreMonitors nodes ms → IsEntity nodes k → AreMonitors nodes ms') → AreNumbered g ms' outs
+numbered_heard g ms ms' outs k are is hear = record { once = are.once; loads = are.loads; monitors = hear g.nodes are.monitors is; ports = are.ports }
 
 -- nodes are added alone
 abbrev pub HasMore : List Expr → List Expr → Type 0

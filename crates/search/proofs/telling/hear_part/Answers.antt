@@ -1,24 +1,20 @@
 -- The monitor that hears is the one at the node.
-use Rattle.std.proofs.Common.{◌≡◌, refl, subst, Some, Bool, List, length, set, get_or, slice_get}
-use Rattle.std.proofs.lemmas.Option.{slice_get_within, slice_get_read}
+use Rattle.std.proofs.Common.{◌≡◌, Some, Bool, List, set, slice_get}
 use Rattle.std.proofs.lemmas.Result.{IfOk-weaker}
 use Rattle.credential_text.specs.declared.exprs.Expr.{Expr}
 use Rattle.cred_graph.specs.NodeLists.{IsOnce}
 use Rattle.cred_graph.specs.Numbers.{IsEntity, entity_at}
 use Rattle.monitors.specs.KeyedMeet.{HearsByName}
-use Rattle.search.specs.declared.findings.NumberedMonitor.{NumberedMonitor}
 use Rattle.search.specs.declared.findings.NumberedMonitor.TheVariants as numbered_monitor
 use Rattle.search.specs.Answers.{PartHeard}
 use Rattle.search.specs.Numbered.{AreMonitors, monitors_at}
-use Rattle.search.proofs.Heard.{meet_after, part_heard, monitor_there, still_monitors}
+use Rattle.search.proofs.Heard.{meet_after, part_heard, monitor_there, read_there, still_monitors}
 use Rattle.search.proofs.telling.hear_part.Goals.{After-part_told}
 use Rattle.search.proofs.telling.hear_part.Goals as goal
 
 told_at : (c : After-part_told) → slice_get c.args.monitors.now.items c.args.node ≡ Some (numbered_monitor.Meet c.in-Meet.told)
 told_at c =
-    let ms = c.args.monitors.now.items in
-    let is : numbered_monitor.Meet c.in-Meet.told ≡ get_or ms c.args.node (numbered_monitor.Meet c.in-Meet.told) = subst (λ (m : NumberedMonitor). m ≡ get_or ms c.args.node m) c.in-Meet.is c.index_mut.ensures.value in
-    slice_get_read ms (length ms) c.args.node (numbered_monitor.Meet c.in-Meet.told) refl (slice_get_within ms c.args.node (numbered_monitor.Meet c.requires.0) c.requires.1) is
+    read_there c.args.monitors.now.items c.args.node (numbered_monitor.Meet c.requires.0) _ (numbered_monitor.Meet c.in-Meet.told) c.requires.1 c.index_mut.ensures.value c.in-Meet.is
 
 pub returns-clause-heard : goal.returns-clause-heard
 returns-clause-heard c =

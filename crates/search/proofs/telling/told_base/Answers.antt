@@ -26,7 +26,7 @@ is_entity c = subst (λ (s : Progress). IsEntity s.graph.nodes c.args.base) (sym
 still : (c : After-hear_base) → AreNumbered c.found.inside.graph c.hear_base.new.monitors.items c.found.inside.outs.items
 still c =
     let old = c.found.inside in
-    numbered_heard old.graph old.monitors.items c.hear_base.new.monitors.items old.outs.items c.found.invariant (c.hear_base.ensures.numbers old.graph.nodes c.found.invariant.monitors (is_entity c))
+    numbered_heard old.graph old.monitors.items c.hear_base.new.monitors.items old.outs.items c.args.base c.found.invariant (is_entity c) c.hear_base.ensures.numbers
 
 pub invariant_of-found : goal.invariant_of-found
 invariant_of-found c = still (goal.at.invariant_of-found c).After-hear_base

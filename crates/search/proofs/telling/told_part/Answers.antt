@@ -18,7 +18,7 @@ is_entity c = subst (λ (s : Progress). IsEntity s.graph.nodes c.args.who) (sym 
 still : (c : After-hear_part) → AreNumbered c.found.inside.graph c.hear_part.new.monitors.items c.found.inside.outs.items
 still c =
     let old = c.found.inside in
-    numbered_heard old.graph old.monitors.items c.hear_part.new.monitors.items old.outs.items c.found.invariant (c.hear_part.ensures.numbers old.graph.nodes c.found.invariant.monitors (is_entity c))
+    numbered_heard old.graph old.monitors.items c.hear_part.new.monitors.items old.outs.items c.args.who c.found.invariant (is_entity c) c.hear_part.ensures.numbers
 
 pub invariant_of-found : goal.invariant_of-found
 invariant_of-found c = still (goal.at.invariant_of-found c).After-hear_part
