@@ -10,9 +10,6 @@ use Rattle.pool.specs.Visits.{IsHandedIn, AreHandedIn, AreLetThrough}
 abbrev pub HandsInBehind : Bool → HallState → List Looked → List Looked → ℕ → HallState → Type 0
 HandsInBehind stopped old all left n now = (behind : List Looked) × (all ≡ left ++ behind) × AreHandedIn stopped old behind n now
 
-pub none_handed_in : (stopped : Bool) (old : HallState) (all : List Looked) → all ≡ [] → AreHandedIn stopped old all 0 old
-none_handed_in stopped old all none = subst (λ (these : List Looked). AreHandedIn stopped old these 0 old) (sym none) AreHandedIn.nothing
-
 pub none_behind : (stopped : Bool) (old : HallState) (all : List Looked) → HandsInBehind stopped old all all 0 old
 none_behind stopped old all = ([], sym (append-nil all), AreHandedIn.nothing)
 

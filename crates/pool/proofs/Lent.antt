@@ -1,6 +1,6 @@
 -- A request that is read off a search which was lent, once the lock was given back.
 use Rattle.std.specs.Arc.{arc_value}
-use Rattle.std.proofs.Common.{◌≡◌, ◌∙◌, ℕ, List, length, Some, option_map, Result, Ok, Err, inl, inr, ap, sym, subst, refl}
+use Rattle.std.proofs.Common.{◌≡◌, ◌∙◌, ℕ, List, length, Some, option_map, Result, Ok, Err, inl, inr, ap, sym, subst, refl, arith}
 use Rattle.search.specs.Search.{SearchState}
 use Rattle.vaults.specs.Journal.{credentials}
 use Rattle.hall.specs.declared.faults.Fault.{Fault}
@@ -17,24 +17,9 @@ use Rattle.pool.specs.declared.verdicts.Verdict.{Verdict}
 use Rattle.pool.specs.Verdicts.{IsTrueWhereCompleted}
 use Rattle.pool.specs.Passes.{PassState}
 use Rattle.pool.specs.Rooms.{RoomState}
-use Rattle.pool.specs.Served.{pass_after, Reads, IsReadOff, IsLentAt, IsServedAt, IsAnsweredAt, IsAnswered, IsPolledAt}
-use Rattle.pool.proofs.Served.{granted}
+use Rattle.pool.specs.Served.{IsReadOff, IsLentAt, IsServedAt, IsAnsweredAt, IsAnswered, IsPolledAt}
+use Rattle.pool.proofs.Served.{counted_longer, pass_seeing}
 use Rattle.pool.proofs.Polled.{polled_truth, polled_verdict}
-
--- what reads a search counts no change
-not_counted : (h : HallState) (who : List ℕ) (s : SearchState) (q : Request) (n : ℕ) → Reads h who q s → IsServed h who q (reply.Counted n) h → ⊥
-not_counted h who s (request.Poll k) n reads served = let told = (granted h h who (request.Poll k) (reply.Counted n) (λ f is. cc) served).gets.2 in cc
-not_counted h who s (request.Proof k member) n reads served = let told = (granted h h who (request.Proof k member) (reply.Counted n) (λ f is. cc) served).gets.4 in cc
-not_counted h who s (request.Alter change) n reads served = absurd reads
-not_counted h who s (request.Seek query) n reads served = absurd reads
-not_counted h who s (request.Close k) n reads served = absurd reads
-not_counted h who s request.Vault n reads served = absurd reads
-not_counted h who s request.Sees n reads served = absurd reads
-
-pass_unmoved : (h : HallState) (s : SearchState) (q : Request) (old : PassState) (seen : ℕ) (told : Reply) → Reads h old.tenant q s → IsServed h old.tenant q told h →
-    pass_after old seen told ≡ record old { front = seen }
-pass_unmoved h s q old seen (reply.Counted n) reads served = absurd (not_counted h old.tenant s q n reads served)
-pass_unmoved h s q old seen _ reads served = refl
 
 pub lent_served : (at : RoomState) (old new : PassState) (q : Request) (s : SearchState) (told : Reply) → IsLentAt at old new q s → IsReadOff s q told → IsServedAt at at old new q told
 lent_served at old new q s told lent read =
@@ -42,9 +27,12 @@ lent_served at old new q s told lent read =
       kept = lent.kept;
       seen = lent.seen.0;
       served = served;
-      pass = lent.seen.1 ∙ sym (pass_unmoved at.hall s q old (length at.hall.journal) told lent.reads served);
+      pass = lent.seen.1 ∙ sym (pass_seeing old (length at.hall.journal) told (λ n is. not_counted n (subst (λ (t : Reply). IsServed at.hall old.tenant q t at.hall) is served)));
       room = refl;
     }
+  where
+    not_counted : (n : ℕ) → IsServed at.hall old.tenant q (reply.Counted n) at.hall → ⊥
+    not_counted n served = omega (arith, counted_longer at.hall at.hall old.tenant q n served)
 
 -- what was served after the pass was left as it was
 pub served_later : (before after : RoomState) (old middle new : PassState) (q : Request) (result : Result Reply DeskFault) → middle ≡ old →

@@ -1,15 +1,18 @@
 -- A request that is not refused is a tenant's, and told what was asked for.
-use Rattle.std.proofs.Common.{◌≡◌, ◌≢◌, ℕ, List, Option, Some, None, option_map, refl, sym, subst}
+use Rattle.std.proofs.Common.{◌≡◌, ◌≢◌, ◌∙◌, ◌+◌, ◌∷◌, [], ℕ, List, length, length-append, Option, Some, None, option_map, ap, refl, sym, subst}
 use Rattle.std.specs.FinMap.{get}
 use Rattle.vaults.specs.Journal.{marked_view}
 use Rattle.hall.specs.declared.faults.Fault.{Fault}
 use Rattle.hall.specs.declared.faults.Fault.TheVariants.{NoTenant, Memory}
 use Rattle.hall.specs.declared.calls.requests.Request.{Request}
+use Rattle.hall.specs.declared.calls.requests.Request.TheVariants as request
 use Rattle.hall.specs.declared.calls.replies.Reply.{Reply}
-use Rattle.hall.specs.declared.calls.replies.Reply.TheVariants.{Refused}
+use Rattle.hall.specs.declared.calls.replies.Reply.TheVariants.{Counted, Refused}
 use Rattle.hall.specs.Account.{Account}
 use Rattle.hall.specs.Answers.{sight, Grants, Answers, refuses, grants, lacks}
 use Rattle.hall.specs.Hall.{HallState, Tenant, account, account_of, AnswersTo, IsServed}
+use Rattle.pool.specs.Passes.{PassState}
+use Rattle.pool.specs.Served.{pass_after}
 
 -- the tenant of that name is told this, by its account
 pub record IsGranted (h : HallState) (who : List ℕ) (q : Request) (told : Reply) : Type 0 where
@@ -30,3 +33,34 @@ granted h new who q told other served = by (get h.tenants who) refl served.answe
     by : (o : Option Tenant) → get h.tenants who ≡ o → AnswersTo h who (option_map (account h.journal who) o) q told (account_of new who) → IsGranted h who q told
     by None at is = absurd (other NoTenant is.0)
     by (Some t) at is = record { tenant = t; after = is.0; there = at; gets = gets t is.0 told refl is.2 }
+
+-- what is counted is a change, with which the journal is longer by one
+pub counted_longer : (h new : HallState) (who : List ℕ) (q : Request) (n : ℕ) → IsServed h who q (Counted n) new → length new.journal ≡ length h.journal + 1
+counted_longer h new who (request.Alter change) n served =
+    ap (λ (a : HallState). length a.journal) served.after ∙ length-append h.journal (record { tenant = who; change = change } ∷ [])
+counted_longer h new who (request.Seek query) n served = let told = (granted h new who (request.Seek query) (Counted n) (λ f is. cc) served).gets.0 in cc
+counted_longer h new who (request.Poll k) n served = let told = (granted h new who (request.Poll k) (Counted n) (λ f is. cc) served).gets.2 in cc
+counted_longer h new who (request.Close k) n served = let told = (granted h new who (request.Close k) (Counted n) (λ f is. cc) served).gets.0 in cc
+counted_longer h new who request.Vault n served = let told = (granted h new who request.Vault (Counted n) (λ f is. cc) served).gets.0 in cc
+counted_longer h new who request.Sees n served = let told = (granted h new who request.Sees (Counted n) (λ f is. cc) served).gets.0 in cc
+counted_longer h new who (request.Proof k member) n served = let told = (granted h new who (request.Proof k member) (Counted n) (λ f is. cc) served).gets.4 in cc
+
+-- a pass that is told of no change has only seen the journal
+pub pass_seeing : (old : PassState) (seen : ℕ) (told : Reply) → ((n : ℕ) → told ≡ Counted n → ⊥) → pass_after old seen told ≡ record old { front = seen }
+pass_seeing old seen (Counted n) other = absurd (other n refl)
+pass_seeing old seen _ other = refl
+
+-- a pass that is told of a change, of which the journal is longer by one
+pub pass_counting : (old shown new : PassState) (seen front : ℕ) (told : Reply) (n : ℕ) → told ≡ Counted n → shown ≡ record old { front = seen } → front ≡ seen + 1 →
+    new ≡ record { tenant = shown.tenant; front = front; share = shown.share + 1 } → new ≡ pass_after old seen told
+pass_counting old shown new seen front told n counted is longer counts =
+    counts
+    ∙ ap (λ (p : PassState). record { tenant = p.tenant; front = front; share = p.share + 1 }) is
+    ∙ ap (λ k. record old { front = k; share = old.share + 1 }) longer
+    ∙ sym (ap (pass_after old seen) counted)
+
+-- the same request of the same tenant, in the same hall
+pub served_same : (h g new : HallState) (who tenant : List ℕ) (q wanted : Request) (told : Reply) → h ≡ g → who ≡ tenant → q ≡ wanted → IsServed h who q told new → IsServed g tenant wanted told new
+served_same h g new who tenant q wanted told hall name request served =
+    subst (λ (a : HallState). IsServed a tenant wanted told new) hall
+    (subst (λ (n : List ℕ). IsServed h n wanted told new) name (subst (λ (r : Request). IsServed h who r told new) request served))

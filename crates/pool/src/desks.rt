@@ -4,6 +4,7 @@ ghost use Rattle.std.specs.Sync.Mutex.{mutex_guard_value};
 ghost use Rattle.names.specs.Name.{is_same};
 ghost use Rattle.hall.specs.declared.calls.requests.Request.TheVariants as request;
 ghost use Rattle.hall.specs.declared.calls.replies.Reply.TheVariants as reply;
+ghost use Rattle.pool.specs.Laws.{CountsAreSeen, NumbersAreCounted, VaultsAreOwn, SightsAreOwn, VerdictsAreOwn};
 ghost use Rattle.pool.specs.Passes.{shares_of};
 ghost use Rattle.pool.specs.Rooms.{IsKept};
 ghost use Rattle.pool.specs.Refusals.{IsPassRefusal};
@@ -36,7 +37,7 @@ pub struct Desk<L: Ledger> {
     /// the lock, so that a contract can tell who gets a pass.
     over: Bells,
     /// Where workers wait for something to do.
-    work: Condvar,
+    pub(crate) work: Condvar,
 }
 
 impl<L: Ledger> Model for Desk<L> {
@@ -281,23 +282,30 @@ impl<L: Ledger> Desk<L> {
         found
     }
 
-    /// For a worker: hands in all that it holds, and answers how many letters are finished.
+    /// For a worker: hands in all that it holds, and answers how many letters are finished. They are letters of one search,
+    /// that of the last one: it alone is looked at, whether those who wait for its end are to be woken.
     pub(crate) fn hand_in<R: Wait>(&self, rt: &R, looked: &mut Vec<Looked>) -> u64
         ensures most { result ≤ vec_len looked.old }
         ensures empty { vec_len looked.new ≡ 0 }
         ensures capacity { vec_capacity looked.new ≡ vec_capacity looked.old }
     {
-        if looked.is_empty() {
+        let Some(last) = looked.last() else {
             return 0;
-        }
+        };
+        let (who, number) = (*last.job.who(), last.job.number());
         let mut room = self.enter(rt);
         let finished = room.hand_in_all(looked);
+        room.note(who, number);
         self.release(room);
         finished
     }
-
-    /// For a worker that ends: another one goes on.
-    pub(crate) fn replace_worker(&self) {
-        self.work.notify_one();
-    }
 }
+
+/// What a desk tells a tenant of vaults, names and searches is the tenant's own, and changes and searches are counted from 1.
+pub fn replies_are_own()
+    ensures counts { CountsAreSeen }
+    ensures numbers { NumbersAreCounted }
+    ensures vaults { VaultsAreOwn }
+    ensures sights { SightsAreOwn }
+    ensures verdicts { VerdictsAreOwn }
+{}

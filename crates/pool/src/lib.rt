@@ -11,7 +11,6 @@ mod bells;
 mod desk_tests;
 mod desks;
 mod faults;
-mod laws;
 mod passes;
 mod rooms;
 #[cfg(test)]
@@ -20,9 +19,8 @@ mod verdicts;
 mod visits;
 mod workers;
 
-pub use desks::Desk;
+pub use desks::{Desk, replies_are_own};
 pub use faults::{DeskFault, Told};
-pub use laws::replies_are_own;
 pub use passes::Pass;
 pub use rooms::PARTS;
 pub use verdicts::{Gathered, Ticket, Verdict};

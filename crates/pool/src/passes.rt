@@ -44,7 +44,6 @@ impl<L: Ledger> Pass<L> {
     pub fn tenant(&self) -> Entity
         ensures { result ≡ self.now.tenant }
     {
-        let _ = &self.share;
         self.tenant
     }
 
@@ -52,7 +51,6 @@ impl<L: Ledger> Pass<L> {
     pub fn front(&self) -> u64
         ensures { result ≡ self.now.front }
     {
-        let _ = &self.share;
         self.front
     }
 
@@ -60,7 +58,6 @@ impl<L: Ledger> Pass<L> {
     pub fn share(&self) -> u64
         ensures { result ≡ self.now.share }
     {
-        let _ = &self.share;
         self.told
     }
 
@@ -68,7 +65,6 @@ impl<L: Ledger> Pass<L> {
     pub(crate) fn see(&mut self, length: u64)
         ensures { self.new ≡ record self.old { front = length } }
     {
-        let _ = &self.share;
         self.front = length;
     }
 

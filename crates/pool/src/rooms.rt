@@ -96,9 +96,7 @@ impl<L: Ledger> Room<L> {
         ensures refused { IfErr result (λ f. f ≡ DeskFault.Hall Fault.Memory) }
         ensures full { OnErr result (self.old.out ≡ MOST_OUT) }
         ensures err { OnErr result (self.new ≡ self.old) }
-        ensures kept { IsKept self.old }
     {
-        self.kept();
         if self.out == MOST_OUT {
             return Err(DeskFault::Hall(Fault::Memory));
         }
@@ -130,21 +128,14 @@ impl<L: Ledger> Room<L> {
     {
         self.show(pass)?;
         let who = pass.tenant();
-        self.note_closing(who, &request);
+        if let Request::Close(number) = request {
+            self.ended = Some((who, number));
+        }
         let reply = self.hall.ask(who, request)?;
         if let Reply::Counted(_) = reply {
             pass.count(&mut self.book, self.hall.journal_len());
         }
         Ok(reply)
-    }
-
-    /// Notes the search that the tenant's request takes away, if it does.
-    fn note_closing(&mut self, who: Entity, request: &Request)
-        ensures { self.new ≡ self.old }
-    {
-        if let Request::Close(number) = *request {
-            self.ended = Some((who, number));
-        }
     }
 
     /// Where the request reads a completed search of the pass's tenant, that search: it doesn't change any more, so the reply
@@ -179,13 +170,9 @@ impl<L: Ledger> Room<L> {
     pub(crate) fn is_over(&self, who: Entity, number: u64, front: u64) -> bool
         ensures { (result ≡ false) ↔ GoesOnWaiting self.now who number front }
     {
-        if self.stopped || self.hall.journal_len() < front {
-            return true;
-        }
-        match self.hall.search(who, number) {
-            Some(search) => search.status() != Status::Working,
-            None => true,
-        }
+        let search = self.hall.search(who, number);
+        let is_working = search.is_some_and(|search| search.status() == Status::Working);
+        self.stopped || self.hall.journal_len() < front || !is_working
     }
 
     /// Takes a pass back, with its share.
@@ -194,12 +181,7 @@ impl<L: Ledger> Room<L> {
         ensures left { self.new.left ≡ self.old.left + pass.share }
         ensures room { self.new ≡ record self.old { out = self.new.out; left = self.new.left } }
     {
-        let Pass {
-            tenant: _tenant,
-            front: _front,
-            told,
-            share,
-        } = pass;
+        let Pass { told, share, .. } = pass;
         self.rest.merge(share);
         self.book.audit(&mut self.rest);
         let _length = self.hall.journal_len();
@@ -220,9 +202,7 @@ impl<L: Ledger> Room<L> {
         ensures out { IfErr result (λ e. (e.0 ≡ DeskFault.PassesOut) × (e.1.items ≡ passes.items)) }
         ensures too_few { OnErr result (vec_len passes < self.old.out) }
         ensures err { OnErr result (self.new ≡ self.old) }
-        ensures kept { IsKept self.old }
     {
-        self.kept();
         if (passes.len() as u64) < self.out {
             return Err((DeskFault::PassesOut, passes));
         }
@@ -241,7 +221,6 @@ impl<L: Ledger> Room<L> {
     pub(crate) fn stop(&mut self)
         ensures { self.new ≡ record self.old { stopped = true } }
     {
-        let _ = &self.book;
         self.stopped = true;
     }
 }

@@ -43,7 +43,7 @@ impl<L: Ledger> Room<L> {
     }
 
     /// Notes whether the search has come to an end, or is there no longer.
-    fn note(&mut self, who: Entity, number: u64)
+    pub(crate) fn note(&mut self, who: Entity, number: u64)
         ensures { self.new ≡ self.old }
     {
         if self.is_over(who, number, 0) {
@@ -97,8 +97,7 @@ impl<L: Ledger> Room<L> {
         false
     }
 
-    /// Hands in all that a worker holds, and answers how many are finished. They are letters of one search, that of the last
-    /// one: it alone is looked at, whether those who wait for its end are to be woken.
+    /// Hands in all that a worker holds, and answers how many are finished.
     pub(crate) fn hand_in_all(&mut self, looked: &mut Vec<Looked>) -> u64
         ensures handed_in { AreHandedIn self.old.stopped self.old.hall looked.old.items result self.new.hall }
         ensures journal { self.new.hall.journal ≡ self.old.hall.journal }
@@ -107,17 +106,12 @@ impl<L: Ledger> Room<L> {
         ensures empty { vec_len looked.new ≡ 0 }
         ensures capacity { vec_capacity looked.new ≡ vec_capacity looked.old }
     {
-        let Some(first) = looked.last() else {
-            return 0;
-        };
-        let (who, number) = (*first.job.who(), first.job.number());
         let mut finished = 0;
         while let Some(one) = looked.pop() {
             if self.hand_in(one) {
                 finished += 1;
             }
         }
-        self.note(who, number);
         finished
     }
 }

@@ -56,7 +56,7 @@ fn look_up_all<G: Gate>(gate: &G, held: &mut Vec<Job>, looked: &mut Vec<Looked>)
     }
 }
 
-/// Works until the desk is stopped, or memory is refused. Room for the letters is taken first.
+/// Works until the desk is stopped, or memory is refused; then another worker goes on. Room for the letters is taken first.
 fn work<L: Ledger, G: Gate, R: Wait>(rt: &R, alloc: Global, desk: &Desk<L>, gate: &G) -> Worked {
     let mut held = Vec::with_capacity(alloc, BATCH).ok()?;
     let Ok(mut looked) = Vec::with_capacity(alloc, BATCH) else {
@@ -73,7 +73,7 @@ fn work<L: Ledger, G: Gate, R: Wait>(rt: &R, alloc: Global, desk: &Desk<L>, gate
             break;
         }
     }
-    desk.replace_worker();
+    desk.work.notify_one();
     held.destroy_empty();
     looked.destroy_empty();
     (found != Found::NoMemory).then_some(finished)
@@ -114,9 +114,7 @@ pub fn run_workers<L: Ledger + Send + Sync, G: Gate, R: Threads + Wait + Sync>(
     ensures done { IfOk result (DoneBy n) }
     ensures refused { IfErr result IsWorkRefusal }
 {
-    let Ok(mut handles) = Vec::with_capacity(alloc, n as usize) else {
-        return Err(DeskFault::Hall(Fault::Memory));
-    };
+    let mut handles = Vec::with_capacity(alloc, n as usize).map_err(Fault::from)?;
     thread::scope(
         thread::scope_env(),
         rt,
@@ -127,14 +125,12 @@ pub fn run_workers<L: Ledger + Send + Sync, G: Gate, R: Threads + Wait + Sync>(
         {
             let mut refused = false;
             for _worker in 0..n {
-                match scope.spawn(move || work(rt, alloc, desk, gate)) {
-                    Ok(handle) => handles.push_reserved(handle),
-                    Err(_) => refused = true,
-                }
-                if refused {
+                let Ok(handle) = scope.spawn(move || work(rt, alloc, desk, gate)) else {
                     desk.stop(rt);
+                    refused = true;
                     break;
-                }
+                };
+                handles.push_reserved(handle);
             }
             let all = join_all(rt, handles);
             if refused {

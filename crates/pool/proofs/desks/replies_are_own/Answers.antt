@@ -1,5 +1,5 @@
 use Rattle.pool.proofs.Own.{counts_seen, numbers_counted, vaults_own, sights_own, verdicts_own}
-use Rattle.pool.proofs.laws.replies_are_own.Goals as goal
+use Rattle.pool.proofs.desks.replies_are_own.Goals as goal
 
 pub returns-clause-counts : goal.returns-clause-counts
 returns-clause-counts c = counts_seen
