@@ -21,7 +21,7 @@ if_true Q false e p = cc
 -- want of memory, where nothing was written
 pub unwritten : (found : Option (Text × List Row)) (input out : Option (List ℕ)) → IfSome input (λ bytes. Failed found (commands_of bytes) (Appends out out))
 unwritten found None out = tt
-unwritten found (Some bytes) out = either_way (is_serve found) (inl (Appends-nothing out)) (Memory, Appends-nothing out)
+unwritten found (Some bytes) out = either_way (is_serve found) (inl (Appends-nothing out)) (Memory, inl (Appends-nothing out))
 
 -- a service that ended after so many connections
 pub served_all : (found : Option (Text × List Row)) (accept : Option ℕ) (input : Option (List ℕ)) (out : List ℕ → Type 0) → is_serve found ≡ true →

@@ -91,7 +91,7 @@ rows_named [] rows rest has = absurd has
 rows_named (too_long ∷ ls) rows rest has = absurd has
 rows_named (not_ascii ∷ ls) rows rest has = absurd has
 rows_named (text line ∷ ls) [] rest has = tt
-rows_named (text line ∷ ls) (row ∷ rows) rest has = (has.0.is_row.is_name, rows_named ls rows rest has.1)
+rows_named (text line ∷ ls) (row ∷ rows) rest has = (has.0.is_name, rows_named ls rows rest has.1)
 
 -- so a tenant with limits does
 limited_named : (tenant : List ℕ) (rows : List Row) (limits : Quota) → AllByRecursion (λ row. IsName row.name) rows → limits_of tenant rows ≡ Some limits → IsName tenant

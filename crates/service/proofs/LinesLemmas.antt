@@ -1,6 +1,7 @@
 -- Lemmas on what a line reader gives.
-use Rattle.std.proofs.Common.{◌≡◌, ℕ, ◌<◌, List, [], ◌∷◌, ◌++◌, length, map, arith, refl, ap, ◌∙◌, append_assoc, Option, None, Some}
-use Rattle.std.specs.Prelude.{IfSome}
+use Rattle.std.proofs.Common.{◌≡◌, ℕ, ◌<◌, List, [], ◌∷◌, ◌++◌, length, map, take, false, arith, refl, sym, subst, ap, ◌∙◌, append_assoc, Option, None, Some}
+use Rattle.std.specs.Prelude.{IfSome, ◌==◌}
+use Rattle.std.proofs.lemmas.Bool.{false≢true}
 use Rattle.std.specs.Str.Lines.{strip_carriage_return}
 use Rattle.std.specs.Io.KnownBytes.{Consumes}
 use Rattle.service.specs.declared.lines.NextLine.{NextLine}
@@ -34,17 +35,12 @@ Gives-newline (Some bytes) (Some rest) raw answer none taken shows =
     (ap lines_of (taken ∙ append_assoc raw (10 ∷ []) rest) ∙ ap (map line_of) (lines-newline raw rest none))
 
 -- the last line, which no newline ends
-Gives-last : (old : Option (List ℕ)) (raw : List ℕ) (answer : NextLine) → HasNoNewline raw → 0 < length raw → IfSome old (λ bytes. bytes ≡ raw) → Shows answer (line_of raw) → Gives (source_of old) answer (known [])
+pub Gives-last : (old : Option (List ℕ)) (raw : List ℕ) (answer : NextLine) → HasNoNewline raw → 0 < length raw → IfSome old (λ bytes. bytes ≡ raw) → Shows answer (line_of raw) → Gives (source_of old) answer (known [])
 Gives-last None raw answer none some all shows = Gives-unknown answer (line_of raw) (known []) shows
 Gives-last (Some bytes) raw answer none some all shows =
     Gives-shown answer (line_of raw) bytes [] shows (ap lines_of all ∙ ap (map line_of) (lines-last raw none some))
 
--- no further line
-Gives-end : (old : Option (List ℕ)) → IfSome old (λ bytes. bytes ≡ []) → Gives (source_of old) End (known [])
-Gives-end None all = refl
-Gives-end (Some bytes) all = (all, refl)
-
--- at the end of the input: the last line, or none
-pub Gives-at_end : (old : Option (List ℕ)) (raw : List ℕ) (answer : NextLine) → HasNoNewline raw → IfSome old (λ bytes. bytes ≡ raw) → (raw ≡ [] → answer ≡ End) → (0 < length raw → Shows answer (line_of raw)) → Gives (source_of old) answer (known [])
-Gives-at_end old [] answer none all end shows = rw (end refl) (Gives-end old all)
-Gives-at_end old (b ∷ bs) answer none all end shows = Gives-last old (b ∷ bs) answer none (omega arith) all (shows (omega arith))
+-- where something was kept there is a last line
+pub some_taken : (kept raw : List ℕ) → kept ≡ take 4098 raw → (length kept == 0) ≡ false → 0 < length raw
+some_taken kept [] is some = absurd (false≢true (sym (subst (λ (bytes : List ℕ). (length bytes == 0) ≡ false) is some)))
+some_taken kept (b ∷ bs) is some = omega arith

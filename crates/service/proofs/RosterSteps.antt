@@ -1,15 +1,16 @@
 -- What is known of a roster that is being read, line after line.
-use Rattle.std.proofs.Common.{◌≡◌, ℕ, List, [], ◌∷◌, ◌++◌, refl, subst, Ok, Err}
-use Rattle.std.specs.Prelude.{⊤}
+use Rattle.std.proofs.Common.{◌≡◌, ℕ, true, false, List, [], ◌∷◌, ◌++◌, refl, sym, ap, ◌∙◌, subst, Ok, Err}
+use Rattle.std.specs.Prelude.{not, filter}
+use Rattle.std.specs.List.{list_all}
 use Rattle.service.specs.declared.faults.ScriptFault.{ScriptFault}
 use Rattle.service.specs.declared.faults.ScriptFault.TheVariants as fault
-use Rattle.service.specs.declared.rosters.RosterLine.TheVariants.{Blank, Tenant, Begin}
-use Rattle.service.specs.Line.{Line, commands_of}
-use Rattle.service.specs.LineReader.{Source, known, unknown, failed, IfKnown}
-use Rattle.service.specs.Roster.{Row, IsRoster, HasNoRoster}
-use Rattle.service.specs.RosterReading.{FindsLine, AddsRow, ReadsRoster}
-use Rattle.service.proofs.RosterLemmas.{LeavesLines, LeavesLines-all, LeavesLines-row, HasNoRoster-otherwise, HasNoRoster-empty}
-use Rattle.service.proofs.RosterLemmas.{HasNoRoster-refused, HasRoster-read}
+use Rattle.service.specs.declared.lines.NextLine.{NextLine}
+use Rattle.service.specs.declared.lines.NextLine.TheVariants.{Text, Long, NotAscii, End, Fault}
+use Rattle.service.specs.Line.{Line, text, is_blank, lines_of, commands_of}
+use Rattle.service.specs.LineReader.{Source, known, unknown, failed, Shows, Gives, IfKnown}
+use Rattle.service.specs.Roster.{Row, IsRow, IsBegin, IsRoster, AddsRow, ReadsRoster}
+use Rattle.service.specs.Words.{is_space}
+use Rattle.service.proofs.RosterLemmas.{LeavesLines, LeavesLines-all, LeavesLines-row, HasNoRoster-refused, HasRoster-read}
 
 -- the first of these lines are the rows, and the others are left
 abbrev pub SoFar : List Line → List Row → Source → Type 0
@@ -21,6 +22,20 @@ SoFar-start (known bytes) = (bytes, refl, LeavesLines-all (commands_of bytes))
 SoFar-start unknown = tt
 SoFar-start failed = tt
 
+-- those of the lines that are not blank
+abbrev not_blank : List Line → List Line
+not_blank lines = filter (λ line. not (is_blank line)) lines
+
+-- a line that was given, blank or not, was the first of what was left
+given : (mid new : Source) (answer : NextLine) (line : Line) → Gives mid answer new → Shows answer line → IfKnown mid (λ lines. (rest : List ℕ) × (new ≡ known rest) × (lines ≡ not_blank (line ∷ lines_of rest)))
+given unknown new answer line gives shows = tt
+given failed new answer line gives shows = tt
+given (known bytes) new (Text t) line gives shows = (gives.0, gives.1, ap not_blank gives.2 ∙ ap (λ l. not_blank (l ∷ lines_of gives.0)) (sym shows))
+given (known bytes) new Long line gives shows = (gives.0, gives.1, ap not_blank gives.2 ∙ ap (λ l. not_blank (l ∷ lines_of gives.0)) (sym shows))
+given (known bytes) new NotAscii line gives shows = (gives.0, gives.1, ap not_blank gives.2 ∙ ap (λ l. not_blank (l ∷ lines_of gives.0)) (sym shows))
+given (known bytes) new End line gives shows = absurd shows
+given (known bytes) new Fault line gives shows = absurd shows
+
 -- what follows from the rows so far and from the next line
 next : {P Q : List Line → Type 0} (first mid : Source) (rows : List Row) → IfKnown first (λ lines. SoFar lines rows mid) → IfKnown mid Q → ((lines left : List Line) → LeavesLines lines rows left → Q left → P lines) → IfKnown first P
 next {Q = Q} (known bytes) mid rows so_far found follows =
@@ -28,53 +43,35 @@ next {Q = Q} (known bytes) mid rows so_far found follows =
 next unknown mid rows so_far found follows = tt
 next failed mid rows so_far found follows = tt
 
--- a blank line changes nothing
-pub SoFar-blank : (first mid new : Source) (rows : List Row) → IfKnown first (λ lines. SoFar lines rows mid) → IfKnown mid (λ lines. FindsLine lines (Ok Blank) new) → IfKnown first (λ lines. SoFar lines rows new)
-SoFar-blank first mid new rows so_far found =
-    next first mid rows so_far found
-    (λ lines left leaves blank. (blank.rest, blank.left, subst (λ (there : List Line). LeavesLines lines rows there) blank.same leaves))
+module _ (first mid new : Source) (rows : List Row) (answer : NextLine) (line : List ℕ)
+    (so_far : IfKnown first (λ lines. SoFar lines rows mid)) (gives : Gives mid answer new) (shows : Shows answer (text line)) where
+  -- a blank line changes nothing
+  pub SoFar-blank : list_all is_space line ≡ true → IfKnown first (λ lines. SoFar lines rows new)
+  SoFar-blank blank =
+      next first mid rows so_far (given mid new answer (text line) gives shows)
+      (λ lines left leaves taken. (taken.0, taken.1, subst (λ (there : List Line). LeavesLines lines rows there) (taken.2 ∙ rw blank refl) leaves))
 
--- one row more
-pub SoFar-row : (first mid new : Source) (rows : List Row) (row : Row) → IfKnown first (λ lines. SoFar lines rows mid) → IfKnown mid (λ lines. FindsLine lines (Ok (Tenant row)) new) → IfKnown first (λ lines. SoFar lines (rows ++ row ∷ []) new)
-SoFar-row first mid new rows row so_far found =
-    next first mid rows so_far found
-    (λ lines left leaves finds.
-    let taken = finds.2 in
-    (taken.rest, taken.left, LeavesLines-row lines rows left finds.0 (commands_of taken.rest) row leaves taken.first finds.1))
+  -- another line is the first of those that are not blank
+  spoken : list_all is_space line ≡ false → IfKnown mid (λ lines. (rest : List ℕ) × (new ≡ known rest) × (lines ≡ text line ∷ commands_of rest))
+  spoken filled = rw filled at (given mid new answer (text line) gives shows)
 
--- a fact that is no fact
-nothing : (source : Source) → IfKnown source (λ lines. ⊤)
-nothing (known bytes) = tt
-nothing unknown = tt
-nothing failed = tt
+  -- one row more
+  pub SoFar-row : (row : Row) → list_all is_space line ≡ false → IsRow line row → IfKnown first (λ lines. SoFar lines (rows ++ row ∷ []) new)
+  SoFar-row row filled is =
+      next first mid rows so_far (spoken filled)
+      (λ lines left leaves taken. (taken.0, taken.1, LeavesLines-row lines rows left line (commands_of taken.0) row leaves taken.2 is))
 
--- no line was found: the lines are faulty, or could not be read
-pub ReadsRoster-unread : (first mid new : Source) (rows : List Row) (why : ScriptFault) → IfKnown first (λ lines. SoFar lines rows mid) → IfKnown mid (λ lines. FindsLine lines (Err why) new) → IfKnown first (λ lines. ReadsRoster lines (Err why) new)
-ReadsRoster-unread first mid new rows fault.Roster so_far found =
-    next first mid rows so_far found (λ lines left leaves starts. HasNoRoster-otherwise lines rows left leaves starts)
-ReadsRoster-unread first mid new rows fault.Read so_far found = nothing first
-ReadsRoster-unread first mid new rows fault.Memory so_far found = nothing first
-ReadsRoster-unread first mid new rows fault.Write so_far found = next first mid rows so_far found (λ lines left leaves none. none)
+  -- no row was added: a roster has none there, or memory lacked
+  pub ReadsRoster-refused : (after : List Row) (why : ScriptFault) → list_all is_space line ≡ false → (IsBegin line → rows ≡ []) → AddsRow rows line (Err why) after → IfKnown first (λ lines. ReadsRoster lines (Err why) new)
+  ReadsRoster-refused after fault.Roster filled no_end adds =
+      next first mid rows so_far (spoken filled)
+      (λ lines left leaves taken. HasNoRoster-refused lines rows left line (commands_of taken.0) leaves taken.2 no_end adds)
+  ReadsRoster-refused after fault.Read filled no_end adds = absurd adds
+  ReadsRoster-refused after fault.Memory filled no_end adds = next first mid rows so_far (spoken filled) (λ lines left leaves taken. tt)
+  ReadsRoster-refused after fault.Write filled no_end adds = absurd adds
 
--- a tenant was not added: it is one too many, its name stands before, or memory lacked
-pub ReadsRoster-refused : (first mid new : Source) (rows after : List Row) (row : Row) (why : ScriptFault) → IfKnown first (λ lines. SoFar lines rows mid) → IfKnown mid (λ lines. FindsLine lines (Ok (Tenant row)) new) → AddsRow rows row (Err why) after → IfKnown first (λ lines. ReadsRoster lines (Err why) new)
-ReadsRoster-refused first mid new rows after row fault.Roster so_far found adds =
-    next first mid rows so_far found
-    (λ lines left leaves finds. HasNoRoster-refused lines rows left finds.0 (commands_of finds.2.rest) row leaves finds.2.first finds.1 adds)
-ReadsRoster-refused first mid new rows after row fault.Read so_far found adds = absurd adds
-ReadsRoster-refused first mid new rows after row fault.Memory so_far found adds = nothing first
-ReadsRoster-refused first mid new rows after row fault.Write so_far found adds = absurd adds
-
--- `begin`, where there is no tenant
-pub ReadsRoster-empty : (first mid new : Source) (rows : List Row) → rows ≡ [] → IfKnown first (λ lines. SoFar lines rows mid) → IfKnown mid (λ lines. FindsLine lines (Ok Begin) new) → IfKnown first (λ lines. HasNoRoster lines)
-ReadsRoster-empty first mid new rows none so_far found =
-    next first mid rows so_far found
-    (λ lines left leaves finds.
-    HasNoRoster-empty lines left (commands_of finds.2.rest) finds.0 (subst (λ (rs : List Row). LeavesLines lines rs left) none leaves) finds.2.first finds.1)
-
--- `begin`, after a tenant
-pub ReadsRoster-begin : (first mid new : Source) (rows : List Row) → IsRoster rows → IfKnown first (λ lines. SoFar lines rows mid) → IfKnown mid (λ lines. FindsLine lines (Ok Begin) new) → IfKnown first (λ lines. ReadsRoster lines (Ok rows) new)
-ReadsRoster-begin first mid new rows roster so_far found =
-    next first mid rows so_far found
-    (λ lines left leaves finds.
-    (finds.2.rest, finds.2.left, HasRoster-read lines rows left finds.0 (commands_of finds.2.rest) leaves finds.2.first finds.1 roster))
+  -- `begin`, after a tenant
+  pub ReadsRoster-begin : IsRoster rows → list_all is_space line ≡ false → IsBegin line → IfKnown first (λ lines. ReadsRoster lines (Ok rows) new)
+  ReadsRoster-begin roster filled begin =
+      next first mid rows so_far (spoken filled)
+      (λ lines left leaves taken. (taken.0, taken.1, HasRoster-read lines rows left line (commands_of taken.0) leaves taken.2 begin roster))

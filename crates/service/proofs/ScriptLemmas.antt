@@ -6,16 +6,14 @@ use Rattle.std.proofs.lemmas.List.{append-nil}
 use Rattle.quotas.specs.Quota.{Quota}
 use Rattle.hall.specs.Hall.{new_hall}
 use Rattle.service.specs.declared.faults.ScriptFault.{ScriptFault}
-use Rattle.service.specs.declared.faults.ScriptFault.TheVariants.{Roster, Read, Write, Memory}
 use Rattle.service.specs.declared.conversations.Flow.TheVariants.{GoesOn, Ends}
 use Rattle.service.specs.declared.conversations.SessionEnd.{SessionEnd}
 use Rattle.service.specs.declared.conversations.SessionEnd.TheVariants as end
 use Rattle.service.specs.Line.{Line, commands_of}
 use Rattle.service.specs.LineReader.{Source, known, unknown, failed, source_of, IfKnown}
 use Rattle.service.specs.Conversation.{MayTalk, Conversed}
-use Rattle.service.specs.Written.{WroteUpTo, MayReply, Wrote, ScriptWrote}
-use Rattle.service.specs.Roster.{Row, tenant_of, HasRoster}
-use Rattle.service.specs.RosterReading.{ReadsRoster, AnswersFault}
+use Rattle.service.specs.Written.{WroteUpTo, MayReply, Wrote, AnswersFault, ScriptWrote}
+use Rattle.service.specs.Roster.{Row, tenant_of, HasRoster, ReadsRoster}
 use Rattle.service.specs.Turn.{ScriptAnswers, script_result}
 use Rattle.service.proofs.TranscriptLemmas.{MayReply-talk, never_ends}
 
@@ -54,10 +52,7 @@ module _ (roster : List (List ℕ × Quota)) (lines : List Line) (out : List ℕ
 ScriptWrote-wrote : (lines commands : List Line) (rows : List Row) (result : Result (Unit {0}) ScriptFault) (out : List ℕ → Type 0) → HasRoster lines rows commands →
     Wrote (map tenant_of rows) commands result out → ScriptWrote lines result out
 ScriptWrote-wrote lines commands rows (Ok u) out roster wrote = record { rows = rows; commands = commands; roster = roster; wrote = wrote }
-ScriptWrote-wrote lines commands rows (Err Roster) out roster wrote = absurd wrote
-ScriptWrote-wrote lines commands rows (Err Read) out roster wrote = inr (record { rows = rows; commands = commands; roster = roster; wrote = wrote })
-ScriptWrote-wrote lines commands rows (Err Write) out roster wrote = inr (record { rows = rows; commands = commands; roster = roster; wrote = wrote })
-ScriptWrote-wrote lines commands rows (Err Memory) out roster wrote = absurd wrote
+ScriptWrote-wrote lines commands rows (Err why) out roster wrote = inr (record { rows = rows; commands = commands; roster = roster; wrote = wrote })
 
 -- the roster, and then its commands
 pub ScriptWrote-after_roster : (source mid : Source) (rows : List Row) (how : SessionEnd) (out : List ℕ → Type 0) → IfKnown source (λ lines. ReadsRoster lines (Ok rows) mid) →
@@ -73,10 +68,7 @@ pub ScriptWrote-fault : (source : Source) (why : ScriptFault) (out : List ℕ �
     IfKnown source (λ lines. ScriptWrote lines (Err why) out)
 ScriptWrote-fault unknown why out answered = tt
 ScriptWrote-fault failed why out answered = tt
-ScriptWrote-fault (known bytes) Roster out answered = answered
-ScriptWrote-fault (known bytes) Read out answered = inl answered
-ScriptWrote-fault (known bytes) Write out answered = inl answered
-ScriptWrote-fault (known bytes) Memory out answered = answered
+ScriptWrote-fault (known bytes) why out answered = inl answered
 
 -- what a script with these bytes wrote
 pub ScriptWrote-known : (remaining : Option (List ℕ)) (source : Source) (result : Result (Unit {0}) ScriptFault) (out : List ℕ → Type 0) → source ≡ source_of remaining → IfKnown source (λ lines. ScriptWrote lines result out) → IfSome remaining (λ input. ScriptWrote (commands_of input) result out)

@@ -1,4 +1,3 @@
-pub mod Accepting
 pub mod Line
 pub mod LineReader
 pub mod Words
@@ -11,6 +10,5 @@ pub mod Outcome
 pub mod Roster
 pub mod Session
 pub mod Served
-pub mod RosterReading
 pub mod Laws
 pub mod Turn

@@ -12,8 +12,6 @@ use Rattle.service.specs.declared.lines.NextLine.{NextLine}
 use Rattle.service.specs.declared.lines.NextLine.TheVariants.{Text, Long, NotAscii, End, Fault}
 use Rattle.service.specs.Line.{Line, text, too_long, not_ascii, is_printable, lines_of, commands_of}
 use Rattle.std.specs.Io.KnownBytes.{Consumes}
-use Rattle.service.specs.declared.lines.LineEnd.{LineEnd}
-use Rattle.service.specs.declared.lines.LineEnd.TheVariants as end
 
 -- these bytes; bytes that the type of the reader does not say; or nothing, since a read has failed
 pub data Source : Type 0 where
@@ -41,8 +39,7 @@ abbrev pub Shows : NextLine → Line → Type 0
 Shows (Text t) line = line ≡ text t.now
 Shows Long line = line ≡ too_long
 Shows NotAscii line = line ≡ not_ascii
-Shows End line = ⊥
-Shows Fault line = ⊥
+Shows _ line = ⊥
 
 -- the line is the first of these bytes, and what is left gives the others
 abbrev pub TakesLine : List ℕ → Line → Source → Type 0
@@ -54,9 +51,7 @@ abbrev pub Gives : Source → NextLine → Source → Type 0
 Gives failed answer new = (answer ≡ Fault) × (new ≡ failed)
 Gives unknown Fault new = new ≡ failed
 Gives unknown End new = new ≡ known []
-Gives unknown (Text t) new = ⊤
-Gives unknown Long new = ⊤
-Gives unknown NotAscii new = ⊤
+Gives unknown answer new = ⊤
 Gives (known bytes) Fault new = new ≡ failed
 Gives (known bytes) End new = (bytes ≡ []) × (new ≡ known [])
 Gives (known bytes) (Text t) new = TakesLine bytes (text t.now) new
@@ -66,28 +61,23 @@ Gives (known bytes) NotAscii new = TakesLine bytes not_ascii new
 -- a text that is given has spaces and visible characters alone, and is no longer than a line may be
 abbrev pub IsText : NextLine → Type 0
 IsText (Text t) = (length t.now ≤ 4096) × (list_all is_printable t.now ≡ true)
-IsText Long = ⊤
-IsText NotAscii = ⊤
-IsText End = ⊤
-IsText Fault = ⊤
+IsText _ = ⊤
 
 -- there is no newline among the bytes
 abbrev pub HasNoNewline : List ℕ → Type 0
 HasNoNewline bytes = All (λ b. b ≢ 10) bytes
 
 -- a line's bytes, of which these are kept, were taken up to its end
-abbrev pub TakesBytes : Option (List ℕ) → LineEnd → List ℕ → Option (List ℕ) → Type 0
-TakesBytes old end.Newline kept new =
-    (raw : List ℕ) × HasNoNewline raw × (kept ≡ take 4098 raw) × Consumes old new (raw ++ 10 ∷ [])
-TakesBytes old end.EndOfInput kept new =
+abbrev pub TakesBytes : Option (List ℕ) → Stage → List ℕ → Option (List ℕ) → Type 0
+TakesBytes old Open kept new = (raw : List ℕ) × HasNoNewline raw × (kept ≡ take 4098 raw) × Consumes old new (raw ++ 10 ∷ [])
+TakesBytes old Ended kept new =
     (raw : List ℕ) × HasNoNewline raw × (kept ≡ take 4098 raw) × IfSome old (λ bytes. bytes ≡ raw)
-TakesBytes old end.Fault kept new = ⊤
+TakesBytes old Failed kept new = ⊤
 
 -- a fact of the lines that are left and not blank, where the bytes are known
 abbrev pub IfKnown : Source → (List Line → Type 0) → Type 0
 IfKnown (known bytes) P = P (commands_of bytes)
-IfKnown unknown P = ⊤
-IfKnown failed P = ⊤
+IfKnown _ P = ⊤
 
 -- the line was the first of these, and the others are left
 pub record TakesFirst (lines : List Line) (line : Line) (new : Source) : Type 0 where

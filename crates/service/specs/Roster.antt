@@ -1,9 +1,12 @@
--- The roster that an input begins with.
-use Rattle.std.specs.Prelude.{◌≡◌, ◌⊎◌, ℕ, ◌<◌, ◌≤◌, List, [], ◌∷◌, length, map, codes, Any, Some}
+-- The roster that an input begins with, and how it is read.
+use Rattle.std.specs.Prelude.{◌≡◌, ◌⊎◌, ⊤, ℕ, ◌<◌, ◌≤◌, List, [], ◌∷◌, ◌++◌, length, map, codes, Any, Some, Result, Ok, Err}
 use Rattle.std.specs.List.{IsDistinct}
 use Rattle.names.specs.Name.{IsName, is_same}
 use Rattle.quotas.specs.Quota.{Quota, IsQuota, usual_quota}
-use Rattle.service.specs.Line.{Line, text, too_long, not_ascii}
+use Rattle.service.specs.declared.faults.ScriptFault.{ScriptFault}
+use Rattle.service.specs.declared.faults.ScriptFault.TheVariants as fault
+use Rattle.service.specs.Line.{Line, text, too_long, not_ascii, commands_of}
+use Rattle.service.specs.LineReader.{Source, known}
 use Rattle.service.specs.Words.{words, number_of}
 
 -- one tenant of a roster: its name, its word and its limits
@@ -25,31 +28,25 @@ pub record AreLimits (ws : List (List ℕ)) (q : Quota) : Type 0 where
 abbrev pub IsLimits : List (List ℕ) → Quota → Type 0
 IsLimits ws q = ((ws ≡ []) × (q ≡ usual_quota)) ⊎ AreLimits ws q
 
--- `NAME WORD`, where the word has at most 64 bytes, and then the limits
-pub record IsRow (args : List (List ℕ)) (row : Row) : Type 0 where
+-- `tenant NAME WORD`, where the word has at most 64 bytes, and then the limits
+pub record IsRow (line : List ℕ) (row : Row) : Type 0 where
   pub numbers : List (List ℕ)
-  pub are : args ≡ row.name ∷ row.word ∷ numbers
+  pub by_words : words line ≡ codes "tenant" ∷ row.name ∷ row.word ∷ numbers
   pub is_name : IsName row.name
   pub short : length row.word ≤ 64
   pub limits : IsLimits numbers row.limits
 
--- `tenant`, then those
-pub record IsRowLine (line : List ℕ) (row : Row) : Type 0 where
-  pub args : List (List ℕ)
-  pub by_words : words line ≡ codes "tenant" ∷ args
-  pub is_row : IsRow args row
-
 -- `begin`
-abbrev pub IsBeginLine : List ℕ → Type 0
-IsBeginLine line = words line ≡ codes "begin" ∷ []
+abbrev pub IsBegin : List ℕ → Type 0
+IsBegin line = words line ≡ codes "begin" ∷ []
 
 -- the lines are those of the rows, one each, then `begin`, and these follow
 abbrev pub HasRows : List Line → List Row → List Line → Type 0
 HasRows [] rows rest = ⊥
 HasRows (too_long ∷ lines) rows rest = ⊥
 HasRows (not_ascii ∷ lines) rows rest = ⊥
-HasRows (text line ∷ lines) [] rest = IsBeginLine line × (lines ≡ rest)
-HasRows (text line ∷ lines) (row ∷ rows) rest = IsRowLine line row × HasRows lines rows rest
+HasRows (text line ∷ lines) [] rest = IsBegin line × (lines ≡ rest)
+HasRows (text line ∷ lines) (row ∷ rows) rest = IsRow line row × HasRows lines rows rest
 
 -- the names of the tenants
 abbrev pub names_of : List Row → List (List ℕ)
@@ -77,3 +74,18 @@ tenant_of row = (row.name, row.limits)
 -- some tenant has this name and this word
 abbrev pub IsTenant : List Row → List ℕ → List ℕ → Type 0
 IsTenant rows name word = Any (λ row. (row.name ≡ name) × (row.word ≡ word)) rows
+
+-- the row of a line was added; or no roster has one there, unless memory lacked
+abbrev pub AddsRow : List Row → List ℕ → Result (Unit {0}) ScriptFault → List Row → Type 0
+AddsRow old line (Ok _) new =
+    (row : Row) × IsRow line row × (new ≡ old ++ row ∷ []) × (IsDistinct is_same (names_of old) → IsRoster new)
+AddsRow old line (Err fault.Roster) new = (row : Row) (more : List Row) → IsRow line row → IsRoster (old ++ row ∷ more) → ⊥
+AddsRow old line (Err fault.Memory) new = ⊤
+AddsRow old line (Err _) new = ⊥
+
+-- the roster was read, or there is none
+abbrev pub ReadsRoster : List Line → Result (List Row) ScriptFault → Source → Type 0
+ReadsRoster lines (Ok rows) new = (rest : List ℕ) × (new ≡ known rest) × HasRoster lines rows (commands_of rest)
+ReadsRoster lines (Err fault.Roster) new = HasNoRoster lines
+ReadsRoster lines (Err fault.Write) new = ⊥
+ReadsRoster lines (Err _) new = ⊤

@@ -1,10 +1,20 @@
--- What a service writes.
-use Rattle.std.specs.Prelude.{◌≡◌, ◌≢◌, ℕ, ◌<◌, ◌^◌, ◌⊎◌, List, [], ◌++◌, Option, Some, Result, Ok, Err, codes}
+-- What ends a service, and what it writes.
+use Rattle.std.specs.Prelude.{◌≡◌, ◌≢◌, ℕ, ◌<◌, ◌^◌, ◌⊎◌, List, [], ◌++◌, Option, Some, Result, Ok, Err, codes, pos}
 use Rattle.std.specs.Fmt.{decimal}
+use Rattle.std.specs.IoError.{error_kind, raw_os_error}
+use Rattle.std.specs.declared.io.Error.{Error}
+use Rattle.std.specs.declared.io.ErrorKind.TheVariants.{InvalidInput, Unsupported, WouldBlock}
 use Rattle.service.specs.declared.faults.ServeFault.{ServeFault}
 use Rattle.service.specs.declared.faults.ServeFault.TheVariants.{Write}
 use Rattle.service.specs.Session.{session_line}
 use Rattle.service.specs.Written.{WroteFront}
+
+-- the error of a failed accept shows that the listener itself is at fault: it isn't listening, no connections can be had of it,
+-- or it doesn't wait for them; its descriptor isn't open, or no socket, which the system tells by these numbers alone
+abbrev pub IsLasting : Error → Type 0
+IsLasting e =
+    (error_kind e ≡ InvalidInput) ⊎ (error_kind e ≡ Unsupported) ⊎ (error_kind e ≡ WouldBlock)
+    ⊎ (raw_os_error e ≡ Some (pos 9)) ⊎ (raw_os_error e ≡ Some (pos 88))
 
 -- the line that tells where it listens
 abbrev pub listening_line : ℕ → List ℕ

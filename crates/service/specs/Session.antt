@@ -1,5 +1,5 @@
 -- What a session is answered, line by line.
-use Rattle.std.specs.Prelude.{◌≡◌, ℕ, List, [], ◌∷◌, ◌++◌, Option, Some, None, Result, Ok, Err, codes, if◌then◌else◌}
+use Rattle.std.specs.Prelude.{◌≡◌, ◌⊎◌, ℕ, ◌==◌, ◌&&◌, List, [], ◌∷◌, ◌++◌, length, Option, Some, None, Result, Ok, Err, codes, if◌then◌else◌}
 use Rattle.std.specs.Str.{bytes_eq}
 use Rattle.hall.specs.declared.calls.replies.Reply.{Reply}
 use Rattle.hall.specs.declared.calls.replies.Reply.TheVariants.{Answered}
@@ -15,6 +15,7 @@ use Rattle.service.specs.declared.conversations.Flow.TheVariants.{GoesOn, Ends}
 use Rattle.service.specs.declared.conversations.SessionEnd.{SessionEnd}
 use Rattle.service.specs.declared.conversations.SessionEnd.TheVariants.{Memory}
 use Rattle.service.specs.declared.refusals.Refusal.{Refusal}
+use Rattle.service.specs.declared.refusals.Refusal.TheVariants as refusal
 use Rattle.service.specs.declared.sessions.Said.{Said}
 use Rattle.service.specs.declared.sessions.Said.TheVariants as said
 use Rattle.service.specs.Command.{Form, form_of, Reads}
@@ -32,34 +33,28 @@ pub data Talk : Type 0 where
   greets_wrongly : Talk
   tells : Talk
 
--- `quit` stands alone
-abbrev pub talk_of_quit : List (List ℕ) → Talk
-talk_of_quit [] = quits
-talk_of_quit _ = tells
-
--- `hello` has two words
+-- `hello` has two words behind it
 abbrev pub talk_of_hello : List (List ℕ) → Talk
 talk_of_hello (name ∷ word ∷ []) = greets name word
 talk_of_hello _ = greets_wrongly
 
--- the first word says which it is
+-- the first word says which it is, and `quit` stands alone
 abbrev pub talk_by_words : List (List ℕ) → Talk
 talk_by_words [] = tells
 talk_by_words (word ∷ args) =
-    if bytes_eq word (codes "quit") then talk_of_quit args
+    if bytes_eq word (codes "quit") && (length args == 0) then quits
     else (if bytes_eq word (codes "hello") then talk_of_hello args
     else tells)
 
 abbrev pub talk_of : List ℕ → Talk
 talk_of line = talk_by_words (words line)
 
--- that is what was heard
-abbrev pub Hears : Talk → Said → Type 0
-Hears quits said.Quit = Unit {0}
-Hears (greets name word) (said.Hello one other) = (one.now ≡ name) × (other.now ≡ word)
-Hears greets_wrongly said.WrongHello = Unit {0}
-Hears tells said.Command = Unit {0}
-Hears _ _ = ⊥
+-- the same of what was heard
+abbrev pub talk_said : Said → Talk
+talk_said said.Quit = quits
+talk_said (said.Hello name word) = greets name.now word.now
+talk_said said.WrongHello = greets_wrongly
+talk_said said.Command = tells
 
 -- a reply line of a session has nothing in front
 abbrev pub session_line : List ℕ → List ℕ
@@ -88,67 +83,52 @@ pub data IsTold (before : PassState) (form : Form) (reply : List ℕ) (after : P
   carried_out : (command : Command) (told : Result Reply DeskFault) → Reads form (Ok command) →
       IsCarriedOut before after command told → IsToldBy told reply → IsTold before form reply after
 
--- where a session stands: nobody has said who it is, or it has this pass of a tenant
-pub data Phase : Type 0 where
-  new : Phase
-  of_tenant : PassState → Phase
-
 abbrev pub bye : List ℕ
 bye = session_line (codes "bye")
 
 abbrev pub hello_to : List ℕ → List ℕ
 hello_to name = session_line (codes "hello " ++ name)
 
--- the pass is a tenant's own, who said its word
-pub record IsLetIn (rows : List Row) (name word : List ℕ) (pass : PassState) : Type 0 where
-  pub known : IsTenant rows name word
-  pub own : pass.tenant ≡ name
-  pub share : pass.share ≡ 0
-  pub admitted : IsAdmitted pass
+-- A tenant with its word is let in by a pass of its own, unless memory lacks for that. Any other hello has the one answer, and
+-- nothing but a hello lets anyone in.
+abbrev pub IsLetIn : List Row → Talk → Result PassState Refusal → Type 0
+IsLetIn rows (greets name word) (Ok pass) =
+    IsTenant rows name word × (pass.tenant ≡ name) × (pass.share ≡ 0) × IsAdmitted pass
+IsLetIn rows (greets name word) (Err why) =
+    ((why ≡ refusal.BadHello) × (IsTenant rows name word → ⊥)) ⊎ ((why ≡ refusal.Memory) × IsTenant rows name word)
+IsLetIn rows greets_wrongly (Err why) = why ≡ refusal.Command
+IsLetIn rows talk (Err why) = why ≡ refusal.NoHello
+IsLetIn rows talk (Ok pass) = ⊥
 
--- A tenant with its word is let in by a pass of its own, unless memory lacks for that. Any other hello has the one answer.
-pub data IsGreeted (rows : List Row) (name word reply : List ℕ) (after : Phase) : Type 0 where
-  let_in : (pass : PassState) → IsLetIn rows name word pass → reply ≡ hello_to name → after ≡ of_tenant pass →
-      IsGreeted rows name word reply after
-  turned_away : (IsTenant rows name word → ⊥) → reply ≡ session_refusal 62 → after ≡ new → IsGreeted rows name word reply after
-  lacks_memory : IsTenant rows name word → reply ≡ session_refusal 90 → after ≡ new → IsGreeted rows name word reply after
+-- what one who has not said who it is gets for a line, and its pass if it is let in
+abbrev pub IsGreeted : List Row → Talk → List ℕ → Option PassState → Type 0
+IsGreeted rows talk reply (Some pass) = IsLetIn rows talk (Ok pass) × (reply ≡ hello_to pass.tenant)
+IsGreeted rows talk reply None = (why : Refusal) × IsLetIn rows talk (Err why) × (reply ≡ session_refusal (refusal_number why))
 
--- what one who has not said who it is gets for a line, and whether the session goes on
-abbrev pub IsFirst : List Row → Talk → List ℕ → Flow → Phase → Type 0
-IsFirst rows quits reply flow after = (reply ≡ bye) × (flow ≡ Ends) × (after ≡ new)
-IsFirst rows (greets name word) reply flow after = IsGreeted rows name word reply after × (flow ≡ GoesOn)
-IsFirst rows greets_wrongly reply flow after = (reply ≡ session_refusal 64) × (flow ≡ GoesOn) × (after ≡ new)
-IsFirst rows tells reply flow after = (reply ≡ session_refusal 61) × (flow ≡ GoesOn) × (after ≡ new)
-
--- what a tenant gets for a line
-abbrev pub IsLater : PassState → Talk → List ℕ → List ℕ → Flow → Phase → Type 0
-IsLater before quits line reply flow after = (reply ≡ bye) × (flow ≡ Ends) × (after ≡ of_tenant before)
-IsLater before talk line reply flow after =
-    (flow ≡ GoesOn) × ((pass : PassState) × (after ≡ of_tenant pass) × IsTold before (form_of line) reply pass)
-
--- what a line is answered, and where the session stands after it
-abbrev pub IsAnswer : List Row → Phase → Line → List ℕ → Flow → Phase → Type 0
-IsAnswer rows before too_long reply flow after = (reply ≡ session_refusal 65) × (flow ≡ GoesOn) × (after ≡ before)
-IsAnswer rows before not_ascii reply flow after = (reply ≡ session_refusal 66) × (flow ≡ GoesOn) × (after ≡ before)
-IsAnswer rows new (text line) reply flow after = IsFirst rows (talk_of line) reply flow after
-IsAnswer rows (of_tenant pass) (text line) reply flow after = IsLater pass (talk_of line) line reply flow after
-
--- a session: who may speak, and where it stands
+-- a session: who may speak, and the pass of the tenant that has said who it is
 pub record SessionState : Type 0 where
   pub rows : List Row
-  pub phase : Phase
+  pub pass : Option PassState
 
+-- what is told by a line that doesn't end the session
+abbrev pub Tells : List Row → Option PassState → Talk → List ℕ → List ℕ → Option PassState → Type 0
+Tells rows None talk line reply after = IsGreeted rows talk reply after
+Tells rows (Some before) talk line reply after = (pass : PassState) × (after ≡ Some pass) × IsTold before (form_of line) reply pass
+
+-- what the text of a line is answered, whether the session goes on, and its pass after it
+abbrev pub IsAnswer : List Row → Option PassState → Talk → List ℕ → List ℕ → Flow → Option PassState → Type 0
+IsAnswer rows before quits line reply flow after = (reply ≡ bye) × (flow ≡ Ends) × (after ≡ before)
+IsAnswer rows before talk line reply flow after = (flow ≡ GoesOn) × Tells rows before talk line reply after
+
+-- how a session's line is answered
 abbrev pub SessionAnswers : SessionState → Line → List ℕ → Flow → SessionState → Type 0
-SessionAnswers before line reply flow after =
-    IsAnswer before.rows before.phase line reply flow after.phase × (after.rows ≡ before.rows)
-
--- where a session with this pass stands
-abbrev pub phase_of : Option PassState → Phase
-phase_of None = new
-phase_of (Some pass) = of_tenant pass
+SessionAnswers before too_long reply flow after = (reply ≡ session_refusal 65) × (flow ≡ GoesOn) × (after ≡ before)
+SessionAnswers before not_ascii reply flow after = (reply ≡ session_refusal 66) × (flow ≡ GoesOn) × (after ≡ before)
+SessionAnswers before (text line) reply flow after =
+    (after.rows ≡ before.rows) × IsAnswer before.rows before.pass (talk_of line) line reply flow after.pass
 
 -- What went out of a session, by its lines that are not blank and by how it ended. Want of memory comes before anything is
 -- written.
 abbrev pub SessionWrote : List Row → List Line → SessionEnd → (List ℕ → Type 0) → Type 0
 SessionWrote rows lines Memory went_out = went_out []
-SessionWrote rows lines end went_out = Conversed SessionAnswers (record { rows = rows; phase = new }) lines end went_out
+SessionWrote rows lines end went_out = Conversed SessionAnswers (record { rows = rows; pass = None }) lines end went_out

@@ -7,7 +7,8 @@ use Rattle.service.specs.declared.faults.ScriptFault.{ScriptFault}
 use Rattle.service.specs.declared.faults.ScriptFault.TheVariants.{Roster, Read, Write, Memory}
 use Rattle.service.specs.Line.{Line}
 use Rattle.service.specs.Outcome.{Outcome, IsTranscript}
-use Rattle.service.specs.Roster.{Row, tenant_of, HasRoster, HasNoRoster}
+use Rattle.service.specs.LineReader.{Source}
+use Rattle.service.specs.Roster.{Row, tenant_of, HasRoster, HasNoRoster, ReadsRoster}
 
 -- a front of the text went out after the output, and not all of it
 pub record WroteFront (output reply : List ℕ) (went_out : List ℕ → Type 0) : Type 0 where
@@ -64,11 +65,23 @@ pub record Answers (lines : List Line) (result : Result (Unit {0}) ScriptFault) 
   pub roster : HasRoster lines rows commands
   pub wrote : Wrote (map tenant_of rows) commands result went_out
 
+-- what a fault of the roster lets out: nothing, unless it is faulty; then the one line, or a front of it
+abbrev pub AnswersFault : List Line → ScriptFault → (List ℕ → Type 0) → Type 0
+AnswersFault lines Roster went_out = HasNoRoster lines × went_out roster_refusal
+AnswersFault lines Write went_out = HasNoRoster lines × WroteFront [] roster_refusal went_out
+AnswersFault lines _ went_out = went_out []
+
+-- the roster was taken from the lines, or a fault of it was answered
+abbrev pub TakesRoster : List Line → Result (List Row) ScriptFault → Source → (List ℕ → Type 0) → Type 0
+TakesRoster lines (Ok rows) new went_out = ReadsRoster lines (Ok rows) new
+TakesRoster lines (Err why) new went_out = AnswersFault lines why went_out
+
+-- the lines begin with this roster, or a fault of it was answered
+abbrev pub OpensWith : List Line → Result (List Row) ScriptFault → (List ℕ → Type 0) → Type 0
+OpensWith lines (Ok rows) went_out = (rest : List Line) × HasRoster lines rows rest
+OpensWith lines (Err why) went_out = AnswersFault lines why went_out
+
 -- What went out of a script, by its lines that are not blank. Want of memory comes before anything is written.
 abbrev pub ScriptWrote : List Line → Result (Unit {0}) ScriptFault → (List ℕ → Type 0) → Type 0
 ScriptWrote lines (Ok u) went_out = Answers lines (Ok u) went_out
-ScriptWrote lines (Err Roster) went_out = HasNoRoster lines × went_out roster_refusal
-ScriptWrote lines (Err Read) went_out = went_out [] ⊎ Answers lines (Err Read) went_out
-ScriptWrote lines (Err Write) went_out =
-    (HasNoRoster lines × WroteFront [] roster_refusal went_out) ⊎ Answers lines (Err Write) went_out
-ScriptWrote lines (Err Memory) went_out = went_out []
+ScriptWrote lines (Err why) went_out = AnswersFault lines why went_out ⊎ Answers lines (Err why) went_out

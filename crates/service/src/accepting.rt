@@ -1,7 +1,7 @@
 //! How connections are accepted: one after another, also after an accept that failed.
 ghost use Rattle.std.specs.Prelude.{◌≡◌, ◌*◌, ◌↔◌, min, IsTrue, IfErr};
 ghost use Rattle.service.specs.declared.faults.ServeFault.TheVariants as fault;
-ghost use Rattle.service.specs.Accepting.{IsLasting, IsLastingKind, IsLastingNumber};
+ghost use Rattle.service.specs.Served.{IsLasting};
 
 use crate::faults::ServeFault;
 use std::io::{Error, ErrorKind};
@@ -49,27 +49,18 @@ fn next_pause(pause: u64) -> u64
     pause.saturating_mul(2).min(LONGEST_PAUSE)
 }
 
-/// Whether a failed accept shows that the listener itself is at fault, so that each later one fails too.
+/// Whether a failed accept shows that the listener itself is at fault, so that each later one fails too: it isn't listening,
+/// no connections can be had of it, it doesn't wait for them, or its descriptor isn't open or no socket.
 fn is_lasting(error: &Error) -> bool
     ensures { IsTrue result ↔ IsLasting error.now }
 {
-    is_lasting_kind(error.kind()) || is_lasting_number(error.raw_os_error())
-}
-
-/// Whether it isn't listening, no connections can be had of it, or it doesn't wait for them.
-fn is_lasting_kind(kind: ErrorKind) -> bool
-    ensures { IsTrue result ↔ IsLastingKind kind }
-{
+    let kind = error.kind();
+    let number = error.raw_os_error();
     kind == ErrorKind::InvalidInput
         || kind == ErrorKind::Unsupported
         || kind == ErrorKind::WouldBlock
-}
-
-/// Whether its descriptor isn't open, or no socket.
-fn is_lasting_number(number: Option<i32>) -> bool
-    ensures { IsTrue result ↔ IsLastingNumber number }
-{
-    number == Some(NOT_OPEN) || number == Some(NO_SOCKET)
+        || number == Some(NOT_OPEN)
+        || number == Some(NO_SOCKET)
 }
 
 #[cfg(test)]

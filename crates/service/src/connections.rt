@@ -1,7 +1,6 @@
 //! The connections of a service: one thread accepts them, and hands them to those that answer.
-ghost use Rattle.std.specs.Prelude.{◌≡◌, ◌≢◌, ◌≤◌, ◌*◌, option_map, IfErr};
+ghost use Rattle.std.specs.Prelude.{◌≡◌, ◌≤◌, ◌*◌, option_map};
 ghost use Rattle.std.specs.Duration.{as_nanos};
-ghost use Rattle.service.specs.declared.faults.ServeFault.TheVariants as fault;
 ghost use Rattle.service.specs.Roster.{names_of};
 ghost use Rattle.service.specs.Served.{Answered};
 
@@ -25,40 +24,17 @@ use std::{io, thread};
 /// How many accepted connections wait for a session that is free. More wait in the listener.
 const QUEUED: usize = 1;
 
-/// Where connections come in.
-#[derive(Drop)]
-struct Entrance {
-    listener: TcpListener,
-    queue: Sender<TcpStream>,
-}
-
-/// Where the sessions find their connections, and what bounds each.
+/// Where the sessions find their connections, and what ends them beside what their peers say.
 #[derive(Drop)]
 struct Arrivals {
     queue: Receiver<TcpStream>,
-    bounds: Bounds,
-}
-
-/// What ends sessions beside what their peers say.
-#[derive(Drop)]
-struct Bounds {
     /// After how many seconds in which its peer says nothing, or takes nothing of a reply. Without a number it goes on.
     idle_seconds: Option<u64>,
     /// Whether the service has stopped on a fault.
     is_stopped: AtomicBool,
 }
 
-impl Bounds {
-    /// The bounds of a service that has just begun.
-    fn new(idle_seconds: Option<u64>) -> Bounds
-        ensures { result.idle_seconds ≡ idle_seconds }
-    {
-        Bounds {
-            idle_seconds,
-            is_stopped: AtomicBool::new(false),
-        }
-    }
-
+impl Arrivals {
     /// Ends each session where it reads.
     fn stop(&self) {
         self.is_stopped.store(true, Ordering::SeqCst);
@@ -92,14 +68,14 @@ impl Bounds {
 #[derive(Drop)]
 struct Says<'a> {
     stream: &'a TcpStream,
-    bounds: &'a Bounds,
+    arrivals: &'a Arrivals,
 }
 
 impl Read for Says<'_> {
     fn read(&mut self, buf: &mut [u8]) -> io::Result<usize> {
-        self.bounds.go_on()?;
+        self.arrivals.go_on()?;
         let count = self.stream.read(buf)?;
-        self.bounds.go_on()?;
+        self.arrivals.go_on()?;
         Ok(count)
     }
 }
@@ -119,35 +95,15 @@ pub(crate) fn answer_connections<L: Ledger + Send + Sync, R: Threads + Wait + Cl
     requires sessions { (1 ≤ options.sessions) × (options.sessions ≤ 64) }
     ensures { Answered options.accept result }
 {
-    let Ok((sender, receiver)) = bounded::<TcpStream, _>(alloc, QUEUED) else {
+    let Ok((sender, queue)) = bounded::<TcpStream, _>(alloc, QUEUED) else {
         return Err(ServeFault::Memory);
     };
-    let entrance = Entrance {
-        listener,
-        queue: sender,
-    };
     let arrivals = Arrivals {
-        queue: receiver,
-        bounds: Bounds::new(options.idle_seconds),
+        queue,
+        idle_seconds: options.idle_seconds,
+        is_stopped: AtomicBool::new(false),
     };
-    answer_arrivals(rt, alloc, desk, roster, entrance, &arrivals, options)
-}
-
-/// Answers what comes in by so many sessions.
-fn answer_arrivals<L: Ledger + Send + Sync, R: Threads + Wait + Clock + Sync>(
-    rt: &R,
-    alloc: Global,
-    desk: &Desk<L>,
-    roster: &Roster,
-    entrance: Entrance,
-    arrivals: &Arrivals,
-    options: ServeOptions,
-) -> Result<u64, ServeFault>
-    requires tenants { desk.now ≡ names_of roster.now }
-    requires sessions { (1 ≤ options.sessions) × (options.sessions ≤ 64) }
-    requires idle { arrivals.now.bounds.idle_seconds ≡ options.idle_seconds }
-    ensures { Answered options.accept result }
-{
+    let arrivals = &arrivals;
     thread::scope(
         thread::scope_env(),
         rt,
@@ -164,52 +120,46 @@ fn answer_arrivals<L: Ledger + Send + Sync, R: Threads + Wait + Clock + Sync>(
                         .is_ok();
             }
             let accepted = if started {
-                accept_all(rt, &entrance, options.accept)
+                accept_all(rt, &listener, &sender, options.accept)
             } else {
                 Err(ServeFault::NoThread)
             };
             if accepted.is_err() {
-                arrivals.bounds.stop();
+                arrivals.stop();
                 desk.stop(rt);
             }
-            drop(entrance);
+            drop(listener);
+            drop(sender);
             accepted
         },
     )
 }
 
-/// Accepts so many connections, or all that come.
+/// Accepts so many connections, or all that come, and waits for each until there is room for it in the queue.
 fn accept_all<R: Wait + Clock>(
     rt: &R,
-    entrance: &Entrance,
+    listener: &TcpListener,
+    queue: &Sender<TcpStream>,
     accept: Option<u64>,
 ) -> Result<u64, ServeFault>
     ensures { Answered accept result }
 {
-    let Some(count) = accept else {
-        for _ in rt.forever() {
-            accept_one(rt, entrance)?;
+    let mut count = 0;
+    for _ in rt.forever() {
+        if accept == Some(count) {
+            return Ok(count);
         }
-        unreachable!()
-    };
-    for _ in 0..count {
-        accept_one(rt, entrance)?;
+        let stream = next_connection(rt, listener)?;
+        if queue.send(rt, stream).is_err() {
+            return Err(ServeFault::Memory);
+        }
+        count = count.saturating_add(1);
     }
-    Ok(count)
+    unreachable!()
 }
 
-/// Accepts a connection, and waits until there is room for it in the queue.
-fn accept_one<R: Wait + Clock>(rt: &R, entrance: &Entrance) -> Result<(), ServeFault>
-    ensures { IfErr result (λ why. why ≢ fault.Write) }
-{
-    let stream = next_connection(rt, &entrance.listener)?;
-    match entrance.queue.send(rt, stream) {
-        Ok(()) => Ok(()),
-        Err(_unsent) => Err(ServeFault::Memory),
-    }
-}
-
-/// Answers connection after connection until the queue ends.
+/// Answers connection after connection until the queue ends. However a session ends, it ends alone. Each reply is sent at
+/// once, and not held back for the next. A connection that can't be bounded isn't answered.
 fn answer_queue<L: Ledger, R: Wait>(
     rt: &R,
     alloc: Global,
@@ -223,27 +173,12 @@ fn answer_queue<L: Ledger, R: Wait>(
         let Ok(stream) = arrivals.queue.recv(rt) else {
             break;
         };
-        answer_peer(rt, alloc, desk, roster, &arrivals.bounds, &stream);
+        let stream = &stream;
+        if arrivals.limit(stream).is_ok() {
+            let _ = stream.set_nodelay(true);
+            let reader = Says { stream, arrivals };
+            let mut writer = stream;
+            let _end = serve_session(rt, alloc, desk, roster, reader, &mut writer);
+        }
     }
-}
-
-/// A session with one peer. However it ends, it ends alone. Each reply is sent at once, and not held back for the next. A
-/// connection that can't be bounded isn't answered.
-fn answer_peer<L: Ledger, R: Wait>(
-    rt: &R,
-    alloc: Global,
-    desk: &Desk<L>,
-    roster: &Roster,
-    bounds: &Bounds,
-    stream: &TcpStream,
-)
-    requires { desk.now ≡ names_of roster.now }
-{
-    if bounds.limit(stream).is_err() {
-        return;
-    }
-    let _ = stream.set_nodelay(true);
-    let reader = Says { stream, bounds };
-    let mut writer = stream;
-    let _end = serve_session(rt, alloc, desk, roster, reader, &mut writer);
 }

@@ -104,21 +104,12 @@ fn hear<H: Host, I: Read + Drop>(
     ensures { IfKnown lines.old (λ commands. Hears H.Answers host.old commands result lines.new host.new reply.new) }
 {
     match lines.next() {
-        NextLine::Text(line) => {
-            if is_blank(line) {
-                return Ok(None);
-            }
-            Ok(Some(host.answer(line, reply)))
-        }
-        NextLine::Long => {
-            host.refuse(Refusal::LineLong, reply);
-            Ok(Some(Flow::GoesOn))
-        }
-        NextLine::NotAscii => {
-            host.refuse(Refusal::NotAscii, reply);
-            Ok(Some(Flow::GoesOn))
-        }
-        NextLine::End => Err(SessionEnd::EndOfInput),
-        NextLine::Fault => Err(SessionEnd::Read),
+        NextLine::Text(line) if is_blank(line) => return Ok(None),
+        NextLine::Text(line) => return Ok(Some(host.answer(line, reply))),
+        NextLine::Long => host.refuse(Refusal::LineLong, reply),
+        NextLine::NotAscii => host.refuse(Refusal::NotAscii, reply),
+        NextLine::End => return Err(SessionEnd::EndOfInput),
+        NextLine::Fault => return Err(SessionEnd::Read),
     }
+    Ok(Some(Flow::GoesOn))
 }

@@ -1,5 +1,5 @@
 //! The lines of a reader.
-ghost use Rattle.std.specs.Prelude.{◌≡◌, ◌<◌, ◌≤◌, ◌∷◌, ◌++◌, ◌^◌, [], take, length, vec_len, vec_capacity, IfOk};
+ghost use Rattle.std.specs.Prelude.{◌≡◌, ◌≤◌, ◌∷◌, ◌++◌, ◌^◌, [], take, vec_len, vec_capacity, IfOk};
 ghost use Rattle.std.specs.Borrow.{sem};
 ghost use Rattle.std.specs.Io.BufRead.{Rests};
 ghost use Rattle.std.specs.List.{list_all};
@@ -10,7 +10,7 @@ ghost use Rattle.service.specs.Line.{line_of, is_printable};
 ghost use Rattle.service.specs.LineReader.{Shows, Gives, IsText, source_of, TakesBytes, unread_bytes};
 ghost use Rattle.service.specs.contracts.lines.LineReader.{the_row as reader-row};
 
-use limit::Limited;
+use limit::{Limited, MOST_READS};
 use std::alloc::{AllocError, Global};
 use std::io::{BufReader, Bytes, Read};
 use std::marker::Model;
@@ -55,13 +55,6 @@ enum Stage {
     Failed,
 }
 
-/// How the reading of one line ended.
-enum LineEnd {
-    Newline,
-    EndOfInput,
-    Fault,
-}
-
 impl<R: Read> Model for LineReader<R> {
     ghost use Rattle.std.specs.Prelude.{◌≤◌, vec_capacity};
     ghost use Rattle.service.specs.LineReader.{Source};
@@ -83,7 +76,7 @@ impl<R: Read + Drop> LineReader<R> {
         ensures most_bytes { LINE_ROOM ≡ 4096 }
     {
         let line = Vec::with_capacity(alloc, KEPT)?;
-        match BufReader::new(alloc, Limited::new(reader)) {
+        match BufReader::new(alloc, Limited::new(reader, MOST_READS)) {
             Ok(ahead) => Ok(LineReader {
                 bytes: ahead.bytes(),
                 line,
@@ -100,37 +93,19 @@ impl<R: Read + Drop> LineReader<R> {
         ensures text { IsText result }
     {
         match self.stage {
-            Stage::Open => {}
+            Stage::Open => self.stage = take_line(&mut self.bytes, &mut self.line),
             Stage::Ended => return NextLine::End,
             Stage::Failed => return NextLine::Fault,
         }
-        match take_line(&mut self.bytes, &mut self.line) {
-            LineEnd::Newline => {
+        match self.stage {
+            Stage::Open => {
                 drop_carriage_return(&mut self.line);
                 classify(&self.line)
             }
-            LineEnd::EndOfInput => {
-                self.stage = Stage::Ended;
-                classify_last(&self.line)
-            }
-            LineEnd::Fault => {
-                self.stage = Stage::Failed;
-                NextLine::Fault
-            }
+            Stage::Ended if self.line.is_empty() => NextLine::End,
+            Stage::Ended => classify(&self.line),
+            Stage::Failed => NextLine::Fault,
         }
-    }
-}
-
-/// What follows the last newline: a line if there is anything.
-fn classify_last(line: &[u8]) -> NextLine<'_>
-    ensures end { line.now ≡ [] → result ≡ NextLine.End }
-    ensures shows { 0 < length line.now → Shows result (line_of line.now) }
-    ensures text { IsText result }
-{
-    if line.is_empty() {
-        NextLine::End
-    } else {
-        classify(line)
     }
 }
 
@@ -140,9 +115,8 @@ fn classify(line: &[u8]) -> NextLine<'_>
     ensures text { IsText result }
 {
     if line.len() > LINE_ROOM {
-        return NextLine::Long;
-    }
-    if is_text(line) {
+        NextLine::Long
+    } else if is_text(line) {
         NextLine::Text(line)
     } else {
         NextLine::NotAscii
@@ -156,11 +130,8 @@ fn is_text(line: &[u8]) -> bool
     line.iter().all(|byte| (b' '..=b'~').contains(byte))
 }
 
-/// Takes the bytes of a line and its newline, and keeps the first of them.
-fn take_line<R: Read + Drop>(
-    bytes: &mut Bytes<BufReader<Limited<R>>>,
-    line: &mut Vec<u8>,
-) -> LineEnd
+/// Takes the bytes of a line and its newline, keeps the first of them, and answers where the reader then stands.
+fn take_line<R: Read + Drop>(bytes: &mut Bytes<BufReader<Limited<R>>>, line: &mut Vec<u8>) -> Stage
     requires { KEPT ≤ vec_capacity line.old }
     ensures taken { TakesBytes (unread_bytes R.remaining bytes.old) result line.new.items (unread_bytes R.remaining bytes.new) }
     ensures room { KEPT ≤ vec_capacity line.new }
@@ -168,14 +139,14 @@ fn take_line<R: Read + Drop>(
     line.clear();
     while let Some(byte) = bytes.next() {
         let Ok(byte) = byte else {
-            return LineEnd::Fault;
+            return Stage::Failed;
         };
         if byte == b'\n' {
-            return LineEnd::Newline;
+            return Stage::Open;
         }
         keep(line, byte);
     }
-    LineEnd::EndOfInput
+    Stage::Ended
 }
 
 /// Keeps a byte of a line where there is room for it.

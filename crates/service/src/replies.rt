@@ -281,21 +281,14 @@ fn write_lines(room: &mut Room, who: &Speaker, text: &[u8]) -> Result<(), AllocE
 {
     let (line, rest) = cut(text, b'\n');
     if !line.is_empty() {
-        write_line(room, who, line)?;
+        room.extend_front(who)?;
+        room.extend(line)?;
+        room.extend(b"\n")?;
     }
     match rest {
         Some(rest) => write_lines(room, who, rest),
         None => Ok(()),
     }
-}
-
-/// Appends one line.
-fn write_line(room: &mut Room, who: &Speaker, text: &[u8]) -> Result<(), AllocError>
-    ensures { OnOk result (room.new ≡ room.old ++ line_after (front_of who.now) text.now) }
-{
-    room.extend_front(who)?;
-    room.extend(text)?;
-    room.extend(b"\n")
 }
 
 /// How many credentials there are, and a line for each.
@@ -304,41 +297,26 @@ fn write_vault(room: &mut Room, who: &Speaker, rows: &[Credential]) -> Result<()
 {
     fill_counted(room, who, b"vault ", rows.len() as u64);
     for row in rows {
-        write_row(room, who, row)?;
+        room.extend_front(who)?;
+        room.extend_by(row)?;
+        room.extend(b"\n")?;
     }
     Ok(())
 }
 
-/// Appends the line of one credential.
-fn write_row(room: &mut Room, who: &Speaker, row: &Credential) -> Result<(), AllocError>
-    ensures { OnOk result (room.new ≡ room.old ++ line_after (front_of who.now) (canonical row.now)) }
-{
-    room.extend_front(who)?;
-    room.extend_by(row)?;
-    room.extend(b"\n")
-}
-
-/// The names that are seen in one line.
+/// The names that are seen in one line, each with a star directly behind it where its vault is public.
 fn write_sees(room: &mut Room, who: &Speaker, seen: &[Seen]) -> Result<(), AllocError>
     ensures { OnOk result (room.new ≡ line_after (front_of who.now) (codes "sees" ++ seen_listed seen.now)) }
 {
     room.begin(who);
     room.append(b"sees");
     for one in seen {
-        write_seen(room, one)?;
+        write_name(room, &one.name)?;
+        if one.to_all {
+            room.extend(b"*")?;
+        }
     }
     room.extend(b"\n")
-}
-
-/// Appends a space and a name, and a star directly behind it where its vault is public.
-fn write_seen(room: &mut Room, seen: &Seen) -> Result<(), AllocError>
-    ensures { OnOk result (room.new ≡ room.old ++ 32 ∷ seen_text seen.now) }
-{
-    write_name(room, &seen.name)?;
-    if seen.to_all {
-        room.extend(b"*")?;
-    }
-    Ok(())
 }
 
 /// The members of a role in one line.

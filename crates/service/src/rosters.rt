@@ -8,8 +8,9 @@ ghost use Rattle.hall.specs.Hall.{new_hall};
 ghost use Rattle.service.specs.declared.faults.ScriptFault.TheVariants as fault;
 ghost use Rattle.service.specs.Line.{commands_of};
 ghost use Rattle.service.specs.LineReader.{IfKnown};
-ghost use Rattle.service.specs.Roster.{AreLimits, IsLimits, IsTenant, IsRoster, names_of, tenant_of};
-ghost use Rattle.service.specs.RosterReading.{OpensWith, TakesRoster, FindsLine, AddsRow, ReadsRoster, ReadsRow, IsTakenFor};
+ghost use Rattle.service.specs.Roster as roster;
+ghost use Rattle.service.specs.Roster.{IsLimits, IsRow, IsBegin, IsTenant, names_of, tenant_of, AddsRow, ReadsRoster};
+ghost use Rattle.service.specs.Written.{TakesRoster, OpensWith};
 ghost use Rattle.service.specs.Words.{words, number_of};
 
 use crate::faults::ScriptFault;
@@ -49,14 +50,6 @@ struct Row {
     limits: Limits,
 }
 
-/// What a line of a roster is.
-#[derive(Drop)]
-enum RosterLine {
-    Blank,
-    Tenant(Row),
-    Begin,
-}
-
 impl Model for Row {
     ghost use Rattle.service.specs.Roster as roster;
 
@@ -88,11 +81,16 @@ impl Roster {
     {
         let mut rows = Vec::new(alloc);
         for _ in 0..u64::MAX {
-            match read_line(alloc, lines)? {
-                RosterLine::Blank => {}
-                RosterLine::Tenant(row) => add_row(&mut rows, row)?,
-                RosterLine::Begin if rows.is_empty() => return Err(ScriptFault::Roster),
-                RosterLine::Begin => return Ok(Roster { rows }),
+            match lines.next() {
+                NextLine::Text(text) if is_blank(text) => {}
+                NextLine::Text(text) if !rows.is_empty() && is_begin(text) => return Ok(Roster {
+                    rows,
+                }),
+                NextLine::Text(text) => add_row(&mut rows, text)?,
+                NextLine::Fault => return Err(ScriptFault::Read),
+                NextLine::Long | NextLine::NotAscii | NextLine::End => {
+                    return Err(ScriptFault::Roster);
+                }
             }
         }
         Err(ScriptFault::Read)
@@ -106,7 +104,7 @@ impl Roster {
     {
         let mut is_known = false;
         for row in &self.rows {
-            is_known |= is_row(row, name, word);
+            is_known |= is_text(row.name.bytes(), name) & is_text(&row.word, word);
         }
         is_known
     }
@@ -146,34 +144,19 @@ impl Roster {
     }
 }
 
-/// One line.
-fn read_line<R: Read + Drop>(
-    alloc: Global,
-    lines: &mut LineReader<R>,
-) -> Result<RosterLine, ScriptFault>
-    ensures line { IfKnown lines.old (λ commands. FindsLine commands result lines.new) }
-    ensures reads_alone { IfErr result (λ why. why ≢ fault.Write) }
+/// Adds the tenant of a line to those that stand before.
+fn add_row(rows: &mut Vec<Row>, text: &[u8]) -> Result<(), ScriptFault>
+    ensures { AddsRow rows.old.items text.now result rows.new.items }
 {
-    match lines.next() {
-        NextLine::Text(text) => roster_line(alloc, text),
-        NextLine::Long => Err(ScriptFault::Roster),
-        NextLine::NotAscii => Err(ScriptFault::Roster),
-        NextLine::End => Err(ScriptFault::Roster),
-        NextLine::Fault => Err(ScriptFault::Read),
-    }
-}
-
-/// Adds a tenant to those that stand before.
-fn add_row(rows: &mut Vec<Row>, row: Row) -> Result<(), ScriptFault>
-    ensures { AddsRow rows.old.items row result rows.new.items }
-{
-    if rows.len() >= MOST_TENANTS {
+    let Some(parts) = read_row(text) else {
+        return Err(ScriptFault::Roster);
+    };
+    let (name, word, limits) = parts;
+    if rows.len() >= MOST_TENANTS || is_named(rows, &name) {
         return Err(ScriptFault::Roster);
     }
-    if is_named(rows, &row.name) {
-        return Err(ScriptFault::Roster);
-    }
-    match rows.push(row) {
+    let word = Vec::from_slice(*rows.allocator(), word)?;
+    match rows.push(Row { name, word, limits }) {
         Ok(()) => Ok(()),
         Err(_unplaced) => Err(ScriptFault::Memory),
     }
@@ -184,16 +167,6 @@ fn is_named(rows: &[Row], name: &Entity) -> bool
     ensures { result ≡ list_any (λ row. is_same name.now row.name) rows.now }
 {
     rows.iter().any(|row| *name == row.name)
-}
-
-/// Whether the tenant of this row has this name and this word. Neither is left out where the other is wrong.
-fn is_row(row: &Row, name: &[u8], word: &[u8]) -> bool
-    ensures both { IsTrue result ↔ ((row.now.name ≡ name.now) × (row.now.word ≡ word.now)) }
-    ensures name { IsTrue result → IsName name.now }
-{
-    let is_name = is_text(row.name.bytes(), name);
-    let is_word = is_text(&row.word, word);
-    is_name & is_word
 }
 
 /// Whether what a roster has is this text. Each byte that it has is compared, also behind one that differs.
@@ -208,54 +181,36 @@ fn is_text(kept: &[u8], said: &[u8]) -> bool
     is_same
 }
 
-/// What a text is that a roster has: `tenant`, a name, a word and maybe six limits, or `begin`. Any other text that
-/// isn't blank is a faulty roster.
-fn roster_line(alloc: Global, text: &[u8]) -> Result<RosterLine, ScriptFault>
-    ensures { IsTakenFor text.now result }
+/// Whether the line ends a roster.
+fn is_begin(text: &[u8]) -> bool
+    ensures { IsTrue result ↔ IsBegin text.now }
 {
-    if is_blank(text) {
-        return Ok(RosterLine::Blank);
+    match next_word(text) {
+        Some((word, rest)) => word == b"begin".as_slice() && next_word(rest).is_none(),
+        None => false,
     }
-    let Some((first, rest)) = next_word(text) else {
-        return Err(ScriptFault::Roster);
-    };
-    if first == b"begin".as_slice() {
-        return match next_word(rest) {
-            None => Ok(RosterLine::Begin),
-            Some(_) => Err(ScriptFault::Roster),
-        };
-    }
-    if first == b"tenant".as_slice() {
-        let row = read_row(alloc, rest)?;
-        return Ok(RosterLine::Tenant(row));
-    }
-    Err(ScriptFault::Roster)
 }
 
-/// The tenant of a line with this rest after `tenant`.
-fn read_row(alloc: Global, text: &[u8]) -> Result<Row, ScriptFault>
-    ensures { ReadsRow (words text.now) result }
+/// The name, the word and the limits of a tenant's line.
+fn read_row(text: &[u8]) -> Option<(Entity, &[u8], Limits)>
+    ensures some { IfSome result (λ r. IsRow text.now (record { name = r.0; word = r.1.now; limits = r.2 })) }
+    ensures none { IfNone result ((row : roster.Row) → IsRow text.now row → ⊥) }
 {
-    let Some((name, rest)) = next_word(text) else {
-        return Err(ScriptFault::Roster);
-    };
-    let Some((word, rest)) = next_word(rest) else {
-        return Err(ScriptFault::Roster);
-    };
+    let (first, rest) = next_word(text)?;
+    if first != b"tenant".as_slice() {
+        return None;
+    }
+    let (name, rest) = next_word(rest)?;
+    let (word, rest) = next_word(rest)?;
     if word.len() > MOST_WORD {
-        return Err(ScriptFault::Roster);
+        return None;
     }
-    let Ok(name) = Entity::read(name) else {
-        return Err(ScriptFault::Roster);
-    };
-    let Some(limits) = read_limits(rest) else {
-        return Err(ScriptFault::Roster);
-    };
-    let word = Vec::from_slice(alloc, word)?;
-    Ok(Row { name, word, limits })
+    let name = Entity::read(name).ok()?;
+    let limits = read_limits(rest)?;
+    Some((name, word, limits))
 }
 
-/// The limits that the text gives: the usual ones where it is empty.
+/// The limits that the text gives: the usual ones where it has no word, and else those of six numbers.
 fn read_limits(text: &[u8]) -> Option<Limits>
     ensures some { IfSome result (IsLimits (words text.now)) }
     ensures none { IfNone result ((q : Quota) → IsLimits (words text.now) q → ⊥) }
@@ -263,14 +218,6 @@ fn read_limits(text: &[u8]) -> Option<Limits>
     if next_word(text).is_none() {
         return Some(Limits::usual());
     }
-    given_limits(text)
-}
-
-/// The limits that six numbers give.
-fn given_limits(text: &[u8]) -> Option<Limits>
-    ensures some { IfSome result (AreLimits (words text.now)) }
-    ensures none { IfNone result ((q : Quota) → AreLimits (words text.now) q → ⊥) }
-{
     let (creds, rest) = next_number(text)?;
     let (grants, rest) = next_number(rest)?;
     let (searches, rest) = next_number(rest)?;

@@ -126,10 +126,7 @@ fn carry_out(hall: &mut Hall, who: Entity, command: Command) -> Reply
     ensures { CarriesOut hall.old who (deed_of command) result hall.new }
 {
     match command {
-        Command::Request(request) => match hall.ask(who, request) {
-            Ok(reply) => reply,
-            Err(fault) => Reply::Refused(fault),
-        },
+        Command::Request(request) => hall.ask(who, request).unwrap_or_else(Reply::Refused),
         Command::Wait(number) => match hall.drive(who, number) {
             Ok(answer) => Reply::Answered(answer),
             Err(fault) => Reply::Refused(fault),

@@ -1,10 +1,10 @@
 //! The service: connections that are answered, and the workers beside them.
-ghost use Rattle.std.specs.Prelude.{◌≡◌, ◌≤◌, ◌<◌, ◌^◌, ◌⊎◌, ◌↔◌, ◌++◌, Some, length, IsOk, IfOk, IfErr, OnOk, OnErr};
+ghost use Rattle.std.specs.Prelude.{◌≡◌, ◌≤◌, ◌⊎◌, ◌↔◌, ◌++◌, Some, length, IsOk, IfOk, IfErr, OnOk, OnErr};
 ghost use Rattle.std.specs.Fmt.{decimal};
 ghost use Rattle.std.specs.Io.KnownBytes.{Appends};
 ghost use Rattle.service.specs.declared.faults.ServeFault.TheVariants as fault;
 ghost use Rattle.service.specs.Roster.{names_of};
-ghost use Rattle.service.specs.Served.{Answered, ServeWrote, listening_line};
+ghost use Rattle.service.specs.Served.{Answered, ServeWrote};
 ghost use Rattle.service.specs.Session.{session_line};
 ghost use Rattle.service.specs.Written.{WritesFront};
 
@@ -77,50 +77,24 @@ fn serve_with<L: Ledger + Send + Sync, R: Threads + Wait + Clock + Sync, W: Writ
     ensures count { IfOk result (λ n. options.accept ≡ Some n) }
     ensures wrote { ServeWrote options.accept result (Appends (W.contents writer.old) (W.contents writer.new)) }
 {
-    match roster.desk::<L>(alloc, blank) {
-        Ok(desk) => serve_at(rt, alloc, &desk, roster, listener, options, writer),
-        Err(_fault) => Err(ServeFault::Memory),
-    }
-}
-
-/// Serves at this desk.
-fn serve_at<L: Ledger + Send + Sync, R: Threads + Wait + Clock + Sync, W: Write>(
-    rt: &R,
-    alloc: Global,
-    desk: &Desk<L>,
-    roster: &Roster,
-    listener: TcpListener,
-    options: ServeOptions,
-    writer: &mut W,
-) -> Result<u64, ServeFault>
-    requires tenants { desk.now ≡ names_of roster.now }
-    requires sessions { (1 ≤ options.sessions) × (options.sessions ≤ 64) }
-    ensures count { IfOk result (λ n. options.accept ≡ Some n) }
-    ensures wrote { ServeWrote options.accept result (Appends (W.contents writer.old) (W.contents writer.new)) }
-{
+    let Ok(desk) = roster.desk::<L>(alloc, blank) else {
+        return Err(ServeFault::Memory);
+    };
     let Ok(mut line) = Room::make(alloc) else {
         return Err(ServeFault::Memory);
     };
     let Ok(address) = listener.local_addr() else {
         return Err(ServeFault::Socket);
     };
-    let Ok(()) = tell_port(writer, &mut line, address.port()) else {
+    let port = u64::from(address.port());
+    let Ok(()) = tell(writer, &mut line, b"listening 127.0.0.1:", port) else {
         return Err(ServeFault::Write);
     };
-    let count = answer_beside_workers(rt, alloc, desk, roster, listener, options)?;
+    let count = answer_beside_workers(rt, alloc, &desk, roster, listener, options)?;
     let Ok(()) = tell(writer, &mut line, b"served ", count) else {
         return Err(ServeFault::Write);
     };
     Ok(count)
-}
-
-/// Writes the line that tells where the service listens.
-fn tell_port<W: Write>(writer: &mut W, line: &mut Room, port: u16) -> Result<(), WriteFault>
-    ensures ok { OnOk result (Appends (W.contents writer.old) (W.contents writer.new) (listening_line port)) }
-    ensures err { OnErr result (WritesFront (W.contents writer.old) (W.contents writer.new) (listening_line port)) }
-    ensures fits { port < 2 ^ 16 }
-{
-    tell(writer, line, b"listening 127.0.0.1:", u64::from(port))
 }
 
 /// Writes a line of these words and this number.

@@ -1,13 +1,10 @@
 //! A session: the commands of one peer, each with its reply.
-ghost use Rattle.std.specs.Prelude.{◌≡◌, ◌⊎◌, None, IfSome, IfOk, IfErr};
+ghost use Rattle.std.specs.Prelude.{◌≡◌, IfSome};
 ghost use Rattle.std.specs.Io.KnownBytes.{Appends};
-ghost use Rattle.service.specs.declared.refusals.Refusal.TheVariants as refusal;
 ghost use Rattle.service.specs.Command.{form_of};
-ghost use Rattle.service.specs.Line.{commands_of, text};
-ghost use Rattle.service.specs.Roster.{IsTenant, names_of};
-ghost use Rattle.service.specs.Session.{IsLetIn, IsGreeted, IsAnswer, IsLater, SessionWrote, of_tenant, phase_of};
-ghost use Rattle.service.specs.Session.{IsCarriedOut, IsTold};
-ghost use Rattle.service.specs.Session.{talk_of, Hears};
+ghost use Rattle.service.specs.Line.{commands_of};
+ghost use Rattle.service.specs.Roster.{names_of};
+ghost use Rattle.service.specs.Session.{talk_of, talk_said, IsLetIn, IsGreeted, IsCarriedOut, IsTold, SessionWrote};
 
 use crate::commands::{Command, read_command};
 use crate::conversations::{Flow, Host, SessionEnd, converse};
@@ -66,11 +63,11 @@ impl<'a, L: Ledger, R> Model for Shared<'a, L, R> {
 }
 
 impl<'a, L: Ledger, R> Model for Session<'a, L, R> {
-    ghost use Rattle.service.specs.Session.{SessionState, phase_of};
+    ghost use Rattle.service.specs.Session.{SessionState};
 
     ghost Value = { SessionState };
 
-    ghost view = { λ s. record { rows = s.shared.now; phase = phase_of s.pass } };
+    ghost view = { λ s. record { rows = s.shared.now; pass = s.pass } };
 }
 
 impl<L: Ledger, R: Wait> Host for Session<'_, L, R> {
@@ -79,7 +76,16 @@ impl<L: Ledger, R: Wait> Host for Session<'_, L, R> {
     ghost Answers = { SessionAnswers };
 
     fn answer(&mut self, line: &[u8], reply: &mut Room) -> Flow {
-        self.shared.answer(line, &mut self.pass, reply)
+        let said = read_said(line);
+        if let Said::Quit = said {
+            fill_text(reply, &Speaker::Peer, b"bye");
+            return Flow::Ends;
+        }
+        match &mut self.pass {
+            Some(pass) => self.shared.tell(line, pass, reply),
+            None => self.pass = self.shared.greet(said, reply),
+        }
+        Flow::GoesOn
     }
 
     fn refuse(&self, why: Refusal, reply: &mut Room) {
@@ -126,38 +132,11 @@ pub fn serve_session<L: Ledger, R: Wait, I: Read + Drop, W: Write>(
 }
 
 impl<L: Ledger, R: Wait> Shared<'_, L, R> {
-    /// Answers a line that isn't blank. A session without a pass has no tenant yet.
-    fn answer(&self, line: &[u8], pass: &mut Option<Pass<L>>, reply: &mut Room) -> Flow
-        ensures { IsAnswer self.now (phase_of pass.old) (text line.now) reply.new result (phase_of pass.new) }
+    /// Answers one who hasn't said who it is, and gives a pass where that is a good hello.
+    fn greet(&self, said: Said<'_>, reply: &mut Room) -> Option<Pass<L>>
+        ensures { IsGreeted self.now (talk_said said.entry) reply.new result }
     {
-        match pass {
-            Some(pass) => self.answer_tenant(line, pass, reply),
-            None => self.answer_stranger(line, pass, reply),
-        }
-    }
-
-    /// Answers one who hasn't said who it is.
-    fn answer_stranger(&self, line: &[u8], pass: &mut Option<Pass<L>>, reply: &mut Room) -> Flow
-        requires nobody { pass.old ≡ None }
-        ensures { IsAnswer self.now (phase_of pass.old) (text line.now) reply.new result (phase_of pass.new) }
-    {
-        match read_said(line) {
-            Said::Quit => {
-                fill_text(reply, &Speaker::Peer, b"bye");
-                return Flow::Ends;
-            }
-            Said::Hello(name, word) => *pass = self.greet(name, word, reply),
-            Said::WrongHello => fill_refusal(reply, &Speaker::Peer, Refusal::Command),
-            Said::Command => fill_refusal(reply, &Speaker::Peer, Refusal::NoHello),
-        }
-        Flow::GoesOn
-    }
-
-    /// Answers a hello, and gives a pass where it is good.
-    fn greet(&self, name: &[u8], word: &[u8], reply: &mut Room) -> Option<Pass<L>>
-        ensures { IsGreeted self.now name.now word.now reply.new (phase_of result) }
-    {
-        match self.admit(name, word) {
+        match self.admit(said) {
             Ok(pass) => {
                 fill_hello(reply, &pass.tenant());
                 Some(pass)
@@ -169,13 +148,16 @@ impl<L: Ledger, R: Wait> Shared<'_, L, R> {
         }
     }
 
-    /// A pass for the tenant of this name, if that is its word.
+    /// A pass for the tenant that says hello, if that is its word.
     #[tactic(auto, using(crate::proofs::TenantLemmas::tenant_listed))]
-    fn admit(&self, name: &[u8], word: &[u8]) -> Result<Pass<L>, Refusal>
-        ensures let_in { IfOk result (λ pass. IsLetIn self.now name.now word.now pass) }
-        ensures refused { IfErr result (λ why. ((why ≡ refusal.BadHello) × (IsTenant self.now name.now word.now → ⊥))
-            ⊎ ((why ≡ refusal.Memory) × IsTenant self.now name.now word.now)) }
+    fn admit(&self, said: Said<'_>) -> Result<Pass<L>, Refusal>
+        ensures { IsLetIn self.now (talk_said said.entry) result }
     {
+        let (name, word) = match said {
+            Said::Hello(name, word) => (name, word),
+            Said::WrongHello => return Err(Refusal::Command),
+            _ => return Err(Refusal::NoHello),
+        };
         if !self.roster.check(name, word) {
             return Err(Refusal::BadHello);
         }
@@ -186,22 +168,6 @@ impl<L: Ledger, R: Wait> Shared<'_, L, R> {
             Ok(pass) => Ok(pass),
             Err(DeskFault::Hall(Fault::NoTenant)) => Err(Refusal::BadHello),
             Err(_fault) => Err(Refusal::Memory),
-        }
-    }
-
-    /// Answers a tenant.
-    fn answer_tenant(&self, line: &[u8], pass: &mut Pass<L>, reply: &mut Room) -> Flow
-        ensures { IsLater pass.old (talk_of line.now) line.now reply.new result (of_tenant pass.new) }
-    {
-        match read_said(line) {
-            Said::Quit => {
-                fill_text(reply, &Speaker::Peer, b"bye");
-                Flow::Ends
-            }
-            _ => {
-                self.tell(line, pass, reply);
-                Flow::GoesOn
-            }
         }
     }
 
@@ -234,24 +200,16 @@ impl<L: Ledger, R: Wait> Shared<'_, L, R> {
 
 /// What the text of a line says.
 fn read_said(text: &[u8]) -> Said<'_>
-    ensures { Hears (talk_of text.now) result }
+    ensures { talk_said result ≡ talk_of text.now }
 {
-    let Some((word, rest)) = next_word(text) else {
-        return Said::Command;
-    };
-    if word == b"quit".as_slice() {
-        return match next_word(rest) {
-            None => Said::Quit,
-            Some(_) => Said::Command,
-        };
-    }
-    if word == b"hello".as_slice() {
-        return match split_words(rest) {
+    match next_word(text) {
+        Some((word, rest)) if word == b"quit".as_slice() && next_word(rest).is_none() => Said::Quit,
+        Some((word, rest)) if word == b"hello".as_slice() => match split_words(rest) {
             Arguments::Two(name, word) => Said::Hello(name, word),
             _ => Said::WrongHello,
-        };
+        },
+        _ => Said::Command,
     }
-    Said::Command
 }
 
 #[cfg(test)]

@@ -86,13 +86,7 @@ fn is_number(text: &[u8]) -> bool
     let Some(first) = text.first() else {
         return false;
     };
-    if *first <= b'0' {
-        return false;
-    }
-    if text.len() > MOST_DIGITS {
-        return false;
-    }
-    are_digits(text)
+    *first > b'0' && text.len() <= MOST_DIGITS && are_digits(text)
 }
 
 /// Whether there are digits alone.

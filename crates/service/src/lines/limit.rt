@@ -18,14 +18,7 @@ pub(crate) struct Limited<R> {
 }
 
 impl<R> Limited<R> {
-    pub(crate) fn new(inner: R) -> Limited<R>
-        ensures inner { result.inner ≡ inner }
-        ensures left { result.left ≡ 2 ^ 40 }
-    {
-        Limited::with_reads(inner, MOST_READS)
-    }
-
-    pub(crate) fn with_reads(inner: R, left: u64) -> Limited<R>
+    pub(crate) fn new(inner: R, left: u64) -> Limited<R>
         requires { left ≤ 2 ^ 40 }
         ensures inner { result.inner ≡ inner }
         ensures left { result.left ≡ left }

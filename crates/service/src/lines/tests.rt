@@ -120,7 +120,7 @@ fn stays_at_a_fault(rt: HostRuntime) -> Result<(), Fail> {
 
 #[test]
 fn counts_each_call_of_read(rt: HostRuntime) {
-    let mut limited = Limited::with_reads(Drips::new(b"abc", 1), 3);
+    let mut limited = Limited::new(Drips::new(b"abc", 1), 3);
     let mut one = [0u8; 1];
     let was_read = [true, false, true, false, false];
     for wanted in was_read {

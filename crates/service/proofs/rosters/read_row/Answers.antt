@@ -1,11 +1,17 @@
 -- What stands after the word are no limits.
-use Rattle.std.proofs.Common.{◌≡◌}
+use Rattle.std.proofs.Common.{◌≡◌, Option, Some, None, IfNone}
 use Rattle.service.specs.Words.{words}
 use Rattle.service.proofs.rosters.read_row.Goals as goal
 
-pub returns-in_default-read_limits : goal.returns-in_default-read_limits
-returns-in_default-read_limits c = λ row is.
-    let first = c.in-Some.ensures.found in
-    let second = c.in-Some-next_word.ensures.found in
-    let numbers : is.numbers ≡ words c.in-Some-next_word.rest.now = cc in
-    c.in_default-read_limits.ensures.none row.limits (rw numbers at is.limits)
+kept : {A P : Type 0} (found : Option A) → P → IfNone found P
+kept None fact = fact
+kept (Some a) fact = tt
+
+pub returns-in_err-limits-clause-none : goal.returns-in_err-limits-clause-none
+returns-in_err-limits-clause-none c =
+    kept c.from_residual-in_err-limits.result (λ row is.
+    let first = c.in_ok-first.ensures.found in
+    let second = c.in_ok-name.ensures.found in
+    let third = c.in_ok-word.ensures.found in
+    let numbers : is.numbers ≡ words c.in_ok-word.rest.now = cc in
+    c.in_err-limits.ensures.none row.limits (rw numbers at is.limits))

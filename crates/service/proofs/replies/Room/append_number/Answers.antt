@@ -1,5 +1,5 @@
 -- A number of 64 bits has 20 digits at most.
-use Rattle.std.proofs.Common.{length, arith, ap}
+use Rattle.std.proofs.Common.{arith}
 use Rattle.std.proofs.lemmas.Fmt.{length-decimal-le}
 use Rattle.service.proofs.replies.Room.append_number.Goals as goal
 

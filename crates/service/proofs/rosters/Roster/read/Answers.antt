@@ -1,53 +1,53 @@
 -- Each line adds a tenant, ends the roster, or ends the reading.
-use Rattle.std.proofs.Common.{◌<◌, length, arith, sym}
+use Rattle.std.proofs.Common.{◌<◌, length, arith, refl, sym, ◌∙◌}
 use Rattle.std.proofs.lemmas.Bool.{eqb-false, eqb-true}
 use Rattle.std.proofs.lemmas.List.{nil_from_length}
 use Rattle.std.proofs.lemmas.Result.{err_from_is_err_and}
-use Rattle.service.proofs.RosterLemmas.{IsDistinct-none, IsDistinct-row}
-use Rattle.service.proofs.RosterSteps.{SoFar-start, SoFar-blank, SoFar-row, ReadsRoster-unread, ReadsRoster-refused, ReadsRoster-empty}
-use Rattle.service.proofs.RosterSteps.{ReadsRoster-begin}
+use Rattle.service.proofs.RosterLemmas.{IsDistinct-none}
+use Rattle.service.proofs.RosterSteps.{SoFar-start, SoFar-blank, SoFar-row, ReadsRoster-refused, ReadsRoster-begin}
 use Rattle.service.proofs.rosters.Roster.read.Goals as goal
-use Rattle.service.proofs.rosters.Roster.read.Goals.{in-Blank, in-Tenant+in_ok-add_row-in-Tenant}
+use Rattle.service.proofs.rosters.Roster.read.Goals.{then-is_blank, in-Text-3+in_ok-add_row-in-Text-3, then-not-is_empty+else-is_begin, else-not-is_empty}
 
 pub loop-init : goal.loop-init
 loop-init g c = rw c.new-rows.ensures.items (record { left = SoFar-start c.args.lines.now; distinct = IsDistinct-none; most = omega arith })
 
-pub returns-in_err-read_line-clause-roster : goal.returns-in_err-read_line-clause-roster
-returns-in_err-read_line-clause-roster g c =
+pub returns-in-Text-2-clause-roster : goal.returns-in-Text-2-clause-roster
+returns-in-Text-2-clause-roster g c =
+    let some : 0 < length c.loop.rows.items = omega (arith, eqb-false c.loop.rows.len 0 (sym c.is_empty.ensures ∙ c.if-not-is_empty.true), c.loop.rows.ok.0) in
+    ReadsRoster-begin c.args.lines.now c.loop.lines c.next.follows.lender-at-none c.loop.rows.items c.next.result c.in-Text.text.now
+    c.loop.invariant.left c.next.follows.holds-at-none (rw c.in-Text.is refl)
+    (record { distinct = c.loop.invariant.distinct; some = some; most = c.loop.invariant.most }) (sym c.if-is_blank.ensures) (c.is_begin.ensures.0 c.if-is_begin.true)
+
+pub returns-in_err-add_row-in-Text-3-clause-roster : goal.returns-in_err-add_row-in-Text-3-clause-roster
+returns-in_err-add_row-in-Text-3-clause-roster g c =
     let out = err_from_is_err_and c.from_residual.result c.from_residual.ensures.1 in
     rw (out.1, out.2)
-    (ReadsRoster-unread c.args.lines.now c.loop.lines c.read_line.new.lines c.loop.rows.items _ c.loop.invariant.left c.in_err-read_line.ensures.line)
-
-pub returns-in_err-add_row-in-Tenant-clause-roster : goal.returns-in_err-add_row-in-Tenant-clause-roster
-returns-in_err-add_row-in-Tenant-clause-roster g c =
-    let out = err_from_is_err_and c.from_residual-in_err-add_row-in-Tenant.result c.from_residual-in_err-add_row-in-Tenant.ensures.1 in
-    rw (out.1, out.2)
-    (ReadsRoster-refused c.args.lines.now c.loop.lines c.read_line.new.lines c.loop.rows.items _ c.in-Tenant.row _ c.loop.invariant.left (rw c.in-Tenant.is at c.in_ok-read_line.ensures.line) c.in_err-add_row-in-Tenant.ensures)
-
-pub returns-in-Begin-2-clause-roster : goal.returns-in-Begin-2-clause-roster
-returns-in-Begin-2-clause-roster g c =
-    let some : 0 < length c.loop.rows.items = omega (arith, eqb-false c.loop.rows.len 0 (sym c.if-is_empty.ensures), c.loop.rows.ok.0) in
-    ReadsRoster-begin c.args.lines.now c.loop.lines c.read_line.new.lines c.loop.rows.items
-    (record { distinct = c.loop.invariant.distinct; some = some; most = c.loop.invariant.most }) c.loop.invariant.left (rw c.in-Begin-2.is at c.in_ok-read_line.ensures.line)
+    (ReadsRoster-refused c.args.lines.now c.loop.lines c.next.follows.lender-at-none c.loop.rows.items c.next.result c.in-Text.text.now
+    c.loop.invariant.left c.next.follows.holds-at-none (rw c.in-Text.is refl)
+    c.add_row.new.rows.items _ (sym c.if-is_blank.ensures)
+    (λ begin. elim c.if-not-is_empty.branch [
+      | then-not-is_empty+else-is_begin w ↦ let found = w.is_begin.ensures.1 begin in let other = w.if-is_begin.false in absurd (cc)
+      | else-not-is_empty w ↦
+          nil_from_length c.loop.rows.items (omega (arith, eqb-true c.loop.rows.len 0 (sym c.is_empty.ensures ∙ w.if-not-is_empty.false), c.loop.rows.ok.0))
+    ])
+    c.in_err-add_row-in-Text-3.ensures)
 
 pub loop-preserved : goal.loop-preserved
 loop-preserved g c =
-    elim c.match-branch-2.branch [
-      | in-Blank w ↦ rw w.rows-is (record {
-        left = SoFar-blank c.args.lines.now c.loop.lines c.read_line.new.lines c.loop.rows.items c.loop.invariant.left (rw w.in-Blank.is at c.in_ok-read_line.ensures.line);
+    elim c.if-is_blank.branch [
+      | then-is_blank w ↦ rw (w.lines-is, w.rows-is) (record {
+        left = SoFar-blank c.args.lines.now c.loop.lines c.next.follows.lender-at-none c.loop.rows.items c.next.result c.in-Text.text.now
+            c.loop.invariant.left c.next.follows.holds-at-none (rw c.in-Text.is refl) (sym w.if-is_blank.ensures);
         distinct = c.loop.invariant.distinct;
         most = c.loop.invariant.most;
       })
-      | in-Tenant+in_ok-add_row-in-Tenant w ↦
-          let adds = w.in_ok-add_row-in-Tenant.ensures in
-          rw (w.rows-is, adds.0) (record {
-            left = SoFar-row c.args.lines.now c.loop.lines c.read_line.new.lines c.loop.rows.items w.in-Tenant.row c.loop.invariant.left (rw w.in-Tenant.is at c.in_ok-read_line.ensures.line);
-            distinct = IsDistinct-row c.loop.rows.items w.in-Tenant.row c.loop.invariant.distinct adds.2;
-            most = rw adds.0 at adds.1;
+      | in-Text-3+in_ok-add_row-in-Text-3 w ↦
+          let adds = w.in_ok-add_row-in-Text-3.ensures in
+          let roster = rw adds.2 at (adds.3 c.loop.invariant.distinct) in
+          rw (w.lines-is, w.rows-is, adds.2) (record {
+            left = SoFar-row c.args.lines.now c.loop.lines c.next.follows.lender-at-none c.loop.rows.items c.next.result c.in-Text.text.now
+                c.loop.invariant.left c.next.follows.holds-at-none (rw c.in-Text.is refl) adds.0 (sym w.if-is_blank.ensures) adds.1;
+            distinct = roster.distinct;
+            most = roster.most;
           })
     ]
-
-pub returns-in-Begin-clause-roster : goal.returns-in-Begin-clause-roster
-returns-in-Begin-clause-roster g c =
-    let none = nil_from_length c.loop.rows.items (omega (arith, eqb-true c.loop.rows.len 0 (sym c.if-is_empty.ensures), c.loop.rows.ok.0)) in
-    ReadsRoster-empty c.args.lines.now c.loop.lines c.read_line.new.lines c.loop.rows.items none c.loop.invariant.left (rw c.in-Begin.is at c.in_ok-read_line.ensures.line)
