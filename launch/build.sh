@@ -49,7 +49,7 @@ prove_all() {
         phase[$crate]=waiting
         count=$((count + 1))
     done
-    echo "rtsearch: proving $count of ${#crates[@]} crates before the program can run: all of them take 15 to 25 minutes on four idle cores" >&2
+    echo "rtsearch: proving $count of ${#crates[@]} crates before the program can run: all of them take 15 to 30 minutes on four idle cores" >&2
     memory=$(free_memory)
     SECONDS=0
     while [[ " ${phase[*]} " == *" waiting "* || ${#runs[@]} -gt 0 ]]; do

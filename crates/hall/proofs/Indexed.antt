@@ -3,12 +3,8 @@ use Rattle.std.proofs.Common.{◌≡◌, ◌∙◌, Bool, true, false, cond, ◌
 use Rattle.std.specs.declared.cmp.Ordering.{Ordering}
 use Rattle.std.specs.Ordering.{eq_by_cmp}
 use Rattle.std.specs.FinMap.{get, insert, remove, len, from_entries, find, get-from_entries, get-insert, get-remove, len-empty, len-insert}
-use Rattle.std.specs.List.{AllByRecursion, IsDistinct, Contains}
+use Rattle.std.specs.List.{AllByRecursion, IsDistinct}
 use Rattle.std.specs.Map.{keys_of, lookup}
-use Rattle.std.specs.Cmp.{IsEquivalence}
-use Rattle.std.proofs.lemmas.Cmp.{eq_by_cmp_equiv}
-use Rattle.std.proofs.lemmas.Option.{slice_get-get_or}
-use Rattle.std.proofs.lemmas.Map.Entries.{lookup_from_place}
 use Rattle.std.proofs.lemmas.Map.Keys.{IsDistinct-head, IsDistinct-tail}
 use Rattle.indexmap.specs.IndexMap.{IndexMap, Updates, WritesThrough}
 use Rattle.indexmap.specs.IndexMap as table
@@ -50,16 +46,6 @@ module _ {K : Type 0} {R : K → K → Ordering} (o : IsExactOrder R) (eq : K �
     pub written : (v w : X) → table.get eq m k ≡ Some v → WritesThrough eq (eq k) m w n →
         from_entries {R = R} n.entries ≡ insert (from_entries m.entries) k w
     written v w there writes = inserted w (writes.3 (ap is_some there))
-
-  equivalence : IsEquivalence eq
-  equivalence = subst IsEquivalence (λ i a b. agree a b i) (eq_by_cmp_equiv o.total)
-
-  -- an entry of distinct keys is the one of its key
-  pub at_key : {X : Type 0} (es : List (K × X)) (e : K × X) → IsDistinct eq (keys_of es) → Contains es e →
-      get (from_entries {R = R} es) e.0 ≡ Some e.1
-  at_key es e distinct there =
-      looked_up es e.0
-      ∙ lookup_from_place equivalence es there.0 e.0 e.1 distinct (slice_get-get_or es there.0 e there.1 ∙ ap (λ x. Some x) there.2)
 
   -- what holds of each entry holds of what a key has
   pub all_found : {X : Type 0} (P : K × X → Type 0) (es : List (K × X)) → AllByRecursion P es → (k : K) (v : X) →

@@ -21,7 +21,9 @@ pub mod Seeking
 pub mod Stays
 pub mod Telling
 pub mod Truths
+pub mod Unsettled
 pub mod Viewed
 pub mod Visiting
+pub mod HandingIn
 pub mod Working
 pub mod laws

@@ -1,24 +1,32 @@
 -- The step that is picked goes on with a search, and there is one where anything of a search can go on.
-use Rattle.std.proofs.Common.{◌≡◌, ◌∙◌, ◌↔◌, ◌≤◌, [], ℕ, List, length, ap, sym, refl, subst, Option, Some, None, slice_get, IfSome, true, false, Bool}
-use Rattle.std.specs.List.{AllByRecursion, Contains, IsDistinct}
-use Rattle.std.specs.Map.{keys_of}
-use Rattle.std.specs.Option.{MatchOption}
-use Rattle.std.specs.FinMap.{get, from_entries}
+use Rattle.std.proofs.Common.{◌≡◌, ◌∙◌, ◌↔◌, ◌≤◌, ◌==◌, ◌⊎◌, ◌||◌, inl, inr, [], ◌∷◌, ℕ, List, length, ap, sym, refl, subst, Option, Some, None, option_map, slice_get, true, false, Bool, cond}
+use Rattle.std.specs.List.{AllByRecursion, list_any}
+use Rattle.std.proofs.lemmas.Bool.Decides.{Decides-eqb}
+use Rattle.indexmap.specs.IndexMap.{get as numbers_of}
+use Rattle.indexmap.specs.IndexSet.{IndexSet}
 use Rattle.names.specs.Name.{is_same}
 use Rattle.names.proofs.SameNames.{is_same_tied}
-use Rattle.vaults.specs.declared.changes.Entry.{Entry}
 use Rattle.vaults.proofs.Orders.{names_exact}
+use Rattle.cred_graph.specs.GraphState.{GraphState}
+use Rattle.scholten_core.specs.Computation.{outstanding}
 use Rattle.search.specs.declared.queries.Need.{Need}
-use Rattle.search.specs.Search.{SearchState}
+use Rattle.search.specs.declared.queries.Query.{Query}
+use Rattle.search.specs.declared.stages.Stage.{Stage}
+use Rattle.search.specs.declared.stages.Stage.TheVariants as stage
+use Rattle.search.specs.Ending.{Nothing}
+use Rattle.search.specs.Found.{found, come_to}
+use Rattle.search.specs.Search.{SearchState, settled_of}
 use Rattle.search.specs.Stage.{waiting_in, signals_in, IsQuiet}
 use Rattle.hall.specs.declared.calls.steps.Step.{Step}
 use Rattle.hall.specs.declared.calls.steps.Step.TheVariants as step
 use Rattle.hall.specs.Steps.{TakesAt, Signals, took, signalled}
-use Rattle.hall.specs.Hall.{Running, Tenant, HallState, search_of, search_at, step_name, step_search, StepsAt}
+use Rattle.hall.specs.Hall.{Running, HallState, search_at, step_name, step_search, StepsAt}
 use Rattle.hall.specs.Visits.{SearchIsQuiet, NothingToDo, MadeProgress, CanBeMade}
-use Rattle.hall.specs.Kept.{IsNext, IsIdle, IsNextOfAny}
-use Rattle.hall.proofs.Indexed.{at_key, all_found}
+use Rattle.hall.specs.Kept.{IsNext, IsUnsettled, Index, IsIn, IsIndexed}
+use Rattle.hall.proofs.Indexed.{looked_up, all_found}
+use Rattle.hall.proofs.Stays.{quiet}
 use Rattle.hall.proofs.Working.{first_none, none_long}
+use Rattle.hall.proofs.laws.HallChanges.{tenant_of}
 
 module _ (old new : SearchState) (place : ℕ) (first : place ≡ 0) where
   -- where a letter waits, the first one is taken
@@ -63,44 +71,81 @@ module _ (h : HallState) (who : List ℕ) (k : ℕ) (r : Running) (at : search_a
   is_left (step.GiveBack name number letter) next quiet = next
   is_left (step.Finish name number letter hint) next quiet = next
 
--- what was picked of a hall of these tenants
-module _ (journal : List Entry) (es : List (List ℕ × Tenant)) (o : Option Step) (picked : MatchOption o (AllByRecursion (λ e. IsIdle e.1) es) (IsNextOfAny es)) where
-  abbrev hall : HallState
-  hall = record { journal = journal; tenants = from_entries es }
+-- a search that has come to something has nothing left to do
+rests_at : (st : Stage) (g : GraphState) (q : Query) → (come_to st g q ≡ Nothing) ⊎ IsQuiet st
+rests_at (stage.Running c) g q = by (outstanding c == 0) refl
+  where
+    by : (b : Bool) → (outstanding c == 0) ≡ b → (cond b (found g q) Nothing ≡ Nothing) ⊎ IsQuiet (stage.Running c)
+    by true none = inr (quiet (stage.Running c) ((Decides-eqb (outstanding c) 0).0 none))
+    by false some = inl refl
+rests_at stage.Spent g q = inr (refl, refl)
+rests_at stage.Broken g q = inr (refl, refl)
 
-  still : AllByRecursion (λ (e : List ℕ × Tenant). IsIdle e.1) es → NothingToDo hall
-  still idle name k r at = by (get hall.tenants name) refl at
+rests : (s : SearchState) → IsUnsettled s ⊎ IsQuiet s.stage
+unfolding settled_of
+rests s = rests_at s.stage s.graph s.query
+
+-- what holds of all numbers holds of one that is found among them
+each : (P : ℕ → Type 0) (k : ℕ) (ks : List ℕ) → AllByRecursion P ks → list_any (λ q. k == q) ks ≡ true → P k
+each P k [] all there = cc
+each P k (q ∷ ks) all there = one (k == q) refl (each P k ks all.1) there
+  where
+    one : (b : Bool) → (k == q) ≡ b → (list_any (λ q. k == q) ks ≡ true → P k) → (b || list_any (λ q. k == q) ks) ≡ true → P k
+    one true same rest there = subst P (sym ((Decides-eqb k q).0 same)) all.0
+    one false apart rest there = rest there
+
+-- where nothing of any search of the index is left to do, nothing is
+pub nothing_left : {S Z : Type 0} (index : Index S Z) (h : HallState) → IsIndexed index h →
+    AllByRecursion (λ (e : List ℕ × IndexSet ℕ Z). AllByRecursion (SearchIsQuiet h e.0) e.1.keys) index.entries → NothingToDo h
+nothing_left {S} {Z} index h indexed still name k r at = by (rests r.search)
+  where
+    among : (o : Option (IndexSet ℕ Z)) → numbers_of is_same index name ≡ o → IsIn k o → IsQuiet r.search.stage
+    among None none listed = absurd listed
+    among (Some numbers) here listed =
+        each (SearchIsQuiet h name) k numbers.keys
+        (all_found names_exact is_same is_same_tied (λ e. AllByRecursion (SearchIsQuiet h e.0) e.1.keys) index.entries still name numbers
+        (looked_up names_exact is_same is_same_tied index.entries name ∙ here)) listed r at
+
+    by : IsUnsettled r.search ⊎ IsQuiet r.search.stage → IsQuiet r.search.stage
+    by (inr quiet) = quiet
+    by (inl unsettled) =
+        let (t, found, there) = tenant_of h name k r at in
+        among (numbers_of is_same index name) refl (indexed.listed name t k r found there unsettled)
+
+-- a search that isn't there, or is still
+module _ (h : HallState) (who : List ℕ) (k : ℕ) where
+  pub none_still : None ≡ option_map (λ (r : Running). r.search) (search_at h who k) → SearchIsQuiet h who k
+  none_still none r at = let clash : None ≡ Some r.search = none ∙ ap (option_map (λ (q : Running). q.search)) at in cc
+
+  pub one_still : (s : SearchState) → Some s ≡ option_map (λ (r : Running). r.search) (search_at h who k) → IsQuiet s.stage → SearchIsQuiet h who k
+  one_still s found still r at =
+      let both : Some s ≡ Some r.search = found ∙ ap (option_map (λ (q : Running). q.search)) at in
+      let same : s ≡ r.search = cc in
+      subst (λ (x : SearchState). IsQuiet x.stage) same still
+
+-- the step goes on with one of the tenant's searches
+abbrev pub IsNextOf : HallState → List ℕ → Step → Type 0
+IsNextOf h who made = (k : ℕ) × (r : Running) × (search_at h who k ≡ Some r) × IsNext who k r.search made
+
+-- the step that goes on with a search that is there
+pub next_there : (h : HallState) (who : List ℕ) (k : ℕ) (s : SearchState) (made : Step) → Some s ≡ option_map (λ (r : Running). r.search) (search_at h who k) → IsNext who k s made →
+    IsNextOf h who made
+next_there h who k s made found next = by (search_at h who k) refl found
+  where
+    by : (o : Option Running) → search_at h who k ≡ o → Some s ≡ option_map (λ (r : Running). r.search) o → IsNextOf h who made
+    by None none found = cc
+    by (Some r) at found = let same : s ≡ r.search = cc found in (k, r, at, subst (λ (x : SearchState). IsNext who k x made) same next)
+
+-- what is picked of a hall
+module _ (h : HallState) (who : List ℕ) (made : Step) (next : IsNextOf h who made) where
+  pub picked_progress : CanBeMade h made
+  picked_progress = let (k, r, at, is) = next in goes_on h who k r at made is
+
+  pub picked_left : SearchIsQuiet h (step_name made) (step_search made) → ⊥
+  picked_left = let (k, r, at, is) = next in is_left h who k r at made is
+
+  pub picked_some : (Some made ≡ None) ↔ NothingToDo h
+  picked_some = (λ none. clash none, λ nothing. absurd (picked_left (nothing (step_name made) (step_search made))))
     where
-      by : (p : Option Tenant) → get hall.tenants name ≡ p → search_of k p ≡ Some r → IsQuiet r.search.stage
-      by None none at = cc
-      by (Some t) here at = all_found names_exact is_same is_same_tied (λ (e : List ℕ × Tenant). IsIdle e.1) es idle name t here k r at
-
-  module _ (distinct : IsDistinct is_same (keys_of es)) where
-    there : (e : List ℕ × Tenant) → Contains es e → (k : ℕ) (r : Running) → get e.1.searches k ≡ Some r → search_at hall e.0 k ≡ Some r
-    there e among k r at = ap (search_of k) (at_key names_exact is_same is_same_tied es e distinct among) ∙ at
-
-    pub picked_progress : IfSome o (λ made. CanBeMade hall made)
-    picked_progress = by o picked
-      where
-        by : (p : Option Step) → MatchOption p (AllByRecursion (λ e. IsIdle e.1) es) (IsNextOfAny es) → IfSome p (λ made. CanBeMade hall made)
-        by None idle = tt
-        by (Some made) (e, among, (k, r, at, next)) = goes_on hall e.0 k r (there e among k r at) made next
-
-    pub picked_left : IfSome o (λ made. SearchIsQuiet hall (step_name made) (step_search made) → ⊥)
-    picked_left = by o picked
-      where
-        by : (p : Option Step) → MatchOption p (AllByRecursion (λ e. IsIdle e.1) es) (IsNextOfAny es) →
-            IfSome p (λ made. SearchIsQuiet hall (step_name made) (step_search made) → ⊥)
-        by None idle = tt
-        by (Some made) (e, among, (k, r, at, next)) = is_left hall e.0 k r (there e among k r at) made next
-
-    pub picked_none : (o ≡ None) ↔ NothingToDo hall
-    picked_none = by o picked picked_left
-      where
-        by : (p : Option Step) → MatchOption p (AllByRecursion (λ e. IsIdle e.1) es) (IsNextOfAny es) →
-            IfSome p (λ made. SearchIsQuiet hall (step_name made) (step_search made) → ⊥) → (p ≡ None) ↔ NothingToDo hall
-        by None idle left = (λ none. still idle, λ nothing. refl)
-        by (Some made) next left = (λ none. clash none, λ nothing. absurd (left (nothing (step_name made) (step_search made))))
-          where
-            clash : Some made ≡ None → NothingToDo hall
-            clash e = cc
+      clash : Some made ≡ None → NothingToDo h
+      clash e = cc

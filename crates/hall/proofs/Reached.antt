@@ -1,5 +1,5 @@
 -- A search that is reached through the table of tenants and the table of its tenant's searches.
-use Rattle.std.proofs.Common.{◌≡◌, ◌∙◌, ◌==◌, ℕ, List, ap, sym, Some, None}
+use Rattle.std.proofs.Common.{◌≡◌, ◌∙◌, ◌==◌, ℕ, List, ap, sym, subst, Some, None}
 use Rattle.std.specs.FinMap.{get, insert, from_entries}
 use Rattle.std.specs.Cmp.{unsigned_tied}
 use Rattle.names.specs.Name.{name_order, is_same}
@@ -8,12 +8,14 @@ use Rattle.indexmap.specs.IndexMap as table
 use Rattle.quotas.specs.Quota.{Quota}
 use Rattle.vaults.specs.declared.changes.Entry.{Entry}
 use Rattle.search.specs.Search.{SearchState, IsSoundStage}
-use Rattle.hall.specs.Hall.{Running, Tenant, IsSound, search_of, search_at}
+use Rattle.hall.specs.Hall.{Running, Tenant, IsSound, search_of, search_at, with_search}
+use Rattle.hall.specs.Kept.{IsUnsettled, Index, KeepsBut, ListsUnsettled, IsIndexed}
 use Rattle.hall.proofs.Maps.{numbers_exact, insert_again}
 use Rattle.hall.proofs.Indexed.{written}
 use Rattle.hall.proofs.Seated.{tenant_of, search_found}
 use Rattle.hall.proofs.Placed.{hall_of, put, put_again, put_changed, tenant_at, tenant_put}
 use Rattle.hall.proofs.Carrying.{Moves, moves_at}
+use Rattle.hall.proofs.Unsettled.{listed_after}
 
 module _ {S Z : Type 0} (journal : List Entry) (m n : IndexMap (List ℕ) Tenant S) (who : List ℕ) (limits : Quota) (opens : ℕ)
     (sm sn : IndexMap ℕ Running Z) (t : Tenant) (k : ℕ)
@@ -59,19 +61,31 @@ module _ {S Z : Type 0} (journal : List Entry) (m n : IndexMap (List ℕ) Tenant
       moves_at (hall_of journal m) who k gone goes (hall_of journal n) None (nobody_there none) (is, stays same)
 
   -- a search that goes on in its place
+  goes_there : (r : Running) (s : SearchState) → table.get (◌==◌) sm k ≡ Some r → WritesThrough (◌==◌) (λ j. k == j) sm (record r { search = s }) sn →
+      hall_of journal n ≡ with_search (hall_of journal m) who k (record r { search = s })
+  goes_there r s at goes_through =
+      after
+      ∙ put_changed (hall_of journal m) who (tenant_of limits opens sm) (tenant_of limits opens sn) here
+      (λ v. record v { searches = insert v.searches k (record r { search = s }) })
+      (λ i. record {
+        limits = limits;
+        opens = opens;
+        searches = written numbers_exact (◌==◌) unsigned_tied sm sn k r (record r { search = s }) at goes_through i;
+      })
+
   pub there : (gone : Type 0) (goes : SearchState → SearchState → Type 0) (r : Running) (s : SearchState) → table.get (◌==◌) sm k ≡ Some r →
       WritesThrough (◌==◌) (λ j. k == j) sm (record r { search = s }) sn → goes r.search s →
       Moves (hall_of journal m) who k gone goes (hall_of journal n)
   there gone goes r s at goes_through does =
-      moves_at (hall_of journal m) who k gone goes (hall_of journal n) (Some r) (found_there r at) (
-        s,
-        does,
-        after
-            ∙ put_changed (hall_of journal m) who (tenant_of limits opens sm) (tenant_of limits opens sn) here
-            (λ v. record v { searches = insert v.searches k (record r { search = s }) })
-            (λ i. record {
-              limits = limits;
-              opens = opens;
-              searches = written numbers_exact (◌==◌) unsigned_tied sm sn k r (record r { search = s }) at goes_through i;
-            }),
-      )
+      moves_at (hall_of journal m) who k gone goes (hall_of journal n) (Some r) (found_there r at) (s, does, goes_there r s at goes_through)
+
+  -- and it is left out of the index where it has settled
+  pub indexed_there : {X Y : Type 0} (index left : Index X Y) (r : Running) (s : SearchState) → table.get (◌==◌) sm k ≡ Some r →
+      WritesThrough (◌==◌) (λ j. k == j) sm (record r { search = s }) sn → (IsUnsettled s → IsUnsettled r.search) →
+      KeepsBut (λ name j. (name ≡ who) × (j ≡ k) × (IsUnsettled s → ⊥)) index left → IsIndexed index (hall_of journal m) → IsSound (hall_of journal n) →
+      IsIndexed left (hall_of journal n)
+  indexed_there index left r s at goes_through before keeps indexed sound = record {
+    sound = sound;
+    listed = subst (ListsUnsettled left) (sym (goes_there r s at goes_through))
+        (listed_after index left (hall_of journal m) who k r s (found_there r at) before keeps indexed.listed);
+  }

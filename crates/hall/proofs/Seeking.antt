@@ -82,3 +82,8 @@ module _ (h : HallState) (who : List ℕ) (t u : Tenant) (here : get h.tenants w
       unmoved (Close k) (Refused f)
       (answered_by h who t here (Close k) (Refused f)
       (refuses f (get_mapped numbers_exact seen t.searches k ∙ ap (option_map seen) refused.1, refused.0)) refl) unchanged
+
+-- what holds of the number that is answered holds of the one that is told
+pub entered : (r : Result ℕ Fault) (P : ℕ → Type 0) → IfOk r P → (n : ℕ) → told_as Opened r ≡ Opened n → P n
+entered (Ok m) P is n said = subst P (let same : m ≡ n = cc said in same) is
+entered (Err f) P is n said = cc said

@@ -3,7 +3,11 @@ use Rattle.std.proofs.Common.{◌≡◌, ◌∙◌, ℕ, List, true, is_some, ap
 use Rattle.std.specs.FinMap.{get}
 use Rattle.credential_text.specs.declared.credentials.Credential.{Credential}
 use Rattle.rt0_rules.specs.Membership.{IsMember}
+use Rattle.indexmap.specs.IndexMap.{IndexMap}
+use Rattle.indexmap.specs.IndexMap as table
+use Rattle.names.specs.Name.{is_same}
 use Rattle.vaults.specs.declared.marks.Seen.{Seen}
+use Rattle.vaults.specs.declared.changes.Entry.{Entry}
 use Rattle.vaults.specs.Journal.{vault, marked_names}
 use Rattle.vaults.proofs.Exactness.{vaults_own, marked_views_exact}
 use Rattle.search.specs.Ending.{asked_role}
@@ -15,7 +19,7 @@ use Rattle.proof_trees.specs.Proof.{IsProof}
 use Rattle.proof_trees.specs.Fault.{WhyRefused}
 use Rattle.proof_trees.proofs.Soundness.{sound}
 use Rattle.hall.specs.declared.faults.Fault.{Fault}
-use Rattle.hall.specs.declared.faults.Fault.TheVariants.{NoSuchSearch, NotDone, NoProof, Memory}
+use Rattle.hall.specs.declared.faults.Fault.TheVariants.{NoTenant, NoSuchSearch, NotDone, NoProof, Memory}
 use Rattle.hall.specs.declared.calls.answers.Answer.{Answer}
 use Rattle.hall.specs.declared.calls.requests.Request.{Request}
 use Rattle.hall.specs.declared.calls.replies.Reply.{Reply}
@@ -29,7 +33,17 @@ use Rattle.hall.specs.Hall.{Running, Tenant, HallState, seen, account, search_of
 use Rattle.hall.specs.Kept.{IsToldOf}
 use Rattle.hall.proofs.Maps.{numbers_exact, get_mapped}
 use Rattle.hall.proofs.Completed.{answer_completed}
-use Rattle.hall.proofs.Polled.{answered_by, polled_nowhere, polled_there}
+use Rattle.hall.proofs.Polled.{nobody_refused, answered_by, polled_nowhere, polled_there}
+use Rattle.hall.proofs.Placed.{hall_of, tenant_at}
+
+module _ {S : Type 0} (journal : List Entry) (m : IndexMap (List ℕ) Tenant S) (h : HallState) (is : hall_of journal m ≡ h) (who : List ℕ) where
+  -- a name that the table has is a tenant's
+  pub has_seat : (t : Tenant) → Some t ≡ table.get is_same m who → is_some (get h.tenants who) ≡ true
+  has_seat t found = subst (λ (g : HallState). is_some (get g.tenants who) ≡ true) is (ap is_some (tenant_at m.entries who (Some t) found))
+
+  -- and one that it lacks is refused
+  pub no_seat : None ≡ table.get is_same m who → (q : Request) → IsServed h who q (Refused NoTenant) h
+  no_seat none q = nobody_refused h who q (subst (λ (g : HallState). get g.tenants who ≡ None) is (tenant_at m.entries who None none))
 
 module _ (h : HallState) (who : List ℕ) (is : is_some (get h.tenants who) ≡ true) where
   known : (t : Tenant) × (get h.tenants who ≡ Some t)

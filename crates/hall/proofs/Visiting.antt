@@ -1,7 +1,6 @@
 -- Steps that one search makes in a row are steps of the hall.
 use Rattle.std.proofs.Common.{◌≡◌, ◌∙◌, ◌≤◌, ℕ, List, [], subst, sym, refl, ap, Option, Some, Result, Ok, Err, inl, inr, true, arith}
 use Rattle.std.specs.Result.{IsErr}
-use Rattle.std.proofs.lemmas.List.{append-nil}
 use Rattle.search.specs.declared.stages.Stage.{Stage}
 use Rattle.search.specs.Stage.{Delivers, IsQuiet}
 use Rattle.search.specs.Search.{SearchState, IsSoundStage}
@@ -9,8 +8,8 @@ use Rattle.search.specs.Driven.{SignalsFirst}
 use Rattle.hall.specs.declared.calls.steps.Step.TheVariants.{Take, Signal}
 use Rattle.hall.specs.declared.calls.steps.Stepped.TheVariants as stepped
 use Rattle.hall.specs.Hall.{Running, HallState, search_at, with_search, StepsAt, IsStepped, IsSound}
-use Rattle.hall.specs.Visits.{TakenLetter, IsTaken, IsWorkedOn, IsWhole, IsVisited, SearchIsQuiet}
-use Rattle.hall.specs.Kept.{TakesAs, WorksOn, Visits}
+use Rattle.search.specs.Batches.{TakenLetter, TakesAs, WorksOn, IsWhole, Visits}
+use Rattle.hall.specs.Visits.{IsTaken, IsWorkedOn, IsVisited, SearchIsQuiet}
 use Rattle.hall.proofs.Placed.{found_after, put_back, put_twice}
 use Rattle.hall.proofs.Carrying.{Moves, moved, none_quiet}
 use Rattle.hall.proofs.laws.HallSound.{stepped_sound}
@@ -26,24 +25,23 @@ whole_by most n P Q (Ok done) by (inr left) = inr (by left)
 whole_by most n P Q (Err lacked) by whole = tt
 
 -- nobody did anything, where nothing of the search is left to do
-pub no_visit : {E : Type 0} (who : List ℕ) (k most : ℕ) (held : List TakenLetter) (h : HallState) (result : Result (Unit {0}) E) → SearchIsQuiet h who k →
-    IsVisited who k most h held result h held
-no_visit who k most held h result quiet =
-    let within : 0 ≤ most = omega arith in (0, [], within, IsWorkedOn.nothing, sym (append-nil held), nothing_left most 0 (SearchIsQuiet h who k) result quiet)
+pub no_visit : {E : Type 0} (who : List ℕ) (k most : ℕ) (h : HallState) (result : Result (Unit {0}) E) → SearchIsQuiet h who k → IsVisited who k most h result h []
+no_visit who k most h result quiet =
+    let within : 0 ≤ most = omega arith in (0, within, IsWorkedOn.nothing, nothing_left most 0 (SearchIsQuiet h who k) result quiet)
 
-module _ {E : Type 0} (who : List ℕ) (k most : ℕ) (old : HallState) (held : List TakenLetter) (result : Result (Unit {0}) E) (new : HallState) (holds : List TakenLetter)
-    (visited : IsVisited who k most old held result new holds) where
+module _ {E : Type 0} (who : List ℕ) (k most : ℕ) (old : HallState) (result : Result (Unit {0}) E) (new : HallState) (taken : List TakenLetter)
+    (visited : IsVisited who k most old result new taken) where
   -- a visit that ended well was whole
-  pub visited_well : (F : Type 0) → result ≡ Ok tt → IsVisited {E = F} who k most old held (Ok tt) new holds
-  visited_well F well = let (n, taken, within, works, is, whole) = visited in (n, taken, within, works, is, by result well n whole)
+  pub visited_well : (F : Type 0) → result ≡ Ok tt → IsVisited {E = F} who k most old (Ok tt) new taken
+  visited_well F well = let (n, within, works, whole) = visited in (n, within, works, by result well n whole)
     where
       by : (r : Result (Unit {0}) E) → r ≡ Ok tt → (n : ℕ) → IsWhole most n (SearchIsQuiet new who k) r → IsWhole {E = F} most n (SearchIsQuiet new who k) (Ok tt)
       by (Ok done) is n whole = whole
       by (Err lacked) is n whole = cc
 
   -- where memory lacked it need not have been
-  pub visited_in_part : {F : Type 0} (told : Result (Unit {0}) F) → IsErr told → IsVisited who k most old held told new holds
-  visited_in_part (Err lacked) is = let (n, taken, within, works, same, whole) = visited in (n, taken, within, works, same, tt)
+  pub visited_in_part : {F : Type 0} (told : Result (Unit {0}) F) → IsErr told → IsVisited who k most old told new taken
+  visited_in_part (Err lacked) is = let (n, within, works, whole) = visited in (n, within, works, tt)
   visited_in_part (Ok done) is = cc
 
 -- a search that delivered a signal runs soundly
@@ -95,22 +93,20 @@ worked_sound who k old n letters new sound (IsWorkedOn.signal {n = m} {taken = b
 worked_sound who k old n letters new sound (IsWorkedOn.letter {n = m} {taken = before} {job} {middle} works (answer, steps, is)) =
     stepped_sound middle new (Take who k 0) answer (worked_sound who k old m before middle sound works) steps
 
-module _ {E : Type 0} (h : HallState) (who : List ℕ) (k most : ℕ) (held holds : List TakenLetter) (result : Result (Unit {0}) E) (new : HallState)
-    (moves : Moves h who k (holds ≡ held) (λ s u. Visits who k most held holds result s u) new) where
-  pub visits_as : IsVisited who k most h held result new holds
+module _ {E : Type 0} (h : HallState) (who : List ℕ) (k most : ℕ) (letters : List TakenLetter) (result : Result (Unit {0}) E) (new : HallState)
+    (moves : Moves h who k (letters ≡ []) (λ s u. Visits who k most s result u letters) new) where
+  pub visits_as : IsVisited who k most h result new letters
   visits_as =
-      moved h who k new (holds ≡ held) (λ s u. Visits who k most held holds result s u) (IsVisited who k most h held result new holds) moves
+      moved h who k new (letters ≡ []) (λ s u. Visits who k most s result u letters) (IsVisited who k most h result new letters) moves
       (λ none same stays.
-      subst (λ (g : HallState). IsVisited who k most h held result g holds) (sym stays)
-      (subst (IsVisited who k most h held result h) (sym same) (no_visit who k most held h result (none_quiet h who k none))))
+      subst (λ (g : HallState). IsVisited who k most h result g letters) (sym stays)
+      (subst (IsVisited who k most h result h) (sym same) (no_visit who k most h result (none_quiet h who k none))))
       (λ r s at visits becomes.
-      let (n, within, (letters, works, is), whole) = visits in (
+      let (n, within, works, whole) = visits in (
         n,
-        letters,
         within,
         subst (IsWorkedOn who k h n letters) (sym becomes)
             (subst (λ (g : HallState). IsWorkedOn who k g n letters (hall h who k r at s)) (put_back h who k r at) (worked_on h who k r at r.search n letters s works)),
-        is,
         whole_by most n (IsQuiet s.stage) (SearchIsQuiet new who k) result
             (λ quiet q found_now.
             let now : Some (running h who k r at s) ≡ Some q = sym (found h who k r at s) ∙ ap (λ (g : HallState). search_at g who k) (sym becomes) ∙ found_now in
@@ -120,4 +116,4 @@ module _ {E : Type 0} (h : HallState) (who : List ℕ) (k most : ℕ) (held hold
       ))
 
   pub visits_soundly : IsSound h → IsSound new
-  visits_soundly sound = worked_sound who k h visits_as.0 visits_as.1 new sound visits_as.3
+  visits_soundly sound = worked_sound who k h visits_as.0 letters new sound visits_as.2

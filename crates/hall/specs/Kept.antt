@@ -1,20 +1,21 @@
 -- What the calls of a hall do to one of its searches.
-use Rattle.std.specs.Prelude.{◌≡◌, ◌≤◌, ◌+◌, ◌++◌, ◌∷◌, ◌⊎◌, ℕ, Bool, true, false, List, [], slice_get, Option, None, Some, Result, Ok, Err}
-use Rattle.std.specs.List.{Contains, AllByRecursion}
+use Rattle.std.specs.Prelude.{◌≡◌, ◌==◌, ◌⊎◌, ℕ, true, List, [], slice_get, Option, None, Some, Result, Ok, Err}
 use Rattle.std.specs.FinMap.{get}
-use Rattle.search.specs.Ending.{Settled, Members}
-use Rattle.search.specs.Search.{SearchState, Settles, IsOutstanding, IsSoundStage, settled_of}
+use Rattle.indexmap.specs.IndexMap.{IndexMap, get as numbers_of}
+use Rattle.indexmap.specs.IndexSet.{IndexSet, contains}
+use Rattle.names.specs.Name.{is_same}
+use Rattle.search.specs.Ending.{Settled, Nothing, Members}
+use Rattle.search.specs.Search.{SearchState, IsOutstanding, IsSoundStage, settled_of}
 use Rattle.search.specs.Stage.{waiting_in, signals_in, IsQuiet, NoneHeld}
-use Rattle.search.specs.Finish.{Takes}
-use Rattle.search.specs.Driven.{IsDriven, SignalsFirst}
+use Rattle.search.specs.Driven.{IsDriven}
+use Rattle.search.specs.Batches.{TakenLetter, TakesAs}
 use Rattle.hall.specs.declared.faults.Fault.{Fault}
 use Rattle.hall.specs.declared.faults.Fault.TheVariants.{Memory}
 use Rattle.hall.specs.declared.calls.answers.Answer.{Answer}
 use Rattle.hall.specs.declared.calls.steps.Step.{Step}
 use Rattle.hall.specs.declared.calls.steps.Step.TheVariants.{Take, Signal}
 use Rattle.hall.specs.Answers.{answer_of}
-use Rattle.hall.specs.Hall.{Running, Tenant}
-use Rattle.hall.specs.Visits.{TakenLetter, IsWhole}
+use Rattle.hall.specs.Hall.{Running, Tenant, HallState, IsSound}
 
 -- it lists members
 abbrev pub ListsMembers : Settled → Type 0
@@ -34,44 +35,11 @@ pub record DrivesTo (s : SearchState) (told : Result Answer Fault) (t : SearchSt
   pub none_held : NoneHeld s.stage → NoneHeld t.stage
   pub sound : IsSoundStage t.stage
 
--- the waiting letter at a place was taken as this job of the tenant's search
-abbrev pub TakesAs : List ℕ → ℕ → ℕ → SearchState → TakenLetter → SearchState → Type 0
-TakesAs who k place s job t =
-    Takes s t place job.letter job.need × (job.who ≡ who) × (job.number ≡ k) × (job.snapshot ≡ s.snapshot)
-    × Settles s t × IsSoundStage t.stage
-
 -- the waiting letter at a place was taken as a job of this tenant's search, where there is one and memory to hold it
 abbrev pub TakesJob : {E : Type 0} → List ℕ → ℕ → ℕ → SearchState → Result (Option TakenLetter) E → SearchState → Type 0
 TakesJob who k place s (Ok None) t = (slice_get (waiting_in s.stage) place ≡ None) × (t ≡ s) × IsSoundStage t.stage
 TakesJob who k place s (Ok (Some job)) t = TakesAs who k place s job t
 TakesJob who k place s (Err f) t = t ≡ s
-
--- a step of the search was made: the oldest signal was delivered, or the first letter that waits was taken; or nothing of
--- it is left to do, or there is no memory to hold the letter
-abbrev pub MakesStep : {E : Type 0} → List ℕ → ℕ → List TakenLetter → List TakenLetter →
-    SearchState → Result Bool E → SearchState → Type 0
-MakesStep who k held holds s (Ok true) t =
-    (SignalsFirst s t × (holds ≡ held)) ⊎ ((job : TakenLetter) × TakesAs who k 0 s job t × (holds ≡ held ++ job ∷ []))
-MakesStep who k held holds s (Ok false) t = (t ≡ s) × (holds ≡ held) × IsQuiet t.stage
-MakesStep who k held holds s (Err lacked) t = (t ≡ s) × (holds ≡ held)
-
--- so many steps of the search were made one after another, by which these letters were taken
-pub data WorksOn (who : List ℕ) (k : ℕ) (s : SearchState) : ℕ → List TakenLetter → SearchState → Type 0 where
-  nothing : WorksOn who k s 0 [] s
-  signal : {n : ℕ} {taken : List TakenLetter} {middle t : SearchState} → WorksOn who k s n taken middle → SignalsFirst middle t →
-      WorksOn who k s (n + 1) taken t
-  letter : {n : ℕ} {taken : List TakenLetter} {job : TakenLetter} {middle t : SearchState} → WorksOn who k s n taken middle →
-      TakesAs who k 0 middle job t → WorksOn who k s (n + 1) (taken ++ job ∷ []) t
-
--- so many steps were made, and the letters stand behind those that were held
-abbrev pub MakesSteps : List ℕ → ℕ → ℕ → List TakenLetter → List TakenLetter → SearchState → SearchState → Type 0
-MakesSteps who k n held holds s t = (taken : List TakenLetter) × WorksOn who k s n taken t × (holds ≡ held ++ taken)
-
--- at most so many steps of the search were made, fewer only where nothing of it is left to do or memory lacked
-abbrev pub Visits : {E : Type 0} → List ℕ → ℕ → ℕ → List TakenLetter → List TakenLetter → Result (Unit {0}) E →
-    SearchState → SearchState → Type 0
-Visits who k most held holds result s t =
-    (n : ℕ) × (n ≤ most) × MakesSteps who k n held holds s t × IsWhole most n (IsQuiet t.stage) result
 
 -- the step goes on with the search of that number, of which something waits or is under way
 abbrev pub IsNext : List ℕ → ℕ → SearchState → Step → Type 0
@@ -79,22 +47,34 @@ IsNext who k s (Take name number place) = (name ≡ who) × (number ≡ k) × (p
 IsNext who k s (Signal name number place) = (name ≡ who) × (number ≡ k) × (place ≡ 0) × (signals_in s.stage ≡ [] → ⊥)
 IsNext who k s _ = ⊥
 
--- nothing of any of these searches waits or is under way
-abbrev pub AreQuiet : List (ℕ × Running) → Type 0
-AreQuiet = AllByRecursion (λ (e : ℕ × Running). IsQuiet e.1.search.stage)
+-- the search has come to nothing yet
+abbrev pub IsUnsettled : SearchState → Type 0
+IsUnsettled s = settled_of s ≡ Nothing
 
--- the step goes on with one of these searches
-abbrev pub IsNextAmong : List ℕ → List (ℕ × Running) → Step → Type 0
-IsNextAmong who es made = (e : ℕ × Running) × Contains es e × IsNext who e.0 e.1.search made
+-- numbers of searches, by whose they are
+abbrev pub Index : Type 0 → Type 0 → Type 0
+Index S Z = IndexMap (List ℕ) (IndexSet ℕ Z) S
 
--- nothing of any of the tenant's searches waits or is under way
-abbrev pub IsIdle : Tenant → Type 0
-IsIdle t = (k : ℕ) (r : Running) → get t.searches k ≡ Some r → IsQuiet r.search.stage
+-- the number is one of these, where there are any
+abbrev pub IsIn : {Z : Type 0} → ℕ → Option (IndexSet ℕ Z) → Type 0
+IsIn k None = ⊥
+IsIn k (Some numbers) = contains (◌==◌) numbers k ≡ true
 
--- the step goes on with one of the tenant's searches
-abbrev pub IsNextOf : List ℕ → Tenant → Step → Type 0
-IsNextOf who t made = (k : ℕ) × (r : Running) × (get t.searches k ≡ Some r) × IsNext who k r.search made
+-- the index has the tenant's search of that number
+abbrev pub Lists : {S Z : Type 0} → Index S Z → List ℕ → ℕ → Type 0
+Lists index name k = IsIn k (numbers_of is_same index name)
 
--- the step goes on with a search of one of these tenants
-abbrev pub IsNextOfAny : List (List ℕ × Tenant) → Step → Type 0
-IsNextOfAny es made = (e : List ℕ × Tenant) × Contains es e × IsNextOf e.0 e.1 made
+-- the index has what it had, but for what may be left out
+abbrev pub KeepsBut : {S Z : Type 0} → (List ℕ → ℕ → Type 0) → Index S Z → Index S Z → Type 0
+KeepsBut out old new = (name : List ℕ) (k : ℕ) → Lists old name k → out name k ⊎ Lists new name k
+
+-- each search that has come to nothing yet is in the index
+abbrev pub ListsUnsettled : {S Z : Type 0} → Index S Z → HallState → Type 0
+ListsUnsettled index h =
+    (name : List ℕ) (t : Tenant) (k : ℕ) (r : Running) → get h.tenants name ≡ Some t → get t.searches k ≡ Some r
+    → IsUnsettled r.search → Lists index name k
+
+-- what holds of every hall, with its index of the searches that may still go on
+pub record IsIndexed {S Z : Type 0} (index : Index S Z) (h : HallState) : Type 0 where
+  pub sound : IsSound h
+  pub listed : ListsUnsettled index h

@@ -2,9 +2,7 @@
 use Rattle.std.specs.Prelude.{◌≡◌, ℕ, Bool, true, false, List, [], ◌∷◌, Option, None, Some, slice_get}
 use Rattle.credential_text.specs.declared.exprs.Expr.TheVariants.{Rol}
 use Rattle.vaults.specs.Journal.{Vault}
-use Rattle.scholten_core.specs.declared.letters.Letter.{Letter}
 use Rattle.scholten_core.specs.Step.{started}
-use Rattle.search.specs.Net.{Said}
 use Rattle.search.specs.declared.letters.Load.TheVariants as load
 use Rattle.search.specs.declared.findings.Monitor.TheVariants as monitor
 use Rattle.search.specs.declared.queries.Query.{Query}
@@ -16,8 +14,9 @@ pub use Rattle.search.specs.Found.{found}
 use Rattle.search.specs.Ending.{asked_role}
 unfoldable pub use Rattle.search.specs.Search.{settled_of}
 use Rattle.search.specs.Search.{SearchState, SameQuestion, Settles, IsSoundStage}
-use Rattle.search.specs.Stage.{waiting_in, held_in, stage_marked, Delivers}
+use Rattle.search.specs.Stage.{waiting_in, Delivers}
 use Rattle.search.specs.Finish.{Takes, Finishes}
+pub use Rattle.search.specs.Batches.{PutsBack}
 use Rattle.hall.specs.declared.calls.steps.Step.{Step}
 use Rattle.hall.specs.declared.calls.steps.Step.TheVariants as step
 use Rattle.hall.specs.declared.calls.steps.Stepped.{Stepped}
@@ -38,12 +37,6 @@ just_opened asker view query work = record {
 abbrev pub TakesAt : SearchState → ℕ → Option (ℕ × Need) → SearchState → Type 0
 TakesAt old place None new = (slice_get (waiting_in old.stage) place ≡ None) × (new ≡ old)
 TakesAt old place (Some got) new = Takes old new place got.0 got.1
-
--- the held letter of a number waits again, where it is held
-abbrev pub PutsBack : SearchState → ℕ → Bool → SearchState → Type 0
-PutsBack old letter false new = (held_in old.stage letter ≡ None) × (new ≡ old)
-PutsBack old letter true new =
-    ((l : Letter Said) × (held_in old.stage letter ≡ Some l)) × (new ≡ record old { stage = stage_marked letter false old.stage })
 
 -- the signal at a place is delivered, where there is one
 pub record Signals (old : SearchState) (place : ℕ) (delivered : Bool) (new : SearchState) : Type 0 where

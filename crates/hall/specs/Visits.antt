@@ -1,22 +1,16 @@
 -- What somebody who works for a hall does to one search in a row.
-use Rattle.std.specs.Prelude.{◌≡◌, ◌⊎◌, ◌≤◌, ◌+◌, ◌++◌, [], ◌∷◌, ℕ, List, Option, None, Some, Result, Ok, Err}
-use Rattle.snapshots.specs.Snapshot.{SnapshotState}
-use Rattle.search.specs.declared.queries.Need.{Need}
+use Rattle.std.specs.Prelude.{◌≡◌, ◌⊎◌, ◌↔◌, ◌≤◌, ◌+◌, ◌++◌, [], ◌∷◌, ℕ, Bool, true, false, IsTrue, if◌then◌else◌, List}
+use Rattle.std.specs.Prelude.{Option, None, Some, Result}
 use Rattle.search.specs.Search.{SearchState, IsCompleted}
+use Rattle.search.specs.Need.{right_hint}
 use Rattle.search.specs.Stage.{IsQuiet}
+pub use Rattle.search.specs.Batches.{TakenLetter}
+use Rattle.search.specs.Batches.{IsWhole}
 use Rattle.hall.specs.declared.calls.steps.Step.{Step}
-use Rattle.hall.specs.declared.calls.steps.Step.TheVariants.{Take, Signal}
+use Rattle.hall.specs.declared.calls.steps.Step.TheVariants.{Take, GiveBack, Finish, Signal}
 use Rattle.hall.specs.declared.calls.steps.Stepped.{Stepped}
-use Rattle.hall.specs.declared.calls.steps.Stepped.TheVariants.{Took, Nothing, Signalled, Gone}
+use Rattle.hall.specs.declared.calls.steps.Stepped.TheVariants.{Took, Nothing, Signalled, Done, Gone}
 use Rattle.hall.specs.Hall.{HallState, Running, search_at, IsStepped}
-
--- a letter that was taken: whose, of which search, what it needs, and what it is to be looked up in
-pub record TakenLetter : Type 0 where
-  pub who : List ℕ
-  pub number : ℕ
-  pub letter : ℕ
-  pub need : Need
-  pub snapshot : SnapshotState
 
 -- the job is the letter that was taken of that search, with what the search reads
 pub record IsJobOf (h : HallState) (who : List ℕ) (number : ℕ) (answer : Stepped) (job : TakenLetter) : Type 0 where
@@ -61,18 +55,25 @@ pub data IsWorkedOn (who : List ℕ) (number : ℕ) (old : HallState) : ℕ → 
   letter : {n : ℕ} {taken : List TakenLetter} {job : TakenLetter} {middle new : HallState} → IsWorkedOn who number old n taken middle →
       IsTaken middle who number 0 (Some job) new → IsWorkedOn who number old (n + 1) (taken ++ job ∷ []) new
 
--- so many steps are all that may be made, or nothing was left to do; where memory lacked there may be fewer
-abbrev pub IsWhole : {E : Type 0} → ℕ → ℕ → Type 0 → Result (Unit {0}) E → Type 0
-IsWhole most n nothing_left (Ok done) = (n ≡ most) ⊎ nothing_left
-IsWhole most n nothing_left (Err lacked) = Unit {0}
+-- at most so many such steps are made, fewer only where nothing of the search is left to do or memory lacks
+abbrev pub IsVisited : {E : Type 0} → List ℕ → ℕ → ℕ → HallState → Result (Unit {0}) E → HallState → List TakenLetter → Type 0
+IsVisited who number most old result new taken =
+    (n : ℕ) × (n ≤ most) × IsWorkedOn who number old n taken new × IsWhole most n (SearchIsQuiet new who number) result
 
--- at most so many such steps are made, fewer only where nothing of the search is left to do or memory lacks, and the letters
--- stand behind those that are held
-abbrev pub IsVisited : {E : Type 0} → List ℕ → ℕ → ℕ → HallState → List TakenLetter → Result (Unit {0}) E →
-    HallState → List TakenLetter → Type 0
-IsVisited who number most old held result new holds =
-    (n : ℕ) × (taken : List TakenLetter) × (n ≤ most) × IsWorkedOn who number old n taken new × (holds ≡ held ++ taken)
-    × IsWhole most n (SearchIsQuiet new who number) result
+-- the letter is finished with its right hint, and this tells whether the hall answered that it is done; or it is given back
+abbrev pub IsHandedIn : Bool → HallState → TakenLetter → Bool → HallState → Type 0
+IsHandedIn false old one finished new =
+    (answer : Stepped) × IsStepped old (Finish one.who one.number one.letter (right_hint one.snapshot.vaults one.need)) answer new
+    × (IsTrue finished ↔ (answer ≡ Done))
+IsHandedIn true old one finished new =
+    (answer : Stepped) × IsStepped old (GiveBack one.who one.number one.letter) answer new × (finished ≡ false)
+
+-- each of these letters is handed in once, the first one first, and so many are finished
+pub data AreHandedIn (back : Bool) (old : HallState) : List TakenLetter → ℕ → HallState → Type 0 where
+  nothing : AreHandedIn back old [] 0 old
+  letter : {before : List TakenLetter} {n : ℕ} {middle new : HallState} (one : TakenLetter) (finished : Bool) →
+      AreHandedIn back old before n middle → IsHandedIn back middle one finished new →
+      AreHandedIn back old (before ++ one ∷ []) (if finished then n + 1 else n) new
 
 -- this is the tenant's search of that number, and it is completed
 pub record IsCompletedAt (h : HallState) (who : List ℕ) (number : ℕ) (s : SearchState) : Type 0 where

@@ -2,7 +2,7 @@ ghost use Rattle.std.specs.Prelude.{◌≡◌};
 ghost use Rattle.search.specs.Need.{right_hint};
 
 use names::Entity;
-use search::{Hint, Need, Task};
+use search::{Hint, Task};
 use std::marker::Model;
 
 /// A letter that was taken from a tenant's search, with what it is to be looked up in. It is spent by finishing it or
@@ -54,10 +54,7 @@ impl Job {
     pub fn look_up(&self) -> Hint
         ensures { result ≡ right_hint self.now.snapshot.vaults self.now.need }
     {
-        match self.task.need {
-            Need::Rows(role) => Hint::Rows(self.task.snap.find(&role)),
-            Need::Nothing => Hint::Nothing,
-        }
+        self.task.need.look_up(&self.task.snap)
     }
 
     /// The letter alone.

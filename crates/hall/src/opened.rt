@@ -1,13 +1,13 @@
 //! A search that was opened and not ended: its steps, what one of its tenant's calls does to it, and what is told of it.
-ghost use Rattle.std.specs.Prelude.{◌≡◌, ◌≤◌, ◌+◌, ◌<◌, MatchOption, vec_len, vec_capacity, IfOk, OnErr};
+ghost use Rattle.std.specs.Prelude.{◌≡◌, MatchOption};
 ghost use Rattle.search.specs.Stage.{IsQuiet};
-ghost use Rattle.search.specs.Search.{SearchState, IsCompleted, IsSoundStage, Settles};
+ghost use Rattle.search.specs.Search.{SearchState, IsCompleted, Settles};
 ghost use Rattle.search.specs.Carried.{IsCarried, carried_search};
 ghost use Rattle.hall.specs.declared.calls.requests.Request.TheVariants as request;
 ghost use Rattle.hall.specs.declared.calls.replies.Reply.TheVariants as reply;
 ghost use Rattle.hall.specs.Hall.{IsToldOver, told_as};
-ghost use Rattle.hall.specs.Kept.{DrivesTo, IsToldOf, TakesJob, MakesStep, Visits, IsNext};
-ghost use Rattle.hall.specs.Steps.{settled_of, IsMade, StepsSearch, finish_answer};
+ghost use Rattle.hall.specs.Kept.{DrivesTo, IsToldOf, TakesJob, IsNext};
+ghost use Rattle.hall.specs.Steps.{settled_of, IsMade};
 
 use crate::calls::{Answer, Step, Stepped};
 use crate::faults::Fault;
@@ -96,50 +96,6 @@ pub(crate) fn take(
     Ok(Some(Job { who, number, task }))
 }
 
-/// Makes up to so many steps of the tenant's search of the number, one after another: delivers the oldest signal, or else
-/// takes the first letter that waits, as long as there is either.
-pub(crate) fn visit(
-    search: &mut Search,
-    who: Entity,
-    number: u64,
-    most: usize,
-    held: &mut Vec<Job>,
-) -> Result<(), AllocError>
-    requires space { vec_len held.old + most ≤ vec_capacity held.old }
-    ensures visited { Visits who number most held.old.items held.new.items result search.old search.new }
-    ensures bound { vec_len held.new ≤ vec_len held.old + most }
-    ensures capacity { vec_capacity held.new ≡ vec_capacity held.old }
-{
-    for _step in 0..most {
-        if !make_step(search, who, number, held)? {
-            break;
-        }
-    }
-    Ok(())
-}
-
-/// Makes a step of the search, and tells whether there was one to make.
-fn make_step(
-    search: &mut Search,
-    who: Entity,
-    number: u64,
-    held: &mut Vec<Job>,
-) -> Result<bool, AllocError>
-    requires space { vec_len held.old < vec_capacity held.old }
-    ensures made { MakesStep who number held.old.items held.new.items search.old result search.new }
-    ensures bound { vec_len held.new ≤ vec_len held.old + 1 }
-    ensures capacity { vec_capacity held.new ≡ vec_capacity held.old }
-{
-    if search.signal(0) {
-        return Ok(true);
-    }
-    let Some(job) = take(search, who, number, 0)? else {
-        return Ok(false);
-    };
-    held.push_reserved(job);
-    Ok(true)
-}
-
 /// The step that goes on with the tenant's search of the number, if there is one: the oldest signal first.
 pub(crate) fn next_step(search: &Search, who: Entity, number: u64) -> Option<Step>
     ensures { MatchOption result (IsQuiet search.now.stage) (IsNext who number search.now) }
@@ -165,14 +121,6 @@ pub(crate) fn unmoved(step: &Step) -> Stepped
 
 /// Makes the step of the search.
 pub(crate) fn make(search: &mut Search, step: &Step) -> Stepped
-    ensures { StepsSearch search.old step.now result search.new }
-{
-    let answer = go_on(search, step);
-    search.kept();
-    answer
-}
-
-fn go_on(search: &mut Search, step: &Step) -> Stepped
     ensures made { IsMade search.old step.now result search.new }
     ensures settles { Settles search.old search.new }
 {
@@ -188,7 +136,13 @@ fn go_on(search: &mut Search, step: &Step) -> Stepped
                 Stepped::NotHeld
             }
         }
-        Step::Finish(_who, _number, letter, hint) => answer(search.finish(letter, hint)),
+        Step::Finish(_who, _number, letter, hint) => match search.finish(letter, hint) {
+            Finished::Done => Stepped::Done,
+            Finished::BadHint => Stepped::BadHint,
+            Finished::Spent => Stepped::Spent,
+            Finished::Broken => Stepped::Broken,
+            Finished::NotHeld => Stepped::NotHeld,
+        },
         Step::Signal(_who, _number, place) => {
             if search.signal(place) {
                 Stepped::Signalled
@@ -196,17 +150,5 @@ fn go_on(search: &mut Search, step: &Step) -> Stepped
                 Stepped::Nothing
             }
         }
-    }
-}
-
-fn answer(finished: Finished) -> Stepped
-    ensures { result ≡ finish_answer finished }
-{
-    match finished {
-        Finished::Done => Stepped::Done,
-        Finished::BadHint => Stepped::BadHint,
-        Finished::Spent => Stepped::Spent,
-        Finished::Broken => Stepped::Broken,
-        Finished::NotHeld => Stepped::NotHeld,
     }
 }

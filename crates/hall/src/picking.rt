@@ -1,43 +1,83 @@
-//! Which step goes on with the searches of a hall, each in its turn.
-ghost use Rattle.std.specs.Prelude.{◌≡◌, ◌≤◌, MatchOption};
-ghost use Rattle.std.specs.List.{AllByRecursion};
-ghost use Rattle.hall.specs.Kept.{AreQuiet, IsNextAmong, IsIdle, IsNextOfAny};
+//! Which searches of a hall may still go on, and which of them has its turn.
+ghost use Rattle.std.specs.Prelude.{◌≡◌, ◌≤◌, ◌↔◌, None, IfSome, OnOk};
+ghost use Rattle.search.specs.Search.{IsSoundStage};
+ghost use Rattle.hall.specs.Hall.{step_name, step_search};
+ghost use Rattle.hall.specs.Visits.{SearchIsQuiet, NothingToDo, CanBeMade};
+ghost use Rattle.hall.specs.Kept.{IsUnsettled, Lists, KeepsBut};
 
 use crate::calls::Step;
-use crate::opened::{Opened, next_step};
-use crate::seats::Seat;
-use indexmap::map::Slice;
+use crate::opened::next_step;
+use crate::registry::Hall;
+use indexmap::{IndexMap, IndexSet};
 use names::Entity;
+use search::{Search, Status};
+use std::alloc::AllocError;
 
-/// The step that goes on with a tenant's search. It begins at the tenant that the turn picks, and goes round.
-pub(crate) fn pick_seat(seats: Slice<'_, Entity, Seat>, turn: u64) -> Option<Step>
-    ensures { MatchOption result (AllByRecursion (λ e. IsIdle e.1) seats.entry) (IsNextOfAny seats.entry) }
+/// By each tenant that has any, the numbers of its searches that may still go on. Others may stand among them.
+pub(crate) type Busy = IndexMap<Entity, IndexSet<u64>>;
+
+/// Enters the tenant's search of the number.
+pub(crate) fn enter(busy: &mut Busy, who: Entity, number: u64) -> Result<(), AllocError>
+    ensures entered { OnOk result (Lists busy.new who number) }
+    ensures kept { KeepsBut (λ name k. ⊥) busy.old busy.new }
 {
-    let (place, round) = begin_at(seats.len(), turn);
-    let (before, from_there) = seats.split_at(place);
-    for (who, seat) in from_there.iter().chain(before.iter()) {
-        if let Some(step) = seat.next(*who, round) {
-            return Some(step);
-        }
+    if let Some(numbers) = busy.get_mut(&who) {
+        numbers.insert(number)?;
+        return Ok(());
     }
-    None
+    let mut numbers = IndexSet::new(*busy.allocator());
+    numbers.insert(number)?;
+    busy.insert(who, numbers)?;
+    Ok(())
 }
 
-/// The step that goes on with a search of this tenant. It begins at the search that the turn picks, and goes round.
-pub(crate) fn pick_search(who: Entity, searches: Slice<'_, u64, Opened>, turn: u64) -> Option<Step>
-    ensures { MatchOption result (AreQuiet searches.entry) (IsNextAmong who searches.entry) }
+/// Takes the tenant's search of the number out.
+pub(crate) fn leave(busy: &mut Busy, who: Entity, number: u64)
+    ensures kept { KeepsBut (λ name k. (name ≡ who) × (k ≡ number)) busy.old busy.new }
+    ensures gone { Lists busy.new who number → ⊥ }
 {
-    if searches.is_empty() {
-        return None;
-    }
-    let (place, _round) = begin_at(searches.len(), turn);
-    let (before, from_there) = searches.split_at(place);
-    for (number, opened) in from_there.iter().chain(before.iter()) {
-        if let Some(step) = next_step(opened.carried.search(), who, *number) {
-            return Some(step);
+    if let Some(numbers) = busy.get_mut(&who) {
+        numbers.swap_remove(&number);
+        if numbers.is_empty() {
+            busy.swap_remove(&who);
         }
     }
-    None
+}
+
+/// Takes the tenant's search of the number out where it has settled.
+pub(crate) fn settle(busy: &mut Busy, who: Entity, number: u64, search: &Search)
+    ensures kept { KeepsBut (λ name k. (name ≡ who) × (k ≡ number) × (IsUnsettled search.now → ⊥)) busy.old busy.new }
+    ensures gone { (IsUnsettled search.now → ⊥) → Lists busy.new who number → ⊥ }
+    ensures sound { IsSoundStage search.now.stage }
+{
+    if search.status() != Status::Working {
+        leave(busy, who, number);
+    }
+}
+
+impl Hall {
+    /// A step that goes on with a search, if anything waits or is under way. Tenants take turns, and a tenant's searches do.
+    pub fn pick(&self, turn: u64) -> Option<Step>
+        ensures progress { IfSome result (λ step. CanBeMade self.now step) }
+        ensures left { IfSome result (λ step. SearchIsQuiet self.now (step_name step) (step_search step) → ⊥) }
+        ensures none { (result ≡ None) ↔ NothingToDo self.now }
+    {
+        let (place, round) = begin_at(self.busy.len(), turn);
+        let (before, from_there) = self.busy.as_slice().split_at(place);
+        for (who, numbers) in from_there.iter().chain(before.iter()) {
+            let (place, _round) = begin_at(numbers.len(), round);
+            let (before, from_there) = numbers.as_slice().split_at(place);
+            for &number in from_there.iter().chain(before.iter()) {
+                let Some(search) = self.search(*who, number) else {
+                    continue;
+                };
+                if let Some(step) = next_step(search, *who, number) {
+                    return Some(step);
+                }
+            }
+        }
+        None
+    }
 }
 
 /// The place among so many that the turn picks, and how often all of them had their turn before.

@@ -1,37 +1,37 @@
 //! The hall of all tenants.
-ghost use Rattle.std.specs.Prelude.{◌≡◌, ◌↔◌, false, None, IfSome, IfOk, IfErr};
-ghost use Rattle.std.specs.Prelude.{OnOk, OnErr, is_some, option_copied, option_map, map, length};
+ghost use Rattle.std.specs.Prelude.{◌≡◌, IfOk, IfErr, OnErr, is_some, option_copied, option_map, map, length};
 ghost use Rattle.std.specs.FinMap.{get};
 ghost use Rattle.std.specs.List.{IsDistinct};
 ghost use Rattle.names.specs.Name.{is_same};
 ghost use Rattle.hall.specs.declared.calls.requests.Request.TheVariants as request;
 ghost use Rattle.hall.specs.declared.calls.replies.Reply.TheVariants as reply;
-ghost use Rattle.hall.specs.Hall.{IsSound, IsServed, told_as, new_tenant, new_hall, search_at};
+ghost use Rattle.hall.specs.Hall.{IsSound, IsServed, IsStepped, CarriesOut, told_as, new_tenant, new_hall, search_at};
 
 use crate::calls::{Answer, Step, Stepped};
 use crate::faults::Fault;
 use crate::jobs::Job;
 use crate::lists::{Rows, Sights};
-use crate::opened::{drive, make, proof_of, take, told_of, unmoved, visit};
-use crate::picking::pick_seat;
+use crate::opened::{drive, make, proof_of, take, told_of, unmoved};
+use crate::picking::{Busy, leave, settle};
 use crate::running::same_change;
 use crate::seats::Seat;
 use indexmap::IndexMap;
 use names::Entity;
 use proof_trees::Proof;
 use quotas::Limits;
-use search::{Carried, Hint, Query, Search};
+use search::{Batch, Carried, Hint, Query, Search};
 use std::alloc::{AllocError, Global};
 use std::marker::Model;
 use std::sync::Arc;
 use vaults::{Book, Change};
 
-/// The journal of all tenants, and by its name what each has opened.
+/// The journal of all tenants, by its name what each has opened, and which searches may still go on.
 #[derive(Drop)]
 pub struct Hall {
     pub(crate) alloc: Global,
     book: Book,
     tenants: IndexMap<Entity, Seat>,
+    pub(crate) busy: Busy,
 }
 
 impl Model for Hall {
@@ -40,7 +40,8 @@ impl Model for Hall {
     ghost use Rattle.std.specs.FinMap.{from_entries};
     ghost use Rattle.search.specs.contracts.stages.Stage as running;
     ghost use Rattle.search.specs.contracts.findings.Monitor as memory;
-    ghost use Rattle.hall.specs.Hall.{HallState, IsSound};
+    ghost use Rattle.hall.specs.Hall.{HallState};
+    ghost use Rattle.hall.specs.Kept.{IsIndexed};
 
     ghost Value = { HallState };
 
@@ -48,16 +49,16 @@ impl Model for Hall {
 
     ghost view = { λ h. record { journal = h.book; tenants = from_entries h.tenants.entries } };
 
-    ghost invariant = { λ h. IsSound (record { journal = h.book; tenants = from_entries h.tenants.entries }) };
+    ghost invariant = { λ h. IsIndexed h.busy (record { journal = h.book; tenants = from_entries h.tenants.entries }) };
 }
 
 impl Hall {
     ghost use Rattle.hall.specs.declared.calls.steps.Step.TheVariants as step;
-    ghost use Rattle.std.specs.Prelude.{◌+◌, ◌≤◌, MatchOption, vec_len, vec_capacity};
+    ghost use Rattle.std.specs.Prelude.{◌≤◌, MatchOption};
     ghost use Rattle.std.specs.Arc.{arc_value};
     ghost use Rattle.hall.specs.Run.{waits};
-    ghost use Rattle.hall.specs.Hall.{IsStepped, CarriesOut, step_name, step_search};
-    ghost use Rattle.hall.specs.Visits.{IsTaken, IsVisited, SearchIsQuiet, CanBeMade, NothingToDo, IsCompletedAt, NoneIsCompletedAt};
+    ghost use Rattle.search.specs.Batches.{IsEmpty, IsLookedUp, AreOf};
+    ghost use Rattle.hall.specs.Visits.{IsTaken, IsVisited, AreHandedIn, SearchIsQuiet, IsCompletedAt, NoneIsCompletedAt};
 
     /// The hall of these tenants, where nothing was done yet.
     pub fn make(alloc: Global, roster: Vec<(Entity, Limits)>) -> Result<Hall, Fault>
@@ -68,7 +69,8 @@ impl Hall {
         Ok(Hall {
             alloc,
             book: Book::new(alloc),
-            tenants: seats_of(alloc, &roster)?,
+            tenants: seated(alloc, &roster)?,
+            busy: IndexMap::new(alloc),
         })
     }
 
@@ -117,16 +119,14 @@ impl Hall {
         ensures served { IsServed self.old who (request.Seek query) (told_as reply.Opened result) self.new }
     {
         let seat = self.tenants.get_mut(&who).ok_or(Fault::NoTenant)?;
-        seat.open(self.alloc, &mut self.book, who, query)
+        seat.open(self.alloc, &mut self.book, &mut self.busy, who, query)
     }
 
     /// What the tenant's search of the number has come to.
     pub fn poll(&self, who: Entity, number: u64) -> Result<Answer, Fault>
         ensures served { IsServed self.now who (request.Poll number) (told_as reply.Answered result) self.now }
     {
-        if !self.has(who) {
-            return Err(Fault::NoTenant);
-        }
+        let _seat = self.tenants.get(&who).ok_or(Fault::NoTenant)?;
         let search = self.search(who, number).ok_or(Fault::NoSuchSearch)?;
         told_of(search)
     }
@@ -136,9 +136,7 @@ impl Hall {
     pub fn proof(&self, who: Entity, number: u64, member: Entity) -> Result<Proof, Fault>
         ensures served { IsServed self.now who (request.Proof number member) (told_as reply.Proof result) self.now }
     {
-        if !self.has(who) {
-            return Err(Fault::NoTenant);
-        }
+        let _seat = self.tenants.get(&who).ok_or(Fault::NoTenant)?;
         let search = self.search(who, number).ok_or(Fault::NoSuchSearch)?;
         proof_of(self.alloc, search, &member)
     }
@@ -148,16 +146,17 @@ impl Hall {
         ensures served { IsServed self.old who (request.Close number) (told_as (λ u. reply.Closed) result) self.new }
     {
         let seat = self.tenants.get_mut(&who).ok_or(Fault::NoTenant)?;
-        seat.end(number)
+        leave(&mut self.busy, who, number);
+        let ended = seat.searches.swap_remove(&number);
+        let _ended = ended.ok_or(Fault::NoSuchSearch)?;
+        Ok(())
     }
 
     /// The credentials that the tenant issues and holds, in order.
     pub fn vault(&mut self, who: Entity) -> Result<Rows, Fault>
         ensures served { IsServed self.old who request.Vault (told_as reply.Vault result) self.new }
     {
-        if !self.has(who) {
-            return Err(Fault::NoTenant);
-        }
+        let _seat = self.tenants.get(&who).ok_or(Fault::NoTenant)?;
         let rows = self.book.copy_of_vault(who)?;
         Ok(Rows::new(rows))
     }
@@ -167,9 +166,7 @@ impl Hall {
     pub fn sees(&self, who: Entity) -> Result<Sights, Fault>
         ensures served { IsServed self.now who request.Sees (told_as reply.Sees result) self.now }
     {
-        if !self.has(who) {
-            return Err(Fault::NoTenant);
-        }
+        let _seat = self.tenants.get(&who).ok_or(Fault::NoTenant)?;
         let seen = self.book.owners_read_by(who)?;
         Ok(Sights::new(seen))
     }
@@ -189,7 +186,9 @@ impl Hall {
         let Carried::Own(search) = &mut opened.carried else {
             return unmoved(&step);
         };
-        make(search, &step)
+        let stepped = make(search, &step);
+        settle(&mut self.busy, who, number, search);
+        stepped
     }
 
     /// Takes the waiting letter at a place of the tenant's search of the number, with what it is to be looked up in.
@@ -211,20 +210,22 @@ impl Hall {
     }
 
     /// Makes up to so many steps of the tenant's search of the number, one after another: delivers the oldest signal, or
-    /// else takes the first letter that waits, as long as there is either. The search is looked up once. The letters stand
-    /// behind those that are held already. Where there is no memory to hold a letter, the steps before it are made.
+    /// else takes the first letter that waits, as long as there is either. The search is looked up once. The batch has the
+    /// letters then. Where there is no memory to share what the search reads, nothing is done.
     pub fn visit(
         &mut self,
         who: Entity,
         number: u64,
         most: usize,
-        held: &mut Vec<Job>,
+        batch: &mut Batch,
     ) -> Result<(), Fault>
-        requires space { vec_len held.old + most ≤ vec_capacity held.old }
-        ensures visited { IsVisited who number most self.old held.old.items result self.new held.new.items }
+        requires empty { IsEmpty batch.old }
+        requires space { most ≤ batch.old.room }
+        ensures visited { IsVisited who number most self.old result self.new batch.new.letters }
         ensures only_memory { IfErr result (λ f. f ≡ Fault.Memory) }
-        ensures bound { vec_len held.new ≤ vec_len held.old + most }
-        ensures capacity { vec_capacity held.new ≡ vec_capacity held.old }
+        ensures bound { length batch.new.letters ≤ most }
+        ensures looked { batch.new.looked ≡ 0 }
+        ensures room { batch.new.room ≡ batch.old.room }
     {
         let Some(seat) = self.tenants.get_mut(&who) else {
             return Ok(());
@@ -235,7 +236,48 @@ impl Hall {
         let Carried::Own(search) = &mut opened.carried else {
             return Ok(());
         };
-        Ok(visit(search, who, number, most, held)?)
+        search.visit(who, number, most, batch)?;
+        settle(&mut self.busy, who, number, search);
+        Ok(())
+    }
+
+    /// Finishes the letters of the batch in the order in which they were taken, each with its right hint, and answers how
+    /// many are done. Or gives all of them back. Their search is looked up once.
+    pub fn hand_in(&mut self, batch: &mut Batch, back: bool) -> u64
+        requires { IsLookedUp batch.old }
+        ensures handed_in { AreHandedIn back self.old batch.old.letters result self.new }
+        ensures most { result ≤ length batch.old.letters }
+        ensures empty { IsEmpty batch.new }
+        ensures room { batch.new.room ≡ batch.old.room }
+    {
+        let finished = match batch.search() {
+            Some((who, number)) => self.hand_in_to(who, number, batch, back),
+            None => 0,
+        };
+        batch.let_go();
+        finished
+    }
+
+    /// Hands the letters in to the tenant's search of the number, which they are of.
+    fn hand_in_to(&mut self, who: Entity, number: u64, batch: &Batch, back: bool) -> u64
+        requires looked_up { IsLookedUp batch.now }
+        requires of { batch.now.of ≡ Some (who, number) }
+        requires letters { AreOf (Some (who, number)) batch.now.letters }
+        ensures handed_in { AreHandedIn back self.old batch.now.letters result self.new }
+        ensures most { result ≤ length batch.now.letters }
+    {
+        let Some(seat) = self.tenants.get_mut(&who) else {
+            return 0;
+        };
+        let Some(opened) = seat.searches.get_mut(&number) else {
+            return 0;
+        };
+        let Carried::Own(search) = &mut opened.carried else {
+            return 0;
+        };
+        let finished = search.hand_in(batch, back);
+        settle(&mut self.busy, who, number, search);
+        finished
     }
 
     /// Finishes the letter of the job with what was looked up.
@@ -262,16 +304,9 @@ impl Hall {
     {
         let seat = self.tenants.get_mut(&who).ok_or(Fault::NoTenant)?;
         let opened = seat.searches.get_mut(&number).ok_or(Fault::NoSuchSearch)?;
-        drive(&mut opened.carried)
-    }
-
-    /// A step that goes on with a search, if anything waits or is under way. Tenants take turns, and a tenant's searches do.
-    pub fn pick(&self, turn: u64) -> Option<Step>
-        ensures progress { IfSome result (λ step. CanBeMade self.now step) }
-        ensures left { IfSome result (λ step. SearchIsQuiet self.now (step_name step) (step_search step) → ⊥) }
-        ensures none { (result ≡ None) ↔ NothingToDo self.now }
-    {
-        pick_seat(self.tenants.as_slice(), turn)
+        let told = drive(&mut opened.carried);
+        settle(&mut self.busy, who, number, opened.carried.search());
+        told
     }
 
     /// The tenant's search of the number, if it has not ended.
@@ -304,10 +339,7 @@ impl Hall {
 }
 
 /// A seat for each tenant of the roster.
-fn seats_of(
-    alloc: Global,
-    roster: &[(Entity, Limits)],
-) -> Result<IndexMap<Entity, Seat>, AllocError>
+fn seated(alloc: Global, roster: &[(Entity, Limits)]) -> Result<IndexMap<Entity, Seat>, AllocError>
     requires { IsDistinct is_same (map (λ row. row.0) roster.now) }
     ensures { IfOk result (λ seats. seats.entries ≡ map (λ row. (row.0, new_tenant row.1)) roster.now) }
 {

@@ -1,18 +1,17 @@
 //! A tenant's seat: its limits, and the searches that it has opened and not ended.
-ghost use Rattle.std.specs.Prelude.{◌≡◌, ◌+◌, ◌<◌, None, Some, length, unwrap_or, option_map, IfOk, IfErr, OnOk, OnErr, MatchOption};
-ghost use Rattle.std.specs.FinMap.{get, insert, remove, len};
+ghost use Rattle.std.specs.Prelude.{◌≡◌, ◌+◌, ◌<◌, None, Some, length, unwrap_or, option_map, IfOk, IfErr, OnOk, OnErr};
+ghost use Rattle.std.specs.FinMap.{insert, len};
 ghost use Rattle.vaults.specs.Journal.{entries_of, vault, grant_count, refusal, view};
 ghost use Rattle.hall.specs.Fault.{vault_fault};
 ghost use Rattle.hall.specs.declared.faults.Fault.TheVariants as faults;
 ghost use Rattle.hall.specs.Steps.{just_opened};
 ghost use Rattle.hall.specs.Account.{alter_refusal, seek_refusal};
 ghost use Rattle.hall.specs.Hall.{account, beginning, new_tenant};
-ghost use Rattle.hall.specs.Kept.{IsIdle, IsNextOf};
+ghost use Rattle.hall.specs.Kept.{Lists, KeepsBut};
 
-use crate::calls::Step;
 use crate::faults::Fault;
 use crate::opened::Opened;
-use crate::picking::pick_search;
+use crate::picking::{Busy, enter};
 use indexmap::IndexMap;
 use names::Entity;
 use quotas::{Limits, Used};
@@ -76,11 +75,12 @@ impl Seat {
     }
 
     /// Opens a search over what the tenant sees now, and answers its number. The order of refusals: 43, 45, and want of
-    /// memory.
+    /// memory, where its number may stay among those that may go on.
     pub(crate) fn open(
         &mut self,
         alloc: Global,
         book: &mut Book,
+        busy: &mut Busy,
         who: Entity,
         query: Query,
     ) -> Result<u64, Fault>
@@ -93,6 +93,8 @@ impl Seat {
         ensures refused { IfErr result (λ f. f ≡ unwrap_or (seek_refusal (account book.old who self.old)) faults.Memory) }
         ensures unchanged { OnErr result (self.new ≡ self.old) }
         ensures same { book.new ≡ book.old }
+        ensures entered { IfOk result (λ n. Lists busy.new who n) }
+        ensures kept { KeepsBut (λ name k. ⊥) busy.old busy.new }
     {
         let used = self.used(book, &who);
         self.limits.may_search(&used)?;
@@ -100,29 +102,10 @@ impl Seat {
         let carried = Carried::Own(begin(alloc, book, who, query, self.limits.work())?);
         let number = self.opens + 1;
         let opened_at = book.journal_len();
+        enter(busy, who, number)?;
         self.searches.insert(number, Opened { opened_at, carried })?;
         self.opens = number;
         Ok(number)
-    }
-
-    /// Ends the search of the number.
-    pub(crate) fn end(&mut self, number: u64) -> Result<(), Fault>
-        ensures found { OnOk result (get self.old.searches number ≡ None → ⊥) }
-        ensures ended { OnOk result (self.new ≡ record self.old { searches = remove self.old.searches number }) }
-        ensures refused { IfErr result (λ f. (f ≡ faults.NoSuchSearch) × (get self.old.searches number ≡ None)) }
-        ensures unchanged { OnErr result (self.new ≡ self.old) }
-    {
-        let Some(_ended) = self.searches.swap_remove(&number) else {
-            return Err(Fault::NoSuchSearch);
-        };
-        Ok(())
-    }
-
-    /// The step that goes on with one of the searches. It begins at the search that the turn picks, and goes round.
-    pub(crate) fn next(&self, who: Entity, turn: u64) -> Option<Step>
-        ensures { MatchOption result (IsIdle self.now) (IsNextOf who self.now) }
-    {
-        pick_search(who, self.searches.as_slice(), turn)
     }
 
     /// What the tenant uses of its limits, by its account.

@@ -4,7 +4,6 @@ pub mod Polled
 pub mod Own
 pub mod Kept
 pub mod Visiting
-pub mod HandingIn
 pub mod Joined
 pub mod Lent
 pub mod Told

@@ -3,10 +3,12 @@
 use Rattle.std.proofs.Common.{◌≡◌, ◌∙◌, ◌↔◌, ℕ, Bool, true, false, not, IsTrue, is_some, Option, None, Some, List, Result, refl, subst}
 use Rattle.hall.specs.declared.faults.Fault.{Fault}
 use Rattle.hall.specs.declared.calls.steps.Step.{Step}
-use Rattle.hall.specs.declared.calls.steps.Step.TheVariants.{Take, Signal}
+use Rattle.hall.specs.declared.calls.steps.Step.TheVariants.{Take, GiveBack, Finish, Signal}
 use Rattle.hall.specs.declared.calls.steps.Stepped.TheVariants.{Signalled}
 use Rattle.hall.specs.Hall.{HallState, step_name, step_search}
-use Rattle.hall.specs.Visits.{TakenLetter, SearchIsQuiet, IsWorkedOn, IsVisited}
+use Rattle.search.specs.Need.{right_hint}
+use Rattle.search.specs.Batches.{TakenLetter}
+use Rattle.hall.specs.Visits.{SearchIsQuiet, IsWorkedOn, IsVisited, IsHandedIn, AreHandedIn}
 use Rattle.pool.specs.Visits.{VisitsOne}
 use Rattle.pool.proofs.Kept.{stepped_journal}
 
@@ -25,12 +27,23 @@ none_picked (Some made) true is = cc
 none_picked (Some made) false is = (λ yes. cc, λ same. cc)
 
 -- what a worker does with the search that was picked
-pub visits_one : (most : ℕ) (old : HallState) (held : List TakenLetter) (new : HallState) (holds : List TakenLetter) (result told : Result (Unit {0}) Fault) (at : List ℕ × ℕ) (made : Step) →
-    at ≡ (step_name made, step_search made) → (SearchIsQuiet old (step_name made) (step_search made) → ⊥) → IsVisited at.0 at.1 most old held result new holds → result ≡ told →
-    VisitsOne most old held told new holds
-visits_one most old held new holds result told at made same left visited is = (
+pub visits_one : (most : ℕ) (old new : HallState) (taken : List TakenLetter) (result told : Result (Unit {0}) Fault) (at : List ℕ × ℕ) (made : Step) →
+    at ≡ (step_name made, step_search made) → (SearchIsQuiet old (step_name made) (step_search made) → ⊥) → IsVisited at.0 at.1 most old result new taken → result ≡ told →
+    VisitsOne most old told new taken
+visits_one most old new taken result told at made same left visited is = (
   at.0,
   at.1,
   λ quiet. left (subst (λ (p : List ℕ × ℕ). SearchIsQuiet old p.0 p.1) same quiet),
-  subst (λ (r : Result (Unit {0}) Fault). IsVisited at.0 at.1 most old held r new holds) is visited,
+  subst (λ (r : Result (Unit {0}) Fault). IsVisited at.0 at.1 most old r new taken) is visited,
 )
+
+-- nor do letters that are handed in change the journal
+one_journal : (back : Bool) (old : HallState) (one : TakenLetter) (done : Bool) (new : HallState) → IsHandedIn back old one done new → new.journal ≡ old.journal
+one_journal false old one done new (answer, steps, tells) =
+    stepped_journal old new (Finish one.who one.number one.letter (right_hint one.snapshot.vaults one.need)) answer steps
+one_journal true old one done new (answer, steps, none) = stepped_journal old new (GiveBack one.who one.number one.letter) answer steps
+
+pub handed_in_journal : (back : Bool) (old : HallState) (letters : List TakenLetter) (n : ℕ) (new : HallState) → AreHandedIn back old letters n new → new.journal ≡ old.journal
+handed_in_journal back old letters n new AreHandedIn.nothing = refl
+handed_in_journal back old letters n new (AreHandedIn.letter {before} {n = m} {middle} one done hands last) =
+    one_journal back middle one done new last ∙ handed_in_journal back old before m middle hands

@@ -1,9 +1,10 @@
-ghost use Rattle.std.specs.Prelude.{◌≡◌, ◌↔◌, ◌+◌, ◌≤◌, map, vec_len, vec_capacity, IfOk, IfErr, OnOk, OnErr, Contains};
+ghost use Rattle.std.specs.Prelude.{◌≡◌, ◌↔◌, ◌+◌, ◌≤◌, [], length, map, vec_len, IfOk, IfErr, OnOk, OnErr, Contains};
 ghost use Rattle.std.specs.List.{IsDistinct};
 ghost use Rattle.std.specs.Sync.Mutex.{mutex_guard_value};
 ghost use Rattle.names.specs.Name.{is_same};
 ghost use Rattle.hall.specs.declared.calls.requests.Request.TheVariants as request;
 ghost use Rattle.hall.specs.declared.calls.replies.Reply.TheVariants as reply;
+ghost use Rattle.search.specs.Batches.{IsEmpty, IsLookedUp};
 ghost use Rattle.pool.specs.Laws.{CountsAreSeen, NumbersAreCounted, VaultsAreOwn, SightsAreOwn, VerdictsAreOwn};
 ghost use Rattle.pool.specs.Passes.{shares_of};
 ghost use Rattle.pool.specs.Rooms.{IsKept};
@@ -15,8 +16,8 @@ use crate::faults::{DeskFault, Told};
 use crate::passes::Pass;
 use crate::rooms::{PARTS, Room, read_off};
 use crate::verdicts::{Gathered, Ticket, Verdict};
-use crate::visits::{BATCH, Found, Looked};
-use hall::{Fault, Hall, Job, Proof, Query, Reply, Request, Rows, Sights, told_of};
+use crate::visits::{BATCH, Found};
+use hall::{Batch, Fault, Hall, Proof, Query, Reply, Request, Rows, Sights, told_of};
 use names::Entity;
 use quotas::Limits;
 use std::alloc::Global;
@@ -263,17 +264,18 @@ impl<L: Ledger> Desk<L> {
 
     /// For a worker: waits until there is something to do, does it, and answers what it found. One worker more is woken where
     /// something is left to do, so that no more of them are awake than find something.
-    pub(crate) fn visit<R: Wait>(&self, rt: &R, held: &mut Vec<Job>) -> Found
-        requires empty { vec_len held.old ≡ 0 }
-        requires space { BATCH ≤ vec_capacity held.old }
+    pub(crate) fn visit<R: Wait>(&self, rt: &R, batch: &mut Batch) -> Found
+        requires empty { IsEmpty batch.old }
+        requires space { BATCH ≤ batch.old.room }
         ensures found { ¬ (result ≡ Found.Nothing) }
-        ensures stopped { result ≡ Found.Stopped → vec_len held.new ≡ 0 }
-        ensures bound { vec_len held.new ≤ BATCH }
-        ensures capacity { vec_capacity held.new ≡ vec_capacity held.old }
+        ensures stopped { result ≡ Found.Stopped → batch.new.letters ≡ [] }
+        ensures bound { length batch.new.letters ≤ BATCH }
+        ensures looked { batch.new.looked ≡ 0 }
+        ensures space { batch.new.room ≡ batch.old.room }
     {
         let room = self.enter(rt);
         let mut room = self.work.wait_while(rt, room, |room| room.is_idle());
-        let found = room.visit(held);
+        let found = room.visit(batch);
         let is_idle = room.is_idle();
         self.release(room);
         if !is_idle {
@@ -282,20 +284,19 @@ impl<L: Ledger> Desk<L> {
         found
     }
 
-    /// For a worker: hands in all that it holds, and answers how many letters are finished. They are letters of one search,
-    /// that of the last one: it alone is looked at, whether those who wait for its end are to be woken.
-    pub(crate) fn hand_in<R: Wait>(&self, rt: &R, looked: &mut Vec<Looked>) -> u64
-        ensures most { result ≤ vec_len looked.old }
-        ensures empty { vec_len looked.new ≡ 0 }
-        ensures capacity { vec_capacity looked.new ≡ vec_capacity looked.old }
+    /// For a worker: hands in all that it holds, and answers how many letters are finished. They are letters of one search:
+    /// it alone is looked at, whether those who wait for its end are to be woken.
+    pub(crate) fn hand_in<R: Wait>(&self, rt: &R, batch: &mut Batch) -> u64
+        requires { IsLookedUp batch.old }
+        ensures most { result ≤ length batch.old.letters }
+        ensures empty { IsEmpty batch.new }
+        ensures space { batch.new.room ≡ batch.old.room }
     {
-        let Some(last) = looked.last() else {
+        if batch.search().is_none() {
             return 0;
-        };
-        let (who, number) = (*last.job.who(), last.job.number());
+        }
         let mut room = self.enter(rt);
-        let finished = room.hand_in_all(looked);
-        room.note(who, number);
+        let finished = room.hand_in(batch);
         self.release(room);
         finished
     }

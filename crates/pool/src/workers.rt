@@ -1,13 +1,14 @@
 //! Workers: threads that take letters, look up outside the lock, and hand in.
-ghost use Rattle.std.specs.Prelude.{ℕ, List, ◌≡◌, ◌≤◌, IfOk, IfErr, vec_len, vec_capacity, reverse};
+ghost use Rattle.std.specs.Prelude.{ℕ, List, ◌≡◌, ◌≤◌, IfOk, IfErr, vec_len, vec_capacity};
 ghost use Rattle.pool.specs.Refusals.{IsWorkRefusal};
-ghost use Rattle.pool.specs.Visits.{letters_of, AreLetThrough};
+ghost use Rattle.search.specs.Batches.{IsLookedUp};
+ghost use Rattle.pool.specs.Visits.{AreLetThrough};
 ghost use Rattle.pool.specs.Workers.{done_by_both, IsDoneBy, DoneBy};
 
 use crate::desks::Desk;
 use crate::faults::{DeskFault, Told};
-use crate::visits::{BATCH, Found, Looked};
-use hall::{Fault, Job};
+use crate::visits::{BATCH, Found};
+use hall::{Batch, Fault};
 use names::Entity;
 use std::alloc::Global;
 use std::sync::Wait;
@@ -40,42 +41,36 @@ impl Gate for NoGate {
 type Worked = Option<u64>;
 
 /// Passes the gate with each letter, and looks up what it needs.
-fn look_up_all<G: Gate>(gate: &G, held: &mut Vec<Job>, looked: &mut Vec<Looked>)
-    requires empty { vec_len looked.old ≡ 0 }
-    requires space { vec_len held.old ≤ vec_capacity looked.old }
-    ensures letters { letters_of looked.new.items ≡ reverse held.old.items }
-    ensures let_through { AreLetThrough G.LetThrough looked.new.items }
-    ensures empty { vec_len held.new ≡ 0 }
-    ensures held { vec_capacity held.new ≡ vec_capacity held.old }
-    ensures looked { vec_capacity looked.new ≡ vec_capacity looked.old }
+fn look_up_all<G: Gate>(gate: &G, batch: &mut Batch)
+    requires { batch.old.looked ≡ 0 }
+    ensures looked_up { IsLookedUp batch.new }
+    ensures let_through { AreLetThrough G.LetThrough batch.new.letters }
+    ensures same { batch.new ≡ record batch.old { looked = batch.new.looked } }
 {
-    while let Some(job) = held.pop() {
-        gate.pass(job.who(), job.number(), job.letter());
-        let hint = job.look_up();
-        looked.push_reserved(Looked { job, hint });
+    let Some((who, number)) = batch.search() else {
+        return;
+    };
+    while let Some(letter) = batch.next() {
+        gate.pass(&who, number, letter);
+        batch.look_up();
     }
 }
 
 /// Works until the desk is stopped, or memory is refused; then another worker goes on. Room for the letters is taken first.
 fn work<L: Ledger, G: Gate, R: Wait>(rt: &R, alloc: Global, desk: &Desk<L>, gate: &G) -> Worked {
-    let mut held = Vec::with_capacity(alloc, BATCH).ok()?;
-    let Ok(mut looked) = Vec::with_capacity(alloc, BATCH) else {
-        held.destroy_empty();
-        return None;
-    };
+    let mut batch = Batch::make(alloc, BATCH).ok()?;
     let mut finished = 0u64;
     let mut found = Found::Work;
     for _ in rt.forever() {
-        found = desk.visit(rt, &mut held);
-        look_up_all(gate, &mut held, &mut looked);
-        finished = finished.saturating_add(desk.hand_in(rt, &mut looked));
+        found = desk.visit(rt, &mut batch);
+        look_up_all(gate, &mut batch);
+        finished = finished.saturating_add(desk.hand_in(rt, &mut batch));
         if found != Found::Work {
             break;
         }
     }
     desk.work.notify_one();
-    held.destroy_empty();
-    looked.destroy_empty();
+    batch.destroy_empty();
     (found != Found::NoMemory).then_some(finished)
 }
 

@@ -35,3 +35,4 @@ pub mod StepsLeft
 pub mod Driven
 pub mod Stays
 pub mod Heard
+pub mod Batched

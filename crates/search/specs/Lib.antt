@@ -11,3 +11,4 @@ pub mod Counted
 pub mod Driven
 pub mod Numbered
 pub mod Carried
+pub mod Batches

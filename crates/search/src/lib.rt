@@ -8,6 +8,7 @@
 #![tactic(auto)]
 
 mod asking;
+mod batches;
 mod carried;
 mod driving;
 mod findings;
@@ -28,6 +29,7 @@ mod telling;
 #[cfg(test)]
 mod tests;
 
+pub use batches::Batch;
 pub use carried::Carried;
 pub use findings::{Findings, Monitor};
 pub use letters::Load;

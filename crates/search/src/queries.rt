@@ -34,6 +34,21 @@ pub enum Need {
     Nothing,
 }
 
+impl Need {
+    ghost use Rattle.std.specs.Prelude.{◌≡◌};
+    ghost use Rattle.search.specs.Need.{right_hint};
+
+    /// The hint that it asks for.
+    pub fn look_up(&self, snapshot: &Snapshot) -> Hint
+        ensures { result ≡ right_hint snapshot.now.vaults self.now }
+    {
+        match self {
+            Need::Rows(role) => Hint::Rows(snapshot.find(role)),
+            Need::Nothing => Hint::Nothing,
+        }
+    }
+}
+
 /// What who finishes a letter has looked up.
 #[derive(Clone, Copy)]
 pub enum Hint {

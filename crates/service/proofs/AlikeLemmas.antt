@@ -1,23 +1,20 @@
 -- What became of the same lines is the same but for the replies, and so by its replies.
-use Rattle.std.proofs.Common.{◌≡◌, ◌≢◌, ℕ, Bool, true, false, cond, List, [], ◌∷◌, ◌++◌, map, refl, sym, ap, ◌∙◌, subst, subst₂, Result, Ok, Err, inl, inr}
+use Rattle.std.proofs.Common.{◌≡◌, ◌≢◌, ℕ, Bool, true, false, cond, List, [], ◌∷◌, ◌++◌, map, refl, sym, ap, ◌∙◌, subst₂, Result, Ok, Err, inl, inr}
 use Rattle.std.specs.List.{AllZip, AllByRecursion}
 use Rattle.names.specs.Name.{is_same}
 use Rattle.vaults.specs.declared.changes.Entry.{Entry}
 use Rattle.vaults.specs.Journal.{marked_view}
-use Rattle.hall.specs.declared.faults.Fault.TheVariants.{Memory}
-use Rattle.hall.specs.declared.calls.answers.Answer.TheVariants.{Broken}
 use Rattle.hall.specs.declared.calls.replies.Reply.{Reply}
-use Rattle.hall.specs.declared.calls.replies.Reply.TheVariants.{Answered, Refused}
 use Rattle.hall.specs.Answers.{sight}
 use Rattle.hall.specs.Run.{Deed, request_of, Told, entered, Turn, told_to, any_time, at_waits}
-use Rattle.hall.specs.Laws.{Agree, same, proofs, first_early, second_early, HasMemory, IsSameDeed}
+use Rattle.hall.specs.Laws.{Agree, same, proofs, first_early, second_early, IsSameDeed}
 use Rattle.hall.proofs.Elements.{zip_mapped}
 use Rattle.service.specs.declared.commands.Command.{Command}
 use Rattle.service.specs.declared.refusals.Refusal.{Refusal}
 use Rattle.service.specs.declared.refusals.Refusal.TheVariants as refusal
 use Rattle.service.specs.Command.{form_of, Reads}
 use Rattle.service.specs.Outcome.{Outcome, nobody, refused, served, outcome_text, IsSaid, deed_of, told_in}
-use Rattle.service.specs.Laws.{own_outcomes, sights_of, FoundMemory, ArePrintedAlike}
+use Rattle.service.specs.Laws.{own_outcomes, turns_of, ArePrintedAlike}
 use Rattle.service.proofs.CommandLemmas.{one_reading}
 
 -- the same but for the reply
@@ -27,8 +24,8 @@ AreOneLine (served who command reply) (served other also told) = (who ≡ other)
 AreOneLine _ _ = ⊥
 
 -- what is no want of memory
-lacks : (why : Refusal) → why ≢ refusal.Memory → ◌≢◌ {A = Result Command Refusal} (Err why) (Err refusal.Memory)
-lacks why other is = other (cc)
+lacks : (tenant who : List ℕ) (why : Refusal) → who ≡ tenant → refused who why ≢ refused tenant refusal.Memory → ◌≢◌ {A = Result Command Refusal} (Err why) (Err refusal.Memory)
+lacks tenant who why to other is = other (cc)
 
 found : (command : Command) → ◌≢◌ {A = Result Command Refusal} (Ok command) (Err refusal.Memory)
 found command is = cc
@@ -38,22 +35,27 @@ abbrev reads_same : (said : List ℕ) (one two : Result Command Refusal) → one
     Reads (form_of said) one → Reads (form_of said) two → one ≡ two
 reads_same said = one_reading (form_of said)
 
+-- to read the tenant's line no memory lacked
+abbrev IsRead : List ℕ → Outcome → Type 0
+IsRead tenant outcome = outcome ≢ refused tenant refusal.Memory
+
 -- so are two that one text may become, where memory didn't lack
-one_line : (tenant said : List ℕ) (one two : Outcome) → IsSaid tenant (form_of said) one → IsSaid tenant (form_of said) two → FoundMemory one → FoundMemory two → AreOneLine one two
+one_line : (tenant said : List ℕ) (one two : Outcome) → IsSaid tenant (form_of said) one → IsSaid tenant (form_of said) two → IsRead tenant one → IsRead tenant two → AreOneLine one two
 one_line tenant said (nobody why) two is also memory more = absurd is
 one_line tenant said (refused who why) (nobody other) is also memory more = absurd also
 one_line tenant said (refused who why) (refused name other) is also memory more =
-    let same = reads_same said (Err why) (Err other) (lacks why memory) (lacks other more) is.1 also.1 in (is.0 ∙ sym also.0, cc)
+    let same = reads_same said (Err why) (Err other) (lacks tenant who why is.0 memory) (lacks tenant name other also.0 more) is.1 also.1 in (is.0 ∙ sym also.0, cc)
 one_line tenant said (refused who why) (served name command reply) is also memory more =
-    let same = reads_same said (Err why) (Ok command) (lacks why memory) (found command) is.1 also.1 in cc
+    let same = reads_same said (Err why) (Ok command) (lacks tenant who why is.0 memory) (found command) is.1 also.1 in cc
 one_line tenant said (served who command reply) (nobody other) is also memory more = absurd also
 one_line tenant said (served who command reply) (refused name why) is also memory more =
-    let same = reads_same said (Ok command) (Err why) (found command) (lacks why more) is.1 also.1 in cc
+    let same = reads_same said (Ok command) (Err why) (found command) (lacks tenant name why also.0 more) is.1 also.1 in cc
 one_line tenant said (served who command reply) (served name other told) is also memory more =
     let same = reads_same said (Ok command) (Ok other) (found command) (found other) is.1 also.1 in (is.0 ∙ sym also.0, cc)
 
 pub one_lines : (tenant : List ℕ) (texts : List (List ℕ)) (first second : List Outcome) → AllZip (λ said outcome. IsSaid tenant (form_of said) outcome) texts first →
-    AllZip (λ said outcome. IsSaid tenant (form_of said) outcome) texts second → AllByRecursion FoundMemory first → AllByRecursion FoundMemory second → AllZip AreOneLine first second
+    AllZip (λ said outcome. IsSaid tenant (form_of said) outcome) texts second → AllByRecursion (λ outcome. outcome ≢ refused tenant refusal.Memory) first →
+    AllByRecursion (λ outcome. outcome ≢ refused tenant refusal.Memory) second → AllZip AreOneLine first second
 one_lines tenant [] [] [] are also memory more = tt
 one_lines tenant [] [] (two ∷ second) are also memory more = absurd also
 one_lines tenant [] (one ∷ first) second are also memory more = absurd are
@@ -90,10 +92,6 @@ told_own {X} tenant part journal (served who command reply ∷ outcomes) = by (i
     by true rest = ap (λ (l : List X). part (deed_of command) reply ∷ l) rest
     by false rest = rest
 
--- the tenant's turns
-abbrev turns_of : List ℕ → List Outcome → List Turn
-turns_of tenant outcomes = told_to tenant [] (told_in outcomes)
-
 -- what was told in these outcomes
 abbrev pub replies_in : List Outcome → List Reply
 replies_in outcomes = map (λ (t : Told). t.reply) (told_in outcomes)
@@ -101,26 +99,6 @@ replies_in outcomes = map (λ (t : Told). t.reply) (told_in outcomes)
 -- what was done in them
 abbrev deeds_in : List Outcome → List Deed
 deeds_in outcomes = map (λ (t : Told). t.deed) (told_in outcomes)
-
--- no memory lacked in these turns, as in these outcomes none did
-all_mapped : {X Y : Type 0} (P : Y → Type 0) (f : X → Y) (xs : List X) → AllByRecursion P (map f xs) → AllByRecursion (λ (x : X). P (f x)) xs
-all_mapped P f [] all = tt
-all_mapped P f (x ∷ xs) all = (all.0, all_mapped P f xs all.1)
-
--- neither did memory lack for the reply, nor is a search broken by that
-abbrev WithMemory : Reply → Type 0
-WithMemory reply = (reply ≢ Refused Memory) × (reply ≢ Answered Broken)
-
-own_memory : (outcomes : List Outcome) → AllByRecursion FoundMemory outcomes → AllByRecursion WithMemory (replies_in outcomes)
-own_memory [] memory = tt
-own_memory (nobody why ∷ outcomes) memory = own_memory outcomes memory.1
-own_memory (refused who why ∷ outcomes) memory = own_memory outcomes memory.1
-own_memory (served who command reply ∷ outcomes) memory = (memory.0, own_memory outcomes memory.1)
-
-pub turns_memory : (tenant : List ℕ) (outcomes : List Outcome) → AllByRecursion FoundMemory (own_outcomes tenant outcomes) → HasMemory (told_to tenant [] (told_in outcomes))
-turns_memory tenant outcomes memory =
-    all_mapped WithMemory (λ (t : Turn). t.reply) (turns_of tenant outcomes)
-    (subst (AllByRecursion WithMemory) (sym (told_own tenant (λ deed reply. reply) [] outcomes)) (own_memory (own_outcomes tenant outcomes) memory))
 
 -- lines that are the same but for the replies have the same deeds
 lines_deeds : (first second : List Outcome) → AllZip AreOneLine first second → deeds_in first ≡ deeds_in second
@@ -150,7 +128,7 @@ same_deeds (one ∷ first) (two ∷ second) sees deeds =
     ((in_sight, deed), same_deeds first second later others)
 
 -- so where the tenant has the same in sight, its turns are the same but for the replies
-pub same_turns : (tenant : List ℕ) (first second : List Outcome) → AllZip AreOneLine (own_outcomes tenant first) (own_outcomes tenant second) → sights_of tenant first ≡ sights_of tenant second →
+pub same_turns : (tenant : List ℕ) (first second : List Outcome) → AllZip AreOneLine (own_outcomes tenant first) (own_outcomes tenant second) → map (λ (t : Turn). t.sees) (turns_of tenant first) ≡ map (λ (t : Turn). t.sees) (turns_of tenant second) →
     AllZip IsSameDeed (told_to tenant [] (told_in first)) (told_to tenant [] (told_in second))
 same_turns tenant first second are sees =
     same_deeds (turns_of tenant first) (turns_of tenant second) sees

@@ -16,6 +16,6 @@ none_given q is = cc
 -- words are the limits of one quota at most
 pub IsLimits-unique : (ws : List (List ℕ)) (q r : Quota) → IsLimits ws q → IsLimits ws r → q ≡ r
 IsLimits-unique ws q r (inl usual) (inl other) = usual.1 ∙ sym other.1
-IsLimits-unique ws q r (inl usual) (inr given) = absurd (none_given r (sym (ap (map number_of) usual.0) ∙ given.numbers))
-IsLimits-unique ws q r (inr given) (inl usual) = absurd (none_given q (sym (ap (map number_of) usual.0) ∙ given.numbers))
-IsLimits-unique ws q r (inr given) (inr other) = ap quota_of (sym given.numbers ∙ other.numbers)
+IsLimits-unique ws q r (inl usual) (inr given) = absurd (none_given r (sym (ap (map number_of) usual.0) ∙ given.0))
+IsLimits-unique ws q r (inr given) (inl usual) = absurd (none_given q (sym (ap (map number_of) usual.0) ∙ given.0))
+IsLimits-unique ws q r (inr given) (inr other) = ap quota_of (sym given.0 ∙ other.0)

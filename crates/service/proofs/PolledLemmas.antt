@@ -8,21 +8,17 @@ use Rattle.hall.specs.declared.calls.replies.Reply.{Reply}
 use Rattle.hall.specs.declared.calls.replies.Reply.TheVariants.{Refused}
 use Rattle.hall.specs.Account.{Asked, Account, start_of}
 use Rattle.hall.specs.Answers.{Sight}
-use Rattle.hall.specs.Run.{Deed, asks, waits, request_of, Turn, told_to, any_time, at_waits, GoesOn, Between, Ends, IsTaken, IsRun, IsRunOf}
+use Rattle.hall.specs.Run.{Deed, asks, waits, request_of, Turn, any_time, at_waits, GoesOn, Between, Ends, IsTaken, IsRun, IsRunOf}
 use Rattle.hall.specs.Laws.{Agree, same, HasMemory, IsSameDeed}
 use Rattle.hall.proofs.Maps.{numbers_exact, one_or_other, get_inserted, get_insert_other}
 use Rattle.hall.proofs.laws.HallTurns.{goes_itself}
 use Rattle.hall.proofs.laws.Worlds.{two_worlds}
-use Rattle.service.specs.Outcome.{told_in}
-use Rattle.service.specs.Laws.{TwoScripts}
+use Rattle.service.specs.Roster.{tenant_of}
+use Rattle.service.specs.Laws.{turns_of, asked, TwoScripts}
 
 -- a turn with a poll where it has a wait
 abbrev polled : Turn → Turn
 polled t = record t { deed = asks (request_of t.deed) }
-
--- what a turn asks for, with what it has in sight
-abbrev asked : Turn → Sight × Request
-asked t = (t.sees, request_of t.deed)
 
 between_same : (a b : Account) → b ≡ a → Between any_time a b
 between_same a b is = subst (Between any_time a) (sym is) (refl, λ k. goes_itself a.limits.work (get a.searches k))
@@ -92,9 +88,9 @@ runs_agree tenant (Some a) first second end other_end (b, is, run) (c, also, oth
     (memory_polled first memory) (memory_polled second more))
 
 pub scripts_agree : TwoScripts
-scripts_agree tenant roster others lines more first second output other_output starts transcript other asks_same memory other_memory =
-    let one = transcript.exact tenant in
-    let two = other.exact tenant in
-    runs_agree tenant (start_of tenant roster) (told_to tenant [] (told_in first)) (told_to tenant [] (told_in second)) one.0 two.0 one.1
-    (subst (λ (o : Option Account). IsRunOf at_waits tenant o (told_to tenant [] (told_in second)) two.0) (sym starts) two.1)
+scripts_agree tenant input other one two starts asks_same memory other_memory =
+    let run = one.transcript.exact tenant in
+    let other_run = two.transcript.exact tenant in
+    runs_agree tenant (start_of tenant (map tenant_of one.rows)) (turns_of tenant one.outcomes) (turns_of tenant two.outcomes) run.0 other_run.0 run.1
+    (subst (λ (o : Option Account). IsRunOf at_waits tenant o (turns_of tenant two.outcomes) other_run.0) (sym starts) other_run.1)
     asks_same memory other_memory

@@ -1,15 +1,15 @@
 -- What is known of a roster that is being read, line after line.
-use Rattle.std.proofs.Common.{◌≡◌, ℕ, true, false, List, [], ◌∷◌, ◌++◌, refl, sym, ap, ◌∙◌, subst, Ok, Err}
+use Rattle.std.proofs.Common.{◌≡◌, ℕ, true, false, List, [], ◌∷◌, ◌++◌, refl, ap, ◌∙◌, subst, Ok, Err}
 use Rattle.std.specs.Prelude.{not, filter}
 use Rattle.std.specs.List.{list_all}
 use Rattle.service.specs.declared.faults.ScriptFault.{ScriptFault}
 use Rattle.service.specs.declared.faults.ScriptFault.TheVariants as fault
 use Rattle.service.specs.declared.lines.NextLine.{NextLine}
-use Rattle.service.specs.declared.lines.NextLine.TheVariants.{Text, Long, NotAscii, End, Fault}
 use Rattle.service.specs.Line.{Line, text, is_blank, lines_of, commands_of}
 use Rattle.service.specs.LineReader.{Source, known, unknown, failed, Shows, Gives, IfKnown}
 use Rattle.service.specs.Roster.{Row, IsRow, IsBegin, IsRoster, AddsRow, ReadsRoster}
 use Rattle.service.specs.Words.{is_space}
+use Rattle.service.proofs.LinesLemmas.{Gives-first}
 use Rattle.service.proofs.RosterLemmas.{LeavesLines, LeavesLines-all, LeavesLines-row, HasNoRoster-refused, HasRoster-read}
 
 -- the first of these lines are the rows, and the others are left
@@ -30,11 +30,8 @@ not_blank lines = filter (λ line. not (is_blank line)) lines
 given : (mid new : Source) (answer : NextLine) (line : Line) → Gives mid answer new → Shows answer line → IfKnown mid (λ lines. (rest : List ℕ) × (new ≡ known rest) × (lines ≡ not_blank (line ∷ lines_of rest)))
 given unknown new answer line gives shows = tt
 given failed new answer line gives shows = tt
-given (known bytes) new (Text t) line gives shows = (gives.0, gives.1, ap not_blank gives.2 ∙ ap (λ l. not_blank (l ∷ lines_of gives.0)) (sym shows))
-given (known bytes) new Long line gives shows = (gives.0, gives.1, ap not_blank gives.2 ∙ ap (λ l. not_blank (l ∷ lines_of gives.0)) (sym shows))
-given (known bytes) new NotAscii line gives shows = (gives.0, gives.1, ap not_blank gives.2 ∙ ap (λ l. not_blank (l ∷ lines_of gives.0)) (sym shows))
-given (known bytes) new End line gives shows = absurd shows
-given (known bytes) new Fault line gives shows = absurd shows
+given (known bytes) new answer line gives shows =
+    let first = Gives-first bytes new answer line gives shows in (first.0, first.1, ap not_blank first.2)
 
 -- what follows from the rows so far and from the next line
 next : {P Q : List Line → Type 0} (first mid : Source) (rows : List Row) → IfKnown first (λ lines. SoFar lines rows mid) → IfKnown mid Q → ((lines left : List Line) → LeavesLines lines rows left → Q left → P lines) → IfKnown first P

@@ -5,16 +5,15 @@ use Rattle.hall.specs.Hall.{HallState, CarriesOut}
 use Rattle.service.specs.declared.commands.Command.{Command}
 use Rattle.service.specs.declared.refusals.Refusal.{Refusal}
 use Rattle.service.specs.Command.{Form, Reads}
-use Rattle.service.specs.Outcome.{refused, served, deed_of}
+use Rattle.service.specs.Outcome.{refused, served, IsSaid, deed_of, Becomes}
 use Rattle.service.specs.Refusal.{refusal_number}
 use Rattle.service.specs.Reply.{line_after, error_text, IsFilled}
-use Rattle.service.specs.Turn.{Says}
 use Rattle.service.proofs.PrintedLemmas.{printed_done}
 
 -- a command that was read and carried out
-pub Says-served : (old new : HallState) (who : List ℕ) (form : Form) (command : Command) (told : Reply) (bytes : List ℕ) → Reads form (Ok command) →
-    CarriesOut old who (deed_of command) told new → IsFilled (who ++ codes ": ") told bytes → Says old who form bytes new
-Says-served old new who form command told bytes read done filled = record {
+pub Becomes-served : (old new : HallState) (who : List ℕ) (form : Form) (command : Command) (told : Reply) (bytes : List ℕ) → Reads form (Ok command) →
+    CarriesOut old who (deed_of command) told new → IsFilled (who ++ codes ": ") told bytes → Becomes old (IsSaid who form) bytes new
+Becomes-served old new who form command told bytes read done filled = record {
   outcome = served who command filled.told;
   allowed = (refl, read);
   done = (new, printed_done old new who (deed_of command) told filled.told done filled.printed, refl);
@@ -22,5 +21,5 @@ Says-served old new who form command told bytes read done filled = record {
 }
 
 -- a command that its text refuses
-pub Says-refused : (old : HallState) (who : List ℕ) (form : Form) (why : Refusal) (bytes : List ℕ) → Reads form (Err why) → bytes ≡ line_after (who ++ codes ": ") (error_text (refusal_number why)) → Says old who form bytes old
-Says-refused old who form why bytes read line = record { outcome = refused who why; allowed = (refl, read); done = refl; text = sym line }
+pub Becomes-refused : (old : HallState) (who : List ℕ) (form : Form) (why : Refusal) (bytes : List ℕ) → Reads form (Err why) → bytes ≡ line_after (who ++ codes ": ") (error_text (refusal_number why)) → Becomes old (IsSaid who form) bytes old
+Becomes-refused old who form why bytes read line = record { outcome = refused who why; allowed = (refl, read); done = refl; text = sym line }

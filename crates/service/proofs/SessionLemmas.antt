@@ -14,7 +14,7 @@ SessionWrote-conversed rows lines end.Quit out wrote = wrote
 SessionWrote-conversed rows lines end.EndOfInput out wrote = wrote
 SessionWrote-conversed rows lines end.Read out wrote = wrote
 SessionWrote-conversed rows lines end.Write out wrote = wrote
-SessionWrote-conversed rows lines end.Memory out wrote = absurd wrote
+SessionWrote-conversed rows lines end.Memory out wrote = absurd wrote.out
 
 pub SessionWrote-known : (rows : List Row) (remaining : Option (List ℕ)) (source : Source) (how : SessionEnd) (out : List ℕ → Type 0) → source ≡ source_of remaining →
     IfKnown source (λ lines. Conversed SessionAnswers (record { rows = rows; pass = None }) lines how out) → IfSome remaining (λ input. SessionWrote rows (commands_of input) how out)

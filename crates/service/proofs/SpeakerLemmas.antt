@@ -1,6 +1,7 @@
 -- Lemmas on who speaks in a hall: a new hall has its roster's tenants, and it has the same whatever they do.
 use Rattle.std.proofs.Common.{◌≡◌, ℕ, Bool, true, false, cond, List, [], ◌∷◌, refl, sym, ap, subst, ◌∙◌, Option, Some, None}
 use Rattle.std.specs.Prelude.{is_some, ◌&&◌, ◌||◌}
+use Rattle.std.specs.List.{list_any}
 use Rattle.std.specs.Ordering.{eq_by_cmp}
 use Rattle.std.specs.FinMap.{get, get-empty, get-insert}
 use Rattle.std.proofs.lemmas.Cmp.{nat_list_cmp_total, nat_list_eq_equiv}
@@ -18,8 +19,7 @@ use Rattle.hall.specs.Run.{Deed, asks, waits, Told}
 use Rattle.hall.specs.Hall.{Running, Tenant, HallState, account_of, changed_by, with_tenant, search_at, hall_after, AnswersTo, IsServed, Drives, CarriesOut, AreDone, new_tenant, new_hall}
 use Rattle.hall.proofs.Polled.{refused_after}
 use Rattle.hall.proofs.laws.HallChanges.{changed_here, changed_elsewhere}
-use Rattle.service.specs.Outcome.{is_speaker}
-use Rattle.service.specs.Turn.{HasTenants, speaks}
+use Rattle.service.specs.Outcome.{is_speaker, speaks}
 
 -- one hall has the tenants of the other
 abbrev HasSame : HallState → HallState → Type 0
@@ -76,6 +76,10 @@ has-carried old new name (waits k) told done who =
 has-done : (old new : HallState) (told : List Told) → AreDone old told new → HasSame old new
 has-done old new [] same who = ap (λ (h : HallState). is_some (get h.tenants who)) same
 has-done old new (t ∷ more) done who = has-done done.0 new more done.2 who ∙ has-carried old done.0 t.tenant t.deed t.reply done.1 who
+
+-- the hall's tenants are those of the roster
+abbrev pub HasTenants : HallState → List (List ℕ × Quota) → Type 0
+HasTenants hall roster = (who : List ℕ) → is_some (get hall.tenants who) ≡ list_any (λ row. is_same row.0 who) roster
 
 -- a new hall has its roster's tenants
 pub HasTenants-new : (roster : List (List ℕ × Quota)) → HasTenants (new_hall roster) roster

@@ -1,26 +1,23 @@
 -- Lemmas on what a line of a session is answered.
-use Rattle.std.proofs.Common.{◌≡◌, List, ℕ, refl, sym, ap, ◌∙◌, subst, subst₂, Option}
+use Rattle.std.proofs.Common.{◌≡◌, ℕ, List, ◌∷◌, [], codes, true, refl, sym, ap, ◌∙◌, subst₂, Option, Err, inr}
+use Rattle.std.specs.Str.{bytes_eq}
 use Rattle.pool.specs.Passes.{PassState}
 use Rattle.service.specs.declared.conversations.Flow.TheVariants.{GoesOn}
-use Rattle.service.specs.declared.sessions.Said.{Said}
-use Rattle.service.specs.declared.sessions.Said.TheVariants as said
-use Rattle.service.specs.Roster.{Row}
+use Rattle.service.specs.declared.refusals.Refusal.TheVariants as refusal
+use Rattle.service.specs.Roster.{Row, IsTenant}
 use Rattle.service.specs.Line.{text}
-use Rattle.service.specs.Session.{Talk, talk_of, talk_said, Tells, IsAnswer, SessionState, SessionAnswers}
+use Rattle.service.specs.Session.{IsQuit, greeting_in, IsLetIn, Tells, SessionState, SessionAnswers}
+use Rattle.service.specs.Words.{words}
 
--- another line than `quit` doesn't end it
-IsAnswer-told : (rows : List Row) (before after : Option PassState) (heard : Said) (line reply : List ℕ) → (heard ≡ said.Quit → ⊥) → Tells rows before (talk_said heard) line reply after →
-    IsAnswer rows before (talk_said heard) line reply GoesOn after
-IsAnswer-told rows before after said.Quit line reply other told = absurd (other refl)
-IsAnswer-told rows before after (said.Hello name word) line reply other told = (refl, told)
-IsAnswer-told rows before after said.WrongHello line reply other told = (refl, told)
-IsAnswer-told rows before after said.Command line reply other told = (refl, told)
+-- a tenant said hello by its word, and memory lacks for a pass
+pub IsLetIn-lacking : (rows : List Row) (line first name word : List ℕ) (others : List (List ℕ)) → words line ≡ first ∷ others → true ≡ bytes_eq first (codes "hello") →
+    others ≡ name ∷ word ∷ [] → IsTenant rows name word → IsLetIn rows (greeting_in (words line)) (Err refusal.Memory)
+IsLetIn-lacking rows line first name word others are hello two tenant = rw (are, sym hello, two) (inr (refl, tenant))
 
--- so the session that held this pass is answered what it is told
-pub SessionAnswers-told : (before after : SessionState) (rows : List Row) (held pass next : Option PassState) (heard : Said) (line reply : List ℕ) →
-    record { rows = rows; pass = held } ≡ before → held ≡ pass → after ≡ record { rows = rows; pass = next } → (heard ≡ said.Quit → ⊥) → talk_said heard ≡ talk_of line →
-    Tells rows pass (talk_said heard) line reply next → SessionAnswers before (text line) reply GoesOn after
-SessionAnswers-told before after rows held pass next heard line reply is at then other hears told =
+-- a session that held this pass is told by another line than `quit`
+pub SessionAnswers-told : (before after : SessionState) (rows : List Row) (held pass next : Option PassState) (line reply : List ℕ) →
+    record { rows = rows; pass = held } ≡ before → held ≡ pass → after ≡ record { rows = rows; pass = next } → (IsQuit line → ⊥) → Tells rows pass line reply next →
+    SessionAnswers before (text line) reply GoesOn after
+SessionAnswers-told before after rows held pass next line reply was at is other told =
     let state : Option PassState → SessionState = λ p. record { rows = rows; pass = p } in
-    subst₂ (λ (s t : SessionState). SessionAnswers s (text line) reply GoesOn t) (ap state (sym at) ∙ is) (sym then)
-    (refl, subst (λ (talk : Talk). IsAnswer rows pass talk line reply GoesOn next) hears (IsAnswer-told rows pass next heard line reply other told))
+    subst₂ (λ (s t : SessionState). SessionAnswers s (text line) reply GoesOn t) (ap state (sym at) ∙ was) (sym is) (other, refl, told)

@@ -7,7 +7,11 @@ use Rattle.std.proofs.lemmas.List.{take_all, length-take}
 use Rattle.std.proofs.lemmas.List.Splits.{slice_split-cons_yes, slice_split_first, slice_split_none}
 use Rattle.std.proofs.lemmas.List.Sums.{prefix_len-le-length, fails_before_first}
 use Rattle.std.proofs.Math.ListN.{drop_of_length-le}
-use Rattle.service.specs.Words.{is_space, words, trim_start, first_word, after_word}
+use Rattle.service.specs.Words.{is_space, words, trim_start, after_word}
+
+-- the first word
+abbrev first_word : List ℕ → List ℕ
+first_word text = before_first is_space (trim_start text)
 
 -- the parts that are words
 abbrev only_words : List (List ℕ) → List (List ℕ)

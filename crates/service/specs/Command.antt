@@ -1,21 +1,18 @@
 -- The commands of a script, as their lines write them.
 use Rattle.std.specs.Prelude.{◌≡◌, ◌⊎◌, ℕ, ◌≤◌, List, [], ◌∷◌, length, codes, if◌then◌else◌, Some, None, Result, Ok, Err}
 use Rattle.std.specs.Str.{bytes_eq}
-use Rattle.names.specs.declared.faults.NameFault.{NameFault}
-use Rattle.names.specs.declared.roles.Role.{Role}
+use Rattle.names.specs.declared.{faults.NameFault.NameFault, roles.Role.Role}
 use Rattle.names.specs.Name.{IsName}
 use Rattle.names.specs.Fault.{name_fault, role_fault}
 use Rattle.names.specs.Role.{SpellsRole}
-use Rattle.credential_text.specs.declared.credentials.Credential.{Credential}
-use Rattle.credential_text.specs.declared.faults.CredFault.{CredFault}
+use Rattle.credential_text.specs.declared.{credentials.Credential.Credential, faults.CredFault.CredFault}
 use Rattle.credential_text.specs.Spelling.{Spells}
 use Rattle.credential_text.specs.Refusal as credential
 use Rattle.vaults.specs.declared.changes.Change.{Change}
 use Rattle.vaults.specs.declared.changes.Change.TheVariants.{Upload, Withdraw, Grant, Revoke, GrantAll, RevokeAll}
 use Rattle.hall.specs.Query.{Ask, Who}
 use Rattle.hall.specs.declared.calls.requests.Request.TheVariants.{Alter, Seek, Poll, Close, Vault, Sees, Proof}
-use Rattle.service.specs.declared.commands.Command.{Command}
-use Rattle.service.specs.declared.commands.Command.TheVariants.{Request, Wait}
+use Rattle.service.specs.declared.commands.Command.{Command, TheVariants.Request, TheVariants.Wait}
 use Rattle.service.specs.declared.refusals.Refusal.{Refusal}
 use Rattle.service.specs.declared.refusals.Refusal.TheVariants as refusal
 use Rattle.service.specs.Words.{words, after_word, number_of}
@@ -37,34 +34,31 @@ to_alter change = whole (Request (Alter change))
 abbrev pub form_of_reader : Change → (List ℕ → Change) → List ℕ → Form
 form_of_reader to_all to word = if bytes_eq word (codes "*") then to_alter to_all else of_name (λ name. to_alter (to name)) word
 
--- each verb takes so many words
-abbrev pub form_with : List ℕ → List (List ℕ) → Form
-form_with verb [] =
-    if bytes_eq verb (codes "vault") then whole (Request Vault)
-    else (if bytes_eq verb (codes "sees") then whole (Request Sees)
-    else unknown)
-form_with verb (word ∷ []) =
-    if bytes_eq verb (codes "grant") then form_of_reader GrantAll Grant word
-    else (if bytes_eq verb (codes "revoke") then form_of_reader RevokeAll Revoke word
-    else (if bytes_eq verb (codes "who") then of_role (λ role. whole (Request (Seek (Who role)))) word
-    else (if bytes_eq verb (codes "poll") then of_number (λ number. whole (Request (Poll number))) word
-    else (if bytes_eq verb (codes "wait") then of_number (λ number. whole (Wait number)) word
-    else (if bytes_eq verb (codes "end") then of_number (λ number. whole (Request (Close number))) word
-    else unknown)))))
-form_with verb (first ∷ second ∷ []) =
-    if bytes_eq verb (codes "ask") then of_role (λ role. of_name (λ name. whole (Request (Seek (Ask role name)))) second) first
-    else (if bytes_eq verb (codes "proof") then
-    of_number (λ number. of_name (λ name. whole (Request (Proof number name))) second) first
-    else unknown)
-form_with verb (first ∷ second ∷ third ∷ more) = unknown
+-- the verbs that take these words, and what each writes
+abbrev pub forms_with : List (List ℕ) → List (List ℕ × Form)
+forms_with [] = (codes "vault", whole (Request Vault)) ∷ (codes "sees", whole (Request Sees)) ∷ []
+forms_with (word ∷ []) =
+    (codes "grant", form_of_reader GrantAll Grant word) ∷ (codes "revoke", form_of_reader RevokeAll Revoke word)
+    ∷ (codes "who", of_role (λ role. whole (Request (Seek (Who role)))) word)
+    ∷ (codes "poll", of_number (λ number. whole (Request (Poll number))) word)
+    ∷ (codes "wait", of_number (λ number. whole (Wait number)) word)
+    ∷ (codes "end", of_number (λ number. whole (Request (Close number))) word) ∷ []
+forms_with (first ∷ second ∷ []) =
+    (codes "ask", of_role (λ role. of_name (λ name. whole (Request (Seek (Ask role name)))) second) first)
+    ∷ (codes "proof", of_number (λ number. of_name (λ name. whole (Request (Proof number name))) second) first) ∷ []
+forms_with (first ∷ second ∷ third ∷ more) = []
 
--- but `put` and `drop`, which take the rest of the line
+-- what the verb writes, if it is one of these
+abbrev pub form_in : List (List ℕ × Form) → List ℕ → Form
+form_in [] verb = unknown
+form_in (row ∷ rows) verb = if bytes_eq verb row.0 then row.1 else form_in rows verb
+
+-- `put` and `drop` take the rest of the line, the others so many words
 abbrev pub form_by_words : List (List ℕ) → List ℕ → Form
 form_by_words [] rest = unknown
 form_by_words (verb ∷ args) rest =
-    if bytes_eq verb (codes "put") then of_credential (λ c. to_alter (Upload c)) rest
-    else (if bytes_eq verb (codes "drop") then of_credential (λ c. to_alter (Withdraw c)) rest
-    else form_with verb args)
+    form_in ((codes "put", of_credential (λ c. to_alter (Upload c)) rest)
+    ∷ (codes "drop", of_credential (λ c. to_alter (Withdraw c)) rest) ∷ forms_with args) verb
 
 -- what the text behind a name writes: the first word is the verb
 abbrev pub form_of : List ℕ → Form

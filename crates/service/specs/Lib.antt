@@ -11,4 +11,3 @@ pub mod Roster
 pub mod Session
 pub mod Served
 pub mod Laws
-pub mod Turn

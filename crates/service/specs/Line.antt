@@ -1,7 +1,6 @@
 -- The lines of an input, and those of them that are answered.
 use Rattle.std.specs.Prelude.{ℕ, Bool, ◌&&◌, List, length, map, nat_le, if◌then◌else◌, false, not, filter}
-use Rattle.std.specs.List.{list_all}
-use Rattle.std.specs.Str.Lines.{lines}
+use Rattle.std.specs.{List.list_all, Str.Lines.lines}
 use Rattle.service.specs.Words.{is_space}
 
 -- one line: its text, or why it has none
@@ -26,8 +25,7 @@ lines_of input = map line_of (lines input)
 -- a line of nothing but spaces
 abbrev pub is_blank : Line → Bool
 is_blank (text t) = list_all is_space t
-is_blank too_long = false
-is_blank not_ascii = false
+is_blank _ = false
 
 -- the lines that are not blank
 abbrev pub commands_of : List ℕ → List Line

@@ -1,17 +1,11 @@
--- What a line reader has still to give, what it gives, and how lines that are not blank are taken from it.
+-- What a line reader has still to give, and what it gives.
 use Rattle.std.specs.Prelude.{ℕ, List, Option, Some, None, [], ◌≡◌, ◌≤◌, ⊤, true, ◌∷◌, length, ◌≢◌, ◌++◌, All, take, IfSome}
-use Rattle.std.specs.Io.Iter.{bytes_remaining}
-use Rattle.std.specs.Io.Buffered.{reader_remaining}
-use Rattle.std.specs.declared.io.traits.Bytes.{Bytes}
-use Rattle.std.specs.declared.io.buffered.BufReader.{BufReader}
-use Rattle.service.specs.declared.lines.limit.Limited.{Limited}
-use Rattle.service.specs.declared.lines.Stage.{Stage}
+use Rattle.std.specs.{List.list_all, Io.Iter.bytes_remaining, Io.Buffered.reader_remaining, Io.KnownBytes.Consumes}
+use Rattle.std.specs.declared.io.{traits.Bytes.Bytes, buffered.BufReader.BufReader}
+use Rattle.service.specs.declared.lines.{limit.Limited.Limited, Stage.Stage, NextLine.NextLine}
 use Rattle.service.specs.declared.lines.Stage.TheVariants.{Open, Ended, Failed}
-use Rattle.std.specs.List.{list_all}
-use Rattle.service.specs.declared.lines.NextLine.{NextLine}
 use Rattle.service.specs.declared.lines.NextLine.TheVariants.{Text, Long, NotAscii, End, Fault}
 use Rattle.service.specs.Line.{Line, text, too_long, not_ascii, is_printable, lines_of, commands_of}
-use Rattle.std.specs.Io.KnownBytes.{Consumes}
 
 -- these bytes; bytes that the type of the reader does not say; or nothing, since a read has failed
 pub data Source : Type 0 where
@@ -41,22 +35,16 @@ Shows Long line = line ≡ too_long
 Shows NotAscii line = line ≡ not_ascii
 Shows _ line = ⊥
 
--- the line is the first of these bytes, and what is left gives the others
-abbrev pub TakesLine : List ℕ → Line → Source → Type 0
-TakesLine bytes line new = (rest : List ℕ) × (new ≡ known rest) × (lines_of bytes ≡ line ∷ lines_of rest)
-
--- The answer is the first line of the known bytes, and what is left gives the others. The end comes only where
+-- The answer shows the first line of the known bytes, and what is left gives the others. The end comes only where
 -- there is no line, and then nothing is left. A fault may come at any time, and stays.
 abbrev pub Gives : Source → NextLine → Source → Type 0
 Gives failed answer new = (answer ≡ Fault) × (new ≡ failed)
-Gives unknown Fault new = new ≡ failed
+Gives _ Fault new = new ≡ failed
 Gives unknown End new = new ≡ known []
-Gives unknown answer new = ⊤
-Gives (known bytes) Fault new = new ≡ failed
+Gives unknown _ new = ⊤
 Gives (known bytes) End new = (bytes ≡ []) × (new ≡ known [])
-Gives (known bytes) (Text t) new = TakesLine bytes (text t.now) new
-Gives (known bytes) Long new = TakesLine bytes too_long new
-Gives (known bytes) NotAscii new = TakesLine bytes not_ascii new
+Gives (known bytes) answer new =
+    (rest : List ℕ) × (new ≡ known rest) × (line : Line) × Shows answer line × (lines_of bytes ≡ line ∷ lines_of rest)
 
 -- a text that is given has spaces and visible characters alone, and is no longer than a line may be
 abbrev pub IsText : NextLine → Type 0
@@ -70,23 +58,10 @@ HasNoNewline bytes = All (λ b. b ≢ 10) bytes
 -- a line's bytes, of which these are kept, were taken up to its end
 abbrev pub TakesBytes : Option (List ℕ) → Stage → List ℕ → Option (List ℕ) → Type 0
 TakesBytes old Open kept new = (raw : List ℕ) × HasNoNewline raw × (kept ≡ take 4098 raw) × Consumes old new (raw ++ 10 ∷ [])
-TakesBytes old Ended kept new =
-    (raw : List ℕ) × HasNoNewline raw × (kept ≡ take 4098 raw) × IfSome old (λ bytes. bytes ≡ raw)
+TakesBytes old Ended kept new = (raw : List ℕ) × HasNoNewline raw × (kept ≡ take 4098 raw) × IfSome old (λ bytes. bytes ≡ raw)
 TakesBytes old Failed kept new = ⊤
 
 -- a fact of the lines that are left and not blank, where the bytes are known
 abbrev pub IfKnown : Source → (List Line → Type 0) → Type 0
 IfKnown (known bytes) P = P (commands_of bytes)
 IfKnown _ P = ⊤
-
--- the line was the first of these, and the others are left
-pub record TakesFirst (lines : List Line) (line : Line) (new : Source) : Type 0 where
-  pub rest : List ℕ
-  pub left : new ≡ known rest
-  pub first : lines ≡ line ∷ commands_of rest
-
--- a blank line was taken, and these are left
-pub record TakesBlank (lines : List Line) (new : Source) : Type 0 where
-  pub rest : List ℕ
-  pub left : new ≡ known rest
-  pub same : lines ≡ commands_of rest

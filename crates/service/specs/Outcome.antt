@@ -1,13 +1,13 @@
--- What a line of a script is answered, by its text alone, and what all of them are.
-use Rattle.std.specs.Prelude.{◌≡◌, ℕ, Bool, ◌&&◌, List, [], ◌∷◌, ◌++◌, map, Ok, Err, MatchBool, codes}
-use Rattle.std.specs.List.{AllZip, list_any, before_first, after_first}
+-- What a line of a script is answered, by its text alone, what all of them are, and how a hall answers one.
+use Rattle.std.specs.Prelude.{◌≡◌, ℕ, Bool, ◌&&◌, List, [], ◌∷◌, ◌++◌, Ok, Err, MatchBool, codes, is_some}
+use Rattle.std.specs.{List.AllZip, List.list_any, List.before_first, List.after_first, FinMap.get}
 use Rattle.names.specs.Name.{is_name, is_same}
 use Rattle.quotas.specs.Quota.{Quota}
 use Rattle.hall.specs.declared.calls.replies.Reply.{Reply}
 use Rattle.hall.specs.Run.{Deed, asks, waits, Told, IsExact}
-use Rattle.service.specs.declared.commands.Command.{Command}
-use Rattle.service.specs.declared.commands.Command.TheVariants.{Request, Wait}
-use Rattle.service.specs.declared.refusals.Refusal.{Refusal}
+use Rattle.hall.specs.Hall.{HallState, AreDone}
+use Rattle.service.specs.declared.commands.Command.{Command, TheVariants.Request, TheVariants.Wait}
+use Rattle.service.specs.declared.{conversations.Flow.Flow, conversations.Flow.TheVariants.GoesOn, refusals.Refusal.Refusal}
 use Rattle.service.specs.declared.refusals.Refusal.TheVariants as refusal
 use Rattle.service.specs.Line.{Line, text, too_long, not_ascii}
 use Rattle.service.specs.Words.{is_colon, trim_start}
@@ -32,26 +32,21 @@ IsSaid name form (nobody why) = ⊥
 IsSaid name form (refused who why) = (who ≡ name) × Reads form (Err why)
 IsSaid name form (served who command reply) = (who ≡ name) × Reads form (Ok command)
 
+-- what a line `NAME: COMMAND`, without the spaces in front, may become, by which names speak
+abbrev pub IsSpoken : (List ℕ → Bool) → List ℕ → Outcome → Type 0
+IsSpoken may_speak line outcome = let who = before_first is_colon line in MatchBool (list_any is_colon line)
+    (MatchBool (may_speak who) (IsSaid who (form_of (after_first is_colon line)) outcome) (outcome ≡ nobody refusal.BadHello))
+    (outcome ≡ nobody refusal.Command)
+
+-- what a line may become where these names speak
+abbrev pub IsOutcome : (List ℕ → Bool) → Line → Outcome → Type 0
+IsOutcome may_speak too_long outcome = outcome ≡ nobody refusal.LineLong
+IsOutcome may_speak not_ascii outcome = outcome ≡ nobody refusal.NotAscii
+IsOutcome may_speak (text t) outcome = IsSpoken may_speak (trim_start t) outcome
+
 -- whether a tenant speaks: the text is a name, and stands in the roster
 abbrev pub is_speaker : List (List ℕ × Quota) → List ℕ → Bool
 is_speaker roster who = is_name who && list_any (λ row. is_same row.0 who) roster
-
--- what a command may become, by the name before it
-abbrev pub IsNamed : List (List ℕ × Quota) → List ℕ → List ℕ → Outcome → Type 0
-IsNamed roster who said outcome =
-    MatchBool (is_speaker roster who) (IsSaid who (form_of said) outcome) (outcome ≡ nobody refusal.BadHello)
-
--- what a line `NAME: COMMAND`, without the spaces in front, may become
-abbrev pub IsSpoken : List (List ℕ × Quota) → List ℕ → Outcome → Type 0
-IsSpoken roster line outcome = MatchBool (list_any is_colon line)
-    (IsNamed roster (before_first is_colon line) (after_first is_colon line) outcome)
-    (outcome ≡ nobody refusal.Command)
-
--- what a line may become where these are the tenants
-abbrev pub IsOutcome : List (List ℕ × Quota) → Line → Outcome → Type 0
-IsOutcome roster too_long outcome = outcome ≡ nobody refusal.LineLong
-IsOutcome roster not_ascii outcome = outcome ≡ nobody refusal.NotAscii
-IsOutcome roster (text t) outcome = IsSpoken roster (trim_start t) outcome
 
 -- what a command asks for
 abbrev pub deed_of : Command → Deed
@@ -64,10 +59,22 @@ told_in [] = []
 told_in (served who command reply ∷ more) = record { tenant = who; deed = deed_of command; reply = reply } ∷ told_in more
 told_in (_ ∷ more) = told_in more
 
--- Each of these lines became an outcome, in order; to each tenant of the roster what it was told is exact, by its own account
--- and view alone; and the replies are the outcomes' lines and nothing else.
-pub record IsTranscript (roster : List (List ℕ × Quota)) (lines : List Line)
-    (outcomes : List Outcome) (replies : List (List ℕ)) : Type 0 where
-  pub one_each : AllZip (IsOutcome roster) lines outcomes
+-- each line became an outcome, in order; and to each tenant what it was told is exact, by its own account and view alone
+pub record IsTranscript (roster : List (List ℕ × Quota)) (lines : List Line) (outcomes : List Outcome) : Type 0 where
+  pub one_each : AllZip (IsOutcome (is_speaker roster)) lines outcomes
   pub exact : IsExact roster (told_in outcomes)
-  pub printed : replies ≡ map outcome_text outcomes
+
+-- whether a tenant of the hall speaks
+abbrev pub speaks : HallState → List ℕ → Bool
+speaks hall who = is_name who && is_some (get hall.tenants who)
+
+-- an outcome of which this holds was carried out, and the reply is its text
+pub record Becomes (old : HallState) (May : Outcome → Type 0) (reply : List ℕ) (new : HallState) : Type 0 where
+  pub outcome : Outcome
+  pub allowed : May outcome
+  pub done : AreDone old (told_in (outcome ∷ [])) new
+  pub text : outcome_text outcome ≡ reply
+
+-- how a script's line is answered: the conversation goes on after it
+abbrev pub ScriptAnswers : HallState → Line → List ℕ → Flow → HallState → Type 0
+ScriptAnswers old line reply flow new = Becomes old (IsOutcome (speaks old) line) reply new × (flow ≡ GoesOn)

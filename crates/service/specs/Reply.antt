@@ -1,20 +1,17 @@
 -- The lines of the replies.
 use Rattle.std.specs.Prelude.{◌≡◌, ◌⊎◌, ℕ, List, [], ◌∷◌, ◌++◌, length, map, codes, filter, nat_lt, if◌then◌else◌}
-use Rattle.std.specs.List.{flat_map}
-use Rattle.std.specs.Fmt.{decimal}
+use Rattle.std.specs.{List.flat_map, Fmt.decimal}
 use Rattle.names.specs.Texts.{pieces}
 use Rattle.credential_text.specs.Spelling.{canonical}
 use Rattle.vaults.specs.declared.marks.Seen.{Seen}
 use Rattle.hall.specs.declared.faults.Fault.TheVariants.{Memory}
-use Rattle.hall.specs.declared.calls.answers.Answer.{Answer}
 use Rattle.hall.specs.declared.calls.answers.Answer.TheVariants.{Working, Yes, No, Members, Spent, Broken}
 use Rattle.hall.specs.declared.calls.replies.Reply.{Reply}
 use Rattle.hall.specs.declared.calls.replies.Reply.TheVariants as reply
 use Rattle.hall.specs.Fault.{fault_number}
 use Rattle.hall.specs.Text.{proof_text}
 use Rattle.service.specs.declared.refusals.Refusal.{Refusal}
-use Rattle.service.specs.declared.replies.Speaker.{Speaker}
-use Rattle.service.specs.declared.replies.Speaker.TheVariants.{Nobody, Tenant, Peer}
+use Rattle.service.specs.declared.replies.Speaker.{Speaker, TheVariants.Nobody, TheVariants.Tenant, TheVariants.Peer}
 use Rattle.service.specs.Refusal.{text_of, refusal_number}
 
 -- what stands in front of each line of a reply: to nobody, or to a tenant; a session's peer gets no name
@@ -43,19 +40,6 @@ listed names = flat_map (λ name. 32 ∷ name) names
 abbrev pub seen_text : Seen → List ℕ
 seen_text seen = seen.name ++ (if seen.to_all then codes "*" else [])
 
--- each of these with a space before it
-abbrev pub seen_listed : List Seen → List ℕ
-seen_listed names = flat_map (λ seen. 32 ∷ seen_text seen) names
-
--- what an answer says
-abbrev pub answer_text : Answer → List ℕ
-answer_text Working = codes "working"
-answer_text Yes = codes "yes"
-answer_text No = codes "no"
-answer_text (Members names) = codes "members" ++ listed names
-answer_text Spent = codes "spent"
-answer_text Broken = codes "broken"
-
 -- the lines of a text, each of which has something in it
 abbrev pub text_lines : List ℕ → List (List ℕ)
 text_lines text = filter (λ line. nat_lt 0 (length line)) (pieces 10 text)
@@ -65,10 +49,15 @@ text_lines text = filter (λ line. nat_lt 0 (length line)) (pieces 10 text)
 abbrev pub reply_texts : Reply → List (List ℕ)
 reply_texts (reply.Counted n) = (codes "ok " ++ decimal n) ∷ []
 reply_texts (reply.Opened n) = (codes "search " ++ decimal n) ∷ []
-reply_texts (reply.Answered answer) = answer_text answer ∷ []
+reply_texts (reply.Answered Working) = codes "working" ∷ []
+reply_texts (reply.Answered Yes) = codes "yes" ∷ []
+reply_texts (reply.Answered No) = codes "no" ∷ []
+reply_texts (reply.Answered (Members names)) = (codes "members" ++ listed names) ∷ []
+reply_texts (reply.Answered Spent) = codes "spent" ∷ []
+reply_texts (reply.Answered Broken) = codes "broken" ∷ []
 reply_texts reply.Closed = codes "ended" ∷ []
 reply_texts (reply.Vault rows) = (codes "vault " ++ decimal (length rows)) ∷ map canonical rows
-reply_texts (reply.Sees names) = (codes "sees" ++ seen_listed names) ∷ []
+reply_texts (reply.Sees names) = (codes "sees" ++ listed (map seen_text names)) ∷ []
 reply_texts (reply.Proof steps) = (codes "proof " ++ decimal (length steps)) ∷ text_lines (proof_text steps)
 reply_texts (reply.Refused fault) = error_text (fault_number fault) ∷ []
 reply_texts (reply.Stepped answer) = []

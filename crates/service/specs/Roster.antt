@@ -3,8 +3,7 @@ use Rattle.std.specs.Prelude.{◌≡◌, ◌⊎◌, ⊤, ℕ, ◌<◌, ◌≤◌
 use Rattle.std.specs.List.{IsDistinct}
 use Rattle.names.specs.Name.{IsName, is_same}
 use Rattle.quotas.specs.Quota.{Quota, IsQuota, usual_quota}
-use Rattle.service.specs.declared.faults.ScriptFault.{ScriptFault}
-use Rattle.service.specs.declared.faults.ScriptFault.TheVariants as fault
+use Rattle.service.specs.declared.faults.ScriptFault.{ScriptFault, TheVariants.Roster, TheVariants.Memory, TheVariants.Write}
 use Rattle.service.specs.Line.{Line, text, too_long, not_ascii, commands_of}
 use Rattle.service.specs.LineReader.{Source, known}
 use Rattle.service.specs.Words.{words, number_of}
@@ -19,14 +18,9 @@ pub record Row : Type 0 where
 abbrev pub numbers_of : Quota → List ℕ
 numbers_of q = q.creds ∷ q.grants ∷ q.searches ∷ q.changes ∷ q.opens ∷ q.work ∷ []
 
--- six words are these limits, each in its range
-pub record AreLimits (ws : List (List ℕ)) (q : Quota) : Type 0 where
-  pub numbers : map number_of ws ≡ map Some (numbers_of q)
-  pub range : IsQuota q
-
--- no words are the usual limits
+-- no words are the usual limits, and six words these, each in its range
 abbrev pub IsLimits : List (List ℕ) → Quota → Type 0
-IsLimits ws q = ((ws ≡ []) × (q ≡ usual_quota)) ⊎ AreLimits ws q
+IsLimits ws q = ((ws ≡ []) × (q ≡ usual_quota)) ⊎ ((map number_of ws ≡ map Some (numbers_of q)) × IsQuota q)
 
 -- `tenant NAME WORD`, where the word has at most 64 bytes, and then the limits
 pub record IsRow (line : List ℕ) (row : Row) : Type 0 where
@@ -79,13 +73,13 @@ IsTenant rows name word = Any (λ row. (row.name ≡ name) × (row.word ≡ word
 abbrev pub AddsRow : List Row → List ℕ → Result (Unit {0}) ScriptFault → List Row → Type 0
 AddsRow old line (Ok _) new =
     (row : Row) × IsRow line row × (new ≡ old ++ row ∷ []) × (IsDistinct is_same (names_of old) → IsRoster new)
-AddsRow old line (Err fault.Roster) new = (row : Row) (more : List Row) → IsRow line row → IsRoster (old ++ row ∷ more) → ⊥
-AddsRow old line (Err fault.Memory) new = ⊤
+AddsRow old line (Err Roster) new = (row : Row) (more : List Row) → IsRow line row → IsRoster (old ++ row ∷ more) → ⊥
+AddsRow old line (Err Memory) new = ⊤
 AddsRow old line (Err _) new = ⊥
 
 -- the roster was read, or there is none
 abbrev pub ReadsRoster : List Line → Result (List Row) ScriptFault → Source → Type 0
 ReadsRoster lines (Ok rows) new = (rest : List ℕ) × (new ≡ known rest) × HasRoster lines rows (commands_of rest)
-ReadsRoster lines (Err fault.Roster) new = HasNoRoster lines
-ReadsRoster lines (Err fault.Write) new = ⊥
+ReadsRoster lines (Err Roster) new = HasNoRoster lines
+ReadsRoster lines (Err Write) new = ⊥
 ReadsRoster lines (Err _) new = ⊤

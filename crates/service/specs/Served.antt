@@ -1,11 +1,8 @@
 -- What ends a service, and what it writes.
 use Rattle.std.specs.Prelude.{◌≡◌, ◌≢◌, ℕ, ◌<◌, ◌^◌, ◌⊎◌, List, [], ◌++◌, Option, Some, Result, Ok, Err, codes, pos}
-use Rattle.std.specs.Fmt.{decimal}
-use Rattle.std.specs.IoError.{error_kind, raw_os_error}
-use Rattle.std.specs.declared.io.Error.{Error}
+use Rattle.std.specs.{Fmt.decimal, IoError.error_kind, IoError.raw_os_error, declared.io.Error.Error}
 use Rattle.std.specs.declared.io.ErrorKind.TheVariants.{InvalidInput, Unsupported, WouldBlock}
-use Rattle.service.specs.declared.faults.ServeFault.{ServeFault}
-use Rattle.service.specs.declared.faults.ServeFault.TheVariants.{Write}
+use Rattle.service.specs.declared.faults.ServeFault.{ServeFault, TheVariants.Write}
 use Rattle.service.specs.Session.{session_line}
 use Rattle.service.specs.Written.{WroteFront}
 

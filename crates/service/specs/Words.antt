@@ -1,8 +1,7 @@
 -- The words of a text.
 use Rattle.std.specs.Prelude.{◌≡◌, ℕ, Bool, ◌==◌, ◌&&◌, nat_lt, nat_le, if◌then◌else◌}
 use Rattle.std.specs.Prelude.{List, [], ◌∷◌, length, filter, slice_index, Option, Some, None}
-use Rattle.std.specs.List.{slice_split, before_first, after_first, list_all}
-use Rattle.std.specs.Str.Parse.{digits_value}
+use Rattle.std.specs.{List.slice_split, List.after_first, List.list_all, Str.Parse.digits_value}
 use Rattle.names.specs.Name.{is_digit}
 pub use Rattle.names.specs.Texts.{is_space, trim_start}
 use Rattle.service.specs.declared.words.Arguments.{Arguments}
@@ -15,10 +14,6 @@ is_colon b = b == 58
 -- the words of a text: its parts between spaces
 abbrev pub words : List ℕ → List (List ℕ)
 words text = filter (λ w. nat_lt 0 (length w)) (slice_split is_space text)
-
--- the first word
-abbrev pub first_word : List ℕ → List ℕ
-first_word text = before_first is_space (trim_start text)
 
 -- what stands after the first word and the space that ends it
 abbrev pub after_word : List ℕ → List ℕ

@@ -1,14 +1,13 @@
--- What went out of a script's replies.
-use Rattle.std.specs.Prelude.{◌≡◌, ℕ, ◌<◌, List, ◌++◌, length, Option, ◌⊎◌, [], ◌∷◌, map, Result, Ok, Err, codes}
-use Rattle.std.specs.List.{concat}
-use Rattle.std.specs.Io.KnownBytes.{Appends}
-use Rattle.quotas.specs.Quota.{Quota}
-use Rattle.service.specs.declared.faults.ScriptFault.{ScriptFault}
-use Rattle.service.specs.declared.faults.ScriptFault.TheVariants.{Roster, Read, Write, Memory}
+-- What went out of the replies of a conversation, and of a script.
+use Rattle.std.specs.Prelude.{◌≡◌, ◌⊎◌, ℕ, ◌<◌, List, [], ◌∷◌, ◌++◌, length, map, codes, Option, Result, Ok, Err, IsErrAnd}
+use Rattle.std.specs.{List.concat, Io.KnownBytes.Appends}
+use Rattle.service.specs.declared.conversations.{Flow.Flow, Flow.TheVariants.GoesOn, Flow.TheVariants.Ends, SessionEnd.SessionEnd}
+use Rattle.service.specs.declared.conversations.SessionEnd.TheVariants as end
+use Rattle.service.specs.declared.faults.ScriptFault.{ScriptFault, TheVariants.Roster, TheVariants.Read, TheVariants.Write}
 use Rattle.service.specs.Line.{Line}
-use Rattle.service.specs.Outcome.{Outcome, IsTranscript}
 use Rattle.service.specs.LineReader.{Source}
 use Rattle.service.specs.Roster.{Row, tenant_of, HasRoster, HasNoRoster, ReadsRoster}
+use Rattle.service.specs.Outcome.{Outcome, outcome_text, IsTranscript}
 
 -- a front of the text went out after the output, and not all of it
 pub record WroteFront (output reply : List ℕ) (went_out : List ℕ → Type 0) : Type 0 where
@@ -22,48 +21,35 @@ pub record WroteFront (output reply : List ℕ) (went_out : List ℕ → Type 0)
 abbrev pub WritesFront : Option (List ℕ) → Option (List ℕ) → List ℕ → Type 0
 WritesFront old new reply = WroteFront [] reply (Appends old new)
 
--- the lines before the rest may have these replies, which went out
-pub record WroteUpTo (May : List Line → List (List ℕ) → Type 0)
-    (lines rest : List Line) (went_out : List ℕ → Type 0) : Type 0 where
-  pub done : List Line
-  pub split : lines ≡ done ++ rest
-  pub replies : List (List ℕ)
-  pub may : May done replies
-  pub out : went_out (concat replies)
+-- How a conversation ended after these replies, with these lines left, and what went out: all replies, up to the one that ended
+-- it, to all lines, or to those that could be read; or where a write failed those before the last and a front of that.
+abbrev pub WentOut : SessionEnd → Flow → List Line → List (List ℕ) → (List ℕ → Type 0) → Type 0
+WentOut end.Quit flow rest replies went_out = (flow ≡ Ends) × went_out (concat replies)
+WentOut end.EndOfInput flow rest replies went_out = (flow ≡ GoesOn) × (rest ≡ []) × went_out (concat replies)
+WentOut end.Read flow rest replies went_out = (flow ≡ GoesOn) × went_out (concat replies)
+WentOut end.Write flow rest replies went_out =
+    (sent : List (List ℕ)) × (last : List ℕ) × (replies ≡ sent ++ last ∷ []) × WroteFront (concat sent) last went_out
+WentOut end.Memory flow rest replies went_out = ⊥
 
--- and of the next line's reply a front did, but not all of it: that line was carried out too
-pub record WrotePart (May : List Line → List (List ℕ) → Type 0) (lines : List Line) (went_out : List ℕ → Type 0) : Type 0 where
-  pub done : List Line
-  pub line : Line
+-- a script that begins with a roster, as it was answered: all lines behind that, or where a device failed the first of them
+pub record ScriptRun (input : List Line) : Type 0 where
+  pub rows : List Row
+  pub lines : List Line
   pub rest : List Line
-  pub split : lines ≡ done ++ line ∷ rest
-  pub replies : List (List ℕ)
-  pub reply : List ℕ
-  pub may : May (done ++ line ∷ []) (replies ++ reply ∷ [])
-  pub front : WroteFront (concat replies) reply went_out
+  pub outcomes : List Outcome
+  pub roster : HasRoster input rows (lines ++ rest)
+  pub transcript : IsTranscript (map tenant_of rows) lines outcomes
 
--- a script of these commands may have these replies
-abbrev pub MayReply : List (List ℕ × Quota) → List Line → List (List ℕ) → Type 0
-MayReply roster commands replies = (outcomes : List Outcome) × IsTranscript roster commands outcomes replies
-
--- what went out to these commands, by how the script ended
-abbrev pub Wrote : List (List ℕ × Quota) → List Line → Result (Unit {0}) ScriptFault → (List ℕ → Type 0) → Type 0
-Wrote roster commands (Ok _) went_out = WroteUpTo (MayReply roster) commands [] went_out
-Wrote roster commands (Err Read) went_out = (rest : List Line) × WroteUpTo (MayReply roster) commands rest went_out
-Wrote roster commands (Err Write) went_out = WrotePart (MayReply roster) commands went_out
-Wrote roster commands (Err Roster) went_out = ⊥
-Wrote roster commands (Err Memory) went_out = ⊥
+-- the end of a script's conversation, by how the script ended
+abbrev pub end_of : Result (Unit {0}) ScriptFault → SessionEnd
+end_of (Ok _) = end.EndOfInput
+end_of (Err Read) = end.Read
+end_of (Err Write) = end.Write
+end_of (Err _) = end.Memory
 
 -- the one line that answers a faulty roster
 abbrev pub roster_refusal : List ℕ
 roster_refusal = codes "?: error 63 roster" ++ 10 ∷ []
-
--- the lines begin with a roster, and the commands of its tenants were answered
-pub record Answers (lines : List Line) (result : Result (Unit {0}) ScriptFault) (went_out : List ℕ → Type 0) : Type 0 where
-  pub rows : List Row
-  pub commands : List Line
-  pub roster : HasRoster lines rows commands
-  pub wrote : Wrote (map tenant_of rows) commands result went_out
 
 -- what a fault of the roster lets out: nothing, unless it is faulty; then the one line, or a front of it
 abbrev pub AnswersFault : List Line → ScriptFault → (List ℕ → Type 0) → Type 0
@@ -81,7 +67,7 @@ abbrev pub OpensWith : List Line → Result (List Row) ScriptFault → (List ℕ
 OpensWith lines (Ok rows) went_out = (rest : List Line) × HasRoster lines rows rest
 OpensWith lines (Err why) went_out = AnswersFault lines why went_out
 
--- What went out of a script, by its lines that are not blank. Want of memory comes before anything is written.
+-- what went out of a script, by its lines that are not blank: what answers a fault of its roster, or a run's texts
 abbrev pub ScriptWrote : List Line → Result (Unit {0}) ScriptFault → (List ℕ → Type 0) → Type 0
-ScriptWrote lines (Ok u) went_out = Answers lines (Ok u) went_out
-ScriptWrote lines (Err why) went_out = AnswersFault lines why went_out ⊎ Answers lines (Err why) went_out
+ScriptWrote lines result went_out = IsErrAnd result (λ why. AnswersFault lines why went_out)
+    ⊎ ((run : ScriptRun lines) × WentOut (end_of result) GoesOn run.rest (map outcome_text run.outcomes) went_out)

@@ -3,9 +3,7 @@ ghost use Rattle.std.specs.Prelude.{◌≡◌, ◌≤◌, ◌⊎◌, [], ◌∷�
 ghost use Rattle.credential_text.specs.declared.faults.CredFault.{CredFault};
 ghost use Rattle.credential_text.specs.Refusal as credential;
 ghost use Rattle.credential_text.specs.Spelling.{Spells};
-ghost use Rattle.service.specs.declared.refusals.Refusal.TheVariants as refusal;
-ghost use Rattle.service.specs.Words.{number_of};
-ghost use Rattle.service.specs.Command.{form_of, form_with, Reads};
+ghost use Rattle.service.specs.Command.{form_of, form_in, forms_with, Reads};
 
 use crate::refusals::Refusal;
 use crate::words::{Arguments, next_word, number, split_words};
@@ -39,29 +37,18 @@ pub(crate) fn read_command(alloc: Global, text: &[u8]) -> Result<Command, Refusa
         return Ok(Command::Request(Request::Alter(Change::Withdraw(credential_of(alloc, rest)?))));
     }
     match split_words(rest) {
-        Arguments::Nothing => read_alone(verb),
+        Arguments::Nothing if verb == b"vault".as_slice() => Ok(Command::Request(Request::Vault)),
+        Arguments::Nothing if verb == b"sees".as_slice() => Ok(Command::Request(Request::Sees)),
+        Arguments::Nothing => Err(Refusal::Command),
         Arguments::One(word) => read_with_one(verb, word),
         Arguments::Two(first, second) => read_with_two(verb, first, second),
         Arguments::More => Err(Refusal::Command),
     }
 }
 
-/// The command of a verb alone.
-fn read_alone(verb: &[u8]) -> Result<Command, Refusal>
-    ensures { Reads (form_with verb.now []) result }
-{
-    if verb == b"vault".as_slice() {
-        Ok(Command::Request(Request::Vault))
-    } else if verb == b"sees".as_slice() {
-        Ok(Command::Request(Request::Sees))
-    } else {
-        Err(Refusal::Command)
-    }
-}
-
 /// The command of a verb and one word. A star stands for every reader, and is no name.
 fn read_with_one(verb: &[u8], word: &[u8]) -> Result<Command, Refusal>
-    ensures { Reads (form_with verb.now (word.now ∷ [])) result }
+    ensures { Reads (form_in (forms_with (word.now ∷ [])) verb.now) result }
 {
     if verb == b"grant".as_slice() {
         if word == b"*".as_slice() {
@@ -76,11 +63,11 @@ fn read_with_one(verb: &[u8], word: &[u8]) -> Result<Command, Refusal>
     } else if verb == b"who".as_slice() {
         Ok(Command::Request(Request::Seek(Query::Who(Role::read(word)?))))
     } else if verb == b"poll".as_slice() {
-        Ok(Command::Request(Request::Poll(search_number(word)?)))
+        Ok(Command::Request(Request::Poll(number(word).ok_or(Refusal::Command)?)))
     } else if verb == b"wait".as_slice() {
-        Ok(Command::Wait(search_number(word)?))
+        Ok(Command::Wait(number(word).ok_or(Refusal::Command)?))
     } else if verb == b"end".as_slice() {
-        Ok(Command::Request(Request::Close(search_number(word)?)))
+        Ok(Command::Request(Request::Close(number(word).ok_or(Refusal::Command)?)))
     } else {
         Err(Refusal::Command)
     }
@@ -88,15 +75,15 @@ fn read_with_one(verb: &[u8], word: &[u8]) -> Result<Command, Refusal>
 
 /// The command of a verb and two words.
 fn read_with_two(verb: &[u8], first: &[u8], second: &[u8]) -> Result<Command, Refusal>
-    ensures { Reads (form_with verb.now (first.now ∷ second.now ∷ [])) result }
+    ensures { Reads (form_in (forms_with (first.now ∷ second.now ∷ [])) verb.now) result }
 {
     if verb == b"ask".as_slice() {
         let role = Role::read(first)?;
         Ok(Command::Request(Request::Seek(Query::Ask(role, Entity::read(second)?))))
     } else if verb == b"proof".as_slice() {
-        let number = search_number(first)?;
+        let search = number(first).ok_or(Refusal::Command)?;
         let member = Entity::read(second)?;
-        Ok(Command::Request(Request::Proof(number, member)))
+        Ok(Command::Request(Request::Proof(search, member)))
     } else {
         Err(Refusal::Command)
     }
@@ -106,20 +93,12 @@ fn read_with_two(verb: &[u8], first: &[u8], second: &[u8]) -> Result<Command, Re
 fn credential_of(alloc: Global, text: &[u8]) -> Result<Credential, Refusal>
     ensures spelled { IfOk result (λ c. Spells text.now c × (length text.now ≤ 4096)) }
     ensures refused { IfErr result (λ why.
-        ((f : CredFault) × (credential.refusal text.now ≡ Some f) × (why ≡ refusal.Credential f))
-        ⊎ ((credential.refusal text.now ≡ None) × (why ≡ refusal.Memory))) }
+        ((f : CredFault) × (credential.refusal text.now ≡ Some f) × (why ≡ Refusal.Credential f))
+        ⊎ ((credential.refusal text.now ≡ None) × (why ≡ Refusal.Memory))) }
 {
     match read_credential(alloc, text) {
         Ok(credential) => Ok(credential),
         Err(CredFault::Memory) => Err(Refusal::Memory),
         Err(fault) => Err(Refusal::Credential(fault)),
     }
-}
-
-/// The number of a search that the word writes.
-fn search_number(word: &[u8]) -> Result<u64, Refusal>
-    ensures written { IfOk result (λ n. number_of word.now ≡ Some n) }
-    ensures refused { IfErr result (λ why. (number_of word.now ≡ None) × (why ≡ refusal.Command)) }
-{
-    number(word).ok_or(Refusal::Command)
 }

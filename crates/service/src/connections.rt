@@ -1,10 +1,10 @@
-//! The connections of a service: one thread accepts them, and hands them to those that answer.
-ghost use Rattle.std.specs.Prelude.{◌≡◌, ◌≤◌, ◌*◌, option_map};
+//! The connections of a service: one thread accepts them, one after another, also after an accept that failed, and hands
+//! them to those that answer.
+ghost use Rattle.std.specs.Prelude.{◌≡◌, ◌*◌, ◌↔◌, min, IsTrue, IfErr, option_map};
 ghost use Rattle.std.specs.Duration.{as_nanos};
 ghost use Rattle.service.specs.Roster.{names_of};
-ghost use Rattle.service.specs.Served.{Answered};
+ghost use Rattle.service.specs.Served.{Answered, IsLasting};
 
-use crate::accepting::next_connection;
 use crate::faults::ServeFault;
 use crate::rosters::Roster;
 use crate::serving::ServeOptions;
@@ -12,8 +12,8 @@ use crate::sessions::serve_session;
 use crossbeam_channel::{Receiver, Sender, bounded};
 use pool::Desk;
 use std::alloc::Global;
-use std::io::Read;
-use std::net::{TcpListener, TcpStream};
+use std::io::{Error, ErrorKind, Read};
+use std::net::{OpenListener, TcpListener, TcpStream};
 use std::sync::Wait;
 use std::sync::atomic::{AtomicBool, Ordering};
 use std::sync::ledger::Ledger;
@@ -23,6 +23,18 @@ use std::{io, thread};
 
 /// How many accepted connections wait for a session that is free. More wait in the listener.
 const QUEUED: usize = 1;
+
+/// The system's number of a descriptor that isn't open. Its errors have no kind of their own.
+const NOT_OPEN: i32 = 9;
+
+/// The system's number of a descriptor that is no socket.
+const NO_SOCKET: i32 = 88;
+
+/// How many milliseconds pass after the first accept that failed.
+const FIRST_PAUSE: u64 = 1;
+
+/// The most that pass after a later one.
+const LONGEST_PAUSE: u64 = 100;
 
 /// Where the sessions find their connections, and what ends them beside what their peers say.
 #[derive(Drop)]
@@ -35,11 +47,6 @@ struct Arrivals {
 }
 
 impl Arrivals {
-    /// Ends each session where it reads.
-    fn stop(&self) {
-        self.is_stopped.store(true, Ordering::SeqCst);
-    }
-
     /// Fails once the service has stopped.
     fn go_on(&self) -> io::Result<()> {
         if self.is_stopped.load(Ordering::SeqCst) {
@@ -91,8 +98,7 @@ pub(crate) fn answer_connections<L: Ledger + Send + Sync, R: Threads + Wait + Cl
     listener: TcpListener,
     options: ServeOptions,
 ) -> Result<u64, ServeFault>
-    requires tenants { desk.now ≡ names_of roster.now }
-    requires sessions { (1 ≤ options.sessions) × (options.sessions ≤ 64) }
+    requires { desk.now ≡ names_of roster.now }
     ensures { Answered options.accept result }
 {
     let Ok((sender, queue)) = bounded::<TcpStream, _>(alloc, QUEUED) else {
@@ -108,8 +114,7 @@ pub(crate) fn answer_connections<L: Ledger + Send + Sync, R: Threads + Wait + Cl
         thread::scope_env(),
         rt,
         |scope| -> Result<u64, ServeFault>
-            requires tenants { desk.now ≡ names_of roster.now }
-            requires sessions { (1 ≤ options.sessions) × (options.sessions ≤ 64) }
+            requires { desk.now ≡ names_of roster.now }
             ensures { Answered options.accept result }
         {
             let mut started = true;
@@ -125,7 +130,7 @@ pub(crate) fn answer_connections<L: Ledger + Send + Sync, R: Threads + Wait + Cl
                 Err(ServeFault::NoThread)
             };
             if accepted.is_err() {
-                arrivals.stop();
+                arrivals.is_stopped.store(true, Ordering::SeqCst);
                 desk.stop(rt);
             }
             drop(listener);
@@ -136,10 +141,10 @@ pub(crate) fn answer_connections<L: Ledger + Send + Sync, R: Threads + Wait + Cl
 }
 
 /// Accepts so many connections, or all that come, and waits for each until there is room for it in the queue.
-fn accept_all<R: Wait + Clock>(
+fn accept_all<R: Wait + Clock, S: OpenListener>(
     rt: &R,
-    listener: &TcpListener,
-    queue: &Sender<TcpStream>,
+    listener: &S,
+    queue: &Sender<S::Stream>,
     accept: Option<u64>,
 ) -> Result<u64, ServeFault>
     ensures { Answered accept result }
@@ -156,6 +161,47 @@ fn accept_all<R: Wait + Clock>(
         count = count.saturating_add(1);
     }
     unreachable!()
+}
+
+/// The next connection. An accept that fails isn't the end: the peer may have gone, and what the system lacks comes back
+/// when a session ends. So it is tried again after a pause, twice as long each time, until the listener itself is at fault.
+fn next_connection<R: Wait + Clock, S: OpenListener>(
+    rt: &R,
+    listener: &S,
+) -> Result<S::Stream, ServeFault>
+    ensures { IfErr result (λ why. why ≡ ServeFault.Socket) }
+{
+    let mut pause = FIRST_PAUSE;
+    for _ in rt.forever() {
+        match listener.accept() {
+            Ok((stream, _peer)) => return Ok(stream),
+            Err(error) if is_lasting(&error) => return Err(ServeFault::Socket),
+            Err(_error) => thread::sleep(rt, Duration::from_millis(pause)),
+        }
+        pause = next_pause(pause);
+    }
+    unreachable!()
+}
+
+/// Twice as long a pause, up to the longest.
+fn next_pause(pause: u64) -> u64
+    ensures { result ≡ min (2 * pause) LONGEST_PAUSE }
+{
+    pause.saturating_mul(2).min(LONGEST_PAUSE)
+}
+
+/// Whether a failed accept shows that the listener itself is at fault, so that each later one fails too: it isn't listening,
+/// no connections can be had of it, it doesn't wait for them, or its descriptor isn't open or no socket.
+fn is_lasting(error: &Error) -> bool
+    ensures { IsTrue result ↔ IsLasting error.now }
+{
+    let kind = error.kind();
+    let number = error.raw_os_error();
+    kind == ErrorKind::InvalidInput
+        || kind == ErrorKind::Unsupported
+        || kind == ErrorKind::WouldBlock
+        || number == Some(NOT_OPEN)
+        || number == Some(NO_SOCKET)
 }
 
 /// Answers connection after connection until the queue ends. However a session ends, it ends alone. Each reply is sent at
@@ -182,3 +228,6 @@ fn answer_queue<L: Ledger, R: Wait>(
         }
     }
 }
+
+#[cfg(test)]
+mod tests;

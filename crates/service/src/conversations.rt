@@ -1,11 +1,7 @@
 //! A conversation: each line that comes in is answered before the next one is read.
-ghost use Rattle.std.specs.Prelude.{◌≡◌, ℕ, List};
-ghost use Rattle.std.specs.Io.KnownBytes.{Appends};
+ghost use Rattle.std.specs.{Prelude.◌≡◌, Prelude.ℕ, Prelude.List, Io.KnownBytes.Appends};
 ghost use Rattle.service.specs.declared.refusals.Refusal.TheVariants as refusal;
-ghost use Rattle.service.specs.declared.conversations.Flow.TheVariants as flow;
-ghost use Rattle.service.specs.Line.{Line, text, too_long, not_ascii};
-ghost use Rattle.service.specs.LineReader.{IfKnown};
-ghost use Rattle.service.specs.Conversation.{Hears, Turns, Conversed};
+ghost use Rattle.service.specs.{Conversation.Conversed, Line.Line, Line.text, Line.too_long, Line.not_ascii, LineReader.IfKnown};
 
 use crate::lines::{LineReader, NextLine};
 use crate::refusals::Refusal;
@@ -47,9 +43,9 @@ pub(crate) trait Host {
         ensures { Answers self.old (text line.now) reply.new result self.new };
 
     /// Puts the reply to a line that is no text into the room.
-    fn refuse(&self, why: Refusal, reply: &mut Room)
-        ensures long { why ≡ refusal.LineLong → Answers self.now too_long reply.new flow.GoesOn self.now }
-        ensures not_ascii { why ≡ refusal.NotAscii → Answers self.now not_ascii reply.new flow.GoesOn self.now };
+    fn refuse(&self, why: Refusal, reply: &mut Room) -> Flow
+        ensures long { why ≡ refusal.LineLong → Answers self.now too_long reply.new result self.now }
+        ensures not_ascii { why ≡ refusal.NotAscii → Answers self.now not_ascii reply.new result self.now };
 }
 
 /// Answers each line that is left and isn't blank, up to the end of the input or of the conversation.
@@ -63,53 +59,21 @@ pub(crate) fn converse<H: Host, I: Read + Drop, W: Write>(
         (Appends (W.contents writer.old) (W.contents writer.new))) }
 {
     for _ in 0..u64::MAX {
-        match take_turn(host, lines, reply, writer) {
-            Ok(()) => {}
-            Err(end) => return end,
+        let flow = match lines.next() {
+            NextLine::Text(line) if is_blank(line) => continue,
+            NextLine::Text(line) => host.answer(line, reply),
+            NextLine::Long => host.refuse(Refusal::LineLong, reply),
+            NextLine::NotAscii => host.refuse(Refusal::NotAscii, reply),
+            NextLine::End => return SessionEnd::EndOfInput,
+            NextLine::Fault => return SessionEnd::Read,
+        };
+        let Ok(()) = write_reply(writer, reply.as_slice()) else {
+            return SessionEnd::Write;
+        };
+        match flow {
+            Flow::GoesOn => {}
+            Flow::Ends => return SessionEnd::Quit,
         }
     }
     SessionEnd::Read
-}
-
-/// Takes one line, and answers it unless it is blank.
-fn take_turn<H: Host, I: Read + Drop, W: Write>(
-    host: &mut H,
-    lines: &mut LineReader<I>,
-    reply: &mut Room,
-    writer: &mut W,
-) -> Result<(), SessionEnd>
-    ensures { IfKnown lines.old (λ commands. Turns H.Answers host.old commands result lines.new host.new
-        (Appends (W.contents writer.old) (W.contents writer.new))) }
-{
-    let flow = match hear(host, lines, reply) {
-        Ok(Some(flow)) => flow,
-        Ok(None) => return Ok(()),
-        Err(end) => return Err(end),
-    };
-    let Ok(()) = write_reply(writer, reply.as_slice()) else {
-        return Err(SessionEnd::Write);
-    };
-    match flow {
-        Flow::GoesOn => Ok(()),
-        Flow::Ends => Err(SessionEnd::Quit),
-    }
-}
-
-/// Takes one line, and puts its reply into the room unless it is blank.
-fn hear<H: Host, I: Read + Drop>(
-    host: &mut H,
-    lines: &mut LineReader<I>,
-    reply: &mut Room,
-) -> Result<Option<Flow>, SessionEnd>
-    ensures { IfKnown lines.old (λ commands. Hears H.Answers host.old commands result lines.new host.new reply.new) }
-{
-    match lines.next() {
-        NextLine::Text(line) if is_blank(line) => return Ok(None),
-        NextLine::Text(line) => return Ok(Some(host.answer(line, reply))),
-        NextLine::Long => host.refuse(Refusal::LineLong, reply),
-        NextLine::NotAscii => host.refuse(Refusal::NotAscii, reply),
-        NextLine::End => return Err(SessionEnd::EndOfInput),
-        NextLine::Fault => return Err(SessionEnd::Read),
-    }
-    Ok(Some(Flow::GoesOn))
 }

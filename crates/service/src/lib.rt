@@ -6,7 +6,6 @@
 //! a desk (`specs/Session.antt`), and `serve` all of them, over TCP.
 #![tactic(auto)]
 
-mod accepting;
 mod commands;
 mod connections;
 mod conversations;

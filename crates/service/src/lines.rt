@@ -1,11 +1,7 @@
 //! The lines of a reader.
 ghost use Rattle.std.specs.Prelude.{◌≡◌, ◌≤◌, ◌∷◌, ◌++◌, ◌^◌, [], take, vec_len, vec_capacity, IfOk};
-ghost use Rattle.std.specs.Borrow.{sem};
-ghost use Rattle.std.specs.Io.BufRead.{Rests};
-ghost use Rattle.std.specs.List.{list_all};
-ghost use Rattle.std.specs.Str.Lines.{strip_carriage_return};
-ghost use Rattle.service.specs.declared.lines.TheConstants.{KEPT, LINE_ROOM};
-ghost use Rattle.service.specs.declared.lines.limit.TheConstants.{MOST_READS};
+ghost use Rattle.std.specs.{Borrow.sem, Io.BufRead.Rests, List.list_all, Str.Lines.strip_carriage_return};
+ghost use Rattle.service.specs.declared.lines.{TheConstants.KEPT, TheConstants.LINE_ROOM, limit.TheConstants.MOST_READS};
 ghost use Rattle.service.specs.Line.{line_of, is_printable};
 ghost use Rattle.service.specs.LineReader.{Shows, Gives, IsText, source_of, TakesBytes, unread_bytes};
 ghost use Rattle.service.specs.contracts.lines.LineReader.{the_row as reader-row};
@@ -57,11 +53,9 @@ enum Stage {
 
 impl<R: Read> Model for LineReader<R> {
     ghost use Rattle.std.specs.Prelude.{◌≤◌, vec_capacity};
-    ghost use Rattle.service.specs.LineReader.{Source};
+    ghost use Rattle.service.specs.LineReader.{Source, unread};
 
     ghost Value = { Source };
-
-    ghost use Rattle.service.specs.LineReader.{unread};
 
     ghost view = { λ r. unread R.remaining r.bytes r.stage };
 
@@ -76,7 +70,11 @@ impl<R: Read + Drop> LineReader<R> {
         ensures most_bytes { LINE_ROOM ≡ 4096 }
     {
         let line = Vec::with_capacity(alloc, KEPT)?;
-        match BufReader::new(alloc, Limited::new(reader, MOST_READS)) {
+        let limited = Limited {
+            inner: reader,
+            left: MOST_READS,
+        };
+        match BufReader::new(alloc, limited) {
             Ok(ahead) => Ok(LineReader {
                 bytes: ahead.bytes(),
                 line,

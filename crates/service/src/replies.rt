@@ -1,15 +1,13 @@
 //! Replies: the room in which the lines of one are put together, and its lines. Only a vault, lists of names and a proof may
 //! take memory.
-ghost use Rattle.std.specs.Prelude.{◌≡◌, ◌≤◌, ◌+◌, ◌++◌, [], ◌∷◌, length, codes, vec_len, vec_capacity, IfOk, OnOk, OnErr};
+ghost use Rattle.std.specs.Prelude.{◌≡◌, ◌≤◌, ◌+◌, ◌++◌, [], ◌∷◌, length, codes, map, vec_len, vec_capacity, decimal, IfOk, OnOk, OnErr};
 ghost use Rattle.std.specs.List.{flat_map};
-ghost use Rattle.std.specs.Fmt.{decimal};
 ghost use Rattle.std.specs.Io.KnownBytes.{Appends};
 ghost use Rattle.credential_text.specs.Spelling.{canonical};
-ghost use Rattle.hall.specs.declared.calls.replies.Reply.TheVariants as reply;
 ghost use Rattle.service.specs.Refusal.{text_of, refusal_number};
-ghost use Rattle.service.specs.Reply.{front_of, line_after, error_text, listed, seen_text, seen_listed};
-ghost use Rattle.service.specs.Reply.{text_lines, lines_after, IsLong, IsFilled};
-ghost use Rattle.service.specs.Session.{hello_to, IsToldBy};
+ghost use Rattle.service.specs.Reply.{front_of, line_after, error_text, listed, seen_text, text_lines, lines_after};
+ghost use Rattle.service.specs.Reply.{IsLong, IsFilled};
+ghost use Rattle.service.specs.Session.{session_line};
 ghost use Rattle.service.specs.Written.{WritesFront};
 
 use crate::refusals::{Refusal, fault_text};
@@ -17,7 +15,6 @@ use credential_text::{Credential, write_credential};
 use hall::{Answer, Fault, Proof, Reply, write_proof};
 use names::Entity;
 use names::texts::cut;
-use pool::DeskFault;
 use std::alloc::{AllocError, Global};
 use std::io::Write;
 use std::marker::Model;
@@ -86,15 +83,8 @@ impl Room {
         self.bytes.as_slice()
     }
 
-    /// Empties it.
-    pub(crate) fn clear(&mut self)
-        ensures { self.new ≡ [] }
-    {
-        self.bytes.clear();
-    }
-
     /// Empties it, and begins a line to this one.
-    pub(crate) fn begin(&mut self, who: &Speaker)
+    fn begin(&mut self, who: &Speaker)
         ensures items { self.new ≡ front_of who.now }
         ensures short { length self.new ≤ 66 }
     {
@@ -105,7 +95,7 @@ impl Room {
     }
 
     /// Appends a text of a short reply.
-    pub(crate) fn append(&mut self, text: &[u8])
+    fn append(&mut self, text: &[u8])
         requires { length self.old + length text.now ≤ 128 }
         ensures { self.new ≡ self.old ++ text.now }
     {
@@ -113,7 +103,7 @@ impl Room {
     }
 
     /// Appends the digits of a number, which are 20 at most.
-    pub(crate) fn append_number(&mut self, number: u64)
+    fn append_number(&mut self, number: u64)
         requires { length self.old + 20 ≤ 128 }
         ensures digits { self.new ≡ self.old ++ decimal number }
         ensures short { length (decimal number) ≤ 20 }
@@ -121,30 +111,25 @@ impl Room {
         append_digits(&mut self.bytes, number);
     }
 
-    /// Begins a further line to this one.
-    pub(crate) fn extend_front(&mut self, who: &Speaker) -> Result<(), AllocError>
-        ensures begun { OnOk result (self.new ≡ self.old ++ front_of who.now) }
-        ensures unchanged { OnErr result (self.new ≡ self.old) }
-    {
-        let (name, colon) = who.front();
-        self.bytes.reserve(name.len() + colon.len())?;
-        self.bytes.extend_from_slice(name).unwrap();
-        self.bytes.extend_from_slice(colon).unwrap();
-        Ok(())
-    }
-
     /// Appends a text of a long reply.
-    pub(crate) fn extend(&mut self, text: &[u8]) -> Result<(), AllocError>
-        ensures appended { OnOk result (self.new ≡ self.old ++ text.now) }
-        ensures unchanged { OnErr result (self.new ≡ self.old) }
+    fn extend(&mut self, text: &[u8]) -> Result<(), AllocError>
+        ensures { OnOk result (self.new ≡ self.old ++ text.now) }
     {
         self.bytes.extend_from_slice(text)
     }
 
+    /// Begins a further line to this one.
+    fn extend_front(&mut self, who: &Speaker) -> Result<(), AllocError>
+        ensures { OnOk result (self.new ≡ self.old ++ front_of who.now) }
+    {
+        let (name, colon) = who.front();
+        self.extend(name)?;
+        self.extend(colon)
+    }
+
     /// Appends the canonical spelling of a credential.
-    pub(crate) fn extend_by(&mut self, credential: &Credential) -> Result<(), AllocError>
-        ensures spelled { OnOk result (self.new ≡ self.old ++ canonical credential.now) }
-        ensures unchanged { OnErr result (self.new ≡ self.old) }
+    fn extend_by(&mut self, credential: &Credential) -> Result<(), AllocError>
+        ensures { OnOk result (self.new ≡ self.old ++ canonical credential.now) }
     {
         write_credential(credential, &mut self.bytes)
     }
@@ -199,29 +184,19 @@ fn write_reply_lines(room: &mut Room, who: &Speaker, reply: &Reply) -> Result<()
         Reply::Sees(seen) => write_sees(room, who, seen.as_slice())?,
         Reply::Proof(proof) => write_steps(room, who, proof)?,
         Reply::Refused(fault) => fill_error(room, who, fault.number()),
-        Reply::Stepped(_outcome) => room.clear(),
+        Reply::Stepped(_outcome) => room.bytes.clear(),
     }
     Ok(())
 }
 
 /// Fills the room with the line that lets a tenant in. It takes no memory.
 pub(crate) fn fill_hello(room: &mut Room, name: &Entity)
-    ensures { room.new ≡ hello_to name.now }
+    ensures { room.new ≡ session_line (codes "hello " ++ name.now) }
 {
     room.begin(&Speaker::Peer);
     room.append(b"hello ");
     room.append(name.bytes());
     room.append(b"\n");
-}
-
-/// Fills the room with the lines of what a command came to. A long reply takes memory, and without it the one line says so.
-pub(crate) fn fill_told(room: &mut Room, told: &Result<Reply, DeskFault>)
-    ensures { IsToldBy told.now room.new }
-{
-    match told {
-        Ok(reply) => fill_reply(room, &Speaker::Peer, reply),
-        Err(fault) => fill_error(room, &Speaker::Peer, fault.number()),
-    }
 }
 
 /// Fills the room with a word. It takes no memory.
@@ -253,21 +228,13 @@ pub(crate) fn fill_error(room: &mut Room, who: &Speaker, number: u64)
     room.append(b"error ");
     room.append_number(number);
     room.append(b" ");
-    room.append(text_after(number).as_bytes());
+    room.append(fault_text(number).unwrap_or("").as_bytes());
     room.append(b"\n");
-}
-
-/// The text that stands after a refusal's number.
-fn text_after(number: u64) -> &'static str
-    ensures text { result.now ≡ text_of number }
-    ensures short { length result.now ≤ 19 }
-{
-    fault_text(number).unwrap_or("")
 }
 
 /// How many steps there are, and a line for each.
 fn write_steps(room: &mut Room, who: &Speaker, proof: &Proof) -> Result<(), AllocError>
-    ensures { OnOk result (room.new ≡ lines_after (front_of who.now) (reply.Proof proof.now)) }
+    ensures { OnOk result (room.new ≡ lines_after (front_of who.now) (Reply.Proof proof.now)) }
 {
     let mut text = Vec::new(room.alloc());
     write_proof(proof, &mut text)?;
@@ -293,7 +260,7 @@ fn write_lines(room: &mut Room, who: &Speaker, text: &[u8]) -> Result<(), AllocE
 
 /// How many credentials there are, and a line for each.
 fn write_vault(room: &mut Room, who: &Speaker, rows: &[Credential]) -> Result<(), AllocError>
-    ensures { OnOk result (room.new ≡ lines_after (front_of who.now) (reply.Vault rows.now)) }
+    ensures { OnOk result (room.new ≡ lines_after (front_of who.now) (Reply.Vault rows.now)) }
 {
     fill_counted(room, who, b"vault ", rows.len() as u64);
     for row in rows {
@@ -306,7 +273,7 @@ fn write_vault(room: &mut Room, who: &Speaker, rows: &[Credential]) -> Result<()
 
 /// The names that are seen in one line, each with a star directly behind it where its vault is public.
 fn write_sees(room: &mut Room, who: &Speaker, seen: &[Seen]) -> Result<(), AllocError>
-    ensures { OnOk result (room.new ≡ line_after (front_of who.now) (codes "sees" ++ seen_listed seen.now)) }
+    ensures { OnOk result (room.new ≡ line_after (front_of who.now) (codes "sees" ++ listed (map seen_text seen.now))) }
 {
     room.begin(who);
     room.append(b"sees");

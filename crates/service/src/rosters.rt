@@ -5,18 +5,17 @@ ghost use Rattle.std.specs.List.{list_any, IsDistinct};
 ghost use Rattle.names.specs.Name.{IsName, is_same};
 ghost use Rattle.quotas.specs.Quota.{Quota};
 ghost use Rattle.hall.specs.Hall.{new_hall};
-ghost use Rattle.service.specs.declared.faults.ScriptFault.TheVariants as fault;
 ghost use Rattle.service.specs.Line.{commands_of};
 ghost use Rattle.service.specs.LineReader.{IfKnown};
 ghost use Rattle.service.specs.Roster as roster;
-ghost use Rattle.service.specs.Roster.{IsLimits, IsRow, IsBegin, IsTenant, names_of, tenant_of, AddsRow, ReadsRoster};
+ghost use Rattle.service.specs.Roster.{IsLimits, IsRow, IsTenant, names_of, tenant_of, AddsRow, ReadsRoster};
 ghost use Rattle.service.specs.Written.{TakesRoster, OpensWith};
 ghost use Rattle.service.specs.Words.{words, number_of};
 
 use crate::faults::ScriptFault;
 use crate::lines::{LineReader, NextLine};
 use crate::replies::{WriteFault, write_reply};
-use crate::words::{next_word, number};
+use crate::words::{is_word, next_word, number};
 use hall::{Fault, Hall};
 use names::Entity;
 use names::texts::is_blank;
@@ -77,15 +76,15 @@ impl Roster {
         lines: &mut LineReader<R>,
     ) -> Result<Roster, ScriptFault>
         ensures roster { IfKnown lines.old (λ commands. ReadsRoster commands result lines.new) }
-        ensures reads_alone { IfErr result (λ why. why ≢ fault.Write) }
+        ensures reads_alone { IfErr result (λ why. why ≢ ScriptFault.Write) }
     {
         let mut rows = Vec::new(alloc);
         for _ in 0..u64::MAX {
             match lines.next() {
                 NextLine::Text(text) if is_blank(text) => {}
-                NextLine::Text(text) if !rows.is_empty() && is_begin(text) => return Ok(Roster {
-                    rows,
-                }),
+                NextLine::Text(text) if !rows.is_empty() && is_word(text, b"begin") => return Ok(
+                    Roster { rows },
+                ),
                 NextLine::Text(text) => add_row(&mut rows, text)?,
                 NextLine::Fault => return Err(ScriptFault::Read),
                 NextLine::Long | NextLine::NotAscii | NextLine::End => {
@@ -114,8 +113,7 @@ impl Roster {
         ensures hall { IfOk result (λ h. h ≡ new_hall (map tenant_of self.now)) }
         ensures only_memory { IfErr result (λ f. f ≡ Fault.Memory) }
     {
-        let tenants = self.tenants(alloc)?;
-        Hall::make(alloc, tenants)
+        Hall::make(alloc, self.tenants(alloc)?)
     }
 
     /// A desk of the roster's tenants, who have done nothing.
@@ -127,8 +125,7 @@ impl Roster {
         ensures tenants { IfOk result (λ desk. desk ≡ names_of self.now) }
         ensures only_memory { IfErr result (λ f. f ≡ Fault.Memory) }
     {
-        let tenants = self.tenants(alloc)?;
-        Desk::make(alloc, tenants, blank)
+        Desk::make(alloc, self.tenants(alloc)?, blank)
     }
 
     /// The tenants' names and limits, in order.
@@ -179,16 +176,6 @@ fn is_text(kept: &[u8], said: &[u8]) -> bool
         is_same &= is_there;
     }
     is_same
-}
-
-/// Whether the line ends a roster.
-fn is_begin(text: &[u8]) -> bool
-    ensures { IsTrue result ↔ IsBegin text.now }
-{
-    match next_word(text) {
-        Some((word, rest)) => word == b"begin".as_slice() && next_word(rest).is_none(),
-        None => false,
-    }
 }
 
 /// The name, the word and the limits of a tenant's line.

@@ -1,13 +1,8 @@
 //! A script: a roster, then the commands of its tenants, each with its reply.
-ghost use Rattle.std.specs.Prelude.{◌≡◌, true, false, IfSome, MatchOption};
-ghost use Rattle.std.specs.Io.KnownBytes.{Appends};
+ghost use Rattle.std.specs.{Prelude.IfSome, Io.KnownBytes.Appends};
 ghost use Rattle.hall.specs.Hall.{CarriesOut};
-ghost use Rattle.service.specs.Command.{form_of};
-ghost use Rattle.service.specs.Line.{commands_of, text};
-ghost use Rattle.service.specs.LineReader.{IfKnown};
-ghost use Rattle.service.specs.Outcome.{deed_of};
-ghost use Rattle.service.specs.Turn.{Answered, Says, script_result, speaks};
-ghost use Rattle.service.specs.Written.{ScriptWrote};
+ghost use Rattle.service.specs.Outcome.{IsOutcome, IsSaid, deed_of, speaks, Becomes};
+ghost use Rattle.service.specs.{Command.form_of, Line.commands_of, Line.text, Written.ScriptWrote};
 
 use crate::commands::{Command, read_command};
 use crate::conversations::{Flow, Host, SessionEnd, converse};
@@ -24,7 +19,7 @@ use std::alloc::Global;
 use std::io::{Read, Write};
 
 impl Host for Hall {
-    ghost use Rattle.service.specs.Turn.{ScriptAnswers};
+    ghost use Rattle.service.specs.Outcome.{ScriptAnswers};
 
     ghost Answers = { ScriptAnswers };
 
@@ -34,8 +29,9 @@ impl Host for Hall {
     }
 
     #[tactic(auto, using(crate::proofs::OutcomeLemmas::long_answered, crate::proofs::OutcomeLemmas::not_ascii_answered))]
-    fn refuse(&self, why: Refusal, reply: &mut Room) {
+    fn refuse(&self, why: Refusal, reply: &mut Room) -> Flow {
         fill_refusal(reply, &Speaker::Nobody, why);
+        Flow::GoesOn
     }
 }
 
@@ -51,31 +47,11 @@ pub fn run_script<R: Read + Drop, W: Write>(
 {
     let mut reply = Room::make(alloc)?;
     let mut lines = LineReader::make(alloc, reader)?;
-    run_lines(alloc, &mut lines, &mut reply, writer)
-}
-
-/// Runs a script of these lines.
-fn run_lines<R: Read + Drop, W: Write>(
-    alloc: Global,
-    lines: &mut LineReader<R>,
-    reply: &mut Room,
-    writer: &mut W,
-) -> Result<(), ScriptFault>
-    ensures { IfKnown lines.old (λ commands. ScriptWrote commands result
-        (Appends (W.contents writer.old) (W.contents writer.new))) }
-{
-    let roster = take_roster(alloc, lines, writer)?;
+    let roster = take_roster(alloc, &mut lines, writer)?;
     let Ok(mut hall) = roster.hall(alloc) else {
         return Err(ScriptFault::Memory);
     };
-    ended(converse(&mut hall, lines, reply, writer))
-}
-
-/// How a script ended, by the end of its conversation.
-fn ended(end: SessionEnd) -> Result<(), ScriptFault>
-    ensures { result ≡ script_result end }
-{
-    match end {
+    match converse(&mut hall, &mut lines, &mut reply, writer) {
         SessionEnd::Quit | SessionEnd::EndOfInput => Ok(()),
         SessionEnd::Read => Err(ScriptFault::Read),
         SessionEnd::Write => Err(ScriptFault::Write),
@@ -85,38 +61,23 @@ fn ended(end: SessionEnd) -> Result<(), ScriptFault>
 
 /// Answers a line that isn't blank.
 fn answer_line(alloc: Global, line: &[u8], hall: &mut Hall, reply: &mut Room)
-    ensures { Answered hall.old (text line.now) reply.new hall.new }
+    ensures { Becomes hall.old (IsOutcome (speaks hall.old) (text line.now)) reply.new hall.new }
 {
     let Some((before, said)) = split_at_colon(trim_start(line)) else {
         return fill_refusal(reply, &Speaker::Nobody, Refusal::Command);
     };
-    match speaker(hall, before) {
-        Some(who) => answer_tenant(alloc, who, said, hall, reply),
-        None => fill_refusal(reply, &Speaker::Nobody, Refusal::BadHello),
-    }
-}
-
-/// The tenant of this name, if there is one.
-fn speaker(hall: &Hall, name: &[u8]) -> Option<Entity>
-    ensures { MatchOption result
-        (speaks hall.now name.now ≡ false)
-        (λ who. (who ≡ name.now) × (speaks hall.now name.now ≡ true)) }
-{
-    match Entity::read(name) {
-        Ok(who) if hall.has(who) => Some(who),
-        _ => None,
+    match Entity::read(before) {
+        Ok(who) if hall.has(who) => answer_tenant(alloc, who, said, hall, reply),
+        _ => fill_refusal(reply, &Speaker::Nobody, Refusal::BadHello),
     }
 }
 
 /// Answers what a tenant said.
 fn answer_tenant(alloc: Global, who: Entity, said: &[u8], hall: &mut Hall, reply: &mut Room)
-    ensures { Says hall.old who (form_of said.now) reply.new hall.new }
+    ensures { Becomes hall.old (IsSaid who (form_of said.now)) reply.new hall.new }
 {
     match read_command(alloc, said) {
-        Ok(command) => {
-            let told = carry_out(hall, who, command);
-            fill_reply(reply, &Speaker::Tenant(who), &told);
-        }
+        Ok(command) => fill_reply(reply, &Speaker::Tenant(who), &carry_out(hall, who, command)),
         Err(refusal) => fill_refusal(reply, &Speaker::Tenant(who), refusal),
     }
 }

@@ -1,8 +1,6 @@
 //! The service: connections that are answered, and the workers beside them.
-ghost use Rattle.std.specs.Prelude.{◌≡◌, ◌≤◌, ◌⊎◌, ◌↔◌, ◌++◌, Some, length, IsOk, IfOk, IfErr, OnOk, OnErr};
-ghost use Rattle.std.specs.Fmt.{decimal};
+ghost use Rattle.std.specs.Prelude.{◌≡◌, ◌≤◌, ◌⊎◌, ◌↔◌, ◌++◌, Some, length, decimal, IsOk, IfOk, IfErr, OnOk, OnErr};
 ghost use Rattle.std.specs.Io.KnownBytes.{Appends};
-ghost use Rattle.service.specs.declared.faults.ServeFault.TheVariants as fault;
 ghost use Rattle.service.specs.Roster.{names_of};
 ghost use Rattle.service.specs.Served.{Answered, ServeWrote};
 ghost use Rattle.service.specs.Session.{session_line};
@@ -19,8 +17,7 @@ use std::marker::Brand;
 use std::net::TcpListener;
 use std::sync::Wait;
 use std::sync::ledger::{Blank, Ledger};
-use std::thread;
-use std::thread::Threads;
+use std::thread::{self, Threads};
 use std::time::Clock;
 
 /// How many threads a service has, and when it ends.
@@ -73,7 +70,6 @@ fn serve_with<L: Ledger + Send + Sync, R: Threads + Wait + Clock + Sync, W: Writ
     requires name { blank.name ≡ L.name }
     requires parts { blank.parts ≡ L.parts }
     requires room { blank.parts ≡ PARTS }
-    requires sessions { (1 ≤ options.sessions) × (options.sessions ≤ 64) }
     ensures count { IfOk result (λ n. options.accept ≡ Some n) }
     ensures wrote { ServeWrote options.accept result (Appends (W.contents writer.old) (W.contents writer.new)) }
 {
@@ -98,20 +94,14 @@ fn serve_with<L: Ledger + Send + Sync, R: Threads + Wait + Clock + Sync, W: Writ
 }
 
 /// Writes a line of these words and this number.
-fn tell<W: Write>(
-    writer: &mut W,
-    line: &mut Room,
-    words: &[u8],
-    number: u64,
-) -> Result<(), WriteFault>
+fn tell<W: Write>(out: &mut W, line: &mut Room, words: &[u8], count: u64) -> Result<(), WriteFault>
     requires { length words.now ≤ 20 }
-    ensures ok { OnOk result
-        (Appends (W.contents writer.old) (W.contents writer.new) (session_line (words.now ++ decimal number))) }
+    ensures ok { OnOk result (Appends (W.contents out.old) (W.contents out.new) (session_line (words.now ++ decimal count))) }
     ensures err { OnErr result
-        (WritesFront (W.contents writer.old) (W.contents writer.new) (session_line (words.now ++ decimal number))) }
+        (WritesFront (W.contents out.old) (W.contents out.new) (session_line (words.now ++ decimal count))) }
 {
-    fill_counted(line, &Speaker::Peer, words, number);
-    write_reply(writer, line.as_slice())
+    fill_counted(line, &Speaker::Peer, words, count);
+    write_reply(out, line.as_slice())
 }
 
 /// Runs the workers while the connections are answered.
@@ -123,8 +113,7 @@ fn answer_beside_workers<L: Ledger + Send + Sync, R: Threads + Wait + Clock + Sy
     listener: TcpListener,
     options: ServeOptions,
 ) -> Result<u64, ServeFault>
-    requires tenants { desk.now ≡ names_of roster.now }
-    requires sessions { (1 ≤ options.sessions) × (options.sessions ≤ 64) }
+    requires { desk.now ≡ names_of roster.now }
     ensures { Answered options.accept result }
 {
     let workers = options.workers;
@@ -132,8 +121,7 @@ fn answer_beside_workers<L: Ledger + Send + Sync, R: Threads + Wait + Clock + Sy
         thread::scope_env(),
         rt,
         |scope| -> Result<u64, ServeFault>
-            requires tenants { desk.now ≡ names_of roster.now }
-            requires sessions { (1 ≤ options.sessions) × (options.sessions ≤ 64) }
+            requires { desk.now ≡ names_of roster.now }
             ensures { Answered options.accept result }
         {
             let Ok(working) = scope.spawn(move || work(rt, alloc, desk, workers)) else {
@@ -165,7 +153,7 @@ fn work<L: Ledger + Send + Sync, R: Threads + Wait + Sync>(
 /// The fault of the workers, if there was one.
 fn worked_well(worked: Result<u64, DeskFault>) -> Result<(), ServeFault>
     ensures well { IsOk result ↔ IsOk worked }
-    ensures why { IfErr result (λ why. (why ≡ fault.NoThread) ⊎ (why ≡ fault.Memory)) }
+    ensures why { IfErr result (λ why. (why ≡ ServeFault.NoThread) ⊎ (why ≡ ServeFault.Memory)) }
 {
     match worked {
         Ok(_letters) => Ok(()),

@@ -4,16 +4,17 @@ ghost use Rattle.std.specs.Io.KnownBytes.{Appends};
 ghost use Rattle.service.specs.Command.{form_of};
 ghost use Rattle.service.specs.Line.{commands_of};
 ghost use Rattle.service.specs.Roster.{names_of};
-ghost use Rattle.service.specs.Session.{talk_of, talk_said, IsLetIn, IsGreeted, IsCarriedOut, IsTold, SessionWrote};
+ghost use Rattle.service.specs.Session.{greeting_in, IsLetIn, IsCarriedOut, IsTold, SessionWrote};
+ghost use Rattle.service.specs.Words.{words};
 
 use crate::commands::{Command, read_command};
 use crate::conversations::{Flow, Host, SessionEnd, converse};
 use crate::lines::LineReader;
 use crate::refusals::Refusal;
-use crate::replies::{Room, Speaker, fill_hello, fill_refusal, fill_text, fill_told};
+use crate::replies::{Room, Speaker, fill_error, fill_hello, fill_refusal, fill_reply, fill_text};
 use crate::rosters::Roster;
-use crate::words::{Arguments, next_word, split_words};
-use hall::{Fault, Reply};
+use crate::words::{Arguments, is_word, next_word, split_words};
+use hall::Reply;
 use names::Entity;
 use pool::{Desk, DeskFault, Pass};
 use std::alloc::Global;
@@ -22,52 +23,26 @@ use std::marker::Model;
 use std::sync::Wait;
 use std::sync::ledger::Ledger;
 
-/// What the sessions of a service share: the desk of a roster's tenants, and the roster.
+/// One peer at the desk of a roster's tenants, and its pass once it has said who it is.
 #[derive(Drop)]
-struct Shared<'a, L: Ledger, R> {
+struct Session<'a, L: Ledger, R> {
     rt: &'a R,
     alloc: Global,
     desk: &'a Desk<L>,
     roster: &'a Roster,
-}
-
-/// One peer at a desk, and its pass once it has said who it is.
-#[derive(Drop)]
-struct Session<'a, L: Ledger, R> {
-    shared: &'a Shared<'a, L, R>,
     pass: Option<Pass<L>>,
 }
 
-/// What a line says to the session in which it stands.
-#[derive(Clone, Copy)]
-enum Said<'a> {
-    /// To end.
-    Quit,
-    /// That a tenant of this name speaks, and its word.
-    Hello(&'a [u8], &'a [u8]),
-    /// The same in another number of words.
-    WrongHello,
-    /// Nothing: it is for the desk.
-    Command,
-}
-
-impl<'a, L: Ledger, R> Model for Shared<'a, L, R> {
-    ghost use Rattle.std.specs.Prelude.{◌≡◌, List};
-    ghost use Rattle.service.specs.Roster.{Row, names_of};
-
-    ghost Value = { List Row };
-
-    ghost view = { λ s. s.roster.now };
-
-    ghost invariant = { λ s. s.desk.now ≡ names_of s.roster.now };
-}
-
 impl<'a, L: Ledger, R> Model for Session<'a, L, R> {
+    ghost use Rattle.std.specs.Prelude.{◌≡◌};
+    ghost use Rattle.service.specs.Roster.{names_of};
     ghost use Rattle.service.specs.Session.{SessionState};
 
     ghost Value = { SessionState };
 
-    ghost view = { λ s. record { rows = s.shared.now; pass = s.pass } };
+    ghost view = { λ s. record { rows = s.roster.now; pass = s.pass } };
+
+    ghost invariant = { λ s. s.desk.now ≡ names_of s.roster.now };
 }
 
 impl<L: Ledger, R: Wait> Host for Session<'_, L, R> {
@@ -76,20 +51,29 @@ impl<L: Ledger, R: Wait> Host for Session<'_, L, R> {
     ghost Answers = { SessionAnswers };
 
     fn answer(&mut self, line: &[u8], reply: &mut Room) -> Flow {
-        let said = read_said(line);
-        if let Said::Quit = said {
+        if is_word(line, b"quit") {
             fill_text(reply, &Speaker::Peer, b"bye");
             return Flow::Ends;
         }
-        match &mut self.pass {
-            Some(pass) => self.shared.tell(line, pass, reply),
-            None => self.pass = self.shared.greet(said, reply),
+        match self.pass.take() {
+            Some(mut pass) => {
+                self.tell(line, &mut pass, reply);
+                self.pass = Some(pass);
+            }
+            None => match self.admit(line) {
+                Ok(pass) => {
+                    fill_hello(reply, &pass.tenant());
+                    self.pass = Some(pass);
+                }
+                Err(why) => fill_refusal(reply, &Speaker::Peer, why),
+            },
         }
         Flow::GoesOn
     }
 
-    fn refuse(&self, why: Refusal, reply: &mut Room) {
+    fn refuse(&self, why: Refusal, reply: &mut Room) -> Flow {
         fill_refusal(reply, &Speaker::Peer, why);
+        Flow::GoesOn
     }
 }
 
@@ -108,12 +92,6 @@ pub fn serve_session<L: Ledger, R: Wait, I: Read + Drop, W: Write>(
     ensures { IfSome (I.remaining reader)
         (λ input. SessionWrote roster.now (commands_of input) result (Appends (W.contents writer.old) (W.contents writer.new))) }
 {
-    let shared = Shared {
-        rt,
-        alloc,
-        desk,
-        roster,
-    };
     let Ok(mut reply) = Room::make(alloc) else {
         return SessionEnd::Memory;
     };
@@ -121,7 +99,10 @@ pub fn serve_session<L: Ledger, R: Wait, I: Read + Drop, W: Write>(
         return SessionEnd::Memory;
     };
     let mut session = Session {
-        shared: &shared,
+        rt,
+        alloc,
+        desk,
+        roster,
         pass: None,
     };
     let end = converse(&mut session, &mut lines, &mut reply, writer);
@@ -131,32 +112,17 @@ pub fn serve_session<L: Ledger, R: Wait, I: Read + Drop, W: Write>(
     end
 }
 
-impl<L: Ledger, R: Wait> Shared<'_, L, R> {
-    /// Answers one who hasn't said who it is, and gives a pass where that is a good hello.
-    fn greet(&self, said: Said<'_>, reply: &mut Room) -> Option<Pass<L>>
-        ensures { IsGreeted self.now (talk_said said.entry) reply.new result }
-    {
-        match self.admit(said) {
-            Ok(pass) => {
-                fill_hello(reply, &pass.tenant());
-                Some(pass)
-            }
-            Err(refusal) => {
-                fill_refusal(reply, &Speaker::Peer, refusal);
-                None
-            }
-        }
-    }
-
+impl<L: Ledger, R: Wait> Session<'_, L, R> {
     /// A pass for the tenant that says hello, if that is its word.
-    #[tactic(auto, using(crate::proofs::TenantLemmas::tenant_listed))]
-    fn admit(&self, said: Said<'_>) -> Result<Pass<L>, Refusal>
-        ensures { IsLetIn self.now (talk_said said.entry) result }
+    fn admit(&self, line: &[u8]) -> Result<Pass<L>, Refusal>
+        ensures { IsLetIn self.now.rows (greeting_in (words line.now)) result }
     {
-        let (name, word) = match said {
-            Said::Hello(name, word) => (name, word),
-            Said::WrongHello => return Err(Refusal::Command),
+        let said = match next_word(line) {
+            Some((first, said)) if first == b"hello".as_slice() => said,
             _ => return Err(Refusal::NoHello),
+        };
+        let Arguments::Two(name, word) = split_words(said) else {
+            return Err(Refusal::Command);
         };
         if !self.roster.check(name, word) {
             return Err(Refusal::BadHello);
@@ -166,8 +132,7 @@ impl<L: Ledger, R: Wait> Shared<'_, L, R> {
         };
         match self.desk.pass(self.rt, who) {
             Ok(pass) => Ok(pass),
-            Err(DeskFault::Hall(Fault::NoTenant)) => Err(Refusal::BadHello),
-            Err(_fault) => Err(Refusal::Memory),
+            Err(_lacking) => Err(Refusal::Memory),
         }
     }
 
@@ -176,10 +141,10 @@ impl<L: Ledger, R: Wait> Shared<'_, L, R> {
         ensures { IsTold pass.old (form_of line.now) reply.new pass.new }
     {
         match read_command(self.alloc, line) {
-            Ok(command) => {
-                let told = self.carry_out(pass, command);
-                fill_told(reply, &told);
-            }
+            Ok(command) => match self.carry_out(pass, command) {
+                Ok(told) => fill_reply(reply, &Speaker::Peer, &told),
+                Err(fault) => fill_error(reply, &Speaker::Peer, fault.number()),
+            },
             Err(refusal) => fill_refusal(reply, &Speaker::Peer, refusal),
         }
     }
@@ -195,20 +160,6 @@ impl<L: Ledger, R: Wait> Shared<'_, L, R> {
                 Err(fault) => Err(fault),
             },
         }
-    }
-}
-
-/// What the text of a line says.
-fn read_said(text: &[u8]) -> Said<'_>
-    ensures { talk_said result ≡ talk_of text.now }
-{
-    match next_word(text) {
-        Some((word, rest)) if word == b"quit".as_slice() && next_word(rest).is_none() => Said::Quit,
-        Some((word, rest)) if word == b"hello".as_slice() => match split_words(rest) {
-            Arguments::Two(name, word) => Said::Hello(name, word),
-            _ => Said::WrongHello,
-        },
-        _ => Said::Command,
     }
 }
 

@@ -1,8 +1,8 @@
 //! The words of a line.
-ghost use Rattle.std.specs.Prelude.{◌≡◌, [], ◌∷◌, true, false, MatchOption, IfSome};
+ghost use Rattle.std.specs.Prelude.{◌≡◌, ◌↔◌, [], ◌∷◌, true, false, IsTrue, MatchOption, IfSome};
 ghost use Rattle.std.specs.List.{before_first, after_first, list_all, list_any};
 ghost use Rattle.names.specs.Name.{is_digit};
-ghost use Rattle.service.specs.Words.{is_colon, words, first_word, after_word, AreArguments, is_number, number_of};
+ghost use Rattle.service.specs.Words.{is_colon, words, after_word, AreArguments, is_number, number_of};
 
 use names::texts::{cut, trim_start};
 use std::str;
@@ -17,16 +17,12 @@ pub(crate) fn split_at_colon(line: &[u8]) -> Option<(&[u8], &[u8])>
     ensures after { IfSome result (λ parts. parts.1.now ≡ after_first is_colon line.now) }
 {
     let (name, command) = cut(line, b':');
-    match command {
-        Some(command) => Some((name, command)),
-        None => None,
-    }
+    Some((name, command?))
 }
 
 /// The first word and what stands after it, if there is a word.
 pub(crate) fn next_word(text: &[u8]) -> Option<(&[u8], &[u8])>
     ensures found { MatchOption result (words text.now ≡ []) (λ parts. words text.now ≡ parts.0.now ∷ words parts.1.now) }
-    ensures word { IfSome result (λ parts. parts.0.now ≡ first_word text.now) }
     ensures rest { IfSome result (λ parts. parts.1.now ≡ after_word text.now) }
 {
     let text = trim_start(text);
@@ -37,6 +33,16 @@ pub(crate) fn next_word(text: &[u8]) -> Option<(&[u8], &[u8])>
     match rest {
         Some(rest) => Some((word, rest)),
         None => Some((word, &[])),
+    }
+}
+
+/// Whether the text has this word and no other.
+pub(crate) fn is_word(text: &[u8], word: &[u8]) -> bool
+    ensures { IsTrue result ↔ (words text.now ≡ word.now ∷ []) }
+{
+    match next_word(text) {
+        Some((first, rest)) => first == word && next_word(rest).is_none(),
+        None => false,
     }
 }
 

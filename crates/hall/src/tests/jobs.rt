@@ -117,13 +117,31 @@ fn is_picked(hall: &Hall, turn: u64, who: Entity, number: u64) -> bool {
     whose == who && of == number
 }
 
-// Tenants take turns, and so do a tenant's searches from one of its turns to the next.
+/// A asks more questions, which are answered, as is B's. A's first question is ended.
+fn answer_others(hall: &mut Hall, a: Entity, b: Entity) -> Result<(), Fail> {
+    let query = Query::Who(Role::read(b"A.r")?);
+    for _more in 0..8 {
+        let number = hall.open(a, query)?;
+        let _answer = hall.drive(a, number)?;
+    }
+    let _answer = hall.drive(b, 1)?;
+    hall.end(a, 1)?;
+    Ok(())
+}
+
+// Tenants take turns, and so do a tenant's searches from one of its turns to the next. One that is answered or ended has none.
 #[test]
 fn each_search_has_its_turn(rt: HostRuntime) -> Result<(), Fail> {
     let (a, b) = (entity("A")?, entity("B")?);
-    let hall = three_asked(rt.alloc(), a, b)?;
+    let mut hall = three_asked(rt.alloc(), a, b)?;
     for (turn, who, number) in [(0, a, 1), (1, b, 1), (2, a, 2), (3, b, 1), (4, a, 1)] {
         assert!(rt; is_picked(&hall, turn, who, number), "at turn {turn}");
     }
+    answer_others(&mut hall, a, b)?;
+    for turn in 0..4 {
+        assert!(rt; is_picked(&hall, turn, a, 2), "at turn {turn} of one");
+    }
+    let _answer = hall.drive(a, 2)?;
+    assert!(rt; hall.pick(0).is_none());
     Ok(())
 }

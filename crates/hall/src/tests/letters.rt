@@ -2,7 +2,7 @@
 use super::acts::{Act, Told, first_wrong};
 use super::entity;
 use super::runs::{ANSWERED, ASKED, two_tenants};
-use crate::{Event, Hall, Reply, Step, Stepped};
+use crate::{Batch, Event, Hall, Reply, Step, Stepped};
 use names::Entity;
 use search::Hint;
 use snapshots::Span;
@@ -92,18 +92,15 @@ fn no_other_hint(rt: HostRuntime) -> Result<(), Fail> {
 /// The number of the letter that a visit of one step takes of A's first search, which is then given back.
 fn visited(alloc: Global, hall: &mut Hall) -> Result<Option<u64>, Fail> {
     let a = entity("A")?;
-    let mut held = Vec::with_capacity(alloc, 1)?;
-    let told = hall.visit(a, 1, 1, &mut held);
-    let number = match held.pop() {
-        Some(job) => {
-            let number = job.letter();
-            let _stepped = hall.give_back(job);
-            Some(number)
-        }
-        None => None,
-    };
-    held.destroy_empty();
+    let mut batch = Batch::make(alloc, 1)?;
+    let told = hall.visit(a, 1, 1, &mut batch);
+    let number = batch.next();
+    batch.let_go();
+    batch.destroy_empty();
     told?;
+    if let Some(letter) = number {
+        let _stepped = hall.step(Step::GiveBack(a, 1, letter));
+    }
     Ok(number)
 }
 

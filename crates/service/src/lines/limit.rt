@@ -1,10 +1,8 @@
 //! A bound on how often a reader is asked.
 ghost use Rattle.std.specs.Prelude.{◌≡◌, ◌+◌, ◌<◌, ◌≤◌, ◌^◌, IsErr};
-ghost use Rattle.std.specs.Io.KnownBytes.{ReadConsumes};
-ghost use Rattle.std.specs.Io.{ReadsAtMost};
+ghost use Rattle.std.specs.Io.{ReadsAtMost, KnownBytes.ReadConsumes};
 
-use std::io;
-use std::io::Read;
+use std::io::{self, Read};
 
 /// How often a `LineReader` may call its reader's `read` before it gives up with a fault.
 pub const MOST_READS: u64 = 1 << 40;
@@ -12,19 +10,9 @@ pub const MOST_READS: u64 = 1 << 40;
 /// A reader that fails once it was read so often. Each call of `read` counts, also one that failed.
 #[derive(Drop)]
 pub(crate) struct Limited<R> {
-    inner: R,
-    left: u64,
+    pub(crate) inner: R,
+    pub(crate) left: u64,
     ghost few: { left ≤ 2 ^ 40 },
-}
-
-impl<R> Limited<R> {
-    pub(crate) fn new(inner: R, left: u64) -> Limited<R>
-        requires { left ≤ 2 ^ 40 }
-        ensures inner { result.inner ≡ inner }
-        ensures left { result.left ≡ left }
-    {
-        Limited { inner, left }
-    }
 }
 
 impl<R: Read> Read for Limited<R> {

@@ -29,37 +29,26 @@ fn expect_both_ways(
 
 #[test]
 fn cuts_an_input_into_lines(rt: HostRuntime) -> Result<(), Fail> {
-    expect_both_ways(&rt, b"", &[End, End])?;
-    expect_both_ways(&rt, b"\n", &[Text(b""), End, End])?;
-    expect_both_ways(
-        &rt,
-        b"a b\n\nc\n",
-        &[Text(b"a b"), Text(b""), Text(b"c"), End],
-    )?;
-    expect_both_ways(&rt, b"a\nb", &[Text(b"a"), Text(b"b"), End, End])
-}
-
-#[test]
-fn takes_one_carriage_return_before_a_newline(rt: HostRuntime) -> Result<(), Fail> {
-    expect_both_ways(&rt, b"a\r\nb\r\n", &[Text(b"a"), Text(b"b"), End])?;
-    expect_both_ways(&rt, b"\r\n", &[Text(b""), End])?;
-    expect_both_ways(&rt, b"a\r\r\nb", &[NotAscii, Text(b"b"), End])?;
-    expect_both_ways(&rt, b"a\rb\n", &[NotAscii, End])?;
-    expect_both_ways(&rt, b"a\n\r", &[Text(b"a"), NotAscii, End])
-}
-
-#[test]
-fn refuses_bytes_that_are_not_printable(rt: HostRuntime) -> Result<(), Fail> {
-    expect_both_ways(
-        &rt,
-        b"\x00\n\t\n\x1f\n \n",
-        &[NotAscii, NotAscii, NotAscii, Text(b" "), End],
-    )?;
-    expect_both_ways(
-        &rt,
-        b"~\n\x7f\na\xc8\n",
-        &[Text(b"~"), NotAscii, NotAscii, End],
-    )
+    let cases: [(&[u8], &[NextLine]); 11] = [
+        (b"", &[End, End]),
+        (b"\n", &[Text(b""), End, End]),
+        (b"a b\n\nc\n", &[Text(b"a b"), Text(b""), Text(b"c"), End]),
+        (b"a\nb", &[Text(b"a"), Text(b"b"), End, End]),
+        (b"a\r\nb\r\n", &[Text(b"a"), Text(b"b"), End]),
+        (b"\r\n", &[Text(b""), End]),
+        (b"a\r\r\nb", &[NotAscii, Text(b"b"), End]),
+        (b"a\rb\n", &[NotAscii, End]),
+        (b"a\n\r", &[Text(b"a"), NotAscii, End]),
+        (
+            b"\x00\n\t\n\x1f\n \n",
+            &[NotAscii, NotAscii, NotAscii, Text(b" "), End],
+        ),
+        (b"~\n\x7f\na\xc8\n", &[Text(b"~"), NotAscii, NotAscii, End]),
+    ];
+    for (input, wanted) in cases {
+        expect_both_ways(&rt, input, wanted)?;
+    }
+    Ok(())
 }
 
 #[test]
@@ -81,19 +70,13 @@ fn allows_lines_up_to_their_room(rt: HostRuntime) -> Result<(), Fail> {
         input.extend_from_slice(end)?;
         expect_both_ways(&rt, &input, &[wanted, Text(b"b"), End])?;
     }
-    Ok(())
-}
-
-#[test]
-fn allows_last_lines_up_to_their_room(rt: HostRuntime) -> Result<(), Fail> {
-    let room = vec![in rt.alloc(); b'x'; LINE_ROOM]?;
-    let ends: [(usize, &[u8], NextLine); 4] = [
-        (4096, b"", Text(&room)),
+    let last_ends: [(usize, &[u8], NextLine); 4] = [
+        (4096, b"", full),
         (4097, b"", Long),
         (4096, b"\r", Long),
         (4095, b"\r", NotAscii),
     ];
-    for (count, end, wanted) in ends {
+    for (count, end, wanted) in last_ends {
         let mut input = vec![in rt.alloc(); b'x'; count]?;
         input.extend_from_slice(end)?;
         expect_both_ways(&rt, &input, &[wanted, End])?;
@@ -120,7 +103,10 @@ fn stays_at_a_fault(rt: HostRuntime) -> Result<(), Fail> {
 
 #[test]
 fn counts_each_call_of_read(rt: HostRuntime) {
-    let mut limited = Limited::new(Drips::new(b"abc", 1), 3);
+    let mut limited = Limited {
+        inner: Drips::new(b"abc", 1),
+        left: 3,
+    };
     let mut one = [0u8; 1];
     let was_read = [true, false, true, false, false];
     for wanted in was_read {

@@ -167,12 +167,6 @@ const WORKED_BY_ONE: [Visit; 1] = [Visit {
     stays: true,
 }];
 
-#[test]
-fn a_worked_session(rt: HostRuntime) -> Result<(), Fail> {
-    assert!(rt; are_served(&rt, rt.alloc(), 2, 1, &WORKED_BY_ONE)?);
-    Ok(())
-}
-
 const A_MEMBER: [Step; 5] = [
     (0, b"hello A a\n", b"hello A\n"),
     (0, b"put A.r <- D\n", b"ok 1\n"),
@@ -186,12 +180,6 @@ const ASKED_BY_ONE: [Visit; 1] = [Visit {
     steps: &A_MEMBER,
     stays: true,
 }];
-
-#[test]
-fn a_session_that_asks(rt: HostRuntime) -> Result<(), Fail> {
-    assert!(rt; are_served(&rt, rt.alloc(), 2, 1, &ASKED_BY_ONE)?);
-    Ok(())
-}
 
 // The first peer speaks for A, the second for B.
 const A_REVOCATION: [Step; 13] = [
@@ -215,12 +203,6 @@ const REVOKED_BY_TWO: [Visit; 1] = [Visit {
     steps: &A_REVOCATION,
     stays: true,
 }];
-
-#[test]
-fn two_sessions_at_once(rt: HostRuntime) -> Result<(), Fail> {
-    assert!(rt; are_served(&rt, rt.alloc(), 2, 2, &REVOKED_BY_TWO)?);
-    Ok(())
-}
 
 // Each peer speaks for a tenant of its own. D may grant once, and make three changes.
 const A_PUBLIC_VAULT: [Step; 35] = [
@@ -267,12 +249,6 @@ const READ_BY_ALL: [Visit; 1] = [Visit {
     stays: true,
 }];
 
-#[test]
-fn a_vault_that_all_read(rt: HostRuntime) -> Result<(), Fail> {
-    assert!(rt; are_served(&rt, rt.alloc(), 4, 4, &READ_BY_ALL)?);
-    Ok(())
-}
-
 const CUT_SHORT: [Step; 2] = [(0, b"hello A a\n", b"hello A\n"), (0, b"put A.r <- D", b"")];
 
 const AFTERWARDS: [Step; 2] = [
@@ -293,10 +269,22 @@ const CUT_AND_AFTERWARDS: [Visit; 2] = [
     },
 ];
 
-// There is one session at a time, so the second begins once the first is over.
+// Of those that close within a line there is one session at a time, so the second begins once the first is over.
 #[test]
-fn peers_that_close_within_a_line(rt: HostRuntime) -> Result<(), Fail> {
-    assert!(rt; are_served(&rt, rt.alloc(), 1, 2, &CUT_AND_AFTERWARDS)?);
+fn sessions_of_peers(rt: HostRuntime) -> Result<(), Fail> {
+    let services: [(&str, u64, u64, &[Visit]); 5] = [
+        ("a worked session", 2, 1, &WORKED_BY_ONE),
+        ("a session that asks", 2, 1, &ASKED_BY_ONE),
+        ("two sessions at once", 2, 2, &REVOKED_BY_TWO),
+        ("a vault that all read", 4, 4, &READ_BY_ALL),
+        ("peers that close within a line", 1, 2, &CUT_AND_AFTERWARDS),
+    ];
+    for (what, sessions, count, visits) in services {
+        assert!(rt;
+            are_served(&rt, rt.alloc(), sessions, count, visits)?,
+            "{what}"
+        );
+    }
     Ok(())
 }
 

@@ -155,30 +155,25 @@ fn is_told_between<R: Wait>(
     is_told(rt, alloc, &said, &told, SessionEnd::EndOfInput)
 }
 
+// The long lines have one byte more than there is room for, and one byte outside as well.
 #[test]
-fn lines_before_a_hello(rt: HostRuntime) -> Result<(), Fail> {
+fn lines_before_and_after_a_hello(rt: HostRuntime) -> Result<(), Fail> {
+    let before: (&[u8], &[u8]) = (b"hello A a\n", b"hello A\n");
     let behind: (&[u8], &[u8]) = (b"\nhello A a\nsees\n", b"hello A\nsees A\n");
     for (line, reply) in BEFORE_A_HELLO {
         let is_right = is_told_between(&rt, rt.alloc(), (b"", b""), (line, reply), behind)?;
         assert!(rt; is_right, "before a hello: {line:?}");
     }
-    Ok(())
-}
-
-#[test]
-fn lines_after_a_hello(rt: HostRuntime) -> Result<(), Fail> {
-    let before: (&[u8], &[u8]) = (b"hello A a\n", b"hello A\n");
-    let behind: (&[u8], &[u8]) = (b"\nsees", b"sees A\n");
     for (line, reply) in AFTER_A_HELLO {
-        let is_right = is_told_between(&rt, rt.alloc(), before, (line, reply), behind)?;
+        let is_right = is_told_between(
+            &rt,
+            rt.alloc(),
+            before,
+            (line, reply),
+            (b"\nsees", b"sees A\n"),
+        )?;
         assert!(rt; is_right, "after a hello: {line:?}");
     }
-    Ok(())
-}
-
-// A line with one byte more than there is room for, and one that has a byte outside as well.
-#[test]
-fn lines_that_are_too_long(rt: HostRuntime) -> Result<(), Fail> {
     let told: &[u8] = b"error 65 line too long\n";
     let mut lines = [
         vec![in rt.alloc(); b' '; 4097]?,
@@ -196,7 +191,7 @@ fn lines_that_are_too_long(rt: HostRuntime) -> Result<(), Fail> {
         let later = is_told_between(
             &rt,
             rt.alloc(),
-            (b"hello A a\n", b"hello A\n"),
+            before,
             (line, told),
             (b"\nsees", b"sees A\n"),
         )?;

@@ -1,15 +1,13 @@
-use Rattle.std.specs.Prelude.{◌≡◌, ◌≤◌, ◌+◌, ◌++◌, reverse, vec_len, vec_capacity}
-use Rattle.pool.specs.Visits.{letters_of, AreLetThrough}
+use Rattle.std.specs.Prelude.{◌≡◌, ◌-◌, length}
+use Rattle.std.specs.List.{AllWithin}
+use Rattle.search.specs.Batches.{TakenLetter}
 use Rattle.pool.proofs.workers.look_up_all.Given as goal
 
-abbrev pub invariant-loop-job : goal.invariant-loop-job
-invariant-loop-job g l = record {
-  letters : letters_of l.looked.items ++ reverse l.held.items ≡ reverse l.initial.held.items;
-  let_through : AreLetThrough g.G.Gate.LetThrough l.looked.items;
-  space : vec_len l.looked + vec_len l.held ≤ vec_capacity l.looked;
-  held : vec_capacity l.held ≡ vec_capacity l.initial.held;
-  looked : vec_capacity l.looked ≡ vec_capacity l.initial.looked;
+abbrev pub invariant-loop-letter : goal.invariant-loop-letter
+invariant-loop-letter g l = record {
+  let_through : AllWithin (λ (one : TakenLetter). g.G.Gate.LetThrough one.who one.number one.letter) l.batch.letters 0 l.batch.looked;
+  same : l.batch ≡ record l.initial.batch { looked = l.batch.looked };
 }
 
-abbrev pub decreases-loop-job : goal.decreases-loop-job
-decreases-loop-job g l = goal.left-loop-job g l
+abbrev pub decreases-loop-letter : goal.decreases-loop-letter
+decreases-loop-letter g l = length l.batch.letters - l.batch.looked

@@ -1,6 +1,6 @@
 use Rattle.std.specs.Io.KnownBytes.{Appends}
 use Rattle.service.specs.LineReader.{IfKnown}
-use Rattle.service.specs.Conversation.{SoFar}
+use Rattle.service.proofs.ConversationLemmas.{SoFar}
 use Rattle.service.proofs.conversations.converse.Given as goal
 
 -- the lines so far are answered, and their replies went out

@@ -1,4 +1,5 @@
 -- The line that tells the port, and then that of the number of connections, or a fault.
+use Rattle.std.proofs.Common.{inl}
 use Rattle.std.proofs.lemmas.Result.{err_from_is_err_and}
 use Rattle.service.proofs.ServedLemmas.{ServeWrote-listening, ServeWrote-part}
 use Rattle.service.proofs.WrittenLemmas.{Appends-more}
@@ -10,6 +11,11 @@ returns-in_err-count-clause-wrote g c =
     let p = err_from_is_err_and failed.result failed.ensures.1 in
     let told = rw c.from-port.ensures at c.in-Ok-tell.ensures.ok in
     rw (p.1, p.2) (ServeWrote-listening c.args.options.accept _ c.port.result _ _ c.port.type_inv c.in_err-count.ensures told)
+
+pub returns-in_default-tell-clause-wrote : goal.returns-in_default-tell-clause-wrote
+returns-in_default-tell-clause-wrote g c =
+    let told = rw c.from-port.ensures at c.in_default-tell.ensures.err in
+    (c.port.result, c.port.type_inv, inl told)
 
 pub returns-in_default-tell-2-clause-wrote : goal.returns-in_default-tell-2-clause-wrote
 returns-in_default-tell-2-clause-wrote g c =

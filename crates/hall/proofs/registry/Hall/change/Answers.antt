@@ -6,7 +6,8 @@ use Rattle.vaults.specs.Journal.{refusal, revokes}
 use Rattle.hall.specs.declared.calls.requests.Request.TheVariants.{Alter}
 use Rattle.hall.specs.declared.calls.replies.Reply.TheVariants.{Counted, Refused}
 use Rattle.hall.specs.declared.faults.Fault.TheVariants.{NoTenant}
-use Rattle.hall.specs.Hall.{HallState, IsServed, IsSound}
+use Rattle.hall.specs.Hall.{HallState, IsServed}
+use Rattle.hall.specs.Kept.{IsIndexed}
 use Rattle.std.specs.Prelude.{option_copied}
 use Rattle.hall.proofs.Refused.{refused_as}
 use Rattle.hall.proofs.Polled.{nobody_refused}
@@ -36,7 +37,7 @@ returns-in_err-may_alter c =
 
 pub invariant_of-self : goal.invariant_of-self
 invariant_of-self c =
-    subst (λ (j : List Entry). IsSound (record { journal = j; tenants = from_entries c.self.inside.tenants.entries })) (sym c.in_err-change.ensures.unchanged) c.self.invariant
+    subst (λ (j : List Entry). IsIndexed c.self.inside.busy (record { journal = j; tenants = from_entries c.self.inside.tenants.entries })) (sym c.in_err-change.ensures.unchanged) c.self.invariant
 
 pub returns-in_err-change : goal.returns-in_err-change
 returns-in_err-change c =
@@ -54,9 +55,12 @@ pub invariant_of-self-2 : goal.invariant_of-self-2
 invariant_of-self-2 c =
     let h : HallState = record { journal = c.self.inside.book; tenants = from_entries c.self.inside.tenants.entries } in
     let here : get h.tenants c.args.who ≡ Some c.in_ok-seat.seat.now = tenant_at c.self.inside.tenants.entries c.args.who _ (ap option_copied (sym c.in_ok-seat.ensures.ok_part) ∙ c.get.ensures.value) in
-    served_sound h (record { journal = c.change.new.self; tenants = h.tenants }) c.args.who (Alter c.args.change) (Counted c.in_ok-change.field-0) c.self.invariant
-    (accepted h c.args.who c.args.change c.in_ok-seat.seat.now here c.in_ok-may_alter.ensures.allowed c.in_ok-change.field-0 c.change.new.self
-    c.in_ok-change.ensures.accepted c.in_ok-change.ensures.entered c.in_ok-change.ensures.counted)
+    record {
+      sound = served_sound h (record { journal = c.change.new.self; tenants = h.tenants }) c.args.who (Alter c.args.change) (Counted c.in_ok-change.field-0) c.self.invariant.sound
+          (accepted h c.args.who c.args.change c.in_ok-seat.seat.now here c.in_ok-may_alter.ensures.allowed c.in_ok-change.field-0 c.change.new.self
+          c.in_ok-change.ensures.accepted c.in_ok-change.ensures.entered c.in_ok-change.ensures.counted);
+      listed = c.self.invariant.listed;
+    }
 
 pub returns : goal.returns
 returns c =

@@ -2,7 +2,8 @@ use Rattle.std.proofs.Common.{◌≡◌, ◌∙◌, true, false, Some, None, ap,
 use Rattle.std.specs.FinMap.{get}
 use Rattle.search.specs.Carried.{carried_search}
 use Rattle.search.specs.Search.{SearchState, IsCompleted}
-use Rattle.hall.specs.Hall.{Running, HallState, IsSound, search_of}
+use Rattle.hall.specs.Hall.{Running, HallState, search_of}
+use Rattle.hall.specs.Kept.{IsIndexed}
 use Rattle.hall.proofs.Seated.{tenant_of}
 use Rattle.hall.proofs.Placed.{hall_of, tenant_at, table_left}
 use Rattle.hall.proofs.Reached.{nobody_there, found_there, left, stays}
@@ -12,7 +13,7 @@ use Rattle.hall.proofs.registry.Hall.completed.Goals.{After-branch-lend}
 
 pub invariant_of-self : goal.invariant_of-self
 invariant_of-self c =
-    subst IsSound (sym (table_left c.self.inside.book c.self.inside.tenants _ c.get_mut.follows.holds-at-none)) c.self.invariant
+    subst (IsIndexed c.self.inside.busy) (sym (table_left c.self.inside.book c.self.inside.tenants _ c.get_mut.follows.holds-at-none)) c.self.invariant
 
 pub returns-in_default-clause-completed : goal.returns-in_default-clause-completed
 returns-in_default-clause-completed c =
@@ -22,7 +23,7 @@ returns-in_default-clause-completed c =
 
 pub invariant_of-self-in_default-get_mut : goal.invariant_of-self-in_default-get_mut
 invariant_of-self-in_default-get_mut c =
-    subst IsSound (sym (stays c.self.inside.book c.self.inside.tenants _ c.args.who c.seat.inside.limits c.seat.inside.opens c.seat.inside.searches _ c.in-Some.seat.now c.args.number
+    subst (IsIndexed c.self.inside.busy) (sym (stays c.self.inside.book c.self.inside.tenants _ c.args.who c.seat.inside.limits c.seat.inside.opens c.seat.inside.searches _ c.in-Some.seat.now c.args.number
     c.in-Some.ensures.value c.seat.view_is (c.get_mut.follows.holds _) c.get_mut-2.follows.holds-at-none)) c.self.invariant
 
 pub returns-in_default-get_mut-clause-completed : goal.returns-in_default-get_mut-clause-completed
@@ -39,7 +40,7 @@ returns-in_default-get_mut-clause-same c =
 
 pub invariant_of-self-then-not-is_completed : goal.invariant_of-self-then-not-is_completed
 invariant_of-self-then-not-is_completed c =
-    subst IsSound (sym (left c.self.inside.book c.self.inside.tenants _ c.args.who c.seat.inside.limits c.seat.inside.opens c.seat.inside.searches _ c.in-Some.seat.now c.args.number
+    subst (IsIndexed c.self.inside.busy) (sym (left c.self.inside.book c.self.inside.tenants _ c.args.who c.seat.inside.limits c.seat.inside.opens c.seat.inside.searches _ c.in-Some.seat.now c.args.number
     c.in-Some.ensures.value c.seat.view_is (c.get_mut.follows.holds _) c.in-Some-get_mut.opened.now (sym c.in-Some-get_mut.ensures.value) (c.get_mut-2.follows.holds _))) c.self.invariant
 
 pub returns-then-not-is_completed-clause-completed : goal.returns-then-not-is_completed-clause-completed
@@ -67,13 +68,13 @@ shared c =
     (c.get_mut-2.follows.holds _)
 
 pub invariant_of-self-in_err-lend : goal.invariant_of-self-in_err-lend
-invariant_of-self-in_err-lend c = subst IsSound (sym (shared c.before.before)) c.self.invariant
+invariant_of-self-in_err-lend c = subst (IsIndexed c.self.inside.busy) (sym (shared c.before.before)) c.self.invariant
 
 pub returns-in_err-lend-clause-same : goal.returns-in_err-lend-clause-same
 returns-in_err-lend-clause-same c = shared c.before.before ∙ c.self.view_is
 
 pub invariant_of-self-2 : goal.invariant_of-self-2
-invariant_of-self-2 c = subst IsSound (sym (shared c.before)) c.self.invariant
+invariant_of-self-2 c = subst (IsIndexed c.self.inside.busy) (sym (shared c.before)) c.self.invariant
 
 pub returns-clause-completed : goal.returns-clause-completed
 returns-clause-completed c =

@@ -4,19 +4,21 @@ use Rattle.std.specs.FinMap.{get, from_entries}
 use Rattle.hall.specs.declared.calls.requests.Request.TheVariants.{Seek}
 use Rattle.hall.specs.declared.calls.replies.Reply.TheVariants.{Opened, Refused}
 use Rattle.hall.specs.declared.faults.Fault.TheVariants.{NoTenant}
-use Rattle.hall.specs.Hall.{HallState, IsServed, IsSound, told_as}
+use Rattle.hall.specs.Hall.{HallState, IsServed, told_as}
+use Rattle.hall.specs.Kept.{Lists, IsIndexed}
 use Rattle.std.proofs.lemmas.Result.{err_from_is_err_and}
 use Rattle.std.specs.Option.{option_copied_mut}
 use Rattle.hall.proofs.Refused.{refused_as}
 use Rattle.hall.proofs.Polled.{nobody_refused}
 use Rattle.hall.proofs.Placed.{put, tenant_at, tenant_put, table_left, hall_of}
-use Rattle.hall.proofs.Seeking.{sought}
+use Rattle.hall.proofs.Seeking.{sought, entered}
+use Rattle.hall.proofs.Unsettled.{still_listed, listed_requested}
 use Rattle.hall.proofs.laws.HallSound.{served_sound}
 use Rattle.hall.proofs.registry.Hall.open.Goals as goal
 
 pub invariant_of-self : goal.invariant_of-self
 invariant_of-self c =
-    subst IsSound (sym (table_left c.self.inside.book c.self.inside.tenants _ c.get_mut.follows.holds-at-none)) c.self.invariant
+    subst (IsIndexed c.self.inside.busy) (sym (table_left c.self.inside.book c.self.inside.tenants _ c.get_mut.follows.holds-at-none)) c.self.invariant
 
 pub returns-in_err-seat : goal.returns-in_err-seat
 returns-in_err-seat c =
@@ -34,9 +36,14 @@ invariant_of-self-2 c =
     ap (λ (j : List Entry). hall_of j (c.get_mut.follows.lender c.open.new.self)) c.open.ensures.same
     ∙ tenant_put c.self.inside.book c.self.inside.tenants (c.get_mut.follows.lender c.open.new.self) c.args.who c.in_ok-seat.seat.now c.open.new.self (ap option_copied_mut (sym c.in_ok-seat.ensures.ok_part) ∙ c.get_mut.ensures.value)
     (c.get_mut.follows.holds c.open.new.self) in
-    subst IsSound (sym after)
-    (served_sound h (put h c.args.who c.open.new.self) c.args.who (Seek c.args.query) (told_as Opened c.open.result) c.self.invariant
-    (sought h c.args.who c.in_ok-seat.seat.now c.open.new.self here c.args.query c.open.result c.open.ensures.allowed c.open.ensures.number c.open.ensures.opened c.open.ensures.refused c.open.ensures.unchanged))
+    let served =
+    sought h c.args.who c.in_ok-seat.seat.now c.open.new.self here c.args.query c.open.result c.open.ensures.allowed c.open.ensures.number c.open.ensures.opened c.open.ensures.refused c.open.ensures.unchanged in
+    subst (IsIndexed c.open.new.busy) (sym after) (record {
+      sound = served_sound h (put h c.args.who c.open.new.self) c.args.who (Seek c.args.query) (told_as Opened c.open.result) c.self.invariant.sound served;
+      listed = listed_requested c.open.new.busy h (put h c.args.who c.open.new.self) c.args.who (Seek c.args.query) (told_as Opened c.open.result) served
+          (still_listed c.self.inside.busy c.open.new.busy h (λ name k. ⊥) c.open.ensures.kept c.self.invariant.listed (λ name k r out at unsettled. out))
+          (λ query n is. entered c.open.result (λ k. Lists c.open.new.busy c.args.who k) c.open.ensures.entered n);
+    })
 
 pub returns : goal.returns
 returns c =

@@ -7,7 +7,7 @@ use Rattle.hall.proofs.registry.Hall.run.Goals as goal
 
 pub loop-event-init : goal.loop-event-init
 loop-event-init c =
-    let sound : IsSound c.args.self.now = subst IsSound c.self.view_is c.self.invariant in
+    let sound : IsSound c.args.self.now = subst IsSound c.self.view_is c.self.invariant.sound in
     search rules
 
 pub loop-event-preserved : goal.loop-event-preserved

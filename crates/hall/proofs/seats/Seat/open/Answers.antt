@@ -10,7 +10,7 @@ use Rattle.hall.proofs.Maps.{numbers_exact}
 use Rattle.hall.proofs.Indexed.{inserted}
 use Rattle.hall.proofs.Opening.{within_limits}
 use Rattle.hall.proofs.seats.Seat.open.Goals as goal
-use Rattle.hall.proofs.seats.Seat.open.Goals.{After-branch-insert}
+use Rattle.hall.proofs.seats.Seat.open.Goals.{After-branch-enter, After-branch-insert}
 
 pub returns-clause-opened : goal.returns-clause-opened
 returns-clause-opened c =
@@ -24,16 +24,24 @@ returns-clause-opened c =
     rw (← c.self.view_is) (λ i. record { limits = s.limits; opens = s.opens + 1; searches = searches i })
 
 -- no refusal is due
-allowed : (c : After-branch-insert) → seek_refusal (account c.args.book.now c.args.who c.args.self.now) ≡ None
+allowed : (c : After-branch-enter) → seek_refusal (account c.args.book.now c.args.who c.args.self.now) ≡ None
 allowed c =
     within_limits (account c.args.book.now c.args.who c.args.self.now)
     (subst₂ ◌<◌ c.used-used.ensures.searches (ap (λ (t : Tenant). t.limits.searches) c.self.view_is) (c.in_ok-may_search.ensures.ok.0 (search rules)))
     (subst₂ ◌<◌ c.used-used.ensures.opens (ap (λ (t : Tenant). t.limits.opens) c.self.view_is) (c.in_ok-may_open.ensures.ok.0 (search rules)))
 
+allowed_later : (c : After-branch-insert) → seek_refusal (account c.args.book.now c.args.who c.args.self.now) ≡ None
+allowed_later c = allowed c.before.before.before.before
+
+pub returns-in_err-enter-clause-refused : goal.returns-in_err-enter-clause-refused
+returns-in_err-enter-clause-refused c =
+    let p = err_from_is_err_and c.from_residual-in_err-enter.result c.from_residual-in_err-enter.ensures.1 in
+    rw (p.1, allowed c.before.before.before) p.2
+
 pub returns-clause-allowed : goal.returns-clause-allowed
-returns-clause-allowed c = allowed c.before.before.before
+returns-clause-allowed c = allowed_later c.before.before.before
 
 pub returns-in_err-insert-clause-refused : goal.returns-in_err-insert-clause-refused
 returns-in_err-insert-clause-refused c =
     let p = err_from_is_err_and c.from_residual-in_err-insert.result c.from_residual-in_err-insert.ensures.1 in
-    rw (p.1, allowed c.before.before) p.2
+    rw (p.1, allowed_later c.before.before) p.2

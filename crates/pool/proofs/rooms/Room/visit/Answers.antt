@@ -10,16 +10,16 @@ use Rattle.pool.proofs.rooms.Room.visit.Goals as goal
 
 pub returns-in-Ok-clause-visit : goal.returns-in-Ok-clause-visit
 returns-in-Ok-clause-visit g c =
-    subst (λ (h : HallState). IsVisit BATCH h c.args.held.now.items found.Work c.note.new.self.hall c.visit-made.new.held.items) (ap (λ (r : RoomState). r.hall) c.self.view_is)
-    (subst (λ (h : HallState). IsVisit BATCH c.self.inside.hall c.args.held.now.items found.Work h c.visit-made.new.held.items) (sym (ap (λ (r : RoomState). r.hall) c.note.ensures))
-    (visits_one BATCH c.self.inside.hall c.args.held.now.items c.visit-made.new.self c.visit-made.new.held.items c.visit-made.result (Ok tt) c.search-who.result c.in-Some.first
+    subst (λ (h : HallState). IsVisit BATCH h found.Work c.note.new.self.hall c.visit-made.new.batch.letters) (ap (λ (r : RoomState). r.hall) c.self.view_is)
+    (subst (λ (h : HallState). IsVisit BATCH c.self.inside.hall found.Work h c.visit-made.new.batch.letters) (sym (ap (λ (r : RoomState). r.hall) c.note.ensures))
+    (visits_one BATCH c.self.inside.hall c.visit-made.new.self c.visit-made.new.batch.letters c.visit-made.result (Ok tt) c.search-who.result c.in-Some.first
     c.search-who.ensures c.in-Some.ensures.left c.visit-made.ensures.visited c.in-Ok.is))
 
 pub returns-in-Err-clause-visit : goal.returns-in-Err-clause-visit
 returns-in-Err-clause-visit g c =
-    subst (λ (h : HallState). IsVisit BATCH h c.args.held.now.items found.NoMemory c.note.new.self.hall c.visit-made.new.held.items) (ap (λ (r : RoomState). r.hall) c.self.view_is)
-    (subst (λ (h : HallState). IsVisit BATCH c.self.inside.hall c.args.held.now.items found.NoMemory h c.visit-made.new.held.items) (sym (ap (λ (r : RoomState). r.hall) c.note.ensures))
-    (visits_one BATCH c.self.inside.hall c.args.held.now.items c.visit-made.new.self c.visit-made.new.held.items c.visit-made.result (Err Memory) c.search-who.result c.in-Some.first
+    subst (λ (h : HallState). IsVisit BATCH h found.NoMemory c.note.new.self.hall c.visit-made.new.batch.letters) (ap (λ (r : RoomState). r.hall) c.self.view_is)
+    (subst (λ (h : HallState). IsVisit BATCH c.self.inside.hall found.NoMemory h c.visit-made.new.batch.letters) (sym (ap (λ (r : RoomState). r.hall) c.note.ensures))
+    (visits_one BATCH c.self.inside.hall c.visit-made.new.self c.visit-made.new.batch.letters c.visit-made.result (Err Memory) c.search-who.result c.in-Some.first
     c.search-who.ensures c.in-Some.ensures.left c.visit-made.ensures.visited (c.in-Err.is ∙ ap Err c.in-Err.ensures.only_memory)))
 
 pub returns-in_default-clause-nothing : goal.returns-in_default-clause-nothing

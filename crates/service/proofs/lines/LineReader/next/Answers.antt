@@ -1,5 +1,5 @@
 -- Where a line is given, it is the first of what was left.
-use Rattle.std.proofs.Common.{◌≡◌, refl, sym, ◌∙◌}
+use Rattle.std.proofs.Common.{refl, sym, ◌∙◌}
 use Rattle.std.specs.Str.Lines.{strip_carriage_return}
 use Rattle.service.specs.Line.{line_of}
 use Rattle.service.specs.LineReader.{Shows, unread_bytes}

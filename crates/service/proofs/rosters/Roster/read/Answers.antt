@@ -6,7 +6,7 @@ use Rattle.std.proofs.lemmas.Result.{err_from_is_err_and}
 use Rattle.service.proofs.RosterLemmas.{IsDistinct-none}
 use Rattle.service.proofs.RosterSteps.{SoFar-start, SoFar-blank, SoFar-row, ReadsRoster-refused, ReadsRoster-begin}
 use Rattle.service.proofs.rosters.Roster.read.Goals as goal
-use Rattle.service.proofs.rosters.Roster.read.Goals.{then-is_blank, in-Text-3+in_ok-add_row-in-Text-3, then-not-is_empty+else-is_begin, else-not-is_empty}
+use Rattle.service.proofs.rosters.Roster.read.Goals.{then-is_blank, in-Text-3+in_ok-add_row-in-Text-3, then-not-is_empty+else-is_word, else-not-is_empty}
 
 pub loop-init : goal.loop-init
 loop-init g c = rw c.new-rows.ensures.items (record { left = SoFar-start c.args.lines.now; distinct = IsDistinct-none; most = omega arith })
@@ -16,7 +16,7 @@ returns-in-Text-2-clause-roster g c =
     let some : 0 < length c.loop.rows.items = omega (arith, eqb-false c.loop.rows.len 0 (sym c.is_empty.ensures ∙ c.if-not-is_empty.true), c.loop.rows.ok.0) in
     ReadsRoster-begin c.args.lines.now c.loop.lines c.next.follows.lender-at-none c.loop.rows.items c.next.result c.in-Text.text.now
     c.loop.invariant.left c.next.follows.holds-at-none (rw c.in-Text.is refl)
-    (record { distinct = c.loop.invariant.distinct; some = some; most = c.loop.invariant.most }) (sym c.if-is_blank.ensures) (c.is_begin.ensures.0 c.if-is_begin.true)
+    (record { distinct = c.loop.invariant.distinct; some = some; most = c.loop.invariant.most }) (sym c.if-is_blank.ensures) (c.is_word.ensures.0 c.if-is_word.true)
 
 pub returns-in_err-add_row-in-Text-3-clause-roster : goal.returns-in_err-add_row-in-Text-3-clause-roster
 returns-in_err-add_row-in-Text-3-clause-roster g c =
@@ -26,7 +26,7 @@ returns-in_err-add_row-in-Text-3-clause-roster g c =
     c.loop.invariant.left c.next.follows.holds-at-none (rw c.in-Text.is refl)
     c.add_row.new.rows.items _ (sym c.if-is_blank.ensures)
     (λ begin. elim c.if-not-is_empty.branch [
-      | then-not-is_empty+else-is_begin w ↦ let found = w.is_begin.ensures.1 begin in let other = w.if-is_begin.false in absurd (cc)
+      | then-not-is_empty+else-is_word w ↦ let found = w.is_word.ensures.1 begin in let other = w.if-is_word.false in absurd (cc)
       | else-not-is_empty w ↦
           nil_from_length c.loop.rows.items (omega (arith, eqb-true c.loop.rows.len 0 (sym c.is_empty.ensures ∙ w.if-not-is_empty.false), c.loop.rows.ok.0))
     ])

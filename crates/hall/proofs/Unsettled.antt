@@ -1,0 +1,197 @@
+-- An index of the searches that may still go on, beside the hall that has them.
+use Rattle.std.proofs.Common.{◌≡◌, ◌∙◌, ◌==◌, ◌⊎◌, ℕ, Bool, true, false, cond, List, [], ◌∷◌, length, ap, sym, refl, subst, inl, inr, arith, Option, Some, None, Result, Ok, Err, is_some}
+use Rattle.std.specs.FinMap.{get}
+use Rattle.std.specs.List.{list_any}
+use Rattle.std.proofs.lemmas.Bool.{false≢true}
+use Rattle.std.proofs.lemmas.Bool.Decides.{Decides-eqb}
+use Rattle.names.specs.Name.{is_same}
+use Rattle.names.proofs.SameNames.{same_from_is_same}
+use Rattle.vaults.proofs.Orders.{names_exact}
+use Rattle.indexmap.specs.IndexMap.{Updates, WritesThrough}
+use Rattle.indexmap.specs.IndexMap as table
+use Rattle.indexmap.specs.IndexSet.{IndexSet, contains}
+use Rattle.indexmap.specs.IndexSet as set
+use Rattle.search.specs.declared.queries.Query.{Query}
+use Rattle.search.specs.declared.outcomes.Status.TheVariants.{Working}
+use Rattle.search.specs.Ending.{Settled, Nothing, Yes, No, Members, Spent, Broken}
+use Rattle.search.specs.Found.{status_of}
+use Rattle.search.specs.Search.{SearchState, Settles, settled_of}
+use Rattle.search.specs.Driven.{IsDriven}
+use Rattle.search.specs.Batches.{TakenLetter, WorksOn, HandsInEach}
+use Rattle.hall.specs.declared.calls.requests.Request.{Request}
+use Rattle.hall.specs.declared.calls.requests.Request.TheVariants.{Seek}
+use Rattle.hall.specs.declared.calls.replies.Reply.{Reply}
+use Rattle.hall.specs.declared.calls.replies.Reply.TheVariants.{Opened}
+use Rattle.hall.specs.Hall.{Running, Tenant, HallState, with_search, search_of, search_at, IsServed}
+use Rattle.hall.specs.Kept.{TakesJob, IsUnsettled, Index, IsIn, Lists, KeepsBut, ListsUnsettled}
+use Rattle.hall.proofs.Maps.{get_inserted}
+use Rattle.hall.proofs.Placed.{put, found_after}
+use Rattle.hall.proofs.laws.HallChanges.{replaced_each, inserted_each}
+use Rattle.hall.proofs.laws.HallRequests.{requested_each}
+use Rattle.hall.proofs.laws.HallSteps.{drives_on}
+
+-- a search that has come to nothing yet had before
+pub unsettled_before : (s t : SearchState) → Settles s t → IsUnsettled t → IsUnsettled s
+unsettled_before s t (inl same) nothing = sym same ∙ nothing
+unsettled_before s t (inr ends) nothing = ends.0
+
+-- through steps in a row too
+pub unsettled_before_driven : (s t : SearchState) → IsDriven s t → IsUnsettled t → IsUnsettled s
+unsettled_before_driven s t driven = unsettled_before s t (drives_on s t driven).settles
+
+pub unsettled_before_work : (who : List ℕ) (k : ℕ) (s : SearchState) (n : ℕ) (letters : List TakenLetter) (t : SearchState) → WorksOn who k s n letters t → IsUnsettled t → IsUnsettled s
+unsettled_before_work who k s n letters t WorksOn.nothing unsettled = unsettled
+unsettled_before_work who k s n letters t (WorksOn.signal {n = m} {taken = before} {middle} works first) unsettled =
+    unsettled_before_work who k s m before middle works (unsettled_before middle t first.settles unsettled)
+unsettled_before_work who k s n letters t (WorksOn.letter {n = m} {taken = before} {job} {middle} works takes) unsettled =
+    unsettled_before_work who k s m before middle works (unsettled_before middle t takes.4 unsettled)
+
+pub unsettled_before_hands : (who : List ℕ) (k : ℕ) (back : Bool) (s : SearchState) (letters : List TakenLetter) (n : ℕ) (t : SearchState) → HandsInEach who k back s letters n t →
+    IsUnsettled t → IsUnsettled s
+unsettled_before_hands who k back s letters n t HandsInEach.nothing unsettled = unsettled
+unsettled_before_hands who k back s letters n t (HandsInEach.letter {before} {n = m} {middle} one done hands last) unsettled =
+    unsettled_before_hands who k back s before m middle hands (unsettled_before middle t last.3 unsettled)
+
+pub unsettled_before_taken : {E : Type 0} (who : List ℕ) (k place : ℕ) (s : SearchState) (told : Result (Option TakenLetter) E) (t : SearchState) →
+    TakesJob who k place s told t → IsUnsettled t → IsUnsettled s
+unsettled_before_taken who k place s (Ok None) t (none, same, sound) unsettled = subst IsUnsettled same unsettled
+unsettled_before_taken who k place s (Ok (Some job)) t takes unsettled = unsettled_before s t takes.4 unsettled
+unsettled_before_taken who k place s (Err f) t same unsettled = subst IsUnsettled same unsettled
+
+-- a search that works has come to nothing yet
+pub works_unsettled : (s : Settled) → status_of s ≡ Working → s ≡ Nothing
+works_unsettled Nothing is = refl
+works_unsettled Yes is = cc
+works_unsettled No is = cc
+works_unsettled (Members names) is = cc
+works_unsettled Spent is = cc
+works_unsettled Broken is = cc
+
+module _ {Z : Type 0} (numbers : IndexSet ℕ Z) where
+  -- a number that is put in beside others
+  pub is_in_more : (more : IndexSet ℕ Z) (n k : ℕ) → set.Updates (◌==◌) numbers more n true → contains (◌==◌) numbers k ≡ true → contains (◌==◌) more k ≡ true
+  is_in_more more n k updates there = by (n == k) refl
+    where
+      by : (b : Bool) → (n == k) ≡ b → contains (◌==◌) more k ≡ true
+      by true same = updates.0 k ∙ ap (λ (b : Bool). cond b true (contains (◌==◌) numbers k)) same
+      by false apart = updates.2 k apart ∙ there
+
+  -- the same numbers
+  pub is_in_same : (others : IndexSet ℕ Z) (k : ℕ) → others.keys ≡ numbers.keys → contains (◌==◌) numbers k ≡ true → contains (◌==◌) others k ≡ true
+  is_in_same others k same there = ap (list_any (λ q. k == q)) same ∙ there
+
+module _ {S Z : Type 0} where
+  -- where the numbers of one tenant are changed, the index keeps what these have, and all of the others
+  changed : (old new : Index S Z) (who : List ℕ) (numbers : Option (IndexSet ℕ Z)) (out : ℕ → Type 0) → Updates is_same old new who numbers →
+      ((k : ℕ) → Lists old who k → out k ⊎ IsIn k numbers) → KeepsBut (λ name k. (name ≡ who) × out k) old new
+  changed old new who numbers out updates here name k listed = by (is_same who name) refl
+    where
+      at : who ≡ name → out k ⊎ IsIn k numbers → ((name ≡ who) × out k) ⊎ Lists new name k
+      at is (inl left) = inl (sym is, left)
+      at is (inr stays) = inr (subst (λ (n : List ℕ). Lists new n k) is (subst (IsIn k) (sym updates.1) stays))
+
+      by : (b : Bool) → is_same who name ≡ b → ((name ≡ who) × out k) ⊎ Lists new name k
+      by false apart = inr (subst (IsIn k) (sym (updates.2 name apart)) listed)
+      by true same =
+          let is : who ≡ name = same_from_is_same who name same in
+          at is (here k (subst (λ (n : List ℕ). Lists old n k) (sym is) listed))
+
+  -- where one tenant has more numbers, the index keeps all
+  pub grown : (old new : Index S Z) (who : List ℕ) (numbers : IndexSet ℕ Z) → Updates is_same old new who (Some numbers) →
+      ((k : ℕ) → Lists old who k → contains (◌==◌) numbers k ≡ true) → KeepsBut (λ name k. ⊥) old new
+  grown old new who numbers updates here name k listed = by (changed old new who (Some numbers) (λ j. ⊥) updates (λ j there. inr (here j there)) name k listed)
+    where
+      by : ((name ≡ who) × ⊥) ⊎ Lists new name k → ⊥ ⊎ Lists new name k
+      by (inl left) = absurd left.1
+      by (inr stays) = inr stays
+
+  module _ (old new : Index S Z) (who : List ℕ) (before after : IndexSet ℕ Z) (k : ℕ) (there : table.get is_same old who ≡ Some before)
+      (writes : WritesThrough is_same (is_same who) old after new) (takes : set.Updates (◌==◌) before after k false) where
+    updates : Updates is_same old new who (Some after)
+    updates = writes.3 (ap is_some there)
+
+    -- a number of a tenant is taken out
+    pub left : KeepsBut (λ name j. (name ≡ who) × (j ≡ k)) old new
+    left = changed old new who (Some after) (λ j. j ≡ k) updates (λ j listed. by j (subst (IsIn j) there listed) (k == j) refl)
+      where
+        by : (j : ℕ) → contains (◌==◌) before j ≡ true → (b : Bool) → (k == j) ≡ b → (j ≡ k) ⊎ IsIn j (Some after)
+        by j listed true same = inl (sym ((Decides-eqb k j).0 same))
+        by j listed false apart = inr (takes.2 j apart ∙ listed)
+
+    -- and isn't there any more
+    pub gone : Lists new who k → ⊥
+    gone listed = false≢true (sym takes.1 ∙ subst (IsIn k) updates.1 listed)
+
+    -- and the tenant, where it was the last
+    pub left_empty : (last : Index S Z) → length after.keys ≡ 0 → Updates is_same new last who None → KeepsBut (λ name j. (name ≡ who) × (j ≡ k)) old last
+    left_empty last empty drops name j listed = by (left name j listed)
+      where
+        none : (keys : List ℕ) (i : ℕ) → length keys ≡ 0 → list_any (λ q. i == q) keys ≡ true → ⊥
+        none [] i short there = cc
+        none (q ∷ keys) i short there = omega (arith, short)
+
+        again : ((name ≡ who) × ⊥) ⊎ Lists last name j → ((name ≡ who) × (j ≡ k)) ⊎ Lists last name j
+        again (inl out) = absurd out.1
+        again (inr stays) = inr stays
+
+        by : ((name ≡ who) × (j ≡ k)) ⊎ Lists new name j → ((name ≡ who) × (j ≡ k)) ⊎ Lists last name j
+        by (inl out) = inl out
+        by (inr stays) =
+            again (changed new last who None (λ i. ⊥) drops (λ i listed. absurd (none after.keys i empty (subst (IsIn i) updates.1 listed))) name j stays)
+
+  -- what is left out need not be in the index
+  pub still_listed : (old new : Index S Z) (h : HallState) (out : List ℕ → ℕ → Type 0) → KeepsBut out old new → ListsUnsettled old h →
+      ((name : List ℕ) (k : ℕ) (r : Running) → out name k → search_at h name k ≡ Some r → IsUnsettled r.search → ⊥) → ListsUnsettled new h
+  still_listed old new h out keeps listed settled name t k r found at unsettled = by (keeps name k (listed name t k r found at unsettled))
+    where
+      by : out name k ⊎ Lists new name k → Lists new name k
+      by (inl left) = absurd (settled name k r left (ap (search_of k) found ∙ at) unsettled)
+      by (inr stays) = stays
+
+  -- a search that was ended is left out
+  pub listed_ended : (old new : Index S Z) (h : HallState) (who : List ℕ) (k : ℕ) (u : Tenant) → get u.searches k ≡ None →
+      KeepsBut (λ name j. (name ≡ who) × (j ≡ k)) old new → ListsUnsettled old (put h who u) → ListsUnsettled new (put h who u)
+  listed_ended old new h who k u gone keeps listed =
+      still_listed old new (put h who u) (λ name j. (name ≡ who) × (j ≡ k)) keeps listed
+      (λ name j r out at unsettled.
+      let clash : Some r ≡ None =
+      sym at ∙ ap (λ (n : List ℕ). search_at (put h who u) n j) out.0 ∙ ap (search_at (put h who u) who) out.1
+      ∙ ap (search_of k) (get_inserted names_exact h.tenants who u) ∙ gone in
+      cc)
+
+  -- a search that goes on is left out where it has settled
+  pub listed_after : (old new : Index S Z) (h : HallState) (who : List ℕ) (k : ℕ) (r : Running) (s : SearchState) → search_at h who k ≡ Some r →
+      (IsUnsettled s → IsUnsettled r.search) → KeepsBut (λ name j. (name ≡ who) × (j ≡ k) × (IsUnsettled s → ⊥)) old new → ListsUnsettled old h →
+      ListsUnsettled new (with_search h who k (record r { search = s }))
+  listed_after old new h who k r s at before keeps listed =
+      still_listed old new (with_search h who k q) (λ name j. (name ≡ who) × (j ≡ k) × (IsUnsettled s → ⊥)) keeps
+      (replaced_each (λ name t j x. IsUnsettled x.search → Lists old name j) h who k r q (λ t m j x here. here) at
+      (λ t here unsettled. here (before unsettled)) listed)
+      (λ name j x out found unsettled.
+      let both : Some q ≡ Some x =
+      sym (found_after h who k r at q) ∙ sym (ap (λ (n : List ℕ). search_at (with_search h who k q) n k) out.0)
+      ∙ sym (ap (search_at (with_search h who k q) name) out.1) ∙ found in
+      let same : q ≡ x = cc in
+      out.2 (ap (λ (y : Running). settled_of y.search) same ∙ unsettled))
+    where
+      q : Running
+      q = record r { search = s }
+
+-- where an opened search is in the index, each one is after a request that was in it before
+pub listed_requested : {S Z : Type 0} (index : Index S Z) (old new : HallState) (who : List ℕ) (q : Request) (told : Reply) → IsServed old who q told new →
+    ListsUnsettled index old → ((query : Query) (n : ℕ) → q ≡ Seek query → told ≡ Opened n → Lists index who n) → ListsUnsettled index new
+listed_requested index old new who q told served listed opened =
+    subst (ListsUnsettled index) (sym served.after)
+    (requested_each old who (λ name t k r. IsUnsettled r.search → Lists index name k) q told listed
+    (λ query n t is said found. inserted_each (λ k r. IsUnsettled r.search → Lists index who k) t.searches n _ (λ k r at. listed who t k r found at)
+    (λ unsettled. opened query n is said))
+    (λ k t found j r at. listed who t j r found at))
+
+-- what is left out may be said to be so for a reason
+pub out_with : {S Z : Type 0} (old new : Index S Z) (who : List ℕ) (k : ℕ) (reason : Type 0) → KeepsBut (λ name j. (name ≡ who) × (j ≡ k)) old new → reason →
+    KeepsBut (λ name j. (name ≡ who) × (j ≡ k) × reason) old new
+out_with old new who k reason keeps why name j listed = by (keeps name j listed)
+  where
+    by : ((name ≡ who) × (j ≡ k)) ⊎ Lists new name j → ((name ≡ who) × (j ≡ k) × reason) ⊎ Lists new name j
+    by (inl out) = inl (out.0, out.1, why)
+    by (inr stays) = inr stays

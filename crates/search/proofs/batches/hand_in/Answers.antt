@@ -1,0 +1,16 @@
+use Rattle.std.proofs.Common.{Bool, false, sym, subst, refl}
+use Rattle.search.specs.Batches.{HandsInAs, taken_of}
+use Rattle.search.proofs.Batched.{puts_back}
+use Rattle.search.proofs.batches.hand_in.Goals as goal
+
+pub returns-then-back : goal.returns-then-back
+returns-then-back c =
+    let s = c.args.search.now in
+    let t = c.put_back.new.self in
+    subst (λ (b : Bool). HandsInAs c.args.of.now.who c.args.of.now.number b s (taken_of c.args.of.now c.args.held_letter.now) false t) (sym c.if-back.true) (
+      (c.put_back.result, puts_back s t c.args.held_letter.now.letter c.put_back.result c.put_back.ensures.held c.put_back.ensures.unchanged c.put_back.ensures.waits, refl),
+      refl,
+      refl,
+      c.put_back.ensures.settles,
+      c.kept.ensures.sound,
+    )

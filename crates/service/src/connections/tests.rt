@@ -1,0 +1,59 @@
+use super::*;
+use std::cell::Cell;
+use std::net::SocketAddr;
+
+/// Fails by these numbers of the system, one after the other, and then gives connections, which are counted.
+#[derive(Drop)]
+struct Reluctant<'a> {
+    faults: &'a [i32],
+    tried: Cell<usize>,
+}
+
+impl OpenListener for Reluctant<'_> {
+    type Stream = usize;
+
+    fn accept(&self) -> io::Result<(usize, SocketAddr)> {
+        let tried = self.tried.get();
+        self.tried.set(tried.saturating_add(1));
+        match self.faults.get(tried) {
+            Some(number) => Err(Error::from_raw_os_error(*number)),
+            None => Ok((tried, SocketAddr::from(([127, 0, 0, 1], 0)))),
+        }
+    }
+}
+
+/// The first connection of a listener that fails by these numbers first, or the fault that ends it.
+fn comes_of<R: Wait + Clock>(rt: &R, alloc: Global, faults: &[i32]) -> Result<usize, ServeFault> {
+    let tried = Cell::new(0);
+    let Ok((sender, queue)) = bounded(alloc, 1) else {
+        return Err(ServeFault::Memory);
+    };
+    accept_all(rt, &Reluctant { faults, tried }, &sender, Some(1))?;
+    match queue.recv(rt) {
+        Ok(first) => Ok(first),
+        Err(_ended) => Err(ServeFault::Memory),
+    }
+}
+
+// The numbers are Linux's: no descriptor left for the process (24) or the system (23), no buffer (105), no memory (12); the
+// peer has gone (103, 71), can't be reached (113, 101) or may not connect (1).
+#[test]
+fn a_fault_that_passes_is_no_end(rt: HostRuntime) {
+    assert_eq!(rt; comes_of(&rt, rt.alloc(), &[]), Ok(0));
+    assert_eq!(rt;
+        comes_of(&rt, rt.alloc(), &[24, 23, 105, 12, 103, 71, 113, 101, 1]),
+        Ok(9)
+    );
+    assert_eq!(rt; comes_of(&rt, rt.alloc(), &[24; 12]), Ok(12));
+}
+
+// It isn't open (9), no socket (88), no stream (95), not listening (22), or doesn't wait (11).
+#[test]
+fn a_fault_of_the_listener_is_the_end(rt: HostRuntime) {
+    for number in [9, 88, 95, 22, 11] {
+        assert_eq!(rt;
+            comes_of(&rt, rt.alloc(), &[24, number]),
+            Err(ServeFault::Socket)
+        );
+    }
+}
