@@ -15,19 +15,19 @@ use Rattle.hall.proofs.Carrying.{Moves, moved, none_quiet}
 use Rattle.hall.proofs.laws.HallSound.{stepped_sound}
 
 -- with nothing left to do a visit was whole
-nothing_left : {E : Type 0} (most n : ℕ) (quiet : Type 0) (result : Result (Unit {0}) E) → quiet → IsWhole most n quiet result
-nothing_left most n quiet (Ok done) left = inr left
-nothing_left most n quiet (Err lacked) left = tt
+nothing_left : {E : Type 0} (most : ℕ) (quiet : Type 0) (result : Result (Unit {0}) E) → quiet → IsWhole most 0 quiet result
+nothing_left most quiet (Ok done) left = inr left
+nothing_left most quiet (Err lacked) left = refl
 
 whole_by : {E : Type 0} (most n : ℕ) (P Q : Type 0) (result : Result (Unit {0}) E) → (P → Q) → IsWhole most n P result → IsWhole most n Q result
 whole_by most n P Q (Ok done) by (inl all) = inl all
 whole_by most n P Q (Ok done) by (inr left) = inr (by left)
-whole_by most n P Q (Err lacked) by whole = tt
+whole_by most n P Q (Err lacked) by whole = whole
 
 -- nobody did anything, where nothing of the search is left to do
 pub no_visit : {E : Type 0} (who : List ℕ) (k most : ℕ) (h : HallState) (result : Result (Unit {0}) E) → SearchIsQuiet h who k → IsVisited who k most h result h []
 no_visit who k most h result quiet =
-    let within : 0 ≤ most = omega arith in (0, within, IsWorkedOn.nothing, nothing_left most 0 (SearchIsQuiet h who k) result quiet)
+    let within : 0 ≤ most = omega arith in (0, within, IsWorkedOn.nothing, nothing_left most (SearchIsQuiet h who k) result quiet)
 
 module _ {E : Type 0} (who : List ℕ) (k most : ℕ) (old : HallState) (result : Result (Unit {0}) E) (new : HallState) (taken : List TakenLetter)
     (visited : IsVisited who k most old result new taken) where
@@ -39,10 +39,12 @@ module _ {E : Type 0} (who : List ℕ) (k most : ℕ) (old : HallState) (result 
       by (Ok done) is n whole = whole
       by (Err lacked) is n whole = cc
 
-  -- where memory lacked it need not have been
-  pub visited_in_part : {F : Type 0} (told : Result (Unit {0}) F) → IsErr told → IsVisited who k most old told new taken
-  visited_in_part (Err lacked) is = let (n, within, works, whole) = visited in (n, within, works, tt)
-  visited_in_part (Ok done) is = cc
+  -- where memory lacked there was none
+  pub visited_nothing : {F : Type 0} (why : E) (told : Result (Unit {0}) F) → result ≡ Err why → IsErr told → IsVisited who k most old told new taken
+  visited_nothing why (Err lacked) lacks is =
+      let (n, within, works, whole) = visited in
+      (n, within, works, subst (IsWhole most n (SearchIsQuiet new who k)) lacks whole)
+  visited_nothing why (Ok done) lacks is = cc
 
 -- a search that delivered a signal runs soundly
 delivered_sound : (old new : Stage) → Delivers old new 0 true → IsSoundStage new

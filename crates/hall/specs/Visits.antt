@@ -55,7 +55,7 @@ pub data IsWorkedOn (who : List ℕ) (number : ℕ) (old : HallState) : ℕ → 
   letter : {n : ℕ} {taken : List TakenLetter} {job : TakenLetter} {middle new : HallState} → IsWorkedOn who number old n taken middle →
       IsTaken middle who number 0 (Some job) new → IsWorkedOn who number old (n + 1) (taken ++ job ∷ []) new
 
--- at most so many such steps are made, fewer only where nothing of the search is left to do or memory lacks
+-- at most so many such steps are made, fewer only where nothing of the search is left to do; none where memory lacks
 abbrev pub IsVisited : {E : Type 0} → List ℕ → ℕ → ℕ → HallState → Result (Unit {0}) E → HallState → List TakenLetter → Type 0
 IsVisited who number most old result new taken =
     (n : ℕ) × (n ≤ most) × IsWorkedOn who number old n taken new × IsWhole most n (SearchIsQuiet new who number) result

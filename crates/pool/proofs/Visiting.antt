@@ -12,12 +12,16 @@ use Rattle.hall.specs.Visits.{SearchIsQuiet, IsWorkedOn, IsVisited, IsHandedIn, 
 use Rattle.pool.specs.Visits.{VisitsOne}
 use Rattle.pool.proofs.Kept.{stepped_journal}
 
-pub worked_journal : (who : List ℕ) (k : ℕ) (old : HallState) (n : ℕ) (taken : List TakenLetter) (new : HallState) → IsWorkedOn who k old n taken new → new.journal ≡ old.journal
+worked_journal : (who : List ℕ) (k : ℕ) (old : HallState) (n : ℕ) (taken : List TakenLetter) (new : HallState) → IsWorkedOn who k old n taken new → new.journal ≡ old.journal
 worked_journal who k old n taken new IsWorkedOn.nothing = refl
 worked_journal who k old n taken new (IsWorkedOn.signal {n = m} {taken = before} {middle} works steps) =
     stepped_journal middle new (Signal who k 0) Signalled steps ∙ worked_journal who k old m before middle works
 worked_journal who k old n taken new (IsWorkedOn.letter {n = m} {taken = before} {job} {middle} works (answer, steps, is)) =
     stepped_journal middle new (Take who k 0) answer steps ∙ worked_journal who k old m before middle works
+
+pub visited_journal : (who : List ℕ) (k most : ℕ) (old : HallState) (result : Result (Unit {0}) Fault) (new : HallState) (taken : List TakenLetter) →
+    IsVisited who k most old result new taken → new.journal ≡ old.journal
+visited_journal who k most old result new taken (n, within, works, whole) = worked_journal who k old n taken new works
 
 -- no step was picked
 pub none_picked : (o : Option Step) (none : Bool) → is_some o ≡ not none → IsTrue none ↔ (o ≡ None)

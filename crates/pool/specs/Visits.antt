@@ -17,7 +17,7 @@ abbrev pub VisitsOne : ℕ → HallState → Result (Unit {0}) Fault → HallSta
 VisitsOne most old result new taken =
     (who : List ℕ) × (number : ℕ) × (SearchIsQuiet old who number → ⊥) × IsVisited who number most old result new taken
 
--- where there was something to do one search is visited, to its end or until memory lacked; else nothing is done
+-- where there was something to do one search is visited; else nothing is done
 abbrev pub IsVisit : ℕ → HallState → Found → HallState → List TakenLetter → Type 0
 IsVisit most old found.Work new taken = VisitsOne most old (Ok tt) new taken
 IsVisit most old found.NoMemory new taken = VisitsOne most old (Err Memory) new taken

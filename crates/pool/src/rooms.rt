@@ -170,8 +170,10 @@ impl<L: Ledger> Room<L> {
     pub(crate) fn is_over(&self, who: Entity, number: u64, front: u64) -> bool
         ensures { (result ≡ false) ↔ GoesOnWaiting self.now who number front }
     {
-        let search = self.hall.search(who, number);
-        let is_working = search.is_some_and(|search| search.status() == Status::Working);
+        let is_working = match self.hall.search(who, number) {
+            Some(search) => search.status() == Status::Working,
+            None => false,
+        };
         self.stopped || self.hall.journal_len() < front || !is_working
     }
 

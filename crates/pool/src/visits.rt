@@ -19,7 +19,7 @@ pub(crate) enum Found {
     Nothing,
     /// The desk was stopped.
     Stopped,
-    /// Memory for a letter was refused. Some steps may have been made before.
+    /// Memory to share what the search reads was refused. Nothing is done.
     NoMemory,
 }
 
@@ -46,7 +46,6 @@ impl<L: Ledger> Room<L> {
 
     /// The steps of one visit of a worker, all of one search: it delivers signals and takes letters as long as there are any
     /// and the steps are within their limit. The searches take turns.
-    #[tactic(auto, using(crate::proofs::Visiting::worked_journal))]
     pub(crate) fn visit(&mut self, batch: &mut Batch) -> Found
         requires empty { IsEmpty batch.old }
         requires space { BATCH ≤ batch.old.room }

@@ -78,7 +78,10 @@ fn work<L: Ledger, G: Gate, R: Wait>(rt: &R, alloc: Global, desk: &Desk<L>, gate
 fn both(all: Worked, one: Worked) -> Worked
     ensures { result ≡ done_by_both all one }
 {
-    Some(all?.saturating_add(one?))
+    match (all, one) {
+        (Some(all), Some(one)) => Some(all.saturating_add(one)),
+        _ => None,
+    }
 }
 
 /// Waits for all workers, and adds up what they did.

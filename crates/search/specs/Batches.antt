@@ -92,12 +92,12 @@ pub data WorksOn (who : List ℕ) (k : ℕ) (s : SearchState) : ℕ → List Tak
 abbrev pub WorksUpTo : List ℕ → ℕ → ℕ → SearchState → SearchState → List TakenLetter → Type 0
 WorksUpTo who k most s t taken = (n : ℕ) × (n ≤ most) × WorksOn who k s n taken t × ((n ≡ most) ⊎ IsQuiet t.stage)
 
--- so many steps are all that may be made, or nothing was left to do; where memory lacked there may be fewer
+-- so many steps are all that may be made, or nothing was left to do; where memory lacked there is none
 abbrev pub IsWhole : {E : Type 0} → ℕ → ℕ → Type 0 → Result (Unit {0}) E → Type 0
 IsWhole most n nothing_left (Ok done) = (n ≡ most) ⊎ nothing_left
-IsWhole most n nothing_left (Err lacked) = Unit {0}
+IsWhole most n nothing_left (Err lacked) = n ≡ 0
 
--- at most so many steps were made, fewer only where nothing is left to do or memory lacked
+-- at most so many steps were made, fewer only where nothing is left to do; none where memory lacked
 abbrev pub Visits : {E : Type 0} → List ℕ → ℕ → ℕ → SearchState → Result (Unit {0}) E → SearchState → List TakenLetter → Type 0
 Visits who k most s result t taken = (n : ℕ) × (n ≤ most) × WorksOn who k s n taken t × IsWhole most n (IsQuiet t.stage) result
 

@@ -12,7 +12,7 @@ use Rattle.hall.proofs.Carrying.{Moves, none_quiet}
 use Rattle.hall.proofs.Reached.{nobody_there, found_there, there, indexed_there, left, stays}
 use Rattle.hall.proofs.Stays.{lent, own, quiet_there}
 use Rattle.hall.proofs.Unsettled.{unsettled_before_work}
-use Rattle.hall.proofs.Visiting.{no_visit, visits_as, visits_soundly, visited_well, visited_in_part}
+use Rattle.hall.proofs.Visiting.{no_visit, visits_as, visits_soundly, visited_well, visited_nothing}
 use Rattle.hall.proofs.registry.Hall.visit.Goals as goal
 use Rattle.hall.proofs.registry.Hall.visit.Goals.{After-branch-visit}
 
@@ -100,7 +100,7 @@ invariant_of-self-in_err-visit c = indexed c.before.before c.self.inside.busy (Œ
 pub returns-in_err-visit-clause-visited : goal.returns-in_err-visit-clause-visited
 returns-in_err-visit-clause-visited c =
     rw (‚Üê c.self.view_is)
-    (visited_in_part c.args.who c.args.number c.args.most (hall_of c.self.inside.book c.self.inside.tenants) c.visit.result (hall_of c.self.inside.book (c.get_mut.follows.lender (tenant_of c.seat.inside.limits c.seat.inside.opens (c.get_mut-2.follows.lender (record { opened_at = c.opened.inside.opened_at; search = c.visit.new.self }))))) c.visit.new.batch.letters (made c.before.before) c.from_residual.result c.from_residual.ensures.0)
+    (visited_nothing c.args.who c.args.number c.args.most (hall_of c.self.inside.book c.self.inside.tenants) c.visit.result (hall_of c.self.inside.book (c.get_mut.follows.lender (tenant_of c.seat.inside.limits c.seat.inside.opens (c.get_mut-2.follows.lender (record { opened_at = c.opened.inside.opened_at; search = c.visit.new.self }))))) c.visit.new.batch.letters (made c.before.before) _ c.from_residual.result c.in_err-visit.was c.from_residual.ensures.0)
 
 pub invariant_of-self-2 : goal.invariant_of-self-2
 invariant_of-self-2 c = indexed c.before.before.before.before.before c.settle.new.busy c.settle.ensures.kept

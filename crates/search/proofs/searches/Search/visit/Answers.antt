@@ -1,4 +1,4 @@
-use Rattle.std.proofs.Common.{arith, ◌≤◌, List, sym, subst}
+use Rattle.std.proofs.Common.{arith, ◌≤◌, List, refl, sym, subst}
 use Rattle.std.proofs.lemmas.Result.{err_from_is_err_and}
 use Rattle.search.specs.Batches.{TakenLetter, WorksOn}
 use Rattle.search.proofs.searches.Search.visit.Goals as goal
@@ -11,5 +11,5 @@ returns-in_err-clone-clause-visited c =
       0,
       none,
       subst (λ (ls : List TakenLetter). WorksOn c.args.who c.args.number c.args.self.now 0 ls c.args.self.now) (sym c.requires.empty.0) WorksOn.nothing,
-      tt,
+      refl,
     )
