@@ -7,12 +7,13 @@ use Rattle.std.proofs.lemmas.List.{append-nil}
 use Rattle.std.proofs.lemmas.List.Folds.{concat-append}
 use Rattle.service.specs.declared.conversations.Flow.{Flow}
 use Rattle.service.specs.declared.conversations.Flow.TheVariants.{GoesOn, Ends}
+use Rattle.service.specs.declared.conversations.SessionEnd.{SessionEnd}
 use Rattle.service.specs.declared.conversations.SessionEnd.TheVariants.{Quit, EndOfInput, Read, Write}
 use Rattle.service.specs.declared.lines.NextLine.{NextLine}
 use Rattle.service.specs.declared.lines.NextLine.TheVariants.{End}
 use Rattle.service.specs.Line.{Line, is_blank, commands_of}
 use Rattle.service.specs.LineReader.{Source, known, unknown, failed, Shows, Gives, IfKnown}
-use Rattle.service.specs.Written.{WritesFront}
+use Rattle.service.specs.Written.{WritesFront, WentOut}
 use Rattle.service.specs.Conversation.{Talks, Conversed}
 use Rattle.service.proofs.LinesLemmas.{Gives-first, IfKnown-map}
 use Rattle.service.proofs.ScriptLemmas.{Appends-nothing}
@@ -133,11 +134,10 @@ module _ {S : Type 0} (Answers : S → Line → List ℕ → Flow → S → Type
           subst (Appends c0 c2) (sym (concat-append so.replies (reply ∷ []) ∙ ap (λ (t : List ℕ). concat so.replies ++ t) (append-nil reply)))
           (Appends-more c0 c1 c2 (concat so.replies) reply so.out written)
 
-      -- it ended the conversation, and its reply went out
-      pub Conversed-quit : flow ≡ Ends → Appends c1 c2 reply → IfKnown old (λ lines. Conversed Answers before lines Quit (Appends c0 c2))
-      Conversed-quit ends written =
-          IfKnown-map old so_far
-          (λ lines so.
+      -- it was the last that was answered, and this went out
+      last : (lines : List Line) (so : SoFar Answers before lines mid host (Appends c0 c1)) (end : SessionEnd) (went_out : List ℕ → Type 0) →
+          WentOut end flow (commands_of (here lines so).rest) (so.replies ++ reply ∷ []) went_out → Conversed Answers before lines end went_out
+      last lines so end went_out out =
           let h = here lines so in
           record {
             done = so.done ++ h.line ∷ [];
@@ -146,35 +146,30 @@ module _ {S : Type 0} (Answers : S → Line → List ℕ → Flow → S → Type
             replies = so.replies ++ reply ∷ [];
             after = (after, flow);
             talks = told lines so h;
-            out = (ends, went lines so written);
-          })
+            out = out;
+          }
+
+      -- it ended the conversation, and its reply went out
+      pub Conversed-quit : flow ≡ Ends → Appends c1 c2 reply → IfKnown old (λ lines. Conversed Answers before lines Quit (Appends c0 c2))
+      Conversed-quit ends written = IfKnown-map old so_far (λ lines so. last lines so Quit (Appends c0 c2) (ends, went lines so written))
 
       -- a front of its reply went out
       pub Conversed-part : WritesFront c1 c2 reply → IfKnown old (λ lines. Conversed Answers before lines Write (Appends c0 c2))
       Conversed-part written =
           IfKnown-map old so_far
           (λ lines so.
-          let h = here lines so in
-          record {
-            done = so.done ++ h.line ∷ [];
-            rest = commands_of h.rest;
-            split = parted lines so h;
-            replies = so.replies ++ reply ∷ [];
-            after = (after, flow);
-            talks = told lines so h;
-            out = (
-              so.replies,
-              reply,
-              refl,
-              record {
-                front = written.front;
-                back = written.back;
-                parts = written.parts;
-                missing = written.missing;
-                out = Appends-more c0 c1 c2 (concat so.replies) written.front so.out written.out;
-              },
-            );
-          })
+          last lines so Write (Appends c0 c2) (
+            so.replies,
+            reply,
+            refl,
+            record {
+              front = written.front;
+              back = written.back;
+              parts = written.parts;
+              missing = written.missing;
+              out = Appends-more c0 c1 c2 (concat so.replies) written.front so.out written.out;
+            },
+          ))
 
       -- its reply went out, and the conversation goes on
       pub SoFar-line : flow ≡ GoesOn → Appends c1 c2 reply → IfKnown old (λ lines. SoFar Answers before lines new after (Appends c0 c2))

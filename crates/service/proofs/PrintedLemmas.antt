@@ -1,5 +1,5 @@
 -- A reply that memory lacked for is one that the hall may have given.
-use Rattle.std.proofs.Common.{◌≡◌, ℕ, List, refl, sym, ◌∙◌, subst, Option, Some, None, inl, inr}
+use Rattle.std.proofs.Common.{◌≡◌, ◌⊎◌, ℕ, List, refl, sym, ◌∙◌, subst, Option, Some, None, inl, inr}
 use Rattle.hall.specs.declared.faults.Fault.TheVariants.{Memory}
 use Rattle.hall.specs.declared.calls.requests.Request.{Request}
 use Rattle.hall.specs.declared.calls.requests.Request.TheVariants as request
@@ -12,7 +12,7 @@ use Rattle.hall.specs.Answers.{Sight, answer_of, Answers, Grants, MayLack}
 use Rattle.hall.specs.Run.{Deed, asks, waits}
 use Rattle.hall.specs.Hall.{HallState, account_of, hall_after, AnswersTo, IsServed, CarriesOut}
 use Rattle.hall.proofs.Members.{members_lack}
-use Rattle.service.specs.Reply.{IsLong, IsPrinted}
+use Rattle.service.specs.Reply.{IsLong}
 
 -- a long answer lists members
 long_members : (a : Answer) → IsLong (reply.Answered a) → (names : List (List ℕ)) × (a ≡ answer.Members names)
@@ -66,6 +66,6 @@ lacks-done old new name (asks q) told long served = lacks-served old new name q 
 lacks-done old new name (waits k) told long done = (done.0, done.1, lacks-served done.0 new name (request.Poll k) told long done.2)
 
 -- what is printed is what the hall may have told
-pub printed_done : (old new : HallState) (name : List ℕ) (deed : Deed) (told printed : Reply) → CarriesOut old name deed told new → IsPrinted told printed → CarriesOut old name deed printed new
+pub printed_done : (old new : HallState) (name : List ℕ) (deed : Deed) (told printed : Reply) → CarriesOut old name deed told new → (printed ≡ told) ⊎ (IsLong told × (printed ≡ reply.Refused Memory)) → CarriesOut old name deed printed new
 printed_done old new name deed told printed done (inl same) = subst (λ (r : Reply). CarriesOut old name deed r new) (sym same) done
 printed_done old new name deed told printed done (inr lacks) = subst (λ (r : Reply). CarriesOut old name deed r new) (sym lacks.1) (lacks-done old new name deed told lacks.0 done)

@@ -11,7 +11,7 @@ use Rattle.names.specs.Name.{is_same}
 use Rattle.quotas.specs.Quota.{Quota}
 use Rattle.service.specs.Line.{Line, text, too_long, not_ascii}
 use Rattle.service.specs.Words.{words}
-use Rattle.service.specs.Roster.{Row, IsRow, IsBegin, HasRows, HasRoster, HasNoRoster, IsRoster, AddsRow, names_of}
+use Rattle.service.specs.Roster.{Row, IsRow, HasRows, HasRoster, HasNoRoster, IsRoster, AddsRow, names_of}
 use Rattle.service.proofs.LimitLemmas.{IsLimits-unique}
 
 -- rows of the same three parts are the same
@@ -38,7 +38,7 @@ HasRows-row line others row [] after is has =
 HasRows-row line others row (other ∷ more) after is has = (more, ap (λ (r : Row). r ∷ more) (IsRow-unique line other row has.0 is), has.1)
 
 -- there are no rows where the lines begin with `begin`
-HasRows-begin : (line : List ℕ) (others : List Line) (all : List Row) (after : List Line) → IsBegin line → HasRows (text line ∷ others) all after → (all ≡ []) × (others ≡ after)
+HasRows-begin : (line : List ℕ) (others : List Line) (all : List Row) (after : List Line) → words line ≡ codes "begin" ∷ [] → HasRows (text line ∷ others) all after → (all ≡ []) × (others ≡ after)
 HasRows-begin line others [] after begin has = (refl, has.1)
 HasRows-begin line others (row ∷ more) after begin has = let tenant = has.0.by_words in absurd (cc)
 
@@ -107,7 +107,7 @@ IsRoster-twice rows row more twice named roster =
     absurd (cc)
 
 -- no roster begins with these rows where their next line is neither a row's that it may have there, nor ends it
-pub HasNoRoster-refused : (lines : List Line) (rows : List Row) (left : List Line) (line : List ℕ) (others : List Line) → LeavesLines lines rows left → left ≡ text line ∷ others → (IsBegin line → rows ≡ []) →
+pub HasNoRoster-refused : (lines : List Line) (rows : List Row) (left : List Line) (line : List ℕ) (others : List Line) → LeavesLines lines rows left → left ≡ text line ∷ others → (words line ≡ codes "begin" ∷ [] → rows ≡ []) →
     ((row : Row) (more : List Row) → IsRow line row → IsRoster (rows ++ row ∷ more) → ⊥) → HasNoRoster lines
 HasNoRoster-refused lines rows left line others so_far first no_end no_row all after roster =
     let parts = so_far.splits all after roster.one_each in
@@ -118,7 +118,7 @@ HasNoRoster-refused lines rows left line others so_far first no_end no_row all a
     by (row ∷ more) are has = no_row row more has.0 (subst IsRoster are roster.roster)
 
 -- the roster is read
-pub HasRoster-read : (lines : List Line) (rows : List Row) (left : List Line) (line : List ℕ) (others : List Line) → LeavesLines lines rows left → left ≡ text line ∷ others → IsBegin line → IsRoster rows → HasRoster lines rows others
+pub HasRoster-read : (lines : List Line) (rows : List Row) (left : List Line) (line : List ℕ) (others : List Line) → LeavesLines lines rows left → left ≡ text line ∷ others → words line ≡ codes "begin" ∷ [] → IsRoster rows → HasRoster lines rows others
 HasRoster-read lines rows left line others so_far first begin roster = record {
   one_each =
       subst (λ (all : List Row). HasRows lines all others) (append-nil rows)

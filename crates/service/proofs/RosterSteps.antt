@@ -1,14 +1,14 @@
 -- What is known of a roster that is being read, line after line.
 use Rattle.std.proofs.Common.{◌≡◌, ℕ, true, false, List, [], ◌∷◌, ◌++◌, refl, ap, ◌∙◌, subst, Ok, Err}
-use Rattle.std.specs.Prelude.{not, filter}
+use Rattle.std.specs.Prelude.{codes, not, filter}
 use Rattle.std.specs.List.{list_all}
 use Rattle.service.specs.declared.faults.ScriptFault.{ScriptFault}
 use Rattle.service.specs.declared.faults.ScriptFault.TheVariants as fault
 use Rattle.service.specs.declared.lines.NextLine.{NextLine}
 use Rattle.service.specs.Line.{Line, text, is_blank, lines_of, commands_of}
 use Rattle.service.specs.LineReader.{Source, known, unknown, failed, Shows, Gives, IfKnown}
-use Rattle.service.specs.Roster.{Row, IsRow, IsBegin, IsRoster, AddsRow, ReadsRoster}
-use Rattle.service.specs.Words.{is_space}
+use Rattle.service.specs.Roster.{Row, IsRow, IsRoster, AddsRow, ReadsRoster}
+use Rattle.service.specs.Words.{is_space, words}
 use Rattle.service.proofs.LinesLemmas.{Gives-first}
 use Rattle.service.proofs.RosterLemmas.{LeavesLines, LeavesLines-all, LeavesLines-row, HasNoRoster-refused, HasRoster-read}
 
@@ -59,7 +59,7 @@ module _ (first mid new : Source) (rows : List Row) (answer : NextLine) (line : 
       (λ lines left leaves taken. (taken.0, taken.1, LeavesLines-row lines rows left line (commands_of taken.0) row leaves taken.2 is))
 
   -- no row was added: a roster has none there, or memory lacked
-  pub ReadsRoster-refused : (after : List Row) (why : ScriptFault) → list_all is_space line ≡ false → (IsBegin line → rows ≡ []) → AddsRow rows line (Err why) after → IfKnown first (λ lines. ReadsRoster lines (Err why) new)
+  pub ReadsRoster-refused : (after : List Row) (why : ScriptFault) → list_all is_space line ≡ false → (words line ≡ codes "begin" ∷ [] → rows ≡ []) → AddsRow rows line (Err why) after → IfKnown first (λ lines. ReadsRoster lines (Err why) new)
   ReadsRoster-refused after fault.Roster filled no_end adds =
       next first mid rows so_far (spoken filled)
       (λ lines left leaves taken. HasNoRoster-refused lines rows left line (commands_of taken.0) leaves taken.2 no_end adds)
@@ -68,7 +68,7 @@ module _ (first mid new : Source) (rows : List Row) (answer : NextLine) (line : 
   ReadsRoster-refused after fault.Write filled no_end adds = absurd adds
 
   -- `begin`, after a tenant
-  pub ReadsRoster-begin : IsRoster rows → list_all is_space line ≡ false → IsBegin line → IfKnown first (λ lines. ReadsRoster lines (Ok rows) new)
+  pub ReadsRoster-begin : IsRoster rows → list_all is_space line ≡ false → words line ≡ codes "begin" ∷ [] → IfKnown first (λ lines. ReadsRoster lines (Ok rows) new)
   ReadsRoster-begin roster filled begin =
       next first mid rows so_far (spoken filled)
       (λ lines left leaves taken. (taken.0, taken.1, HasRoster-read lines rows left line (commands_of taken.0) leaves taken.2 begin roster))

@@ -74,12 +74,8 @@ IsLong (reply.Proof steps) = Unit {0}
 IsLong (reply.Answered (Members names)) = Unit {0}
 IsLong _ = ⊥
 
--- the reply that was printed: this one, or that memory lacked for a long one
-abbrev pub IsPrinted : Reply → Reply → Type 0
-IsPrinted due told = (told ≡ due) ⊎ (IsLong due × (told ≡ reply.Refused Memory))
-
--- the bytes are the lines of the reply that was printed, each with this in front
-pub record IsFilled (front : List ℕ) (reply : Reply) (bytes : List ℕ) : Type 0 where
+-- the bytes are the lines of the reply that is due, or that memory lacked for a long one, each with this in front
+pub record IsFilled (front : List ℕ) (due : Reply) (bytes : List ℕ) : Type 0 where
   pub told : Reply
-  pub printed : IsPrinted reply told
+  pub printed : (told ≡ due) ⊎ (IsLong due × (told ≡ reply.Refused Memory))
   pub lines : bytes ≡ lines_after front told

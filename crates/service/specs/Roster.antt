@@ -30,16 +30,12 @@ pub record IsRow (line : List ℕ) (row : Row) : Type 0 where
   pub short : length row.word ≤ 64
   pub limits : IsLimits numbers row.limits
 
--- `begin`
-abbrev pub IsBegin : List ℕ → Type 0
-IsBegin line = words line ≡ codes "begin" ∷ []
-
 -- the lines are those of the rows, one each, then `begin`, and these follow
 abbrev pub HasRows : List Line → List Row → List Line → Type 0
 HasRows [] rows rest = ⊥
 HasRows (too_long ∷ lines) rows rest = ⊥
 HasRows (not_ascii ∷ lines) rows rest = ⊥
-HasRows (text line ∷ lines) [] rest = IsBegin line × (lines ≡ rest)
+HasRows (text line ∷ lines) [] rest = (words line ≡ codes "begin" ∷ []) × (lines ≡ rest)
 HasRows (text line ∷ lines) (row ∷ rows) rest = IsRow line row × HasRows lines rows rest
 
 -- the names of the tenants

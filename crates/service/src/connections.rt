@@ -2,8 +2,7 @@
 //! them to those that answer.
 ghost use Rattle.std.specs.Prelude.{◌≡◌, ◌*◌, ◌↔◌, min, IsTrue, IfErr, option_map};
 ghost use Rattle.std.specs.Duration.{as_nanos};
-ghost use Rattle.service.specs.Roster.{names_of};
-ghost use Rattle.service.specs.Served.{Answered, IsLasting};
+ghost use Rattle.service.specs.{Roster.names_of, Served.Answered, Served.IsLasting};
 
 use crate::faults::ServeFault;
 use crate::rosters::Roster;

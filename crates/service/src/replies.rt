@@ -1,14 +1,10 @@
 //! Replies: the room in which the lines of one are put together, and its lines. Only a vault, lists of names and a proof may
 //! take memory.
 ghost use Rattle.std.specs.Prelude.{◌≡◌, ◌≤◌, ◌+◌, ◌++◌, [], ◌∷◌, length, codes, map, vec_len, vec_capacity, decimal, IfOk, OnOk, OnErr};
-ghost use Rattle.std.specs.List.{flat_map};
-ghost use Rattle.std.specs.Io.KnownBytes.{Appends};
+ghost use Rattle.std.specs.{List.flat_map, Io.KnownBytes.Appends};
+ghost use Rattle.service.specs.Reply.{front_of, line_after, error_text, listed, seen_text, text_lines, lines_after, IsLong, IsFilled};
+ghost use Rattle.service.specs.{Refusal.refusal_number, Session.session_line, Written.WritesFront};
 ghost use Rattle.credential_text.specs.Spelling.{canonical};
-ghost use Rattle.service.specs.Refusal.{text_of, refusal_number};
-ghost use Rattle.service.specs.Reply.{front_of, line_after, error_text, listed, seen_text, text_lines, lines_after};
-ghost use Rattle.service.specs.Reply.{IsLong, IsFilled};
-ghost use Rattle.service.specs.Session.{session_line};
-ghost use Rattle.service.specs.Written.{WritesFront};
 
 use crate::refusals::{Refusal, fault_text};
 use credential_text::{Credential, write_credential};

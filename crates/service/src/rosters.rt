@@ -1,16 +1,12 @@
 //! Rosters: the tenants that an input begins with.
 ghost use Rattle.std.specs.Prelude.{◌≡◌, ◌≢◌, ◌↔◌, ◌∷◌, None, Some, map, get_or, true, IsTrue, IfOk, IfErr, OnOk, IfSome, IfNone};
-ghost use Rattle.std.specs.Io.KnownBytes.{Appends};
-ghost use Rattle.std.specs.List.{list_any, IsDistinct};
+ghost use Rattle.std.specs.{Io.KnownBytes.Appends, List.list_any, List.IsDistinct};
 ghost use Rattle.names.specs.Name.{IsName, is_same};
-ghost use Rattle.quotas.specs.Quota.{Quota};
-ghost use Rattle.hall.specs.Hall.{new_hall};
-ghost use Rattle.service.specs.Line.{commands_of};
-ghost use Rattle.service.specs.LineReader.{IfKnown};
+ghost use Rattle.{quotas.specs.Quota.Quota, hall.specs.Hall.new_hall};
+ghost use Rattle.service.specs.{Line.commands_of, LineReader.IfKnown, Words.words, Words.number_of};
 ghost use Rattle.service.specs.Roster as roster;
 ghost use Rattle.service.specs.Roster.{IsLimits, IsRow, IsTenant, names_of, tenant_of, AddsRow, ReadsRoster};
 ghost use Rattle.service.specs.Written.{TakesRoster, OpensWith};
-ghost use Rattle.service.specs.Words.{words, number_of};
 
 use crate::faults::ScriptFault;
 use crate::lines::{LineReader, NextLine};

@@ -1,10 +1,7 @@
 //! The service: connections that are answered, and the workers beside them.
 ghost use Rattle.std.specs.Prelude.{◌≡◌, ◌≤◌, ◌⊎◌, ◌↔◌, ◌++◌, Some, length, decimal, IsOk, IfOk, IfErr, OnOk, OnErr};
 ghost use Rattle.std.specs.Io.KnownBytes.{Appends};
-ghost use Rattle.service.specs.Roster.{names_of};
-ghost use Rattle.service.specs.Served.{Answered, ServeWrote};
-ghost use Rattle.service.specs.Session.{session_line};
-ghost use Rattle.service.specs.Written.{WritesFront};
+ghost use Rattle.service.specs.{Roster.names_of, Served.Answered, Served.ServeWrote, Session.session_line, Written.WritesFront};
 
 use crate::connections::answer_connections;
 use crate::faults::ServeFault;

@@ -1,11 +1,7 @@
 //! A session: the commands of one peer, each with its reply.
-ghost use Rattle.std.specs.Prelude.{◌≡◌, IfSome};
-ghost use Rattle.std.specs.Io.KnownBytes.{Appends};
-ghost use Rattle.service.specs.Command.{form_of};
-ghost use Rattle.service.specs.Line.{commands_of};
-ghost use Rattle.service.specs.Roster.{names_of};
+ghost use Rattle.std.specs.{Prelude.◌≡◌, Prelude.IfSome, Io.KnownBytes.Appends};
+ghost use Rattle.service.specs.{Command.form_of, Line.commands_of, Roster.names_of, Words.words};
 ghost use Rattle.service.specs.Session.{greeting_in, IsLetIn, IsCarriedOut, IsTold, SessionWrote};
-ghost use Rattle.service.specs.Words.{words};
 
 use crate::commands::{Command, read_command};
 use crate::conversations::{Flow, Host, SessionEnd, converse};
@@ -27,7 +23,6 @@ use std::sync::ledger::Ledger;
 #[derive(Drop)]
 struct Session<'a, L: Ledger, R> {
     rt: &'a R,
-    alloc: Global,
     desk: &'a Desk<L>,
     roster: &'a Roster,
     pass: Option<Pass<L>>,
@@ -100,7 +95,6 @@ pub fn serve_session<L: Ledger, R: Wait, I: Read + Drop, W: Write>(
     };
     let mut session = Session {
         rt,
-        alloc,
         desk,
         roster,
         pass: None,
@@ -140,7 +134,7 @@ impl<L: Ledger, R: Wait> Session<'_, L, R> {
     fn tell(&self, line: &[u8], pass: &mut Pass<L>, reply: &mut Room)
         ensures { IsTold pass.old (form_of line.now) reply.new pass.new }
     {
-        match read_command(self.alloc, line) {
+        match read_command(reply.alloc(), line) {
             Ok(command) => match self.carry_out(pass, command) {
                 Ok(told) => fill_reply(reply, &Speaker::Peer, &told),
                 Err(fault) => fill_error(reply, &Speaker::Peer, fault.number()),

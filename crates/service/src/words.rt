@@ -17,7 +17,10 @@ pub(crate) fn split_at_colon(line: &[u8]) -> Option<(&[u8], &[u8])>
     ensures after { IfSome result (λ parts. parts.1.now ≡ after_first is_colon line.now) }
 {
     let (name, command) = cut(line, b':');
-    Some((name, command?))
+    match command {
+        Some(command) => Some((name, command)),
+        None => None,
+    }
 }
 
 /// The first word and what stands after it, if there is a word.
