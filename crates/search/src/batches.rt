@@ -1,6 +1,6 @@
 //! Letters of one search that are taken in a row, looked up elsewhere, and handed in together.
 ghost use Rattle.std.specs.Prelude.{◌≡◌, ◌+◌, ◌++◌, ◌∷◌, ◌<◌, ◌≤◌, List, ℕ, [], length, map, vec_len, vec_capacity};
-ghost use Rattle.std.specs.Prelude.{MatchOption, IfOk};
+ghost use Rattle.std.specs.Prelude.{None, MatchOption, IfOk};
 ghost use Rattle.std.specs.List.{AllWithin};
 ghost use Rattle.std.specs.Arc.{arc_value};
 ghost use Rattle.search.specs.Batches.{IsLookedUpIn, taken_of, Visits, WorksUpTo, MakesStep, HandsInAs, HandsInEach};
@@ -161,6 +161,7 @@ impl Search {
         requires { IsLookedUp batch.now }
         ensures handed_in { (who : List ℕ) → (k : ℕ) → batch.now.of ≡ Some (who, k)
             → HandsInEach who k back self.old batch.now.letters result self.new }
+        ensures nothing { batch.now.of ≡ None → (self.new ≡ self.old) × (result ≡ 0) }
         ensures most { result ≤ length batch.now.letters }
     {
         match &batch.of {
