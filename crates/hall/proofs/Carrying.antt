@@ -5,7 +5,6 @@ use Rattle.std.specs.FinMap.{get}
 use Rattle.search.specs.Search.{SearchState, settled_of}
 use Rattle.search.specs.Stage.{IsQuiet}
 use Rattle.hall.specs.declared.faults.Fault.{Fault}
-use Rattle.hall.specs.declared.faults.Fault.TheVariants.{NoTenant, NoSuchSearch}
 use Rattle.hall.specs.declared.calls.answers.Answer.{Answer}
 use Rattle.hall.specs.declared.calls.requests.Request.TheVariants.{Poll}
 use Rattle.hall.specs.declared.calls.replies.Reply.TheVariants.{Answered, Refused}
@@ -19,9 +18,10 @@ use Rattle.hall.specs.Run.{waits}
 use Rattle.hall.specs.Hall.{Running, Tenant, HallState, search_of, search_at, with_search, step_name, step_search, StepsAt, IsStepped}
 use Rattle.hall.specs.Hall.{Drives, CarriesOut, IsServed, told_as}
 use Rattle.hall.specs.Visits.{TakenLetter, IsTaken, IsJobOrNone, SearchIsQuiet}
-use Rattle.hall.specs.Kept.{IsToldOf, DrivesTo, TakesJob}
+use Rattle.hall.specs.Kept.{IsNowhere, IsToldOf, DrivesTo, TakesJob}
 use Rattle.hall.proofs.Telling.{works}
-use Rattle.hall.proofs.Polled.{nobody_refused, polled_nowhere, polled_there}
+use Rattle.hall.proofs.Polled.{none_there, polled_there}
+use Rattle.hall.proofs.Viewed.{nowhere_polled}
 use Rattle.hall.proofs.Placed.{found_after, put_back}
 
 -- what becomes of a hall where its search of that number, if there is one, goes on so
@@ -40,11 +40,6 @@ moves_at h who k gone goes new o is =
     (λ (p : Option Running).
     MatchOption p (gone × (new ≡ h)) (λ r. (s : SearchState) × goes r.search s × (new ≡ with_search h who k (record r { search = s }))))
     (sym is)
-
--- where the name is no tenant's there is no such search
-pub nobody_moves : (h : HallState) (who : List ℕ) (k : ℕ) (gone : Type 0) (goes : SearchState → SearchState → Type 0) (new : HallState) →
-    get h.tenants who ≡ None → gone → new ≡ h → Moves h who k gone goes new
-nobody_moves h who k gone goes new none is same = moves_at h who k gone goes new None (ap (search_of k) none) (is, same)
 
 pub steps_as : (h : HallState) (made : Step) (who : List ℕ) (k : ℕ) → who ≡ step_name made → k ≡ step_search made → (answer : Stepped) (new : HallState) →
     Moves h who k (answer ≡ stepped.Gone) (λ s t. StepsSearch s made answer t) new → IsStepped h made answer new
@@ -67,8 +62,8 @@ module _ (h : HallState) (who : List ℕ) (k : ℕ) where
   none_driven : search_at h who k ≡ None → Drives h who k (search_at h who k) h
   none_driven none = subst (λ (o : Option Running). Drives h who k o h) (sym none) refl
 
-  pub nobody_driven : get h.tenants who ≡ None → CarriesOut h who (waits k) (Refused NoTenant) h
-  nobody_driven none = (h, none_driven (ap (search_of k) none), nobody_refused h who (Poll k) none)
+  pub nowhere_driven : (f : Fault) → IsNowhere k (get h.tenants who) f → CarriesOut h who (waits k) (Refused f) h
+  nowhere_driven f is = (h, none_driven (none_there h who k f is), nowhere_polled h who k f is)
 
   -- the search that is found is polled
   polled_at : (r : Running) → search_at h who k ≡ Some r → (told : Result Answer Fault) → IsToldOf (settled_of r.search) told →
@@ -92,36 +87,29 @@ module _ (h : HallState) (who : List ℕ) (k : ℕ) (new : HallState) where
       by (Some r) at (s, does, is) = there r s at does is
 
   -- a search that is driven, and told of
-  pub drives_as : (t : Tenant) → get h.tenants who ≡ Some t → (told : Result Answer Fault) →
-      Moves h who k (told ≡ Err NoSuchSearch) (λ s u. DrivesTo s told u) new → CarriesOut h who (waits k) (told_as Answered told) new
-  drives_as t here told moves =
-      moved (told ≡ Err NoSuchSearch) (λ s u. DrivesTo s told u) (CarriesOut h who (waits k) (told_as Answered told) new) moves
-      (λ none is same.
-      subst₂ (λ (a : Result Answer Fault) (g : HallState). CarriesOut h who (waits k) (told_as Answered a) g) (sym is) (sym same)
-      (h, none_driven h who k none, polled_nowhere h who k t here (sym (ap (search_of k) here) ∙ none)))
-      (λ r s at drives is. (
-        new,
-        subst (λ (o : Option Running). Drives h who k o new) (sym at) (
-          s,
-          drives.driven,
-          (drives.quiet, drives.sound),
-          (λ held. (drives.none_held held, λ nothing. drives.settled held (works s (sym (ap answer_of nothing))))),
-          is,
-        ),
-        subst (λ (g : HallState). IsServed g who (Poll k) (told_as Answered told) g) (sym is)
-            (polled_at (with_search h who k (record r { search = s })) who k (record r { search = s }) (found_after h who k r at (record r { search = s })) told drives.tells),
-      ))
+  module _ (r : Running) (at : search_at h who k ≡ Some r) (s : SearchState) (is : new ≡ with_search h who k (record r { search = s }))
+      (told : Result Answer Fault) (drives : DrivesTo r.search told s) where
+    pub drives_as : CarriesOut h who (waits k) (told_as Answered told) new
+    drives_as = (
+      new,
+      subst (λ (o : Option Running). Drives h who k o new) (sym at) (
+        s,
+        drives.driven,
+        (drives.quiet, drives.sound),
+        (λ held. (drives.none_held held, λ nothing. drives.settled held (works s (sym (ap answer_of nothing))))),
+        is,
+      ),
+      subst (λ (g : HallState). IsServed g who (Poll k) (told_as Answered told) g) (sym is)
+          (polled_at (with_search h who k (record r { search = s })) who k (record r { search = s }) (found_after h who k r at (record r { search = s })) told drives.tells),
+    )
 
-  pub drives_quiet : (told : Result Answer Fault) → Moves h who k (told ≡ Err NoSuchSearch) (λ s u. DrivesTo s told u) new → SearchIsQuiet new who k
-  drives_quiet told moves =
-      moved (told ≡ Err NoSuchSearch) (λ s u. DrivesTo s told u) (SearchIsQuiet new who k) moves
-      (λ none is same. subst (λ (g : HallState). SearchIsQuiet g who k) (sym same) (none_quiet h who k none))
-      (λ r s at drives is.
-      subst (λ (g : HallState). SearchIsQuiet g who k) (sym is)
-      (λ q found.
-      let now : Some (record r { search = s }) ≡ Some q = sym (found_after h who k r at (record r { search = s })) ∙ found in
-      let same : record r { search = s } ≡ q = cc in
-      subst (λ (x : Running). IsQuiet x.search.stage) same drives.quiet))
+    pub drives_quiet : SearchIsQuiet new who k
+    drives_quiet =
+        subst (λ (g : HallState). SearchIsQuiet g who k) (sym is)
+        (λ q found.
+        let now : Some (record r { search = s }) ≡ Some q = sym (found_after h who k r at (record r { search = s })) ∙ found in
+        let same : record r { search = s } ≡ q = cc in
+        subst (λ (x : Running). IsQuiet x.search.stage) same drives.quiet)
 
   -- a letter that is taken, with the job that it gives
   pub takes_as : {E : Type 0} (place : ℕ) (told : Result (Option TakenLetter) E) (job : Option TakenLetter) → told ≡ Ok job →

@@ -1,13 +1,8 @@
 -- A hall where a tenant became another one, and where one of its searches goes on.
 use Rattle.std.proofs.Common.{◌≡◌, ◌∙◌, ℕ, List, ap, sym, refl, subst₂, Option, Some, option_map}
 use Rattle.std.specs.Ordering.{nat_cmp}
-use Rattle.std.specs.FinMap.{FinMap, get, insert, from_entries}
-use Rattle.std.specs.Map.{lookup}
-use Rattle.names.specs.Name.{name_order, is_same}
-use Rattle.names.proofs.SameNames.{is_same_tied}
-use Rattle.indexmap.specs.IndexMap.{IndexMap, WritesThrough}
-use Rattle.indexmap.specs.IndexMap as table
-use Rattle.vaults.specs.declared.changes.Entry.{Entry}
+use Rattle.std.specs.FinMap.{FinMap, get, insert}
+use Rattle.names.specs.Name.{name_order}
 use Rattle.vaults.specs.Journal.{marked_view}
 use Rattle.vaults.proofs.Orders.{names_exact}
 use Rattle.hall.specs.declared.calls.requests.Request.{Request}
@@ -15,7 +10,6 @@ use Rattle.hall.specs.declared.calls.replies.Reply.{Reply}
 use Rattle.hall.specs.Account.{Account}
 use Rattle.hall.specs.Answers.{sight, Answers}
 use Rattle.hall.specs.Hall.{Running, Tenant, HallState, account, changed_by, with_tenant, with_search, search_of, search_at, hall_after, AnswersTo, IsServed}
-use Rattle.hall.proofs.Indexed.{looked_up, written}
 use Rattle.hall.proofs.Maps.{numbers_exact, get_inserted, insert_again, insert_twice}
 use Rattle.hall.proofs.laws.HallChanges.{changed_here, tenant_of}
 
@@ -73,23 +67,3 @@ module _ (h : HallState) (who : List ℕ) (k : ℕ) (r : Running) (at : search_a
       ∙ ap (λ (m : FinMap name_order Tenant). record h { tenants = m }) (insert_twice names_exact h.tenants who first both)
       ∙ ap (put h who) (ap (λ (m : FinMap nat_cmp Running). record t { searches = m }) (insert_twice numbers_exact t.searches k p q))
       ∙ put_changed h who t last found (λ v. record v { searches = insert v.searches k q }) refl
-
--- a tenant of a table of entries
-pub tenant_at : (es : List (List ℕ × Tenant)) (who : List ℕ) (o : Option Tenant) → o ≡ lookup (is_same who) es → get (from_entries {R = name_order} es) who ≡ o
-tenant_at es who o is = looked_up names_exact is_same is_same_tied es who ∙ sym is
-
--- a tenant of the table that is written to is put in its place
-pub tenant_put : {S : Type 0} (journal : List Entry) (m n : IndexMap (List ℕ) Tenant S) (who : List ℕ) (t u : Tenant) → Some t ≡ table.get is_same m who →
-    WritesThrough is_same (is_same who) m u n →
-    record { journal = journal; tenants = from_entries n.entries } ≡ put (record { journal = journal; tenants = from_entries m.entries }) who u
-tenant_put journal m n who t u found writes =
-    ap (λ (x : FinMap name_order Tenant). record { journal = journal; tenants = x })
-    (written names_exact is_same is_same_tied m n who t u (sym found) writes)
-
-abbrev pub hall_of : {S : Type 0} → List Entry → IndexMap (List ℕ) Tenant S → HallState
-hall_of journal m = record { journal = journal; tenants = from_entries m.entries }
-
--- a table that was left as it was
-pub table_left : {S : Type 0} (journal : List Entry) (m n : IndexMap (List ℕ) Tenant S) → n ≡ m →
-    ◌≡◌ {A = HallState} (record { journal = journal; tenants = from_entries n.entries }) (record { journal = journal; tenants = from_entries m.entries })
-table_left {S} journal m n same = ap (λ (x : IndexMap (List ℕ) Tenant S). hall_of journal x) same

@@ -12,8 +12,8 @@ use Rattle.hall.specs.declared.calls.replies.Reply.TheVariants.{Answered, Refuse
 use Rattle.vaults.specs.Journal.{marked_view}
 use Rattle.hall.specs.Account.{Account}
 use Rattle.hall.specs.Answers.{sight, Answers, refuses, grants, lacks}
-use Rattle.hall.specs.Hall.{Running, Tenant, HallState, seen, account, hall_after, AnswersTo, IsServed, told_as}
-use Rattle.hall.specs.Kept.{IsToldOf}
+use Rattle.hall.specs.Hall.{Running, Tenant, HallState, seen, account, search_of, search_at, hall_after, AnswersTo, IsServed, told_as}
+use Rattle.hall.specs.Kept.{IsNowhere, IsToldOf}
 use Rattle.hall.proofs.Maps.{numbers_exact, get_mapped}
 
 -- a refusal changes nothing
@@ -40,6 +40,14 @@ answered_by h who t here q told answers after = record {
   answers = subst (λ (o : Option Account). AnswersTo h who o q told o) (sym (ap (option_map (account h.journal who)) here)) (account h.journal who t, refl, answers);
   after = sym after;
 }
+
+-- what isn't found isn't there
+pub none_there : (h : HallState) (who : List ℕ) (k : ℕ) (f : Fault) → IsNowhere k (get h.tenants who) f → search_at h who k ≡ None
+none_there h who k f is = by (get h.tenants who) is
+  where
+    by : (o : Option Tenant) → IsNowhere k o f → search_of k o ≡ None
+    by None is = refl
+    by (Some t) (is, none) = none
 
 module _ (h : HallState) (who : List ℕ) (k : ℕ) (t : Tenant) (here : get h.tenants who ≡ Some t) where
   asked_there : (r : Running) → get t.searches k ≡ Some r → get (account h.journal who t).searches k ≡ Some (seen r)

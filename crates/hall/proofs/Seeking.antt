@@ -14,7 +14,7 @@ use Rattle.hall.specs.Steps.{just_opened}
 use Rattle.hall.specs.Account.{Asked, seek_refusal}
 use Rattle.hall.specs.Answers.{opened, refuses, grants, lacks}
 use Rattle.hall.specs.Hall.{Running, Tenant, HallState, seen, account, beginning, IsServed, told_as}
-use Rattle.hall.proofs.Maps.{numbers_exact, get_mapped, mapped_insert, mapped_remove}
+use Rattle.hall.proofs.Maps.{numbers_exact, get_removed, get_mapped, mapped_insert, mapped_remove}
 use Rattle.hall.proofs.SearchSteps.{nothing_yet}
 use Rattle.hall.proofs.Polled.{answered_by}
 use Rattle.hall.proofs.Placed.{put, put_changed, put_again, served_as}
@@ -82,6 +82,12 @@ module _ (h : HallState) (who : List ℕ) (t u : Tenant) (here : get h.tenants w
       unmoved (Close k) (Refused f)
       (answered_by h who t here (Close k) (Refused f)
       (refuses f (get_mapped numbers_exact seen t.searches k ∙ ap (option_map seen) refused.1, refused.0)) refl) unchanged
+
+-- a search that is ended, or wasn't there, isn't there any more
+pub ended_is_gone : (t u : Tenant) (k : ℕ) (r : Result (Unit {0}) Fault) → OnOk r (u ≡ closing k t) → IfErr r (λ f. (f ≡ NoSuchSearch) × (get t.searches k ≡ None)) → OnErr r (u ≡ t) →
+    get u.searches k ≡ None
+ended_is_gone t u k (Ok done) is refused unchanged = ap (λ (v : Tenant). get v.searches k) is ∙ get_removed numbers_exact t.searches k
+ended_is_gone t u k (Err f) is refused unchanged = ap (λ (v : Tenant). get v.searches k) unchanged ∙ refused.1
 
 -- what holds of the number that is answered holds of the one that is told
 pub entered : (r : Result ℕ Fault) (P : ℕ → Type 0) → IfOk r P → (n : ℕ) → told_as Opened r ≡ Opened n → P n

@@ -39,8 +39,8 @@ module _ (who : List ℕ) (k : ℕ) (s : SearchState) (done : IsCompleted s.stag
   takes_none E place sound = (ap (λ ls. slice_get ls place) (waits_none s.stage done), refl, sound)
 
 module _ (h : HallState) (who : List ℕ) (k : ℕ) where
-  pub none_there : search_at h who k ≡ None → NoneIsCompletedAt h who k
-  none_there none s is = let clash : Some is.running ≡ None = sym is.there ∙ none in cc
+  pub nothing_there : search_at h who k ≡ None → NoneIsCompletedAt h who k
+  nothing_there none s is = let clash : Some is.running ≡ None = sym is.there ∙ none in cc
 
   -- nothing of it is left to do
   pub quiet_there : (r : Running) → search_at h who k ≡ Some r → IsCompleted r.search.stage → SearchIsQuiet h who k

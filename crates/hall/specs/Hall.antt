@@ -39,10 +39,14 @@ pub record Tenant : Type 0 where
   pub opens : ℕ
   pub searches : FinMap nat_cmp Running
 
--- the journal, and the tenants by name
+-- the tenants by name
+abbrev pub Tenants : Type 0
+Tenants = FinMap name_order Tenant
+
+-- the journal, and the tenants
 pub record HallState : Type 0 where
   pub journal : List Entry
-  pub tenants : FinMap name_order Tenant
+  pub tenants : Tenants
 
 -- a search as its asker knows it
 abbrev pub seen : Running → Asked

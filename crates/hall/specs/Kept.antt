@@ -10,12 +10,17 @@ use Rattle.search.specs.Stage.{waiting_in, signals_in, IsQuiet, NoneHeld}
 use Rattle.search.specs.Driven.{IsDriven}
 use Rattle.search.specs.Batches.{TakenLetter, TakesAs}
 use Rattle.hall.specs.declared.faults.Fault.{Fault}
-use Rattle.hall.specs.declared.faults.Fault.TheVariants.{Memory}
+use Rattle.hall.specs.declared.faults.Fault.TheVariants.{NoTenant, NoSuchSearch, Memory}
 use Rattle.hall.specs.declared.calls.answers.Answer.{Answer}
 use Rattle.hall.specs.declared.calls.steps.Step.{Step}
 use Rattle.hall.specs.declared.calls.steps.Step.TheVariants.{Take, Signal}
 use Rattle.hall.specs.Answers.{answer_of}
 use Rattle.hall.specs.Hall.{Running, Tenant, HallState, IsSound}
+
+-- why no search of that number is found
+abbrev pub IsNowhere : ℕ → Option Tenant → Fault → Type 0
+IsNowhere k None f = f ≡ NoTenant
+IsNowhere k (Some t) f = (f ≡ NoSuchSearch) × (get t.searches k ≡ None)
 
 -- it lists members
 abbrev pub ListsMembers : Settled → Type 0

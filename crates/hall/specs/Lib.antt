@@ -9,3 +9,4 @@ pub mod Laws
 pub mod Visits
 pub mod Steps
 pub mod Kept
+pub mod Lending

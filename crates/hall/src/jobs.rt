@@ -29,39 +29,10 @@ impl Model for Job {
 }
 
 impl Job {
-    /// Whose search it is.
-    pub fn who(&self) -> &Entity
-        ensures { result.now ≡ self.now.who }
-    {
-        &self.who
-    }
-
-    /// The number of the search.
-    pub fn number(&self) -> u64
-        ensures { result ≡ self.now.number }
-    {
-        self.number
-    }
-
-    /// The number of the letter.
-    pub fn letter(&self) -> u64
-        ensures { result ≡ self.now.letter }
-    {
-        self.task.letter
-    }
-
     /// What the letter needs, by the snapshot of its search.
     pub fn look_up(&self) -> Hint
         ensures { result ≡ right_hint self.now.snapshot.vaults self.now.need }
     {
         self.task.need.look_up(&self.task.snap)
-    }
-
-    /// The letter alone.
-    pub(crate) fn into_letter(self) -> (Entity, u64, u64)
-        ensures { result ≡ (self.who, self.number, self.letter) }
-    {
-        let Job { who, number, task } = self;
-        (who, number, task.letter)
     }
 }

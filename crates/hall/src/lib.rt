@@ -17,6 +17,7 @@ mod registry;
 mod run_laws;
 mod running;
 mod seats;
+mod tenants;
 #[cfg(test)]
 mod tests;
 

@@ -1,22 +1,19 @@
 //! A search that was opened and not ended: its steps, what one of its tenant's calls does to it, and what is told of it.
 ghost use Rattle.std.specs.Prelude.{◌≡◌, MatchOption};
-ghost use Rattle.search.specs.Stage.{IsQuiet};
-ghost use Rattle.search.specs.Search.{SearchState, IsCompleted, Settles};
+ghost use Rattle.search.specs.{Stage.IsQuiet, Search.SearchState, Search.IsCompleted, Search.Settles};
 ghost use Rattle.search.specs.Carried.{IsCarried, carried_search};
 ghost use Rattle.hall.specs.declared.calls.requests.Request.TheVariants as request;
 ghost use Rattle.hall.specs.declared.calls.replies.Reply.TheVariants as reply;
 ghost use Rattle.hall.specs.Hall.{IsToldOver, told_as};
-ghost use Rattle.hall.specs.Kept.{DrivesTo, IsToldOf, TakesJob, IsNext};
-ghost use Rattle.hall.specs.Steps.{settled_of, IsMade};
+ghost use Rattle.hall.specs.{Kept.DrivesTo, Kept.IsToldOf, Kept.IsNext, Steps.settled_of, Steps.IsMade};
 
 use crate::calls::{Answer, Step, Stepped};
 use crate::faults::Fault;
-use crate::jobs::Job;
 use crate::lists::Names;
 use names::Entity;
 use proof_trees::Proof;
 use search::{Carried, Finished, Search, Status};
-use std::alloc::{AllocError, Global};
+use std::alloc::Global;
 use std::marker::Model;
 
 /// A search, with the journal's length at its opening.
@@ -77,23 +74,6 @@ pub(crate) fn drive(carried: &mut Carried) -> Result<Answer, Fault>
     let search = carried.search();
     search.kept();
     told_of(search)
-}
-
-/// Takes the waiting letter at a place of the tenant's search of the number.
-pub(crate) fn take(
-    search: &mut Search,
-    who: Entity,
-    number: u64,
-    place: u64,
-) -> Result<Option<Job>, AllocError>
-    ensures { TakesJob who number place search.old result search.new }
-{
-    let task = search.take(place)?;
-    search.kept();
-    let Some(task) = task else {
-        return Ok(None);
-    };
-    Ok(Some(Job { who, number, task }))
 }
 
 /// The step that goes on with the tenant's search of the number, if there is one: the oldest signal first.

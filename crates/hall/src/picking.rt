@@ -1,7 +1,6 @@
 //! Which searches of a hall may still go on, and which of them has its turn.
 ghost use Rattle.std.specs.Prelude.{◌≡◌, ◌≤◌, ◌↔◌, None, IfSome, OnOk};
-ghost use Rattle.search.specs.Search.{IsSoundStage};
-ghost use Rattle.hall.specs.Hall.{step_name, step_search};
+ghost use Rattle.{search.specs.Search.IsSoundStage, hall.specs.Hall.step_name, hall.specs.Hall.step_search};
 ghost use Rattle.hall.specs.Visits.{SearchIsQuiet, NothingToDo, CanBeMade};
 ghost use Rattle.hall.specs.Kept.{IsUnsettled, Lists, KeepsBut};
 

@@ -1,20 +1,17 @@
 //! The hall of all tenants.
 ghost use Rattle.std.specs.Prelude.{◌≡◌, IfOk, IfErr, OnErr, is_some, option_copied, option_map, map, length};
-ghost use Rattle.std.specs.FinMap.{get};
-ghost use Rattle.std.specs.List.{IsDistinct};
-ghost use Rattle.names.specs.Name.{is_same};
+ghost use Rattle.{std.specs.FinMap.get, std.specs.List.IsDistinct, names.specs.Name.is_same};
 ghost use Rattle.hall.specs.declared.calls.requests.Request.TheVariants as request;
 ghost use Rattle.hall.specs.declared.calls.replies.Reply.TheVariants as reply;
-ghost use Rattle.hall.specs.Hall.{IsSound, IsServed, IsStepped, CarriesOut, told_as, new_tenant, new_hall, search_at};
+ghost use Rattle.hall.specs.Hall.{IsSound, IsServed, IsStepped, CarriesOut, told_as, new_hall, search_at};
 
 use crate::calls::{Answer, Step, Stepped};
 use crate::faults::Fault;
 use crate::jobs::Job;
 use crate::lists::{Rows, Sights};
-use crate::opened::{drive, make, proof_of, take, told_of, unmoved};
+use crate::opened::{drive, make, proof_of, told_of, unmoved};
 use crate::picking::{Busy, leave, settle};
-use crate::running::same_change;
-use crate::seats::Seat;
+use crate::tenants::Tenants;
 use indexmap::IndexMap;
 use names::Entity;
 use proof_trees::Proof;
@@ -30,14 +27,13 @@ use vaults::{Book, Change};
 pub struct Hall {
     pub(crate) alloc: Global,
     book: Book,
-    tenants: IndexMap<Entity, Seat>,
+    tenants: Tenants,
     pub(crate) busy: Busy,
 }
 
 impl Model for Hall {
     ghost use Rattle.std.specs.Coded.{codes};
     ghost use Rattle.std.specs.FinMap as fin;
-    ghost use Rattle.std.specs.FinMap.{from_entries};
     ghost use Rattle.search.specs.contracts.stages.Stage as running;
     ghost use Rattle.search.specs.contracts.findings.Monitor as memory;
     ghost use Rattle.hall.specs.Hall.{HallState};
@@ -47,16 +43,15 @@ impl Model for Hall {
 
     ghost coded = { Prim.hlevel (codes, fin.code, running.the_row.coded, memory.the_row.coded) };
 
-    ghost view = { λ h. record { journal = h.book; tenants = from_entries h.tenants.entries } };
+    ghost view = { λ h. record { journal = h.book; tenants = h.tenants } };
 
-    ghost invariant = { λ h. IsIndexed h.busy (record { journal = h.book; tenants = from_entries h.tenants.entries }) };
+    ghost invariant = { λ h. IsIndexed h.busy (record { journal = h.book; tenants = h.tenants }) };
 }
 
 impl Hall {
     ghost use Rattle.hall.specs.declared.calls.steps.Step.TheVariants as step;
     ghost use Rattle.std.specs.Prelude.{◌≤◌, MatchOption};
-    ghost use Rattle.std.specs.Arc.{arc_value};
-    ghost use Rattle.hall.specs.Run.{waits};
+    ghost use Rattle.{std.specs.Arc.arc_value, hall.specs.Run.waits};
     ghost use Rattle.search.specs.Batches.{IsEmpty, IsLookedUp, AreOf};
     ghost use Rattle.hall.specs.Visits.{IsTaken, IsVisited, AreHandedIn, SearchIsQuiet, IsCompletedAt, NoneIsCompletedAt};
 
@@ -69,7 +64,7 @@ impl Hall {
         Ok(Hall {
             alloc,
             book: Book::new(alloc),
-            tenants: seated(alloc, &roster)?,
+            tenants: Tenants::new(alloc, &roster)?,
             busy: IndexMap::new(alloc),
         })
     }
@@ -78,7 +73,7 @@ impl Hall {
     pub fn has(&self, who: Entity) -> bool
         ensures { result ≡ is_some (get self.now.tenants who) }
     {
-        self.tenants.contains_key(&who)
+        self.tenants.seat(who).is_ok()
     }
 
     /// How many changes were accepted in all.
@@ -96,7 +91,7 @@ impl Hall {
     pub fn change(&mut self, who: Entity, change: Change) -> Result<u64, Fault>
         ensures served { IsServed self.old who (request.Alter change) (told_as reply.Counted result) self.new }
     {
-        let seat = self.tenants.get(&who).ok_or(Fault::NoTenant)?;
+        let seat = self.tenants.seat(who)?;
         seat.may_alter(&self.book, &who, &change)?;
         Ok(self.book.change(who, change)?)
     }
@@ -105,11 +100,11 @@ impl Hall {
     pub(crate) fn alter(&mut self, who: Entity, change: &Change) -> Result<u64, Fault>
         ensures served { IsServed self.old who (request.Alter change.now) (told_as reply.Counted result) self.new }
     {
-        let seat = self.tenants.get(&who).ok_or(Fault::NoTenant)?;
+        let seat = self.tenants.seat(who)?;
         seat.may_alter(&self.book, &who, change)?;
         match self.book.refusal_of(&who, change) {
             Some(fault) => Err(Fault::from(fault)),
-            None => self.change(who, same_change(change)?),
+            None => self.change(who, change.try_clone()?),
         }
     }
 
@@ -118,7 +113,7 @@ impl Hall {
     pub fn open(&mut self, who: Entity, query: Query) -> Result<u64, Fault>
         ensures served { IsServed self.old who (request.Seek query) (told_as reply.Opened result) self.new }
     {
-        let seat = self.tenants.get_mut(&who).ok_or(Fault::NoTenant)?;
+        let seat = self.tenants.seat_mut(who)?;
         seat.open(self.alloc, &mut self.book, &mut self.busy, who, query)
     }
 
@@ -126,7 +121,7 @@ impl Hall {
     pub fn poll(&self, who: Entity, number: u64) -> Result<Answer, Fault>
         ensures served { IsServed self.now who (request.Poll number) (told_as reply.Answered result) self.now }
     {
-        let _seat = self.tenants.get(&who).ok_or(Fault::NoTenant)?;
+        let _seat = self.tenants.seat(who)?;
         let search = self.search(who, number).ok_or(Fault::NoSuchSearch)?;
         told_of(search)
     }
@@ -136,7 +131,7 @@ impl Hall {
     pub fn proof(&self, who: Entity, number: u64, member: Entity) -> Result<Proof, Fault>
         ensures served { IsServed self.now who (request.Proof number member) (told_as reply.Proof result) self.now }
     {
-        let _seat = self.tenants.get(&who).ok_or(Fault::NoTenant)?;
+        let _seat = self.tenants.seat(who)?;
         let search = self.search(who, number).ok_or(Fault::NoSuchSearch)?;
         proof_of(self.alloc, search, &member)
     }
@@ -145,18 +140,16 @@ impl Hall {
     pub fn end(&mut self, who: Entity, number: u64) -> Result<(), Fault>
         ensures served { IsServed self.old who (request.Close number) (told_as (λ u. reply.Closed) result) self.new }
     {
-        let seat = self.tenants.get_mut(&who).ok_or(Fault::NoTenant)?;
+        let seat = self.tenants.seat_mut(who)?;
         leave(&mut self.busy, who, number);
-        let ended = seat.searches.swap_remove(&number);
-        let _ended = ended.ok_or(Fault::NoSuchSearch)?;
-        Ok(())
+        seat.end(number)
     }
 
     /// The credentials that the tenant issues and holds, in order.
     pub fn vault(&mut self, who: Entity) -> Result<Rows, Fault>
         ensures served { IsServed self.old who request.Vault (told_as reply.Vault result) self.new }
     {
-        let _seat = self.tenants.get(&who).ok_or(Fault::NoTenant)?;
+        let _seat = self.tenants.seat(who)?;
         let rows = self.book.copy_of_vault(who)?;
         Ok(Rows::new(rows))
     }
@@ -166,7 +159,7 @@ impl Hall {
     pub fn sees(&self, who: Entity) -> Result<Sights, Fault>
         ensures served { IsServed self.now who request.Sees (told_as reply.Sees result) self.now }
     {
-        let _seat = self.tenants.get(&who).ok_or(Fault::NoTenant)?;
+        let _seat = self.tenants.seat(who)?;
         let seen = self.book.owners_read_by(who)?;
         Ok(Sights::new(seen))
     }
@@ -177,10 +170,7 @@ impl Hall {
         ensures { IsStepped self.old step result self.new }
     {
         let (who, number) = step.search();
-        let Some(seat) = self.tenants.get_mut(&who) else {
-            return Stepped::Gone;
-        };
-        let Some(opened) = seat.searches.get_mut(&number) else {
+        let Ok(opened) = self.tenants.opened_mut(who, number) else {
             return Stepped::Gone;
         };
         let Carried::Own(search) = &mut opened.carried else {
@@ -197,16 +187,18 @@ impl Hall {
         ensures only_memory { IfErr result (λ f. f ≡ Fault.Memory) }
         ensures unchanged { OnErr result (self.new ≡ self.old) }
     {
-        let Some(seat) = self.tenants.get_mut(&who) else {
-            return Ok(None);
-        };
-        let Some(opened) = seat.searches.get_mut(&number) else {
+        let Ok(opened) = self.tenants.opened_mut(who, number) else {
             return Ok(None);
         };
         let Carried::Own(search) = &mut opened.carried else {
             return Ok(None);
         };
-        Ok(take(search, who, number, place)?)
+        let task = search.take(place)?;
+        search.kept();
+        let Some(task) = task else {
+            return Ok(None);
+        };
+        Ok(Some(Job { who, number, task }))
     }
 
     /// Makes up to so many steps of the tenant's search of the number, one after another: delivers the oldest signal, or
@@ -227,10 +219,7 @@ impl Hall {
         ensures looked { batch.new.looked ≡ 0 }
         ensures room { batch.new.room ≡ batch.old.room }
     {
-        let Some(seat) = self.tenants.get_mut(&who) else {
-            return Ok(());
-        };
-        let Some(opened) = seat.searches.get_mut(&number) else {
+        let Ok(opened) = self.tenants.opened_mut(who, number) else {
             return Ok(());
         };
         let Carried::Own(search) = &mut opened.carried else {
@@ -266,10 +255,7 @@ impl Hall {
         ensures handed_in { AreHandedIn back self.old batch.now.letters result self.new }
         ensures most { result ≤ length batch.now.letters }
     {
-        let Some(seat) = self.tenants.get_mut(&who) else {
-            return 0;
-        };
-        let Some(opened) = seat.searches.get_mut(&number) else {
+        let Ok(opened) = self.tenants.opened_mut(who, number) else {
             return 0;
         };
         let Carried::Own(search) = &mut opened.carried else {
@@ -284,16 +270,16 @@ impl Hall {
     pub fn finish(&mut self, job: Job, hint: Hint) -> Stepped
         ensures { IsStepped self.old (step.Finish job.who job.number job.letter hint) result self.new }
     {
-        let (who, number, letter) = job.into_letter();
-        self.step(Step::Finish(who, number, letter, hint))
+        let Job { who, number, task } = job;
+        self.step(Step::Finish(who, number, task.letter, hint))
     }
 
     /// Lets the letter of the job wait again.
     pub fn give_back(&mut self, job: Job) -> Stepped
         ensures { IsStepped self.old (step.GiveBack job.who job.number job.letter) result self.new }
     {
-        let (who, number, letter) = job.into_letter();
-        self.step(Step::GiveBack(who, number, letter))
+        let Job { who, number, task } = job;
+        self.step(Step::GiveBack(who, number, task.letter))
     }
 
     /// Carries the tenant's search of the number on until nothing more of it can be, and tells what it has come to. The
@@ -302,8 +288,7 @@ impl Hall {
         ensures driven { CarriesOut self.old who (waits number) (told_as reply.Answered result) self.new }
         ensures quiet { SearchIsQuiet self.new who number }
     {
-        let seat = self.tenants.get_mut(&who).ok_or(Fault::NoTenant)?;
-        let opened = seat.searches.get_mut(&number).ok_or(Fault::NoSuchSearch)?;
+        let opened = self.tenants.opened_mut(who, number)?;
         let told = drive(&mut opened.carried);
         settle(&mut self.busy, who, number, opened.carried.search());
         told
@@ -313,9 +298,10 @@ impl Hall {
     pub fn search(&self, who: Entity, number: u64) -> Option<&Search>
         ensures { option_copied result ≡ option_map (λ r. r.search) (search_at self.now who number) }
     {
-        let seat = self.tenants.get(&who)?;
-        let opened = seat.searches.get(&number)?;
-        Some(opened.carried.search())
+        let Ok(seat) = self.tenants.seat(who) else {
+            return None;
+        };
+        Some(seat.searches.get(&number)?.carried.search())
     }
 
     /// The tenant's search of the number, shared, where there is one that is completed. Nothing changes it again, so who has it
@@ -325,10 +311,7 @@ impl Hall {
             (λ shared. IsCompletedAt self.old who number (arc_value shared))) }
         ensures same { self.new ≡ self.old }
     {
-        let Some(seat) = self.tenants.get_mut(&who) else {
-            return Ok(None);
-        };
-        let Some(opened) = seat.searches.get_mut(&number) else {
+        let Ok(opened) = self.tenants.opened_mut(who, number) else {
             return Ok(None);
         };
         if !opened.carried.search().is_completed() {
@@ -336,16 +319,4 @@ impl Hall {
         }
         Ok(Some(opened.carried.lend(self.alloc)?))
     }
-}
-
-/// A seat for each tenant of the roster.
-fn seated(alloc: Global, roster: &[(Entity, Limits)]) -> Result<IndexMap<Entity, Seat>, AllocError>
-    requires { IsDistinct is_same (map (λ row. row.0) roster.now) }
-    ensures { IfOk result (λ seats. seats.entries ≡ map (λ row. (row.0, new_tenant row.1)) roster.now) }
-{
-    let mut seats = IndexMap::new(alloc);
-    for (name, limits) in roster {
-        seats.insert(*name, Seat::new(alloc, *limits))?;
-    }
-    Ok(seats)
 }

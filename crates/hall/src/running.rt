@@ -1,6 +1,5 @@
 //! What happens to a hall, one event after another.
-ghost use Rattle.std.specs.Prelude.{◌≡◌, ℕ, false, List, IfOk, IfErr, OnErr};
-ghost use Rattle.vaults.specs.Journal.{revokes};
+ghost use Rattle.std.specs.Prelude.{◌≡◌, ℕ, List, IfOk, IfErr, OnErr};
 ghost use Rattle.hall.specs.declared.calls.requests.Request.TheVariants as request;
 ghost use Rattle.hall.specs.declared.calls.replies.Reply.TheVariants as reply;
 ghost use Rattle.hall.specs.Run.{any_time, told_in, told_to, IsRunOf};
@@ -10,8 +9,6 @@ use crate::calls::{Event, Reply, Request};
 use crate::faults::Fault;
 use crate::registry::Hall;
 use names::Entity;
-use std::alloc::AllocError;
-use vaults::Change;
 
 impl Hall {
     /// Lets the events happen one after another, and answers a reply for each. Room for the replies is taken first.
@@ -70,19 +67,4 @@ impl Hall {
             Request::Proof(number, member) => Reply::Proof(self.proof(who, *number, *member)?),
         })
     }
-}
-
-/// The same change again. A revocation is copied without memory.
-pub(crate) fn same_change(change: &Change) -> Result<Change, AllocError>
-    ensures copy { IfOk result (λ copy. copy ≡ change.now) }
-    ensures memory { OnErr result (revokes change.now ≡ false) }
-{
-    Ok(match change {
-        Change::Upload(credential) => Change::Upload(credential.try_clone()?),
-        Change::Withdraw(credential) => Change::Withdraw(credential.try_clone()?),
-        Change::Grant(reader) => Change::Grant(*reader),
-        Change::Revoke(reader) => Change::Revoke(*reader),
-        Change::GrantAll => Change::GrantAll,
-        Change::RevokeAll => Change::RevokeAll,
-    })
 }

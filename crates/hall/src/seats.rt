@@ -1,11 +1,9 @@
 //! A tenant's seat: its limits, and the searches that it has opened and not ended.
-ghost use Rattle.std.specs.Prelude.{◌≡◌, ◌+◌, ◌<◌, None, Some, length, unwrap_or, option_map, IfOk, IfErr, OnOk, OnErr};
-ghost use Rattle.std.specs.FinMap.{insert, len};
+ghost use Rattle.std.specs.Prelude.{◌≡◌, ◌≢◌, ◌+◌, ◌<◌, None, Some, length, unwrap_or, option_map, IfOk, IfErr, OnOk, OnErr};
+ghost use Rattle.std.specs.FinMap.{get, insert, remove, len};
 ghost use Rattle.vaults.specs.Journal.{entries_of, vault, grant_count, refusal, view};
-ghost use Rattle.hall.specs.Fault.{vault_fault};
 ghost use Rattle.hall.specs.declared.faults.Fault.TheVariants as faults;
-ghost use Rattle.hall.specs.Steps.{just_opened};
-ghost use Rattle.hall.specs.Account.{alter_refusal, seek_refusal};
+ghost use Rattle.hall.specs.{Fault.vault_fault, Account.alter_refusal, Account.seek_refusal};
 ghost use Rattle.hall.specs.Hall.{account, beginning, new_tenant};
 ghost use Rattle.hall.specs.Kept.{Lists, KeepsBut};
 
@@ -31,9 +29,8 @@ pub(crate) struct Seat {
 }
 
 impl Model for Seat {
-    ghost use Rattle.std.specs.Coded.{codes};
+    ghost use Rattle.std.specs.{Coded.codes, FinMap.from_entries};
     ghost use Rattle.std.specs.FinMap as fin;
-    ghost use Rattle.std.specs.FinMap.{from_entries};
     ghost use Rattle.search.specs.contracts.stages.Stage as running;
     ghost use Rattle.search.specs.contracts.findings.Monitor as memory;
     ghost use Rattle.hall.specs.Hall.{Tenant};
@@ -99,13 +96,24 @@ impl Seat {
         let used = self.used(book, &who);
         self.limits.may_search(&used)?;
         self.limits.may_open(&used)?;
-        let carried = Carried::Own(begin(alloc, book, who, query, self.limits.work())?);
         let number = self.opens + 1;
-        let opened_at = book.journal_len();
         enter(busy, who, number)?;
-        self.searches.insert(number, Opened { opened_at, carried })?;
+        self.searches.insert(number, begin(alloc, book, who, query, self.limits.work())?)?;
         self.opens = number;
         Ok(number)
+    }
+
+    /// Ends the search of the number. Where there is none the refusal is 51.
+    pub(crate) fn end(&mut self, number: u64) -> Result<(), Fault>
+        ensures there { OnOk result (get self.old.searches number ≢ None) }
+        ensures ended { OnOk result (self.new ≡ record self.old { searches = remove self.old.searches number }) }
+        ensures refused { IfErr result (λ f. (f ≡ faults.NoSuchSearch) × (get self.old.searches number ≡ None)) }
+        ensures unchanged { OnErr result (self.new ≡ self.old) }
+    {
+        let Some(_ended) = self.searches.swap_remove(&number) else {
+            return Err(Fault::NoSuchSearch);
+        };
+        Ok(())
     }
 
     /// What the tenant uses of its limits, by its account.
@@ -134,12 +142,16 @@ fn begin(
     who: Entity,
     query: Query,
     work: u64,
-) -> Result<Search, Fault>
+) -> Result<Opened, Fault>
     requires { 0 < work }
-    ensures begun { IfOk result (λ search. search ≡ just_opened who (view book.old who) query work) }
+    ensures begun { IfOk result (λ opened. opened ≡ beginning book.old who query work) }
     ensures only_memory { IfErr result (λ f. f ≡ Fault.Memory) }
     ensures same { book.new ≡ book.old }
 {
     let snapshot = Arc::new(alloc, Snapshot::take(alloc, book, who)?)?;
-    Ok(Search::open(alloc, snapshot, query, work)?)
+    let carried = Carried::Own(Search::open(alloc, snapshot, query, work)?);
+    Ok(Opened {
+        opened_at: book.journal_len(),
+        carried,
+    })
 }

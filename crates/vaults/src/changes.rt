@@ -1,7 +1,8 @@
-ghost use Rattle.std.specs.Prelude.{◌≡◌};
+ghost use Rattle.std.specs.Prelude.{◌≡◌, false, IfOk, OnErr};
 
 use credential_text::Credential;
 use names::Entity;
+use std::alloc::AllocError;
 
 /// A change that a tenant makes to its own vault, or to who may read it.
 #[derive(Drop)]
@@ -21,8 +22,24 @@ pub enum Change {
 }
 
 impl Change {
+    ghost use Rattle.vaults.specs.Journal.{revokes};
     ghost use Rattle.vaults.specs.Kept.{kind_of};
     ghost use Rattle.vaults.specs.Owed.{gives};
+
+    /// The same change again. A revocation is copied without memory.
+    pub fn try_clone(&self) -> Result<Change, AllocError>
+        ensures copy { IfOk result (λ copy. copy ≡ self.now) }
+        ensures memory { OnErr result (revokes self.now ≡ false) }
+    {
+        Ok(match self {
+            Change::Upload(credential) => Change::Upload(credential.try_clone()?),
+            Change::Withdraw(credential) => Change::Withdraw(credential.try_clone()?),
+            Change::Grant(reader) => Change::Grant(*reader),
+            Change::Revoke(reader) => Change::Revoke(*reader),
+            Change::GrantAll => Change::GrantAll,
+            Change::RevokeAll => Change::RevokeAll,
+        })
+    }
 
     /// The number of its kind.
     pub(crate) fn kind(&self) -> u8

@@ -36,8 +36,9 @@ fn change_of(word: &str, name: &str, body: &str) -> Result<Change, Fail> {
 /// change is tried again, so that a test sees that the refusal changed nothing.
 fn answer(book: &mut Book, who: &str, word: &str, name: &str, body: &str) -> Result<u64, Fail> {
     let who = entity(who)?;
-    let told = match book.change(who, change_of(word, name, body)?) {
-        Err(VaultFault::Memory) => book.change(who, change_of(word, name, body)?),
+    let change = change_of(word, name, body)?;
+    let told = match book.change(who, change.try_clone()?) {
+        Err(VaultFault::Memory) => book.change(who, change),
         told => told,
     };
     Ok(match told {

@@ -33,7 +33,7 @@ fn goes_back(hall: &mut Hall, a: Entity) -> Result<bool, Fail> {
 /// Whether it is the first letter of A's first search, and is finished by what is looked up for it.
 fn goes_through(hall: &mut Hall, a: Entity) -> Result<bool, Fail> {
     let job = taken(hall, a)?;
-    let is_first = *job.who() == a && job.number() == 1 && job.letter() == 1;
+    let is_first = job.who == a && job.number == 1 && job.task.letter == 1;
     let hint = job.look_up();
     Ok(matches!(hall.finish(job, hint), Stepped::Done) && is_first)
 }

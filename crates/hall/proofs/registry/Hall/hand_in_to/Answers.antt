@@ -1,91 +1,75 @@
-use Rattle.std.proofs.Common.{◌≡◌, ◌∙◌, [], Some, None, ap, sym, subst}
-use Rattle.std.specs.FinMap.{get}
+use Rattle.std.proofs.Common.{◌≡◌, ◌∙◌, [], arith, Some, ap, sym, subst, refl}
 use Rattle.search.specs.Carried.{carried_search}
 use Rattle.search.specs.Batches.{HandsInEach}
-use Rattle.hall.specs.Hall.{Running, HallState, search_of}
+use Rattle.hall.specs.Hall.{Running, HallState, search_at}
 use Rattle.hall.specs.Visits.{AreHandedIn}
 use Rattle.hall.specs.Kept.{IsIndexed}
-use Rattle.hall.proofs.Seated.{tenant_of}
-use Rattle.hall.proofs.Placed.{hall_of, tenant_at, table_left}
 use Rattle.hall.proofs.HandingIn.{stay_each, one_gone, one_stays, hands_as, handed_in_sound}
-use Rattle.hall.proofs.Reached.{nobody_there, found_there, sound_there, there, indexed_there, left, stays}
+use Rattle.hall.proofs.Polled.{none_there}
+use Rattle.hall.proofs.Reached.{hall_of, given, not_given, sound_there, left, there, indexed_there}
 use Rattle.hall.proofs.Stays.{lent, own}
 use Rattle.hall.proofs.Unsettled.{unsettled_before_hands}
 use Rattle.hall.proofs.registry.Hall.hand_in_to.Goals as goal
 use Rattle.hall.proofs.registry.Hall.hand_in_to.Goals.{After-hand_in-finished}
 
-pub invariant_of-self : goal.invariant_of-self
-invariant_of-self c =
-    subst (IsIndexed c.self.inside.busy) (sym (table_left c.self.inside.book c.self.inside.tenants _ c.get_mut.follows.holds-at-none)) c.self.invariant
-
 pub returns-in_default-clause-handed_in : goal.returns-in_default-clause-handed_in
 returns-in_default-clause-handed_in c =
     let h : HallState = hall_of c.self.inside.book c.self.inside.tenants in
-    let nobody : get h.tenants c.args.who ≡ None = tenant_at c.self.inside.tenants.entries c.args.who _ c.in_default.ensures.value in
     rw (← c.self.view_is)
-    (subst (λ (g : HallState). AreHandedIn c.args.back h c.args.batch.now.letters 0 g) (sym (table_left c.self.inside.book c.self.inside.tenants _ c.get_mut.follows.holds-at-none))
-    (stay_each c.args.back h c.args.who c.args.number (one_gone c.args.back h c.args.who c.args.number (ap (search_of c.args.number) nobody)) [] c.args.batch.now.letters AreHandedIn.nothing c.requires.letters))
+    (subst (λ (g : HallState). AreHandedIn c.args.back h c.args.batch.now.letters 0 g) (sym (ap (hall_of c.self.inside.book) (not_given c.in_default.is c.opened_mut.follows.holds-at-none)))
+    (stay_each c.args.back h c.args.who c.args.number
+    (one_gone c.args.back h c.args.who c.args.number (none_there h c.args.who c.args.number c.in_default.field-0 c.in_default.ensures.nowhere))
+    [] c.args.batch.now.letters AreHandedIn.nothing c.requires.letters))
 
-pub invariant_of-self-in_default-get_mut : goal.invariant_of-self-in_default-get_mut
-invariant_of-self-in_default-get_mut c =
-    subst (IsIndexed c.self.inside.busy) (sym (stays c.self.inside.book c.self.inside.tenants _ c.args.who c.seat.inside.limits c.seat.inside.opens c.seat.inside.searches _ c.in-Some.seat.now c.args.number
-    c.in-Some.ensures.value c.seat.view_is (c.get_mut.follows.holds _) c.get_mut-2.follows.holds-at-none)) c.self.invariant
-
-pub returns-in_default-get_mut-clause-handed_in : goal.returns-in_default-get_mut-clause-handed_in
-returns-in_default-get_mut-clause-handed_in c =
-    let h : HallState = hall_of c.self.inside.book c.self.inside.tenants in
-    let none = nobody_there c.self.inside.book c.self.inside.tenants _ c.args.who c.seat.inside.limits c.seat.inside.opens c.seat.inside.searches c.get_mut-2.follows.lender-at-none c.in-Some.seat.now c.args.number
-    c.in-Some.ensures.value c.seat.view_is (c.get_mut.follows.holds _) (sym c.in_default-get_mut.ensures.value) in
-    rw (← c.self.view_is)
-    (subst (λ (g : HallState). AreHandedIn c.args.back h c.args.batch.now.letters 0 g)
-    (sym (stays c.self.inside.book c.self.inside.tenants _ c.args.who c.seat.inside.limits c.seat.inside.opens c.seat.inside.searches _ c.in-Some.seat.now c.args.number
-    c.in-Some.ensures.value c.seat.view_is (c.get_mut.follows.holds _) c.get_mut-2.follows.holds-at-none))
-    (stay_each c.args.back h c.args.who c.args.number (one_gone c.args.back h c.args.who c.args.number none) [] c.args.batch.now.letters AreHandedIn.nothing c.requires.letters))
-
+-- a completed search
 pub invariant_of-self-in_default-carried : goal.invariant_of-self-in_default-carried
 invariant_of-self-in_default-carried c =
-    subst (IsIndexed c.self.inside.busy) (sym (left c.self.inside.book c.self.inside.tenants _ c.args.who c.seat.inside.limits c.seat.inside.opens c.seat.inside.searches _ c.in-Some.seat.now c.args.number
-    c.in-Some.ensures.value c.seat.view_is (c.get_mut.follows.holds _) (record { opened_at = c.opened.inside.opened_at; search = carried_search c.opened.inside.carried })
-    (sym c.in-Some-get_mut.ensures.value ∙ ap Some (sym c.opened.view_is)) (c.get_mut-2.follows.holds _))) c.self.invariant
-
-pub returns-in_default-carried-clause-handed_in : goal.returns-in_default-carried-clause-handed_in
-returns-in_default-carried-clause-handed_in c =
     let r : Running = record { opened_at = c.opened.inside.opened_at; search = carried_search c.opened.inside.carried } in
-    let at = sym c.in-Some-get_mut.ensures.value ∙ ap Some (sym c.opened.view_is) in
-    let done = lent c.opened.inside.carried c.opened.invariant c.in_default-carried.not-Own in
+    subst (IsIndexed c.self.inside.busy)
+    (sym (left _ _ _ r (c.in-Ok.ensures.here ∙ ap Some (sym c.opened.view_is)) _ r.search (c.opened_mut.follows.holds r (given c.in-Ok.is) c.self.inside.book) refl)) c.self.invariant
+
+pub returns-in_default-carried : goal.returns-in_default-carried
+returns-in_default-carried c =
     let h : HallState = hall_of c.self.inside.book c.self.inside.tenants in
-    let found = found_there c.self.inside.book c.self.inside.tenants _ c.args.who c.seat.inside.limits c.seat.inside.opens c.seat.inside.searches c.get_mut-2.follows.lender-at-none c.in-Some.seat.now c.args.number
-    c.in-Some.ensures.value c.seat.view_is (c.get_mut.follows.holds _) r at in
-    let sound = sound_there c.self.inside.book c.self.inside.tenants _ c.args.who c.seat.inside.limits c.seat.inside.opens c.seat.inside.searches c.get_mut-2.follows.lender-at-none c.in-Some.seat.now c.args.number
-    c.in-Some.ensures.value c.seat.view_is (c.get_mut.follows.holds _) r at c.self.invariant.sound in
-    rw (← c.self.view_is)
-    (subst (λ (g : HallState). AreHandedIn c.args.back h c.args.batch.now.letters 0 g)
-    (sym (left c.self.inside.book c.self.inside.tenants _ c.args.who c.seat.inside.limits c.seat.inside.opens c.seat.inside.searches _ c.in-Some.seat.now c.args.number
-    c.in-Some.ensures.value c.seat.view_is (c.get_mut.follows.holds _) r at (c.get_mut-2.follows.holds _)))
-    (stay_each c.args.back h c.args.who c.args.number (one_stays c.args.back h c.args.who c.args.number r found done sound) [] c.args.batch.now.letters AreHandedIn.nothing c.requires.letters))
+    let r : Running = record { opened_at = c.opened.inside.opened_at; search = carried_search c.opened.inside.carried } in
+    let at : search_at h c.args.who c.args.number ≡ Some r = c.in-Ok.ensures.here ∙ ap Some (sym c.opened.view_is) in
+    rw (← c.self.view_is) record {
+      handed_in = subst (λ (g : HallState). AreHandedIn c.args.back h c.args.batch.now.letters 0 g)
+          (sym (left _ _ _ r at _ r.search (c.opened_mut.follows.holds r (given c.in-Ok.is) c.self.inside.book) refl))
+          (stay_each c.args.back h c.args.who c.args.number
+          (one_stays c.args.back h c.args.who c.args.number r at (lent c.opened.inside.carried c.opened.invariant c.in_default-carried.not-Own)
+          (sound_there _ _ _ r at c.self.invariant.sound))
+          [] c.args.batch.now.letters AreHandedIn.nothing c.requires.letters);
+      most = omega arith;
+    }
+
+-- a search that goes on
+abbrev goes : After-hand_in-finished → Running
+goes c = record { opened_at = c.opened.inside.opened_at; search = c.in-Own.search }
+
+abbrev went : After-hand_in-finished → Running
+went c = record { opened_at = c.opened.inside.opened_at; search = c.hand_in-finished.new.self }
+
+goes_there : (c : After-hand_in-finished) → search_at (hall_of c.self.inside.book c.self.inside.tenants) c.args.who c.args.number ≡ Some (goes c)
+goes_there c = c.in-Ok.ensures.here ∙ ap Some (sym c.opened.view_is) ∙ own c.opened.inside.opened_at c.in-Own.is
 
 -- the letters that are handed in
-handed : (c : After-hand_in-finished) → AreHandedIn c.args.back (hall_of c.self.inside.book c.self.inside.tenants) c.args.batch.now.letters c.hand_in-finished.result (hall_of c.self.inside.book (c.get_mut.follows.lender (tenant_of c.seat.inside.limits c.seat.inside.opens (c.get_mut-2.follows.lender (record { opened_at = c.opened.inside.opened_at; search = c.hand_in-finished.new.self })))))
+handed : (c : After-hand_in-finished) → AreHandedIn c.args.back (hall_of c.self.inside.book c.self.inside.tenants) c.args.batch.now.letters c.hand_in-finished.result
+    (hall_of c.self.inside.book (c.opened_mut.follows.lender (went c)))
 handed c =
-    hands_as c.args.back (hall_of c.self.inside.book c.self.inside.tenants) c.args.who c.args.number c.args.batch.now.letters c.hand_in-finished.result (hall_of c.self.inside.book (c.get_mut.follows.lender (tenant_of c.seat.inside.limits c.seat.inside.opens (c.get_mut-2.follows.lender (record { opened_at = c.opened.inside.opened_at; search = c.hand_in-finished.new.self }))))) c.requires.letters
-    (there c.self.inside.book c.self.inside.tenants _ c.args.who c.seat.inside.limits c.seat.inside.opens c.seat.inside.searches _ c.in-Some.seat.now c.args.number
-    c.in-Some.ensures.value c.seat.view_is (c.get_mut.follows.holds _) (c.hand_in-finished.result ≡ 0) (λ s t. HandsInEach c.args.who c.args.number c.args.back s c.args.batch.now.letters c.hand_in-finished.result t)
-    (record { opened_at = c.opened.inside.opened_at; search = c.in-Own.search }) c.hand_in-finished.new.self
-    (sym c.in-Some-get_mut.ensures.value ∙ ap Some (sym c.opened.view_is) ∙ own c.opened.inside.opened_at c.in-Own.is) (c.get_mut-2.follows.holds (record { opened_at = c.opened.inside.opened_at; search = c.hand_in-finished.new.self }))
+    hands_as c.args.back _ c.args.who c.args.number c.args.batch.now.letters c.hand_in-finished.result _ c.requires.letters
+    (there _ _ _ (goes c) (goes_there c) _ c.hand_in-finished.new.self (c.opened_mut.follows.holds (went c) (given c.in-Ok.is) c.self.inside.book)
+    (c.hand_in-finished.result ≡ 0) (λ s t. HandsInEach c.args.who c.args.number c.args.back s c.args.batch.now.letters c.hand_in-finished.result t)
     (c.hand_in-finished.ensures.handed_in c.args.who c.args.number c.requires.of))
 
 pub invariant_of-self-2 : goal.invariant_of-self-2
 invariant_of-self-2 c =
-    let after = (goal.at.invariant_of-self-2 c).After-hand_in-finished in
-    indexed_there c.self.inside.book c.self.inside.tenants _ c.args.who c.seat.inside.limits c.seat.inside.opens c.seat.inside.searches _ c.in-Some.seat.now c.args.number
-    c.in-Some.ensures.value c.seat.view_is (c.get_mut.follows.holds _) c.self.inside.busy c.settle.new.busy
-    (record { opened_at = c.opened.inside.opened_at; search = c.in-Own.search }) c.hand_in-finished.new.self
-    (sym c.in-Some-get_mut.ensures.value ∙ ap Some (sym c.opened.view_is) ∙ own c.opened.inside.opened_at c.in-Own.is) (c.get_mut-2.follows.holds (record { opened_at = c.opened.inside.opened_at; search = c.hand_in-finished.new.self }))
+    let d = (goal.at.invariant_of-self-2 c).After-hand_in-finished in
+    indexed_there _ _ _ (goes d) (goes_there d) _ c.hand_in-finished.new.self (c.opened_mut.follows.holds (went d) (given c.in-Ok.is) c.self.inside.book)
+    c.self.inside.busy c.settle.new.busy
     (unsettled_before_hands c.args.who c.args.number c.args.back c.in-Own.search c.args.batch.now.letters c.hand_in-finished.result c.hand_in-finished.new.self
     (c.hand_in-finished.ensures.handed_in c.args.who c.args.number c.requires.of)) c.settle.ensures.kept c.self.invariant
-    (handed_in_sound c.args.back (hall_of c.self.inside.book c.self.inside.tenants) c.args.batch.now.letters c.hand_in-finished.result _ c.self.invariant.sound (handed after))
+    (handed_in_sound c.args.back _ c.args.batch.now.letters c.hand_in-finished.result _ c.self.invariant.sound (handed d))
 
 pub returns-clause-handed_in : goal.returns-clause-handed_in
-returns-clause-handed_in c =
-    let after = (goal.at.returns-clause-handed_in c).After-hand_in-finished in
-    rw (← c.self.view_is) (handed after)
+returns-clause-handed_in c = rw (← c.self.view_is) (handed (goal.at.returns-clause-handed_in c).After-hand_in-finished)

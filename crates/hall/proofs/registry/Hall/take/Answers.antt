@@ -1,95 +1,116 @@
-use Rattle.std.proofs.Common.{◌≡◌, ◌∙◌, Option, Some, None, Result, Ok, refl, sym, subst, ap, inr}
-use Rattle.std.specs.FinMap.{get}
+use Rattle.std.proofs.Common.{◌≡◌, ◌∙◌, Option, Some, None, Result, Ok, refl, sym, subst, ap, inr, IfSome}
 use Rattle.std.proofs.lemmas.Result.{err_from_is_err_and}
+use Rattle.std.specs.Arc.{arc_value}
 use Rattle.std.specs.declared.alloc.AllocError.{AllocError}
 use Rattle.search.specs.Carried.{carried_search}
 use Rattle.hall.specs.declared.calls.steps.Step.TheVariants.{Take}
-use Rattle.hall.specs.Hall.{Running, HallState}
+use Rattle.search.specs.Finish.{Takes}
+use Rattle.hall.specs.Hall.{Running, search_at, with_search}
+use Rattle.hall.proofs.Working.{job_of}
 use Rattle.hall.specs.Visits.{TakenLetter, IsTaken}
 use Rattle.hall.specs.Kept.{TakesJob, IsIndexed}
-use Rattle.hall.proofs.Seated.{tenant_of}
-use Rattle.hall.proofs.Placed.{hall_of, tenant_at, table_left}
-use Rattle.hall.proofs.Carrying.{Moves, nobody_moves, takes_as, takes_nothing}
-use Rattle.hall.proofs.Reached.{nowhere, there, indexed_there, left, sound_there, stays}
+use Rattle.hall.proofs.Carrying.{takes_as}
+use Rattle.hall.proofs.Reached.{hall_of, given, not_given, nowhere, sound_there, left, there, indexed_there}
 use Rattle.hall.proofs.Stays.{lent, own, takes_none}
 use Rattle.hall.proofs.Unsettled.{unsettled_before_taken}
 use Rattle.hall.proofs.laws.HallSound.{stepped_sound}
 use Rattle.hall.proofs.registry.Hall.take.Goals as goal
-use Rattle.hall.proofs.registry.Hall.take.Goals.{After-branch-take, In_ok-take}
-
-pub invariant_of-self : goal.invariant_of-self
-invariant_of-self c =
-    subst (IsIndexed c.self.inside.busy) (sym (table_left c.self.inside.book c.self.inside.tenants _ c.get_mut.follows.holds-at-none)) c.self.invariant
+use Rattle.hall.proofs.registry.Hall.take.Goals.{After-branch-task, In-Some}
 
 pub returns-in_default-clause-taken : goal.returns-in_default-clause-taken
 returns-in_default-clause-taken c =
-    let h : HallState = hall_of c.self.inside.book c.self.inside.tenants in
-    let nobody : get h.tenants c.args.who ≡ None = tenant_at c.self.inside.tenants.entries c.args.who _ c.in_default.ensures.value in
     rw (← c.self.view_is)
-    (takes_as h c.args.who c.args.number _ {E = AllocError} c.args.place (Ok None) None refl
-    (nobody_moves h c.args.who c.args.number (◌≡◌ {A = Result (Option TakenLetter) AllocError} (Ok None) (Ok None)) (λ s t. TakesJob {E = AllocError} c.args.who c.args.number c.args.place s (Ok None) t) _ nobody refl
-    (table_left c.self.inside.book c.self.inside.tenants _ c.get_mut.follows.holds-at-none)))
+    (takes_as _ c.args.who c.args.number _ {E = AllocError} c.args.place (Ok None) None refl
+    (nowhere (hall_of c.self.inside.book c.self.inside.tenants) c.args.who c.args.number (◌≡◌ {A = Result (Option TakenLetter) AllocError} (Ok None) (Ok None))
+    (λ s t. TakesJob {E = AllocError} c.args.who c.args.number c.args.place s (Ok None) t) c.in_default.field-0 c.in_default.ensures.nowhere _
+    (ap (hall_of c.self.inside.book) (not_given c.in_default.is c.opened_mut.follows.holds-at-none)) refl))
 
-pub invariant_of-self-in_default-get_mut : goal.invariant_of-self-in_default-get_mut
-invariant_of-self-in_default-get_mut c =
-    subst (IsIndexed c.self.inside.busy) (sym (stays c.self.inside.book c.self.inside.tenants _ c.args.who c.seat.inside.limits c.seat.inside.opens c.seat.inside.searches _ c.in-Some.seat.now c.args.number
-    c.in-Some.ensures.value c.seat.view_is (c.get_mut.follows.holds _) c.get_mut-2.follows.holds-at-none)) c.self.invariant
-
-pub returns-in_default-get_mut-clause-taken : goal.returns-in_default-get_mut-clause-taken
-returns-in_default-get_mut-clause-taken c =
-    rw (← c.self.view_is)
-    (takes_as (hall_of c.self.inside.book c.self.inside.tenants) c.args.who c.args.number _ {E = AllocError} c.args.place (Ok None) None refl
-    (nowhere c.self.inside.book c.self.inside.tenants _ c.args.who c.seat.inside.limits c.seat.inside.opens c.seat.inside.searches _ c.in-Some.seat.now c.args.number
-    c.in-Some.ensures.value c.seat.view_is (c.get_mut.follows.holds _) (◌≡◌ {A = Result (Option TakenLetter) AllocError} (Ok None) (Ok None)) (λ s t. TakesJob {E = AllocError} c.args.who c.args.number c.args.place s (Ok None) t)
-    (sym c.in_default-get_mut.ensures.value) c.get_mut-2.follows.holds-at-none refl))
-
+-- a completed search
 pub invariant_of-self-in_default-carried : goal.invariant_of-self-in_default-carried
 invariant_of-self-in_default-carried c =
-    subst (IsIndexed c.self.inside.busy) (sym (left c.self.inside.book c.self.inside.tenants _ c.args.who c.seat.inside.limits c.seat.inside.opens c.seat.inside.searches _ c.in-Some.seat.now c.args.number
-    c.in-Some.ensures.value c.seat.view_is (c.get_mut.follows.holds _) (record { opened_at = c.opened.inside.opened_at; search = carried_search c.opened.inside.carried })
-    (sym c.in-Some-get_mut.ensures.value ∙ ap Some (sym c.opened.view_is)) (c.get_mut-2.follows.holds _))) c.self.invariant
-
-pub returns-in_default-carried-clause-taken : goal.returns-in_default-carried-clause-taken
-returns-in_default-carried-clause-taken c =
     let r : Running = record { opened_at = c.opened.inside.opened_at; search = carried_search c.opened.inside.carried } in
-    let at = sym c.in-Some-get_mut.ensures.value ∙ ap Some (sym c.opened.view_is) in
-    let done = lent c.opened.inside.carried c.opened.invariant c.in_default-carried.not-Own in
-    let sound = sound_there c.self.inside.book c.self.inside.tenants _ c.args.who c.seat.inside.limits c.seat.inside.opens c.seat.inside.searches c.get_mut-2.follows.lender-at-none c.in-Some.seat.now c.args.number
-    c.in-Some.ensures.value c.seat.view_is (c.get_mut.follows.holds _) r at c.self.invariant.sound in
-    rw (← c.self.view_is)
-    (takes_as (hall_of c.self.inside.book c.self.inside.tenants) c.args.who c.args.number _ {E = AllocError} c.args.place (Ok None) None refl
-    (there c.self.inside.book c.self.inside.tenants _ c.args.who c.seat.inside.limits c.seat.inside.opens c.seat.inside.searches _ c.in-Some.seat.now c.args.number
-    c.in-Some.ensures.value c.seat.view_is (c.get_mut.follows.holds _) (◌≡◌ {A = Result (Option TakenLetter) AllocError} (Ok None) (Ok None)) (λ s t. TakesJob {E = AllocError} c.args.who c.args.number c.args.place s (Ok None) t)
-    r r.search at (c.get_mut-2.follows.holds _) (takes_none c.args.who c.args.number r.search done AllocError c.args.place sound)))
+    subst (IsIndexed c.self.inside.busy)
+    (sym (left _ _ _ r (c.in-Ok.ensures.here ∙ ap Some (sym c.opened.view_is)) _ r.search (c.opened_mut.follows.holds r (given c.in-Ok.is) c.self.inside.book) refl)) c.self.invariant
 
--- what becomes of the hall
-moves : (c : After-branch-take) → Moves (hall_of c.self.inside.book c.self.inside.tenants) c.args.who c.args.number (c.take.result ≡ Ok None) (λ s t. TakesJob c.args.who c.args.number c.args.place s c.take.result t) (hall_of c.self.inside.book (c.get_mut.follows.lender (tenant_of c.seat.inside.limits c.seat.inside.opens (c.get_mut-2.follows.lender (record { opened_at = c.opened.inside.opened_at; search = c.take.new.search })))))
-moves c =
-    there c.self.inside.book c.self.inside.tenants _ c.args.who c.seat.inside.limits c.seat.inside.opens c.seat.inside.searches _ c.in-Some.seat.now c.args.number
-    c.in-Some.ensures.value c.seat.view_is (c.get_mut.follows.holds _) (c.take.result ≡ Ok None) (λ s t. TakesJob c.args.who c.args.number c.args.place s c.take.result t)
-    (record { opened_at = c.opened.inside.opened_at; search = c.in-Own.search }) c.take.new.search
-    (sym c.in-Some-get_mut.ensures.value ∙ ap Some (sym c.opened.view_is) ∙ own c.opened.inside.opened_at c.in-Own.is) (c.get_mut-2.follows.holds (record { opened_at = c.opened.inside.opened_at; search = c.take.new.search })) c.take.ensures
+pub returns-in_default-carried : goal.returns-in_default-carried
+returns-in_default-carried c =
+    let r : Running = record { opened_at = c.opened.inside.opened_at; search = carried_search c.opened.inside.carried } in
+    let at : search_at (hall_of c.self.inside.book c.self.inside.tenants) c.args.who c.args.number ≡ Some r = c.in-Ok.ensures.here ∙ ap Some (sym c.opened.view_is) in
+    rw (← c.self.view_is) record {
+      taken = takes_as _ c.args.who c.args.number _ {E = AllocError} c.args.place (Ok None) None refl
+          (there _ _ _ r at _ r.search (c.opened_mut.follows.holds r (given c.in-Ok.is) c.self.inside.book) (◌≡◌ {A = Result (Option TakenLetter) AllocError} (Ok None) (Ok None))
+          (λ s t. TakesJob {E = AllocError} c.args.who c.args.number c.args.place s (Ok None) t)
+          (takes_none c.args.who c.args.number r.search (lent c.opened.inside.carried c.opened.invariant c.in_default-carried.not-Own) AllocError c.args.place
+          (sound_there _ _ _ r at c.self.invariant.sound)));
+      only_memory = tt;
+      unchanged = tt;
+    }
 
-pub invariant_of-self-in_err-take : goal.invariant_of-self-in_err-take
-invariant_of-self-in_err-take c =
-    subst (IsIndexed c.self.inside.busy) (sym (takes_nothing (hall_of c.self.inside.book c.self.inside.tenants) c.args.who c.args.number (hall_of c.self.inside.book (c.get_mut.follows.lender (tenant_of c.seat.inside.limits c.seat.inside.opens (c.get_mut-2.follows.lender (record { opened_at = c.opened.inside.opened_at; search = c.take.new.search }))))) c.args.place c.take.result _ c.in_err-take.was (moves c.before.before))) c.self.invariant
+-- a search that goes on
+abbrev goes : After-branch-task → Running
+goes c = record { opened_at = c.opened.inside.opened_at; search = c.in-Own.search }
 
-pub returns-in_err-take-clause-unchanged : goal.returns-in_err-take-clause-unchanged
-returns-in_err-take-clause-unchanged c =
+abbrev went : After-branch-task → Running
+went c = record { opened_at = c.opened.inside.opened_at; search = c.take.new.self }
+
+goes_there : (c : After-branch-task) → search_at (hall_of c.self.inside.book c.self.inside.tenants) c.args.who c.args.number ≡ Some (goes c)
+goes_there c = c.in-Ok.ensures.here ∙ ap Some (sym c.opened.view_is) ∙ own c.opened.inside.opened_at c.in-Own.is
+
+becomes : (c : After-branch-task) → hall_of c.self.inside.book (c.opened_mut.follows.lender (went c)) ≡ with_search (hall_of c.self.inside.book c.self.inside.tenants) c.args.who c.args.number (went c)
+becomes c = c.opened_mut.follows.holds (went c) (given c.in-Ok.is) c.self.inside.book
+
+-- where memory lacked, or nothing waits at the place, the hall stays
+stays : (c : After-branch-task) → c.take.new.self ≡ c.in-Own.search → hall_of c.self.inside.book (c.opened_mut.follows.lender (went c)) ≡ hall_of c.self.inside.book c.self.inside.tenants
+stays c same = left _ _ _ (goes c) (goes_there c) _ c.take.new.self (becomes c) same
+
+pub invariant_of-self-in_err-task : goal.invariant_of-self-in_err-task
+invariant_of-self-in_err-task c =
+    subst (IsIndexed c.self.inside.busy) (sym (stays (goal.at.invariant_of-self-in_err-task c).After-branch-task c.in_err-task.ensures.unchanged)) c.self.invariant
+
+pub returns-in_err-task-clause-unchanged : goal.returns-in_err-task-clause-unchanged
+returns-in_err-task-clause-unchanged c =
     let p = err_from_is_err_and c.from_residual.result c.from_residual.ensures.1 in
-    rw p.1 (takes_nothing (hall_of c.self.inside.book c.self.inside.tenants) c.args.who c.args.number (hall_of c.self.inside.book (c.get_mut.follows.lender (tenant_of c.seat.inside.limits c.seat.inside.opens (c.get_mut-2.follows.lender (record { opened_at = c.opened.inside.opened_at; search = c.take.new.search }))))) c.args.place c.take.result _ c.in_err-take.was (moves c.before.before) ∙ c.self.view_is)
+    rw p.1 (stays (goal.at.returns-in_err-task-clause-unchanged c).After-branch-task c.in_err-task.ensures.unchanged ∙ c.self.view_is)
+
+pub invariant_of-self-in_default-task : goal.invariant_of-self-in_default-task
+invariant_of-self-in_default-task c =
+    subst (IsIndexed c.self.inside.busy) (sym (stays (goal.at.invariant_of-self-in_default-task c).After-branch-task (c.in_ok-task.ensures.none c.in_default-task.is).1)) c.self.invariant
+
+pub returns-in_default-task-clause-taken : goal.returns-in_default-task-clause-taken
+returns-in_default-task-clause-taken c =
+    let d = (goal.at.returns-in_default-task-clause-taken c).After-branch-task in
+    let none = c.in_ok-task.ensures.none c.in_default-task.is in
+    rw (← c.self.view_is)
+    (takes_as _ c.args.who c.args.number _ {E = AllocError} c.args.place (Ok None) None refl
+    (there _ _ _ (goes d) (goes_there d) _ c.take.new.self (becomes d) (◌≡◌ {A = Result (Option TakenLetter) AllocError} (Ok None) (Ok None))
+    (λ s t. TakesJob {E = AllocError} c.args.who c.args.number c.args.place s (Ok None) t) (none.0, none.1, c.kept.ensures.sound)))
 
 -- the letter that is taken
-taken : (c : In_ok-take) → IsTaken (hall_of c.self.inside.book c.self.inside.tenants) c.args.who c.args.number c.args.place c.in_ok-take.field-0 (hall_of c.self.inside.book (c.get_mut.follows.lender (tenant_of c.seat.inside.limits c.seat.inside.opens (c.get_mut-2.follows.lender (record { opened_at = c.opened.inside.opened_at; search = c.take.new.search })))))
-taken c = takes_as (hall_of c.self.inside.book c.self.inside.tenants) c.args.who c.args.number (hall_of c.self.inside.book (c.get_mut.follows.lender (tenant_of c.seat.inside.limits c.seat.inside.opens (c.get_mut-2.follows.lender (record { opened_at = c.opened.inside.opened_at; search = c.take.new.search }))))) c.args.place c.take.result c.in_ok-take.field-0 c.in_ok-take.was (moves c.before)
+abbrev job : In-Some → TakenLetter
+job c = record { who = c.args.who; number = c.args.number; letter = c.in-Some.task.letter; need = c.in-Some.task.need; snapshot = arc_value c.in-Some.task.snap }
+
+takes : (c : In-Some) → TakesJob {E = AllocError} c.args.who c.args.number c.args.place c.in-Own.search (Ok (Some (job c))) c.take.new.self
+takes c =
+    let old = c.in-Own.search in
+    let new = c.take.new.self in
+    job_of AllocError c.args.who c.args.number c.args.place c.in-Some.task.letter c.in-Some.task.need (arc_value c.in-Some.task.snap) old new _ refl
+    (subst (λ o. IfSome o (λ t. Takes old new c.args.place t.letter t.need)) c.in-Some.is c.in_ok-task.ensures.task)
+    (subst (λ o. IfSome o (λ t. arc_value t.snap ≡ old.snapshot)) c.in-Some.is c.in_ok-task.ensures.snapshot) c.in_ok-task.ensures.settles c.kept.ensures.sound
+
+taken : (c : In-Some) → IsTaken (hall_of c.self.inside.book c.self.inside.tenants) c.args.who c.args.number c.args.place (Some (job c))
+    (hall_of c.self.inside.book (c.opened_mut.follows.lender (went (goal.at.invariant_of-self-2 c).After-branch-task)))
+taken c =
+    let d = (goal.at.invariant_of-self-2 c).After-branch-task in
+    takes_as _ c.args.who c.args.number _ {E = AllocError} c.args.place (Ok (Some (job c))) (Some (job c)) refl
+    (there _ _ _ (goes d) (goes_there d) _ c.take.new.self (becomes d) (◌≡◌ {A = Result (Option TakenLetter) AllocError} (Ok (Some (job c))) (Ok None))
+    (λ s t. TakesJob {E = AllocError} c.args.who c.args.number c.args.place s (Ok (Some (job c))) t) (takes c))
 
 pub invariant_of-self-2 : goal.invariant_of-self-2
 invariant_of-self-2 c =
-    indexed_there c.self.inside.book c.self.inside.tenants _ c.args.who c.seat.inside.limits c.seat.inside.opens c.seat.inside.searches _ c.in-Some.seat.now c.args.number
-    c.in-Some.ensures.value c.seat.view_is (c.get_mut.follows.holds _) c.self.inside.busy c.self.inside.busy (record { opened_at = c.opened.inside.opened_at; search = c.in-Own.search }) c.take.new.search
-    (sym c.in-Some-get_mut.ensures.value ∙ ap Some (sym c.opened.view_is) ∙ own c.opened.inside.opened_at c.in-Own.is) (c.get_mut-2.follows.holds (record { opened_at = c.opened.inside.opened_at; search = c.take.new.search }))
-    (unsettled_before_taken c.args.who c.args.number c.args.place c.in-Own.search c.take.result c.take.new.search c.take.ensures) (λ name k listed. inr listed) c.self.invariant
-    (stepped_sound (hall_of c.self.inside.book c.self.inside.tenants) (hall_of c.self.inside.book (c.get_mut.follows.lender (tenant_of c.seat.inside.limits c.seat.inside.opens (c.get_mut-2.follows.lender (record { opened_at = c.opened.inside.opened_at; search = c.take.new.search }))))) (Take c.args.who c.args.number c.args.place) (taken c).0 c.self.invariant.sound (taken c).1)
+    let d = (goal.at.invariant_of-self-2 c).After-branch-task in
+    indexed_there _ _ _ (goes d) (goes_there d) _ c.take.new.self (becomes d) c.self.inside.busy c.self.inside.busy
+    (unsettled_before_taken {E = AllocError} c.args.who c.args.number c.args.place c.in-Own.search (Ok (Some (job c))) c.take.new.self (takes c)) (λ name k listed. inr listed)
+    c.self.invariant (stepped_sound _ _ (Take c.args.who c.args.number c.args.place) (taken c).0 c.self.invariant.sound (taken c).1)
 
 pub returns-clause-taken : goal.returns-clause-taken
 returns-clause-taken c = rw (← c.self.view_is) (taken c)

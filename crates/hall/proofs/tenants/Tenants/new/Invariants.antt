@@ -1,6 +1,6 @@
 use Rattle.std.proofs.Common.{◌≡◌, take, map}
 use Rattle.hall.specs.Hall.{new_tenant}
-use Rattle.hall.proofs.registry.seated.Given as goal
+use Rattle.hall.proofs.tenants.Tenants.new.Given as goal
 
 -- the tenants so far are seated
 abbrev pub invariant-loop-name : goal.invariant-loop-name

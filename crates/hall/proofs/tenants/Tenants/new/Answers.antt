@@ -3,7 +3,7 @@ use Rattle.hall.specs.Hall.{Tenant, new_tenant}
 use Rattle.indexmap.specs.IndexMap.{insert_entry}
 use Rattle.names.specs.Name.{is_same}
 use Rattle.hall.proofs.Distinct.{entries_more}
-use Rattle.hall.proofs.registry.seated.Goals as goal
+use Rattle.hall.proofs.tenants.Tenants.new.Goals as goal
 
 pub loop-name-preserved : goal.loop-name-preserved
 loop-name-preserved c =

@@ -1,0 +1,44 @@
+use Rattle.std.proofs.Common.{◌∙◌, ap, refl, sym, subst, Some, Option}
+use Rattle.std.specs.FinMap.{insert}
+use Rattle.std.proofs.lemmas.Bool.{false≢true}
+use Rattle.vaults.proofs.Orders.{names_exact}
+use Rattle.hall.specs.declared.faults.Fault.TheVariants.{NoSuchSearch}
+use Rattle.hall.specs.Hall.{Tenant, search_of}
+use Rattle.hall.specs.Kept.{IsNowhere}
+use Rattle.hall.proofs.Maps.{insert_again}
+use Rattle.hall.proofs.Seated.{tenant_of, search_found, search_written}
+use Rattle.hall.proofs.tenants.Tenants.opened_mut.Goals as goal
+
+pub returns-in-Some : goal.returns-in-Some
+returns-in-Some c =
+    let here = c.in_ok-seat.ensures.here ∙ ap Some (sym c.seat.view_is) in (
+      (
+        refl,
+        (λ w ok journal.
+            search_written c.seat.inside.searches c.args.number c.args.self.now c.args.who c.seat.inside.limits c.seat.inside.opens here
+            (c.get_mut.follows.lender w) c.in-Some.opened.now w (sym c.in-Some.ensures.value) (c.get_mut.follows.holds w) journal),
+        tt,
+      ),
+      record {
+        lends = tt;
+        here = ap (search_of c.args.number) here ∙ search_found c.seat.inside.searches c.args.number ∙ sym c.in-Some.ensures.value;
+        nowhere = tt;
+      },
+    )
+
+pub returns-in-None : goal.returns-in-None
+returns-in-None c =
+    let here = c.in_ok-seat.ensures.here ∙ ap Some (sym c.seat.view_is) in (
+      (
+        refl,
+        (λ w no journal. absurd (false≢true no)),
+        ap (λ s. insert c.args.self.now c.args.who (tenant_of c.seat.inside.limits c.seat.inside.opens s)) c.get_mut.follows.holds-at-none
+            ∙ insert_again names_exact c.args.self.now c.args.who (tenant_of c.seat.inside.limits c.seat.inside.opens c.seat.inside.searches) here,
+      ),
+      record {
+        lends = tt;
+        here = tt;
+        nowhere = subst (λ (o : Option Tenant). IsNowhere c.args.number o NoSuchSearch) (sym here)
+            (refl, search_found c.seat.inside.searches c.args.number ∙ sym c.in-None.ensures.value);
+      },
+    )

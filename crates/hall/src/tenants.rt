@@ -1,0 +1,85 @@
+//! The tenants of a hall, by name.
+ghost use Rattle.std.specs.Prelude.{◌≡◌, IfOk, IfErr, None, Some, map};
+ghost use Rattle.std.specs.{FinMap.get, FinMap.from_entries, List.IsDistinct, Borrow.sem};
+ghost use Rattle.{names.specs.Name.is_same, hall.specs.Hall.new_tenant, hall.specs.Hall.search_of, hall.specs.Kept.IsNowhere};
+
+use crate::faults::Fault;
+use crate::opened::Opened;
+use crate::seats::Seat;
+use indexmap::IndexMap;
+use names::Entity;
+use quotas::Limits;
+use std::alloc::{AllocError, Global};
+use std::marker::Model;
+
+/// By its name the seat of each tenant.
+#[derive(Drop)]
+pub(crate) struct Tenants {
+    seats: IndexMap<Entity, Seat>,
+}
+
+impl Model for Tenants {
+    ghost use Rattle.std.specs.{Coded.codes, FinMap.from_entries};
+    ghost use Rattle.std.specs.FinMap as fin;
+    ghost use Rattle.search.specs.contracts.stages.Stage as running;
+    ghost use Rattle.search.specs.contracts.findings.Monitor as memory;
+    ghost use Rattle.hall.specs.Hall.{Tenants};
+
+    ghost Value = { Tenants };
+
+    ghost coded = { Prim.hlevel (codes, fin.code, running.the_row.coded, memory.the_row.coded) };
+
+    ghost view = { λ t. from_entries t.seats.entries };
+}
+
+impl Tenants {
+    ghost use Rattle.hall.specs.Lending.{LendsSeat, LendsSearch};
+
+    /// The tenants of the roster, none of which has done anything.
+    pub(crate) fn new(alloc: Global, roster: &[(Entity, Limits)]) -> Result<Tenants, AllocError>
+        requires { IsDistinct is_same (map (λ row. row.0) roster.now) }
+        ensures { IfOk result (λ t. t ≡ from_entries (map (λ row. (row.0, new_tenant row.1)) roster.now)) }
+    {
+        let mut seats = IndexMap::new(alloc);
+        for (name, limits) in roster {
+            seats.insert(*name, Seat::new(alloc, *limits))?;
+        }
+        Ok(Tenants { seats })
+    }
+
+    /// The tenant's seat. Where there is none the refusal is 62.
+    pub(crate) fn seat(&self, who: Entity) -> Result<&Seat, Fault>
+        ensures here { IfOk result (λ seat. get self.now who ≡ Some seat.now) }
+        ensures nobody { IfErr result (λ f. (f ≡ Fault.NoTenant) × (get self.now who ≡ None)) }
+    {
+        match self.seats.get(&who) {
+            Some(seat) => Ok(seat),
+            None => Err(Fault::NoTenant),
+        }
+    }
+
+    /// The tenant's seat, to change.
+    pub(crate) fn seat_mut(&mut self, who: Entity) -> Result<&mut Seat, Fault>
+        ensures* lends { sem 𝓛 (LendsSeat self.entry who result) }
+        ensures here { IfOk result (λ seat. get self.old who ≡ Some seat.now) }
+        ensures nobody { IfErr result (λ f. (f ≡ Fault.NoTenant) × (get self.old who ≡ None)) }
+    {
+        match self.seats.get_mut(&who) {
+            Some(seat) => Ok(seat),
+            None => Err(Fault::NoTenant),
+        }
+    }
+
+    /// The tenant's search of the number, to go on with. The order of refusals: 62, 51.
+    pub(crate) fn opened_mut(&mut self, who: Entity, number: u64) -> Result<&mut Opened, Fault>
+        ensures* lends { sem 𝓛 (LendsSearch self.entry who number result) }
+        ensures here { IfOk result (λ opened. search_of number (get self.old who) ≡ Some opened.now) }
+        ensures nowhere { IfErr result (IsNowhere number (get self.old who)) }
+    {
+        let seat = self.seat_mut(who)?;
+        match seat.searches.get_mut(&number) {
+            Some(opened) => Ok(opened),
+            None => Err(Fault::NoSuchSearch),
+        }
+    }
+}
