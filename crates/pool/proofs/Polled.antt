@@ -40,12 +40,20 @@ ending_told limit C q s (inr (none, answers work of within truth)) = truth_told 
 ending_told limit C q s (inr (none, spends is exceeds)) = subst (λ (t : Settled). IsTrueWhereCompleted C q (answer_of t)) (sym is) tt
 ending_told limit C q s (inr (none, breaks is)) = subst (λ (t : Settled). IsTrueWhereCompleted C q (answer_of t)) (sym is) tt
 
+-- what a search of a sound hall has come to is the truth where it is completed
+pub running_truth : (h : HallState) (who : List ℕ) (k : ℕ) (r : Running) → IsSound h → search_at h who k ≡ Some r →
+    IsTrueWhereCompleted (credentials r.search.snapshot.vaults) r.search.query (answer_of (settled_of r.search))
+running_truth h who k r sound = by (get h.tenants who) refl
+  where
+    by : (o : Option Tenant) → get h.tenants who ≡ o → search_of k o ≡ Some r → IsTrueWhereCompleted (credentials r.search.snapshot.vaults) r.search.query (answer_of (settled_of r.search))
+    by None at is = cc
+    by (Some t) at is = ending_told t.limits.work (credentials r.search.snapshot.vaults) r.search.query (settled_of r.search) (sound who t k r at is).2.settled
+
 -- a search of the hall, of which an answer tells
 pub record IsToldOf (h : HallState) (who : List ℕ) (k : ℕ) (a : Answer) (r : Running) : Type 0 where
   pub there : search_at h who k ≡ Some r
   pub tells : a ≡ answer_of (settled_of r.search)
   pub asker : r.search.snapshot.asker ≡ who
-  pub truth : IsTrueWhereCompleted (credentials r.search.snapshot.vaults) r.search.query a
 
 -- of a tenant, what its account tells of a search is what the search tells
 told_of : (h : HallState) (who : List ℕ) (t : Tenant) (k : ℕ) (a : Answer) (s : Asked) → IsSound h → get h.tenants who ≡ Some t → (o : Option Running) → get t.searches k ≡ o →
@@ -60,8 +68,6 @@ told_of h who t k a s sound tenant (Some r) at same tells =
         there = ap (search_of k) tenant ∙ at;
         tells = told;
         asker = kept.asker;
-        truth = subst (IsTrueWhereCompleted (credentials r.search.snapshot.vaults) r.search.query) (sym told)
-            (ending_told t.limits.work (credentials r.search.snapshot.vaults) r.search.query (settled_of r.search) kept.settled);
       },
     )
 
@@ -83,6 +89,18 @@ served_now at old new who h k a same is_who kept seen served = record {
   room = refl;
 }
 
+-- a search that the hall has under the name of a pass's tenant
+pub search_there : (at : RoomState) (old : PassState) (who : List ℕ) (h : HallState) (k : ℕ) (s : SearchState) → h ≡ at.hall → who ≡ old.tenant →
+    Some s ≡ option_map (λ (r : Running). r.search) (search_at h who k) → (r : Running) × (search_at at.hall old.tenant k ≡ Some r) × (r.search ≡ s)
+search_there at old who h k s same is_who is =
+    by (search_at at.hall old.tenant k) refl
+    (subst (λ (g : HallState). Some s ≡ option_map (λ (r : Running). r.search) (search_at g old.tenant k)) same
+    (subst (λ (n : List ℕ). Some s ≡ option_map (λ (r : Running). r.search) (search_at h n k)) is_who is))
+  where
+    by : (o : Option Running) → search_at at.hall old.tenant k ≡ o → Some s ≡ option_map (λ (r : Running). r.search) o → (r : Running) × (search_at at.hall old.tenant k ≡ Some r) × (r.search ≡ s)
+    by None there found = cc
+    by (Some r) there found = (r, there, cc)
+
 -- where a poll is served in a room, the search that is found there is the one of which the answer tells
 module _ (at : RoomState) (old new : PassState) (who : List ℕ) (h : HallState) (k : ℕ) (a : Answer) (same : h ≡ at.hall) (is_who : who ≡ old.tenant)
     (served : IsServedAt at at old new (Poll k) (Answered a)) where
@@ -101,11 +119,6 @@ module _ (at : RoomState) (old new : PassState) (who : List ℕ) (h : HallState)
   polled_somewhere is =
       let found = polled_search at.hall old.tenant k a served.kept.sound served.served in
       let none : None ≡ Some found.0.search = subst (λ (o : Option Running). None ≡ option_map (λ (r : Running). r.search) o) found.1.there (there None is) in cc
-
-  pub polled_truth : (s : SearchState) → Some s ≡ option_map (λ (r : Running). r.search) (search_at h who k) → IsTrueWhereCompleted (credentials s.snapshot.vaults) s.query a
-  polled_truth s is =
-      let found = found_there s is in
-      subst (λ (t : SearchState). IsTrueWhereCompleted (credentials t.snapshot.vaults) t.query a) (sym found.2) found.1.truth
 
   pub polled_verdict : (s : SearchState) → Some s ≡ option_map (λ (r : Running). r.search) (search_at h who k) → (v : Verdict) → v.query ≡ s.query → arc_value v.snapshot ≡ s.snapshot → v.answer ≡ a →
       IsPolledAt at old new k (Ok v)

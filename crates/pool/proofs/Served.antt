@@ -7,12 +7,12 @@ use Rattle.hall.specs.declared.faults.Fault.TheVariants.{NoTenant, Memory}
 use Rattle.hall.specs.declared.calls.requests.Request.{Request}
 use Rattle.hall.specs.declared.calls.requests.Request.TheVariants as request
 use Rattle.hall.specs.declared.calls.replies.Reply.{Reply}
-use Rattle.hall.specs.declared.calls.replies.Reply.TheVariants.{Counted, Refused}
+use Rattle.hall.specs.declared.calls.replies.Reply.TheVariants.{Counted, Opened, Closed, Refused}
 use Rattle.hall.specs.Account.{Account}
 use Rattle.hall.specs.Answers.{sight, Grants, Answers, refuses, grants, lacks}
-use Rattle.hall.specs.Hall.{HallState, Tenant, account, account_of, AnswersTo, IsServed}
-use Rattle.pool.specs.Passes.{PassState}
-use Rattle.pool.specs.Served.{pass_after}
+use Rattle.hall.specs.Hall.{HallState, Tenant, account, account_of, AnswersTo, hall_after, IsServed}
+use Rattle.pool.specs.Passes.{PassState, length_after, pass_after}
+use Rattle.pool.proofs.Kept.{changed_journal}
 
 -- the tenant of that name is told this, by its account
 pub record IsGranted (h : HallState) (who : List ℕ) (q : Request) (told : Reply) : Type 0 where
@@ -50,17 +50,23 @@ pub pass_seeing : (old : PassState) (seen : ℕ) (told : Reply) → ((n : ℕ) �
 pass_seeing old seen (Counted n) other = absurd (other n refl)
 pass_seeing old seen _ other = refl
 
--- a pass that is told of a change, of which the journal is longer by one
-pub pass_counting : (old shown new : PassState) (seen front : ℕ) (told : Reply) (n : ℕ) → told ≡ Counted n → shown ≡ record old { front = seen } → front ≡ seen + 1 →
-    new ≡ record { tenant = shown.tenant; front = front; share = shown.share + 1 } → new ≡ pass_after old seen told
-pass_counting old shown new seen front told n counted is longer counts =
-    counts
-    ∙ ap (λ (p : PassState). record { tenant = p.tenant; front = front; share = p.share + 1 }) is
-    ∙ ap (λ k. record old { front = k; share = old.share + 1 }) longer
-    ∙ sym (ap (pass_after old seen) counted)
+-- the hall's journal is longer where a change was counted, and else the same
+same_journal : (h : HallState) (who : List ℕ) (q : Request) (told : Reply) → ((n : ℕ) → told ≡ Counted n → ⊥) → (hall_after h who q told).journal ≡ h.journal
+same_journal h who (request.Alter change) (Counted n) other = absurd (other n refl)
+same_journal h who (request.Seek query) (Opened n) other = changed_journal h who _ (get h.tenants who)
+same_journal h who (request.Close k) Closed other = changed_journal h who _ (get h.tenants who)
+same_journal h who _ _ other = refl
 
--- the same request of the same tenant, in the same hall
-pub served_same : (h g new : HallState) (who tenant : List ℕ) (q wanted : Request) (told : Reply) → h ≡ g → who ≡ tenant → q ≡ wanted → IsServed h who q told new → IsServed g tenant wanted told new
-served_same h g new who tenant q wanted told hall name request served =
-    subst (λ (a : HallState). IsServed a tenant wanted told new) hall
-    (subst (λ (n : List ℕ). IsServed h n wanted told new) name (subst (λ (r : Request). IsServed h who r told new) request served))
+pub journal_after : (h new : HallState) (who : List ℕ) (q : Request) (told : Reply) → IsServed h who q told new → length new.journal ≡ length_after (length h.journal) told
+journal_after h new who q (Counted n) served = counted_longer h new who q n served
+journal_after h new who q told served = ap (λ (g : HallState). length g.journal) served.after ∙ ap length (same_journal h who q told (λ n is. cc))
+
+-- that the pass saw the journal before changes nothing
+pub pass_shown : (old : PassState) (seen : ℕ) (told : Reply) → pass_after (record old { front = seen }) seen told ≡ pass_after old seen told
+pass_shown old seen (Counted n) = refl
+pass_shown old seen _ = refl
+
+-- the request of the same tenant, in the same hall
+pub served_same : (h g new : HallState) (who tenant : List ℕ) (q : Request) (told : Reply) → h ≡ g → who ≡ tenant → IsServed h who q told new → IsServed g tenant q told new
+served_same h g new who tenant q told hall name served =
+    subst (λ (a : HallState). IsServed a tenant q told new) hall (subst (λ (n : List ℕ). IsServed h n q told new) name served)

@@ -1,6 +1,8 @@
 -- What a call of its own type tells, by what a request of its kind is told.
 use Rattle.std.proofs.Common.{◌≡◌, ℕ, List, Ok, Err, subst}
+use Rattle.credential_text.specs.declared.credentials.Credential.{Credential}
 use Rattle.vaults.specs.declared.changes.Change.{Change}
+use Rattle.vaults.specs.declared.marks.Seen.{Seen}
 use Rattle.search.specs.declared.queries.Query.{Query}
 use Rattle.proof_trees.specs.declared.steps.Step.{Step as ProofStep}
 use Rattle.hall.specs.declared.faults.Fault.{Fault}
@@ -27,6 +29,12 @@ module _ (old new : PassState) (r : Reply) (refused : (f : Fault) → r ≡ repl
 
   pub only_opened : (query : Query) → IsAnswered (λ s. s) old new (request.Seek query) (Ok r) → ((n : ℕ) → r ≡ reply.Opened n → ⊥) → ⊥
   only_opened query (before, after, at) other = other _ (granted before.hall after.hall old.tenant (request.Seek query) r refused at.served).gets.0
+
+  pub only_vault : IsAnswered (λ s. s) old new request.Vault (Ok r) → ((rows : List Credential) → r ≡ reply.Vault rows → ⊥) → ⊥
+  only_vault (before, after, at) other = other _ (granted before.hall after.hall old.tenant request.Vault r refused at.served).gets.0
+
+  pub only_sees : IsAnswered (λ s. s) old new request.Sees (Ok r) → ((seen : List Seen) → r ≡ reply.Sees seen → ⊥) → ⊥
+  only_sees (before, after, at) other = other _ (granted before.hall after.hall old.tenant request.Sees r refused at.served).gets.0
 
   pub only_closed : (k : ℕ) → IsAnswered (λ s. s) old new (request.Close k) (Ok r) → (r ≡ reply.Closed → ⊥) → ⊥
   only_closed k (before, after, at) other = other (granted before.hall after.hall old.tenant (request.Close k) r refused at.served).gets.0

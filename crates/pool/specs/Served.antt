@@ -1,30 +1,26 @@
 -- What a call by a pass came to, in the room that it found under the lock.
-use Rattle.std.specs.Prelude.{◌≡◌, ◌⊎◌, ◌<◌, ◌≤◌, ◌+◌, ℕ, List, true, false, length, Result, Ok, Err, IfOk, IsSomeAnd}
+use Rattle.std.specs.Prelude.{◌≡◌, ◌⊎◌, ◌<◌, ◌≤◌, ℕ, List, true, false, length, Result, Ok, Err, IfOk, IsSomeAnd}
 use Rattle.std.specs.Arc.{arc_value}
 use Rattle.search.specs.Found.{status_of}
 use Rattle.search.specs.declared.outcomes.Status.TheVariants as status
 use Rattle.search.specs.Search.{SearchState, settled_of}
+use Rattle.hall.specs.declared.faults.Fault.{Fault}
 use Rattle.hall.specs.declared.faults.Fault.TheVariants.{Memory}
 use Rattle.hall.specs.declared.calls.answers.Answer.{Answer}
 use Rattle.hall.specs.declared.calls.answers.Answer.TheVariants.{Working}
 use Rattle.hall.specs.declared.calls.requests.Request.{Request}
 use Rattle.hall.specs.declared.calls.requests.Request.TheVariants.{Poll, Proof}
 use Rattle.hall.specs.declared.calls.replies.Reply.{Reply}
-use Rattle.hall.specs.declared.calls.replies.Reply.TheVariants.{Counted, Answered, Refused}
+use Rattle.hall.specs.declared.calls.replies.Reply.TheVariants.{Answered, Refused}
 use Rattle.hall.specs.Answers.{answer_of}
-use Rattle.hall.specs.Hall.{HallState, Running, search_at, IsServed}
+use Rattle.hall.specs.Hall.{HallState, Running, search_at, IsServed, IsToldOver}
 use Rattle.hall.specs.Visits.{IsCompletedAt}
 use Rattle.pool.specs.declared.faults.DeskFault.{DeskFault}
 use Rattle.pool.specs.declared.faults.DeskFault.TheVariants.{Hall, Rewound, PassesOut, NoThread}
 use Rattle.pool.specs.declared.verdicts.Verdict.{Verdict}
 use Rattle.pool.specs.declared.verdicts.Gathered.{Gathered}
-use Rattle.pool.specs.Passes.{PassState, IsSeenAt}
+use Rattle.pool.specs.Passes.{PassState, IsSeenAt, pass_after}
 use Rattle.pool.specs.Rooms.{RoomState, IsKept}
-
--- the pass after a reply that it was told over a journal of this length: of an accepted change it is told, and it has seen it
-abbrev pub pass_after : PassState → ℕ → Reply → PassState
-pass_after old seen (Counted n) = record old { front = seen + 1; share = old.share + 1 }
-pass_after old seen _ = record old { front = seen }
 
 -- The journal is no shorter than the pass had seen, and the request of the pass's tenant, and no other, is served by the hall. Of
 -- the room nothing else changes.
@@ -65,6 +61,11 @@ Reads h who _ s = ⊥
 abbrev pub IsReadOff : SearchState → Request → Reply → Type 0
 IsReadOff s q told = (h : HallState) (who : List ℕ) → Reads h who q s → IsServed h who q told h
 
+-- a call comes to the reply that is read off so, or to the refusal
+abbrev pub IsReadAs : SearchState → Request → Result Reply DeskFault → Type 0
+IsReadAs s q (Ok told) = IsReadOff s q told
+IsReadAs s q (Err fault) = (f : Fault) × (fault ≡ Hall f) × IsReadOff s q (Refused f)
+
 -- the pass has seen the journal, which is no shorter than it had seen, and the request of its tenant reads this search
 pub record IsLentAt (at : RoomState) (old new : PassState) (q : Request) (s : SearchState) : Type 0 where
   pub kept : IsKept at
@@ -79,6 +80,13 @@ IsAnswered reply old new q result = (before : RoomState) × (after : RoomState) 
 abbrev pub IsVerdictOf : Running → Verdict → Type 0
 IsVerdictOf r v =
     (v.query ≡ r.search.query) × (arc_value v.snapshot ≡ r.search.snapshot) × (v.answer ≡ answer_of (settled_of r.search))
+
+-- the verdict tells this of the search itself, in each hall that has it; memory may lack to tell it, or to share what it reads
+abbrev pub IsVerdictOn : SearchState → Result Verdict DeskFault → Type 0
+IsVerdictOn s (Ok v) = IsToldOver s Poll (Answered v.answer) × (v.query ≡ s.query) × (arc_value v.snapshot ≡ s.snapshot)
+IsVerdictOn s (Err fault) =
+    ((f : Fault) × (fault ≡ Hall f) × IsToldOver s Poll (Refused f))
+    ⊎ ((fault ≡ Hall Memory) × ((answer : Answer) × IsToldOver s Poll (Answered answer)))
 
 -- a poll is served, and the verdict is on the search that it asks for; memory may also lack to share what the search reads
 abbrev pub IsPolledAt : RoomState → PassState → PassState → ℕ → Result Verdict DeskFault → Type 0

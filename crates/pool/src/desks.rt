@@ -14,10 +14,10 @@ ghost use Rattle.pool.specs.Served.{IsAnswered, IsPolled, IsPolledAt, IsWaited, 
 use crate::bells::Bells;
 use crate::faults::{DeskFault, Told};
 use crate::passes::Pass;
-use crate::rooms::{PARTS, Room, read_off};
+use crate::rooms::{PARTS, Room, read_off, verdict_on};
 use crate::verdicts::{Gathered, Ticket, Verdict};
 use crate::visits::{BATCH, Found};
-use hall::{Batch, Fault, Hall, Proof, Query, Reply, Request, Rows, Sights, told_of};
+use hall::{Batch, Fault, Hall, Proof, Query, Reply, Request, Rows, Sights};
 use names::Entity;
 use quotas::Limits;
 use std::alloc::Global;
@@ -106,7 +106,7 @@ impl<L: Ledger> Desk<L> {
         let mut room = self.enter(rt);
         if let Some(search) = room.lent(pass, &request) {
             drop(room);
-            return Ok(read_off(self.alloc, &search, &request)?);
+            return read_off(self.alloc, &search, &request);
         }
         let answered = room.serve(pass, request);
         self.release(room);
@@ -158,7 +158,7 @@ impl<L: Ledger> Desk<L> {
             return room.poll(pass, number);
         };
         drop(room);
-        Ok(Verdict::new(&search, told_of(&search)?)?)
+        verdict_on(&search)
     }
 
     /// Waits until the tenant's search of the number has come to an end, or the desk was stopped, and then answers as `poll`

@@ -1,5 +1,7 @@
 ghost use Rattle.std.specs.Prelude.{◌≡◌, ◌+◌, ◌<◌};
+ghost use Rattle.pool.specs.Passes.{length_after, pass_after};
 
+use hall::Reply;
 use names::Entity;
 use std::marker::Model;
 use std::sync::ledger::{Book, Ledger, Share};
@@ -68,15 +70,18 @@ impl<L: Ledger> Pass<L> {
         self.front = length;
     }
 
-    /// The pass is told of one accepted change more, with which the journal has this length.
-    pub(crate) fn count(&mut self, book: &mut Book<L>, length: u64)
-        requires { book.old.total + 1 ≡ length }
-        ensures pass { self.new ≡ record { tenant = self.old.tenant; front = length; share = self.old.share + 1 } }
+    /// The pass is told this reply, with which the journal has this length. An accepted change counts once.
+    pub(crate) fn hear(&mut self, book: &mut Book<L>, reply: &Reply, length: u64)
+        requires seen { self.old.front ≡ book.old.total }
+        requires length { length ≡ length_after book.old.total reply.now }
+        ensures pass { self.new ≡ pass_after self.old book.old.total reply.now }
         ensures total { book.new.total ≡ length }
     {
-        book.add(&mut self.share, 1);
-        book.audit(&mut self.share);
-        self.told += 1;
-        self.front = length;
+        if let Reply::Counted(_) = *reply {
+            book.add(&mut self.share, 1);
+            book.audit(&mut self.share);
+            self.told += 1;
+            self.front = length;
+        }
     }
 }

@@ -1,10 +1,12 @@
 //! What lies under the lock of a desk: the hall, and the count of the changes of which passes were told.
 ghost use Rattle.std.specs.Prelude.{◌≡◌, ◌↔◌, ◌+◌, ◌<◌, true, false, [], length, vec_len, None, IfSome, IfOk, IfErr, OnOk, OnErr};
 ghost use Rattle.std.specs.Arc.{arc_value};
-ghost use Rattle.hall.specs.Hall.{told_as};
+ghost use Rattle.search.specs.Search.{settled_of};
+ghost use Rattle.hall.specs.Answers.{answer_of};
 ghost use Rattle.pool.specs.Passes.{IsSeenAt, shares_of};
 ghost use Rattle.pool.specs.Rooms.{IsKept};
-ghost use Rattle.pool.specs.Served.{IsAnsweredAt, IsLentAt, IsReadOff, IsPolledAt, GoesOnWaiting};
+ghost use Rattle.pool.specs.Served.{IsAnsweredAt, IsLentAt, IsReadAs, IsPolledAt, IsVerdictOn, GoesOnWaiting};
+ghost use Rattle.pool.specs.Verdicts.{IsTrueWhereCompleted, rows_read};
 
 use crate::faults::{DeskFault, Told};
 use crate::passes::Pass;
@@ -128,14 +130,19 @@ impl<L: Ledger> Room<L> {
     {
         self.show(pass)?;
         let who = pass.tenant();
-        if let Request::Close(number) = request {
+        self.note_close(who, &request);
+        let reply = self.hall.ask(who, request)?;
+        pass.hear(&mut self.book, &reply, self.hall.journal_len());
+        Ok(reply)
+    }
+
+    /// Notes the search that the request ends, where it ends one.
+    fn note_close(&mut self, who: Entity, request: &Request)
+        ensures { self.new ≡ self.old }
+    {
+        if let Request::Close(number) = *request {
             self.ended = Some((who, number));
         }
-        let reply = self.hall.ask(who, request)?;
-        if let Reply::Counted(_) = reply {
-            pass.count(&mut self.book, self.hall.journal_len());
-        }
-        Ok(reply)
     }
 
     /// Where the request reads a completed search of the pass's tenant, that search: it doesn't change any more, so the reply
@@ -148,9 +155,13 @@ impl<L: Ledger> Room<L> {
         let (Request::Poll(number) | Request::Proof(number, _)) = *request else {
             return None;
         };
-        let search = self.hall.completed(pass.tenant(), number).ok()??;
-        self.show(pass).ok()?;
-        Some(search)
+        let Ok(Some(search)) = self.hall.completed(pass.tenant(), number) else {
+            return None;
+        };
+        match self.show(pass) {
+            Ok(()) => Some(search),
+            Err(_) => None,
+        }
     }
 
     /// What the search of the pass's tenant has come to, with what it is for and what it reads.
@@ -159,11 +170,12 @@ impl<L: Ledger> Room<L> {
     {
         let who = pass.tenant();
         self.show(pass)?;
-        let answer = self.hall.poll(who, number)?;
         let Some(search) = self.hall.search(who, number) else {
+            // The hall refuses it.
+            self.hall.poll(who, number)?;
             unreachable!()
         };
-        Ok(Verdict::new(search, answer)?)
+        verdict_on(search)
     }
 
     /// Whether a wait for the search of this tenant, by a pass of this front, is over.
@@ -228,11 +240,19 @@ impl<L: Ledger> Room<L> {
 }
 
 /// The reply to a request that reads the search.
-pub(crate) fn read_off(alloc: Global, search: &Search, request: &Request) -> Result<Reply, Fault>
-    ensures { IsReadOff search.now request.now (told_as (λ r. r) result) }
+pub(crate) fn read_off(alloc: Global, search: &Search, request: &Request) -> Told<Reply>
+    ensures { IsReadAs search.now request.now result }
 {
     Ok(match request {
         Request::Proof(_, member) => Reply::Proof(proof_of(alloc, search, member)?),
         _ => Reply::Answered(told_of(search)?),
     })
+}
+
+/// The verdict on the search as it stands.
+pub(crate) fn verdict_on(search: &Search) -> Told<Verdict>
+    requires { IsTrueWhereCompleted (rows_read search.now.snapshot) search.now.query (answer_of (settled_of search.now)) }
+    ensures { IsVerdictOn search.now result }
+{
+    Ok(Verdict::new(search, told_of(search)?)?)
 }

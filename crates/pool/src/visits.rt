@@ -75,7 +75,6 @@ impl<L: Ledger> Room<L> {
     }
 
     /// Hands in all that a worker holds, and answers how many letters are finished. After a stop they are given back.
-    #[tactic(auto, using(crate::proofs::Visiting::handed_in_journal))]
     pub(crate) fn hand_in(&mut self, batch: &mut Batch) -> u64
         requires { IsLookedUp batch.old }
         ensures handed_in { AreHandedIn self.old.stopped self.old.hall batch.old.letters result self.new.hall }

@@ -112,7 +112,9 @@ pub fn run_workers<L: Ledger + Send + Sync, G: Gate, R: Threads + Wait + Sync>(
     ensures done { IfOk result (DoneBy n) }
     ensures refused { IfErr result IsWorkRefusal }
 {
-    let mut handles = Vec::with_capacity(alloc, n as usize).map_err(Fault::from)?;
+    let Ok(mut handles) = Vec::with_capacity(alloc, n as usize) else {
+        return Err(DeskFault::Hall(Fault::Memory));
+    };
     thread::scope(
         thread::scope_env(),
         rt,
@@ -121,20 +123,18 @@ pub fn run_workers<L: Ledger + Send + Sync, G: Gate, R: Threads + Wait + Sync>(
             ensures done { IfOk result (DoneBy n) }
             ensures refused { IfErr result IsWorkRefusal }
         {
-            let mut refused = false;
             for _worker in 0..n {
                 let Ok(handle) = scope.spawn(move || work(rt, alloc, desk, gate)) else {
                     desk.stop(rt);
-                    refused = true;
-                    break;
+                    join_all(rt, handles);
+                    return Err(DeskFault::NoThread);
                 };
                 handles.push_reserved(handle);
             }
-            let all = join_all(rt, handles);
-            if refused {
-                return Err(DeskFault::NoThread);
+            match join_all(rt, handles) {
+                Some(all) => Ok(all),
+                None => Err(DeskFault::Hall(Fault::Memory)),
             }
-            all.ok_or(DeskFault::Hall(Fault::Memory))
         },
     )
 }

@@ -1,5 +1,4 @@
-use Rattle.std.proofs.Common.{rules, subst}
-use Rattle.pool.specs.Rooms.{RoomState, IsKept}
+use Rattle.std.proofs.Common.{rules}
 use Rattle.pool.proofs.Under.{admitted_there}
 use Rattle.pool.proofs.desks.Desk.pass.Goals as goal
 

@@ -1,5 +1,5 @@
-use Rattle.std.specs.Prelude.{◌≡◌, false, vec_len, vec_capacity}
+use Rattle.std.specs.Prelude.{◌≡◌, vec_len, vec_capacity}
 use Rattle.pool.proofs.workers.fn.run_workers.scope.Given as goal
 
 abbrev pub invariant-loop-worker : goal.invariant-loop-worker
-invariant-loop-worker g l = (vec_len l.handles ≡ l._worker) × (vec_capacity l.handles ≡ vec_capacity l.initial.handles) × (l.refused ≡ false)
+invariant-loop-worker g l = (vec_len l.handles ≡ l._worker) × (vec_capacity l.handles ≡ vec_capacity l.initial.handles)
