@@ -15,19 +15,18 @@ use Rattle.hall.proofs.laws.HallSound.{carried_sound}
 use Rattle.hall.proofs.registry.Hall.drive.Goals as goal
 use Rattle.hall.proofs.registry.Hall.drive.Goals.{After-settle}
 
-pub returns-in_err-opened-clause-driven : goal.returns-in_err-opened-clause-driven
-returns-in_err-opened-clause-driven c =
+pub returns-in_err-opened : goal.returns-in_err-opened
+returns-in_err-opened c =
     let p = err_from_is_err_and c.from_residual.result c.from_residual.ensures.1 in
     let h : HallState = hall_of c.self.inside.book c.self.inside.tenants in
-    rw (p.1, p.2, ← c.self.view_is)
-    (subst (CarriesOut h c.args.who (waits c.args.number) (Refused c.in_err-opened.field-0.0)) (sym (ap (hall_of c.self.inside.book) (not_given c.in_err-opened.was c.opened_mut.follows.holds-at-none)))
-    (nowhere_driven h c.args.who c.args.number c.in_err-opened.field-0.0 c.in_err-opened.ensures.nowhere))
-
-pub returns-in_err-opened-clause-quiet : goal.returns-in_err-opened-clause-quiet
-returns-in_err-opened-clause-quiet c =
-    let h : HallState = hall_of c.self.inside.book c.self.inside.tenants in
-    subst (λ (g : HallState). SearchIsQuiet g c.args.who c.args.number) (sym (ap (hall_of c.self.inside.book) (not_given c.in_err-opened.was c.opened_mut.follows.holds-at-none)))
-    (none_quiet h c.args.who c.args.number (none_there h c.args.who c.args.number c.in_err-opened.field-0.0 c.in_err-opened.ensures.nowhere))
+    let same = ap (hall_of c.self.inside.book) (not_given c.in_err-opened.was c.opened_mut.follows.holds-at-none) in
+    let nowhere = c.in_err-opened.ensures.nowhere in
+    rw (p.1, p.2, ← c.self.view_is) record {
+      driven = subst (CarriesOut h c.args.who (waits c.args.number) (Refused c.in_err-opened.field-0.0)) (sym same)
+          (nowhere_driven h c.args.who c.args.number c.in_err-opened.field-0.0 nowhere);
+      quiet = subst (λ (g : HallState). SearchIsQuiet g c.args.who c.args.number) (sym same)
+          (none_quiet h c.args.who c.args.number (none_there h c.args.who c.args.number c.in_err-opened.field-0.0 nowhere));
+    }
 
 -- a search that goes on
 abbrev goes : After-settle → Running
@@ -57,9 +56,10 @@ invariant_of-self-2 c =
     c.self.invariant
     (carried_sound _ _ c.args.who (waits c.args.number) (told_as Answered c.drive-told.result) c.self.invariant.sound (driven d))
 
-pub returns-clause-driven : goal.returns-clause-driven
-returns-clause-driven c = rw (← c.self.view_is) (driven c.before)
-
-pub returns-clause-quiet : goal.returns-clause-quiet
-returns-clause-quiet c =
-    let d = c.before in drives_quiet _ c.args.who c.args.number _ (goes d) (goes_there d) (went d).search (becomes d) c.drive-told.result c.drive-told.ensures.driven
+pub returns : goal.returns
+returns c =
+    let d = c.before in
+    rw (← c.self.view_is) record {
+      driven = driven d;
+      quiet = drives_quiet _ c.args.who c.args.number _ (goes d) (goes_there d) (went d).search (becomes d) c.drive-told.result c.drive-told.ensures.driven;
+    }

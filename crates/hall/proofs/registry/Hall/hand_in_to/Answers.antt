@@ -12,14 +12,17 @@ use Rattle.hall.proofs.Unsettled.{unsettled_before_hands}
 use Rattle.hall.proofs.registry.Hall.hand_in_to.Goals as goal
 use Rattle.hall.proofs.registry.Hall.hand_in_to.Goals.{After-hand_in-finished}
 
-pub returns-in_default-clause-handed_in : goal.returns-in_default-clause-handed_in
-returns-in_default-clause-handed_in c =
+pub returns-in_default : goal.returns-in_default
+returns-in_default c =
     let h : HallState = hall_of c.self.inside.book c.self.inside.tenants in
-    rw (← c.self.view_is)
-    (subst (λ (g : HallState). AreHandedIn c.args.back h c.args.batch.now.letters 0 g) (sym (ap (hall_of c.self.inside.book) (not_given c.in_default.is c.opened_mut.follows.holds-at-none)))
-    (stay_each c.args.back h c.args.who c.args.number
-    (one_gone c.args.back h c.args.who c.args.number (none_there h c.args.who c.args.number c.in_default.field-0 c.in_default.ensures.nowhere))
-    [] c.args.batch.now.letters AreHandedIn.nothing c.requires.letters))
+    rw (← c.self.view_is) record {
+      handed_in = subst (λ (g : HallState). AreHandedIn c.args.back h c.args.batch.now.letters 0 g)
+          (sym (ap (hall_of c.self.inside.book) (not_given c.in_default.is c.opened_mut.follows.holds-at-none)))
+          (stay_each c.args.back h c.args.who c.args.number
+          (one_gone c.args.back h c.args.who c.args.number (none_there h c.args.who c.args.number c.in_default.field-0 c.in_default.ensures.nowhere))
+          [] c.args.batch.now.letters AreHandedIn.nothing c.requires.letters);
+      most = omega arith;
+    }
 
 -- a completed search
 pub invariant_of-self-in_default-carried : goal.invariant_of-self-in_default-carried
@@ -71,5 +74,5 @@ invariant_of-self-2 c =
     (c.hand_in-finished.ensures.handed_in c.args.who c.args.number c.requires.of)) c.settle.ensures.kept c.self.invariant
     (handed_in_sound c.args.back _ c.args.batch.now.letters c.hand_in-finished.result _ c.self.invariant.sound (handed d))
 
-pub returns-clause-handed_in : goal.returns-clause-handed_in
-returns-clause-handed_in c = rw (← c.self.view_is) (handed (goal.at.returns-clause-handed_in c).After-hand_in-finished)
+pub returns : goal.returns
+returns c = rw (← c.self.view_is) record { handed_in = handed (goal.at.returns c).After-hand_in-finished; most = c.hand_in-finished.ensures.most }

@@ -17,13 +17,16 @@ use Rattle.hall.proofs.laws.HallSound.{stepped_sound}
 use Rattle.hall.proofs.registry.Hall.take.Goals as goal
 use Rattle.hall.proofs.registry.Hall.take.Goals.{After-branch-task, In-Some}
 
-pub returns-in_default-clause-taken : goal.returns-in_default-clause-taken
-returns-in_default-clause-taken c =
-    rw (← c.self.view_is)
-    (takes_as _ c.args.who c.args.number _ {E = AllocError} c.args.place (Ok None) None refl
-    (nowhere (hall_of c.self.inside.book c.self.inside.tenants) c.args.who c.args.number (◌≡◌ {A = Result (Option TakenLetter) AllocError} (Ok None) (Ok None))
-    (λ s t. TakesJob {E = AllocError} c.args.who c.args.number c.args.place s (Ok None) t) c.in_default.field-0 c.in_default.ensures.nowhere _
-    (ap (hall_of c.self.inside.book) (not_given c.in_default.is c.opened_mut.follows.holds-at-none)) refl))
+pub returns-in_default : goal.returns-in_default
+returns-in_default c =
+    rw (← c.self.view_is) record {
+      taken = takes_as _ c.args.who c.args.number _ {E = AllocError} c.args.place (Ok None) None refl
+          (nowhere (hall_of c.self.inside.book c.self.inside.tenants) c.args.who c.args.number (◌≡◌ {A = Result (Option TakenLetter) AllocError} (Ok None) (Ok None))
+          (λ s t. TakesJob {E = AllocError} c.args.who c.args.number c.args.place s (Ok None) t) c.in_default.field-0 c.in_default.ensures.nowhere _
+          (ap (hall_of c.self.inside.book) (not_given c.in_default.is c.opened_mut.follows.holds-at-none)) refl);
+      only_memory = tt;
+      unchanged = tt;
+    }
 
 -- a completed search
 pub invariant_of-self-in_default-carried : goal.invariant_of-self-in_default-carried
@@ -67,23 +70,27 @@ pub invariant_of-self-in_err-task : goal.invariant_of-self-in_err-task
 invariant_of-self-in_err-task c =
     subst (IsIndexed c.self.inside.busy) (sym (stays (goal.at.invariant_of-self-in_err-task c).After-branch-task c.in_err-task.ensures.unchanged)) c.self.invariant
 
-pub returns-in_err-task-clause-unchanged : goal.returns-in_err-task-clause-unchanged
-returns-in_err-task-clause-unchanged c =
+pub returns-in_err-task : goal.returns-in_err-task
+returns-in_err-task c =
     let p = err_from_is_err_and c.from_residual.result c.from_residual.ensures.1 in
-    rw p.1 (stays (goal.at.returns-in_err-task-clause-unchanged c).After-branch-task c.in_err-task.ensures.unchanged ∙ c.self.view_is)
+    rw p.1
+    record { taken = tt; only_memory = p.2; unchanged = stays (goal.at.returns-in_err-task c).After-branch-task c.in_err-task.ensures.unchanged ∙ c.self.view_is }
 
 pub invariant_of-self-in_default-task : goal.invariant_of-self-in_default-task
 invariant_of-self-in_default-task c =
     subst (IsIndexed c.self.inside.busy) (sym (stays (goal.at.invariant_of-self-in_default-task c).After-branch-task (c.in_ok-task.ensures.none c.in_default-task.is).1)) c.self.invariant
 
-pub returns-in_default-task-clause-taken : goal.returns-in_default-task-clause-taken
-returns-in_default-task-clause-taken c =
-    let d = (goal.at.returns-in_default-task-clause-taken c).After-branch-task in
+pub returns-in_default-task : goal.returns-in_default-task
+returns-in_default-task c =
+    let d = (goal.at.returns-in_default-task c).After-branch-task in
     let none = c.in_ok-task.ensures.none c.in_default-task.is in
-    rw (← c.self.view_is)
-    (takes_as _ c.args.who c.args.number _ {E = AllocError} c.args.place (Ok None) None refl
-    (there _ _ _ (goes d) (goes_there d) _ c.take.new.self (becomes d) (◌≡◌ {A = Result (Option TakenLetter) AllocError} (Ok None) (Ok None))
-    (λ s t. TakesJob {E = AllocError} c.args.who c.args.number c.args.place s (Ok None) t) (none.0, none.1, c.kept.ensures.sound)))
+    rw (← c.self.view_is) record {
+      taken = takes_as _ c.args.who c.args.number _ {E = AllocError} c.args.place (Ok None) None refl
+          (there _ _ _ (goes d) (goes_there d) _ c.take.new.self (becomes d) (◌≡◌ {A = Result (Option TakenLetter) AllocError} (Ok None) (Ok None))
+          (λ s t. TakesJob {E = AllocError} c.args.who c.args.number c.args.place s (Ok None) t) (none.0, none.1, c.kept.ensures.sound));
+      only_memory = tt;
+      unchanged = tt;
+    }
 
 -- the letter that is taken
 abbrev job : In-Some → TakenLetter
@@ -112,5 +119,5 @@ invariant_of-self-2 c =
     (unsettled_before_taken {E = AllocError} c.args.who c.args.number c.args.place c.in-Own.search (Ok (Some (job c))) c.take.new.self (takes c)) (λ name k listed. inr listed)
     c.self.invariant (stepped_sound _ _ (Take c.args.who c.args.number c.args.place) (taken c).0 c.self.invariant.sound (taken c).1)
 
-pub returns-clause-taken : goal.returns-clause-taken
-returns-clause-taken c = rw (← c.self.view_is) (taken c)
+pub returns : goal.returns
+returns c = rw (← c.self.view_is) record { taken = taken c; only_memory = tt; unchanged = tt }

@@ -1,4 +1,5 @@
-use Rattle.std.proofs.Common.{◌≡◌, ◌∙◌, ℕ, List, [], length, arith, Some, Ok, ap, sym, subst, refl, inr}
+use Rattle.std.proofs.Common.{◌≡◌, ◌∙◌, ℕ, List, [], length, arith, Some, Ok, Err, ap, sym, subst, refl, inr}
+use Rattle.std.proofs.lemmas.Result.{err_from_is_err_and}
 use Rattle.search.specs.Batches.{TakenLetter, Visits}
 use Rattle.search.specs.Carried.{carried_search}
 use Rattle.hall.specs.declared.faults.Fault.{Fault}
@@ -21,13 +22,18 @@ nothing_taken who k most h new letters none quiet same =
     subst (λ (g : HallState). IsVisited {E = Fault} who k most h (Ok tt) g letters) (sym same)
     (subst (IsVisited {E = Fault} who k most h (Ok tt) h) (sym none) (no_visit {E = Fault} who k most h (Ok tt) quiet))
 
-pub returns-in_default-clause-visited : goal.returns-in_default-clause-visited
-returns-in_default-clause-visited c =
+pub returns-in_default : goal.returns-in_default
+returns-in_default c =
     let h : HallState = hall_of c.self.inside.book c.self.inside.tenants in
-    rw (← c.self.view_is)
-    (nothing_taken c.args.who c.args.number c.args.most h _ c.args.batch.now.letters c.requires.empty.0
-    (none_quiet h c.args.who c.args.number (none_there h c.args.who c.args.number c.in_default.field-0 c.in_default.ensures.nowhere))
-    (ap (hall_of c.self.inside.book) (not_given c.in_default.is c.opened_mut.follows.holds-at-none)))
+    rw (← c.self.view_is) record {
+      visited = nothing_taken c.args.who c.args.number c.args.most h _ c.args.batch.now.letters c.requires.empty.0
+          (none_quiet h c.args.who c.args.number (none_there h c.args.who c.args.number c.in_default.field-0 c.in_default.ensures.nowhere))
+          (ap (hall_of c.self.inside.book) (not_given c.in_default.is c.opened_mut.follows.holds-at-none));
+      only_memory = tt;
+      bound = let none : length c.args.batch.now.letters ≡ 0 = ap length c.requires.empty.0 in omega (arith, none);
+      looked = c.requires.empty.1;
+      room = refl;
+    }
 
 -- a completed search
 pub invariant_of-self-in_default-carried : goal.invariant_of-self-in_default-carried
@@ -84,16 +90,26 @@ made c = visits_as _ c.args.who c.args.number c.args.most c.visit.new.batch.lett
 pub invariant_of-self-in_err-visit : goal.invariant_of-self-in_err-visit
 invariant_of-self-in_err-visit c = indexed c.before.before c.self.inside.busy (λ name k listed. inr listed)
 
-pub returns-in_err-visit-clause-visited : goal.returns-in_err-visit-clause-visited
-returns-in_err-visit-clause-visited c =
-    rw (← c.self.view_is)
-    (visited_nothing c.args.who c.args.number c.args.most _ c.visit.result _ c.visit.new.batch.letters (made c.before.before) _ c.from_residual.result c.in_err-visit.was
-    c.from_residual.ensures.0)
+pub returns-in_err-visit : goal.returns-in_err-visit
+returns-in_err-visit c =
+    let p = err_from_is_err_and c.from_residual.result c.from_residual.ensures.1 in
+    rw (p.1, ← c.self.view_is) record {
+      visited = visited_nothing c.args.who c.args.number c.args.most _ c.visit.result _ c.visit.new.batch.letters (made c.before.before) _ (Err p.0) c.in_err-visit.was refl;
+      only_memory = p.2;
+      bound = c.visit.ensures.bound;
+      looked = c.visit.ensures.looked;
+      room = c.visit.ensures.room;
+    }
 
 pub invariant_of-self-2 : goal.invariant_of-self-2
 invariant_of-self-2 c = indexed c.before.before.before.before c.settle.new.busy c.settle.ensures.kept
 
-pub returns-clause-visited : goal.returns-clause-visited
-returns-clause-visited c =
-    rw (← c.self.view_is)
-    (visited_well c.args.who c.args.number c.args.most _ c.visit.result _ c.visit.new.batch.letters (made c.before.before.before.before) Fault c.in_ok-visit.was)
+pub returns : goal.returns
+returns c =
+    rw (← c.self.view_is) record {
+      visited = visited_well c.args.who c.args.number c.args.most _ c.visit.result _ c.visit.new.batch.letters (made c.before.before.before.before) Fault c.in_ok-visit.was;
+      only_memory = tt;
+      bound = c.visit.ensures.bound;
+      looked = c.visit.ensures.looked;
+      room = c.visit.ensures.room;
+    }
