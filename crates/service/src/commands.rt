@@ -1,8 +1,7 @@
 //! The commands of a script.
 ghost use Rattle.std.specs.Prelude.{◌≡◌, ◌≤◌, ◌⊎◌, [], ◌∷◌, None, Some, length, IfOk, IfErr};
-ghost use Rattle.credential_text.specs.declared.faults.CredFault.{CredFault};
+ghost use Rattle.credential_text.specs.{declared.faults.CredFault.CredFault, Spelling.Spells};
 ghost use Rattle.credential_text.specs.Refusal as credential;
-ghost use Rattle.credential_text.specs.Spelling.{Spells};
 ghost use Rattle.service.specs.Command.{form_of, form_in, forms_with, Reads};
 
 use crate::refusals::Refusal;
@@ -22,8 +21,7 @@ pub(crate) enum Command {
     Wait(u64),
 }
 
-/// The command that the text writes, or why it writes none: the first refusal from left to right, and want of
-/// memory last.
+/// The command that the text writes, or why it writes none: the first refusal from left to right, and want of memory last.
 pub(crate) fn read_command(alloc: Global, text: &[u8]) -> Result<Command, Refusal>
     ensures { Reads (form_of text.now) result }
 {
@@ -39,10 +37,9 @@ pub(crate) fn read_command(alloc: Global, text: &[u8]) -> Result<Command, Refusa
     match split_words(rest) {
         Arguments::Nothing if verb == b"vault".as_slice() => Ok(Command::Request(Request::Vault)),
         Arguments::Nothing if verb == b"sees".as_slice() => Ok(Command::Request(Request::Sees)),
-        Arguments::Nothing => Err(Refusal::Command),
+        Arguments::Nothing | Arguments::More => Err(Refusal::Command),
         Arguments::One(word) => read_with_one(verb, word),
         Arguments::Two(first, second) => read_with_two(verb, first, second),
-        Arguments::More => Err(Refusal::Command),
     }
 }
 
@@ -54,22 +51,22 @@ fn read_with_one(verb: &[u8], word: &[u8]) -> Result<Command, Refusal>
         if word == b"*".as_slice() {
             return Ok(Command::Request(Request::Alter(Change::GrantAll)));
         }
-        Ok(Command::Request(Request::Alter(Change::Grant(Entity::read(word)?))))
-    } else if verb == b"revoke".as_slice() {
+        return Ok(Command::Request(Request::Alter(Change::Grant(Entity::read(word)?))));
+    }
+    if verb == b"revoke".as_slice() {
         if word == b"*".as_slice() {
             return Ok(Command::Request(Request::Alter(Change::RevokeAll)));
         }
-        Ok(Command::Request(Request::Alter(Change::Revoke(Entity::read(word)?))))
-    } else if verb == b"who".as_slice() {
-        Ok(Command::Request(Request::Seek(Query::Who(Role::read(word)?))))
-    } else if verb == b"poll".as_slice() {
-        Ok(Command::Request(Request::Poll(number(word).ok_or(Refusal::Command)?)))
-    } else if verb == b"wait".as_slice() {
-        Ok(Command::Wait(number(word).ok_or(Refusal::Command)?))
-    } else if verb == b"end".as_slice() {
-        Ok(Command::Request(Request::Close(number(word).ok_or(Refusal::Command)?)))
-    } else {
-        Err(Refusal::Command)
+        return Ok(Command::Request(Request::Alter(Change::Revoke(Entity::read(word)?))));
+    }
+    if verb == b"who".as_slice() {
+        return Ok(Command::Request(Request::Seek(Query::Who(Role::read(word)?))));
+    }
+    match number(word) {
+        Some(search) if verb == b"poll".as_slice() => Ok(Command::Request(Request::Poll(search))),
+        Some(search) if verb == b"wait".as_slice() => Ok(Command::Wait(search)),
+        Some(search) if verb == b"end".as_slice() => Ok(Command::Request(Request::Close(search))),
+        _ => Err(Refusal::Command),
     }
 }
 
@@ -78,12 +75,10 @@ fn read_with_two(verb: &[u8], first: &[u8], second: &[u8]) -> Result<Command, Re
     ensures { Reads (form_in (forms_with (first.now ∷ second.now ∷ [])) verb.now) result }
 {
     if verb == b"ask".as_slice() {
-        let role = Role::read(first)?;
-        Ok(Command::Request(Request::Seek(Query::Ask(role, Entity::read(second)?))))
+        Ok(Command::Request(Request::Seek(Query::Ask(Role::read(first)?, Entity::read(second)?))))
     } else if verb == b"proof".as_slice() {
         let search = number(first).ok_or(Refusal::Command)?;
-        let member = Entity::read(second)?;
-        Ok(Command::Request(Request::Proof(search, member)))
+        Ok(Command::Request(Request::Proof(search, Entity::read(second)?)))
     } else {
         Err(Refusal::Command)
     }

@@ -1,5 +1,4 @@
-//! The connections of a service: one thread accepts them, one after another, also after an accept that failed, and hands
-//! them to those that answer.
+//! The connections of a service: one thread accepts them, also after an accept that failed, and hands them to those that answer.
 ghost use Rattle.std.specs.Prelude.{◌≡◌, ◌*◌, ◌↔◌, min, IsTrue, IfErr, option_map};
 ghost use Rattle.std.specs.Duration.{as_nanos};
 ghost use Rattle.service.specs.{Roster.names_of, Served.Answered, Served.IsLasting};
@@ -11,14 +10,13 @@ use crate::sessions::serve_session;
 use crossbeam_channel::{Receiver, Sender, bounded};
 use pool::Desk;
 use std::alloc::Global;
-use std::io::{Error, ErrorKind, Read};
+use std::io::{self, Error, ErrorKind, Read};
 use std::net::{OpenListener, TcpListener, TcpStream};
 use std::sync::Wait;
 use std::sync::atomic::{AtomicBool, Ordering};
 use std::sync::ledger::Ledger;
-use std::thread::Threads;
+use std::thread::{self, Threads};
 use std::time::{Clock, Duration};
-use std::{io, thread};
 
 /// How many accepted connections wait for a session that is free. More wait in the listener.
 const QUEUED: usize = 1;
@@ -69,8 +67,7 @@ impl Arrivals {
     }
 }
 
-/// What a peer says. Once the service has stopped reading fails, so that the session ends. Where it waited for its peer
-/// meanwhile, what comes then isn't answered.
+/// What a peer says. Once the service has stopped reading fails, so the session ends, and what comes then isn't answered.
 #[derive(Drop)]
 struct Says<'a> {
     stream: &'a TcpStream,
@@ -103,12 +100,11 @@ pub(crate) fn answer_connections<L: Ledger + Send + Sync, R: Threads + Wait + Cl
     let Ok((sender, queue)) = bounded::<TcpStream, _>(alloc, QUEUED) else {
         return Err(ServeFault::Memory);
     };
-    let arrivals = Arrivals {
+    let arrivals = &Arrivals {
         queue,
         idle_seconds: options.idle_seconds,
         is_stopped: AtomicBool::new(false),
     };
-    let arrivals = &arrivals;
     thread::scope(
         thread::scope_env(),
         rt,
@@ -189,8 +185,7 @@ fn next_pause(pause: u64) -> u64
     pause.saturating_mul(2).min(LONGEST_PAUSE)
 }
 
-/// Whether a failed accept shows that the listener itself is at fault, so that each later one fails too: it isn't listening,
-/// no connections can be had of it, it doesn't wait for them, or its descriptor isn't open or no socket.
+/// Whether a failed accept shows that the listener itself is at fault, so that each later one fails too.
 fn is_lasting(error: &Error) -> bool
     ensures { IsTrue result ↔ IsLasting error.now }
 {
@@ -218,12 +213,11 @@ fn answer_queue<L: Ledger, R: Wait>(
         let Ok(stream) = arrivals.queue.recv(rt) else {
             break;
         };
-        let stream = &stream;
+        let mut stream = &stream;
         if arrivals.limit(stream).is_ok() {
             let _ = stream.set_nodelay(true);
             let reader = Says { stream, arrivals };
-            let mut writer = stream;
-            let _end = serve_session(rt, alloc, desk, roster, reader, &mut writer);
+            let _end = serve_session(rt, alloc, desk, roster, reader, &mut stream);
         }
     }
 }

@@ -1,12 +1,10 @@
-//! Replies: the room in which the lines of one are put together, and its lines. Only a vault, lists of names and a proof may
-//! take memory.
-ghost use Rattle.std.specs.Prelude.{◌≡◌, ◌≤◌, ◌+◌, ◌++◌, [], ◌∷◌, length, codes, map, vec_len, vec_capacity, decimal, IfOk, OnOk, OnErr};
+//! Replies: the room for the lines of one, and its lines. Only a vault, lists of names and a proof may take memory.
+ghost use Rattle.std.specs.Prelude.{◌≡◌, ◌≤◌, ◌+◌, ◌++◌, [], length, codes, map, vec_len, vec_capacity, decimal, IfOk, OnOk, OnErr};
 ghost use Rattle.std.specs.{List.flat_map, Io.KnownBytes.Appends};
 ghost use Rattle.service.specs.Reply.{front_of, line_after, error_text, listed, seen_text, text_lines, lines_after, IsLong, IsFilled};
-ghost use Rattle.service.specs.{Refusal.refusal_number, Session.session_line, Written.WritesFront};
-ghost use Rattle.credential_text.specs.Spelling.{canonical};
+ghost use Rattle.{service.specs.Session.session_line, service.specs.Written.WritesFront, credential_text.specs.Spelling.canonical};
 
-use crate::refusals::{Refusal, fault_text};
+use crate::refusals::fault_text;
 use credential_text::{Credential, write_credential};
 use hall::{Answer, Fault, Proof, Reply, write_proof};
 use names::Entity;
@@ -16,8 +14,7 @@ use std::io::Write;
 use std::marker::Model;
 use vaults::Seen;
 
-/// Who a reply is for. In a script that is the tenant that the line names, or nobody where it names none; in a session
-/// it is the peer, whose lines have nothing in front.
+/// Who a reply is for: in a script the tenant that the line names, if it names one, and in a session the peer.
 #[derive(Clone, Copy)]
 pub(crate) enum Speaker {
     Nobody,
@@ -63,8 +60,9 @@ impl Room {
     pub(crate) fn make(alloc: Global) -> Result<Room, AllocError>
         ensures { IfOk result (λ r. r ≡ []) }
     {
-        let bytes = Vec::with_capacity(alloc, SHORT_REPLY)?;
-        Ok(Room { bytes })
+        Ok(Room {
+            bytes: Vec::with_capacity(alloc, SHORT_REPLY)?,
+        })
     }
 
     /// Where it takes its memory from.
@@ -143,15 +141,7 @@ fn append_digits(out: &mut Vec<u8>, number: u64)
     out.push(b'0' + (number % 10) as u8).unwrap();
 }
 
-/// Fills the room with the line that refuses a text. It takes no memory.
-pub(crate) fn fill_refusal(room: &mut Room, who: &Speaker, refusal: Refusal)
-    ensures { room.new ≡ line_after (front_of who.now) (error_text (refusal_number refusal)) }
-{
-    fill_error(room, who, refusal.number());
-}
-
-/// Fills the room with the lines of a reply. A vault, a list of names and a proof take memory, and without it the one line
-/// says so. How a step of a search went, for which no command asks, has no line.
+/// Fills the room with the lines of a reply, or where memory lacks for a long one with the line that says so.
 pub(crate) fn fill_reply(room: &mut Room, who: &Speaker, reply: &Reply)
     ensures { IsFilled (front_of who.now) reply.now room.new }
 {
@@ -274,7 +264,8 @@ fn write_sees(room: &mut Room, who: &Speaker, seen: &[Seen]) -> Result<(), Alloc
     room.begin(who);
     room.append(b"sees");
     for one in seen {
-        write_name(room, &one.name)?;
+        room.extend(b" ")?;
+        room.extend(one.name.bytes())?;
         if one.to_all {
             room.extend(b"*")?;
         }
@@ -289,25 +280,17 @@ fn write_members(room: &mut Room, who: &Speaker, names: &[Entity]) -> Result<(),
     room.begin(who);
     room.append(b"members");
     for name in names {
-        write_name(room, name)?;
+        room.extend(b" ")?;
+        room.extend(name.bytes())?;
     }
     room.extend(b"\n")
-}
-
-/// Appends a space and a name.
-fn write_name(room: &mut Room, name: &Entity) -> Result<(), AllocError>
-    ensures { OnOk result (room.new ≡ room.old ++ 32 ∷ name.now) }
-{
-    room.extend(b" ")?;
-    room.extend(name.bytes())
 }
 
 /// A writer failed, or took no byte.
 #[derive(Clone, Copy)]
 pub(crate) struct WriteFault;
 
-/// Writes the whole reply, in as many calls as the writer needs. Each error of `write` is a fault, and so is
-/// a call that takes no byte: nothing is tried again.
+/// Writes the whole reply, in as many calls as the writer needs. An error, or a call that takes no byte, is a fault at once.
 pub(crate) fn write_reply<W: Write>(writer: &mut W, reply: &[u8]) -> Result<(), WriteFault>
     ensures ok { OnOk result (Appends (W.contents writer.old) (W.contents writer.new) reply.now) }
     ensures err { OnErr result (WritesFront (W.contents writer.old) (W.contents writer.new) reply.now) }

@@ -1,12 +1,10 @@
 //! Rosters: the tenants that an input begins with.
 ghost use Rattle.std.specs.Prelude.{◌≡◌, ◌≢◌, ◌↔◌, ◌∷◌, None, Some, map, get_or, true, IsTrue, IfOk, IfErr, OnOk, IfSome, IfNone};
 ghost use Rattle.std.specs.{Io.KnownBytes.Appends, List.list_any, List.IsDistinct};
-ghost use Rattle.names.specs.Name.{IsName, is_same};
-ghost use Rattle.{quotas.specs.Quota.Quota, hall.specs.Hall.new_hall};
-ghost use Rattle.service.specs.{Line.commands_of, LineReader.IfKnown, Words.words, Words.number_of};
+ghost use Rattle.{names.specs.Name.IsName, names.specs.Name.is_same, quotas.specs.Quota.Quota, hall.specs.Hall.new_hall};
+ghost use Rattle.service.specs.{Line.commands_of, LineReader.IfKnown, Words.words, Words.number_of, Written.TakesRoster, Written.OpensWith};
 ghost use Rattle.service.specs.Roster as roster;
 ghost use Rattle.service.specs.Roster.{IsLimits, IsRow, IsTenant, names_of, tenant_of, AddsRow, ReadsRoster};
-ghost use Rattle.service.specs.Written.{TakesRoster, OpensWith};
 
 use crate::faults::ScriptFault;
 use crate::lines::{LineReader, NextLine};
@@ -27,9 +25,6 @@ const MOST_TENANTS: usize = 1_000;
 
 /// The most bytes of a tenant's word.
 const MOST_WORD: usize = 64;
-
-/// What answers a faulty roster.
-const ROSTER_REFUSAL: &[u8; 19] = b"?: error 63 roster\n";
 
 /// Who may speak: 1 to 1,000 tenants, each with a name of its own, a word and its limits.
 #[derive(Drop)]
@@ -83,9 +78,7 @@ impl Roster {
                 ),
                 NextLine::Text(text) => add_row(&mut rows, text)?,
                 NextLine::Fault => return Err(ScriptFault::Read),
-                NextLine::Long | NextLine::NotAscii | NextLine::End => {
-                    return Err(ScriptFault::Roster);
-                }
+                _ => return Err(ScriptFault::Roster),
             }
         }
         Err(ScriptFault::Read)
@@ -168,8 +161,7 @@ fn is_text(kept: &[u8], said: &[u8]) -> bool
 {
     let mut is_same = kept.len() == said.len();
     for (place, byte) in kept.iter().enumerate() {
-        let is_there = said.get(place).is_some_and(|other| *other == *byte);
-        is_same &= is_there;
+        is_same &= said.get(place) == Some(byte);
     }
     is_same
 }
@@ -180,17 +172,13 @@ fn read_row(text: &[u8]) -> Option<(Entity, &[u8], Limits)>
     ensures none { IfNone result ((row : roster.Row) → IsRow text.now row → ⊥) }
 {
     let (first, rest) = next_word(text)?;
-    if first != b"tenant".as_slice() {
-        return None;
-    }
     let (name, rest) = next_word(rest)?;
     let (word, rest) = next_word(rest)?;
-    if word.len() > MOST_WORD {
+    if first != b"tenant".as_slice() || word.len() > MOST_WORD {
         return None;
     }
     let name = Entity::read(name).ok()?;
-    let limits = read_limits(rest)?;
-    Some((name, word, limits))
+    Some((name, word, read_limits(rest)?))
 }
 
 /// The limits that the text gives: the usual ones where it has no word, and else those of six numbers.
@@ -219,8 +207,7 @@ fn next_number(text: &[u8]) -> Option<(u64, &[u8])>
     ensures none { IfNone result (get_or (map number_of (words text.now)) 0 None ≡ None) }
 {
     let (word, rest) = next_word(text)?;
-    let n = number(word)?;
-    Some((n, rest))
+    Some((number(word)?, rest))
 }
 
 /// The roster that an input begins with. A faulty one is answered at once by one line. What was read ahead of the
@@ -249,7 +236,7 @@ pub(crate) fn take_roster<R: Read + Drop, W: Write>(
     ensures silent { OnOk result (W.contents writer.new ≡ W.contents writer.old) }
 {
     match Roster::read(alloc, lines) {
-        Err(ScriptFault::Roster) => match write_reply(writer, ROSTER_REFUSAL) {
+        Err(ScriptFault::Roster) => match write_reply(writer, b"?: error 63 roster\n") {
             Ok(()) => Err(ScriptFault::Roster),
             Err(WriteFault) => Err(ScriptFault::Write),
         },

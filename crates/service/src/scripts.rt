@@ -1,20 +1,19 @@
 //! A script: a roster, then the commands of its tenants, each with its reply.
-ghost use Rattle.std.specs.{Prelude.IfSome, Io.KnownBytes.Appends};
+ghost use Rattle.std.specs.{Prelude.◌≡◌, Prelude.◌⊎◌, Prelude.IfSome, Io.KnownBytes.Appends};
 ghost use Rattle.hall.specs.Hall.{CarriesOut};
 ghost use Rattle.service.specs.Outcome.{IsOutcome, IsSaid, deed_of, speaks, Becomes};
-ghost use Rattle.service.specs.{Command.form_of, Line.commands_of, Line.text, Written.ScriptWrote};
+ghost use Rattle.service.specs.{Command.form_of, Line.commands_of, Line.text, LineReader.IfKnown, Written.end_of, Written.ScriptWrote};
 
 use crate::commands::{Command, read_command};
 use crate::conversations::{Flow, Host, SessionEnd, converse};
 use crate::faults::ScriptFault;
 use crate::lines::LineReader;
 use crate::refusals::Refusal;
-use crate::replies::{Room, Speaker, fill_refusal, fill_reply};
+use crate::replies::{Room, Speaker, fill_error, fill_reply};
 use crate::rosters::take_roster;
-use crate::words::split_at_colon;
 use hall::{Hall, Reply};
 use names::Entity;
-use names::texts::trim_start;
+use names::texts::{cut, trim_start};
 use std::alloc::Global;
 use std::io::{Read, Write};
 
@@ -30,7 +29,7 @@ impl Host for Hall {
 
     #[tactic(auto, using(crate::proofs::OutcomeLemmas::long_answered, crate::proofs::OutcomeLemmas::not_ascii_answered))]
     fn refuse(&self, why: Refusal, reply: &mut Room) -> Flow {
-        fill_refusal(reply, &Speaker::Nobody, why);
+        fill_error(reply, &Speaker::Nobody, why.number());
         Flow::GoesOn
     }
 }
@@ -47,11 +46,30 @@ pub fn run_script<R: Read + Drop, W: Write>(
 {
     let mut reply = Room::make(alloc)?;
     let mut lines = LineReader::make(alloc, reader)?;
-    let roster = take_roster(alloc, &mut lines, writer)?;
-    let Ok(mut hall) = roster.hall(alloc) else {
+    run_lines(alloc, &mut lines, &mut reply, writer)
+}
+
+/// Runs the script of these lines.
+fn run_lines<R: Read + Drop, W: Write>(
+    alloc: Global,
+    lines: &mut LineReader<R>,
+    reply: &mut Room,
+    writer: &mut W,
+) -> Result<(), ScriptFault>
+    ensures { IfKnown lines.old
+        (λ lines. ScriptWrote lines result (Appends (W.contents writer.old) (W.contents writer.new))) }
+{
+    let Ok(mut hall) = take_roster(alloc, lines, writer)?.hall(alloc) else {
         return Err(ScriptFault::Memory);
     };
-    match converse(&mut hall, &mut lines, &mut reply, writer) {
+    result_of(converse(&mut hall, lines, reply, writer))
+}
+
+/// What a script comes to by the end of its conversation.
+fn result_of(end: SessionEnd) -> Result<(), ScriptFault>
+    ensures { (end ≡ SessionEnd.Quit) ⊎ (end ≡ end_of result) }
+{
+    match end {
         SessionEnd::Quit | SessionEnd::EndOfInput => Ok(()),
         SessionEnd::Read => Err(ScriptFault::Read),
         SessionEnd::Write => Err(ScriptFault::Write),
@@ -63,12 +81,13 @@ pub fn run_script<R: Read + Drop, W: Write>(
 fn answer_line(alloc: Global, line: &[u8], hall: &mut Hall, reply: &mut Room)
     ensures { Becomes hall.old (IsOutcome (speaks hall.old) (text line.now)) reply.new hall.new }
 {
-    let Some((before, said)) = split_at_colon(trim_start(line)) else {
-        return fill_refusal(reply, &Speaker::Nobody, Refusal::Command);
+    let (before, said) = cut(trim_start(line), b':');
+    let Some(said) = said else {
+        return fill_error(reply, &Speaker::Nobody, Refusal::Command.number());
     };
     match Entity::read(before) {
         Ok(who) if hall.has(who) => answer_tenant(alloc, who, said, hall, reply),
-        _ => fill_refusal(reply, &Speaker::Nobody, Refusal::BadHello),
+        _ => fill_error(reply, &Speaker::Nobody, Refusal::BadHello.number()),
     }
 }
 
@@ -78,7 +97,7 @@ fn answer_tenant(alloc: Global, who: Entity, said: &[u8], hall: &mut Hall, reply
 {
     match read_command(alloc, said) {
         Ok(command) => fill_reply(reply, &Speaker::Tenant(who), &carry_out(hall, who, command)),
-        Err(refusal) => fill_refusal(reply, &Speaker::Tenant(who), refusal),
+        Err(refusal) => fill_error(reply, &Speaker::Tenant(who), refusal.number()),
     }
 }
 

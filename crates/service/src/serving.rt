@@ -1,5 +1,5 @@
 //! The service: connections that are answered, and the workers beside them.
-ghost use Rattle.std.specs.Prelude.{◌≡◌, ◌≤◌, ◌⊎◌, ◌↔◌, ◌++◌, Some, length, decimal, IsOk, IfOk, IfErr, OnOk, OnErr};
+ghost use Rattle.std.specs.Prelude.{◌≡◌, ◌≤◌, ◌++◌, Some, length, decimal, IfOk, OnOk, OnErr};
 ghost use Rattle.std.specs.Io.KnownBytes.{Appends};
 ghost use Rattle.service.specs.{Roster.names_of, Served.Answered, Served.ServeWrote, Session.session_line, Written.WritesFront};
 
@@ -50,41 +50,56 @@ pub fn serve<R: Threads + Wait + Clock + Sync, W: Write>(
     ensures count { IfOk result (λ n. options.accept ≡ Some n) }
     ensures wrote { ServeWrote options.accept result (Appends (W.contents writer.old) (W.contents writer.new)) }
 {
+    let Ok(mut line) = Room::make(alloc) else {
+        return Err(ServeFault::Memory);
+    };
     let blank = Blank::new(PARTS);
-    serve_with::<Brand, R, W>(rt, alloc, blank, roster, listener, options, writer)
+    serve_with::<Brand, R, W>(rt, blank, roster, listener, options, writer, &mut line)
 }
 
 /// Serves at a new desk of the roster's tenants, whose ledger has this name.
 fn serve_with<L: Ledger + Send + Sync, R: Threads + Wait + Clock + Sync, W: Write>(
     rt: &R,
-    alloc: Global,
     blank: Blank,
     roster: &Roster,
     listener: TcpListener,
     options: ServeOptions,
     writer: &mut W,
+    line: &mut Room,
 ) -> Result<u64, ServeFault>
-    requires name { blank.name ≡ L.name }
-    requires parts { blank.parts ≡ L.parts }
-    requires room { blank.parts ≡ PARTS }
+    requires { (blank.name ≡ L.name) × (blank.parts ≡ L.parts) × (blank.parts ≡ PARTS) }
     ensures count { IfOk result (λ n. options.accept ≡ Some n) }
     ensures wrote { ServeWrote options.accept result (Appends (W.contents writer.old) (W.contents writer.new)) }
 {
-    let Ok(desk) = roster.desk::<L>(alloc, blank) else {
+    let Ok(desk) = roster.desk::<L>(line.alloc(), blank) else {
         return Err(ServeFault::Memory);
     };
-    let Ok(mut line) = Room::make(alloc) else {
-        return Err(ServeFault::Memory);
-    };
+    serve_at(rt, &desk, roster, listener, options, writer, line)
+}
+
+/// Serves at this desk, and tells by this line.
+fn serve_at<L: Ledger + Send + Sync, R: Threads + Wait + Clock + Sync, W: Write>(
+    rt: &R,
+    desk: &Desk<L>,
+    roster: &Roster,
+    listener: TcpListener,
+    options: ServeOptions,
+    writer: &mut W,
+    line: &mut Room,
+) -> Result<u64, ServeFault>
+    requires { desk.now ≡ names_of roster.now }
+    ensures count { IfOk result (λ n. options.accept ≡ Some n) }
+    ensures wrote { ServeWrote options.accept result (Appends (W.contents writer.old) (W.contents writer.new)) }
+{
     let Ok(address) = listener.local_addr() else {
         return Err(ServeFault::Socket);
     };
     let port = u64::from(address.port());
-    let Ok(()) = tell(writer, &mut line, b"listening 127.0.0.1:", port) else {
+    let Ok(()) = tell(writer, line, b"listening 127.0.0.1:", port) else {
         return Err(ServeFault::Write);
     };
-    let count = answer_beside_workers(rt, alloc, &desk, roster, listener, options)?;
-    let Ok(()) = tell(writer, &mut line, b"served ", count) else {
+    let count = answer_beside_workers(rt, line.alloc(), desk, roster, listener, options)?;
+    let Ok(()) = tell(writer, line, b"served ", count) else {
         return Err(ServeFault::Write);
     };
     Ok(count)
@@ -113,7 +128,6 @@ fn answer_beside_workers<L: Ledger + Send + Sync, R: Threads + Wait + Clock + Sy
     requires { desk.now ≡ names_of roster.now }
     ensures { Answered options.accept result }
 {
-    let workers = options.workers;
     thread::scope(
         thread::scope_env(),
         rt,
@@ -121,15 +135,18 @@ fn answer_beside_workers<L: Ledger + Send + Sync, R: Threads + Wait + Clock + Sy
             requires { desk.now ≡ names_of roster.now }
             ensures { Answered options.accept result }
         {
-            let Ok(working) = scope.spawn(move || work(rt, alloc, desk, workers)) else {
+            let Ok(working) = scope.spawn(move || work(rt, alloc, desk, options.workers)) else {
                 return Err(ServeFault::NoThread);
             };
             let answered = answer_connections(rt, alloc, desk, roster, listener, options);
             desk.stop(rt);
             let worked = working.join(rt);
             let count = answered?;
-            worked_well(worked)?;
-            Ok(count)
+            match worked {
+                Ok(_letters) => Ok(count),
+                Err(DeskFault::NoThread) => Err(ServeFault::NoThread),
+                Err(_fault) => Err(ServeFault::Memory),
+            }
         },
     )
 }
@@ -145,18 +162,6 @@ fn work<L: Ledger + Send + Sync, R: Threads + Wait + Sync>(
     let worked = run_workers(rt, alloc, desk, workers.clamp(1, 64), &NoGate);
     desk.stop(rt);
     worked
-}
-
-/// The fault of the workers, if there was one.
-fn worked_well(worked: Result<u64, DeskFault>) -> Result<(), ServeFault>
-    ensures well { IsOk result ↔ IsOk worked }
-    ensures why { IfErr result (λ why. (why ≡ ServeFault.NoThread) ⊎ (why ≡ ServeFault.Memory)) }
-{
-    match worked {
-        Ok(_letters) => Ok(()),
-        Err(DeskFault::NoThread) => Err(ServeFault::NoThread),
-        Err(_fault) => Err(ServeFault::Memory),
-    }
 }
 
 #[cfg(test)]

@@ -7,7 +7,7 @@ use crate::commands::{Command, read_command};
 use crate::conversations::{Flow, Host, SessionEnd, converse};
 use crate::lines::LineReader;
 use crate::refusals::Refusal;
-use crate::replies::{Room, Speaker, fill_error, fill_hello, fill_refusal, fill_reply, fill_text};
+use crate::replies::{Room, Speaker, fill_error, fill_hello, fill_reply, fill_text};
 use crate::rosters::Roster;
 use crate::words::{Arguments, is_word, next_word, split_words};
 use hall::Reply;
@@ -30,8 +30,7 @@ struct Session<'a, L: Ledger, R> {
 
 impl<'a, L: Ledger, R> Model for Session<'a, L, R> {
     ghost use Rattle.std.specs.Prelude.{◌≡◌};
-    ghost use Rattle.service.specs.Roster.{names_of};
-    ghost use Rattle.service.specs.Session.{SessionState};
+    ghost use Rattle.service.specs.{Roster.names_of, Session.SessionState};
 
     ghost Value = { SessionState };
 
@@ -60,14 +59,14 @@ impl<L: Ledger, R: Wait> Host for Session<'_, L, R> {
                     fill_hello(reply, &pass.tenant());
                     self.pass = Some(pass);
                 }
-                Err(why) => fill_refusal(reply, &Speaker::Peer, why),
+                Err(why) => fill_error(reply, &Speaker::Peer, why.number()),
             },
         }
         Flow::GoesOn
     }
 
     fn refuse(&self, why: Refusal, reply: &mut Room) -> Flow {
-        fill_refusal(reply, &Speaker::Peer, why);
+        fill_error(reply, &Speaker::Peer, why.number());
         Flow::GoesOn
     }
 }
@@ -118,15 +117,13 @@ impl<L: Ledger, R: Wait> Session<'_, L, R> {
         let Arguments::Two(name, word) = split_words(said) else {
             return Err(Refusal::Command);
         };
-        if !self.roster.check(name, word) {
-            return Err(Refusal::BadHello);
-        }
-        let Ok(who) = Entity::read(name) else {
-            return Err(Refusal::BadHello);
-        };
-        match self.desk.pass(self.rt, who) {
-            Ok(pass) => Ok(pass),
-            Err(_lacking) => Err(Refusal::Memory),
+        let is_known = self.roster.check(name, word);
+        match Entity::read(name) {
+            Ok(who) if is_known => match self.desk.pass(self.rt, who) {
+                Ok(pass) => Ok(pass),
+                Err(_lacking) => Err(Refusal::Memory),
+            },
+            _ => Err(Refusal::BadHello),
         }
     }
 
@@ -139,7 +136,7 @@ impl<L: Ledger, R: Wait> Session<'_, L, R> {
                 Ok(told) => fill_reply(reply, &Speaker::Peer, &told),
                 Err(fault) => fill_error(reply, &Speaker::Peer, fault.number()),
             },
-            Err(refusal) => fill_refusal(reply, &Speaker::Peer, refusal),
+            Err(refusal) => fill_error(reply, &Speaker::Peer, refusal.number()),
         }
     }
 

@@ -1,27 +1,13 @@
 //! The words of a line.
-ghost use Rattle.std.specs.Prelude.{◌≡◌, ◌↔◌, [], ◌∷◌, true, false, IsTrue, MatchOption, IfSome};
-ghost use Rattle.std.specs.List.{before_first, after_first, list_all, list_any};
-ghost use Rattle.names.specs.Name.{is_digit};
-ghost use Rattle.service.specs.Words.{is_colon, words, after_word, AreArguments, is_number, number_of};
+ghost use Rattle.std.specs.Prelude.{◌≡◌, ◌↔◌, [], ◌∷◌, IsTrue, MatchOption, IfSome};
+ghost use Rattle.{std.specs.List.list_all, names.specs.Name.is_digit};
+ghost use Rattle.service.specs.Words.{words, after_word, AreArguments, is_number, number_of};
 
 use names::texts::{cut, trim_start};
 use std::str;
 
 /// The most digits of a number.
 const MOST_DIGITS: usize = 10;
-
-/// The name before the first colon and the command after it, if there is a colon.
-pub(crate) fn split_at_colon(line: &[u8]) -> Option<(&[u8], &[u8])>
-    ensures found { MatchOption result (list_any is_colon line.now ≡ false) (λ _. list_any is_colon line.now ≡ true) }
-    ensures before { IfSome result (λ parts. parts.0.now ≡ before_first is_colon line.now) }
-    ensures after { IfSome result (λ parts. parts.1.now ≡ after_first is_colon line.now) }
-{
-    let (name, command) = cut(line, b':');
-    match command {
-        Some(command) => Some((name, command)),
-        None => None,
-    }
-}
 
 /// The first word and what stands after it, if there is a word.
 pub(crate) fn next_word(text: &[u8]) -> Option<(&[u8], &[u8])>
@@ -78,13 +64,12 @@ pub(crate) fn split_words(text: &[u8]) -> Arguments<'_>
 pub(crate) fn number(text: &[u8]) -> Option<u64>
     ensures { result ≡ number_of text.now }
 {
-    if is_number(text) {
-        match str::from_utf8(text) {
-            Ok(digits) => digits.parse().ok(),
-            Err(_) => None,
-        }
-    } else {
-        None
+    if !is_number(text) {
+        return None;
+    }
+    match str::from_utf8(text) {
+        Ok(digits) => digits.parse().ok(),
+        Err(_) => None,
     }
 }
 
@@ -92,10 +77,7 @@ pub(crate) fn number(text: &[u8]) -> Option<u64>
 fn is_number(text: &[u8]) -> bool
     ensures { result ≡ is_number text.now }
 {
-    let Some(first) = text.first() else {
-        return false;
-    };
-    *first > b'0' && text.len() <= MOST_DIGITS && are_digits(text)
+    !text.is_empty() && text[0] > b'0' && text.len() <= MOST_DIGITS && are_digits(text)
 }
 
 /// Whether there are digits alone.

@@ -10,4 +10,4 @@ returns-in-Ok c =
 
 pub returns-in-Err : goal.returns-in-Err
 returns-in-Err c =
-    Becomes-refused c.args.hall.now c.args.who (form_of c.args.said.now) c.in-Err.refusal c.fill_refusal.new.room c.in-Err.ensures c.fill_refusal.ensures
+    Becomes-refused c.args.hall.now c.args.who (form_of c.args.said.now) c.in-Err.refusal c.fill_error.new.room c.in-Err.ensures (rw c.number.ensures at c.fill_error.ensures)

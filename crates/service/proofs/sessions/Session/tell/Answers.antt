@@ -12,4 +12,4 @@ returns-in-Err-carry_out g c =
     IsTold.carried_out c.in-Ok.command (Err c.in-Err-carry_out.fault) c.in-Ok.ensures c.in-Err-carry_out.ensures (rw c.number.ensures at c.fill_error.ensures)
 
 pub returns-in-Err : goal.returns-in-Err
-returns-in-Err g c = IsTold.refused c.in-Err.refusal c.in-Err.ensures c.fill_refusal.ensures refl
+returns-in-Err g c = IsTold.refused c.in-Err.refusal c.in-Err.ensures (rw c.number-in-Err.ensures at c.fill_error-in-Err.ensures) refl
