@@ -15,7 +15,6 @@ enum MeetMemory<K: Key> {
 /// What an intersection of 2 to 8 parts was told: for each entity, by its key, the parts that told it. Contracts say what it
 /// hears by the names that the keys stand for, whichever these are. What it was told stands on the heap, since most monitors
 /// of a search are told nothing and stand side by side.
-#[derive(Drop)]
 pub struct KeyedMeet<K: Key> {
     memory: MeetMemory<K>,
     alloc: Global,
@@ -30,6 +29,16 @@ impl<K: Key> Model for KeyedMeet<K> {
     ghost view = { λ m. meet_told m.memory };
 
     ghost invariant = { λ m. IsMeetMemory m.memory };
+}
+
+// By hand, so that who holds one drops it by one call, whose proof stands here.
+impl<K: Key> Drop for KeyedMeet<K> {
+    fn drop(self) {
+        let KeyedMeet {
+            memory: _memory,
+            alloc: _alloc,
+        } = self;
+    }
 }
 
 impl<K: Key> KeyedMeet<K> {

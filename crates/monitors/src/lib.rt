@@ -10,7 +10,6 @@
 mod keyed_meets;
 mod keys;
 mod link_monitors;
-mod link_sets;
 mod meet_monitors;
 mod meet_tables;
 mod tellers;

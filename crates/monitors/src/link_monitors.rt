@@ -1,10 +1,17 @@
 ghost use Rattle.std.specs.Prelude.{◌≡◌, [], IfOk, OnOk, OnErr, Contains};
 
 use crate::keys::Key;
-use crate::link_sets::LinkSets;
+use indexmap::IndexSet;
 use names::Entity;
 use std::alloc::{AllocError, Global};
 use std::marker::Model;
+
+/// What a linked role was told, once it was told something: as sets in order of telling.
+#[derive(Drop)]
+struct LinkSets<K: Key> {
+    bases: IndexSet<K>,
+    members: IndexSet<K>,
+}
 
 /// What a linked role keeps of what it was told: nothing, until it is told something.
 #[derive(Drop)]
@@ -16,7 +23,6 @@ enum LinkMemory<K: Key> {
 /// What a linked role `A.s.t` was told: the members of its base `A.s`, and the entities that came to it by way of
 /// these, by name or by another key. Contracts see it as the two lists, each in order of telling. What it was told stands
 /// on the heap, since most monitors of a search are told nothing and stand side by side.
-#[derive(Drop)]
 pub struct LinkMonitor<K: Key = Entity> {
     memory: LinkMemory<K>,
     alloc: Global,
@@ -29,6 +35,16 @@ impl<K: Key> Model for LinkMonitor<K> {
     ghost Value = { LinkToldBy K };
 
     ghost view = { λ m. link_told m.memory };
+}
+
+// By hand, so that who holds one drops it by one call, whose proof stands here.
+impl<K: Key> Drop for LinkMonitor<K> {
+    fn drop(self) {
+        let LinkMonitor {
+            memory: _memory,
+            alloc: _alloc,
+        } = self;
+    }
 }
 
 impl<K: Key> LinkMonitor<K> {
@@ -52,10 +68,14 @@ impl<K: Key> LinkMonitor<K> {
         ensures unchanged { OnErr result (self.new ≡ self.old) }
     {
         match &mut self.memory {
-            LinkMemory::Told(sets) => sets.base_told(base),
+            LinkMemory::Told(sets) => Ok(sets.bases.insert(base)?),
             LinkMemory::Untold => {
-                let mut sets = Box::new(self.alloc, LinkSets::new(self.alloc))?;
-                let is_new = sets.base_told(base)?;
+                let nothing = LinkSets {
+                    bases: IndexSet::new(self.alloc),
+                    members: IndexSet::new(self.alloc),
+                };
+                let mut sets = Box::new(self.alloc, nothing)?;
+                let is_new = sets.bases.insert(base)?;
                 self.memory = LinkMemory::Told(sets);
                 Ok(is_new)
             }
@@ -71,8 +91,9 @@ impl<K: Key> LinkMonitor<K> {
         ensures growth { OnErr result (Contains self.old.members who → ⊥) }
         ensures unchanged { OnErr result (self.new ≡ self.old) }
     {
+        let _base = base;
         match &mut self.memory {
-            LinkMemory::Told(sets) => sets.via_told(base, who),
+            LinkMemory::Told(sets) => Ok(sets.members.insert(who)?),
             LinkMemory::Untold => unreachable!(),
         }
     }

@@ -11,7 +11,7 @@ use std::marker::Model;
 /// sent. Nodes are best numbered from 0 on: memory is taken up to the greatest number of a node that was engaged, and
 /// where that can't be had `finish` is refused. Only `start` and `finish` take memory. What a finished letter said is
 /// dropped once no letter that was sent after it is left, or earlier. Contracts see it as a `Computation`.
-#[derive(Debug, Drop)]
+#[derive(Debug)]
 pub struct Diffusion<P> {
     letters: LetterTable<P>,
     signals: VecDeque<Parent>,
@@ -34,6 +34,18 @@ impl<P> Model for Diffusion<P> {
     ghost view = { λ a. held_in a.letters a.signals.items a.nodes.items };
 
     ghost invariant = { λ a. IsKept (held_in a.letters a.signals.items a.nodes.items) a.environment a.nodes.items };
+}
+
+// By hand, so that who holds one drops it by one call, whose proof stands here.
+impl<P: Drop> Drop for Diffusion<P> {
+    fn drop(self) {
+        let Diffusion {
+            letters: _letters,
+            signals: _signals,
+            nodes: _nodes,
+            environment: _environment,
+        } = self;
+    }
 }
 
 impl<P: Drop> Diffusion<P> {

@@ -2,17 +2,20 @@
 use Rattle.std.proofs.Common.{◌≡◌, ◌∙◌, ◌+◌, ◌++◌, ◌∷◌, ◌<◌, ◌≤◌, ℕ, Bool, true, false, List, [], length, map, get_or, take, ap, sym, subst, refl, inl, inr, arith, None, Some, Option, option_map, if◌then◌else◌}
 use Rattle.std.specs.Prelude.{slice_get, slice_set}
 use Rattle.std.proofs.Math.Seq.{map-set_same}
-use Rattle.std.proofs.lemmas.List.{map_more, length-map}
+use Rattle.std.proofs.lemmas.Bool.{cases_eq}
+use Rattle.std.proofs.lemmas.List.{map_more, length-map, length-set, get_or-set_same, get_or-set_other}
 use Rattle.std.proofs.lemmas.List.Elements.{All-map}
 use Rattle.std.proofs.lemmas.Option.{slice_get-map}
 use Rattle.search.specs.declared.batches.HeldLetter.{HeldLetter}
 use Rattle.search.specs.declared.batches.NamedSearch.{NamedSearch}
 use Rattle.search.specs.declared.queries.Hint.{Hint}
 use Rattle.scholten_core.specs.declared.letters.Letter.{Letter}
+use Rattle.std.specs.Arc.{arc_value}
+use Rattle.search.specs.Need.{right_hint}
 use Rattle.search.specs.Net.{Said}
 use Rattle.search.specs.Stage.{held_in, stage_marked}
 use Rattle.search.specs.Search.{SearchState}
-use Rattle.search.specs.Batches.{TakenLetter, BatchState, IsBatch, IsLookedUp, IsNextLetter, AreOf, name_of, taken_of, letters_of}
+use Rattle.search.specs.Batches.{TakenLetter, BatchState, IsBatch, IsLookedUp, IsLookedUpIn, IsNextLetter, AreOf, name_of, taken_of, letters_of}
 use Rattle.search.specs.Batches.{MakesStep, WorksOn, HandsInAs, HandsInEach, PutsBack}
 
 -- what a batch of these fields is
@@ -52,6 +55,16 @@ module _ (of : NamedSearch) (es : List HeldLetter) (looked room : ℕ) (e : Held
   looked_up_batch =
       ap (λ (ls : List TakenLetter). record (batch (Some of) es looked room) { letters = ls; looked = looked + 1 })
       (map-set_same (taken_of of) es looked (record e { hint = hint }) e (ap (taken_of of) at))
+
+  -- the letter has its right hint then, as those before it
+  pub looked_up_more : hint ≡ right_hint (arc_value of.snapshot).vaults e.need → IsBatch (Some of) es looked → IsBatch (Some of) with_hint (looked + 1)
+  looked_up_more right is = (
+    omega (arith, length-set es looked (record e { hint = hint }), within),
+    λ k d first below. elim (cases_eq k looked) [
+      | inl same ↦ subst (IsLookedUpIn of) (sym (ap (λ j. get_or with_hint j d) same ∙ get_or-set_same es looked (record e { hint = hint }) d within)) right
+      | inr other ↦ subst (IsLookedUpIn of) (sym (get_or-set_other es looked k (record e { hint = hint }) d other)) (is.1 k d first (omega (arith, below, other)))
+    ],
+  )
 
 -- by what the search answered
 pub puts_back : (s t : SearchState) (number : ℕ) (back : Bool) → (back ≡ false → held_in s.stage number ≡ None) → (back ≡ false → t ≡ s) →

@@ -15,7 +15,7 @@ pub enum Load<E = Entity> {
 }
 
 /// A letter in the hands of who finishes it.
-#[derive(Clone, Copy)]
+#[derive(Drop)]
 pub struct Held<L> {
     pub from: Parent,
     pub to: u64,

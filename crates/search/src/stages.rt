@@ -70,7 +70,9 @@ pub(crate) fn hold(stage: &mut NumberedStage, place: u64) -> Option<(u64, Held<L
         return None;
     }
     let number = running.take(place);
-    let letter = running.letter(number)?;
+    let Some(letter) = running.letter(number) else {
+        return None;
+    };
     let held = Held {
         from: letter.from,
         to: letter.to,

@@ -27,3 +27,8 @@ returns c =
     (hears_new c.args.found.now old.graph c.add_numbered_listener.new.self old.monitors.items old.outs.items c.found.view_is c.tell_known.new.found c.args.node c.args.asker c.args.port
     (subst (ListenerGiven old.graph c.add_numbered_listener.new.self c.args.node (record { asker = c.args.asker; port = port_at old.graph.nodes c.args.port })) c.if-not-branch.false c.in_ok-add_numbered_listener.ensures.ok))
     c.tell_known.ensures
+
+pub add_numbered_listener-requires : goal.add_numbered_listener-requires
+add_numbered_listener-requires c =
+    subst (λ (s : Progress). record { asked : c.args.node < length s.graph.nodes; asker : c.args.asker < length s.graph.nodes; port : IsPort s.graph.nodes c.args.port }) (sym c.found.view_is)
+    (record { asked = c.requires.node; asker = c.requires.asker; port = c.requires.port })

@@ -1,8 +1,9 @@
 -- The asker was told of one more solution.
-use Rattle.std.proofs.Common.{ℕ, List}
+use Rattle.std.proofs.Common.{ℕ, ◌<◌, ◌∙◌, List, length, subst, sym}
 use Rattle.cred_graph.specs.GraphState.{GraphState, members_of}
-use Rattle.cred_graph.specs.Numbers.{entity_at, port_at}
+use Rattle.cred_graph.specs.Numbers.{IsEntity, IsPort, entity_at, port_at}
 use Rattle.search.specs.declared.letters.Load.TheVariants as load
+use Rattle.search.specs.Answers.{Progress}
 use Rattle.search.specs.Numbered.{progress_at}
 use Rattle.search.proofs.Numbered.{tells_on}
 use Rattle.search.proofs.hearing.tell_known.Goals as goal
@@ -12,3 +13,13 @@ loop-place-preserved c =
     let now = c.found-in-loop-place.inside in
     tells_on (λ (g : GraphState) (who : List ℕ). (c.args.asker, load.Tell (port_at g.nodes c.args.port) who)) (λ (g : GraphState). members_of g c.args.node) (λ (g : GraphState). entity_at g.nodes c.numbered_solution-who.result) c.args.found.now c.loop-place.found
     (progress_at now.graph now.monitors.items now.outs.items) c.send.new.self c.loop-place.place c.loop-place.invariant c.found-in-loop-place.view_is c.numbered_solution-who.ensures.solution c.in_ok-send.ensures.sent
+
+pub numbered_solution-who-requires-clause-node : goal.numbered_solution-who-requires-clause-node
+numbered_solution-who-requires-clause-node c =
+    subst (λ (s : Progress). c.args.node < length s.graph.nodes) (sym c.loop-place.invariant ∙ sym c.found-in-loop-place.view_is) c.requires.node
+
+pub send-requires : goal.send-requires
+send-requires c = (
+  subst (λ (s : Progress). IsPort s.graph.nodes c.args.port) (sym c.loop-place.invariant) c.requires.port,
+  subst (λ (s : Progress). IsEntity s.graph.nodes c.numbered_solution-who.result) c.found-in-loop-place.view_is c.numbered_solution-who.ensures.entity,
+)

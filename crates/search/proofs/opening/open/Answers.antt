@@ -19,3 +19,12 @@ returns-in-Ent c =
     (λ solves e there. subst (λ (x : Expr). Opens (own_rows c.args.snapshot.now.vaults x) c.args.found.now c.solve.new.found c.args.node x) (same_Some (Ent c.in-Ent._who) e (sym at ∙ there))
     (subst (λ (who : List ℕ). Solves c.args.found.now c.solve.new.found c.args.node who reason.Leaf) named solves))
     c.solve.ensures
+
+pub solve-requires : goal.solve-requires
+solve-requires c =
+    let nodes = c.args.found.now.graph.nodes in
+    let is : slice_get nodes c.args.node ≡ Some c.expr.result.now = subst (λ (s : Progress). slice_get s.graph.nodes c.args.node ≡ Some c.expr.result.now) c.found.view_is c.expr.ensures.node in
+    let at = is ∙ ap Some c.in-Ent.is in
+    let there = ap (slice_get nodes) c.short-who.ensures ∙ at in
+    let named = entity_is nodes c.short-who.result c.in-Ent._who there in
+    record { node = c.requires.node; entity = (c.in-Ent._who, there); reason = tt; fits = at ∙ ap (λ (who : List ℕ). Some (Ent who)) (sym named) }

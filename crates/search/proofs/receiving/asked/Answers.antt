@@ -1,5 +1,5 @@
 -- What opens adds nodes, so the node and its asker are there still, and the port stays what it is.
-use Rattle.std.proofs.Common.{[], inr, get_or, sym, subst, arith, ◌∙◌}
+use Rattle.std.proofs.Common.{[], inl, inr, refl, get_or, sym, subst, arith, ◌∙◌}
 use Rattle.std.proofs.lemmas.Bool.{false≢true}
 use Rattle.std.proofs.lemmas.Option.{slice_get-get_or}
 use Rattle.std.proofs.lemmas.Result.{on_ok_weaker}
@@ -42,3 +42,9 @@ returns c =
       subst (HearsAsk c.open.new.found c.hear_ask-2.new.found c.args.node c.args.asker) (more_port_same nodes c.open.new.found.graph.nodes c.args.port more c.requires.port) hears,
     ))
     c.hear_ask-2.ensures
+
+pub returns-then-is_open : goal.returns-then-is_open
+returns-then-is_open c =
+    on_ok_weaker c.hear_ask.result
+    (λ hears. (c.args.found.now, inl (subst (λ (s : Progress). IsOpenAt s.graph c.args.node) c.found.view_is (c.is_open.ensures.0 c.if-is_open.true), refl), hears))
+    c.hear_ask.ensures

@@ -21,9 +21,9 @@ returns-clause-held c =
     let st = c.args.stage.now in
     let d = c.in-Running.running in
     let e = c.take-number.new.self in
-    holds_taken (stage_at nodes st) (shown nodes st d c.in-Running.is) (named_with (load_at nodes) e) c.args.place c.take-number.result (letter_with (load_at nodes) c.in_ok-letter.letter.now) (shows nodes st d c.in-Running.is)
+    holds_taken (stage_at nodes st) (shown nodes st d c.in-Running.is) (named_with (load_at nodes) e) c.args.place c.take-number.result (letter_with (load_at nodes) c.in-Some.letter.now) (shows nodes st d c.in-Running.is)
     (takes-named (load_at nodes) d e c.args.place c.take-number.result c.take-number.ensures)
-    (ap (option_map (letter_with (load_at nodes))) c.in_ok-letter.ensures.letter ∙ sym (letter_of-named (load_at nodes) e c.take-number.result))
+    (ap (option_map (letter_with (load_at nodes))) c.in-Some.ensures.letter ∙ sym (letter_of-named (load_at nodes) e c.take-number.result))
     (by_number-named (load_at nodes) e c.take-number.ensures.sound)
 
 pub returns-clause-loads : goal.returns-clause-loads
@@ -37,4 +37,4 @@ returns-clause-load c =
     λ (nodes : List Expr) are.
     let all = subst (λ (e : Computation (Load ℕ)). AreLetters nodes e.letters) (sym c.take-number.ensures.marked)
     (marked_say (IsLoad nodes) c.in-Running.running c.take-number.result true (loads_shown nodes c.args.stage.now c.in-Running.running c.in-Running.is are)) in
-    letter_says (IsLoad nodes) c.take-number.new.self c.take-number.result c.in_ok-letter.letter.now all (sym c.in_ok-letter.ensures.letter)
+    letter_says (IsLoad nodes) c.take-number.new.self c.take-number.result c.in-Some.letter.now all (sym c.in-Some.ensures.letter)

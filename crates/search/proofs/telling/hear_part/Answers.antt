@@ -1,5 +1,6 @@
 -- The monitor that hears is the one at the node.
-use Rattle.std.proofs.Common.{◌≡◌, Some, Bool, List, set, slice_get}
+use Rattle.std.proofs.Common.{◌≡◌, ◌∙◌, arith, sym, Some, Bool, List, set, slice_get}
+use Rattle.std.proofs.lemmas.Option.{slice_get_within}
 use Rattle.std.proofs.lemmas.Result.{IfOk-weaker}
 use Rattle.credential_text.specs.declared.exprs.Expr.{Expr}
 use Rattle.cred_graph.specs.NodeLists.{IsOnce}
@@ -31,3 +32,20 @@ returns-clause-numbers c nodes are is =
     let ms = c.args.monitors.now.items in
     let own = monitor_there nodes ms c.args.node (numbered_monitor.Meet c.in-Meet.told) are (told_at after) in
     still_monitors nodes ms c.args.node (numbered_monitor.Meet c.part_told.new.self) are (meet_after nodes c.in-Meet.told c.part_told.new.self c.args.who own is c.part_told.ensures.keys)
+
+pub index_mut-requires : goal.index_mut-requires
+index_mut-requires c =
+    let within = slice_get_within c.args.monitors.now.items c.args.node (numbered_monitor.Meet c.requires.0) c.requires.1 in
+    omega (arith, within, c.args.monitors.now.ok.0)
+
+pub unreachable-requires : goal.unreachable-requires
+unreachable-requires c =
+    let clash : Some (numbered_monitor.Meet c.requires.0) ≡ Some numbered_monitor.Plain =
+    sym c.requires.1 ∙ read_there c.args.monitors.now.items c.args.node (numbered_monitor.Meet c.requires.0) _ numbered_monitor.Plain c.requires.1 c.index_mut.ensures.value c.in-Plain.is in
+    cc
+
+pub unreachable-requires-in-Link : goal.unreachable-requires-in-Link
+unreachable-requires-in-Link c =
+    let clash : Some (numbered_monitor.Meet c.requires.0) ≡ Some (numbered_monitor.Link c.in-Link._told) =
+    sym c.requires.1 ∙ read_there c.args.monitors.now.items c.args.node (numbered_monitor.Meet c.requires.0) _ (numbered_monitor.Link c.in-Link._told) c.requires.1 c.index_mut.ensures.value c.in-Link.is in
+    cc

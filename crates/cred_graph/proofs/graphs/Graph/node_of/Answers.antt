@@ -1,3 +1,5 @@
+use Rattle.std.proofs.Common.{refl}
+use Rattle.cred_graph.proofs.Lists.{on_err}
 use Rattle.cred_graph.proofs.StoredLemmas.{node_given, node_stands, node_stored}
 use Rattle.cred_graph.proofs.graphs.Graph.node_of.Goals as goal
 
@@ -19,3 +21,18 @@ returns-clause-ok c =
     let absent = rw (← c.self.view_is) at c.in_default.ensures.node in
     rw (← c.self.view_is)
     (node_given c.self.inside.nodes _ c.self.inside.strangers c.self.inside.listeners c.self.inside.solutions c.args.expr.now _ c.in_ok-n.n c.self.invariant absent c.copy_of.ensures.range c.in_ok-copy_of.ensures.same c.in_ok-n.ensures.added c.in_ok-n.ensures.number)
+
+pub invariant_of-self : goal.invariant_of-self
+invariant_of-self c = c.self.invariant
+
+pub returns-in-Some-clause-ok : goal.returns-in-Some-clause-ok
+returns-in-Some-clause-ok c = (c.in-Some.ensures.node, refl)
+
+pub returns-in-Some-clause-graph : goal.returns-in-Some-clause-graph
+returns-in-Some-clause-graph c = c.in-Some.ensures.graph
+
+pub returns-in_err-copy_of-clause-growth : goal.returns-in_err-copy_of-clause-growth
+returns-in_err-copy_of-clause-growth c = on_err c.from_residual.result c.in_default.ensures.node
+
+pub returns-in_err-n-clause-growth : goal.returns-in_err-n-clause-growth
+returns-in_err-n-clause-growth c = on_err c.from_residual-in_err-n.result c.in_default.ensures.node

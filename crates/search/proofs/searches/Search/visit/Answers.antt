@@ -1,6 +1,12 @@
-use Rattle.std.proofs.Common.{arith, ◌≤◌, List, refl, sym, subst}
+use Rattle.std.proofs.Common.{arith, ap, ◌≡◌, ◌≤◌, ◌∙◌, ◌∷◌, [], List, None, Option, rules, Some, length, map, vec_len, refl, sym, subst, vec_capacity}
 use Rattle.std.proofs.lemmas.Result.{err_from_is_err_and}
-use Rattle.search.specs.Batches.{TakenLetter, WorksOn}
+use Rattle.std.proofs.lemmas.Bool.{eqb-true}
+use Rattle.std.proofs.lemmas.List.{length-map}
+use Rattle.search.specs.declared.batches.HeldLetter.{HeldLetter}
+use Rattle.search.specs.declared.batches.NamedSearch.{NamedSearch}
+use Rattle.search.specs.Batches.{BatchState, TakenLetter, WorksOn, WorksUpTo, letters_of, taken_of}
+use Rattle.search.proofs.Batched.{batch, none_in}
+use Rattle.search.proofs.searches.Search.visit.Goals.{Joined-batch}
 use Rattle.search.proofs.searches.Search.visit.Goals as goal
 
 pub returns-in_err-clone-clause-visited : goal.returns-in_err-clone-clause-visited
@@ -13,3 +19,64 @@ returns-in_err-clone-clause-visited c =
       subst (λ (ls : List TakenLetter). WorksOn c.args.who c.args.number c.args.self.now 0 ls c.args.self.now) (sym c.requires.empty.0) WorksOn.nothing,
       refl,
     )
+
+abbrev of_search : (c : Joined-batch) → NamedSearch
+of_search c = record { who = c.args.who; number = c.args.number; snapshot = c.in_ok-clone.field-0 }
+
+is_batch : (c : Joined-batch) → c.match-batch.batch ≡ batch (Some (of_search c)) c.take_each.new.held_letters.items c.batch.inside.looked (vec_capacity c.take_each.new.held_letters)
+is_batch c = search rules
+
+pub returns-then-not-is_empty-clause-visited : goal.returns-then-not-is_empty-clause-visited
+returns-then-not-is_empty-clause-visited c =
+    subst (λ (b : BatchState). WorksUpTo c.args.who c.args.number c.args.most c.args.self.now c.take_each.new.search b.letters) (sym (is_batch c)) c.take_each.ensures.visited
+
+pub returns-then-not-is_empty-clause-looked : goal.returns-then-not-is_empty-clause-looked
+returns-then-not-is_empty-clause-looked c = ap (λ (b : BatchState). b.looked) (is_batch c) ∙ ap (λ (b : BatchState). b.looked) c.batch.view_is ∙ c.requires.empty.1
+
+pub returns-then-not-is_empty-clause-room : goal.returns-then-not-is_empty-clause-room
+returns-then-not-is_empty-clause-room c =
+    ap (λ (b : BatchState). b.room) (is_batch c) ∙ c.take_each.ensures.capacity ∙ ap (λ (b : BatchState). b.room) c.batch.view_is
+
+-- no letters are the letters of any search
+none_are : (o : Option NamedSearch) (of : NamedSearch) (es : List HeldLetter) → length es ≡ 0 → letters_of o es ≡ map (taken_of of) es
+none_are None of [] none = refl
+none_are (Some other) of [] none = refl
+none_are None of (e ∷ es) none = absurd (omega arith)
+none_are (Some other) of (e ∷ es) none = absurd (omega arith)
+
+pub returns-else-not-is_empty-clause-visited : goal.returns-else-not-is_empty-clause-visited
+returns-else-not-is_empty-clause-visited c =
+    let held = c.take_each.new.held_letters in
+    let none : length held.items ≡ 0 = omega (arith, eqb-true (vec_len held) 0 (sym c.if-not-is_empty.ensures), held.ok.0) in
+    subst (λ (ls : List TakenLetter). WorksUpTo c.args.who c.args.number c.args.most c.args.self.now c.take_each.new.search ls)
+    (sym (none_are c.batch.inside.of (record { who = c.args.who; number = c.args.number; snapshot = c.in_ok-clone.field-0 }) held.items none)) c.take_each.ensures.visited
+
+pub returns-else-not-is_empty-clause-looked : goal.returns-else-not-is_empty-clause-looked
+returns-else-not-is_empty-clause-looked c = ap (λ (b : BatchState). b.looked) c.batch.view_is ∙ c.requires.empty.1
+
+pub returns-else-not-is_empty-clause-room : goal.returns-else-not-is_empty-clause-room
+returns-else-not-is_empty-clause-room c = c.take_each.ensures.capacity ∙ ap (λ (b : BatchState). b.room) c.batch.view_is
+
+pub take_each-requires-clause-reads : goal.take_each-requires-clause-reads
+take_each-requires-clause-reads c = c.in_ok-clone.ensures.cases ∙ c.snapshot.ensures
+
+pub take_each-requires-clause-empty : goal.take_each-requires-clause-empty
+take_each-requires-clause-empty c = none_in c.batch.inside.of c.batch.inside.held_letters.items c.batch.inside.looked c.batch.invariant (ap (λ (b : BatchState). b.letters) c.batch.view_is ∙ c.requires.empty.0)
+
+pub take_each-requires-clause-space : goal.take_each-requires-clause-space
+take_each-requires-clause-space c = subst (λ (b : BatchState). c.args.most ≤ b.room) (sym c.batch.view_is) c.requires.space
+
+pub returns-then-not-is_empty-clause-bound : goal.returns-then-not-is_empty-clause-bound
+returns-then-not-is_empty-clause-bound c =
+    let held = c.take_each.new.held_letters in
+    subst (λ (b : BatchState). length b.letters ≤ c.args.most) (sym (is_batch c)) (omega (arith, length-map held.items (taken_of (of_search c)), c.take_each.ensures.bound, held.ok.0))
+
+pub returns-else-not-is_empty-clause-bound : goal.returns-else-not-is_empty-clause-bound
+returns-else-not-is_empty-clause-bound c =
+    let held = c.take_each.new.held_letters in
+    let none : length held.items ≡ 0 = omega (arith, eqb-true (vec_len held) 0 (sym c.if-not-is_empty.ensures), held.ok.0) in
+    let of : NamedSearch = record { who = c.args.who; number = c.args.number; snapshot = c.in_ok-clone.field-0 } in
+    subst (λ (ls : List TakenLetter). length ls ≤ c.args.most) (sym (none_are c.batch.inside.of of held.items none)) (omega (arith, length-map held.items (taken_of of), none))
+
+pub returns-in_err-clone-clause-bound : goal.returns-in_err-clone-clause-bound
+returns-in_err-clone-clause-bound c = subst (λ (ls : List TakenLetter). length ls ≤ c.args.most) (sym c.requires.empty.0) (omega arith)
