@@ -1,5 +1,5 @@
 //! The service: connections that are answered, and the workers beside them.
-ghost use Rattle.std.specs.Prelude.{◌≡◌, ◌≤◌, ◌++◌, Some, length, decimal, IfOk, OnOk, OnErr};
+ghost use Rattle.std.specs.Prelude.{◌≡◌, ◌≤◌, ◌⊎◌, ◌↔◌, ◌++◌, Some, length, decimal, IsOk, IfOk, IfErr, OnOk, OnErr};
 ghost use Rattle.std.specs.Io.KnownBytes.{Appends};
 ghost use Rattle.service.specs.{Roster.names_of, Served.Answered, Served.ServeWrote, Session.session_line, Written.WritesFront};
 
@@ -142,11 +142,8 @@ fn answer_beside_workers<L: Ledger + Send + Sync, R: Threads + Wait + Clock + Sy
             desk.stop(rt);
             let worked = working.join(rt);
             let count = answered?;
-            match worked {
-                Ok(_letters) => Ok(count),
-                Err(DeskFault::NoThread) => Err(ServeFault::NoThread),
-                Err(_fault) => Err(ServeFault::Memory),
-            }
+            worked_well(worked)?;
+            Ok(count)
         },
     )
 }
@@ -162,6 +159,18 @@ fn work<L: Ledger + Send + Sync, R: Threads + Wait + Sync>(
     let worked = run_workers(rt, alloc, desk, workers.clamp(1, 64), &NoGate);
     desk.stop(rt);
     worked
+}
+
+/// The fault of the workers, if there was one.
+fn worked_well(worked: Result<u64, DeskFault>) -> Result<(), ServeFault>
+    ensures well { IsOk result ↔ IsOk worked }
+    ensures why { IfErr result (λ why. (why ≡ ServeFault.NoThread) ⊎ (why ≡ ServeFault.Memory)) }
+{
+    match worked {
+        Ok(_letters) => Ok(()),
+        Err(DeskFault::NoThread) => Err(ServeFault::NoThread),
+        Err(_fault) => Err(ServeFault::Memory),
+    }
 }
 
 #[cfg(test)]
