@@ -5,6 +5,7 @@ use crate::{
 use credential_text::{Credential, Expr};
 use names::{Entity, Role};
 use std::alloc::Global;
+use std::process::Abort;
 use std::test::Fail;
 
 fn entity(name: &str) -> Result<Entity, Fail> {
@@ -159,9 +160,8 @@ fn reads_names(alloc: Global, book: &Book, who: &str, expected: &[&str]) -> Resu
     Ok(book.owners_read_by(entity(who)?)? == names)
 }
 
-#[test]
-fn each_refusal_once(rt: HostRuntime) -> Result<(), Fail> {
-    let mut book = Book::new(rt.alloc());
+/// Each refusal, and what the book has come to.
+fn refuse_each(rt: &impl Abort, book: &mut Book) -> Result<(), Fail> {
     let rows = [
         ("A", "put", "B.r", "D", 31),
         ("A", "put", "A.r", "D", 1),
@@ -178,16 +178,21 @@ fn each_refusal_once(rt: HostRuntime) -> Result<(), Fail> {
         ("A", "revoke", "B", "", 4),
         ("A", "revoke", "B", "", 35),
     ];
-    assert!(rt; answers(&mut book, &rows)?);
-    assert!(rt; has_vault(&mut book, "A", &[])?);
-    assert_eq!(rt; book.journal_len(), 4);
+    assert!(*rt; answers(book, &rows)?);
+    assert!(*rt; has_vault(book, "A", &[])?);
+    assert_eq!(*rt; book.journal_len(), 4);
     Ok(())
 }
 
 #[test]
-fn changes_are_read_back(rt: HostRuntime) -> Result<(), Fail> {
+fn each_refusal_once(rt: HostRuntime) -> Result<(), Fail> {
     let mut book = Book::new(rt.alloc());
-    assert!(rt; reads_back(&book, &[])?);
+    refuse_each(&rt, &mut book)
+}
+
+/// Changes of every kind, and the journal that they leave.
+fn read_back(rt: &impl Abort, book: &mut Book) -> Result<(), Fail> {
+    assert!(*rt; reads_back(book, &[])?);
     let rows = [
         ("A", "put", "A.r", "D", 1),
         ("Bob", "put", "Bob.r", "A.r", 1),
@@ -198,7 +203,7 @@ fn changes_are_read_back(rt: HostRuntime) -> Result<(), Fail> {
         ("A", "revoke", "*", "", 5),
         ("Bob", "drop", "Bob.r", "A.r", 2),
     ];
-    assert!(rt; answers(&mut book, &rows)?);
+    assert!(*rt; answers(book, &rows)?);
     let entered = [
         ("A", "put", "A.r", "D"),
         ("Bob", "put", "Bob.r", "A.r"),
@@ -208,13 +213,18 @@ fn changes_are_read_back(rt: HostRuntime) -> Result<(), Fail> {
         ("A", "revoke", "*", ""),
         ("Bob", "drop", "Bob.r", "A.r"),
     ];
-    assert!(rt; reads_back(&book, &entered)?);
+    assert!(*rt; reads_back(book, &entered)?);
     Ok(())
 }
 
 #[test]
-fn a_vault_is_in_order(rt: HostRuntime) -> Result<(), Fail> {
+fn changes_are_read_back(rt: HostRuntime) -> Result<(), Fail> {
     let mut book = Book::new(rt.alloc());
+    read_back(&rt, &mut book)
+}
+
+/// Uploads out of order, into the vaults of two tenants.
+fn upload_in_no_order(rt: &impl Abort, book: &mut Book) -> Result<(), Fail> {
     let rows = [
         ("A", "put", "A.s", "D", 1),
         ("A", "put", "A.r-", "D", 2),
@@ -224,12 +234,18 @@ fn a_vault_is_in_order(rt: HostRuntime) -> Result<(), Fail> {
         ("A", "put", "A.q", "E", 5),
         ("A", "drop", "A.r-", "D", 6),
     ];
-    assert!(rt; answers(&mut book, &rows)?);
+    assert!(*rt; answers(book, &rows)?);
     let whole = [("A.q", "E"), ("A.r", "E"), ("A.r", "B.s"), ("A.s", "D")];
-    assert!(rt; has_vault(&mut book, "A", &whole)?);
-    assert!(rt; has_vault(&mut book, "B", &[("B.s", "D")])?);
-    assert!(rt; has_vault(&mut book, "C", &[])?);
+    assert!(*rt; has_vault(book, "A", &whole)?);
+    assert!(*rt; has_vault(book, "B", &[("B.s", "D")])?);
+    assert!(*rt; has_vault(book, "C", &[])?);
     Ok(())
+}
+
+#[test]
+fn a_vault_is_in_order(rt: HostRuntime) -> Result<(), Fail> {
+    let mut book = Book::new(rt.alloc());
+    upload_in_no_order(&rt, &mut book)
 }
 
 /// Whether the book accepts a change of each credential from `A.r <- E000` on to the 899th, or of each second one, in no
@@ -271,12 +287,10 @@ fn are_even(alloc: Global, rows: &[Row]) -> Result<bool, Fail> {
     Ok(rows.len() == 450)
 }
 
-#[test]
-fn a_vault_is_changed_in_no_order(rt: HostRuntime) -> Result<(), Fail> {
-    let alloc = rt.alloc();
-    let mut book = Book::new(alloc);
-    assert!(rt; accepts_in_no_order(alloc, &mut book, "put", false, 0)?);
-    assert!(rt; accepts_in_no_order(alloc, &mut book, "drop", true, 900)?);
+/// 900 credentials come and go in no order, and what stays is in order.
+fn change_in_no_order(rt: &impl Abort, alloc: Global, book: &mut Book) -> Result<(), Fail> {
+    assert!(*rt; accepts_in_no_order(alloc, book, "put", false, 0)?);
+    assert!(*rt; accepts_in_no_order(alloc, book, "drop", true, 900)?);
     let again = [
         ("A", "put", "A.r", "E000", 32),
         ("A", "put", "A.r", "E450", 32),
@@ -285,79 +299,99 @@ fn a_vault_is_changed_in_no_order(rt: HostRuntime) -> Result<(), Fail> {
         ("A", "drop", "A.r", "E449", 33),
         ("A", "drop", "A.r", "E899", 33),
     ];
-    assert!(rt; answers(&mut book, &again)?);
-    assert_eq!(rt; book.creds_of(entity("A")?), 450);
-    assert!(rt; are_even(alloc, book.vault_of(entity("A")?))?);
-    assert!(rt; answers(&mut book, &[("A", "put", "A.r", "E451", 1_351)])?);
-    assert!(rt; answers(&mut book, &[("A", "drop", "A.r", "E451", 1_352)])?);
+    assert!(*rt; answers(book, &again)?);
+    assert_eq!(*rt; book.creds_of(entity("A")?), 450);
+    assert!(*rt; are_even(alloc, book.vault_of(entity("A")?))?);
+    assert!(*rt; answers(book, &[("A", "put", "A.r", "E451", 1_351)])?);
+    assert!(*rt; answers(book, &[("A", "drop", "A.r", "E451", 1_352)])?);
     let version = book.version_of(entity("A")?)?.ok_or("a version")?;
-    assert!(rt; are_even(alloc, version.rows())?);
+    assert!(*rt; are_even(alloc, version.rows())?);
+    Ok(())
+}
+
+#[test]
+fn a_vault_is_changed_in_no_order(rt: HostRuntime) -> Result<(), Fail> {
+    let mut book = Book::new(rt.alloc());
+    change_in_no_order(&rt, rt.alloc(), &mut book)
+}
+
+/// Grants, and who reads whom by them.
+fn grant_some(rt: &impl Abort, alloc: Global, book: &mut Book) -> Result<(), Fail> {
+    let rows = [
+        ("C", "grant", "B", "", 1),
+        ("A", "grant", "B", "", 1),
+        ("A", "grant", "Z", "", 2),
+    ];
+    assert!(*rt; answers(book, &rows)?);
+    let (a, b) = (entity("A")?, entity("B")?);
+    assert!(*rt; book.readable(b, a));
+    assert!(*rt; !book.readable(a, b));
+    assert!(*rt; book.readable(a, a));
+    assert!(*rt; reads_names(alloc, book, "B", &["A", "B", "C"])?);
+    assert!(*rt; reads_names(alloc, book, "Z", &["A", "Z"])?);
+    assert_eq!(*rt; book.grants_of(a), 2);
+    assert_eq!(*rt; book.changes_of(a), 2);
     Ok(())
 }
 
 #[test]
 fn a_grant_lets_its_reader_read(rt: HostRuntime) -> Result<(), Fail> {
     let mut book = Book::new(rt.alloc());
+    grant_some(&rt, rt.alloc(), &mut book)
+}
+
+/// A grant that is revoked, beside one that stands.
+fn revoke_one(rt: &impl Abort, alloc: Global, book: &mut Book) -> Result<(), Fail> {
     let rows = [
-        ("C", "grant", "B", "", 1),
         ("A", "grant", "B", "", 1),
-        ("A", "grant", "Z", "", 2),
+        ("C", "grant", "B", "", 1),
+        ("A", "revoke", "B", "", 2),
     ];
-    assert!(rt; answers(&mut book, &rows)?);
-    let (a, b) = (entity("A")?, entity("B")?);
-    assert!(rt; book.readable(b, a));
-    assert!(rt; !book.readable(a, b));
-    assert!(rt; book.readable(a, a));
-    assert!(rt; reads_names(rt.alloc(), &book, "B", &["A", "B", "C"])?);
-    assert!(rt; reads_names(rt.alloc(), &book, "Z", &["A", "Z"])?);
-    assert_eq!(rt; book.grants_of(a), 2);
-    assert_eq!(rt; book.changes_of(a), 2);
+    assert!(*rt; answers(book, &rows)?);
+    assert!(*rt; !book.readable(entity("B")?, entity("A")?));
+    assert!(*rt; reads_names(alloc, book, "B", &["B", "C"])?);
+    assert_eq!(*rt; book.grants_of(entity("A")?), 0);
+    assert_eq!(*rt; book.changes_of(entity("B")?), 0);
     Ok(())
 }
 
 #[test]
 fn a_revoked_reader_reads_no_more(rt: HostRuntime) -> Result<(), Fail> {
     let mut book = Book::new(rt.alloc());
+    revoke_one(&rt, rt.alloc(), &mut book)
+}
+
+/// A vault is public, to one reader too, and in the end to nobody.
+fn make_public(rt: &impl Abort, alloc: Global, book: &mut Book) -> Result<(), Fail> {
+    let rows = [("B", "put", "B.s", "D", 1), ("B", "grant", "*", "", 2)];
+    assert!(*rt; answers(book, &rows)?);
+    assert!(*rt; reads_names(alloc, book, "A", &["A", "B*"])?);
+    assert!(*rt; reads_names(alloc, book, "B", &["B*"])?);
+    assert!(*rt; reads_names(alloc, book, "C", &["B*", "C"])?);
     let rows = [
-        ("A", "grant", "B", "", 1),
-        ("C", "grant", "B", "", 1),
-        ("A", "revoke", "B", "", 2),
+        ("B", "grant", "*", "", 34),
+        ("B", "revoke", "A", "", 35),
+        ("B", "grant", "A", "", 3),
     ];
-    assert!(rt; answers(&mut book, &rows)?);
-    assert!(rt; !book.readable(entity("B")?, entity("A")?));
-    assert!(rt; reads_names(rt.alloc(), &book, "B", &["B", "C"])?);
-    assert_eq!(rt; book.grants_of(entity("A")?), 0);
-    assert_eq!(rt; book.changes_of(entity("B")?), 0);
+    assert!(*rt; answers(book, &rows)?);
+    assert_eq!(*rt; book.grants_of(entity("B")?), 2);
+    assert!(*rt; answers(book, &[("B", "revoke", "A", "", 4)])?);
+    assert!(*rt; reads_names(alloc, book, "A", &["A", "B*"])?);
+    assert!(*rt; answers(book, &[("B", "revoke", "*", "", 5)])?);
+    assert!(*rt; reads_names(alloc, book, "A", &["A"])?);
+    assert!(*rt; answers(book, &[("B", "revoke", "*", "", 35)])?);
+    assert_eq!(*rt; book.grants_of(entity("B")?), 0);
     Ok(())
 }
 
 #[test]
 fn a_public_vault_is_read_by_all(rt: HostRuntime) -> Result<(), Fail> {
     let mut book = Book::new(rt.alloc());
-    let rows = [("B", "put", "B.s", "D", 1), ("B", "grant", "*", "", 2)];
-    assert!(rt; answers(&mut book, &rows)?);
-    assert!(rt; reads_names(rt.alloc(), &book, "A", &["A", "B*"])?);
-    assert!(rt; reads_names(rt.alloc(), &book, "B", &["B*"])?);
-    assert!(rt; reads_names(rt.alloc(), &book, "C", &["B*", "C"])?);
-    let rows = [
-        ("B", "grant", "*", "", 34),
-        ("B", "revoke", "A", "", 35),
-        ("B", "grant", "A", "", 3),
-    ];
-    assert!(rt; answers(&mut book, &rows)?);
-    assert_eq!(rt; book.grants_of(entity("B")?), 2);
-    assert!(rt; answers(&mut book, &[("B", "revoke", "A", "", 4)])?);
-    assert!(rt; reads_names(rt.alloc(), &book, "A", &["A", "B*"])?);
-    assert!(rt; answers(&mut book, &[("B", "revoke", "*", "", 5)])?);
-    assert!(rt; reads_names(rt.alloc(), &book, "A", &["A"])?);
-    assert!(rt; answers(&mut book, &[("B", "revoke", "*", "", 35)])?);
-    assert_eq!(rt; book.grants_of(entity("B")?), 0);
-    Ok(())
+    make_public(&rt, rt.alloc(), &mut book)
 }
 
-#[test]
-fn single_grants_and_public_vaults_are_in_order(rt: HostRuntime) -> Result<(), Fail> {
-    let mut book = Book::new(rt.alloc());
+/// Grants to one reader and to all, and the order in which vaults are seen by them.
+fn mix_grants(rt: &impl Abort, alloc: Global, book: &mut Book) -> Result<(), Fail> {
     let rows = [
         ("F", "grant", "*", "", 1),
         ("A", "grant", "*", "", 1),
@@ -366,26 +400,37 @@ fn single_grants_and_public_vaults_are_in_order(rt: HostRuntime) -> Result<(), F
         ("F", "grant", "D", "", 2),
         ("E", "grant", "D", "", 1),
     ];
-    assert!(rt; answers(&mut book, &rows)?);
-    assert!(rt; reads_names(rt.alloc(), &book, "D", &["A*", "B", "D*", "E", "F*"])?);
-    assert!(rt; answers(&mut book, &[("F", "revoke", "*", "", 3)])?);
-    assert!(rt; reads_names(rt.alloc(), &book, "D", &["A*", "B", "D*", "E", "F"])?);
-    assert!(rt; reads_names(rt.alloc(), &book, "G", &["A*", "D*", "G"])?);
+    assert!(*rt; answers(book, &rows)?);
+    assert!(*rt; reads_names(alloc, book, "D", &["A*", "B", "D*", "E", "F*"])?);
+    assert!(*rt; answers(book, &[("F", "revoke", "*", "", 3)])?);
+    assert!(*rt; reads_names(alloc, book, "D", &["A*", "B", "D*", "E", "F"])?);
+    assert!(*rt; reads_names(alloc, book, "G", &["A*", "D*", "G"])?);
+    Ok(())
+}
+
+#[test]
+fn single_grants_and_public_vaults_are_in_order(rt: HostRuntime) -> Result<(), Fail> {
+    let mut book = Book::new(rt.alloc());
+    mix_grants(&rt, rt.alloc(), &mut book)
+}
+
+/// A version is held while its vault is changed, and stays.
+fn hold_a_version(rt: &impl Abort, book: &mut Book) -> Result<(), Fail> {
+    let b = entity("B")?;
+    assert!(*rt; book.version_of(b)?.is_none());
+    assert!(*rt; answers(book, &[("B", "put", "B.s", "D", 1)])?);
+    let held = book.version_of(b)?.ok_or("a version")?;
+    assert_eq!(*rt; change_in_turn(book, "B", "B.s", "D", 500)?, 1_001);
+    assert!(*rt; answers(book, &[("B", "drop", "B.s", "D", 1_002)])?);
+    assert!(*rt; are_rows(held.rows(), &[("B.s", "D")])?);
+    assert!(*rt; has_vault(book, "B", &[])?);
     Ok(())
 }
 
 #[test]
 fn a_held_version_stays(rt: HostRuntime) -> Result<(), Fail> {
     let mut book = Book::new(rt.alloc());
-    let b = entity("B")?;
-    assert!(rt; book.version_of(b)?.is_none());
-    assert!(rt; answers(&mut book, &[("B", "put", "B.s", "D", 1)])?);
-    let held = book.version_of(b)?.ok_or("a version")?;
-    assert_eq!(rt; change_in_turn(&mut book, "B", "B.s", "D", 500)?, 1_001);
-    assert!(rt; answers(&mut book, &[("B", "drop", "B.s", "D", 1_002)])?);
-    assert!(rt; are_rows(held.rows(), &[("B.s", "D")])?);
-    assert!(rt; has_vault(&mut book, "B", &[])?);
-    Ok(())
+    hold_a_version(&rt, &mut book)
 }
 
 /// Whether the fault has this number and this text.
