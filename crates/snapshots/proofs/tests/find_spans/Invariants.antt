@@ -1,4 +1,4 @@
-use Rattle.snapshots.proofs.tests.spans_of_roles.Given as goal
+use Rattle.snapshots.proofs.tests.find_spans.Given as goal
 
 abbrev pub ghosts-judges : goal.ghosts-judges
 ghosts-judges g a = record { name = a.blank.name; parts = a.blank.parts }
