@@ -17,5 +17,6 @@ LendsSeat s who r = LendsIfOk tenants.the_row seat.the_row s r (insert s.now who
 abbrev pub LendsSearch : MutBor Tenants → List ℕ → ℕ → Result (MutBor Running) Fault → Fml
 LendsSearch s who k r =
     LendsSoOk tenants.the_row opened.the_row s r
-    (λ n q. (journal : List Entry) → record { journal = journal; tenants = n } ≡ with_search (record { journal = journal; tenants = s.now }) who k q)
+    (λ n q. (journal : List Entry) →
+    record { journal = journal; tenants = n } ≡ with_search (record { journal = journal; tenants = s.now }) who k q)
     (λ n. n ≡ s.now)
