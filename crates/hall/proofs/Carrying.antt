@@ -1,5 +1,5 @@
 -- A step of a search, a letter that is taken, and a search that is driven, as a hall has them.
-use Rattle.std.proofs.Common.{◌≡◌, ◌∙◌, ℕ, List, ap, sym, refl, subst, subst₂, inl, inr, Option, Some, None, Result, Ok, Err}
+use Rattle.std.proofs.Common.{◌≡◌, ◌∙◌, ℕ, List, ap, sym, refl, subst, subst₂, inl, inr, Option, Some, None, Result, Ok}
 use Rattle.std.specs.Option.{MatchOption}
 use Rattle.std.specs.FinMap.{get}
 use Rattle.search.specs.Search.{SearchState, settled_of}
@@ -22,7 +22,7 @@ use Rattle.hall.specs.Kept.{IsNowhere, IsToldOf, DrivesTo, TakesJob}
 use Rattle.hall.proofs.Telling.{works}
 use Rattle.hall.proofs.Polled.{none_there, polled_there}
 use Rattle.hall.proofs.Viewed.{nowhere_polled}
-use Rattle.hall.proofs.Placed.{found_after, put_back}
+use Rattle.hall.proofs.Placed.{found_after}
 
 -- what becomes of a hall where its search of that number, if there is one, goes on so
 abbrev pub Moves : HallState → List ℕ → ℕ → Type 0 → (SearchState → SearchState → Type 0) → HallState → Type 0
@@ -142,12 +142,3 @@ module _ (h : HallState) (who : List ℕ) (k : ℕ) (new : HallState) where
         made (stepped.Took j.letter j.need) r s at (record { is_made = (Some (j.letter, j.need), takes, refl); settles = settles; sound = sound }) is,
         record { tenant = whose; search = number; took = refl; reads = (r, at, snapshot) },
       )
-
-  -- where memory lacked for the letter nothing changed
-  pub takes_nothing : {E : Type 0} (place : ℕ) (told : Result (Option TakenLetter) E) (f : E) → told ≡ Err f →
-      Moves h who k (told ≡ Ok None) (λ s u. TakesJob who k place s told u) new → new ≡ h
-  takes_nothing {E} place told f lacked moves =
-      moved (told ≡ Ok None) (λ s u. TakesJob who k place s told u) (new ≡ h) moves (λ none is same. same)
-      (λ r s at takes is.
-      let same : s ≡ r.search = subst (λ (q : Result (Option TakenLetter) E). TakesJob who k place r.search q s) lacked takes in
-      is ∙ ap (λ (u : SearchState). with_search h who k (record r { search = u })) same ∙ put_back h who k r at)
