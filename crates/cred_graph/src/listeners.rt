@@ -47,7 +47,6 @@ const NEAR: usize = 8;
 
 /// The listeners of each node, each once, in order of adding. Those beyond the first ones of their node stand in a table
 /// too.
-#[derive(Drop)]
 pub struct Listeners {
     lists: ListenerLists,
     far: IndexSet<FarListening>,
@@ -63,6 +62,16 @@ impl Model for Listeners {
     ghost view = { λ l. l.lists };
 
     ghost invariant = { λ l. AreFar l.lists l.far.keys };
+}
+
+// By hand, so that who holds them drops them by one call, whose proof stands here.
+impl Drop for Listeners {
+    fn drop(self) {
+        let Listeners {
+            lists: _lists,
+            far: _far,
+        } = self;
+    }
 }
 
 impl Listeners {

@@ -41,7 +41,6 @@ const SMALL: usize = 4096;
 
 /// The solutions of all nodes with their reasons, in order of adding, and the entities of each node's. Entities are
 /// spoken of by number.
-#[derive(Drop)]
 pub struct Solutions {
     reasons: IndexMap<Solved, Reason<u32, u32>>,
     members: MemberLists,
@@ -58,6 +57,16 @@ impl Model for Solutions {
     ghost view = { λ s. s.reasons.entries };
 
     ghost invariant = { λ s. AreMembers s.reasons.entries s.members };
+}
+
+// By hand, so that who holds them drops them by one call, whose proof stands here.
+impl Drop for Solutions {
+    fn drop(self) {
+        let Solutions {
+            reasons: _reasons,
+            members: _members,
+        } = self;
+    }
 }
 
 impl Solutions {

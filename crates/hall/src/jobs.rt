@@ -5,8 +5,7 @@ use names::Entity;
 use search::{Hint, Task};
 use std::marker::Model;
 
-/// A letter that was taken from a tenant's search, with what it is to be looked up in. It is spent by finishing it or
-/// giving it back.
+/// A letter taken from a tenant's search, with what it is to be looked up in. It is spent by finishing it or giving it back.
 pub struct Job {
     pub(crate) who: Entity,
     pub(crate) number: u64,

@@ -23,7 +23,6 @@ use std::sync::Arc;
 use vaults::{Book, Change};
 
 /// The journal of all tenants, by its name what each has opened, and which searches may still go on.
-#[derive(Drop)]
 pub struct Hall {
     pub(crate) alloc: Global,
     book: Book,
@@ -46,6 +45,17 @@ impl Model for Hall {
     ghost view = { λ h. record { journal = h.book; tenants = h.tenants } };
 
     ghost invariant = { λ h. IsIndexed h.busy (record { journal = h.book; tenants = h.tenants }) };
+}
+
+impl Drop for Hall {
+    fn drop(self) {
+        let Hall {
+            alloc: _alloc,
+            book: _book,
+            tenants: _tenants,
+            busy: _busy,
+        } = self;
+    }
 }
 
 impl Hall {
@@ -85,9 +95,8 @@ impl Hall {
         self.book.journal_len()
     }
 
-    /// Enters the tenant's change, and answers how many of its changes were accepted so far. The order of refusals: 62,
-    /// then 44 of all changes, 41 of an upload and 42 of a grant to one reader or to all, then the journal's own (31 to
-    /// 36), and want of memory.
+    /// Enters the tenant's change, and answers how many of its changes were accepted so far. Refused as 62, 44 of all changes,
+    /// 41 of an upload and 42 of a grant to one reader or to all, then as the journal does (31 to 36), and for want of memory.
     pub fn change(&mut self, who: Entity, change: Change) -> Result<u64, Fault>
         ensures served { IsServed self.old who (request.Alter change) (told_as reply.Counted result) self.new }
     {
@@ -108,8 +117,7 @@ impl Hall {
         }
     }
 
-    /// Opens a search over what the tenant sees now, and answers its number. The order of refusals: 62, 43, 45, and want
-    /// of memory.
+    /// Opens a search over what the tenant sees now, and answers its number. Refused as 62, 43, 45, then for want of memory.
     pub fn open(&mut self, who: Entity, query: Query) -> Result<u64, Fault>
         ensures served { IsServed self.old who (request.Seek query) (told_as reply.Opened result) self.new }
     {
@@ -126,8 +134,7 @@ impl Hall {
         told_of(search)
     }
 
-    /// Why the entity is a member of the role that the tenant's search of the number asked about. The order of refusals:
-    /// 62, 51, 52, 53, and want of memory.
+    /// Why the entity is a member of the role that the search asked about. Refused as 62, 51, 52, 53, then for want of memory.
     pub fn proof(&self, who: Entity, number: u64, member: Entity) -> Result<Proof, Fault>
         ensures served { IsServed self.now who (request.Proof number member) (told_as reply.Proof result) self.now }
     {
@@ -154,8 +161,7 @@ impl Hall {
         Ok(Rows::new(rows))
     }
 
-    /// The names whose vaults the tenant reads, in order, its own among them, each with the mark whether every tenant
-    /// reads it.
+    /// The names whose vaults the tenant reads, its own among them, in order, each with the mark whether every tenant reads it.
     pub fn sees(&self, who: Entity) -> Result<Sights, Fault>
         ensures served { IsServed self.now who request.Sees (told_as reply.Sees result) self.now }
     {

@@ -26,8 +26,7 @@ pub fn answers_are_true()
     ensures { AnswersAreTrue }
 {}
 
-/// To each tenant a run of a hall is a run of its own turns, in which searches settle at any time; and what holds of a new
-/// hall stays.
+/// To each tenant a run of a hall is one of its own turns, where searches settle at any time; what holds of a new hall stays.
 pub fn runs_are_allowed()
     ensures allowed { RunsAreAllowed }
     ensures kept { EventsKeepSoundness }

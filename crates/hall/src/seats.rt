@@ -54,8 +54,7 @@ impl Seat {
         }
     }
 
-    /// Whether the limits allow the change, of which there are 44 of all changes, and then 41 of an upload and 42 of a
-    /// grant to one reader or to all.
+    /// Whether the limits allow the change: 44 of all changes, then 41 of an upload and 42 of a grant to one reader or to all.
     pub(crate) fn may_alter(&self, book: &Book, who: &Entity, change: &Change) -> Result<(), Fault>
         ensures allowed { OnOk result (alter_refusal (account book.now who.now self.now) who.now change.now
             ≡ option_map vault_fault (refusal book.now who.now change.now)) }

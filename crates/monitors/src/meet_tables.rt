@@ -1,5 +1,7 @@
-ghost use Rattle.std.specs.Prelude.{◌≡◌, ◌<◌, ◌≤◌, ℕ, false, [], Some, slice_get, slice_index_or, IfOk, OnErr, MatchOption};
-ghost use Rattle.indexmap.specs.IndexMap.{get};
+ghost use Rattle.std.specs.Prelude.{◌≡◌, ◌<◌, ◌≤◌, ℕ, false, [], Some, slice_get, slice_index_or};
+ghost use Rattle.std.specs.Prelude.{IfOk, IfSome, OnOk, OnErr, MatchOption};
+ghost use Rattle.indexmap.specs.IndexMap.{get, insert_entry};
+ghost use Rattle.monitors.specs.declared.tellers.Tellers.{Tellers};
 ghost use Rattle.monitors.specs.Tellers.{is_among};
 
 use crate::keys::Key;
@@ -54,15 +56,7 @@ impl<K: Key> MeetTable<K> {
             return Ok(false);
         }
         let tellers = tellers.with(part);
-        match place {
-            Some(place) => {
-                let (_who, line) = self.told.pair_mut(place);
-                *line = tellers;
-            }
-            None => {
-                let _nobody = self.told.insert(who, tellers)?;
-            }
-        }
+        write_line(&mut self.told, place, who, tellers)?;
         Ok(tellers.count() == self.parts)
     }
 }
@@ -76,4 +70,28 @@ fn line_of<K: Key>(told: &IndexMap<K, Tellers>, who: &K) -> (Option<usize>, Tell
         Some((place, _who, tellers)) => (Some(place), *tellers),
         None => (None, Tellers::none()),
     }
+}
+
+/// Writes the entity's line: at its place, if it has one, else behind the others.
+#[inline(always)]
+fn write_line<K: Key>(
+    told: &mut IndexMap<K, Tellers>,
+    place: Option<usize>,
+    who: K,
+    tellers: Tellers,
+) -> Result<(), AllocError>
+    requires { IfSome place (λ at. (line : Tellers) × (slice_get told.old.entries at ≡ Some (who, line))) }
+    ensures written { OnOk result (told.new.entries ≡ insert_entry K.eq told.old.entries who tellers) }
+    ensures unchanged { OnErr result (told.new.entries ≡ told.old.entries) }
+{
+    match place {
+        Some(place) => {
+            let (_who, line) = told.pair_mut(place);
+            *line = tellers;
+        }
+        None => {
+            let _nobody = told.insert(who, tellers)?;
+        }
+    }
+    Ok(())
 }

@@ -22,20 +22,22 @@ use names::Entity;
 use quotas::Limits;
 use std::alloc::Global;
 use std::marker::Model;
-use std::mem;
 use std::sync::ledger::{Blank, Ledger};
 use std::sync::{Condvar, Mutex, MutexGuard, Wait};
+use std::{mem, thread};
 use vaults::Change;
+
+/// How often a call tries the lock before its thread sleeps for it: to be woken takes longer than most have the lock.
+const TRIES: usize = 16;
 
 /// A hall under one lock, with the ledger of the accepted changes of which passes were told. The type `L` names the
 /// ledger, so a pass of another desk fits no call. All calls but `make` may wait for the lock, and what they ensure holds
 /// if they return. Contracts see of a desk the names of its tenants, which never change.
 #[derive(Drop)]
 pub struct Desk<L: Ledger> {
-    alloc: Global,
+    pub(crate) alloc: Global,
     room: Mutex<Room<L>>,
-    /// Where callers wait for the end of a search, each at the bell of that search. The tenants' names stand here, outside of
-    /// the lock, so that a contract can tell who gets a pass.
+    /// Where callers wait, each for one search. It has the tenants' names, so that a contract can tell who gets a pass.
     over: Bells,
     /// Where workers wait for something to do.
     pub(crate) work: Condvar,
@@ -73,17 +75,23 @@ impl<L: Ledger> Desk<L> {
         })
     }
 
-    /// Takes the lock. Each time the ledger's total is the length of the journal, and the hall is sound.
+    /// Takes the lock, after some tries by sleep. Each time the ledger's total is the journal's length, and the hall is sound.
     fn enter<R: Wait>(&self, rt: &R) -> MutexGuard<'_, Room<L>>
         ensures { IsKept (mutex_guard_value result) }
     {
+        for _ in 0..TRIES {
+            if let Some(room) = self.room.try_lock() {
+                room.kept();
+                return room;
+            }
+            thread::yield_now();
+        }
         let room = self.room.lock(rt);
         room.kept();
         room
     }
 
-    /// A new pass of a tenant, which was told of no change yet. Refused as 62 to a name outside the roster, and as 90 where
-    /// 2^32 passes are out.
+    /// A new pass of a tenant, told of no change yet. Refused as 62 to a stranger, and as 90 where 2^32 passes are out.
     pub fn pass<R: Wait>(&self, rt: &R, who: Entity) -> Told<Pass<L>>
         ensures tenant { IfOk result (λ p. p.tenant ≡ who) }
         ensures share { IfOk result (λ p. p.share ≡ 0) }
@@ -98,8 +106,7 @@ impl<L: Ledger> Desk<L> {
         self.enter(rt).admit(who)
     }
 
-    /// Serves the request of the pass's tenant, of whatever kind. Refused as 91 where the journal is shorter than the pass has
-    /// seen, and then as the hall refuses.
+    /// Serves the pass's tenant. Refused as 91 where the journal is shorter than the pass has seen, then as the hall refuses.
     pub fn serve<R: Wait>(&self, rt: &R, pass: &mut Pass<L>, request: Request) -> Told<Reply>
         ensures { IsAnswered (λ r. r) pass.old pass.new request result }
     {
@@ -142,8 +149,7 @@ impl<L: Ledger> Desk<L> {
         }
     }
 
-    /// What the tenant's search of the number has come to. Refused as `serve` is, and also where memory lacks to share what the
-    /// search reads.
+    /// What the tenant's search has come to. Refused as `serve` is, and where memory lacks to share what the search reads.
     pub fn poll<R: Wait>(&self, rt: &R, pass: &mut Pass<L>, number: u64) -> Told<Verdict>
         ensures { IsPolled pass.old pass.new number result }
     {
@@ -161,8 +167,7 @@ impl<L: Ledger> Desk<L> {
         verdict_on(&search)
     }
 
-    /// Waits until the tenant's search of the number has come to an end, or the desk was stopped, and then answers as `poll`
-    /// does. It waits for no search that isn't there.
+    /// Waits until the search has come to an end or isn't there, or the desk was stopped, and then answers as `poll` does.
     pub fn wait<R: Wait>(&self, rt: &R, pass: &mut Pass<L>, number: u64) -> Told<Verdict>
         ensures { IsWaited pass.old pass.new number result }
     {
@@ -196,8 +201,7 @@ impl<L: Ledger> Desk<L> {
         }
     }
 
-    /// The names whose vaults the tenant reads, in order, its own among them, each with whether its vault is public. Refused
-    /// as `serve` is.
+    /// The names whose vaults the tenant reads, its own among them, in order, public ones marked. Refused as `serve` is.
     pub fn sees<R: Wait>(&self, rt: &R, pass: &mut Pass<L>) -> Told<Sights>
         ensures { IsAnswered reply.Sees pass.old pass.new request.Sees result }
     {
@@ -230,9 +234,8 @@ impl<L: Ledger> Desk<L> {
         self.enter(rt).leave(pass);
     }
 
-    /// Takes back all passes that are out, and tells how many changes were accepted and of how many of them passes had been
-    /// told that left before: each change that one of these passes was told counts once. Where another pass is out they
-    /// come back, with 92.
+    /// Takes back all passes that are out, and tells how many changes were accepted, and of how many of them passes had been
+    /// told that left before. Each that was told counts once. Where another pass is out they come back, with 92.
     pub fn gather<R: Wait>(
         &self,
         rt: &R,
@@ -264,7 +267,7 @@ impl<L: Ledger> Desk<L> {
 
     /// For a worker: waits until there is something to do, does it, and answers what it found. One worker more is woken where
     /// something is left to do, so that no more of them are awake than find something.
-    pub(crate) fn visit<R: Wait>(&self, rt: &R, batch: &mut Batch) -> Found
+    pub(crate) fn visit<R: Wait>(&self, rt: &R, turn: u64, batch: &mut Batch) -> Found
         requires empty { IsEmpty batch.old }
         requires space { BATCH ≤ batch.old.room }
         ensures found { ¬ (result ≡ Found.Nothing) }
@@ -274,9 +277,9 @@ impl<L: Ledger> Desk<L> {
         ensures space { batch.new.room ≡ batch.old.room }
     {
         let room = self.enter(rt);
-        let mut room = self.work.wait_while(rt, room, |room| room.is_idle());
-        let found = room.visit(batch);
-        let is_idle = room.is_idle();
+        let mut room = self.work.wait_while(rt, room, |room| room.is_idle(turn));
+        let found = room.visit(turn, batch);
+        let is_idle = room.is_idle(turn);
         self.release(room);
         if !is_idle {
             self.work.notify_one();
@@ -284,8 +287,7 @@ impl<L: Ledger> Desk<L> {
         found
     }
 
-    /// For a worker: hands in all that it holds, and answers how many letters are finished. They are letters of one search:
-    /// it alone is looked at, whether those who wait for its end are to be woken.
+    /// For a worker: hands in all that it holds, letters of one search, and answers how many of them are finished.
     pub(crate) fn hand_in<R: Wait>(&self, rt: &R, batch: &mut Batch) -> u64
         requires { IsLookedUp batch.old }
         ensures most { result ≤ length batch.old.letters }

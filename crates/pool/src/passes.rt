@@ -6,8 +6,7 @@ use names::Entity;
 use std::marker::Model;
 use std::sync::ledger::{Book, Ledger, Share};
 
-/// The right to call a desk for a tenant. It knows how long a journal it has seen, and of how many accepted changes it was
-/// told.
+/// The right to call a desk for a tenant. It knows how long a journal it has seen, and how many accepted changes it was told.
 #[derive(Drop)]
 pub struct Pass<L: Ledger> {
     pub(crate) tenant: Entity,

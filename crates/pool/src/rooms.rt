@@ -34,7 +34,6 @@ pub(crate) struct Room<L: Ledger> {
     out: u64,
     left: u64,
     pub(crate) stopped: bool,
-    pub(crate) turn: u64,
     /// The search that came to an end since those who wait for one were told last: whose it is, and its number.
     pub(crate) ended: Option<(Entity, u64)>,
 }
@@ -78,7 +77,6 @@ impl<L: Ledger> Room<L> {
             out: 0,
             left: 0,
             stopped: false,
-            turn: 0,
             ended: None,
         }
     }
@@ -203,8 +201,7 @@ impl<L: Ledger> Room<L> {
         self.left += told;
     }
 
-    /// Takes all passes back that are out, and tells how many changes were accepted and of how many of them passes had been
-    /// told that left before.
+    /// Takes all passes back, and tells how many changes were accepted, and of how many of them those had been told that left.
     pub(crate) fn gather(
         &mut self,
         passes: Vec<Pass<L>>,

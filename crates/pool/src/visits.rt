@@ -28,11 +28,11 @@ impl<L: Ledger> Room<L> {
     ghost use Rattle.pool.specs.Visits.{IsVisit};
     ghost use Rattle.hall.specs.Visits.{AreHandedIn};
 
-    /// Whether a worker has nothing to do, and is not to end.
-    pub(crate) fn is_idle(&self) -> bool
+    /// Whether a worker has nothing to do, whosever turn it is, and is not to end.
+    pub(crate) fn is_idle(&self, turn: u64) -> bool
         ensures { IsTrue result ↔ IsIdle self.now }
     {
-        !self.stopped && self.hall.pick(self.turn).is_none()
+        !self.stopped && self.hall.pick(turn).is_none()
     }
 
     /// Notes whether the search has come to an end, or is there no longer.
@@ -45,8 +45,8 @@ impl<L: Ledger> Room<L> {
     }
 
     /// The steps of one visit of a worker, all of one search: it delivers signals and takes letters as long as there are any
-    /// and the steps are within their limit. The searches take turns.
-    pub(crate) fn visit(&mut self, batch: &mut Batch) -> Found
+    /// and the steps are within their limit. The turn picks which search.
+    pub(crate) fn visit(&mut self, turn: u64, batch: &mut Batch) -> Found
         requires empty { IsEmpty batch.old }
         requires space { BATCH ≤ batch.old.room }
         ensures visit { IsVisit BATCH self.old.hall result self.new.hall batch.new.letters }
@@ -61,10 +61,9 @@ impl<L: Ledger> Room<L> {
         if self.stopped {
             return Found::Stopped;
         }
-        let Some(first) = self.hall.pick(self.turn) else {
+        let Some(first) = self.hall.pick(turn) else {
             return Found::Nothing;
         };
-        self.turn = self.turn.wrapping_add(1);
         let (who, number) = first.search();
         let made = self.hall.visit(who, number, BATCH, batch);
         self.note(who, number);

@@ -16,8 +16,7 @@ use std::sync::ledger::Ledger;
 use std::thread;
 use std::thread::{JoinHandle, Threads};
 
-/// Where a worker passes with each letter, after it took it and before it looks up what the letter needs. No lock is held
-/// then.
+/// Where a worker passes with each letter, after it took it and before it looks up what the letter needs. It holds no lock.
 pub trait Gate: Sync {
     /// That the gate let the letter of this number pass, of the tenant's search of that number.
     ghost LetThrough: { List ℕ → ℕ → ℕ → Type 0 };
@@ -56,13 +55,19 @@ fn look_up_all<G: Gate>(gate: &G, batch: &mut Batch)
     }
 }
 
+/// How many visits in a row a worker begins at one search, whose letters its processor has at hand then.
+const IN_A_ROW: u64 = 8;
+
 /// Works until the desk is stopped, or memory is refused; then another worker goes on. Room for the letters is taken first.
-fn work<L: Ledger, G: Gate, R: Wait>(rt: &R, alloc: Global, desk: &Desk<L>, gate: &G) -> Worked {
-    let mut batch = Batch::make(alloc, BATCH).ok()?;
+/// The searches take turns, for each worker from another one on.
+fn work<L: Ledger, G: Gate, R: Wait>(rt: &R, desk: &Desk<L>, gate: &G, worker: u64) -> Worked {
+    let mut batch = Batch::make(desk.alloc, BATCH).ok()?;
     let mut finished = 0u64;
     let mut found = Found::Work;
+    let mut visits = worker.wrapping_mul(IN_A_ROW);
     for _ in rt.forever() {
-        found = desk.visit(rt, &mut batch);
+        found = desk.visit(rt, visits / IN_A_ROW, &mut batch);
+        visits = visits.wrapping_add(1);
         look_up_all(gate, &mut batch);
         finished = finished.saturating_add(desk.hand_in(rt, &mut batch));
         if found != Found::Work {
@@ -95,12 +100,11 @@ fn join_all<R: Threads>(rt: &R, handles: Vec<JoinHandle<Worked>>) -> Worked
     all
 }
 
-/// Runs `n` workers until the desk is stopped, and answers how many letters they finished. The gate is passed once with
-/// each letter, outside the lock. A worker to which memory is refused, for its letters or for one of them, hands in what it
-/// holds and ends; the answer is then 90, once the others have ended too. Where all have ended so, nobody goes on with the
-/// searches: a `wait` doesn't return until the desk is stopped, which is the caller's to do when this function returns. 93
-/// where a worker couldn't be started: the desk is then stopped, and those that run end first. Memory for the workers'
-/// handles that is refused is 90 too.
+/// Runs `n` workers until the desk is stopped, and answers how many letters they finished. The gate is passed once with each
+/// letter, outside the lock. A worker to which memory is refused, for its letters or for one of them, hands in what it holds
+/// and ends; the answer is then 90, once the others have ended. Where all have ended so, nobody goes on with the searches: a
+/// `wait` returns when the caller of this function stops the desk. 93 where a worker couldn't be started: the desk is then
+/// stopped, and those that run end first. Refused memory for the workers' handles is 90 too.
 pub fn run_workers<L: Ledger + Send + Sync, G: Gate, R: Threads + Wait + Sync>(
     rt: &R,
     alloc: Global,
@@ -123,8 +127,8 @@ pub fn run_workers<L: Ledger + Send + Sync, G: Gate, R: Threads + Wait + Sync>(
             ensures done { IfOk result (DoneBy n) }
             ensures refused { IfErr result IsWorkRefusal }
         {
-            for _worker in 0..n {
-                let Ok(handle) = scope.spawn(move || work(rt, alloc, desk, gate)) else {
+            for worker in 0..n {
+                let Ok(handle) = scope.spawn(move || work(rt, desk, gate, worker)) else {
                     desk.stop(rt);
                     join_all(rt, handles);
                     return Err(DeskFault::NoThread);

@@ -1,15 +1,16 @@
 -- What is known of a roster that is being read, line after line.
-use Rattle.std.proofs.Common.{◌≡◌, ℕ, true, false, List, [], ◌∷◌, ◌++◌, refl, ap, ◌∙◌, subst, Ok, Err}
-use Rattle.std.specs.Prelude.{codes, not, filter}
+use Rattle.std.proofs.Common.{◌≡◌, ◌≢◌, Bor, ℕ, true, false, List, [], ◌∷◌, ◌++◌, refl, ap, ◌∙◌, subst, Ok, Err}
+use Rattle.std.specs.Prelude.{⊤, codes, not, filter}
 use Rattle.std.specs.List.{list_all}
 use Rattle.service.specs.declared.faults.ScriptFault.{ScriptFault}
 use Rattle.service.specs.declared.faults.ScriptFault.TheVariants as fault
 use Rattle.service.specs.declared.lines.NextLine.{NextLine}
-use Rattle.service.specs.Line.{Line, text, is_blank, lines_of, commands_of}
+use Rattle.service.specs.declared.lines.NextLine.TheVariants.{Text, Long, NotAscii, End, Fault}
+use Rattle.service.specs.Line.{Line, text, too_long, not_ascii, is_blank, lines_of, commands_of}
 use Rattle.service.specs.LineReader.{Source, known, unknown, failed, Shows, Gives, IfKnown}
-use Rattle.service.specs.Roster.{Row, IsRow, IsRoster, AddsRow, ReadsRoster}
+use Rattle.service.specs.Roster.{Row, IsRow, IsRoster, HasRows, HasNoRoster, AddsRow, ReadsRoster}
 use Rattle.service.specs.Words.{is_space, words}
-use Rattle.service.proofs.LinesLemmas.{Gives-first}
+use Rattle.service.proofs.LinesLemmas.{Gives-first, IfKnown-map}
 use Rattle.service.proofs.RosterLemmas.{LeavesLines, LeavesLines-all, LeavesLines-row, HasNoRoster-refused, HasRoster-read}
 
 -- the first of these lines are the rows, and the others are left
@@ -40,6 +41,31 @@ next {Q = Q} (known bytes) mid rows so_far found follows =
 next unknown mid rows so_far found follows = tt
 next failed mid rows so_far found follows = tt
 
+-- lines whose first one is no text are no rows, nor are none
+no_rows : (bytes : List ℕ) (new : Source) (answer : NextLine) (more : List Row) (after : List Line) → Gives (known bytes) answer new → ((t : Bor (List ℕ)) → answer ≡ Text t → ⊥) → (answer ≡ Fault → ⊥) → HasRows (commands_of bytes) more after → ⊥
+no_rows bytes new (Text t) more after gives no_text no_fault has = absurd (no_text t refl)
+no_rows bytes new Fault more after gives no_text no_fault has = absurd (no_fault refl)
+no_rows bytes new End more after gives no_text no_fault has = subst (λ (bs : List ℕ). HasRows (commands_of bs) more after) gives.0 has
+no_rows bytes new Long more after gives no_text no_fault has =
+    let first = Gives-first bytes new Long too_long gives refl in
+    subst (λ (ls : List Line). HasRows ls more after) (ap not_blank first.2) has
+no_rows bytes new NotAscii more after gives no_text no_fault has =
+    let first = Gives-first bytes new NotAscii not_ascii gives refl in
+    subst (λ (ls : List Line). HasRows ls more after) (ap not_blank first.2) has
+
+-- so there the lines begin with no roster
+pub HasNoRoster-ended : (first mid new : Source) (rows : List Row) (answer : NextLine) → IfKnown first (λ lines. SoFar lines rows mid) → Gives mid answer new → ((t : Bor (List ℕ)) → answer ≡ Text t → ⊥) → (answer ≡ Fault → ⊥) → IfKnown first HasNoRoster
+HasNoRoster-ended first mid new rows answer so_far gives no_text no_fault =
+    IfKnown-map first so_far (λ lines so all after roster.
+    let parts = so.2.splits all after roster.one_each in
+    no_rows so.0 new answer parts.0 after (subst (λ (s : Source). Gives s answer new) so.1 gives) no_text no_fault parts.2)
+
+-- a read that failed says nothing
+pub ReadsRoster-failed : (source : Source) → IfKnown source (λ lines. ⊤)
+ReadsRoster-failed (known bytes) = tt
+ReadsRoster-failed unknown = tt
+ReadsRoster-failed failed = tt
+
 module _ (first mid new : Source) (rows : List Row) (answer : NextLine) (line : List ℕ)
     (so_far : IfKnown first (λ lines. SoFar lines rows mid)) (gives : Gives mid answer new) (shows : Shows answer (text line)) where
   -- a blank line changes nothing
@@ -66,6 +92,13 @@ module _ (first mid new : Source) (rows : List Row) (answer : NextLine) (line : 
   ReadsRoster-refused after fault.Read filled no_end adds = absurd adds
   ReadsRoster-refused after fault.Memory filled no_end adds = next first mid rows so_far (spoken filled) (λ lines left leaves taken. tt)
   ReadsRoster-refused after fault.Write filled no_end adds = absurd adds
+
+  -- and nothing was written
+  pub AddsRow-writes_nothing : (after : List Row) (why : ScriptFault) → AddsRow rows line (Err why) after → why ≢ fault.Write
+  AddsRow-writes_nothing after fault.Write adds is = adds
+  AddsRow-writes_nothing after fault.Roster adds is = cc
+  AddsRow-writes_nothing after fault.Read adds is = adds
+  AddsRow-writes_nothing after fault.Memory adds is = cc
 
   -- `begin`, after a tenant
   pub ReadsRoster-begin : IsRoster rows → list_all is_space line ≡ false → words line ≡ codes "begin" ∷ [] → IfKnown first (λ lines. ReadsRoster lines (Ok rows) new)

@@ -159,18 +159,29 @@ fn write_reply_lines(room: &mut Room, who: &Speaker, reply: &Reply) -> Result<()
     match reply {
         Reply::Counted(count) => fill_counted(room, who, b"ok ", *count),
         Reply::Opened(number) => fill_counted(room, who, b"search ", *number),
-        Reply::Answered(Answer::Working) => fill_text(room, who, b"working"),
-        Reply::Answered(Answer::Yes) => fill_text(room, who, b"yes"),
-        Reply::Answered(Answer::No) => fill_text(room, who, b"no"),
-        Reply::Answered(Answer::Members(names)) => write_members(room, who, names.as_slice())?,
-        Reply::Answered(Answer::Spent) => fill_text(room, who, b"spent"),
-        Reply::Answered(Answer::Broken) => fill_text(room, who, b"broken"),
+        Reply::Answered(answer) => return write_answer(room, who, answer),
         Reply::Closed => fill_text(room, who, b"ended"),
-        Reply::Vault(rows) => write_vault(room, who, rows.as_slice())?,
-        Reply::Sees(seen) => write_sees(room, who, seen.as_slice())?,
-        Reply::Proof(proof) => write_steps(room, who, proof)?,
+        Reply::Vault(rows) => return write_vault(room, who, rows.as_slice()),
+        Reply::Sees(seen) => return write_sees(room, who, seen.as_slice()),
+        Reply::Proof(proof) => return write_steps(room, who, proof),
         Reply::Refused(fault) => fill_error(room, who, fault.number()),
         Reply::Stepped(_outcome) => room.bytes.clear(),
+    }
+    Ok(())
+}
+
+/// Fills the room with the line of an answer. Memory may lack for one that lists members.
+fn write_answer(room: &mut Room, who: &Speaker, answer: &Answer) -> Result<(), AllocError>
+    ensures whole { OnOk result (room.new ≡ lines_after (front_of who.now) (Reply.Answered answer.now)) }
+    ensures lacking { OnErr result (IsLong (Reply.Answered answer.now)) }
+{
+    match answer {
+        Answer::Working => fill_text(room, who, b"working"),
+        Answer::Yes => fill_text(room, who, b"yes"),
+        Answer::No => fill_text(room, who, b"no"),
+        Answer::Members(names) => return write_members(room, who, names.as_slice()),
+        Answer::Spent => fill_text(room, who, b"spent"),
+        Answer::Broken => fill_text(room, who, b"broken"),
     }
     Ok(())
 }

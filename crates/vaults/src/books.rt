@@ -33,7 +33,6 @@ use std::sync::Arc;
 /// The journal of accepted changes, and seen as it. Beside the journal it keeps a page for each tenant with what the
 /// journal gives it, for each reader those that have granted it, and those whose vaults are public, so that no call walks
 /// over the journal, nor over all tenants.
-#[derive(Drop)]
 pub struct Book {
     alloc: Global,
     journal: Journal,
@@ -52,6 +51,19 @@ impl Model for Book {
     ghost view = { λ b. b.journal.kept.0 };
 
     ghost invariant = { λ b. IsBook b.journal.kept.0 b.pages b.granting b.public };
+}
+
+// By hand, so that who holds one drops it by one call, whose proof stands here.
+impl Drop for Book {
+    fn drop(self) {
+        let Book {
+            alloc: _alloc,
+            journal: _journal,
+            pages: _pages,
+            granting: _granting,
+            public: _public,
+        } = self;
+    }
 }
 
 impl Book {

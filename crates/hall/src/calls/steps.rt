@@ -1,8 +1,7 @@
 use names::Entity;
 use search::{Hint, Need};
 
-/// A step of a search, of which somebody who works for the hall makes one after another. The first two fields are whose
-/// search it is and its number.
+/// A step of a search, made by who works for the hall. The first two fields are whose search it is and its number.
 #[derive(Clone, Copy)]
 pub enum Step {
     /// Take the waiting letter at this place.

@@ -4,33 +4,52 @@ use Rattle.std.proofs.lemmas.Bool.{eqb-false, eqb-true}
 use Rattle.std.proofs.lemmas.List.{nil_from_length}
 use Rattle.std.proofs.lemmas.Result.{err_from_is_err_and}
 use Rattle.service.proofs.RosterLemmas.{IsDistinct-none}
-use Rattle.service.proofs.RosterSteps.{SoFar-start, SoFar-blank, SoFar-row, ReadsRoster-refused, ReadsRoster-begin}
+use Rattle.service.proofs.RosterSteps.{SoFar-start, SoFar-blank, SoFar-row, ReadsRoster-refused, ReadsRoster-begin, ReadsRoster-failed, HasNoRoster-ended, AddsRow-writes_nothing}
 use Rattle.service.proofs.rosters.Roster.read.Goals as goal
 use Rattle.service.proofs.rosters.Roster.read.Goals.{then-is_blank, in-Text-3+in_ok-add_row-in-Text-3, then-not-is_empty+else-is_word, else-not-is_empty}
 
 pub loop-init : goal.loop-init
 loop-init g c = rw c.new-rows.ensures.items (record { left = SoFar-start c.args.lines.now; distinct = IsDistinct-none; most = omega arith })
 
-pub returns-in-Text-2-clause-roster : goal.returns-in-Text-2-clause-roster
-returns-in-Text-2-clause-roster g c =
+pub returns-in-Text-2 : goal.returns-in-Text-2
+returns-in-Text-2 g c =
     let some : 0 < length c.loop.rows.items = omega (arith, eqb-false c.loop.rows.len 0 (sym c.is_empty.ensures ∙ c.if-not-is_empty.true), c.loop.rows.ok.0) in
-    ReadsRoster-begin c.args.lines.now c.loop.lines c.next.follows.lender-at-none c.loop.rows.items c.next.result c.in-Text.text.now
-    c.loop.invariant.left c.next.follows.holds-at-none (rw c.in-Text.is refl)
-    (record { distinct = c.loop.invariant.distinct; some = some; most = c.loop.invariant.most }) (sym c.if-is_blank.ensures) (c.is_word.ensures.0 c.if-is_word.true)
+    record {
+      roster = ReadsRoster-begin c.args.lines.now c.loop.lines c.next.follows.lender-at-none c.loop.rows.items c.next.result c.in-Text.text.now
+          c.loop.invariant.left c.next.follows.holds-at-none (rw c.in-Text.is refl)
+          (record { distinct = c.loop.invariant.distinct; some = some; most = c.loop.invariant.most }) (sym c.if-is_blank.ensures) (c.is_word.ensures.0 c.if-is_word.true);
+      reads_alone = tt;
+    }
 
-pub returns-in_err-add_row-in-Text-3-clause-roster : goal.returns-in_err-add_row-in-Text-3-clause-roster
-returns-in_err-add_row-in-Text-3-clause-roster g c =
+pub returns-in_err-add_row-in-Text-3 : goal.returns-in_err-add_row-in-Text-3
+returns-in_err-add_row-in-Text-3 g c =
     let out = err_from_is_err_and c.from_residual.result c.from_residual.ensures.1 in
-    rw (out.1, out.2)
-    (ReadsRoster-refused c.args.lines.now c.loop.lines c.next.follows.lender-at-none c.loop.rows.items c.next.result c.in-Text.text.now
-    c.loop.invariant.left c.next.follows.holds-at-none (rw c.in-Text.is refl)
-    c.add_row.new.rows.items _ (sym c.if-is_blank.ensures)
-    (λ begin. elim c.if-not-is_empty.branch [
-      | then-not-is_empty+else-is_word w ↦ let found = w.is_word.ensures.1 begin in let other = w.if-is_word.false in absurd (cc)
-      | else-not-is_empty w ↦
-          nil_from_length c.loop.rows.items (omega (arith, eqb-true c.loop.rows.len 0 (sym c.is_empty.ensures ∙ w.if-not-is_empty.false), c.loop.rows.ok.0))
-    ])
-    c.in_err-add_row-in-Text-3.ensures)
+    rw (out.1, out.2) (record {
+      roster = ReadsRoster-refused c.args.lines.now c.loop.lines c.next.follows.lender-at-none c.loop.rows.items c.next.result c.in-Text.text.now
+          c.loop.invariant.left c.next.follows.holds-at-none (rw c.in-Text.is refl)
+          c.add_row.new.rows.items _ (sym c.if-is_blank.ensures)
+          (λ begin. elim c.if-not-is_empty.branch [
+            | then-not-is_empty+else-is_word w ↦ let found = w.is_word.ensures.1 begin in let other = w.if-is_word.false in absurd (cc)
+            | else-not-is_empty w ↦
+                nil_from_length c.loop.rows.items (omega (arith, eqb-true c.loop.rows.len 0 (sym c.is_empty.ensures ∙ w.if-not-is_empty.false), c.loop.rows.ok.0))
+          ])
+          c.in_err-add_row-in-Text-3.ensures;
+      reads_alone = AddsRow-writes_nothing c.args.lines.now c.loop.lines c.next.follows.lender-at-none c.loop.rows.items c.next.result c.in-Text.text.now
+          c.loop.invariant.left c.next.follows.holds-at-none (rw c.in-Text.is refl) c.add_row.new.rows.items _ c.in_err-add_row-in-Text-3.ensures;
+    })
+
+pub returns-in-Fault : goal.returns-in-Fault
+returns-in-Fault g c = record { roster = ReadsRoster-failed c.args.lines.now; reads_alone = λ is. cc }
+
+pub returns-in_default : goal.returns-in_default
+returns-in_default g c = record {
+  roster = HasNoRoster-ended c.args.lines.now c.loop.lines c.next.follows.lender-at-none c.loop.rows.items c.next.result
+      c.loop.invariant.left c.next.follows.holds-at-none c.in_default.not-Text c.in_default.not-Fault;
+  reads_alone = λ is. cc;
+}
+
+pub returns : goal.returns
+returns g c = record { roster = ReadsRoster-failed c.args.lines.now; reads_alone = λ is. cc }
 
 pub loop-preserved : goal.loop-preserved
 loop-preserved g c =
