@@ -60,8 +60,7 @@ impl Model for Roster {
 }
 
 impl Roster {
-    /// The roster that the lines begin with, one tenant a line, up to the line `begin`. A faulty line is answered at
-    /// once: what follows it isn't read.
+    /// The roster that the lines begin with, one tenant a line, up to the line `begin`. What follows a faulty one isn't read.
     pub fn read<R: Read + Drop>(
         alloc: Global,
         lines: &mut LineReader<R>,
@@ -84,8 +83,7 @@ impl Roster {
         Err(ScriptFault::Read)
     }
 
-    /// Whether a tenant has this name and this word. By its code it costs the same whatever they are: it goes over each
-    /// byte of all tenants' names and words.
+    /// Whether a tenant has this name and this word. By its code it goes over each byte of all of them, whatever is asked.
     pub fn check(&self, name: &[u8], word: &[u8]) -> bool
         ensures tenant { IsTrue result ↔ IsTenant self.now name.now word.now }
         ensures name { IsTrue result → IsName name.now }
@@ -210,8 +208,7 @@ fn next_number(text: &[u8]) -> Option<(u64, &[u8])>
     Some((number(word)?, rest))
 }
 
-/// The roster that an input begins with. A faulty one is answered at once by one line. What was read ahead of the
-/// roster's end is lost with the reader.
+/// The roster that an input begins with. A faulty one is answered at once by one line. What was read ahead of it is lost.
 pub fn read_roster<R: Read + Drop, W: Write>(
     alloc: Global,
     reader: R,
