@@ -1,8 +1,7 @@
 //! Workers: threads that take letters, look up outside the lock, and hand in.
 ghost use Rattle.std.specs.Prelude.{ℕ, List, ◌≡◌, ◌≤◌, IfOk, IfErr, vec_len, vec_capacity};
 ghost use Rattle.pool.specs.Refusals.{IsWorkRefusal};
-ghost use Rattle.search.specs.Batches.{IsLookedUp};
-ghost use Rattle.pool.specs.Visits.{AreLetThrough};
+ghost use Rattle.{search.specs.Batches.IsLookedUp, pool.specs.Visits.AreLetThrough};
 ghost use Rattle.pool.specs.Workers.{done_by_both, IsDoneBy, DoneBy};
 
 use crate::desks::Desk;
@@ -17,8 +16,8 @@ use std::thread::{self, JoinHandle, Threads};
 
 /// Where a worker passes with each letter, after it took it and before it looks up what the letter needs, without the lock.
 pub trait Gate: Sync {
-    /// Whether a pass may wait, so that other workers go on meanwhile. Where none does one worker at a time visits the desk: all
-    /// visits are under one lock, which costs more the more threads want it.
+    /// Whether a pass may wait, so that others have to go on meanwhile. Where none does, one worker at a time makes full visits:
+    /// nearly all of such a visit is under the lock, which costs more the more threads want it.
     const MAY_WAIT: bool;
 
     /// That the gate let the letter of this number pass, of the tenant's search of that number.
@@ -63,25 +62,26 @@ fn look_up_all<G: Gate>(gate: &G, batch: &mut Batch)
 /// How many visits in a row a worker begins at one search, whose letters its processor has at hand then.
 const IN_A_ROW: u64 = 8;
 
-/// How many visits a worker makes before another one may come to the desk, where no gate may wait.
-const AT_THE_DESK: u64 = 64;
-
 /// Works until the desk is stopped, or memory is refused; then another goes on. The searches take turns, for each from another.
 fn work<L: Ledger, G: Gate, R: Wait>(rt: &R, desk: &Desk<L>, gate: &G, worker: u64) -> Worked {
     let mut batch = Batch::make(desk.alloc, BATCH).ok()?;
     let mut finished = 0u64;
     let mut found = Found::Work;
     let mut visits = worker.wrapping_mul(IN_A_ROW);
-    'work: for _ in rt.forever() {
-        let _line = (!G::MAY_WAIT).then(|| desk.line.lock(rt));
-        for _ in 0..AT_THE_DESK {
-            found = desk.visit(rt, visits / IN_A_ROW, &mut batch);
-            visits = visits.wrapping_add(1);
-            look_up_all(gate, &mut batch);
-            finished = finished.saturating_add(desk.hand_in(rt, &mut batch));
-            if found != Found::Work {
-                break 'work;
-            }
+    let mut line = None;
+    for _ in rt.forever() {
+        found = desk.visit(rt, visits / IN_A_ROW, &mut batch);
+        visits = visits.wrapping_add(1);
+        look_up_all(gate, &mut batch);
+        let handed = desk.hand_in(rt, &mut batch);
+        finished = finished.saturating_add(handed);
+        if found != Found::Work {
+            break;
+        }
+        if handed == BATCH as u64 && !G::MAY_WAIT && line.is_none() {
+            line = Some(desk.line.lock(rt));
+        } else if (1..BATCH as u64).contains(&handed) {
+            line = None;
         }
     }
     desk.work.notify_one();
