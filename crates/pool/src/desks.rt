@@ -41,7 +41,7 @@ pub struct Desk<L: Ledger> {
     over: Bells,
     /// Where workers wait for something to do.
     pub(crate) work: Condvar,
-    /// Held by the worker whose visits are full, where no gate may wait.
+    /// Held by the worker that finishes many letters in each row of visits, where no gate may wait.
     pub(crate) line: Mutex<()>,
 }
 

@@ -16,8 +16,8 @@ use std::thread::{self, JoinHandle, Threads};
 
 /// Where a worker passes with each letter, after it took it and before it looks up what the letter needs, without the lock.
 pub trait Gate: Sync {
-    /// Whether a pass may wait, so that others have to go on meanwhile. Where none does, one worker at a time makes full visits:
-    /// nearly all of such a visit is under the lock, which costs more the more threads want it.
+    /// Whether a pass may wait, so that others have to go on meanwhile. Where none does, one worker at a time finishes letters by
+    /// the hundred: nearly all of its visits are under the lock, which costs more the more threads want it.
     const MAY_WAIT: bool;
 
     /// That the gate let the letter of this number pass, of the tenant's search of that number.
@@ -63,25 +63,26 @@ fn look_up_all<G: Gate>(gate: &G, batch: &mut Batch)
 const IN_A_ROW: u64 = 8;
 
 /// Works until the desk is stopped, or memory is refused; then another goes on. The searches take turns, for each from another.
-fn work<L: Ledger, G: Gate, R: Wait>(rt: &R, desk: &Desk<L>, gate: &G, worker: u64) -> Worked {
+fn work<L: Ledger, G: Gate, R: Wait>(rt: &R, desk: &Desk<L>, gate: &G, mut turn: u64) -> Worked {
     let mut batch = Batch::make(desk.alloc, BATCH).ok()?;
     let mut finished = 0u64;
     let mut found = Found::Work;
-    let mut visits = worker.wrapping_mul(IN_A_ROW);
     let mut line = None;
-    for _ in rt.forever() {
-        found = desk.visit(rt, visits / IN_A_ROW, &mut batch);
-        visits = visits.wrapping_add(1);
-        look_up_all(gate, &mut batch);
-        let handed = desk.hand_in(rt, &mut batch);
-        finished = finished.saturating_add(handed);
-        if found != Found::Work {
-            break;
+    'work: for _ in rt.forever() {
+        let before = finished;
+        for _ in 0..IN_A_ROW {
+            found = desk.visit(rt, turn, &mut batch);
+            look_up_all(gate, &mut batch);
+            finished = finished.saturating_add(desk.hand_in(rt, &mut batch));
+            if found != Found::Work {
+                break 'work;
+            }
         }
-        if handed == BATCH as u64 && !G::MAY_WAIT && line.is_none() {
-            line = Some(desk.line.lock(rt));
-        } else if (1..BATCH as u64).contains(&handed) {
+        turn = turn.wrapping_add(1);
+        if finished.saturating_sub(before) < BATCH as u64 {
             line = None;
+        } else if line.is_none() && !G::MAY_WAIT {
+            line = Some(desk.line.lock(rt));
         }
     }
     desk.work.notify_one();
@@ -107,10 +108,9 @@ fn join_all<R: Threads>(rt: &R, handles: Vec<JoinHandle<Worked>>) -> Worked
     all
 }
 
-/// Runs `n` workers until the desk is stopped, and answers how many letters they finished. The gate is passed once with each
-/// letter. A worker to which memory is refused, for its letters or for one of them, hands in what it holds and ends; the
-/// answer is then 90, once the others have ended. If all ended so, nobody goes on with the searches: a `wait` returns when the
-/// caller stops the desk. 93 where a worker couldn't be started: the desk is then stopped, and those that run end first.
+/// Runs `n` workers until the desk is stopped, and answers how many letters they finished. The gate is passed once with each. A
+/// worker to which memory is refused hands in what it holds and ends; the answer is then 90, once all have ended, and a `wait`
+/// returns when the caller stops the desk. 93 where a worker couldn't be started: the desk is stopped, and the others end first.
 pub fn run_workers<L: Ledger + Send + Sync, G: Gate, R: Threads + Wait + Sync>(
     rt: &R,
     alloc: Global,
