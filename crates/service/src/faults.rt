@@ -37,7 +37,8 @@ pub enum ServeFault {
 }
 
 impl From<AllocError> for ScriptFault {
-    ghost use Rattle.{std.specs.Prelude.◌≡◌, service.specs.declared.faults.ScriptFault.TheVariants.Memory};
+    ghost use Rattle.std.specs.Prelude.{◌≡◌};
+    ghost use Rattle.service.specs.declared.faults.ScriptFault.TheVariants.{Memory};
 
     ghost from_gives = { λ _ fault. fault ≡ Memory };
 

@@ -45,7 +45,8 @@ impl Refusal {
 }
 
 impl From<NameFault> for Refusal {
-    ghost use Rattle.{std.specs.Prelude.◌≡◌, service.specs.declared.refusals.Refusal.TheVariants.Name};
+    ghost use Rattle.std.specs.Prelude.{◌≡◌};
+    ghost use Rattle.service.specs.declared.refusals.Refusal.TheVariants.{Name};
 
     ghost from_gives = { λ fault refusal. refusal ≡ Name fault };
 
