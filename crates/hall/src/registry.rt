@@ -47,6 +47,7 @@ impl Model for Hall {
     ghost invariant = { λ h. IsIndexed h.busy (record { journal = h.book; tenants = h.tenants }) };
 }
 
+// By hand, so that who holds one drops it by one call, whose proof stands here.
 impl Drop for Hall {
     fn drop(self) {
         let Hall {
