@@ -41,6 +41,8 @@ pub struct Desk<L: Ledger> {
     over: Bells,
     /// Where workers wait for something to do.
     pub(crate) work: Condvar,
+    /// Held by the worker that finishes many letters in each row of visits, where no gate may wait.
+    pub(crate) line: Mutex<()>,
 }
 
 impl<L: Ledger> Model for Desk<L> {
@@ -72,6 +74,7 @@ impl<L: Ledger> Desk<L> {
             room: Mutex::new(Room::new(hall, blank)),
             over,
             work: Condvar::new(),
+            line: Mutex::new(()),
         })
     }
 
@@ -265,8 +268,7 @@ impl<L: Ledger> Desk<L> {
         }
     }
 
-    /// For a worker: waits until there is something to do, does it, and answers what it found. One worker more is woken where
-    /// something is left to do, so that no more of them are awake than find something.
+    /// For a worker: waits for something to do, does it, and answers what it found. Wakes one worker more if something is left.
     pub(crate) fn visit<R: Wait>(&self, rt: &R, turn: u64, batch: &mut Batch) -> Found
         requires empty { IsEmpty batch.old }
         requires space { BATCH ≤ batch.old.room }

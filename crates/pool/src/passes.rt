@@ -62,13 +62,6 @@ impl<L: Ledger> Pass<L> {
         self.told
     }
 
-    /// The pass has seen a journal of this length.
-    pub(crate) fn see(&mut self, length: u64)
-        ensures { self.new ≡ record self.old { front = length } }
-    {
-        self.front = length;
-    }
-
     /// The pass is told this reply, with which the journal has this length. An accepted change counts once.
     pub(crate) fn hear(&mut self, book: &mut Book<L>, reply: &Reply, length: u64)
         requires seen { self.old.front ≡ book.old.total }

@@ -118,7 +118,7 @@ impl<L: Ledger> Room<L> {
         if found < pass.front() {
             return Err(DeskFault::Rewound { front: found });
         }
-        pass.see(found);
+        pass.front = found;
         Ok(())
     }
 

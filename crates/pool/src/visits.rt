@@ -44,8 +44,7 @@ impl<L: Ledger> Room<L> {
         }
     }
 
-    /// The steps of one visit of a worker, all of one search: it delivers signals and takes letters as long as there are any
-    /// and the steps are within their limit. The turn picks which search.
+    /// One visit of a worker: up to so many steps of the search that the turn picks, signals first, then letters that it takes.
     pub(crate) fn visit(&mut self, turn: u64, batch: &mut Batch) -> Found
         requires empty { IsEmpty batch.old }
         requires space { BATCH ≤ batch.old.room }

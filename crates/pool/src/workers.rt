@@ -1,8 +1,7 @@
 //! Workers: threads that take letters, look up outside the lock, and hand in.
 ghost use Rattle.std.specs.Prelude.{ℕ, List, ◌≡◌, ◌≤◌, IfOk, IfErr, vec_len, vec_capacity};
 ghost use Rattle.pool.specs.Refusals.{IsWorkRefusal};
-ghost use Rattle.search.specs.Batches.{IsLookedUp};
-ghost use Rattle.pool.specs.Visits.{AreLetThrough};
+ghost use Rattle.{search.specs.Batches.IsLookedUp, pool.specs.Visits.AreLetThrough};
 ghost use Rattle.pool.specs.Workers.{done_by_both, IsDoneBy, DoneBy};
 
 use crate::desks::Desk;
@@ -13,11 +12,14 @@ use names::Entity;
 use std::alloc::Global;
 use std::sync::Wait;
 use std::sync::ledger::Ledger;
-use std::thread;
-use std::thread::{JoinHandle, Threads};
+use std::thread::{self, JoinHandle, Threads};
 
-/// Where a worker passes with each letter, after it took it and before it looks up what the letter needs. It holds no lock.
+/// Where a worker passes with each letter, after it took it and before it looks up what the letter needs, without the lock.
 pub trait Gate: Sync {
+    /// Whether a pass may wait, so that others have to go on meanwhile. Where none does, one worker at a time finishes letters by
+    /// the hundred: nearly all of its visits are under the lock, which costs more the more threads want it.
+    const MAY_WAIT: bool;
+
     /// That the gate let the letter of this number pass, of the tenant's search of that number.
     ghost LetThrough: { List ℕ → ℕ → ℕ → Type 0 };
 
@@ -31,6 +33,8 @@ pub trait Gate: Sync {
 pub struct NoGate;
 
 impl Gate for NoGate {
+    const MAY_WAIT: bool = false;
+
     ghost LetThrough = { λ who search letter. Unit {0} };
 
     fn pass(&self, _who: &Entity, _search: u64, _letter: u64) {}
@@ -58,20 +62,29 @@ fn look_up_all<G: Gate>(gate: &G, batch: &mut Batch)
 /// How many visits in a row a worker begins at one search, whose letters its processor has at hand then.
 const IN_A_ROW: u64 = 8;
 
-/// Works until the desk is stopped, or memory is refused; then another worker goes on. Room for the letters is taken first.
-/// The searches take turns, for each worker from another one on.
-fn work<L: Ledger, G: Gate, R: Wait>(rt: &R, desk: &Desk<L>, gate: &G, worker: u64) -> Worked {
+/// Works until the desk is stopped, or memory is refused; then another goes on. The searches take turns, for each from another.
+fn work<L: Ledger, G: Gate, R: Wait>(rt: &R, desk: &Desk<L>, gate: &G, mut turn: u64) -> Worked {
     let mut batch = Batch::make(desk.alloc, BATCH).ok()?;
     let mut finished = 0u64;
     let mut found = Found::Work;
-    let mut visits = worker.wrapping_mul(IN_A_ROW);
-    for _ in rt.forever() {
-        found = desk.visit(rt, visits / IN_A_ROW, &mut batch);
-        visits = visits.wrapping_add(1);
-        look_up_all(gate, &mut batch);
-        finished = finished.saturating_add(desk.hand_in(rt, &mut batch));
-        if found != Found::Work {
-            break;
+    let mut line = None;
+    'work: for _ in rt.forever() {
+        let before = finished;
+        for _ in 0..IN_A_ROW {
+            found = desk.visit(rt, turn, &mut batch);
+            look_up_all(gate, &mut batch);
+            finished = finished.saturating_add(desk.hand_in(rt, &mut batch));
+            if found != Found::Work {
+                break 'work;
+            }
+        }
+        turn = turn.wrapping_add(1);
+        if finished.saturating_sub(before) < BATCH as u64 {
+            line = None;
+        } else if line.is_none() && !G::MAY_WAIT {
+            // What it handed in may have made work, for which the one that has the desk may be asleep.
+            desk.work.notify_one();
+            line = Some(desk.line.lock(rt));
         }
     }
     desk.work.notify_one();
@@ -83,10 +96,7 @@ fn work<L: Ledger, G: Gate, R: Wait>(rt: &R, desk: &Desk<L>, gate: &G, worker: u
 fn both(all: Worked, one: Worked) -> Worked
     ensures { result ≡ done_by_both all one }
 {
-    match (all, one) {
-        (Some(all), Some(one)) => Some(all.saturating_add(one)),
-        _ => None,
-    }
+    Some(all?.saturating_add(one?))
 }
 
 /// Waits for all workers, and adds up what they did.
@@ -100,11 +110,9 @@ fn join_all<R: Threads>(rt: &R, handles: Vec<JoinHandle<Worked>>) -> Worked
     all
 }
 
-/// Runs `n` workers until the desk is stopped, and answers how many letters they finished. The gate is passed once with each
-/// letter, outside the lock. A worker to which memory is refused, for its letters or for one of them, hands in what it holds
-/// and ends; the answer is then 90, once the others have ended. Where all have ended so, nobody goes on with the searches: a
-/// `wait` returns when the caller of this function stops the desk. 93 where a worker couldn't be started: the desk is then
-/// stopped, and those that run end first. Refused memory for the workers' handles is 90 too.
+/// Runs `n` workers until the desk is stopped, and answers how many letters they finished. The gate is passed once with each. A
+/// worker to which memory is refused hands in what it holds and ends; the answer is then 90, once all have ended, and a `wait`
+/// returns when the caller stops the desk. 93 where a worker couldn't be started: the desk is stopped, and the others end first.
 pub fn run_workers<L: Ledger + Send + Sync, G: Gate, R: Threads + Wait + Sync>(
     rt: &R,
     alloc: Global,
@@ -135,10 +143,7 @@ pub fn run_workers<L: Ledger + Send + Sync, G: Gate, R: Threads + Wait + Sync>(
                 };
                 handles.push_reserved(handle);
             }
-            match join_all(rt, handles) {
-                Some(all) => Ok(all),
-                None => Err(DeskFault::Hall(Fault::Memory)),
-            }
+            join_all(rt, handles).ok_or(DeskFault::Hall(Fault::Memory))
         },
     )
 }

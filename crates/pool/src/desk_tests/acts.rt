@@ -318,7 +318,7 @@ fn about_pass<L: Ledger, R: Wait>(rt: &R, desk: &Desk<L>, pass: &mut Pass<L>, ac
         Act::RevokeAll => changed(rt, desk, pass, Change::RevokeAll),
         Act::Sees => seen(rt, desk, pass),
         Act::See(length) => {
-            pass.see(length);
+            pass.front = length;
             Told::Done
         }
         Act::Share => Told::Share(pass.front(), pass.share()),

@@ -70,6 +70,8 @@ pub(super) struct Doorway<'a, L: Ledger, R> {
 }
 
 impl<L: Ledger + Send + Sync, R: Wait + Clock + Sync> Gate for Doorway<'_, L, R> {
+    const MAY_WAIT: bool = true;
+
     ghost LetThrough = { λ who search letter. Unit {0} };
 
     fn pass(&self, who: &Entity, search: u64, letter: u64) {
