@@ -9,7 +9,6 @@ use crate::faults::{DeskFault, Told};
 use crate::visits::{BATCH, Found};
 use hall::{Batch, Fault};
 use names::Entity;
-use std::alloc::Global;
 use std::sync::Wait;
 use std::sync::ledger::Ledger;
 use std::thread::{self, JoinHandle, Threads};
@@ -115,7 +114,6 @@ fn join_all<R: Threads>(rt: &R, handles: Vec<JoinHandle<Worked>>) -> Worked
 /// returns when the caller stops the desk. 93 where a worker couldn't be started: the desk is stopped, and the others end first.
 pub fn run_workers<L: Ledger + Send + Sync, G: Gate, R: Threads + Wait + Sync>(
     rt: &R,
-    alloc: Global,
     desk: &Desk<L>,
     n: u64,
     gate: &G,
@@ -124,7 +122,7 @@ pub fn run_workers<L: Ledger + Send + Sync, G: Gate, R: Threads + Wait + Sync>(
     ensures done { IfOk result (DoneBy n) }
     ensures refused { IfErr result IsWorkRefusal }
 {
-    let Ok(mut handles) = Vec::with_capacity(alloc, n as usize) else {
+    let Ok(mut handles) = Vec::with_capacity(desk.alloc, n as usize) else {
         return Err(DeskFault::Hall(Fault::Memory));
     };
     thread::scope(
@@ -143,7 +141,10 @@ pub fn run_workers<L: Ledger + Send + Sync, G: Gate, R: Threads + Wait + Sync>(
                 };
                 handles.push_reserved(handle);
             }
-            join_all(rt, handles).ok_or(DeskFault::Hall(Fault::Memory))
+            match join_all(rt, handles) {
+                Some(all) => Ok(all),
+                None => Err(DeskFault::Hall(Fault::Memory)),
+            }
         },
     )
 }

@@ -135,7 +135,7 @@ fn answer_beside_workers<L: Ledger + Send + Sync, R: Threads + Wait + Clock + Sy
             requires { desk.now ≡ names_of roster.now }
             ensures { Answered options.accept result }
         {
-            let Ok(working) = scope.spawn(move || work(rt, alloc, desk, options.workers)) else {
+            let Ok(working) = scope.spawn(move || work(rt, desk, options.workers)) else {
                 return Err(ServeFault::NoThread);
             };
             let answered = answer_connections(rt, alloc, desk, roster, listener, options);
@@ -152,11 +152,10 @@ fn answer_beside_workers<L: Ledger + Send + Sync, R: Threads + Wait + Clock + Sy
 /// the searches: then it stops the desk itself, so that no session waits for one.
 fn work<L: Ledger + Send + Sync, R: Threads + Wait + Sync>(
     rt: &R,
-    alloc: Global,
     desk: &Desk<L>,
     workers: u64,
 ) -> Result<u64, DeskFault> {
-    let worked = run_workers(rt, alloc, desk, workers.clamp(1, 64), &NoGate);
+    let worked = run_workers(rt, desk, workers.clamp(1, 64), &NoGate);
     desk.stop(rt);
     worked
 }

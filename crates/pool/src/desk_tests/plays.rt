@@ -190,13 +190,12 @@ fn beside<L: Ledger, R: Wait>(
 /// is left.
 fn work<L: Ledger + Send + Sync, R: Threads + Wait + Clock + Sync>(
     rt: &R,
-    alloc: Global,
     desk: &Desk<L>,
     workers: u64,
     way: Way<'_>,
 ) -> Result<u64, DeskFault> {
     let gate = Doorway { rt, desk, way };
-    let worked = run_workers(rt, alloc, desk, workers.clamp(1, 64), &gate);
+    let worked = run_workers(rt, desk, workers.clamp(1, 64), &gate);
     desk.stop(rt);
     worked
 }
@@ -222,7 +221,7 @@ fn staged<L: Ledger + Send + Sync, R: Threads + Wait + Clock + Sync>(
     thread::scope(thread::scope_env(), rt, |scope| -> Result<u64, Break> {
         let passes = begun(rt, alloc, desk, scene)?;
         let workers = scene.workers;
-        let Ok(all) = scope.spawn(move || work(rt, alloc, desk, workers, way)) else {
+        let Ok(all) = scope.spawn(move || work(rt, desk, workers, way)) else {
             return Err(Break::NoMemory);
         };
         let right = beside(rt, alloc, desk, passes, scene);

@@ -368,7 +368,7 @@ fn are_told_at<L: Ledger + Send + Sync, R: Threads + Wait + Sync>(
     let (worked, beside) = thread::join(
         rt,
         || {
-            let worked = run_workers(rt, alloc, &desk, 2, &NoGate);
+            let worked = run_workers(rt, &desk, 2, &NoGate);
             desk.stop(rt);
             worked
         },
