@@ -25,9 +25,7 @@ pub(crate) enum Command {
 pub(crate) fn read_command(alloc: Global, text: &[u8]) -> Result<Command, Refusal>
     ensures { Reads (form_of text.now) result }
 {
-    let Some((verb, rest)) = next_word(text) else {
-        return Err(Refusal::Command);
-    };
+    let (verb, rest) = next_word(text).ok_or(Refusal::Command)?;
     if verb == b"put".as_slice() {
         return Ok(Command::Request(Request::Alter(Change::Upload(credential_of(alloc, rest)?))));
     }

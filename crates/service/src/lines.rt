@@ -142,21 +142,11 @@ fn take_line<R: Read + Drop>(bytes: &mut Bytes<BufReader<Limited<R>>>, line: &mu
         if byte == b'\n' {
             return Stage::Open;
         }
-        keep(line, byte);
+        if line.len() < KEPT {
+            line.push(byte).unwrap();
+        }
     }
     Stage::Ended
-}
-
-/// Keeps a byte of a line where there is room for it.
-fn keep(line: &mut Vec<u8>, byte: u8)
-    requires room { KEPT ≤ vec_capacity line.old }
-    requires fits { vec_len line.old ≤ KEPT }
-    ensures kept { line.new.items ≡ take KEPT (line.old.items ++ byte ∷ []) }
-    ensures room { KEPT ≤ vec_capacity line.new }
-{
-    if line.len() < KEPT {
-        line.push(byte).unwrap();
-    }
 }
 
 /// Takes one carriage return off the end.

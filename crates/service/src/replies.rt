@@ -145,9 +145,8 @@ fn append_digits(out: &mut Vec<u8>, number: u64)
 pub(crate) fn fill_reply(room: &mut Room, who: &Speaker, reply: &Reply)
     ensures { IsFilled (front_of who.now) reply.now room.new }
 {
-    match write_reply_lines(room, who, reply) {
-        Ok(()) => {}
-        Err(_lacking) => fill_error(room, who, Fault::Memory.number()),
+    if write_reply_lines(room, who, reply).is_err() {
+        fill_error(room, who, Fault::Memory.number());
     }
 }
 

@@ -19,20 +19,14 @@ pub(crate) fn next_word(text: &[u8]) -> Option<(&[u8], &[u8])>
         return None;
     }
     let (word, rest) = cut(text, b' ');
-    match rest {
-        Some(rest) => Some((word, rest)),
-        None => Some((word, &[])),
-    }
+    Some((word, rest.unwrap_or(&[])))
 }
 
 /// Whether the text has this word and no other.
 pub(crate) fn is_word(text: &[u8], word: &[u8]) -> bool
     ensures { IsTrue result ↔ (words text.now ≡ word.now ∷ []) }
 {
-    match next_word(text) {
-        Some((first, rest)) => first == word && next_word(rest).is_none(),
-        None => false,
-    }
+    matches!(split_words(text), Arguments::One(first) if first == word)
 }
 
 /// The words of a text, where there are at most two.
@@ -67,10 +61,7 @@ pub(crate) fn number(text: &[u8]) -> Option<u64>
     if !is_number(text) {
         return None;
     }
-    match str::from_utf8(text) {
-        Ok(digits) => digits.parse().ok(),
-        Err(_) => None,
-    }
+    str::from_utf8(text).ok()?.parse().ok()
 }
 
 /// Whether these are 1 to 10 digits, the first not 0.

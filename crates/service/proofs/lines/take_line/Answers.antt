@@ -1,6 +1,6 @@
 -- Each byte that comes is one more of the line, up to its end.
-use Rattle.std.proofs.Common.{arith, ◌∷◌, ◌++◌, []}
-use Rattle.std.proofs.lemmas.List.{length-take}
+use Rattle.std.proofs.Common.{rules, ◌≡◌, ◌≤◌, arith, ap, sym, ◌∙◌, ◌∷◌, ◌++◌, [], length, take}
+use Rattle.std.proofs.lemmas.List.{take_all, take-append-le, length-take, length_push}
 use Rattle.std.specs.Io.KnownBytes.{Consumes}
 use Rattle.std.proofs.lemmas.Result.{IfOk-at_ok}
 use Rattle.service.specs.LineReader.{unread_bytes}
@@ -15,11 +15,22 @@ returns-then-byte-eq10-clause-taken g c =
     let one = IfOk-at_ok (λ b. Consumes old new (b ∷ [])) c.in-Ok.is c.in-Some.ensures.steps in
     (s.0, s.1, s.2, rw (← c.if-byte-eq10.true) (Consumes-more _ _ _ s.0 _ s.3 one))
 
-pub keep-requires-clause-fits : goal.keep-requires-clause-fits
-keep-requires-clause-fits g c =
+pub loop-byte-preserved-then-len-lt-KEPT : goal.loop-byte-preserved-then-len-lt-KEPT
+loop-byte-preserved-then-len-lt-KEPT g c =
     let s = c.loop-byte.invariant.taken in
-    let kept = length-take 4098 s.0 in
-    omega (arith, kept, c.loop-byte.line.ok.0, rw s.2 at c.loop-byte.line.ok.0)
+    let old = unread_bytes g.R.Read.remaining c.loop-byte.bytes in
+    let new = unread_bytes g.R.Read.remaining c.next.new.self in
+    let one = IfOk-at_ok (λ b. Consumes old new (b ∷ [])) c.in-Ok.is c.in-Some.ensures.steps in
+    let b = c.in-Ok.byte in
+    let line = c.loop-byte.line in
+    let all = take_all 4098 (line.items ++ b ∷ []) (omega (arith, length_push line.items b, line.ok.0)) in
+    let kept : c.push.new.self.items ≡ take 4098 (line.items ++ b ∷ []) = rw all (rw c.unwrap.ensures at c.push.ensures.items) in
+    record {
+      taken = (s.0 ++ b ∷ [], HasNoNewline-push s.0 b s.1 c.if-byte-eq10.false, kept ∙ ap (λ t. take 4098 (t ++ b ∷ [])) s.2 ∙ take-push_kept 4098 s.0 b, Consumes-more _ _ _ s.0 _ s.3 one);
+      room = search (rules, arith);
+      can = tt;
+      finite = tt;
+    }
 
 pub loop-byte-preserved : goal.loop-byte-preserved
 loop-byte-preserved g c =
@@ -28,9 +39,12 @@ loop-byte-preserved g c =
     let new = unread_bytes g.R.Read.remaining c.next.new.self in
     let one = IfOk-at_ok (λ b. Consumes old new (b ∷ [])) c.in-Ok.is c.in-Some.ensures.steps in
     let b = c.in-Ok.byte in
+    let line = c.loop-byte.line in
+    let full : length line.items ≤ 4098 = omega (arith, length-take 4098 s.0, line.ok.0, rw s.2 at line.ok.0) in
+    let kept = sym (take-append-le 4098 line.items (b ∷ []) (omega (arith, line.ok.0)) ∙ take_all 4098 line.items full) in
     record {
-      taken = (s.0 ++ b ∷ [], HasNoNewline-push s.0 b s.1 c.if-byte-eq10.false, rw (s.2, take-push_kept 4098 s.0 b) at c.keep.ensures.kept, Consumes-more _ _ _ s.0 _ s.3 one);
-      room = c.keep.ensures.room;
+      taken = (s.0 ++ b ∷ [], HasNoNewline-push s.0 b s.1 c.if-byte-eq10.false, kept ∙ ap (λ t. take 4098 (t ++ b ∷ [])) s.2 ∙ take-push_kept 4098 s.0 b, Consumes-more _ _ _ s.0 _ s.3 one);
+      room = c.loop-byte.invariant.room;
       can = tt;
       finite = tt;
     }
