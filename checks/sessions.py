@@ -206,7 +206,7 @@ def unread_at_last(peer):
 
 def long_lines(size=100_000_000):
     piece = b"x" * 1_000_000
-    with Server(SMALL, 3) as server:
+    with Server(SMALL, 4) as server:
         probe(server, "before the long lines")
         before = server.most_memory()
         with server.peer() as peer:
@@ -221,6 +221,7 @@ def long_lines(size=100_000_000):
                 peer.send(piece)
             want(peer.rest(), b"error 65 line too long\n", "a long line that has no end")
         grown = server.most_memory() - before
+        probe(server, "after the long lines")
         if grown > 8192:
             raise Wrong(f"the server took {grown} kB for long lines")
     print(f"two lines of {size} bytes: refused, and the server's most memory, {before} kB before, grew by {grown} kB")
