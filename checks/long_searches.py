@@ -4,7 +4,7 @@ speaks of it: workers that all sleep while there are letters to take would meet 
 
   checks/long_searches.py [ROUNDS]        100 rounds
 
-In each round one session, or three of other tenants, open a search each, of 300 to 2,000 letters, and wait for it. Nobody says
+In each round one session, or three of a tenant each, open a search, of some 480 to 2,000 letters, and wait for it. Nobody says
 anything more until all have their answers, so a worker that sleeps is woken by another one or by none. The members of some
 roles are far away and few, so that one worker holds all letters that there are, and the others go to sleep. The rounds are
 made by 1, 2, 4 and 8 workers. Each answer has to be whole, and to come within a minute.
