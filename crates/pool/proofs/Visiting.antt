@@ -1,15 +1,13 @@
--- What a search is worked on leaves the journal as it was; when a worker has nothing to do, and what it does with the search
--- that was picked.
-use Rattle.std.proofs.Common.{◌≡◌, ◌∙◌, ◌↔◌, ℕ, Bool, true, false, not, IsTrue, is_some, Option, None, Some, List, Result, refl, subst}
+-- What a search is worked on leaves the journal as it was; when a worker has nothing to do.
+use Rattle.std.proofs.Common.{◌≡◌, ◌∙◌, ◌↔◌, ℕ, Bool, true, false, not, IsTrue, is_some, Option, None, Some, List, Result, refl}
 use Rattle.hall.specs.declared.faults.Fault.{Fault}
 use Rattle.hall.specs.declared.calls.steps.Step.{Step}
 use Rattle.hall.specs.declared.calls.steps.Step.TheVariants.{Take, GiveBack, Finish, Signal}
 use Rattle.hall.specs.declared.calls.steps.Stepped.TheVariants.{Signalled}
-use Rattle.hall.specs.Hall.{HallState, step_name, step_search}
+use Rattle.hall.specs.Hall.{HallState}
 use Rattle.search.specs.Need.{right_hint}
 use Rattle.search.specs.Batches.{TakenLetter}
-use Rattle.hall.specs.Visits.{SearchIsQuiet, IsWorkedOn, IsVisited, IsHandedIn, AreHandedIn}
-use Rattle.pool.specs.Visits.{VisitsOne}
+use Rattle.hall.specs.Visits.{IsWorkedOn, IsVisited, IsHandedIn, AreHandedIn}
 use Rattle.pool.proofs.Kept.{stepped_journal}
 
 worked_journal : (who : List ℕ) (k : ℕ) (old : HallState) (n : ℕ) (taken : List TakenLetter) (new : HallState) → IsWorkedOn who k old n taken new → new.journal ≡ old.journal
@@ -29,17 +27,6 @@ none_picked None true is = (λ yes. refl, λ same. refl)
 none_picked None false is = cc
 none_picked (Some made) true is = cc
 none_picked (Some made) false is = (λ yes. cc, λ same. cc)
-
--- what a worker does with the search that was picked
-pub visits_one : (most : ℕ) (old new : HallState) (taken : List TakenLetter) (result told : Result (Unit {0}) Fault) (at : List ℕ × ℕ) (made : Step) →
-    at ≡ (step_name made, step_search made) → (SearchIsQuiet old (step_name made) (step_search made) → ⊥) → IsVisited at.0 at.1 most old result new taken → result ≡ told →
-    VisitsOne most old told new taken
-visits_one most old new taken result told at made same left visited is = (
-  at.0,
-  at.1,
-  λ quiet. left (subst (λ (p : List ℕ × ℕ). SearchIsQuiet old p.0 p.1) same quiet),
-  subst (λ (r : Result (Unit {0}) Fault). IsVisited at.0 at.1 most old r new taken) is visited,
-)
 
 -- nor do letters that are handed in change the journal
 one_journal : (back : Bool) (old : HallState) (one : TakenLetter) (done : Bool) (new : HallState) → IsHandedIn back old one done new → new.journal ≡ old.journal

@@ -4,5 +4,4 @@ pub mod Refusals
 pub mod Verdicts
 pub mod Served
 pub mod Laws
-pub mod Visits
 pub mod Workers

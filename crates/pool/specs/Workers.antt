@@ -1,6 +1,11 @@
--- What workers did, all together.
-use Rattle.std.specs.Prelude.{◌≡◌, ◌+◌, ◌-◌, ◌^◌, ℕ, List, length, min, Option, None, Some, unwrap_or, is_none, if◌then◌else◌}
+-- What workers did.
+use Rattle.std.specs.Prelude.{◌≡◌, ◌+◌, ◌-◌, ◌^◌, ℕ, List, All, length, min, Option, None, Some, unwrap_or, is_none, if◌then◌else◌}
 use Rattle.std.specs.List.{sum_by, list_any}
+use Rattle.search.specs.Batches.{TakenLetter}
+
+-- the gate let each of the letters pass
+abbrev pub AreLetThrough : (List ℕ → ℕ → ℕ → Type 0) → List TakenLetter → Type 0
+AreLetThrough let_through letters = All (λ (one : TakenLetter). let_through one.who one.number one.letter) letters
 
 -- what two did: as many letters as both finished, as far as the sum fits, and nothing where one of them lacked memory
 abbrev pub done_by_both : Option ℕ → Option ℕ → Option ℕ

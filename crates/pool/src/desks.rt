@@ -24,7 +24,7 @@ use std::alloc::Global;
 use std::marker::Model;
 use std::sync::ledger::{Blank, Ledger};
 use std::sync::{Condvar, Mutex, MutexGuard, Wait};
-use std::{mem, thread};
+use std::thread;
 use vaults::Change;
 
 /// How often a call tries the lock before its thread sleeps for it: to be woken takes longer than most have the lock.
@@ -118,8 +118,9 @@ impl<L: Ledger> Desk<L> {
             drop(room);
             return read_off(self.alloc, &search, &request);
         }
+        let ended = ended_by(pass.tenant(), &request);
         let answered = room.serve(pass, request);
-        self.release(room);
+        self.release(room, ended);
         if matches!(answered, Ok(Reply::Opened(_))) {
             self.work.notify_one();
         }
@@ -259,11 +260,14 @@ impl<L: Ledger> Desk<L> {
         self.work.notify_all();
     }
 
-    /// Gives the lock back, and wakes the callers who wait for the search that came to its end meanwhile.
-    fn release(&self, mut room: MutexGuard<'_, Room<L>>) {
-        let ended = mem::take(&mut room.ended);
+    /// Gives the lock back, and wakes the callers who wait for this search where it has come to its end, or is there no longer.
+    fn release(&self, room: MutexGuard<'_, Room<L>>, of: Option<(Entity, u64)>) {
+        let Some((who, number)) = of else {
+            return;
+        };
+        let is_over = room.is_over(who, number, 0);
         drop(room);
-        if let Some((who, number)) = ended {
+        if is_over {
             self.over.of(&who, number).notify_all();
         }
     }
@@ -272,7 +276,6 @@ impl<L: Ledger> Desk<L> {
     pub(crate) fn visit<R: Wait>(&self, rt: &R, turn: u64, batch: &mut Batch) -> Found
         requires empty { IsEmpty batch.old }
         requires space { BATCH ≤ batch.old.room }
-        ensures found { ¬ (result ≡ Found.Nothing) }
         ensures stopped { result ≡ Found.Stopped → batch.new.letters ≡ [] }
         ensures bound { length batch.new.letters ≤ BATCH }
         ensures looked { batch.new.looked ≡ 0 }
@@ -280,13 +283,19 @@ impl<L: Ledger> Desk<L> {
     {
         let room = self.enter(rt);
         let mut room = self.work.wait_while(rt, room, |room| room.is_idle(turn));
-        let found = room.visit(turn, batch);
+        let Some((who, number)) = room.pick(turn) else {
+            return Found::Stopped;
+        };
+        let made = room.visit(who, number, batch);
         let is_idle = room.is_idle(turn);
-        self.release(room);
+        self.release(room, Some((who, number)));
         if !is_idle {
             self.work.notify_one();
         }
-        found
+        match made {
+            Ok(()) => Found::Work,
+            Err(_) => Found::NoMemory,
+        }
     }
 
     /// For a worker: hands in all that it holds, letters of one search, and answers how many of them are finished.
@@ -296,13 +305,22 @@ impl<L: Ledger> Desk<L> {
         ensures empty { IsEmpty batch.new }
         ensures space { batch.new.room ≡ batch.old.room }
     {
-        if batch.search().is_none() {
+        let of = batch.search();
+        if of.is_none() {
             return 0;
         }
         let mut room = self.enter(rt);
         let finished = room.hand_in(batch);
-        self.release(room);
+        self.release(room, of);
         finished
+    }
+}
+
+/// The search that the tenant's request ends, where it ends one.
+fn ended_by(who: Entity, request: &Request) -> Option<(Entity, u64)> {
+    match *request {
+        Request::Close(number) => Some((who, number)),
+        _ => None,
     }
 }
 

@@ -34,8 +34,6 @@ pub(crate) struct Room<L: Ledger> {
     out: u64,
     left: u64,
     pub(crate) stopped: bool,
-    /// The search that came to an end since those who wait for one were told last: whose it is, and its number.
-    pub(crate) ended: Option<(Entity, u64)>,
 }
 
 impl<L: Ledger> Model for Room<L> {
@@ -77,7 +75,6 @@ impl<L: Ledger> Room<L> {
             out: 0,
             left: 0,
             stopped: false,
-            ended: None,
         }
     }
 
@@ -127,20 +124,9 @@ impl<L: Ledger> Room<L> {
         ensures { IsAnsweredAt (λ r. r) self.old self.new pass.old pass.new request result }
     {
         self.show(pass)?;
-        let who = pass.tenant();
-        self.note_close(who, &request);
-        let reply = self.hall.ask(who, request)?;
+        let reply = self.hall.ask(pass.tenant(), request)?;
         pass.hear(&mut self.book, &reply, self.hall.journal_len());
         Ok(reply)
-    }
-
-    /// Notes the search that the request ends, where it ends one.
-    fn note_close(&mut self, who: Entity, request: &Request)
-        ensures { self.new ≡ self.old }
-    {
-        if let Request::Close(number) = *request {
-            self.ended = Some((who, number));
-        }
     }
 
     /// Where the request reads a completed search of the pass's tenant, that search: it doesn't change any more, so the reply

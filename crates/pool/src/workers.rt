@@ -1,8 +1,8 @@
 //! Workers: threads that take letters, look up outside the lock, and hand in.
 ghost use Rattle.std.specs.Prelude.{ℕ, List, ◌≡◌, ◌≤◌, IfOk, IfErr, vec_len, vec_capacity};
 ghost use Rattle.pool.specs.Refusals.{IsWorkRefusal};
-ghost use Rattle.{search.specs.Batches.IsLookedUp, pool.specs.Visits.AreLetThrough};
-ghost use Rattle.pool.specs.Workers.{done_by_both, IsDoneBy, DoneBy};
+ghost use Rattle.search.specs.Batches.{IsLookedUp};
+ghost use Rattle.pool.specs.Workers.{AreLetThrough, done_by_both, IsDoneBy, DoneBy};
 
 use crate::desks::Desk;
 use crate::faults::{DeskFault, Told};

@@ -1,4 +1,4 @@
-use Rattle.std.proofs.Common.{◌≡◌, ◌∙◌, ◌+◌, ℕ, List, Some, ap, sym, subst}
+use Rattle.std.proofs.Common.{◌≡◌, ◌∙◌, ◌+◌, ℕ, List, Some, ◌<◌, ap, sym, subst, arith}
 use Rattle.std.specs.List.{AllWithin}
 use Rattle.std.proofs.lemmas.List.Elements.{AllWithin-more}
 use Rattle.std.proofs.lemmas.Option.{get_or_from_slice_get}
@@ -25,4 +25,11 @@ loop-letter-preserved g c = record {
   same = c.look_up.ensures
       ∙ ap (λ (b : BatchState). record b { looked = c.loop-letter.batch.looked + 1 }) c.loop-letter.invariant.same
       ∙ sym (ap (λ (b : BatchState). record c.args.batch.now { looked = b.looked }) c.look_up.ensures);
+}
+
+pub returns : goal.returns
+returns g c = record {
+  looked_up = c.in_default-next.ensures;
+  let_through = λ k d below. c.loop-letter.invariant.let_through k d (omega arith) (subst (λ n. k < n) (sym c.in_default-next.ensures) below);
+  same = c.loop-letter.invariant.same;
 }

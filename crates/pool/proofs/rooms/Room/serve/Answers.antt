@@ -7,17 +7,17 @@ use Rattle.pool.proofs.rooms.Room.serve.Goals as goal
 
 pub hear-requires : goal.hear-requires
 hear-requires g c =
-    let total = ap (λ (r : RoomState). r.accepted) (c.self.view_is ∙ c.note_close.ensures) in record {
+    let total = ap (λ (r : RoomState). r.accepted) (c.self.view_is) in record {
       seen = ap (λ (p : PassState). p.front) c.in_ok-show.ensures.ok.1 ∙ sym (total ∙ c.show.ensures.kept.counted);
       length = c.journal_len.ensures.length
-          ∙ journal_after c.self.inside.hall c.ask.new.self c.tenant-who.result c.args.request c.in_ok-reply.reply c.in_ok-reply.ensures.served
+          ∙ journal_after c.self.inside.hall c.ask.new.self c.tenant.result c.args.request c.in_ok-reply.reply c.in_ok-reply.ensures.served
           ∙ ap (λ k. length_after k c.in_ok-reply.reply) (sym c.self.invariant.0);
     }
 
 pub invariant_of-self : goal.invariant_of-self
 invariant_of-self g c = (
   c.self.invariant.0
-      ∙ sym (journal_after c.self.inside.hall c.ask.new.self c.tenant-who.result c.args.request (Refused c.in_err-reply.field-0.0) c.in_err-reply.ensures.served),
+      ∙ sym (journal_after c.self.inside.hall c.ask.new.self c.tenant.result c.args.request (Refused c.in_err-reply.field-0.0) c.in_err-reply.ensures.served),
   c.self.invariant.1,
   c.self.invariant.2,
   c.self.invariant.3,
@@ -26,12 +26,12 @@ invariant_of-self g c = (
 
 pub returns : goal.returns
 returns g c =
-    let room = c.self.view_is ∙ c.note_close.ensures in
+    let room = c.self.view_is in
     let total = ap (λ (r : RoomState). r.accepted) room ∙ c.show.ensures.kept.counted in record {
       kept = c.show.ensures.kept;
       seen = c.in_ok-show.ensures.ok.0;
-      served = served_same c.self.inside.hall c.args.self.now.hall c.ask.new.self c.tenant-who.result c.args.pass.now.tenant c.args.request c.in_ok-reply.reply
-          (ap (λ (r : RoomState). r.hall) room) (c.tenant-who.ensures ∙ ap (λ (p : PassState). p.tenant) c.in_ok-show.ensures.ok.1) c.in_ok-reply.ensures.served;
+      served = served_same c.self.inside.hall c.args.self.now.hall c.ask.new.self c.tenant.result c.args.pass.now.tenant c.args.request c.in_ok-reply.reply
+          (ap (λ (r : RoomState). r.hall) room) (c.tenant.ensures ∙ ap (λ (p : PassState). p.tenant) c.in_ok-show.ensures.ok.1) c.in_ok-reply.ensures.served;
       pass = c.hear.ensures.pass
           ∙ ap (λ (p : PassState). pass_after p c.self.inside.book.total c.in_ok-reply.reply) c.in_ok-show.ensures.ok.1
           ∙ ap (λ k. pass_after (record c.args.pass.now { front = length c.args.self.now.hall.journal }) k c.in_ok-reply.reply) total
