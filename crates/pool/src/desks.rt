@@ -276,6 +276,7 @@ impl<L: Ledger> Desk<L> {
     pub(crate) fn visit<R: Wait>(&self, rt: &R, turn: u64, batch: &mut Batch) -> Found
         requires empty { IsEmpty batch.old }
         requires space { BATCH ≤ batch.old.room }
+        ensures found { ¬ (result ≡ Found.Nothing) }
         ensures stopped { result ≡ Found.Stopped → batch.new.letters ≡ [] }
         ensures bound { length batch.new.letters ≤ BATCH }
         ensures looked { batch.new.looked ≡ 0 }
@@ -283,8 +284,9 @@ impl<L: Ledger> Desk<L> {
     {
         let room = self.enter(rt);
         let mut room = self.work.wait_while(rt, room, |room| room.is_idle(turn));
-        let Some((who, number)) = room.pick(turn) else {
-            return Found::Stopped;
+        let (who, number) = match room.pick(turn) {
+            Ok(search) => search,
+            Err(found) => return found,
         };
         let made = room.visit(who, number, batch);
         let is_idle = room.is_idle(turn);

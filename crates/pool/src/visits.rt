@@ -1,5 +1,5 @@
 //! What a worker does when it has the lock: the steps of one search in a row, and what it hands in.
-ghost use Rattle.std.specs.Prelude.{◌≡◌, ◌≤◌, ◌↔◌, ◌⊎◌, true, false, None, IsTrue, IfSome, length};
+ghost use Rattle.std.specs.Prelude.{◌≡◌, ◌≤◌, ◌↔◌, true, Err, IsTrue, IfOk, length};
 ghost use Rattle.search.specs.Batches.{IsEmpty, IsLookedUp};
 
 use crate::rooms::Room;
@@ -15,6 +15,8 @@ pub(crate) const BATCH: usize = 32;
 pub(crate) enum Found {
     /// There was something to do, and it is done.
     Work,
+    /// There was nothing to do.
+    Nothing,
     /// The desk was stopped.
     Stopped,
     /// Memory to share what the search reads was refused. Nothing is done.
@@ -23,16 +25,20 @@ pub(crate) enum Found {
 
 impl<L: Ledger> Room<L> {
     ghost use Rattle.pool.specs.Rooms.{IsIdle};
-    ghost use Rattle.hall.specs.Visits.{SearchIsQuiet, NothingToDo, IsVisited, AreHandedIn};
+    ghost use Rattle.hall.specs.Visits.{SearchIsQuiet, IsVisited, AreHandedIn};
 
-    /// The search that a worker goes on with, by whose turn it is. None where nothing is left to do, and none after a stop.
-    pub(crate) fn pick(&self, turn: u64) -> Option<(Entity, u64)>
-        ensures left { IfSome result (λ at. (self.now.stopped ≡ false) × (SearchIsQuiet self.now.hall at.0 at.1 → ⊥)) }
-        ensures none { result ≡ None → (self.now.stopped ≡ true) ⊎ NothingToDo self.now.hall }
+    /// The search that a worker goes on with, by whose turn it is.
+    pub(crate) fn pick(&self, turn: u64) -> Result<(Entity, u64), Found>
+        ensures left { IfOk result (λ at. SearchIsQuiet self.now.hall at.0 at.1 → ⊥) }
+        ensures stopped { (result ≡ Err Found.Stopped) ↔ (self.now.stopped ≡ true) }
+        ensures nothing { (result ≡ Err Found.Nothing) ↔ IsIdle self.now }
     {
+        if self.stopped {
+            return Err(Found::Stopped);
+        }
         match self.hall.pick(turn) {
-            Some(step) if !self.stopped => Some(step.search()),
-            _ => None,
+            Some(step) => Ok(step.search()),
+            None => Err(Found::Nothing),
         }
     }
 

@@ -1,11 +1,16 @@
-use Rattle.std.proofs.Common.{◌∙◌, ap, subst, sym, inl, inr}
-use Rattle.hall.specs.Visits.{NothingToDo}
-use Rattle.pool.specs.Rooms.{RoomState}
+use Rattle.std.proofs.Common.{subst, sym, refl}
+use Rattle.hall.specs.Hall.{step_name, step_search}
+use Rattle.pool.specs.Rooms.{IsIdle}
 use Rattle.pool.proofs.rooms.Room.pick.Goals as goal
-use Rattle.pool.proofs.rooms.Room.pick.Goals.{in_default-via-in-Some+else-not-self, in_default-via-in_default}
 
-pub returns-in_default-clause-none : goal.returns-in_default-clause-none
-returns-in_default-clause-none g c = λ is. elim c.in_default.branch [
-  | in_default-via-in-Some+else-not-self w ↦ inl (ap (λ (r : RoomState). r.stopped) (sym c.self.view_is) ∙ w.if-not-self.false)
-  | in_default-via-in_default w ↦ inr (subst (λ (r : RoomState). NothingToDo r.hall) c.self.view_is (c.pick.ensures.none.0 w.in_default.is))
-]
+pub returns-in-None-clause-nothing : goal.returns-in-None-clause-nothing
+returns-in-None-clause-nothing g c = (
+  λ is. subst IsIdle c.self.view_is (record { goes_on = c.if-self.false; nothing = c.in-None.ensures.none.0 refl }),
+  λ idle. refl,
+)
+
+pub returns-in-Some-clause-nothing : goal.returns-in-Some-clause-nothing
+returns-in-Some-clause-nothing g c = (
+  λ is. cc,
+  λ idle. absurd (c.in-Some.ensures.left ((subst IsIdle (sym c.self.view_is) idle).nothing (step_name c.in-Some.step) (step_search c.in-Some.step))),
+)
