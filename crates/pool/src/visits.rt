@@ -51,6 +51,7 @@ impl<L: Ledger> Room<L> {
 
     /// One visit of a worker: up to so many steps of the search, signals first, then letters that it takes.
     pub(crate) fn visit(&mut self, who: Entity, number: u64, batch: &mut Batch) -> Result<(), Fault>
+        requires left { SearchIsQuiet self.old.hall who number → ⊥ }
         requires empty { IsEmpty batch.old }
         requires space { BATCH ≤ batch.old.room }
         ensures visited { IsVisited who number BATCH self.old.hall result self.new.hall batch.new.letters }
