@@ -1,13 +1,19 @@
 -- What a search is worked on leaves the journal as it was; when a worker has nothing to do.
-use Rattle.std.proofs.Common.{◌≡◌, ◌∙◌, ◌↔◌, ℕ, Bool, true, false, not, IsTrue, is_some, Option, None, Some, List, Result, refl}
+use Rattle.std.specs.Prelude.{IfSome}
+use Rattle.std.specs.Bool.{then_some}
+use Rattle.std.proofs.Common.{◌≡◌, ◌∙◌, ◌↔◌, ◌⊎◌, inl, inr, ℕ, Bool, true, false, not, IsTrue, is_some, Option, None, Some, List, Result, refl, subst, sym}
 use Rattle.hall.specs.declared.faults.Fault.{Fault}
-use Rattle.hall.specs.declared.calls.steps.Step.{Step}
 use Rattle.hall.specs.declared.calls.steps.Step.TheVariants.{Take, GiveBack, Finish, Signal}
 use Rattle.hall.specs.declared.calls.steps.Stepped.TheVariants.{Signalled}
 use Rattle.hall.specs.Hall.{HallState}
 use Rattle.search.specs.Need.{right_hint}
 use Rattle.search.specs.Batches.{TakenLetter}
-use Rattle.hall.specs.Visits.{IsWorkedOn, IsVisited, IsHandedIn, AreHandedIn}
+use Rattle.hall.specs.Visits.{SearchIsQuiet, NothingToDo, IsWorkedOn, IsVisited, IsHandedIn, AreHandedIn}
+use Rattle.pool.specs.Rooms.{RoomState, IsIdle}
+use Rattle.pool.specs.Workers.{VisitsOne, IsFound, WasStopped}
+use Rattle.pool.specs.declared.visits.TheConstants.{BATCH}
+use Rattle.pool.specs.declared.visits.Found.{Found}
+use Rattle.pool.specs.declared.visits.Found.TheVariants.{Work, Stopped, NoMemory}
 use Rattle.pool.proofs.Kept.{stepped_journal}
 
 worked_journal : (who : List ℕ) (k : ℕ) (old : HallState) (n : ℕ) (taken : List TakenLetter) (new : HallState) → IsWorkedOn who k old n taken new → new.journal ≡ old.journal
@@ -21,12 +27,51 @@ pub visited_journal : (who : List ℕ) (k most : ℕ) (old : HallState) (result 
     IsVisited who k most old result new taken → new.journal ≡ old.journal
 visited_journal who k most old result new taken (n, within, works, whole) = worked_journal who k old n taken new works
 
--- no step was picked
-pub none_picked : (o : Option Step) (none : Bool) → is_some o ≡ not none → IsTrue none ↔ (o ≡ None)
+-- nothing was picked
+pub none_picked : {X : Type 0} (o : Option X) (none : Bool) → is_some o ≡ not none → IsTrue none ↔ (o ≡ None)
 none_picked None true is = (λ yes. refl, λ same. refl)
 none_picked None false is = cc
 none_picked (Some made) true is = cc
 none_picked (Some made) false is = (λ yes. cc, λ same. cc)
+
+-- where a desk that goes on or was stopped has nothing for a worker, and it wasn't stopped, there is nothing to do
+pub nothing_left : (stopped : Bool) (h : HallState) → stopped ≡ false → (stopped ≡ true) ⊎ NothingToDo h → NothingToDo h
+nothing_left stopped h goes_on (inl stops) = cc
+nothing_left stopped h goes_on (inr idle) = idle
+
+-- where there is nothing for a worker, who would wait if the desk went on, the desk was stopped
+pub stopped_there : (r : RoomState) → (IsIdle r → ⊥) → (r.stopped ≡ true) ⊎ NothingToDo r.hall → r.stopped ≡ true
+stopped_there r busy (inl stops) = stops
+stopped_there r busy (inr idle) = decide r.stopped refl
+  where
+    decide : (stopped : Bool) → r.stopped ≡ stopped → r.stopped ≡ true
+    decide true is = is
+    decide false is = absurd (busy (record { goes_on = is; nothing = idle }))
+
+-- a search that was picked is visited in the same room
+pub visits_there : {who : List ℕ} {number : ℕ} {there at : RoomState} {told : Result (Unit {0}) Fault} {new : HallState} {taken : List TakenLetter} →
+    there ≡ at → (SearchIsQuiet there.hall who number → ⊥) → IsVisited who number BATCH at.hall told new taken → VisitsOne at.hall told new taken
+visits_there {who} {number} same left visited = record {
+  who = who;
+  number = number;
+  left = subst (λ (r : RoomState). SearchIsQuiet r.hall who number → ⊥) same left;
+  visited = visited;
+}
+
+-- a visit that neither found work nor lacked memory found that the desk was stopped
+pub stop_found : (found : Found) (letters : List TakenLetter) → IsFound found letters → (found ≡ Work → ⊥) → (found ≡ NoMemory → ⊥) → WasStopped
+stop_found Work letters told works lacks = absurd (works refl)
+stop_found NoMemory letters told works lacks = absurd (lacks refl)
+stop_found Stopped letters (at, after, kept, (stops, none)) works lacks = (at, kept, stops)
+
+-- what is answered where this is true
+pub if_answered : {X : Type 0} (answer : Option ℕ) (is : Bool) (n : ℕ) → answer ≡ then_some is n → (is ≡ true → X) → IfSome answer (λ m. X)
+if_answered {X} answer true n same there = subst (λ (o : Option ℕ). IfSome o (λ m. X)) (sym same) (there refl)
+if_answered {X} answer false n same there = subst (λ (o : Option ℕ). IfSome o (λ m. X)) (sym same) tt
+
+-- what goes on for ever has no end
+pub no_end : {X : Type 0} → false ≡ true → X
+no_end is = cc
 
 -- nor do letters that are handed in change the journal
 one_journal : (back : Bool) (old : HallState) (one : TakenLetter) (done : Bool) (new : HallState) → IsHandedIn back old one done new → new.journal ≡ old.journal

@@ -10,6 +10,7 @@ ghost use Rattle.pool.specs.Passes.{shares_of};
 ghost use Rattle.pool.specs.Rooms.{IsKept};
 ghost use Rattle.pool.specs.Refusals.{IsPassRefusal};
 ghost use Rattle.pool.specs.Served.{IsAnswered, IsPolled, IsPolledAt, IsWaited, IsAdmitted, IsGathered, MoreAreOut};
+ghost use Rattle.pool.specs.Workers.{IsFound, IsHandIn};
 
 use crate::bells::Bells;
 use crate::faults::{DeskFault, Told};
@@ -276,17 +277,14 @@ impl<L: Ledger> Desk<L> {
     pub(crate) fn visit<R: Wait>(&self, rt: &R, turn: u64, batch: &mut Batch) -> Found
         requires empty { IsEmpty batch.old }
         requires space { BATCH ≤ batch.old.room }
-        ensures found { ¬ (result ≡ Found.Nothing) }
-        ensures stopped { result ≡ Found.Stopped → batch.new.letters ≡ [] }
-        ensures bound { length batch.new.letters ≤ BATCH }
+        ensures found { IsFound result batch.new.letters }
         ensures looked { batch.new.looked ≡ 0 }
         ensures space { batch.new.room ≡ batch.old.room }
     {
         let room = self.enter(rt);
         let mut room = self.work.wait_while(rt, room, |room| room.is_idle(turn));
-        let (who, number) = match room.pick(turn) {
-            Ok(search) => search,
-            Err(found) => return found,
+        let Some((who, number)) = room.pick(turn) else {
+            return Found::Stopped;
         };
         let made = room.visit(who, number, batch);
         let is_idle = room.is_idle(turn);
@@ -303,6 +301,7 @@ impl<L: Ledger> Desk<L> {
     /// For a worker: hands in all that it holds, letters of one search, and answers how many of them are finished.
     pub(crate) fn hand_in<R: Wait>(&self, rt: &R, batch: &mut Batch) -> u64
         requires { IsLookedUp batch.old }
+        ensures handed_in { IsHandIn batch.old.letters result }
         ensures most { result ≤ length batch.old.letters }
         ensures empty { IsEmpty batch.new }
         ensures space { batch.new.room ≡ batch.old.room }

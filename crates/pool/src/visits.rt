@@ -1,5 +1,5 @@
 //! What a worker does when it has the lock: the steps of one search in a row, and what it hands in.
-ghost use Rattle.std.specs.Prelude.{◌≡◌, ◌≤◌, ◌↔◌, true, Err, IsTrue, IfOk, length};
+ghost use Rattle.std.specs.Prelude.{◌≡◌, ◌≤◌, ◌↔◌, ◌⊎◌, true, None, IsTrue, IfSome, length};
 ghost use Rattle.search.specs.Batches.{IsEmpty, IsLookedUp};
 
 use crate::rooms::Room;
@@ -15,8 +15,6 @@ pub(crate) const BATCH: usize = 32;
 pub(crate) enum Found {
     /// There was something to do, and it is done.
     Work,
-    /// There was nothing to do.
-    Nothing,
     /// The desk was stopped.
     Stopped,
     /// Memory to share what the search reads was refused. Nothing is done.
@@ -24,29 +22,27 @@ pub(crate) enum Found {
 }
 
 impl<L: Ledger> Room<L> {
-    ghost use Rattle.pool.specs.Rooms.{IsIdle};
-    ghost use Rattle.hall.specs.Visits.{SearchIsQuiet, IsVisited, AreHandedIn};
+    ghost use Rattle.pool.specs.Rooms.{IsIdle, IsKept};
+    ghost use Rattle.hall.specs.Visits.{SearchIsQuiet, NothingToDo, IsVisited, AreHandedIn};
 
     /// The search that a worker goes on with, by whose turn it is.
-    pub(crate) fn pick(&self, turn: u64) -> Result<(Entity, u64), Found>
-        ensures left { IfOk result (λ at. SearchIsQuiet self.now.hall at.0 at.1 → ⊥) }
-        ensures stopped { (result ≡ Err Found.Stopped) ↔ (self.now.stopped ≡ true) }
-        ensures nothing { (result ≡ Err Found.Nothing) ↔ IsIdle self.now }
+    pub(crate) fn pick(&self, turn: u64) -> Option<(Entity, u64)>
+        ensures kept { IsKept self.now }
+        ensures left { IfSome result (λ at. SearchIsQuiet self.now.hall at.0 at.1 → ⊥) }
+        ensures none { (result ≡ None) ↔ ((self.now.stopped ≡ true) ⊎ NothingToDo self.now.hall) }
     {
+        self.kept();
         if self.stopped {
-            return Err(Found::Stopped);
+            return None;
         }
-        match self.hall.pick(turn) {
-            Some(step) => Ok(step.search()),
-            None => Err(Found::Nothing),
-        }
+        Some(self.hall.pick(turn)?.search())
     }
 
     /// Whether a worker has nothing to do, whosever turn it is, and is not to end.
     pub(crate) fn is_idle(&self, turn: u64) -> bool
         ensures { IsTrue result ↔ IsIdle self.now }
     {
-        !self.stopped && self.hall.pick(turn).is_none()
+        !self.stopped && self.pick(turn).is_none()
     }
 
     /// One visit of a worker: up to so many steps of the search, signals first, then letters that it takes.
@@ -56,7 +52,6 @@ impl<L: Ledger> Room<L> {
         requires space { BATCH ≤ batch.old.room }
         ensures visited { IsVisited who number BATCH self.old.hall result self.new.hall batch.new.letters }
         ensures room { self.new ≡ record self.old { hall = self.new.hall } }
-        ensures bound { length batch.new.letters ≤ BATCH }
         ensures looked { batch.new.looked ≡ 0 }
         ensures space { batch.new.room ≡ batch.old.room }
     {

@@ -1,8 +1,8 @@
 //! Workers: threads that take letters, look up outside the lock, and hand in.
-ghost use Rattle.std.specs.Prelude.{ℕ, List, ◌≡◌, ◌≤◌, IfOk, IfErr, vec_len, vec_capacity};
+ghost use Rattle.std.specs.Prelude.{ℕ, List, ◌≡◌, ◌≤◌, IfOk, IfErr, IfSome, vec_len, vec_capacity};
 ghost use Rattle.pool.specs.Refusals.{IsWorkRefusal};
 ghost use Rattle.search.specs.Batches.{IsLookedUp};
-ghost use Rattle.pool.specs.Workers.{AreLetThrough, done_by_both, IsDoneBy, DoneBy};
+ghost use Rattle.pool.specs.Workers.{AreLetThrough, WasStopped, done_by_both, IsDoneBy, DoneBy};
 
 use crate::desks::Desk;
 use crate::faults::{DeskFault, Told};
@@ -62,7 +62,9 @@ fn look_up_all<G: Gate>(gate: &G, batch: &mut Batch)
 const IN_A_ROW: u64 = 8;
 
 /// Works until the desk is stopped, or memory is refused; then another goes on. The searches take turns, for each from another.
-fn work<L: Ledger, G: Gate, R: Wait>(rt: &R, desk: &Desk<L>, gate: &G, mut turn: u64) -> Worked {
+fn work<L: Ledger, G: Gate, R: Wait>(rt: &R, desk: &Desk<L>, gate: &G, mut turn: u64) -> Worked
+    ensures { IfSome result (λ finished. WasStopped) }
+{
     let mut batch = Batch::make(desk.alloc, BATCH).ok()?;
     let mut finished = 0u64;
     let mut found = Found::Work;

@@ -21,7 +21,6 @@ returns g c = record {
   visited = subst (λ (h : HallState). IsVisited c.args.who c.args.number BATCH h c.visit.result c.visit.new.self c.visit.new.batch.letters) (ap (λ (r : RoomState). r.hall) c.self.view_is)
       c.visit.ensures.visited;
   room = ap (λ (r : RoomState). record r { hall = c.visit.new.self }) c.self.view_is;
-  bound = c.visit.ensures.bound;
   looked = c.visit.ensures.looked;
   space = c.visit.ensures.room;
 }
