@@ -1,5 +1,5 @@
 -- Who has granted whom and whose vaults are public, as a book keeps it, and the names that a tenant reads.
-use Rattle.std.proofs.Common.{ℕ, Bool, true, false, cond, not, List, [], ◌∷◌, ◌++◌, ◌≡◌, ◌∙◌, ◌||◌, ◌&&◌, sym, ap, refl, subst, map, Option, Some, None, unwrap_or}
+use Rattle.std.proofs.Common.{ℕ, Bool, true, false, cond, not, List, [], ◌∷◌, ◌++◌, ◌≡◌, ◌∙◌, ◌||◌, ◌&&◌, sym, ap, refl, subst, map, Option, Some, None, unwrap_or, ◌⊎◌, inl, inr}
 use Rattle.std.specs.List.{AllByRecursion}
 use Rattle.std.specs.BTreeMap.{BTreeMap, get}
 use Rattle.std.specs.BTreeSet.{insert_key}
@@ -7,14 +7,15 @@ use Rattle.std.specs.Ordering.{eq_by_cmp}
 use Rattle.std.proofs.Math.Bool.{or_assoc}
 use Rattle.std.proofs.lemmas.List.Elements.{recursion_from_All}
 use Rattle.names.specs.Name.{is_same, name_order}
+use Rattle.credential_text.specs.declared.credentials.Credential.{Credential}
 use Rattle.vaults.specs.declared.changes.Change.{Change}
-use Rattle.vaults.specs.declared.changes.Change.TheVariants.{Grant, Revoke, GrantAll, RevokeAll}
+use Rattle.vaults.specs.declared.changes.Change.TheVariants.{Upload, Withdraw, Grant, Revoke, GrantAll, RevokeAll}
 use Rattle.vaults.specs.declared.changes.Entry.{Entry}
 use Rattle.vaults.specs.declared.faults.VaultFault.TheVariants.{GrantSelf, AlreadyGranted}
 use Rattle.vaults.specs.InOrder.{without}
 use Rattle.vaults.specs.declared.marks.Seen.{Seen}
 use Rattle.vaults.specs.Journal.{concerns, grants, granted, is_for_all, grants_all, is_public, entry_is, last_entry, names_read, marked_name_of, marked_names, names_in, refusal}
-use Rattle.vaults.specs.Book.{is_granting, AreGranting, KeepsGrant, SameGranting, is_listed, ArePublic, KeepsPublic}
+use Rattle.vaults.specs.Book.{is_granting, AreGranting, KeepsGrant, SameGranting, is_listed, ArePublic, KeepsPublic, SamePublic}
 use Rattle.vaults.specs.Merge.{AreMerged}
 use Rattle.vaults.proofs.Elements.{has, has-insert_key, has-without, same_in_order, tied_both_ways}
 use Rattle.names.proofs.SameNames.{is_same_tied, same_from_is_same}
@@ -77,6 +78,40 @@ granting_dropped owner reader was names old new before after writes =
     ∙ dropped_then (eq_by_cmp name_order owner other) (has name_order was other)
     ∙ ap (λ (e : Bool). cond e false (has name_order was other)) (is_same_tied owner other)
     ∙ ap (λ (l : List (List ℕ)). cond (is_same owner other) false (has name_order l other)) before)
+
+-- what concerns no reader leaves each reader the owners that it had, and what isn't for all leaves the public vaults
+pub granting_stays : (who : List ℕ) (change : Change) (granting : BTreeMap (List ℕ) (List (List ℕ))) → ((reader : List ℕ) → concerns reader change ≡ false) → KeepsGrant who change granting granting
+granting_stays who change granting none owner reader =
+    sym (ap (λ (b : Bool). cond (is_same who owner && b) (grants change) (is_granting granting owner reader)) (none reader) ∙ and_false (is_same who owner) (grants change) (is_granting granting owner reader))
+
+pub public_stays : (who : List ℕ) (change : Change) (public : List (List ℕ)) → is_for_all change ≡ false → KeepsPublic who change public public
+public_stays who change public none owner =
+    sym (ap (λ (b : Bool). cond (is_same who owner && b) (grants_all change) (is_listed public owner)) none ∙ and_false (is_same who owner) (grants_all change) (is_listed public owner))
+
+-- an upload or a withdrawal concerns no reader, and isn't for all
+pub of_rows : (change : Change) → ((c : Credential) × (change ≡ Upload c)) ⊎ ((c : Credential) × (change ≡ Withdraw c)) →
+    ((reader : List ℕ) → concerns reader change ≡ false) × (is_for_all change ≡ false)
+of_rows change (inl uploads) = (λ reader. ap (concerns reader) uploads.1, ap is_for_all uploads.1)
+of_rows change (inr withdraws) = (λ reader. ap (concerns reader) withdraws.1, ap is_for_all withdraws.1)
+
+-- a first grant that is taken back leaves all as it was
+pub granting_undone : (owner reader : List ℕ) (old added dropped : BTreeMap (List ℕ) (List (List ℕ))) → is_granting old owner reader ≡ false →
+    KeepsGrant owner (Grant reader) old added → KeepsGrant owner (Revoke reader) added dropped → SameGranting old dropped
+granting_undone owner reader old added dropped first adds drops o r = drops o r ∙ by (is_same owner o) refl (is_same reader r) refl
+  where
+    by : (a : Bool) → is_same owner o ≡ a → (b : Bool) → is_same reader r ≡ b → cond (a && b) false (is_granting added o r) ≡ is_granting old o r
+    by true one true same =
+        sym first ∙ ap (λ (n : List ℕ). is_granting old n reader) (same_from_is_same owner o one) ∙ ap (λ (n : List ℕ). is_granting old o n) (same_from_is_same reader r same)
+    by true one false apart =
+        adds o r ∙ ap (λ (b : Bool). cond (is_same owner o && b) true (is_granting old o r)) apart ∙ and_false (is_same owner o) true (is_granting old o r)
+    by false other b same = adds o r ∙ ap (λ (a : Bool). cond (a && is_same reader r) true (is_granting old o r)) other
+
+pub public_undone : (who : List ℕ) (old added dropped : List (List ℕ)) → is_listed old who ≡ false → KeepsPublic who GrantAll old added → KeepsPublic who RevokeAll added dropped → SamePublic old dropped
+public_undone who old added dropped first adds drops owner = drops owner ∙ by (is_same who owner) refl
+  where
+    by : (a : Bool) → is_same who owner ≡ a → cond (a && true) false (is_listed added owner) ≡ is_listed old owner
+    by true one = sym first ∙ ap (is_listed old) (same_from_is_same who owner one)
+    by false other = adds owner ∙ ap (λ (a : Bool). cond (a && true) true (is_listed old owner)) other
 
 -- lists that are looked up alike
 pub same_granting : (old new : BTreeMap (List ℕ) (List (List ℕ))) → ((reader : List ℕ) → get name_order new reader ≡ get name_order old reader) → SameGranting old new

@@ -1,5 +1,6 @@
 -- Two lists of names in order, merged name by name.
-use Rattle.std.proofs.Common.{ℕ, zero, suc, Bool, true, false, List, [], ◌∷◌, ◌++◌, ◌≡◌, ◌≢◌, ◌∙◌, ◌||◌, sym, ap, refl, subst, take, drop, map, append_assoc, All, Some}
+use Rattle.std.proofs.Common.{ℕ, zero, suc, Bool, true, false, List, [], ◌∷◌, ◌++◌, ◌≡◌, ◌≢◌, ◌∙◌, ◌||◌, sym, ap, refl, subst, take, drop, map, append_assoc, All, Some, ◌+◌, ◌<◌, length, get_or}
+use Rattle.std.proofs.lemmas.List.{map_more}
 use Rattle.std.specs.List.{AllByRecursion, slice_get}
 use Rattle.std.specs.List.Sorted.{IsStrictlySortedBy}
 use Rattle.std.specs.Ordering.{eq_by_cmp, is_eq, match_ordering}
@@ -202,3 +203,11 @@ one_more all names rest before after whole seen pushed done k n x to_all so_far 
     ∙ ap (λ (l : List Seen). seen ++ l) (sym (before_step x (merged all) rest n (recursion_from_All (λ other. name_order other x ≡ Less) (take n rest) below)))
     ∙ ap (λ (l : List (List ℕ)). seen ++ merged l rest) (sym is)
     ∙ so_far
+
+-- the next of the public names is appended
+pub pushed_more : (old seen new : List Seen) (public : List (List ℕ)) (i : ℕ) (x : List ℕ) → seen ≡ old ++ map to_everybody (take i public) → i < length public → x ≡ get_or public i x →
+    new ≡ seen ++ to_everybody x ∷ [] → new ≡ old ++ map to_everybody (take (i + 1) public)
+pushed_more old seen new public i x so_far within is after =
+    after ∙ ap (λ (l : List Seen). l ++ to_everybody x ∷ []) so_far ∙ append_assoc old (map to_everybody (take i public)) (to_everybody x ∷ [])
+    ∙ ap (λ (y : List ℕ). old ++ (map to_everybody (take i public) ++ to_everybody y ∷ [])) is
+    ∙ ap (λ (l : List Seen). old ++ l) (sym (map_more to_everybody public i x within))

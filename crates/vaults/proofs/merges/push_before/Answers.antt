@@ -1,20 +1,15 @@
-use Rattle.std.proofs.Common.{ℕ, true, List, [], ◌∷◌, ◌++◌, ◌≡◌, ◌∙◌, ◌+◌, ◌<◌, sym, ap, refl, arith, length, map, take, get_or, append_assoc, is_lt}
+use Rattle.std.proofs.Common.{ℕ, true, false, subst, All, List, [], ◌∷◌, ◌++◌, ◌≡◌, ◌∙◌, ◌+◌, ◌<◌, sym, ap, refl, arith, length, map, take, get_or, append_assoc, is_lt}
 use Rattle.std.specs.declared.cmp.Ordering.{Ordering}
 use Rattle.std.specs.declared.cmp.Ordering.TheVariants.{Less, Equal, Greater}
-use Rattle.std.proofs.lemmas.List.{map_more}
+use Rattle.std.proofs.lemmas.List.{map_more, take_all}
 use Rattle.std.proofs.lemmas.List.Elements.{All-more}
-use Rattle.std.proofs.lemmas.Option.{slice_get_within}
+use Rattle.std.proofs.lemmas.Result.{err_from_is_err_and}
+use Rattle.std.proofs.lemmas.Option.{get_or_from_slice_get, slice_get_within}
 use Rattle.names.specs.Name.{name_order}
 use Rattle.vaults.specs.declared.marks.Seen.{Seen}
 use Rattle.vaults.specs.Merge.{to_everybody}
+use Rattle.vaults.proofs.Merging.{pushed_more}
 use Rattle.vaults.proofs.merges.push_before.Goals as goal
-
-pushed_more : (old seen new : List Seen) (public : List (List ℕ)) (i : ℕ) (x : List ℕ) → seen ≡ old ++ map to_everybody (take i public) → i < length public → x ≡ get_or public i x →
-    new ≡ seen ++ to_everybody x ∷ [] → new ≡ old ++ map to_everybody (take (i + 1) public)
-pushed_more old seen new public i x so_far within is after =
-    after ∙ ap (λ (l : List Seen). l ++ to_everybody x ∷ []) so_far ∙ append_assoc old (map to_everybody (take i public)) (to_everybody x ∷ [])
-    ∙ ap (λ (y : List ℕ). old ++ (map to_everybody (take i public) ++ to_everybody y ∷ [])) is
-    ∙ ap (λ (l : List Seen). old ++ l) (sym (map_more to_everybody public i x within))
 
 is_less : (r : Ordering) → is_lt r ≡ true → r ≡ Less
 is_less Less lower = refl
@@ -30,5 +25,31 @@ loop-count-preserved c = record {
       (ap (λ (n : List ℕ). name_order n c.args.name.now) (sym c.index-public-count.is) ∙ sym c.compare.ensures ∙ is_less c.compare.result (sym c.is_lt.ensures ∙ c.if-not-is_lt.false));
 }
 
-pub returns-clause-stop : goal.returns-clause-stop
-returns-clause-stop c other at less = let within : length c.args.public.now < length c.args.public.now = slice_get_within c.args.public.now (length c.args.public.now) other at in absurd (omega arith)
+pub returns-then-not-is_lt : goal.returns-then-not-is_lt
+returns-then-not-is_lt c = record {
+  pushed = c.loop-count.invariant.pushed;
+  before = c.loop-count.invariant.below;
+  stop = λ other at less.
+      let is : c.index-public-count.result ≡ other = c.index-public-count.is ∙ get_or_from_slice_get c.args.public.now c.loop-count.count other c.index-public-count.result at in
+      let never : false ≡ true = sym c.if-not-is_lt.true ∙ c.is_lt.ensures ∙ ap is_lt (c.compare.ensures ∙ ap (λ (n : List ℕ). name_order n c.args.name.now) is ∙ less) in
+      cc;
+  within = omega (arith, c.loop-count-test.true);
+}
+
+pub returns-in_err-push : goal.returns-in_err-push
+returns-in_err-push c =
+    let p = err_from_is_err_and c.from_residual.result c.from_residual.ensures.1 in
+    rw p.1 (record { pushed = tt; before = tt; stop = tt; within = tt })
+
+pub returns : goal.returns
+returns c =
+    let whole : take c.loop-count.count c.args.public.now ≡ take (length c.args.public.now) c.args.public.now =
+    take_all c.loop-count.count c.args.public.now c.loop-count-test.false ∙ sym (take_all (length c.args.public.now) c.args.public.now (omega arith)) in
+    record {
+      pushed = c.loop-count.invariant.pushed ∙ ap (λ (l : List (List ℕ)). c.args.seen.now.items ++ map to_everybody l) whole;
+      before = subst (All (λ other. name_order other c.args.name.now ≡ Less)) whole c.loop-count.invariant.below;
+      stop = λ other at less.
+          let within : length c.args.public.now < length c.args.public.now = slice_get_within c.args.public.now (length c.args.public.now) other at in
+          absurd (omega arith);
+      within = omega arith;
+    }
