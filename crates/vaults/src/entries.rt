@@ -85,13 +85,10 @@ fn cut_framed(bytes: &[u8]) -> Option<(&[u8], &[u8])>
     ensures { (text rest : List ℕ) → bytes.now ≡ framed text ++ rest
         → MatchOption result ⊥ (λ cut. (cut.0.now ≡ text) × (cut.1.now ≡ rest)) }
 {
-    let (high, behind) = bytes.split_first()?;
-    let (low, behind) = behind.split_first()?;
-    let len = *high as usize * 256 + *low as usize;
-    if len > behind.len() {
+    let [high, low, behind @ ..] = bytes else {
         return None;
-    }
-    Some(behind.split_at(len))
+    };
+    behind.split_at_checked(*high as usize * 256 + *low as usize)
 }
 
 /// The change of this kind about this subject, if there is one.

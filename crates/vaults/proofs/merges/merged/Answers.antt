@@ -1,5 +1,7 @@
 use Rattle.std.proofs.Common.{Bool, true, Bor, ◌≡◌, ◌-◌, ◌≤◌, take, ◌∙◌, ◌+◌, ◌<◌, List, ◌∷◌, ℕ, suc, sym, ap, get_or, length, drop, drop-cons, add-one, arith, ◌++◌}
 use Rattle.std.proofs.lemmas.List.{drop_all, take_all, length-drop}
+use Rattle.std.proofs.lemmas.Result.{IfOk-from_err}
+use Rattle.vaults.specs.declared.marks.Seen.{Seen}
 use Rattle.vaults.specs.Journal.{one_if}
 use Rattle.vaults.proofs.Merging.{merged, one_more, are_merged}
 use Rattle.vaults.proofs.merges.merged.Goals as goal
@@ -28,3 +30,18 @@ loop-name-preserved c =
 pub returns : goal.returns
 returns c = are_merged c.args.names.now c.args.public.now c.push_all.new.seen.items c.requires.names c.requires.public
     (c.in_ok-push_all.ensures ∙ ap (λ (l : List (List ℕ)). c.loop-name.seen.items ++ merged l c.loop-name.rest.now) (sym (drop_all c.loop-name.name-index c.args.names.now c.loop-name-test.false)) ∙ c.loop-name.invariant)
+
+pub loop-name-init : goal.loop-name-init
+loop-name-init c = ap (λ (l : List Seen). l ++ merged c.args.names.now c.args.public.now) c.new-seen.ensures.items
+
+pub split_at-requires : goal.split_at-requires
+split_at-requires c = c.in_ok-before.ensures.within
+
+pub returns-in_err-before : goal.returns-in_err-before
+returns-in_err-before c = IfOk-from_err c.from_residual.result _ c.from_residual.ensures.0
+
+pub returns-in_err-push : goal.returns-in_err-push
+returns-in_err-push c = IfOk-from_err c.from_residual-in_err-push.result _ c.from_residual-in_err-push.ensures.0
+
+pub returns-in_err-push_all : goal.returns-in_err-push_all
+returns-in_err-push_all c = IfOk-from_err c.from_residual-in_err-push_all.result _ c.from_residual-in_err-push_all.ensures.0

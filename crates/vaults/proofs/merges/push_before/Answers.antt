@@ -1,7 +1,7 @@
-use Rattle.std.proofs.Common.{ℕ, true, false, subst, All, List, [], ◌∷◌, ◌++◌, ◌≡◌, ◌∙◌, ◌+◌, ◌<◌, sym, ap, refl, arith, length, map, take, get_or, append_assoc, is_lt}
+use Rattle.std.proofs.Common.{ℕ, true, false, subst, All, List, [], ◌∷◌, ◌++◌, ◌≡◌, ◌∙◌, ◌<◌, sym, ap, refl, arith, length, map, take, is_lt}
 use Rattle.std.specs.declared.cmp.Ordering.{Ordering}
 use Rattle.std.specs.declared.cmp.Ordering.TheVariants.{Less, Equal, Greater}
-use Rattle.std.proofs.lemmas.List.{map_more, take_all}
+use Rattle.std.proofs.lemmas.List.{take_all}
 use Rattle.std.proofs.lemmas.List.Elements.{All-more}
 use Rattle.std.proofs.lemmas.Result.{err_from_is_err_and}
 use Rattle.std.proofs.lemmas.Option.{get_or_from_slice_get, slice_get_within}

@@ -1,6 +1,5 @@
 use Rattle.std.proofs.Common.{ℕ, ◌≡◌, ◌∙◌, ◌+◌, ◌-◌, ◌/◌, sym, ap, subst, get_or, length, arith}
 use Rattle.std.proofs.lemmas.Option.{get_or_from_slice_get}
-use Rattle.vaults.specs.declared.blocks.Block.{Block}
 use Rattle.vaults.specs.Blocks.{begins_above, IsNotAboveAt}
 use Rattle.vaults.proofs.parting.spot_of.Goals as goal
 
