@@ -151,8 +151,8 @@ fn change_in_turn(
 ) -> Result<u64, Fail> {
     let mut count = 0;
     for _ in 0..times {
-        answer(book, who, "drop", head, body)?;
-        count = answer(book, who, "put", head, body)?;
+        book.change(entity(who)?, Change::Withdraw(credential(head, body)?))?;
+        count = book.change(entity(who)?, Change::Upload(credential(head, body)?))?;
     }
     Ok(count)
 }
