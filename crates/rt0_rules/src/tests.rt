@@ -1,77 +1,68 @@
 use crate::{members_plain, membership_is_exact, work_is_exact, work_plain};
-use credential_text::{Credential, Expr, Part, Parts};
-use names::texts::cut;
-use names::{Entity, Role, RoleName};
-use std::alloc::Global;
+use credential_text::{Credential, read_credential};
+use names::{Entity, Role};
+use std::alloc::{AllocGlobal, Global};
+use std::process::Abort;
 use std::test::Fail;
 
-fn entity(name: &str) -> Result<Entity, Fail> {
-    Ok(Entity::read(name.as_bytes())?)
-}
+/// Credentials, a role, and its members over them in order.
+type Members = (
+    &'static [&'static str],
+    &'static str,
+    &'static [&'static str],
+);
 
 fn role(text: &str) -> Result<Role, Fail> {
     Ok(Role::read(text.as_bytes())?)
 }
 
-/// An entity, a role or a linked role, by how many dots the text has.
-fn part(text: &str) -> Result<Part, Fail> {
-    let (owner, Some(rest)) = cut(text.as_bytes(), b'.') else {
-        return Ok(Part::Ent(entity(text)?));
-    };
-    let (name, linked) = cut(rest, b'.');
-    let owner = Entity::read(owner)?;
-    let name = RoleName::read(name)?;
-    let base = Role { owner, name };
-    Ok(match linked {
-        None => Part::Rol(base),
-        Some(name) => Part::Link(base, RoleName::read(name)?),
-    })
-}
-
-/// The part, or the intersection of several.
-fn expr(alloc: Global, texts: &[&str]) -> Result<Expr, Fail> {
-    let mut parts = Vec::new(alloc);
+fn credentials(alloc: Global, texts: &[&str]) -> Result<Vec<Credential>, Fail> {
+    let mut all = Vec::new(alloc);
     for text in texts {
-        parts.push(part(text)?)?;
+        all.push(read_credential(alloc, text.as_bytes())?)?;
     }
-    Ok(match parts.as_slice() {
-        [one] => one.expr(),
-        several => Expr::Meet(Parts::make(alloc, several)?.ok_or("no parts")?),
-    })
+    Ok(all)
 }
 
-fn credentials(rt: &HostRuntime, texts: &[(&str, &[&str])]) -> Result<Vec<Credential>, Fail> {
-    let mut all = Vec::new(rt.alloc());
-    for (head, body) in texts {
-        let body = expr(rt.alloc(), body)?;
-        all.push(Credential::make(role(head)?, body).ok_or("no credential")?)?;
+fn entities(alloc: Global, names: &[&str]) -> Result<Vec<Entity>, Fail> {
+    let mut all = Vec::new(alloc);
+    for name in names {
+        all.push(Entity::read(name.as_bytes())?)?;
     }
     Ok(all)
 }
 
 /// Whether these are the members of the role over these credentials, in this order.
 fn has_members(
-    rt: &HostRuntime,
-    texts: &[(&str, &[&str])],
+    alloc: Global,
+    texts: &[&str],
     asked: &str,
     expected: &[&str],
 ) -> Result<bool, Fail> {
-    let all = credentials(rt, texts)?;
-    let mut names = Vec::new(rt.alloc());
-    for name in expected {
-        names.push(entity(name)?)?;
+    let asked = role(asked)?;
+    let expected = entities(alloc, expected)?;
+    let all = credentials(alloc, texts)?;
+    Ok(members_plain(alloc, &all, &asked)? == expected)
+}
+
+fn all_have_members(rt: &(impl Abort + AllocGlobal), table: &[Members]) -> Result<(), Fail> {
+    for (texts, asked, expected) in table {
+        assert!(rt;
+            has_members(rt.alloc(), texts, asked, expected)?,
+            "members of {asked}"
+        );
     }
-    Ok(members_plain(rt.alloc(), &all, &role(asked)?)? == names)
+    Ok(())
 }
 
 /// Whether a search for the members of `A.r` over these credentials has this work: within this limit and above it, and
 /// not within the one below.
-fn has_work(rt: &HostRuntime, texts: &[(&str, &[&str])], work: u64) -> Result<bool, Fail> {
-    let all = credentials(rt, texts)?;
+fn has_work(alloc: Global, texts: &[&str], work: u64) -> Result<bool, Fail> {
     let asked = role("A.r")?;
-    let below = work_plain(rt.alloc(), &all, &asked, work.saturating_sub(1))?;
-    let within = work_plain(rt.alloc(), &all, &asked, work)?;
-    let above = work_plain(rt.alloc(), &all, &asked, u64::MAX)?;
+    let all = credentials(alloc, texts)?;
+    let below = work_plain(alloc, &all, &asked, work.saturating_sub(1))?;
+    let within = work_plain(alloc, &all, &asked, work)?;
+    let above = work_plain(alloc, &all, &asked, u64::MAX)?;
     Ok(below == None && within == Some(work) && above == Some(work))
 }
 
@@ -79,117 +70,128 @@ fn has_work(rt: &HostRuntime, texts: &[(&str, &[&str])], work: u64) -> Result<bo
 fn nobody_is_a_member_without_credentials(rt: HostRuntime) -> Result<(), Fail> {
     membership_is_exact();
     work_is_exact();
-    assert!(rt; has_members(&rt, &[], "A.r", &[])?);
-    assert!(rt; has_members(&rt, &[("A.s", &["D"]), ("B.r", &["E"])], "A.r", &[])?);
+    assert!(rt; has_members(rt.alloc(), &[], "A.r", &[])?);
+    assert!(rt; has_members(rt.alloc(), &["A.s <- D", "B.r <- E"], "A.r", &[])?);
     Ok(())
 }
+
+const ENTITIES: [Members; 2] = [
+    (&["A.r <- D", "A.r <- A"], "A.r", &["A", "D"]),
+    (
+        &["A.r <- D", "A.r <- A", "A.r <- D", "A.r <- Da", "A.r <- B"],
+        "A.r",
+        &["A", "B", "D", "Da"],
+    ),
+];
 
 #[test]
 fn entities_are_listed_in_order_and_once(rt: HostRuntime) -> Result<(), Fail> {
-    let credentials: [(&str, &[&str]); 5] = [
-        ("A.r", &["D"]),
-        ("A.r", &["A"]),
-        ("A.r", &["D"]),
-        ("A.r", &["Da"]),
-        ("A.r", &["B"]),
-    ];
-    assert!(rt; has_members(&rt, &credentials[..2], "A.r", &["A", "D"])?);
-    assert!(rt; has_members(&rt, &credentials, "A.r", &["A", "B", "D", "Da"])?);
-    Ok(())
+    all_have_members(&rt, &ENTITIES)
 }
+
+const CHAIN: &[&str] = &[
+    "A.r <- B.s",
+    "B.s <- C.t",
+    "C.t <- D.u",
+    "D.u <- E",
+    "B.s <- F",
+];
+
+const CHAINED: [Members; 2] = [(CHAIN, "A.r", &["E", "F"]), (CHAIN, "C.t", &["E"])];
 
 #[test]
 fn inclusions_are_followed_along_a_chain(rt: HostRuntime) -> Result<(), Fail> {
-    let chain: [(&str, &[&str]); 5] = [
-        ("A.r", &["B.s"]),
-        ("B.s", &["C.t"]),
-        ("C.t", &["D.u"]),
-        ("D.u", &["E"]),
-        ("B.s", &["F"]),
-    ];
-    assert!(rt; has_members(&rt, &chain, "A.r", &["E", "F"])?);
-    assert!(rt; has_members(&rt, &chain, "C.t", &["E"])?);
-    Ok(())
+    all_have_members(&rt, &CHAINED)
 }
+
+const CIRCLES: [Members; 3] = [
+    (&["A.r <- B.s", "B.s <- A.r"], "A.r", &[]),
+    (&["A.r <- A.r"], "A.r", &[]),
+    (&["A.r <- B.s", "B.s <- A.r", "B.s <- D"], "A.r", &["D"]),
+];
 
 #[test]
 fn circular_inclusions_give_nobody(rt: HostRuntime) -> Result<(), Fail> {
-    let circle: [(&str, &[&str]); 3] = [("A.r", &["B.s"]), ("B.s", &["A.r"]), ("B.s", &["D"])];
-    assert!(rt; has_members(&rt, &circle[..2], "A.r", &[])?);
-    assert!(rt; has_members(&rt, &[("A.r", &["A.r"])], "A.r", &[])?);
-    assert!(rt; has_members(&rt, &circle, "A.r", &["D"])?);
-    Ok(())
+    all_have_members(&rt, &CIRCLES)
 }
+
+/// Over a base of another name; over their own head; and passed on.
+const LINKED: [Members; 3] = [
+    (
+        &[
+            "A.r <- A.s.t",
+            "A.s <- B",
+            "B.t <- D",
+            "C.t <- E",
+            "A.t <- F",
+        ],
+        "A.r",
+        &["D"],
+    ),
+    (
+        &["A.r <- A", "A.r <- D", "A.r <- A.r.r"],
+        "A.r",
+        &["A", "D"],
+    ),
+    (
+        &["A.r <- A", "A.r <- A.r.s", "A.s <- E"],
+        "A.r",
+        &["A", "E"],
+    ),
+];
 
 #[test]
 fn a_linked_role_asks_the_members_of_its_base(rt: HostRuntime) -> Result<(), Fail> {
-    let linked: [(&str, &[&str]); 5] = [
-        ("A.r", &["A.s.t"]),
-        ("A.s", &["B"]),
-        ("B.t", &["D"]),
-        ("C.t", &["E"]),
-        ("A.t", &["F"]),
-    ];
-    assert!(rt; has_members(&rt, &linked, "A.r", &["D"])?);
-    let over_its_own_head: [(&str, &[&str]); 3] = [
-        ("A.r", &["A"]),
-        ("A.r", &["D"]),
-        ("A.r", &["A.r.r"]),
-    ];
-    assert!(rt; has_members(&rt, &over_its_own_head, "A.r", &["A", "D"])?);
-    let passed_on: [(&str, &[&str]); 3] = [("A.r", &["A"]), ("A.r", &["A.r.s"]), ("A.s", &["E"])];
-    assert!(rt; has_members(&rt, &passed_on, "A.r", &["A", "E"])?);
-    Ok(())
+    all_have_members(&rt, &LINKED)
 }
+
+const ROLES: &[&str] = &[
+    "B.s <- D",
+    "B.s <- E",
+    "C.t <- E",
+    "A.two <- B.s & C.t",
+    "A.same <- B.s & B.s",
+];
+
+const WITH_AN_ENTITY: &[&str] = &[
+    "B.s <- D",
+    "B.s <- E",
+    "A.one <- D & B.s",
+    "A.none <- B.s & F",
+];
+
+const WITH_A_LINKED_ROLE: &[&str] = &["A.r <- A.s.t & D", "A.s <- B", "B.t <- D", "B.t <- E"];
+
+const INTERSECTIONS: [Members; 5] = [
+    (ROLES, "A.two", &["E"]),
+    (ROLES, "A.same", &["D", "E"]),
+    (WITH_AN_ENTITY, "A.one", &["D"]),
+    (WITH_AN_ENTITY, "A.none", &[]),
+    (WITH_A_LINKED_ROLE, "A.r", &["D"]),
+];
 
 #[test]
 fn an_intersection_wants_every_part(rt: HostRuntime) -> Result<(), Fail> {
-    let given: [(&str, &[&str]); 5] = [
-        ("B.s", &["D"]),
-        ("B.s", &["E"]),
-        ("C.t", &["E"]),
-        ("A.two", &["B.s", "C.t"]),
-        ("A.same", &["B.s", "B.s"]),
-    ];
-    assert!(rt; has_members(&rt, &given, "A.two", &["E"])?);
-    assert!(rt; has_members(&rt, &given, "A.same", &["D", "E"])?);
-    let with_an_entity: [(&str, &[&str]); 4] = [
-        ("B.s", &["D"]),
-        ("B.s", &["E"]),
-        ("A.one", &["D", "B.s"]),
-        ("A.none", &["B.s", "F"]),
-    ];
-    assert!(rt; has_members(&rt, &with_an_entity, "A.one", &["D"])?);
-    assert!(rt; has_members(&rt, &with_an_entity, "A.none", &[])?);
-    let with_a_linked_role: [(&str, &[&str]); 4] = [
-        ("A.r", &["A.s.t", "D"]),
-        ("A.s", &["B"]),
-        ("B.t", &["D"]),
-        ("B.t", &["E"]),
-    ];
-    assert!(rt; has_members(&rt, &with_a_linked_role, "A.r", &["D"])?);
-    Ok(())
+    all_have_members(&rt, &INTERSECTIONS)
 }
+
+/// Credentials, and the work of a search for the members of `A.r`: none; one, once and twice; a circle; a role in itself; a
+/// repeated part; a linked role, and one over its own head.
+const WORKS: [(&[&str], u64); 8] = [
+    (&[], 1),
+    (&["A.r <- D"], 3),
+    (&["A.r <- D", "A.r <- D"], 3),
+    (&["A.r <- B.s", "B.s <- A.r"], 3),
+    (&["A.r <- A.r", "A.r <- D"], 5),
+    (&["A.r <- B.s & B.s", "B.s <- D"], 9),
+    (&["A.s <- B", "A.r <- A.s.t", "B.t <- D"], 11),
+    (&["A.r <- A", "A.r <- D", "A.r <- A.r.r"], 15),
+];
 
 #[test]
 fn work_is_one_and_each_ask_and_each_member_told(rt: HostRuntime) -> Result<(), Fail> {
-    let one: [(&str, &[&str]); 2] = [("A.r", &["D"]), ("A.r", &["D"])];
-    assert!(rt; has_work(&rt, &[], 1)?);
-    assert!(rt; has_work(&rt, &one[..1], 3)?);
-    assert!(rt; has_work(&rt, &one, 3)?);
-    let circle: [(&str, &[&str]); 2] = [("A.r", &["B.s"]), ("B.s", &["A.r"])];
-    assert!(rt; has_work(&rt, &circle, 3)?);
-    let in_itself: [(&str, &[&str]); 2] = [("A.r", &["A.r"]), ("A.r", &["D"])];
-    assert!(rt; has_work(&rt, &in_itself, 5)?);
-    let repeated_part: [(&str, &[&str]); 2] = [("A.r", &["B.s", "B.s"]), ("B.s", &["D"])];
-    assert!(rt; has_work(&rt, &repeated_part, 9)?);
-    let linked: [(&str, &[&str]); 3] = [("A.s", &["B"]), ("A.r", &["A.s.t"]), ("B.t", &["D"])];
-    assert!(rt; has_work(&rt, &linked, 11)?);
-    let over_its_own_head: [(&str, &[&str]); 3] = [
-        ("A.r", &["A"]),
-        ("A.r", &["D"]),
-        ("A.r", &["A.r.r"]),
-    ];
-    assert!(rt; has_work(&rt, &over_its_own_head, 15)?);
+    for (texts, work) in WORKS {
+        assert!(rt; has_work(rt.alloc(), texts, work)?, "{work}");
+    }
     Ok(())
 }
