@@ -1,5 +1,6 @@
 -- Elements of lists, and what a search for one finds.
-use Rattle.std.proofs.Common.{Bool, true, false, List, [], ◌∷◌, ◌≡◌, ◌⊎◌, inl, inr, sym, subst, arith, All, Some, None}
+use Rattle.std.proofs.Common.{ℕ, Bool, true, false, List, [], ◌∷◌, ◌++◌, ◌+◌, ◌<◌, ◌≡◌, ◌∙◌, ◌⊎◌, inl, inr, ap, sym, subst, arith, All, Some, None, length, take, get_or}
+use Rattle.std.proofs.lemmas.List.{flat_map_more, take_more}
 use Rattle.std.specs.List.{Contains, find, flat_map}
 use Rattle.std.proofs.lemmas.List.Elements.{All-nil, All-cons, Contains-append_left, Contains-append_right, Contains-append_cases, Contains-push, Contains-push_cases}
 use Rattle.std.proofs.lemmas.Bool.{cases_Bool}
@@ -48,3 +49,10 @@ find-None p (y ∷ ys) e =
       | inl passes ↦ let f : Some y ≡ None = rw passes at e in cc
       | inr fails ↦ All-cons (λ x. p x ≡ false) y ys fails (find-None p ys (rw fails at e))
     ]
+
+-- what a loop appends for one element more
+pub appends_next : {X Y : Type 0} (f : X → List Y) (xs : List X) (i : ℕ) (x : X) (start before after : List Y) →
+    i < length xs → x ≡ get_or xs i x → before ≡ start ++ flat_map f (take i xs) → after ≡ before ++ f x → after ≡ start ++ flat_map f (take (i + 1) xs)
+appends_next f xs i x start before after within is so_far now =
+    now ∙ ap (λ l. l ++ f x) so_far ∙ flat_map_more f start (take i xs) x
+    ∙ ap (λ l. start ++ flat_map f l) (ap (λ y. take i xs ++ y ∷ []) is ∙ sym (take_more xs i x within))
