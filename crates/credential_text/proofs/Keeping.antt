@@ -1,5 +1,6 @@
 -- What was written first is kept.
-use Rattle.std.proofs.Common.{ℕ, List, ◌++◌, ◌≤◌, ◌≡◌, sym, ap, ◌∙◌, refl, length, take, arith}
+use Rattle.std.proofs.Common.{ℕ, List, [], ◌++◌, ◌≤◌, ◌≡◌, sym, ap, ◌∙◌, refl, length, take, arith, append-nil, Result, Ok, Err, OnOk, IsErr, is_ok, if◌then◌else◌}
+use Rattle.std.proofs.lemmas.Result.{IfOk-from_err}
 use Rattle.std.proofs.lemmas.List.{take-take, take_at, length-take}
 
 -- what was there stays at the front
@@ -16,3 +17,24 @@ keeps_through old mid new first second =
 
 pub keeps_more : (old mid new more : List ℕ) → mid ≡ old ++ more → Keeps mid new → Keeps old new
 keeps_more old mid new more is second = keeps_through old mid new (ap (take (length old)) is ∙ keeps-append old more) second
+
+pub keeps_same : (old new : List ℕ) → new ≡ old → Keeps old new
+keeps_same old new same = ap (take (length old)) (same ∙ sym (append-nil old)) ∙ keeps-append old []
+
+-- an error says nothing of what was written
+pub nothing_written : {T E : Type 0} (r : Result T E) (P : Type 0) → IsErr r → OnOk r P
+nothing_written r P failed = IfOk-from_err r (λ _. P) failed
+
+-- a last write, which appends or fails
+pub written_last : {T E : Type 0} (r : Result T E) (mid more new whole : List ℕ) → new ≡ if is_ok r then mid ++ more else mid → mid ++ more ≡ whole → OnOk r (new ≡ whole)
+written_last (Ok x) mid more new whole now is = now ∙ is
+written_last (Err e) mid more new whole now is = tt
+
+pub keeps_last : {T E : Type 0} (r : Result T E) (mid more new : List ℕ) → new ≡ if is_ok r then mid ++ more else mid → Keeps mid new
+keeps_last (Ok x) mid more new now = ap (take (length mid)) now ∙ keeps-append mid more
+keeps_last (Err e) mid more new now = keeps_same mid new now
+
+-- what holds anyhow holds where there is no error
+pub on_ok : {T E : Type 0} (r : Result T E) (P : Type 0) → P → OnOk r P
+on_ok (Ok x) P p = p
+on_ok (Err e) P p = tt
