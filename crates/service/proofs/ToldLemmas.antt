@@ -1,23 +1,24 @@
 -- Lemmas on what a line of a session is answered.
-use Rattle.std.proofs.Common.{◌≡◌, ℕ, List, ◌∷◌, [], codes, true, refl, sym, ap, ◌∙◌, subst₂, Option, Err, inr}
+use Rattle.std.proofs.Common.{◌≡◌, ℕ, List, ◌∷◌, [], codes, true, refl, sym, ap, subst, Some, Result, Ok, Err, IfOk, inr}
 use Rattle.std.specs.Str.{bytes_eq}
+use Rattle.std.specs.Result.{result_or}
 use Rattle.pool.specs.Passes.{PassState}
-use Rattle.service.specs.declared.conversations.Flow.TheVariants.{GoesOn}
+use Rattle.pool.specs.Served.{IsAdmitted}
 use Rattle.service.specs.declared.refusals.Refusal.TheVariants as refusal
 use Rattle.service.specs.Roster.{Row, IsTenant}
-use Rattle.service.specs.Line.{text}
-use Rattle.service.specs.Session.{IsQuit, greeting_in, IsLetIn, Tells, SessionState, SessionAnswers}
+use Rattle.service.specs.Command.{form_of}
+use Rattle.service.specs.Session.{IsQuit, greeting_in, IsLetIn, IsTold, Tells, SessionState}
 use Rattle.service.specs.Words.{words}
 
--- a tenant said hello by its word, and memory lacks for a pass
-pub IsLetIn-lacking : (rows : List Row) (line first name word : List ℕ) (others : List (List ℕ)) → words line ≡ first ∷ others → true ≡ bytes_eq first (codes "hello") →
-    others ≡ name ∷ word ∷ [] → IsTenant rows name word → IsLetIn rows (greeting_in (words line)) (Err refusal.Memory)
-IsLetIn-lacking rows line first name word others are hello two tenant = rw (are, sym hello, two) (inr (refl, tenant))
+-- a tenant said hello by its word, and was let in unless memory lacked for a pass
+pub IsLetIn-tried : {E : Type 0} (rows : List Row) (line first name word : List ℕ) (others : List (List ℕ)) → words line ≡ first ∷ others → true ≡ bytes_eq first (codes "hello") →
+    others ≡ name ∷ word ∷ [] → IsTenant rows name word → (tried : Result PassState E) → IfOk tried (λ p. p.tenant ≡ name) → IfOk tried (λ p. p.share ≡ 0) → IfOk tried IsAdmitted →
+    IsLetIn rows (greeting_in (words line)) (result_or tried (Err refusal.Memory))
+IsLetIn-tried rows line first name word others are hello two tenant (Ok pass) named told admitted = rw (are, sym hello, two) (tenant, named, told, admitted)
+IsLetIn-tried rows line first name word others are hello two tenant (Err _) named told admitted = rw (are, sym hello, two) (inr (refl, tenant))
 
--- a session that held this pass is told by another line than `quit`
-pub SessionAnswers-told : (before after : SessionState) (rows : List Row) (held pass next : Option PassState) (line reply : List ℕ) →
-    record { rows = rows; pass = held } ≡ before → held ≡ pass → after ≡ record { rows = rows; pass = next } → (IsQuit line → ⊥) → Tells rows pass line reply next →
-    SessionAnswers before (text line) reply GoesOn after
-SessionAnswers-told before after rows held pass next line reply was at is other told =
-    let state : Option PassState → SessionState = λ p. record { rows = rows; pass = p } in
-    subst₂ (λ (s t : SessionState). SessionAnswers s (text line) reply GoesOn t) (ap state (sym at) ∙ was) (sym is) (other, refl, told)
+-- a session that holds this pass is told by another line than `quit`
+pub Tells-held : (before : SessionState) (rows : List Row) (pass next : PassState) (line reply : List ℕ) → record { rows = rows; pass = Some pass } ≡ before →
+    (IsQuit line → ⊥) → IsTold pass (form_of line) reply next → (IsQuit line → ⊥) × (rows ≡ before.rows) × Tells before.rows before.pass line reply (Some next)
+Tells-held before rows pass next line reply was other told =
+    (other, ap (λ (s : SessionState). s.rows) was, subst (λ (s : SessionState). Tells s.rows s.pass line reply (Some next)) was told)

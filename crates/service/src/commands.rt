@@ -25,7 +25,9 @@ pub(crate) enum Command {
 pub(crate) fn read_command(alloc: Global, text: &[u8]) -> Result<Command, Refusal>
     ensures { Reads (form_of text.now) result }
 {
-    let (verb, rest) = next_word(text).ok_or(Refusal::Command)?;
+    let Some((verb, rest)) = next_word(text) else {
+        return Err(Refusal::Command);
+    };
     if verb == b"put".as_slice() {
         return Ok(Command::Request(Request::Alter(Change::Upload(credential_of(alloc, rest)?))));
     }
@@ -75,7 +77,9 @@ fn read_with_two(verb: &[u8], first: &[u8], second: &[u8]) -> Result<Command, Re
     if verb == b"ask".as_slice() {
         Ok(Command::Request(Request::Seek(Query::Ask(Role::read(first)?, Entity::read(second)?))))
     } else if verb == b"proof".as_slice() {
-        let search = number(first).ok_or(Refusal::Command)?;
+        let Some(search) = number(first) else {
+            return Err(Refusal::Command);
+        };
         Ok(Command::Request(Request::Proof(search, Entity::read(second)?)))
     } else {
         Err(Refusal::Command)

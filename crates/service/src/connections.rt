@@ -97,7 +97,9 @@ pub(crate) fn answer_connections<L: Ledger + Send + Sync, R: Threads + Wait + Cl
     requires { desk.now ≡ names_of roster.now }
     ensures { Answered options.accept result }
 {
-    let (sender, queue) = bounded(alloc, QUEUED).or(Err(ServeFault::Memory))?;
+    let Ok((sender, queue)) = bounded(alloc, QUEUED) else {
+        return Err(ServeFault::Memory);
+    };
     let arrivals = &Arrivals {
         queue,
         idle_seconds: options.idle_seconds,

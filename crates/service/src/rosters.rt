@@ -175,7 +175,9 @@ fn read_row(text: &[u8]) -> Option<(Entity, &[u8], Limits)>
     if first != b"tenant".as_slice() || word.len() > MOST_WORD {
         return None;
     }
-    let name = Entity::read(name).ok()?;
+    let Ok(name) = Entity::read(name) else {
+        return None;
+    };
     Some((name, word, read_limits(rest)?))
 }
 
@@ -187,16 +189,17 @@ fn read_limits(text: &[u8]) -> Option<Limits>
     if next_word(text).is_none() {
         return Some(Limits::usual());
     }
-    let (creds, rest) = next_number(text)?;
-    let (grants, rest) = next_number(rest)?;
-    let (searches, rest) = next_number(rest)?;
-    let (changes, rest) = next_number(rest)?;
-    let (opens, rest) = next_number(rest)?;
-    let (work, rest) = next_number(rest)?;
-    if next_word(rest).is_some() {
-        return None;
+    if let Some((creds, rest)) = next_number(text)
+        && let Some((grants, rest)) = next_number(rest)
+        && let Some((searches, rest)) = next_number(rest)
+        && let Some((changes, rest)) = next_number(rest)
+        && let Some((opens, rest)) = next_number(rest)
+        && let Some((work, rest)) = next_number(rest)
+        && next_word(rest).is_none()
+    {
+        return Limits::make(creds, grants, searches, changes, opens, work);
     }
-    Limits::make(creds, grants, searches, changes, opens, work)
+    None
 }
 
 /// The number that the text begins with, and what stands after it.

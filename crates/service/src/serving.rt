@@ -18,7 +18,7 @@ use std::thread::{self, Threads};
 use std::time::Clock;
 
 /// How many threads a service has, and when it ends.
-#[derive(Clone, Copy, Debug, PartialEq, Eq)]
+#[derive(Clone, Copy)]
 pub struct ServeOptions {
     /// How many workers go on with the searches, 1 to 64.
     pub workers: u64,
@@ -50,7 +50,9 @@ pub fn serve<R: Threads + Wait + Clock + Sync, W: Write>(
     ensures count { IfOk result (λ n. options.accept ≡ Some n) }
     ensures wrote { ServeWrote options.accept result (Appends (W.contents writer.old) (W.contents writer.new)) }
 {
-    let mut line = Room::make(alloc).or(Err(ServeFault::Memory))?;
+    let Ok(mut line) = Room::make(alloc) else {
+        return Err(ServeFault::Memory);
+    };
     let blank = Blank::new(PARTS);
     serve_with::<Brand, R, W>(rt, blank, roster, listener, options, writer, &mut line)
 }
@@ -69,9 +71,9 @@ fn serve_with<L: Ledger + Send + Sync, R: Threads + Wait + Clock + Sync, W: Writ
     ensures count { IfOk result (λ n. options.accept ≡ Some n) }
     ensures wrote { ServeWrote options.accept result (Appends (W.contents writer.old) (W.contents writer.new)) }
 {
-    let desk = roster
-        .desk::<L>(line.alloc(), blank)
-        .or(Err(ServeFault::Memory))?;
+    let Ok(desk) = roster.desk::<L>(line.alloc(), blank) else {
+        return Err(ServeFault::Memory);
+    };
     serve_at(rt, &desk, roster, listener, options, writer, line)
 }
 
@@ -89,7 +91,9 @@ fn serve_at<L: Ledger + Send + Sync, R: Threads + Wait + Clock + Sync, W: Write>
     ensures count { IfOk result (λ n. options.accept ≡ Some n) }
     ensures wrote { ServeWrote options.accept result (Appends (W.contents writer.old) (W.contents writer.new)) }
 {
-    let address = listener.local_addr().or(Err(ServeFault::Socket))?;
+    let Ok(address) = listener.local_addr() else {
+        return Err(ServeFault::Socket);
+    };
     let port = u64::from(address.port());
     let Ok(()) = tell(writer, line, b"listening 127.0.0.1:", port) else {
         return Err(ServeFault::Write);

@@ -49,18 +49,16 @@ impl<L: Ledger, R: Wait> Host for Session<'_, L, R> {
             fill_text(reply, &Speaker::Peer, b"bye");
             return Flow::Ends;
         }
-        match self.pass.take() {
-            Some(mut pass) => {
-                self.tell(line, &mut pass, reply);
+        if let Some(pass) = &mut self.pass {
+            tell(self.rt, self.desk, line, pass, reply);
+            return Flow::GoesOn;
+        }
+        match self.admit(line) {
+            Ok(pass) => {
+                fill_hello(reply, &pass.tenant());
                 self.pass = Some(pass);
             }
-            None => match self.admit(line) {
-                Ok(pass) => {
-                    fill_hello(reply, &pass.tenant());
-                    self.pass = Some(pass);
-                }
-                Err(why) => fill_error(reply, &Speaker::Peer, why.number()),
-            },
+            Err(why) => fill_error(reply, &Speaker::Peer, why.number()),
         }
         Flow::GoesOn
     }
@@ -119,38 +117,46 @@ impl<L: Ledger, R: Wait> Session<'_, L, R> {
         };
         let is_known = self.roster.check(name, word);
         match Entity::read(name) {
-            Ok(who) if is_known => match self.desk.pass(self.rt, who) {
-                Ok(pass) => Ok(pass),
-                Err(_lacking) => Err(Refusal::Memory),
-            },
+            Ok(who) if is_known => self.desk.pass(self.rt, who).or(Err(Refusal::Memory)),
             _ => Err(Refusal::BadHello),
         }
     }
+}
 
-    /// Answers a tenant's command.
-    fn tell(&self, line: &[u8], pass: &mut Pass<L>, reply: &mut Room)
-        ensures { IsTold pass.old (form_of line.now) reply.new pass.new }
-    {
-        match read_command(reply.alloc(), line) {
-            Ok(command) => match self.carry_out(pass, command) {
-                Ok(told) => fill_reply(reply, &Speaker::Peer, &told),
-                Err(fault) => fill_error(reply, &Speaker::Peer, fault.number()),
-            },
-            Err(refusal) => fill_error(reply, &Speaker::Peer, refusal.number()),
-        }
+/// Answers a tenant's command.
+fn tell<L: Ledger, R: Wait>(
+    rt: &R,
+    desk: &Desk<L>,
+    line: &[u8],
+    pass: &mut Pass<L>,
+    reply: &mut Room,
+)
+    ensures { IsTold pass.old (form_of line.now) reply.new pass.new }
+{
+    match read_command(reply.alloc(), line) {
+        Ok(command) => match carry_out(rt, desk, pass, command) {
+            Ok(told) => fill_reply(reply, &Speaker::Peer, &told),
+            Err(fault) => fill_error(reply, &Speaker::Peer, fault.number()),
+        },
+        Err(refusal) => fill_error(reply, &Speaker::Peer, refusal.number()),
     }
+}
 
-    /// Carries a tenant's command out at the desk, and answers what it came to.
-    fn carry_out(&self, pass: &mut Pass<L>, command: Command) -> Result<Reply, DeskFault>
-        ensures { IsCarriedOut pass.old pass.new command result }
-    {
-        match command {
-            Command::Request(request) => self.desk.serve(self.rt, pass, request),
-            Command::Wait(number) => match self.desk.wait(self.rt, pass, number) {
-                Ok(verdict) => Ok(Reply::Answered(verdict.answer)),
-                Err(fault) => Err(fault),
-            },
-        }
+/// Carries a tenant's command out at the desk, and answers what it came to.
+fn carry_out<L: Ledger, R: Wait>(
+    rt: &R,
+    desk: &Desk<L>,
+    pass: &mut Pass<L>,
+    command: Command,
+) -> Result<Reply, DeskFault>
+    ensures { IsCarriedOut pass.old pass.new command result }
+{
+    match command {
+        Command::Request(request) => desk.serve(rt, pass, request),
+        Command::Wait(number) => match desk.wait(rt, pass, number) {
+            Ok(verdict) => Ok(Reply::Answered(verdict.answer)),
+            Err(fault) => Err(fault),
+        },
     }
 }
 

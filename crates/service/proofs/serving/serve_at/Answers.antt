@@ -7,22 +7,22 @@ use Rattle.service.proofs.serving.serve_at.Goals as goal
 
 pub returns-in_err-count-clause-wrote : goal.returns-in_err-count-clause-wrote
 returns-in_err-count-clause-wrote g c =
-    let failed = c.from_residual-in_err-count in
+    let failed = c.from_residual in
     let p = err_from_is_err_and failed.result failed.ensures.1 in
-    let told = rw c.from-port.ensures at c.in-Ok.ensures.ok in
+    let told = rw c.from-port.ensures at c.in-Ok-tell.ensures.ok in
     rw (p.1, p.2) (ServeWrote-listening c.args.options.accept _ c.port.result _ _ c.port.type_inv c.in_err-count.ensures told)
-
-pub returns-in_default-clause-wrote : goal.returns-in_default-clause-wrote
-returns-in_default-clause-wrote g c =
-    let told = rw c.from-port.ensures at c.in_default.ensures.err in
-    (c.port.result, c.port.type_inv, inl told)
 
 pub returns-in_default-tell-clause-wrote : goal.returns-in_default-tell-clause-wrote
 returns-in_default-tell-clause-wrote g c =
-    let told = rw c.from-port.ensures at c.in-Ok.ensures.ok in
-    ServeWrote-part c.args.options.accept c.port.result c.in_ok-count.count _ _ _ c.port.type_inv c.in_ok-count.ensures told c.in_default-tell.ensures.err
+    let told = rw c.from-port.ensures at c.in_default-tell.ensures.err in
+    (c.port.result, c.port.type_inv, inl told)
+
+pub returns-in_default-tell-2-clause-wrote : goal.returns-in_default-tell-2-clause-wrote
+returns-in_default-tell-2-clause-wrote g c =
+    let told = rw c.from-port.ensures at c.in-Ok-tell.ensures.ok in
+    ServeWrote-part c.args.options.accept c.port.result c.in_ok-count.count _ _ _ c.port.type_inv c.in_ok-count.ensures told c.in_default-tell-2.ensures.err
 
 pub returns-clause-wrote : goal.returns-clause-wrote
 returns-clause-wrote g c =
-    let told = rw c.from-port.ensures at c.in-Ok.ensures.ok in
-    (c.port.result, c.port.type_inv, Appends-more _ _ _ _ _ told c.in-Ok-tell.ensures.ok)
+    let told = rw c.from-port.ensures at c.in-Ok-tell.ensures.ok in
+    (c.port.result, c.port.type_inv, Appends-more _ _ _ _ _ told c.in-Ok-tell-2.ensures.ok)

@@ -1,16 +1,16 @@
--- The tenant said its word, and memory lacked for a pass.
+-- The tenant said its word.
 use Rattle.std.proofs.Common.{rules, ap, subst, List}
 use Rattle.std.specs.Prelude.{IsTrue}
 use Rattle.service.specs.Roster.{Row, IsTenant}
 use Rattle.service.specs.Session.{SessionState}
 use Rattle.service.specs.Words.{words}
-use Rattle.service.proofs.ToldLemmas.{IsLetIn-lacking}
+use Rattle.service.proofs.ToldLemmas.{IsLetIn-tried}
 use Rattle.service.proofs.sessions.Session.admit.Goals as goal
 
-pub returns-in-Err : goal.returns-in-Err
-returns-in-Err g c =
+pub returns-in-Ok : goal.returns-in-Ok
+returns-in-Ok g c =
     let known : IsTrue c.check-is_known.result = rw c.if-is_known.true (search rules) in
     let same = ap (λ (s : SessionState). s.rows) c.self.view_is in
     let tenant = subst (λ (rows : List Row). IsTenant rows c.in-Two.name.now c.in-Two.word.now) same (c.check-is_known.ensures.tenant.0 known) in
-    IsLetIn-lacking c.args.self.now.rows c.args.line.now c.in-Some.first.now c.in-Two.name.now c.in-Two.word.now (words c.in-Some.said.now)
-    c.in-Some.ensures.found (rw c.as_slice.ensures at c.if-eq.ensures) c.in-Two.ensures tenant
+    rw c.or.ensures (IsLetIn-tried c.args.self.now.rows c.args.line.now c.in-Some.first.now c.in-Two.name.now c.in-Two.word.now (words c.in-Some.said.now)
+    c.in-Some.ensures.found (rw c.as_slice.ensures at c.if-eq.ensures) c.in-Two.ensures tenant c.pass.result (rw c.in-Ok.ensures.entity at c.pass.ensures.tenant) c.pass.ensures.share c.pass.ensures.admitted)

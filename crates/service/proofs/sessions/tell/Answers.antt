@@ -1,7 +1,7 @@
 -- The command was read and carried out, or refused.
 use Rattle.std.proofs.Common.{refl, Ok, Err}
 use Rattle.service.specs.Session.{IsTold}
-use Rattle.service.proofs.sessions.Session.tell.Goals as goal
+use Rattle.service.proofs.sessions.tell.Goals as goal
 
 pub returns-in-Ok-carry_out : goal.returns-in-Ok-carry_out
 returns-in-Ok-carry_out g c =
