@@ -1,5 +1,6 @@
 //! The commands of a script.
 ghost use Rattle.std.specs.Prelude.{◌≡◌, ◌≤◌, ◌⊎◌, [], ◌∷◌, None, Some, length, IfOk, IfErr};
+ghost use Rattle.std.specs.Str.{bytes_eq};
 ghost use Rattle.credential_text.specs.{declared.faults.CredFault.CredFault, Spelling.Spells};
 ghost use Rattle.credential_text.specs.Refusal as credential;
 ghost use Rattle.service.specs.Command.{form_of, form_in, forms_with, Reads};
@@ -28,15 +29,15 @@ pub(crate) fn read_command(alloc: Global, text: &[u8]) -> Result<Command, Refusa
     let Some((verb, rest)) = next_word(text) else {
         return Err(Refusal::Command);
     };
-    if verb == b"put".as_slice() {
+    if is_same(verb, b"put") {
         return Ok(Command::Request(Request::Alter(Change::Upload(credential_of(alloc, rest)?))));
     }
-    if verb == b"drop".as_slice() {
+    if is_same(verb, b"drop") {
         return Ok(Command::Request(Request::Alter(Change::Withdraw(credential_of(alloc, rest)?))));
     }
     match split_words(rest) {
-        Arguments::Nothing if verb == b"vault".as_slice() => Ok(Command::Request(Request::Vault)),
-        Arguments::Nothing if verb == b"sees".as_slice() => Ok(Command::Request(Request::Sees)),
+        Arguments::Nothing if is_same(verb, b"vault") => Ok(Command::Request(Request::Vault)),
+        Arguments::Nothing if is_same(verb, b"sees") => Ok(Command::Request(Request::Sees)),
         Arguments::Nothing | Arguments::More => Err(Refusal::Command),
         Arguments::One(word) => read_with_one(verb, word),
         Arguments::Two(first, second) => read_with_two(verb, first, second),
@@ -47,25 +48,25 @@ pub(crate) fn read_command(alloc: Global, text: &[u8]) -> Result<Command, Refusa
 fn read_with_one(verb: &[u8], word: &[u8]) -> Result<Command, Refusal>
     ensures { Reads (form_in (forms_with (word.now ∷ [])) verb.now) result }
 {
-    if verb == b"grant".as_slice() {
-        if word == b"*".as_slice() {
+    if is_same(verb, b"grant") {
+        if is_same(word, b"*") {
             return Ok(Command::Request(Request::Alter(Change::GrantAll)));
         }
         return Ok(Command::Request(Request::Alter(Change::Grant(Entity::read(word)?))));
     }
-    if verb == b"revoke".as_slice() {
-        if word == b"*".as_slice() {
+    if is_same(verb, b"revoke") {
+        if is_same(word, b"*") {
             return Ok(Command::Request(Request::Alter(Change::RevokeAll)));
         }
         return Ok(Command::Request(Request::Alter(Change::Revoke(Entity::read(word)?))));
     }
-    if verb == b"who".as_slice() {
+    if is_same(verb, b"who") {
         return Ok(Command::Request(Request::Seek(Query::Who(Role::read(word)?))));
     }
     match number(word) {
-        Some(search) if verb == b"poll".as_slice() => Ok(Command::Request(Request::Poll(search))),
-        Some(search) if verb == b"wait".as_slice() => Ok(Command::Wait(search)),
-        Some(search) if verb == b"end".as_slice() => Ok(Command::Request(Request::Close(search))),
+        Some(search) if is_same(verb, b"poll") => Ok(Command::Request(Request::Poll(search))),
+        Some(search) if is_same(verb, b"wait") => Ok(Command::Wait(search)),
+        Some(search) if is_same(verb, b"end") => Ok(Command::Request(Request::Close(search))),
         _ => Err(Refusal::Command),
     }
 }
@@ -74,9 +75,9 @@ fn read_with_one(verb: &[u8], word: &[u8]) -> Result<Command, Refusal>
 fn read_with_two(verb: &[u8], first: &[u8], second: &[u8]) -> Result<Command, Refusal>
     ensures { Reads (form_in (forms_with (first.now ∷ second.now ∷ [])) verb.now) result }
 {
-    if verb == b"ask".as_slice() {
+    if is_same(verb, b"ask") {
         Ok(Command::Request(Request::Seek(Query::Ask(Role::read(first)?, Entity::read(second)?))))
-    } else if verb == b"proof".as_slice() {
+    } else if is_same(verb, b"proof") {
         let Some(search) = number(first) else {
             return Err(Refusal::Command);
         };
@@ -84,6 +85,13 @@ fn read_with_two(verb: &[u8], first: &[u8], second: &[u8]) -> Result<Command, Re
     } else {
         Err(Refusal::Command)
     }
+}
+
+/// Whether a word is this one.
+fn is_same(word: &[u8], other: &[u8]) -> bool
+    ensures { result ≡ bytes_eq word.now other.now }
+{
+    word == other
 }
 
 /// The credential that the text spells.
