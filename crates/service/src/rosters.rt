@@ -169,16 +169,17 @@ fn read_row(text: &[u8]) -> Option<(Entity, &[u8], Limits)>
     ensures some { IfSome result (λ r. IsRow text.now (record { name = r.0; word = r.1.now; limits = r.2 })) }
     ensures none { IfNone result ((row : roster.Row) → IsRow text.now row → ⊥) }
 {
-    let (first, rest) = next_word(text)?;
-    let (name, rest) = next_word(rest)?;
-    let (word, rest) = next_word(rest)?;
-    if first != b"tenant".as_slice() || word.len() > MOST_WORD {
-        return None;
+    if let Some((first, rest)) = next_word(text)
+        && first == b"tenant".as_slice()
+        && let Some((name, rest)) = next_word(rest)
+        && let Some((word, rest)) = next_word(rest)
+        && word.len() <= MOST_WORD
+        && let Ok(name) = Entity::read(name)
+        && let Some(limits) = read_limits(rest)
+    {
+        return Some((name, word, limits));
     }
-    let Ok(name) = Entity::read(name) else {
-        return None;
-    };
-    Some((name, word, read_limits(rest)?))
+    None
 }
 
 /// The limits that the text gives: the usual ones where it has no word, and else those of six numbers.
