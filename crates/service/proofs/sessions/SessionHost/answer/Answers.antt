@@ -1,5 +1,4 @@
 -- A line that doesn't end the session is told.
-use Rattle.std.proofs.Common.{Some}
 use Rattle.service.proofs.ToldLemmas.{Tells-held}
 use Rattle.service.proofs.sessions.SessionHost.answer.Goals as goal
 
