@@ -36,7 +36,7 @@ fn role(text: &[u8]) -> Result<Role, NameFault> {
     Role::read(text)
 }
 
-const SPELLED: [(&[u8], &[u8]); 14] = [
+static SPELLED: [(&[u8], &[u8]); 14] = [
     (b" A.r<-B.s&C ", b"A.r <- B.s & C"),
     (b"A.r <- A.s.t & D", b"A.r <- A.s.t & D"),
     (b"A.r<-A.s.t", b"A.r <- A.s.t"),
@@ -61,14 +61,14 @@ const SPELLED: [(&[u8], &[u8]); 14] = [
 
 #[test]
 fn texts_that_spell_a_credential(rt: HostRuntime) -> Result<(), Fail> {
-    for (text, canonical) in SPELLED {
+    for (text, canonical) in &SPELLED {
         assert!(rt; is_spelled(rt.alloc(), text, canonical)?);
         assert!(rt; is_spelled(rt.alloc(), canonical, canonical)?);
     }
     Ok(())
 }
 
-const REFUSED: [(&[u8], u64); 34] = [
+static REFUSED: [(&[u8], u64); 34] = [
     (b"", 21),
     (b"A.r = D", 21),
     (b"A.r < - D", 21),
@@ -107,8 +107,8 @@ const REFUSED: [(&[u8], u64); 34] = [
 
 #[test]
 fn texts_that_are_refused(rt: HostRuntime) {
-    for (text, number) in REFUSED {
-        assert_eq!(rt; fault_number(rt.alloc(), text), number);
+    for (text, number) in &REFUSED {
+        assert_eq!(rt; fault_number(rt.alloc(), text), *number);
     }
 }
 
@@ -118,7 +118,7 @@ fn reads_as(alloc: Global, fault: CredFault, number: u64, text: &str) -> Result<
     Ok(fault.number() == number && written.as_str() == text)
 }
 
-const FAULTS: [(CredFault, u64, &str); 9] = [
+static FAULTS: [(CredFault, u64, &str); 9] = [
     (CredFault::NoArrow, 21, "no arrow"),
     (CredFault::Head, 22, "head"),
     (CredFault::BodyEmpty, 23, "empty body"),
@@ -132,8 +132,8 @@ const FAULTS: [(CredFault, u64, &str); 9] = [
 
 #[test]
 fn faults_by_number_and_text(rt: HostRuntime) -> Result<(), AllocError> {
-    for (fault, number, text) in FAULTS {
-        assert!(rt; reads_as(rt.alloc(), fault, number, text)?, "at {number}");
+    for (fault, number, text) in &FAULTS {
+        assert!(rt; reads_as(rt.alloc(), *fault, *number, text)?, "at {number}");
     }
     Ok(())
 }
@@ -252,7 +252,7 @@ fn are_ordered(alloc: Global, text: &[u8], other: &[u8], order: Ordering) -> Res
     Ok(bodies && lower.compare(&upper) == order)
 }
 
-const IN_ORDER: [&[u8]; 15] = [
+static IN_ORDER: [&[u8]; 15] = [
     b"A.r <- D",
     b"A.r <- E",
     b"A.r <- B.s",
@@ -284,7 +284,7 @@ fn credentials_in_order(rt: HostRuntime) -> Result<(), Fail> {
 }
 
 /// Credentials whose bodies are of each kind.
-const KINDS: [&[u8]; 4] = [
+static KINDS: [&[u8]; 4] = [
     b"A.r <- D",
     b"A.r <- B.s",
     b"A.r <- A.s.t",

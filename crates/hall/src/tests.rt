@@ -42,56 +42,59 @@ fn reads_as(alloc: Global, fault: Fault, expected: &str) -> Result<bool, Fail> {
     Ok(text.as_str() == expected)
 }
 
+static FAULTS: [(Fault, u64, &str); 16] = [
+    (Fault::NotIssuer, 31, "not issuer"),
+    (Fault::AlreadyHeld, 32, "already held"),
+    (Fault::NotHeld, 33, "not held"),
+    (Fault::AlreadyGranted, 34, "already granted"),
+    (Fault::NotGranted, 35, "not granted"),
+    (Fault::GrantSelf, 36, "grant self"),
+    (Fault::Creds, 41, "creds limit"),
+    (Fault::Grants, 42, "grants limit"),
+    (Fault::Searches, 43, "searches limit"),
+    (Fault::Changes, 44, "changes limit"),
+    (Fault::Opens, 45, "opens limit"),
+    (Fault::NoSuchSearch, 51, "no such search"),
+    (Fault::NotDone, 52, "not done"),
+    (Fault::NoProof, 53, "no proof"),
+    (Fault::NoTenant, 62, "bad hello"),
+    (Fault::Memory, 90, "memory"),
+];
+
 #[test]
 fn numbers_and_texts(rt: HostRuntime) -> Result<(), Fail> {
-    let table = [
-        (Fault::NotIssuer, 31, "not issuer"),
-        (Fault::AlreadyHeld, 32, "already held"),
-        (Fault::NotHeld, 33, "not held"),
-        (Fault::AlreadyGranted, 34, "already granted"),
-        (Fault::NotGranted, 35, "not granted"),
-        (Fault::GrantSelf, 36, "grant self"),
-        (Fault::Creds, 41, "creds limit"),
-        (Fault::Grants, 42, "grants limit"),
-        (Fault::Searches, 43, "searches limit"),
-        (Fault::Changes, 44, "changes limit"),
-        (Fault::Opens, 45, "opens limit"),
-        (Fault::NoSuchSearch, 51, "no such search"),
-        (Fault::NotDone, 52, "not done"),
-        (Fault::NoProof, 53, "no proof"),
-        (Fault::NoTenant, 62, "bad hello"),
-        (Fault::Memory, 90, "memory"),
-    ];
-    for (fault, number, text) in table {
-        assert_eq!(rt; fault.number(), number);
-        assert!(rt; reads_as(rt.alloc(), fault, text)?, "at {number}");
+    for (fault, number, text) in &FAULTS {
+        assert_eq!(rt; fault.number(), *number);
+        assert!(rt; reads_as(rt.alloc(), *fault, text)?, "at {number}");
     }
     Ok(())
 }
 
+static VAULT_FAULTS: [(VaultFault, u64); 7] = [
+    (VaultFault::NotIssuer, 31),
+    (VaultFault::AlreadyHeld, 32),
+    (VaultFault::NotHeld, 33),
+    (VaultFault::AlreadyGranted, 34),
+    (VaultFault::NotGranted, 35),
+    (VaultFault::GrantSelf, 36),
+    (VaultFault::Memory, 90),
+];
+
+static QUOTA_FAULTS: [(QuotaFault, u64); 5] = [
+    (QuotaFault::Creds, 41),
+    (QuotaFault::Grants, 42),
+    (QuotaFault::Searches, 43),
+    (QuotaFault::Changes, 44),
+    (QuotaFault::Opens, 45),
+];
+
 #[test]
 fn faults_of_the_lower_layers(rt: HostRuntime) {
-    let vault = [
-        (VaultFault::NotIssuer, 31),
-        (VaultFault::AlreadyHeld, 32),
-        (VaultFault::NotHeld, 33),
-        (VaultFault::AlreadyGranted, 34),
-        (VaultFault::NotGranted, 35),
-        (VaultFault::GrantSelf, 36),
-        (VaultFault::Memory, 90),
-    ];
-    for (fault, number) in vault {
-        assert_eq!(rt; Fault::from(fault).number(), number);
+    for (fault, number) in &VAULT_FAULTS {
+        assert_eq!(rt; Fault::from(*fault).number(), *number);
     }
-    let quota = [
-        (QuotaFault::Creds, 41),
-        (QuotaFault::Grants, 42),
-        (QuotaFault::Searches, 43),
-        (QuotaFault::Changes, 44),
-        (QuotaFault::Opens, 45),
-    ];
-    for (fault, number) in quota {
-        assert_eq!(rt; Fault::from(fault).number(), number);
+    for (fault, number) in &QUOTA_FAULTS {
+        assert_eq!(rt; Fault::from(*fault).number(), *number);
     }
 }
 

@@ -49,7 +49,7 @@ fn the_longest_names(rt: HostRuntime) -> Result<(), NameFault> {
     Ok(())
 }
 
-const ROLE_FAULTS: [(&[u8], u64); 8] = [
+static ROLE_FAULTS: [(&[u8], u64); 8] = [
     (b"A.r", 0),
     (b"", 15),
     (b"A", 15),
@@ -65,8 +65,8 @@ fn roles_and_their_faults(rt: HostRuntime) -> Result<(), NameFault> {
     let role = Role::read(b"A.r")?;
     assert!(rt; role.owner.bytes() == b"A".as_slice());
     assert!(rt; role.name.bytes() == b"r".as_slice());
-    for (text, number) in ROLE_FAULTS {
-        assert_eq!(rt; role_fault(text), number);
+    for (text, number) in &ROLE_FAULTS {
+        assert_eq!(rt; role_fault(text), *number);
     }
     Ok(())
 }
@@ -78,7 +78,7 @@ fn are_ordered(name: &[u8], other: &[u8], order: Ordering) -> Result<bool, NameF
     Ok(entities == order && role_names == order)
 }
 
-const NAMES: [&[u8]; 6] = [b"A", b"A-", b"B", b"Ba", b"a", b"b"];
+static NAMES: [&[u8]; 6] = [b"A", b"A-", b"B", b"Ba", b"a", b"b"];
 
 #[test]
 fn orders_of_names(rt: HostRuntime) -> Result<(), NameFault> {
@@ -90,7 +90,7 @@ fn orders_of_names(rt: HostRuntime) -> Result<(), NameFault> {
     Ok(())
 }
 
-const ROLES: [(&[u8], &[u8], Ordering); 3] = [
+static ROLES: [(&[u8], &[u8], Ordering); 3] = [
     (b"A.z", b"B.a", Ordering::Less),
     (b"A.r", b"A.r-", Ordering::Less),
     (b"B-.r", b"B.s", Ordering::Greater),
@@ -98,8 +98,8 @@ const ROLES: [(&[u8], &[u8], Ordering); 3] = [
 
 #[test]
 fn orders_of_roles(rt: HostRuntime) -> Result<(), NameFault> {
-    for (role, other, order) in ROLES {
-        assert!(rt; Role::read(role)?.compare(&Role::read(other)?) == order);
+    for (role, other, order) in &ROLES {
+        assert!(rt; Role::read(role)?.compare(&Role::read(other)?) == *order);
     }
     Ok(())
 }
@@ -110,7 +110,7 @@ fn reads_as(alloc: Global, fault: NameFault, number: u64, text: &str) -> Result<
     Ok(fault.number() == number && written.as_str() == text)
 }
 
-const FAULTS: [(NameFault, u64, &str); 5] = [
+static FAULTS: [(NameFault, u64, &str); 5] = [
     (NameFault::Empty, 11, "empty name"),
     (NameFault::Start, 12, "name start"),
     (NameFault::Byte, 13, "name byte"),
@@ -120,37 +120,37 @@ const FAULTS: [(NameFault, u64, &str); 5] = [
 
 #[test]
 fn faults_by_number_and_text(rt: HostRuntime) -> Result<(), AllocError> {
-    for (fault, number, text) in FAULTS {
-        assert!(rt; reads_as(rt.alloc(), fault, number, text)?, "at {number}");
+    for (fault, number, text) in &FAULTS {
+        assert!(rt; reads_as(rt.alloc(), *fault, *number, text)?, "at {number}");
     }
     Ok(())
 }
 
 /// Texts, what stands in them before the first dot, and what stands after it.
-const CUTS: [(&[u8], &[u8], Option<&[u8]>); 2] = [
+static CUTS: [(&[u8], &[u8], Option<&[u8]>); 2] = [
     (b"A.r.s", b"A", Some(b"r.s")),
     (b"A", b"A", None),
 ];
 
 #[test]
 fn texts_are_cut_at_the_first_place(rt: HostRuntime) {
-    for (text, before, after) in CUTS {
-        assert!(rt; cut(text, b'.') == (before, after));
+    for (text, before, after) in &CUTS {
+        assert!(rt; cut(text, b'.') == (*before, *after));
     }
 }
 
 /// Texts, and what is left of them without the spaces in front, without those at the end, and without both.
-const TRIMMED: [[&[u8]; 4]; 2] = [
+static TRIMMED: [[&[u8]; 4]; 2] = [
     [b"  a b\t ", b"a b\t ", b"  a b\t", b"a b\t"],
     [b"   ", b"", b"", b""],
 ];
 
 #[test]
 fn texts_lose_their_outer_spaces(rt: HostRuntime) {
-    for [text, start, end, both] in TRIMMED {
-        assert!(rt; trim_start(text) == start);
-        assert!(rt; trim_end(text) == end);
-        assert!(rt; trim(text) == both);
+    for [text, start, end, both] in &TRIMMED {
+        assert!(rt; trim_start(text) == *start);
+        assert!(rt; trim_end(text) == *end);
+        assert!(rt; trim(text) == *both);
     }
 }
 

@@ -10,7 +10,7 @@ fn reads_as(alloc: Global, fault: DeskFault, number: u64, text: &str) -> Result<
 }
 
 /// Faults, with their numbers and texts.
-const FAULTS: [(DeskFault, u64, &str); 5] = [
+static FAULTS: [(DeskFault, u64, &str); 5] = [
     (DeskFault::Hall(Fault::NoTenant), 62, "bad hello"),
     (DeskFault::Hall(Fault::Memory), 90, "memory"),
     (DeskFault::Rewound { front: 3 }, 91, "rewound"),
@@ -20,8 +20,8 @@ const FAULTS: [(DeskFault, u64, &str); 5] = [
 
 #[test]
 fn numbers_and_texts(rt: HostRuntime) -> Result<(), AllocError> {
-    for (fault, number, text) in FAULTS {
-        assert!(rt; reads_as(rt.alloc(), fault, number, text)?, "at {number}");
+    for (fault, number, text) in &FAULTS {
+        assert!(rt; reads_as(rt.alloc(), *fault, *number, text)?, "at {number}");
     }
     Ok(())
 }

@@ -143,36 +143,38 @@ fn linked_role_over_its_own_head(rt: HostRuntime) -> Result<(), Fail> {
     Ok(())
 }
 
+/// A role of who is in eight linked roles, each with its base and one more link.
+static EIGHT_LINKED: [&[u8]; 17] = [
+    b"A.r <- A.a.h & A.b.g & A.c.f & A.d.e & A.e.d & A.f.c & A.g.b & A.h.a",
+    b"A.a <- I",
+    b"A.b <- J",
+    b"A.c <- K",
+    b"A.d <- L",
+    b"A.e <- M",
+    b"A.f <- N",
+    b"A.g <- O",
+    b"A.h <- P",
+    b"I.h <- D",
+    b"J.g <- D",
+    b"K.f <- D",
+    b"L.e <- D",
+    b"M.d <- D",
+    b"N.c <- D",
+    b"O.b <- D",
+    b"P.a <- D",
+];
+
 #[test]
 fn an_intersection_of_eight_linked_roles(rt: HostRuntime) -> Result<(), Fail> {
     let alloc = rt.alloc();
     let role = Role::read(b"A.r")?;
     let who = Entity::read(b"D")?;
-    let texts: [&[u8]; 17] = [
-        b"A.r <- A.a.h & A.b.g & A.c.f & A.d.e & A.e.d & A.f.c & A.g.b & A.h.a",
-        b"A.a <- I",
-        b"A.b <- J",
-        b"A.c <- K",
-        b"A.d <- L",
-        b"A.e <- M",
-        b"A.f <- N",
-        b"A.g <- O",
-        b"A.h <- P",
-        b"I.h <- D",
-        b"J.g <- D",
-        b"K.f <- D",
-        b"L.e <- D",
-        b"M.d <- D",
-        b"N.c <- D",
-        b"O.b <- D",
-        b"P.a <- D",
-    ];
-    let search = driven(alloc, &texts, b"A.r")?;
+    let search = driven(alloc, &EIGHT_LINKED, b"A.r")?;
     let proof = proof_of(alloc, &search, &who)?;
     // For each part: its member in itself and in the base, D in the member's role and in the part.
     assert_eq!(rt; proof.steps().len(), 1 + 8 * 4 + 2);
     assert_eq!(rt;
-        check_proof(&credentials(alloc, &texts)?, &role, &who, &proof),
+        check_proof(&credentials(alloc, &EIGHT_LINKED)?, &role, &who, &proof),
         true
     );
     Ok(())

@@ -1,4 +1,5 @@
 use crate::{Limits, QuotaFault, Used};
+use std::alloc::{AllocError, Global};
 use std::test::Fail;
 
 fn limits() -> Option<Limits> {
@@ -15,24 +16,33 @@ fn used(creds: u64, grants: u64, searches: u64, changes: u64, opens: u64) -> Use
     }
 }
 
+/// Six limits, and whether they are in their ranges.
+static ENDS: [([u64; 6], bool); 14] = [
+    ([1, 1, 1, 1, 1, 1], true),
+    (
+        [100_000, 1_000, 64, 1_000_000, 1_000_000_000, 4_294_967_296],
+        true,
+    ),
+    ([0, 1, 1, 1, 1, 1], false),
+    ([100_001, 1, 1, 1, 1, 1], false),
+    ([1, 0, 1, 1, 1, 1], false),
+    ([1, 1_001, 1, 1, 1, 1], false),
+    ([1, 1, 0, 1, 1, 1], false),
+    ([1, 1, 65, 1, 1, 1], false),
+    ([1, 1, 1, 0, 1, 1], false),
+    ([1, 1, 1, 1_000_001, 1, 1], false),
+    ([1, 1, 1, 1, 0, 1], false),
+    ([1, 1, 1, 1, 1_000_000_001, 1], false),
+    ([1, 1, 1, 1, 1, 0], false),
+    ([1, 1, 1, 1, 1, 4_294_967_297], false),
+];
+
 #[test]
 fn the_ends_of_the_ranges(rt: HostRuntime) {
-    assert!(rt; Limits::make(1, 1, 1, 1, 1, 1).is_some());
-    assert!(rt;
-        Limits::make(100_000, 1_000, 64, 1_000_000, 1_000_000_000, 4_294_967_296).is_some()
-    );
-    assert!(rt; Limits::make(0, 1, 1, 1, 1, 1).is_none());
-    assert!(rt; Limits::make(100_001, 1, 1, 1, 1, 1).is_none());
-    assert!(rt; Limits::make(1, 0, 1, 1, 1, 1).is_none());
-    assert!(rt; Limits::make(1, 1_001, 1, 1, 1, 1).is_none());
-    assert!(rt; Limits::make(1, 1, 0, 1, 1, 1).is_none());
-    assert!(rt; Limits::make(1, 1, 65, 1, 1, 1).is_none());
-    assert!(rt; Limits::make(1, 1, 1, 0, 1, 1).is_none());
-    assert!(rt; Limits::make(1, 1, 1, 1_000_001, 1, 1).is_none());
-    assert!(rt; Limits::make(1, 1, 1, 1, 0, 1).is_none());
-    assert!(rt; Limits::make(1, 1, 1, 1, 1_000_000_001, 1).is_none());
-    assert!(rt; Limits::make(1, 1, 1, 1, 1, 0).is_none());
-    assert!(rt; Limits::make(1, 1, 1, 1, 1, 4_294_967_297).is_none());
+    for ([creds, grants, searches, changes, opens, work], is_made) in &ENDS {
+        let made = Limits::make(*creds, *grants, *searches, *changes, *opens, *work);
+        assert_eq!(rt; made.is_some(), *is_made);
+    }
 }
 
 #[test]
@@ -78,18 +88,24 @@ fn at_each_limit(rt: HostRuntime) -> Result<(), Fail> {
     Ok(())
 }
 
+/// Whether the fault has this number and this text.
+fn reads_as(alloc: Global, fault: QuotaFault, number: u64, text: &str) -> Result<bool, AllocError> {
+    let written = format!(in alloc; "{fault}")?;
+    Ok(fault.number() == number && written.as_str() == text)
+}
+
+static FAULTS: [(QuotaFault, u64, &str); 5] = [
+    (QuotaFault::Creds, 41, "creds limit"),
+    (QuotaFault::Grants, 42, "grants limit"),
+    (QuotaFault::Searches, 43, "searches limit"),
+    (QuotaFault::Changes, 44, "changes limit"),
+    (QuotaFault::Opens, 45, "opens limit"),
+];
+
 #[test]
-fn faults_by_number_and_text(rt: HostRuntime) -> Result<(), Fail> {
-    let table = [
-        (QuotaFault::Creds, 41, "creds limit"),
-        (QuotaFault::Grants, 42, "grants limit"),
-        (QuotaFault::Searches, 43, "searches limit"),
-        (QuotaFault::Changes, 44, "changes limit"),
-        (QuotaFault::Opens, 45, "opens limit"),
-    ];
-    for (fault, number, text) in table {
-        assert_eq!(rt; fault.number(), number);
-        assert_eq!(rt; format!(in rt.alloc(); "{fault}")?.as_str(), text);
+fn faults_by_number_and_text(rt: HostRuntime) -> Result<(), AllocError> {
+    for (fault, number, text) in &FAULTS {
+        assert!(rt; reads_as(rt.alloc(), *fault, *number, text)?, "at {number}");
     }
     Ok(())
 }

@@ -75,7 +75,7 @@ fn nobody_is_a_member_without_credentials(rt: HostRuntime) -> Result<(), Fail> {
     Ok(())
 }
 
-const ENTITIES: [Members; 2] = [
+static ENTITIES: [Members; 2] = [
     (&["A.r <- D", "A.r <- A"], "A.r", &["A", "D"]),
     (
         &["A.r <- D", "A.r <- A", "A.r <- D", "A.r <- Da", "A.r <- B"],
@@ -97,14 +97,14 @@ const CHAIN: &[&str] = &[
     "B.s <- F",
 ];
 
-const CHAINED: [Members; 2] = [(CHAIN, "A.r", &["E", "F"]), (CHAIN, "C.t", &["E"])];
+static CHAINED: [Members; 2] = [(CHAIN, "A.r", &["E", "F"]), (CHAIN, "C.t", &["E"])];
 
 #[test]
 fn inclusions_are_followed_along_a_chain(rt: HostRuntime) -> Result<(), Fail> {
     all_have_members(&rt, &CHAINED)
 }
 
-const CIRCLES: [Members; 3] = [
+static CIRCLES: [Members; 3] = [
     (&["A.r <- B.s", "B.s <- A.r"], "A.r", &[]),
     (&["A.r <- A.r"], "A.r", &[]),
     (&["A.r <- B.s", "B.s <- A.r", "B.s <- D"], "A.r", &["D"]),
@@ -116,7 +116,7 @@ fn circular_inclusions_give_nobody(rt: HostRuntime) -> Result<(), Fail> {
 }
 
 /// Over a base of another name; over their own head; and passed on.
-const LINKED: [Members; 3] = [
+static LINKED: [Members; 3] = [
     (
         &[
             "A.r <- A.s.t",
@@ -162,7 +162,7 @@ const WITH_AN_ENTITY: &[&str] = &[
 
 const WITH_A_LINKED_ROLE: &[&str] = &["A.r <- A.s.t & D", "A.s <- B", "B.t <- D", "B.t <- E"];
 
-const INTERSECTIONS: [Members; 5] = [
+static INTERSECTIONS: [Members; 5] = [
     (ROLES, "A.two", &["E"]),
     (ROLES, "A.same", &["D", "E"]),
     (WITH_AN_ENTITY, "A.one", &["D"]),
@@ -177,7 +177,7 @@ fn an_intersection_wants_every_part(rt: HostRuntime) -> Result<(), Fail> {
 
 /// Credentials, and the work of a search for the members of `A.r`: none; one, once and twice; a circle; a role in itself; a
 /// repeated part; a linked role, and one over its own head.
-const WORKS: [(&[&str], u64); 8] = [
+static WORKS: [(&[&str], u64); 8] = [
     (&[], 1),
     (&["A.r <- D"], 3),
     (&["A.r <- D", "A.r <- D"], 3),
@@ -190,8 +190,8 @@ const WORKS: [(&[&str], u64); 8] = [
 
 #[test]
 fn work_is_one_and_each_ask_and_each_member_told(rt: HostRuntime) -> Result<(), Fail> {
-    for (texts, work) in WORKS {
-        assert!(rt; has_work(rt.alloc(), texts, work)?, "{work}");
+    for (texts, work) in &WORKS {
+        assert!(rt; has_work(rt.alloc(), texts, *work)?, "{work}");
     }
     Ok(())
 }

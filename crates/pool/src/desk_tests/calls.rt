@@ -5,7 +5,7 @@ use super::plays::{Break, Line, Scene, USUAL, played};
 
 /// Each call, but for those that take a pass back. A wait ends though the search is working, since the desk was stopped.
 /// No pass is given to a name outside the roster.
-const EACH_CALL: Scene = Scene {
+static EACH_CALL: Scene = Scene {
     limits: USUAL,
     passes: &["A"],
     before: &[
@@ -35,7 +35,7 @@ fn each_call(rt: HostRuntime) -> Result<(), Break> {
 }
 
 /// Calls by a pass that has seen a journal of 3 are refused over one of 1, and leave the pass as it was.
-const REWOUND: Scene = Scene {
+static REWOUND: Scene = Scene {
     limits: USUAL,
     passes: &["A"],
     before: &[

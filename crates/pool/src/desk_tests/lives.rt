@@ -7,16 +7,16 @@ use std::alloc::{AllocError, Global};
 use std::sync::atomic::{AtomicBool, AtomicU64, Ordering};
 
 /// A credential, and a search of its one member.
-const OPENED: [Line; 2] = [
+const OPENED: &[Line] = &[
     Line(0, Act::Put("A.r <- D"), Told::Counted(1)),
     Line(0, Act::Ask("A.r", "D"), Told::Opened(1, 1)),
 ];
 
 /// The second pass waits for the search, and asks all that there is to ask. The credential is the only row that is read.
-const WHOLE_LIFE: Scene = Scene {
+static WHOLE_LIFE: Scene = Scene {
     limits: USUAL,
     passes: &["A", "A"],
-    before: &OPENED,
+    before: OPENED,
     beside: &[
         Line(1, Act::Wait(1), Told::Yes),
         Line(
@@ -61,7 +61,7 @@ fn a_whole_life_of_a_search(rt: HostRuntime) -> Result<(), Break> {
 }
 
 /// A credential, and four searches of its one member, which are all waited for.
-const FOUR_SEARCHES: Scene = Scene {
+static FOUR_SEARCHES: Scene = Scene {
     limits: USUAL,
     passes: &["A"],
     before: &[
@@ -95,10 +95,10 @@ fn four_first_letters_meet_at_the_gate(rt: HostRuntime) -> Result<(), Break> {
 }
 
 /// The first search is ended while its first letter is held. It is gone, and the second one's letters are finished.
-const ENDED: Scene = Scene {
+static ENDED: Scene = Scene {
     limits: USUAL,
     passes: &["A", "A"],
-    before: &OPENED,
+    before: OPENED,
     beside: &[
         Line(1, Act::Wait(1), Told::Refused(51)),
         Line(0, Act::Ask("A.r", "D"), Told::Opened(2, 1)),
@@ -118,7 +118,7 @@ fn a_gate_that_ends_the_search_of_a_held_letter(rt: HostRuntime) -> Result<(), B
 }
 
 /// 40 members of a role, and who is in it.
-const FORTY_MEMBERS: Scene = Scene {
+static FORTY_MEMBERS: Scene = Scene {
     limits: USUAL,
     passes: &["A"],
     before: &[],

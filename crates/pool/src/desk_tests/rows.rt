@@ -11,7 +11,7 @@ use std::thread::Threads;
 
 /// `A`'s search reads what `B` granted before it was opened, and nothing that `B` grants later: only the second search reads
 /// the row.
-const GRANT: Scene = Scene {
+static GRANT: Scene = Scene {
     limits: USUAL,
     passes: &["A", "B"],
     before: &[],
@@ -61,7 +61,7 @@ fn a_grant_after_the_opening(rt: HostRuntime) -> Result<(), Break> {
 }
 
 /// The same where `B` lets every tenant read, and so every one that reads `B`'s vault sees its mark, `B` too.
-const GRANT_TO_ALL: Scene = Scene {
+static GRANT_TO_ALL: Scene = Scene {
     limits: USUAL,
     passes: &["A", "B"],
     before: &[],
@@ -93,7 +93,7 @@ fn a_grant_to_all_after_the_opening(rt: HostRuntime) -> Result<(), Break> {
 
 /// Limits of `A`, and what it is told under them: one search at once; all that is refused for another reason than a limit;
 /// one credential, one grant, three changes and one opening.
-const REFUSALS: [([u64; 6], &[Line]); 3] = [
+static REFUSALS: [([u64; 6], &[Line]); 3] = [
     (
         [10, 10, 1, 100, 100, 1000],
         &[
@@ -159,14 +159,14 @@ fn under_limits<R: Threads + Wait + Clock + Sync>(
 
 #[test]
 fn refusals_and_limits(rt: HostRuntime) -> Result<(), Break> {
-    for (limits, beside) in REFUSALS {
-        under_limits(&rt, rt.alloc(), limits, &[], beside, 2, None)?;
+    for (limits, beside) in &REFUSALS {
+        under_limits(&rt, rt.alloc(), *limits, &[], beside, 2, None)?;
     }
     Ok(())
 }
 
 /// How much work a search takes that these lines open.
-const WORKS: [(u64, &[Line]); 5] = [
+static WORKS: [(u64, &[Line]); 5] = [
     (
         3,
         &[
@@ -231,8 +231,8 @@ fn ends_so<R: Threads + Wait + Clock + Sync>(
 /// A search that isn't spent finishes as many letters as its limit says.
 #[test]
 fn the_same_end_by_any_number_of_workers(rt: HostRuntime) -> Result<(), Break> {
-    for (work, before) in WORKS {
-        ends_so(&rt, rt.alloc(), before, work, Told::Yes, Some(work))?;
+    for (work, before) in &WORKS {
+        ends_so(&rt, rt.alloc(), before, *work, Told::Yes, Some(*work))?;
         ends_so(
             &rt,
             rt.alloc(),

@@ -33,7 +33,7 @@ const TWO_IDLE_PEERS: ServeOptions = ServeOptions {
 /// What a peer says, and what it is told.
 type Step = (&'static [u8], &'static [u8]);
 
-const WORKED: [Step; 10] = [
+static WORKED: [Step; 10] = [
     (b"vault\n", b"error 61 no hello\n"),
     (b"hello A x\n", b"error 62 bad hello\n"),
     (b"hello Z a\n", b"error 62 bad hello\n"),

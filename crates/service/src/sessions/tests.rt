@@ -92,7 +92,7 @@ const BAD_HELLO: &[u8] = b"error 62 bad hello\n";
 const NO_COMMAND: &[u8] = b"error 64 command\n";
 
 /// What one line is answered before a hello, which is taken after it.
-const BEFORE_A_HELLO: [(&[u8], &[u8]); 24] = [
+static BEFORE_A_HELLO: [(&[u8], &[u8]); 24] = [
     (b"", b""),
     (b"   ", b""),
     (b"put A.r <- D", NO_HELLO),
@@ -120,7 +120,7 @@ const BEFORE_A_HELLO: [(&[u8], &[u8]); 24] = [
 ];
 
 /// What one line is answered after a hello of A, who stays the one that speaks.
-const AFTER_A_HELLO: [(&[u8], &[u8]); 11] = [
+static AFTER_A_HELLO: [(&[u8], &[u8]); 11] = [
     (b" ", b""),
     (b"hello A a", NO_COMMAND),
     (b"hello B bb", NO_COMMAND),
@@ -160,16 +160,16 @@ fn is_told_between<R: Wait>(
 fn lines_before_and_after_a_hello(rt: HostRuntime) -> Result<(), Fail> {
     let before: (&[u8], &[u8]) = (b"hello A a\n", b"hello A\n");
     let behind: (&[u8], &[u8]) = (b"\nhello A a\nsees\n", b"hello A\nsees A\n");
-    for (line, reply) in BEFORE_A_HELLO {
-        let is_right = is_told_between(&rt, rt.alloc(), (b"", b""), (line, reply), behind)?;
+    for (line, reply) in &BEFORE_A_HELLO {
+        let is_right = is_told_between(&rt, rt.alloc(), (b"", b""), (*line, *reply), behind)?;
         assert!(rt; is_right, "before a hello: {line:?}");
     }
-    for (line, reply) in AFTER_A_HELLO {
+    for (line, reply) in &AFTER_A_HELLO {
         let is_right = is_told_between(
             &rt,
             rt.alloc(),
             before,
-            (line, reply),
+            (*line, *reply),
             (b"\nsees", b"sees A\n"),
         )?;
         assert!(rt; is_right, "after a hello: {line:?}");
@@ -301,7 +301,7 @@ fn a_writer_that_fails(rt: HostRuntime) -> Result<(), Fail> {
 type Talk = (&'static [u8], &'static [u8]);
 
 /// While workers run: B's session, and those of A, whose first one ends without `quit`.
-const BESIDE_WORKERS: [Talk; 3] = [
+static BESIDE_WORKERS: [Talk; 3] = [
     (
         b"hello B bb\nput B.t <- D\ngrant A\nsees\nquit\n",
         b"hello B\nok 1\nok 2\nsees B\nbye\n",
@@ -322,7 +322,7 @@ const BESIDE_WORKERS: [Talk; 3] = [
 ];
 
 /// After the stop. What searches were told stays, and nobody goes on with a new one.
-const AFTER_THE_STOP: [Talk; 2] = [
+static AFTER_THE_STOP: [Talk; 2] = [
     (
         b"hello A a\nwait 3\nask A.r D\nwait 4\npoll 4\nproof 4 D\nend 4\nquit\n",
         b"hello A\nno\nsearch 4\nworking\nworking\nerror 52 not done\nended\nbye\n",

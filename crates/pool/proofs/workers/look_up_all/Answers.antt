@@ -1,8 +1,9 @@
-use Rattle.std.proofs.Common.{◌≡◌, ◌∙◌, ◌+◌, ℕ, List, Some, ◌<◌, ap, sym, subst, arith}
+use Rattle.std.proofs.Common.{◌≡◌, ◌∙◌, ◌+◌, ℕ, List, [], Some, ◌<◌, length, ap, sym, subst, refl, arith}
 use Rattle.std.specs.List.{AllWithin}
 use Rattle.std.proofs.lemmas.List.Elements.{AllWithin-more}
 use Rattle.std.proofs.lemmas.Option.{get_or_from_slice_get}
 use Rattle.search.specs.Batches.{TakenLetter, BatchState, IsNextLetter}
+use Rattle.pool.specs.Workers.{AreLetThrough}
 use Rattle.pool.proofs.workers.look_up_all.Goals as goal
 
 -- the gate let one letter more pass
@@ -25,6 +26,17 @@ loop-letter-preserved g c = record {
   same = c.look_up.ensures
       ∙ ap (λ (b : BatchState). record b { looked = c.loop-letter.batch.looked + 1 }) c.loop-letter.invariant.same
       ∙ sym (ap (λ (b : BatchState). record c.args.batch.now { looked = b.looked }) c.look_up.ensures);
+}
+
+-- where there is no letter
+none_through : (P : List ℕ → ℕ → ℕ → Type 0) (letters : List TakenLetter) → letters ≡ [] → AreLetThrough P letters
+none_through P letters none k d below = absurd (omega (arith, ap length none, below))
+
+pub returns-in_default : goal.returns-in_default
+returns-in_default g c = record {
+  looked_up = c.requires ∙ sym (ap length c.in_default.ensures.letters);
+  let_through = none_through g.G.Gate.LetThrough c.args.batch.now.letters c.in_default.ensures.letters;
+  same = refl;
 }
 
 pub returns : goal.returns
