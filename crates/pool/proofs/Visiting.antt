@@ -9,7 +9,7 @@ use Rattle.hall.specs.Hall.{HallState}
 use Rattle.search.specs.Need.{right_hint}
 use Rattle.search.specs.Batches.{TakenLetter}
 use Rattle.hall.specs.Visits.{SearchIsQuiet, NothingToDo, IsWorkedOn, IsVisited, IsHandedIn, AreHandedIn}
-use Rattle.pool.specs.Rooms.{RoomState, IsIdle}
+use Rattle.pool.specs.Rooms.{RoomState, IsIdle, IsKept}
 use Rattle.pool.specs.Workers.{VisitsOne, IsFound, WasStopped}
 use Rattle.pool.specs.declared.visits.TheConstants.{BATCH}
 use Rattle.pool.specs.declared.visits.Found.{Found}
@@ -50,13 +50,19 @@ stopped_there r busy (inr idle) = decide r.stopped refl
 
 -- a search that was picked is visited in the same room
 pub visits_there : {who : List ℕ} {number : ℕ} {there at : RoomState} {told : Result (Unit {0}) Fault} {new : HallState} {taken : List TakenLetter} →
-    there ≡ at → (SearchIsQuiet there.hall who number → ⊥) → IsVisited who number BATCH at.hall told new taken → VisitsOne at.hall told new taken
-visits_there {who} {number} same left visited = record {
-  who = who;
-  number = number;
-  left = subst (λ (r : RoomState). SearchIsQuiet r.hall who number → ⊥) same left;
-  visited = visited;
-}
+    there ≡ at → IsKept there → (SearchIsQuiet there.hall who number → ⊥) → IsVisited who number BATCH at.hall told new taken →
+    (r : RoomState) × (after : HallState) × IsKept r × VisitsOne r.hall told after taken
+visits_there {who} {number} {there} {at} {told} {new} same kept left visited = (
+  at,
+  new,
+  subst IsKept same kept,
+  record {
+    who = who;
+    number = number;
+    left = subst (λ (r : RoomState). SearchIsQuiet r.hall who number → ⊥) same left;
+    visited = visited;
+  },
+)
 
 -- a visit that neither found work nor lacked memory found that the desk was stopped
 pub stop_found : (found : Found) (letters : List TakenLetter) → IsFound found letters → (found ≡ Work → ⊥) → (found ≡ NoMemory → ⊥) → WasStopped

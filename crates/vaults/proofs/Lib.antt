@@ -11,3 +11,4 @@ pub mod Merging
 pub mod Granting
 pub mod Keeping
 pub mod OwedLemmas
+pub mod Outcomes

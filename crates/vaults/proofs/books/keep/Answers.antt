@@ -4,15 +4,8 @@ use Rattle.vaults.specs.declared.changes.Change.{Change}
 use Rattle.vaults.specs.Journal.{concerns, is_for_all, revokes}
 use Rattle.vaults.specs.Book.{KeepsGrant, KeepsPublic}
 use Rattle.vaults.proofs.Granting.{granting_stays, public_stays, of_rows, granting_undone, public_undone}
+use Rattle.vaults.proofs.Outcomes.{on_ok, on_err}
 use Rattle.vaults.proofs.books.keep.Goals as goal
-
-on_ok : {T E P : Type 0} (r : Result T E) → P → OnOk r P
-on_ok (Ok x) p = p
-on_ok (Err e) p = tt
-
-on_err : {T E P : Type 0} (r : Result T E) → P → OnErr r P
-on_err (Ok x) p = tt
-on_err (Err e) p = p
 
 none_on_ok : {T E : Type 0} (P : Type 0) (r : Result T E) → is_err r ≡ true → OnOk r P
 none_on_ok P (Ok x) failed = cc

@@ -1,14 +1,11 @@
-use Rattle.std.proofs.Common.{List, ℕ, Result, Ok, Err, OnErr, Some, Option, unwrap_or, is_some, ◌≡◌, ◌∙◌, sym, ap, refl, cond}
+use Rattle.std.proofs.Common.{List, ℕ, Some, Option, unwrap_or, is_some, ◌≡◌, ◌∙◌, sym, ap, refl, cond}
 use Rattle.std.specs.Ordering.{eq_by_cmp}
 use Rattle.std.specs.BTreeMap.{BTreeMap, get}
 use Rattle.names.specs.Name.{name_order}
 use Rattle.vaults.specs.Page.{Leaf, PageState, empty_leaf, page_after, page_at}
 use Rattle.vaults.proofs.PageWrites.{page_there, page_kept, page_same}
+use Rattle.vaults.proofs.Outcomes.{on_err}
 use Rattle.vaults.proofs.books.keep_on_page.Goals as goal
-
-on_err : {T E P : Type 0} (r : Result T E) → P → OnErr r P
-on_err (Ok x) p = tt
-on_err (Err e) p = p
 
 pub returns-in_err-keep-in-Some-clause-unchanged : goal.returns-in_err-keep-in-Some-clause-unchanged
 returns-in_err-keep-in-Some-clause-unchanged c =

@@ -1,6 +1,6 @@
 use Rattle.std.proofs.Common.{◌∙◌, rules, subst, sym, refl}
 use Rattle.std.specs.Sync.Mutex.{mutex_guard_value}
-use Rattle.pool.specs.Rooms.{RoomState, IsIdle, IsKept}
+use Rattle.pool.specs.Rooms.{RoomState, IsIdle}
 use Rattle.pool.proofs.Visiting.{stopped_there, visits_there}
 use Rattle.pool.proofs.desks.Desk.visit.Goals as goal
 
@@ -18,27 +18,15 @@ returns-in_default g c =
     }
 
 pub returns-in-Ok : goal.returns-in-Ok
-returns-in-Ok g c =
-    let same = c.deref.ensures ∙ sym c.deref_mut.ensures.value in record {
-      found = (
-        c.deref_mut.result.now,
-        c.visit-made.new.self.hall,
-        subst IsKept same c.pick.ensures.kept,
-        visits_there same c.in-Some.ensures.left c.in-Ok.ensures.visited,
-      );
-      looked = c.visit-made.ensures.looked;
-      space = c.visit-made.ensures.space;
-    }
+returns-in-Ok g c = record {
+  found = visits_there (c.deref.ensures ∙ sym c.deref_mut.ensures.value) c.pick.ensures.kept c.in-Some.ensures.left c.in-Ok.ensures.visited;
+  looked = c.visit-made.ensures.looked;
+  space = c.visit-made.ensures.space;
+}
 
 pub returns-in-Err : goal.returns-in-Err
-returns-in-Err g c =
-    let same = c.deref.ensures ∙ sym c.deref_mut.ensures.value in record {
-      found = (
-        c.deref_mut.result.now,
-        c.visit-made.new.self.hall,
-        subst IsKept same c.pick.ensures.kept,
-        visits_there same c.in-Some.ensures.left c.in-Err.ensures.visited,
-      );
-      looked = c.visit-made.ensures.looked;
-      space = c.visit-made.ensures.space;
-    }
+returns-in-Err g c = record {
+  found = visits_there (c.deref.ensures ∙ sym c.deref_mut.ensures.value) c.pick.ensures.kept c.in-Some.ensures.left c.in-Err.ensures.visited;
+  looked = c.visit-made.ensures.looked;
+  space = c.visit-made.ensures.space;
+}
