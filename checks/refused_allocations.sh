@@ -3,18 +3,20 @@
 # until a run makes fewer. A test may then end with want of memory; no answer may differ from what the test wants, and
 # nothing may crash. Needs a C compiler, for a small library that is loaded before the C library's own allocator.
 #
-#   checks/refused_allocations.sh CRATE[:TEST]..  (each: proves the crate's tests first, where they aren't built yet)
-#   checks/refused_allocations.sh --sample        (three crates of a search, 20 allocations of each test; and every one of a
-#                                                 search through a linked role in a hall, and of one from end to end at a desk)
+#   checks/refused_allocations.sh CRATE[:PATH]..  (each: proves the crate's tests first, where they aren't built yet)
+#   checks/refused_allocations.sh --sample        (of the graph, the monitors and a search, 20 allocations of each test; and every
+#                                                 one of a search through a linked role in a hall, and of one from end to end at
+#                                                 a desk)
 #
-# A test that makes more than 4,000 allocations, or MOST_RUNS, is run about so often, with allocations at equal distances; one
-# that is named is run for each. Prints how many allocations the tests make, how many runs ended well though one was
-# refused, how many with want of memory, and every run that ended otherwise. Its last line is `N passed, M failed`, of what
-# was asked for. The status is 1 where one failed.
+# With a PATH it runs the tests whose path holds it: those of a module, or one test. A test that makes more than 4,000
+# allocations, or MOST_RUNS, is run about so often, with allocations at equal distances; one that is named is run for each.
+# Prints how many allocations the tests make, how many runs ended well though one was refused, how many with want of memory,
+# and every run that ended otherwise. Its last line is `N passed, M failed`, of what was asked for. The status is 1 where one
+# failed.
 set -eu
 if [ "${1-}" = --sample ]; then
     MOST_RUNS=20
-    set -- cred_graph monitors search hall:a_linked_role_with_its_proof pool:a_whole_life_of_a_search
+    set -- search:of_cred_graph search:of_monitors search:tests:: hall:a_linked_role_with_its_proof pool:a_whole_life_of_a_search
 fi
 root=$(cd "$(dirname "${BASH_SOURCE[0]}")/.." && pwd)
 work=$(mktemp -d)
@@ -37,13 +39,13 @@ for asked in "$@"; do
     tests=$root/crates/$crate/out/${crate}_tests
     [ -x "$tests" ] || (cd "$root/crates/$crate" && rt test) > "$work/log" 2>&1 || { cat "$work/log"; exit 1; }
     all=0 well=0 lacked=0 other=0
-    for test in $("$tests" --list | sed -n "s/^\(.*$only\): test\$/\1/p"); do
+    for test in $("$tests" --list | sed -n 's/: test$//p' | grep -F -- "$only"); do
         one "$test" 0
         [ "$status" -eq 0 ] || { cat "$work/out"; exit 1; }
         count=$(cat "$work/count")
         all=$((all + count))
         apart=$(((count + most - 1) / most))
-        [ -z "$only" ] || apart=1
+        [ -z "$only" ] || [ "${test%"::$only"}" = "$test" ] || apart=1
         for ((n = 1; n <= count; n += apart)); do
             one "$test" "$n"
             if [ "$status" -eq 0 ]; then

@@ -16,8 +16,6 @@ mod numbers;
 mod ports;
 mod reasons;
 mod solutions;
-#[cfg(test)]
-mod tests;
 
 pub use graphs::Graph;
 pub use listeners::{Listening, Port};

@@ -13,8 +13,6 @@ mod faults;
 mod intersections;
 mod laws;
 mod reading;
-#[cfg(test)]
-mod tests;
 mod writing;
 
 pub use credentials::Credential;

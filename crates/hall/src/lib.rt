@@ -20,6 +20,8 @@ mod seats;
 mod tenants;
 #[cfg(test)]
 mod tests;
+#[cfg(test)]
+mod tests_below;
 
 pub use calls::{Answer, Event, Reply, Request, Step, Stepped};
 pub use faults::Fault;

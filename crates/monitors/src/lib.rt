@@ -13,8 +13,6 @@ mod link_monitors;
 mod meet_monitors;
 mod meet_tables;
 mod tellers;
-#[cfg(test)]
-mod tests;
 
 pub use keyed_meets::KeyedMeet;
 pub use keys::Key;

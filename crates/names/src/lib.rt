@@ -13,8 +13,6 @@ mod laws;
 mod reading;
 mod role_names;
 mod roles;
-#[cfg(test)]
-mod tests;
 pub mod texts;
 
 pub use entities::Entity;

@@ -15,12 +15,8 @@ mod premises;
 mod proofs;
 mod proving;
 mod rules;
-#[cfg(test)]
-mod search_tests;
 mod standing;
 mod steps;
-#[cfg(test)]
-mod tests;
 mod writing;
 
 pub use checking::check_proof;

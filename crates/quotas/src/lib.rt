@@ -7,8 +7,6 @@
 
 mod faults;
 mod limits;
-#[cfg(test)]
-mod tests;
 
 pub use faults::QuotaFault;
 pub use limits::{Limits, Used};

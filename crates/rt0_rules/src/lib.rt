@@ -11,8 +11,6 @@ mod asks;
 mod facts;
 mod laws;
 mod members;
-#[cfg(test)]
-mod tests;
 mod work;
 
 pub use laws::{membership_is_exact, work_is_exact};

@@ -13,8 +13,6 @@ mod letters;
 mod parents;
 mod signals;
 mod slots;
-#[cfg(test)]
-mod tests;
 
 pub use diffusions::Diffusion;
 pub use letters::Letter;

@@ -28,6 +28,8 @@ mod stages;
 mod telling;
 #[cfg(test)]
 mod tests;
+#[cfg(test)]
+mod tests_below;
 
 pub use batches::Batch;
 pub use carried::Carried;

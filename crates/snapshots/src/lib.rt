@@ -9,8 +9,6 @@ mod holdings;
 mod snapshots;
 mod spans;
 mod steps;
-#[cfg(test)]
-mod tests;
 
 pub use snapshots::Snapshot;
 pub use spans::Span;

@@ -23,8 +23,6 @@ mod own_rows;
 mod pages;
 mod parting;
 mod rows;
-#[cfg(test)]
-mod tests;
 mod versions;
 
 pub use books::Book;

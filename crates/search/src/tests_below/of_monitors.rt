@@ -1,0 +1,205 @@
+ghost use Rattle.std.specs.Prelude.{◌≡◌, ◌<◌, OnOk, Contains};
+
+use monitors::{LinkMonitor, MeetMonitor};
+use names::Entity;
+use std::alloc::{AllocError, Global};
+use std::test::Fail;
+
+/// Tells it again where memory is refused, so that a test sees that the refusal changed nothing.
+fn tell_base(monitor: &mut LinkMonitor, base: Entity) -> Result<bool, AllocError>
+    ensures { OnOk result (Contains monitor.new.bases base) }
+{
+    match monitor.base_told(base) {
+        Ok(is_new) => Ok(is_new),
+        Err(_) => monitor.base_told(base),
+    }
+}
+
+fn tell_via(monitor: &mut LinkMonitor, base: Entity, who: Entity) -> Result<bool, AllocError>
+    requires { Contains monitor.old.bases base }
+{
+    match monitor.via_told(base, who) {
+        Ok(is_new) => Ok(is_new),
+        Err(_) => monitor.via_told(base, who),
+    }
+}
+
+fn tell_part(monitor: &mut MeetMonitor, part: u8, who: Entity) -> Result<bool, AllocError>
+    requires { part < monitor.old.parts }
+    ensures { monitor.new.parts ≡ monitor.old.parts }
+{
+    match monitor.part_told(part, who) {
+        Ok(is_last) => Ok(is_last),
+        Err(_) => monitor.part_told(part, who),
+    }
+}
+
+#[test]
+fn a_linked_role_hears_each_member_once(rt: HostRuntime) -> Result<(), Fail> {
+    let b = Entity::read(b"B")?;
+    let c = Entity::read(b"C")?;
+    let d = Entity::read(b"D")?;
+    let mut monitor = LinkMonitor::new(rt.alloc());
+    assert_eq!(rt; tell_base(&mut monitor, b)?, true);
+    assert_eq!(rt; tell_base(&mut monitor, b)?, false);
+    assert_eq!(rt; tell_via(&mut monitor, b, d)?, true);
+    assert_eq!(rt; tell_base(&mut monitor, c)?, true);
+    assert_eq!(rt; tell_via(&mut monitor, c, d)?, false);
+    Ok(())
+}
+
+#[test]
+fn an_intersection_hears_its_last_part_once(rt: HostRuntime) -> Result<(), Fail> {
+    let d = Entity::read(b"D")?;
+    let mut monitor = MeetMonitor::make(rt.alloc(), 2);
+    assert_eq!(rt; tell_part(&mut monitor, 0, d)?, false);
+    assert_eq!(rt; tell_part(&mut monitor, 0, d)?, false);
+    assert_eq!(rt; tell_part(&mut monitor, 1, d)?, true);
+    assert_eq!(rt; tell_part(&mut monitor, 1, d)?, false);
+    Ok(())
+}
+
+#[test]
+fn each_entity_needs_every_part(rt: HostRuntime) -> Result<(), Fail> {
+    let d = Entity::read(b"D")?;
+    let e = Entity::read(b"E")?;
+    let mut monitor = MeetMonitor::make(rt.alloc(), 3);
+    assert_eq!(rt; tell_part(&mut monitor, 2, d)?, false);
+    assert_eq!(rt; tell_part(&mut monitor, 0, e)?, false);
+    assert_eq!(rt; tell_part(&mut monitor, 1, e)?, false);
+    assert_eq!(rt; tell_part(&mut monitor, 0, d)?, false);
+    assert_eq!(rt; tell_part(&mut monitor, 2, e)?, true);
+    assert_eq!(rt; tell_part(&mut monitor, 1, d)?, true);
+    Ok(())
+}
+
+/// Tells a base after these. Whether the base is new, and a refused telling left these told and the base untold.
+fn hears_new_base(
+    monitor: &mut LinkMonitor,
+    earlier: &[Entity],
+    base: Entity,
+) -> Result<bool, AllocError> {
+    if let Ok(is_new) = monitor.base_told(base) {
+        return Ok(is_new);
+    }
+    for known in earlier {
+        if monitor.base_told(*known)? {
+            return Ok(false);
+        }
+    }
+    monitor.base_told(base)
+}
+
+/// The same for an entity that came by way of a base.
+fn hears_new_member(
+    monitor: &mut LinkMonitor,
+    earlier: &[Entity],
+    base: Entity,
+    who: Entity,
+) -> Result<bool, AllocError>
+    requires { Contains monitor.old.bases base }
+{
+    if let Ok(is_new) = monitor.via_told(base, who) {
+        return Ok(is_new);
+    }
+    for known in earlier {
+        if monitor.base_told(base)? || monitor.via_told(base, *known)? {
+            return Ok(false);
+        }
+    }
+    Ok(!monitor.base_told(base)? && monitor.via_told(base, who)?)
+}
+
+/// The same for an entity that the first of two parts tells: none of them completes.
+fn hears_first_part(
+    monitor: &mut MeetMonitor,
+    earlier: &[Entity],
+    who: Entity,
+) -> Result<bool, AllocError>
+    requires { monitor.old.parts ≡ 2 }
+    ensures { monitor.new.parts ≡ 2 }
+{
+    if let Ok(is_last) = monitor.part_told(0, who) {
+        return Ok(!is_last);
+    }
+    for known in earlier {
+        if monitor.part_told(0, *known)? {
+            return Ok(false);
+        }
+    }
+    Ok(!monitor.part_told(0, who)?)
+}
+
+/// Tells each of the entities as a base, and by way of itself. The place of the first that isn't heard as new.
+fn first_unheard(
+    monitor: &mut LinkMonitor,
+    entities: &[Entity],
+) -> Result<Option<usize>, AllocError> {
+    for (place, who) in entities.iter().enumerate() {
+        let earlier = &entities[..place];
+        if !hears_new_base(monitor, earlier, *who)? || monitor.base_told(*who)? {
+            return Ok(Some(place));
+        }
+        if !hears_new_member(monitor, earlier, *who, *who)? {
+            return Ok(Some(place));
+        }
+    }
+    Ok(None)
+}
+
+/// Tells each of the entities by the first of two parts. The place of the first that completes by it.
+fn first_complete(
+    monitor: &mut MeetMonitor,
+    entities: &[Entity],
+) -> Result<Option<usize>, AllocError>
+    requires { monitor.old.parts ≡ 2 }
+    ensures { monitor.new.parts ≡ 2 }
+{
+    for (place, who) in entities.iter().enumerate() {
+        if !hears_first_part(monitor, &entities[..place], *who)? {
+            return Ok(Some(place));
+        }
+    }
+    Ok(None)
+}
+
+/// Tells each of the entities by the second of two parts. The place of the first that doesn't complete by it, once.
+fn first_incomplete(
+    monitor: &mut MeetMonitor,
+    entities: &[Entity],
+) -> Result<Option<usize>, AllocError>
+    requires { monitor.old.parts ≡ 2 }
+{
+    for (place, who) in entities.iter().enumerate() {
+        if !monitor.part_told(1, *who)? || monitor.part_told(1, *who)? {
+            return Ok(Some(place));
+        }
+    }
+    Ok(None)
+}
+
+/// Nine entities.
+fn nine(alloc: Global) -> Result<Vec<Entity>, Fail> {
+    let mut entities = Vec::with_capacity(alloc, 9)?;
+    for name in ["B", "C", "D", "E", "F", "G", "H", "I", "J"] {
+        entities.push(Entity::read(name.as_bytes())?)?;
+    }
+    Ok(entities)
+}
+
+#[test]
+fn a_refused_telling_changes_no_linked_role(rt: HostRuntime) -> Result<(), Fail> {
+    let entities = nine(rt.alloc())?;
+    let mut monitor = LinkMonitor::new(rt.alloc());
+    assert_eq!(rt; first_unheard(&mut monitor, &entities)?, None);
+    Ok(())
+}
+
+#[test]
+fn a_refused_telling_changes_no_intersection(rt: HostRuntime) -> Result<(), Fail> {
+    let entities = nine(rt.alloc())?;
+    let mut monitor = MeetMonitor::make(rt.alloc(), 2);
+    assert_eq!(rt; first_complete(&mut monitor, &entities)?, None);
+    assert_eq!(rt; first_incomplete(&mut monitor, &entities)?, None);
+    Ok(())
+}
