@@ -18,10 +18,6 @@ mod run_laws;
 mod running;
 mod seats;
 mod tenants;
-#[cfg(test)]
-mod tests;
-#[cfg(test)]
-mod tests_below;
 
 pub use calls::{Answer, Event, Reply, Request, Step, Stepped};
 pub use faults::Fault;

@@ -15,6 +15,8 @@ mod passes;
 mod rooms;
 #[cfg(test)]
 mod tests;
+#[cfg(test)]
+mod tests_below;
 mod verdicts;
 mod visits;
 mod workers;

@@ -1,10 +1,10 @@
 //! Events as a table writes them, and what a table wants each to be answered.
 use super::entity;
-use crate::{
+use credential_text::read_credential;
+use hall::{
     Answer, Event, Fault, Hall, Names, Proof, Query, Reply, Request, Rows, Sights, Step, Stepped,
     write_proof,
 };
-use credential_text::read_credential;
 use names::Role;
 use search::{Hint, Need};
 use std::alloc::{AllocError, Global};

@@ -8,11 +8,11 @@ mod public_reading;
 mod runs;
 mod worlds;
 
-use crate::{
+use credential_text::{Credential, Expr};
+use hall::{
     Fault, Names, answers_are_true, refusals_come_first, runs_are_allowed, scripts_are_exact,
     scripts_are_isolated, two_worlds,
 };
-use credential_text::{Credential, Expr};
 use names::{Entity, Role};
 use quotas::QuotaFault;
 use std::alloc::Global;

@@ -1,7 +1,7 @@
 //! Letters that are taken from a hall, and what becomes of them.
 use super::runs::two_tenants;
 use super::{credential, entity};
-use crate::{Answer, Fault, Hall, Job, Query, Step, Stepped, told_of};
+use hall::{Answer, Fault, Hall, Job, Query, Step, Stepped, told_of};
 use names::{Entity, Role};
 use quotas::Limits;
 use search::Hint;
@@ -33,8 +33,9 @@ fn goes_back(hall: &mut Hall, a: Entity) -> Result<bool, Fail> {
 /// Whether it is the first letter of A's first search, and is finished by what is looked up for it.
 fn goes_through(hall: &mut Hall, a: Entity) -> Result<bool, Fail> {
     let job = taken(hall, a)?;
-    let is_first = job.who == a && job.number == 1 && job.task.letter == 1;
     let hint = job.look_up();
+    let is_first = matches!(hall.step(Step::GiveBack(a, 1, 1)), Stepped::Back)
+        && matches!(hall.step(Step::Take(a, 1, 0)), Stepped::Took(1, _));
     Ok(matches!(hall.finish(job, hint), Stepped::Done) && is_first)
 }
 

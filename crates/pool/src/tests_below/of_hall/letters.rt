@@ -2,7 +2,7 @@
 use super::acts::{Act, Told, first_wrong};
 use super::entity;
 use super::runs::{ANSWERED, ASKED, two_tenants};
-use crate::{Batch, Event, Hall, Reply, Step, Stepped};
+use hall::{Batch, Event, Hall, Reply, Step, Stepped};
 use names::Entity;
 use search::Hint;
 use snapshots::Span;

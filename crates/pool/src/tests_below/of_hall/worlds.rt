@@ -3,8 +3,8 @@
 ghost use Rattle.std.specs.Prelude.{◌<◌};
 
 use super::entity;
-use crate::{Answer, Fault, Hall, Query};
 use credential_text::{Credential, read_credential};
+use hall::{Answer, Fault, Hall, Query};
 use names::{Entity, Role};
 use proof_trees::check_proof;
 use quotas::Limits;

@@ -1,7 +1,7 @@
 //! Whole runs of events, with each reply.
 use super::acts::{Act, Told, first_wrong};
 use super::entity;
-use crate::Hall;
+use hall::Hall;
 use quotas::Limits;
 use search::Hint;
 use snapshots::Span;

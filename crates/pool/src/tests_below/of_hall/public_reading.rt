@@ -2,7 +2,7 @@
 use super::acts::{Act, Told, first_wrong};
 use super::entity;
 use super::worlds::tells;
-use crate::Hall;
+use hall::Hall;
 use quotas::Limits;
 use std::alloc::Global;
 use std::test::Fail;

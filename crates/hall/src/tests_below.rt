@@ -1,4 +1,0 @@
-//! The tests of the crates between a search and a hall. They stand here since a crate with tests is proved a second time with them.
-mod of_proof_trees;
-mod of_proofs_found;
-mod of_quotas;
