@@ -1,12 +1,11 @@
 //! The commands of a script.
 ghost use Rattle.std.specs.Prelude.{◌≡◌, ◌≤◌, ◌⊎◌, [], ◌∷◌, None, Some, length, IfOk, IfErr};
-ghost use Rattle.std.specs.Str.{bytes_eq};
 ghost use Rattle.credential_text.specs.{declared.faults.CredFault.CredFault, Spelling.Spells};
 ghost use Rattle.credential_text.specs.Refusal as credential;
 ghost use Rattle.service.specs.Command.{form_of, form_in, forms_with, Reads};
 
 use crate::refusals::Refusal;
-use crate::words::{Arguments, next_word, number, split_words};
+use crate::words::{Arguments, is_same, next_word, number, split_words};
 use credential_text::{CredFault, Credential, read_credential};
 use hall::{Query, Request};
 use names::{Entity, Role};
@@ -85,13 +84,6 @@ fn read_with_two(verb: &[u8], first: &[u8], second: &[u8]) -> Result<Command, Re
     } else {
         Err(Refusal::Command)
     }
-}
-
-/// Whether a word is this one.
-fn is_same(word: &[u8], other: &[u8]) -> bool
-    ensures { result ≡ bytes_eq word.now other.now }
-{
-    word == other
 }
 
 /// The credential that the text spells.

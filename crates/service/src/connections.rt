@@ -77,9 +77,9 @@ struct Says<'a> {
 impl Read for Says<'_> {
     fn read(&mut self, buf: &mut [u8]) -> io::Result<usize> {
         self.arrivals.go_on()?;
-        let count = self.stream.read(buf)?;
+        let read = self.stream.read(buf);
         self.arrivals.go_on()?;
-        Ok(count)
+        read
     }
 }
 
@@ -150,9 +150,9 @@ fn accept_all<R: Wait + Clock, S: OpenListener>(
             return Ok(count);
         }
         let stream = next_connection(rt, listener)?;
-        if queue.send(rt, stream).is_err() {
+        let Ok(()) = queue.send(rt, stream) else {
             return Err(ServeFault::Memory);
-        }
+        };
         count = count.saturating_add(1);
     }
     unreachable!()

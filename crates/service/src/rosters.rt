@@ -9,7 +9,7 @@ ghost use Rattle.service.specs.Roster.{IsLimits, IsRow, IsTenant, names_of, tena
 use crate::faults::ScriptFault;
 use crate::lines::{LineReader, NextLine};
 use crate::replies::{WriteFault, write_reply};
-use crate::words::{is_word, next_word, number};
+use crate::words::{is_same, is_word, next_word, number};
 use hall::{Fault, Hall};
 use names::Entity;
 use names::texts::is_blank;
@@ -170,7 +170,7 @@ fn read_row(text: &[u8]) -> Option<(Entity, &[u8], Limits)>
     ensures none { IfNone result ((row : roster.Row) → IsRow text.now row → ⊥) }
 {
     if let Some((first, rest)) = next_word(text)
-        && first == b"tenant".as_slice()
+        && is_same(first, b"tenant")
         && let Some((name, rest)) = next_word(rest)
         && let Some((word, rest)) = next_word(rest)
         && word.len() <= MOST_WORD

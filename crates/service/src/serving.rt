@@ -140,10 +140,10 @@ fn answer_beside_workers<L: Ledger + Send + Sync, R: Threads + Wait + Clock + Sy
             };
             let answered = answer_connections(rt, alloc, desk, roster, listener, options);
             desk.stop(rt);
-            let worked = working.join(rt);
-            let count = answered?;
-            worked_well(worked)?;
-            Ok(count)
+            match worked_well(working.join(rt)) {
+                Err(fault) if answered.is_ok() => Err(fault),
+                _ => answered,
+            }
         },
     )
 }

@@ -9,7 +9,7 @@ use crate::lines::LineReader;
 use crate::refusals::Refusal;
 use crate::replies::{Room, Speaker, fill_error, fill_hello, fill_reply, fill_text};
 use crate::rosters::Roster;
-use crate::words::{Arguments, is_word, next_word, split_words};
+use crate::words::{Arguments, is_same, is_word, next_word, split_words};
 use hall::Reply;
 use names::Entity;
 use pool::{Desk, DeskFault, Pass};
@@ -109,7 +109,7 @@ impl<L: Ledger, R: Wait> Session<'_, L, R> {
         ensures { IsLetIn self.now.rows (greeting_in (words line.now)) result }
     {
         let said = match next_word(line) {
-            Some((first, said)) if first == b"hello".as_slice() => said,
+            Some((first, said)) if is_same(first, b"hello") => said,
             _ => return Err(Refusal::NoHello),
         };
         let Arguments::Two(name, word) = split_words(said) else {

@@ -1,6 +1,6 @@
 //! The words of a line.
 ghost use Rattle.std.specs.Prelude.{◌≡◌, ◌↔◌, [], ◌∷◌, IsTrue, MatchOption, IfSome};
-ghost use Rattle.{std.specs.List.list_all, names.specs.Name.is_digit};
+ghost use Rattle.{std.specs.List.list_all, std.specs.Str.bytes_eq, names.specs.Name.is_digit};
 ghost use Rattle.service.specs.Words.{words, after_word, AreArguments, is_number, number_of};
 
 use names::texts::{cut, trim_start};
@@ -20,6 +20,13 @@ pub(crate) fn next_word(text: &[u8]) -> Option<(&[u8], &[u8])>
     }
     let (word, rest) = cut(text, b' ');
     Some((word, rest.unwrap_or(&[])))
+}
+
+/// Whether a word is this one.
+pub(crate) fn is_same(word: &[u8], other: &[u8]) -> bool
+    ensures { result ≡ bytes_eq word.now other.now }
+{
+    word == other
 }
 
 /// Whether the text has this word and no other.

@@ -7,13 +7,13 @@ use Rattle.service.specs.LineReader.{unread_bytes}
 use Rattle.service.proofs.TakenLemmas.{Consumes-more, take-push_kept, HasNoNewline-push, same-at_end, IsAtEnd-at_none}
 use Rattle.service.proofs.lines.take_line.Goals as goal
 
-pub returns-then-byte-eq10-clause-taken : goal.returns-then-byte-eq10-clause-taken
-returns-then-byte-eq10-clause-taken g c =
+pub returns-then-byte-eq10 : goal.returns-then-byte-eq10
+returns-then-byte-eq10 g c =
     let s = c.loop-byte.invariant.taken in
     let old = unread_bytes g.R.Read.remaining c.loop-byte.bytes in
     let new = unread_bytes g.R.Read.remaining c.next.new.self in
     let one = IfOk-at_ok (λ b. Consumes old new (b ∷ [])) c.in-Ok.is c.in-Some.ensures.steps in
-    (s.0, s.1, s.2, rw (← c.if-byte-eq10.true) (Consumes-more _ _ _ s.0 _ s.3 one))
+    record { taken = (s.0, s.1, s.2, rw (← c.if-byte-eq10.true) (Consumes-more _ _ _ s.0 _ s.3 one)); room = c.loop-byte.invariant.room }
 
 pub loop-byte-preserved-then-len-lt-KEPT : goal.loop-byte-preserved-then-len-lt-KEPT
 loop-byte-preserved-then-len-lt-KEPT g c =
@@ -49,7 +49,10 @@ loop-byte-preserved g c =
       finite = tt;
     }
 
-pub returns-clause-taken : goal.returns-clause-taken
-returns-clause-taken g c =
+pub returns : goal.returns
+returns g c =
     let s = c.loop-byte.invariant.taken in
-    (s.0, s.1, s.2, same-at_end _ _ s.0 s.3 (IsAtEnd-at_none c.next.result _ (unread_bytes g.R.Read.remaining c.next.new.self) c.in_default.not-Some c.next.ensures.steps))
+    record {
+      taken = (s.0, s.1, s.2, same-at_end _ _ s.0 s.3 (IsAtEnd-at_none c.next.result _ (unread_bytes g.R.Read.remaining c.next.new.self) c.in_default.not-Some c.next.ensures.steps));
+      room = c.loop-byte.invariant.room;
+    }

@@ -14,15 +14,20 @@ loop-sent-preserved g c =
       appended = Appends-sent _ (g.W.Write.contents c.loop-sent.writer) _ reply sent c.in-Ok.count s.appended c.in-Ok.ensures.bytes;
     }
 
-pub returns-in-Ok-eq0-clause-err : goal.returns-in-Ok-eq0-clause-err
-returns-in-Ok-eq0-clause-err g c =
+pub returns-in-Ok-eq0 : goal.returns-in-Ok-eq0
+returns-in-Ok-eq0 g c =
     let none : c.in-Ok-eq0.field-0 ≡ 0 = omega arith in
-    WritesFront-sent _ (g.W.Write.contents c.loop-sent.writer) _ c.args.reply.now c.loop-sent.sent (omega arith) c.loop-sent.invariant.appended
-    (Keeps-nothing (g.W.Write.contents c.loop-sent.writer) _ (rw none at c.in-Ok-eq0.ensures.bytes))
+    record {
+      ok = tt;
+      err = WritesFront-sent _ (g.W.Write.contents c.loop-sent.writer) _ c.args.reply.now c.loop-sent.sent (omega arith) c.loop-sent.invariant.appended
+          (Keeps-nothing (g.W.Write.contents c.loop-sent.writer) _ (rw none at c.in-Ok-eq0.ensures.bytes));
+    }
 
-pub returns-in-Err-clause-err : goal.returns-in-Err-clause-err
-returns-in-Err-clause-err g c =
-    WritesFront-sent _ (g.W.Write.contents c.loop-sent.writer) _ c.args.reply.now c.loop-sent.sent (omega arith) c.loop-sent.invariant.appended c.in-Err.ensures.bytes
+pub returns-in-Err : goal.returns-in-Err
+returns-in-Err g c = record {
+  ok = tt;
+  err = WritesFront-sent _ (g.W.Write.contents c.loop-sent.writer) _ c.args.reply.now c.loop-sent.sent (omega arith) c.loop-sent.invariant.appended c.in-Err.ensures.bytes;
+}
 
-pub returns-clause-ok : goal.returns-clause-ok
-returns-clause-ok g c = rw (take_all c.loop-sent.sent c.args.reply.now (omega arith)) at c.loop-sent.invariant.appended
+pub returns : goal.returns
+returns g c = record { ok = rw (take_all c.loop-sent.sent c.args.reply.now (omega arith)) at c.loop-sent.invariant.appended; err = tt }

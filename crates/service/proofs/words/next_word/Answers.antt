@@ -14,14 +14,19 @@ behind : (visible word : List ℕ) (rest : Option (Bor (List ℕ))) (empty : Bor
 behind visible word None empty nothing first after whole = nothing ∙ after_first-none visible (whole ∙ first)
 behind visible word (Some r) empty nothing first after whole = after
 
-pub returns-then-is_empty-clause-found : goal.returns-then-is_empty-clause-found
-returns-then-is_empty-clause-found c =
-    words-none c.args.text.now (sym (ap length c.trim_start-text.ensures) ∙ eqb-true _ 0 (sym c.if-is_empty.ensures))
+pub returns-then-is_empty : goal.returns-then-is_empty
+returns-then-is_empty c = record {
+  found = words-none c.args.text.now (sym (ap length c.trim_start-text.ensures) ∙ eqb-true _ 0 (sym c.if-is_empty.ensures));
+  rest = tt;
+}
 
-pub returns-clause-found : goal.returns-clause-found
-returns-clause-found c =
+pub returns : goal.returns
+returns c =
     let visible = c.trim_start-text.result.now in
     let filled = eqb-false (length visible) 0 (sym c.if-is_empty.ensures) in
     let rest = behind visible c.cut.result.0.now c.cut.result.1 _ refl c.cut.ensures.before c.cut.ensures.after c.cut.ensures.whole in
-    words-cut c.args.text.now visible c.cut.result.0.now c.unwrap_or.result.now c.trim_start-text.ensures (omega (arith, filled)) c.cut.ensures.before
-    (ap (λ r. r.now) c.unwrap_or.ensures ∙ rest)
+    let after = ap (λ r. r.now) c.unwrap_or.ensures ∙ rest in
+    record {
+      found = words-cut c.args.text.now visible c.cut.result.0.now c.unwrap_or.result.now c.trim_start-text.ensures (omega (arith, filled)) c.cut.ensures.before after;
+      rest = after ∙ ap (after_first is_space) c.trim_start-text.ensures;
+    }

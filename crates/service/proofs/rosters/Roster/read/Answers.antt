@@ -1,5 +1,6 @@
 -- Each line adds a tenant, ends the roster, or ends the reading.
-use Rattle.std.proofs.Common.{◌<◌, length, arith, refl, sym, ◌∙◌}
+use Rattle.std.proofs.Common.{◌≡◌, ◌<◌, Bool, false, length, arith, refl, sym, ◌∙◌}
+use Rattle.std.specs.Prelude.{IsTrue}
 use Rattle.std.proofs.lemmas.Bool.{eqb-false, eqb-true}
 use Rattle.std.proofs.lemmas.List.{nil_from_length}
 use Rattle.std.proofs.lemmas.Result.{err_from_is_err_and}
@@ -7,6 +8,9 @@ use Rattle.service.proofs.RosterLemmas.{IsDistinct-none}
 use Rattle.service.proofs.RosterSteps.{SoFar-start, SoFar-blank, SoFar-row, ReadsRoster-refused, ReadsRoster-begin, ReadsRoster-failed, HasNoRoster-ended, AddsRow-writes_nothing}
 use Rattle.service.proofs.rosters.Roster.read.Goals as goal
 use Rattle.service.proofs.rosters.Roster.read.Goals.{then-is_blank, in-Text-3+in_ok-add_row-in-Text-3, then-not-is_empty+else-is_word, else-not-is_empty}
+
+apart : {b : Bool} → IsTrue b → b ≡ false → ⊥
+apart is other = cc
 
 pub loop-init : goal.loop-init
 loop-init g c = rw c.new-rows.ensures.items (record { left = SoFar-start c.args.lines.now; distinct = IsDistinct-none; most = omega arith })
@@ -29,7 +33,7 @@ returns-in_err-add_row-in-Text-3 g c =
           c.loop.invariant.left c.next.follows.holds-at-none (rw c.in-Text.is refl)
           c.add_row.new.rows.items _ (sym c.if-is_blank.ensures)
           (λ begin. elim c.if-not-is_empty.branch [
-            | then-not-is_empty+else-is_word w ↦ let found = w.is_word.ensures.1 begin in let other = w.if-is_word.false in absurd (cc)
+            | then-not-is_empty+else-is_word w ↦ absurd (apart (w.is_word.ensures.1 begin) w.if-is_word.false)
             | else-not-is_empty w ↦
                 nil_from_length c.loop.rows.items (omega (arith, eqb-true c.loop.rows.len 0 (sym c.is_empty.ensures ∙ w.if-not-is_empty.false), c.loop.rows.ok.0))
           ])

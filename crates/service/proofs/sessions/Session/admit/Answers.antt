@@ -13,4 +13,4 @@ returns-in-Ok g c =
     let same = ap (λ (s : SessionState). s.rows) c.self.view_is in
     let tenant = subst (λ (rows : List Row). IsTenant rows c.in-Two.name.now c.in-Two.word.now) same (c.check-is_known.ensures.tenant.0 known) in
     rw c.or.ensures (IsLetIn-tried c.args.self.now.rows c.args.line.now c.in-Some.first.now c.in-Two.name.now c.in-Two.word.now (words c.in-Some.said.now)
-    c.in-Some.ensures.found (rw c.as_slice.ensures at c.if-eq.ensures) c.in-Two.ensures tenant c.pass.result (rw c.in-Ok.ensures.entity at c.pass.ensures.tenant) c.pass.ensures.share c.pass.ensures.admitted)
+    c.in-Some.ensures.found c.if-is_same.ensures c.in-Two.ensures tenant c.pass.result (rw c.in-Ok.ensures.entity at c.pass.ensures.tenant) c.pass.ensures.share c.pass.ensures.admitted)
