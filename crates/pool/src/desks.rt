@@ -34,7 +34,6 @@ const TRIES: usize = 16;
 /// A hall under one lock, with the ledger of the accepted changes of which passes were told. The type `L` names the
 /// ledger, so a pass of another desk fits no call. All calls but `make` may wait for the lock, and what they ensure holds
 /// if they return. Contracts see of a desk the names of its tenants, which never change.
-#[derive(Drop)]
 pub struct Desk<L: Ledger> {
     pub(crate) alloc: Global,
     room: Mutex<Room<L>>,
@@ -52,6 +51,19 @@ impl<L: Ledger> Model for Desk<L> {
     ghost Value = { List (List ℕ) };
 
     ghost view = { λ d. d.over };
+}
+
+// By hand, so that who holds one drops it by one call, whose proof stands here.
+impl<L: Ledger> Drop for Desk<L> {
+    fn drop(self) {
+        let Desk {
+            alloc: _alloc,
+            room: _room,
+            over: _over,
+            work: _work,
+            line: _line,
+        } = self;
+    }
 }
 
 impl<L: Ledger> Desk<L> {

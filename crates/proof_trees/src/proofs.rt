@@ -5,7 +5,6 @@ use std::alloc::{AllocError, Global};
 use std::marker::Model;
 
 /// A list of steps. Whether they prove a membership, `check_proof` tells.
-#[derive(Drop)]
 pub struct Proof {
     steps: Vec<Step>,
 }
@@ -17,6 +16,13 @@ impl Model for Proof {
     ghost Value = { List Step };
 
     ghost view = { λ p. p.steps.items };
+}
+
+// By hand, so that who holds one drops it by one call, whose proof stands here.
+impl Drop for Proof {
+    fn drop(self) {
+        let Proof { steps: _steps } = self;
+    }
 }
 
 impl Proof {
