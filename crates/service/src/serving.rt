@@ -57,7 +57,7 @@ pub fn serve<R: Threads + Wait + Clock + Sync, W: Write>(
     serve_with::<Brand, R, W>(rt, blank, roster, listener, options, writer, &mut line)
 }
 
-/// Serves at a new desk of the roster's tenants, whose ledger has this name.
+/// Serves at a new desk of the roster's tenants, whose ledger has this name, and tells by this line.
 fn serve_with<L: Ledger + Send + Sync, R: Threads + Wait + Clock + Sync, W: Write>(
     rt: &R,
     blank: Blank,
@@ -74,23 +74,6 @@ fn serve_with<L: Ledger + Send + Sync, R: Threads + Wait + Clock + Sync, W: Writ
     let Ok(desk) = roster.desk::<L>(line.alloc(), blank) else {
         return Err(ServeFault::Memory);
     };
-    serve_at(rt, &desk, roster, listener, options, writer, line)
-}
-
-/// Serves at this desk, and tells by this line.
-fn serve_at<L: Ledger + Send + Sync, R: Threads + Wait + Clock + Sync, W: Write>(
-    rt: &R,
-    desk: &Desk<L>,
-    roster: &Roster,
-    listener: TcpListener,
-    options: ServeOptions,
-    writer: &mut W,
-    line: &mut Room,
-) -> Result<u64, ServeFault>
-    requires { desk.now ≡ names_of roster.now }
-    ensures count { IfOk result (λ n. options.accept ≡ Some n) }
-    ensures wrote { ServeWrote options.accept result (Appends (W.contents writer.old) (W.contents writer.new)) }
-{
     let Ok(address) = listener.local_addr() else {
         return Err(ServeFault::Socket);
     };
@@ -98,7 +81,7 @@ fn serve_at<L: Ledger + Send + Sync, R: Threads + Wait + Clock + Sync, W: Write>
     let Ok(()) = tell(writer, line, b"listening 127.0.0.1:", port) else {
         return Err(ServeFault::Write);
     };
-    let count = answer_beside_workers(rt, line.alloc(), desk, roster, listener, options)?;
+    let count = answer_beside_workers(rt, line.alloc(), &desk, roster, listener, options)?;
     let Ok(()) = tell(writer, line, b"served ", count) else {
         return Err(ServeFault::Write);
     };

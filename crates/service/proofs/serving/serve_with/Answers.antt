@@ -3,7 +3,7 @@ use Rattle.std.proofs.Common.{inl}
 use Rattle.std.proofs.lemmas.Result.{err_from_is_err_and}
 use Rattle.service.proofs.ServedLemmas.{ServeWrote-listening, ServeWrote-part}
 use Rattle.service.proofs.WrittenLemmas.{Appends-more}
-use Rattle.service.proofs.serving.serve_at.Goals as goal
+use Rattle.service.proofs.serving.serve_with.Goals as goal
 
 pub returns-in_err-count : goal.returns-in_err-count
 returns-in_err-count g c =
