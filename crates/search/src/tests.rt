@@ -21,6 +21,16 @@ enum Order {
     InTurn,
 }
 
+/// Each order of letters, with signals before them and after them.
+static ORDERS: [(Order, bool); 6] = [
+    (Order::First, true),
+    (Order::First, false),
+    (Order::Last, true),
+    (Order::Last, false),
+    (Order::InTurn, true),
+    (Order::InTurn, false),
+];
+
 // The place of the letter that is taken next.
 fn next_place(order: Order, waiting: u64, turn: u64) -> u64 {
     let last = waiting.saturating_sub(1);
@@ -111,6 +121,16 @@ fn snapshot_of(alloc: Global, texts: &[&[u8]]) -> Result<Arc<Snapshot>, Fail> {
 fn opened(alloc: Global, texts: &[&[u8]], query: Query, work: u64) -> Result<Search, Fail> {
     let snapshot = snapshot_of(alloc, texts)?;
     Ok(Search::open(alloc, snapshot, query, work.max(1))?)
+}
+
+// A search over a snapshot that others may search too.
+fn opened_over(
+    alloc: Global,
+    snapshot: &Arc<Snapshot>,
+    query: Query,
+    work: u64,
+) -> Result<Search, AllocError> {
+    Search::open(alloc, snapshot.clone()?, query, work.max(1))
 }
 
 // Whether `D` is in `A.r`.

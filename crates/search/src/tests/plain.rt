@@ -1,13 +1,13 @@
 //! Searches over small vaults that a fixed row of numbers makes, compared with the plain programs.
 ghost use Rattle.std.specs.Prelude.{◌<◌};
 
-use super::{Order, ending, members_found, run};
-use crate::{Query, Search, Status};
+use super::{ORDERS, Order, ending, members_found, opened_over, run};
+use crate::{Query, Status};
 use credential_text::{Credential, Expr, Part, Parts};
 use names::{Entity, Role, RoleName};
 use rt0_rules::{members_plain, work_plain};
 use snapshots::Snapshot;
-use std::alloc::Global;
+use std::alloc::{AllocError, Global};
 use std::process::Abort;
 use std::sync::Arc;
 use std::test::Fail;
@@ -120,18 +120,20 @@ fn snapshot_of(alloc: Global, credentials: &[Credential]) -> Result<Arc<Snapshot
     Ok(Arc::new(alloc, Snapshot::take(alloc, &mut book, reader)?)?)
 }
 
-// A search with this work limit, run in this order.
+// What a search with this work limit comes to in this order, and whether these are its members, where it finds them.
 fn ran(
     alloc: Global,
     snapshot: &Arc<Snapshot>,
-    query: Query,
+    query: &Query,
     work: u64,
-    order: Order,
-    signals_first: bool,
-) -> Result<Search, Fail> {
-    let mut search = Search::open(alloc, snapshot.clone()?, query, work.max(1))?;
-    run(&mut search, order, signals_first);
-    Ok(search)
+    order: &(Order, bool),
+    members: &[Entity],
+) -> Result<(Status, bool), Fail> {
+    let mut search = opened_over(alloc, snapshot, *query, work)?;
+    run(&mut search, order.0, order.1);
+    let status = ending(&search)?;
+    let is_right = status != Status::Members || members_found(&search)?.as_slice() == members;
+    Ok((status, is_right))
 }
 
 // In each order the search finds these members by this work, and by less is spent.
@@ -143,33 +145,32 @@ fn finds(
     work: u64,
     members: &[Entity],
 ) -> Result<(), Fail> {
-    for order in [Order::First, Order::Last, Order::InTurn] {
-        for signals_first in [true, false] {
-            let whole = ran(
-                alloc,
-                snapshot,
-                Query::Who(role),
-                work,
-                order,
-                signals_first,
-            )?;
-            assert_eq!(rt; ending(&whole)?, Status::Members);
-            assert!(rt; members_found(&whole)?.as_slice() == members);
-            if work > 1 {
-                let less = ran(
-                    alloc,
-                    snapshot,
-                    Query::Who(role),
-                    work - 1,
-                    order,
-                    signals_first,
-                )?;
-                assert_eq!(rt; ending(&less)?, Status::Spent);
-            }
+    let query = Query::Who(role);
+    for order in &ORDERS {
+        let (whole, is_right) = ran(alloc, snapshot, &query, work, order, members)?;
+        assert_eq!(rt; whole, Status::Members);
+        assert!(rt; is_right);
+        if work > 1 {
+            let (less, _) = ran(alloc, snapshot, &query, work - 1, order, members)?;
+            assert_eq!(rt; less, Status::Spent);
         }
     }
     Ok(())
 }
+
+// What the search comes to, driven.
+fn driven(
+    alloc: Global,
+    snapshot: &Arc<Snapshot>,
+    query: Query,
+    work: u64,
+) -> Result<Status, AllocError> {
+    let mut search = opened_over(alloc, snapshot, query, work)?;
+    search.drive();
+    ending(&search)
+}
+
+static ASKED: [&[u8]; 4] = [b"A", b"B", b"C", b"D"];
 
 // Driven, the search answers for each of the four whether it is a member.
 fn answers(
@@ -180,19 +181,33 @@ fn answers(
     work: u64,
     members: &[Entity],
 ) -> Result<(), Fail> {
-    for name in [b"A", b"B", b"C", b"D"] {
+    for name in &ASKED {
         let who = Entity::read(name)?;
-        let query = Query::Ask(role, who);
-        let mut search = Search::open(alloc, snapshot.clone()?, query, work.max(1))?;
-        search.drive();
         let expected = if members.contains(&who) {
             Status::Yes
         } else {
             Status::No
         };
-        assert_eq!(rt; ending(&search)?, expected);
+        assert_eq!(rt;
+            driven(alloc, snapshot, Query::Ask(role, who), work)?,
+            expected
+        );
     }
     Ok(())
+}
+
+// The search for these finds what the plain programs find.
+fn agrees(
+    rt: &impl Abort,
+    alloc: Global,
+    credentials: &[Credential],
+    role: Role,
+) -> Result<(), Fail> {
+    let work = work_plain(alloc, credentials, &role, 1000000)?.ok_or("too much work")?;
+    let members = members_plain(alloc, credentials, &role)?;
+    let snapshot = snapshot_of(alloc, credentials)?;
+    finds(rt, alloc, &snapshot, role, work, &members)?;
+    answers(rt, alloc, &snapshot, role, work, &members)
 }
 
 #[test]
@@ -202,11 +217,7 @@ fn as_the_plain_programs(rt: HostRuntime) -> Result<(), Fail> {
     for _ in 0..240 {
         let all = credentials(alloc, &mut numbers)?;
         let role = role(&mut numbers)?;
-        let members = members_plain(alloc, &all, &role)?;
-        let work = work_plain(alloc, &all, &role, 1000000)?.ok_or("too much work")?;
-        let snapshot = snapshot_of(alloc, &all)?;
-        finds(&rt, alloc, &snapshot, role, work, &members)?;
-        answers(&rt, alloc, &snapshot, role, work, &members)?;
+        agrees(&rt, alloc, &all, role)?;
     }
     Ok(())
 }

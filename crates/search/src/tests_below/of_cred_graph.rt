@@ -18,14 +18,14 @@ fn node_of(graph: &mut Graph, expr: &Expr) -> Result<(u64, bool), AllocError> {
 
 fn listen(
     graph: &mut Graph,
-    asked: &Expr,
-    asker: &Expr,
+    asked: Part,
+    asker: Part,
     port: Port,
 ) -> Result<Option<bool>, AllocError> {
-    let Some(n) = graph.node(asked) else {
+    let Some(n) = graph.node(&asked.expr()) else {
         return Ok(None);
     };
-    let Some(m) = graph.node(asker) else {
+    let Some(m) = graph.node(&asker.expr()) else {
         return Ok(None);
     };
     match graph.add_listener(n, m, port) {
@@ -53,13 +53,13 @@ fn solve_entity(graph: &mut Graph, who: Entity) -> Result<Option<bool>, AllocErr
 fn solve_role(
     graph: &mut Graph,
     role: Role,
-    body: &Expr,
+    body: Part,
     who: Entity,
 ) -> Result<Option<bool>, AllocError> {
     let Some(n) = graph.node(&Expr::Rol(role)) else {
         return Ok(None);
     };
-    let Some(m) = graph.node(body) else {
+    let Some(m) = graph.node(&body.expr()) else {
         return Ok(None);
     };
     let Some(_reason) = graph.reason(m, &who) else {
@@ -131,8 +131,8 @@ fn solve_meet(
     Ok(Some(solve(graph, n, who, &Reason::Parts)?))
 }
 
-fn listener_of(graph: &Graph, asked: &Expr, i: u64) -> Option<(u64, Port)> {
-    let n = graph.node(asked)?;
+fn listener_of(graph: &Graph, asked: Part, i: u64) -> Option<(u64, Port)> {
+    let n = graph.node(&asked.expr())?;
     if i < graph.listeners(n) {
         Some(graph.listener(n, i))
     } else {
@@ -140,8 +140,8 @@ fn listener_of(graph: &Graph, asked: &Expr, i: u64) -> Option<(u64, Port)> {
     }
 }
 
-fn solution_of(graph: &Graph, expr: &Expr, i: u64) -> Option<Entity> {
-    let n = graph.node(expr)?;
+fn solution_of(graph: &Graph, part: Part, i: u64) -> Option<Entity> {
+    let n = graph.node(&part.expr())?;
     if i < graph.solutions(n) {
         Some(graph.solution(n, i))
     } else {
@@ -149,138 +149,167 @@ fn solution_of(graph: &Graph, expr: &Expr, i: u64) -> Option<Entity> {
     }
 }
 
-fn reads_back(graph: &Graph, expr: &Expr) -> bool {
-    match graph.node(expr) {
+fn reads_back(graph: &Graph, part: Part) -> bool {
+    match graph.node(&part.expr()) {
         Some(n) => graph.node(graph.expr(n)) == Some(n),
         None => false,
     }
 }
 
-#[test]
-fn one_node_for_each_expression(rt: HostRuntime) -> Result<(), Fail> {
-    let role = Expr::Rol(Role::read(b"A.r")?);
-    let entity = Expr::Ent(Entity::read(b"D")?);
-    let mut graph = Graph::new(rt.alloc());
+/// Adds a node for each of these.
+fn add_nodes(graph: &mut Graph, parts: &[Part]) -> Result<(), AllocError> {
+    for part in parts {
+        let _given = node_of(graph, &part.expr())?;
+    }
+    Ok(())
+}
+
+/// The role and the entity of which most of the tests speak.
+fn role_and_entity() -> Result<(Part, Part), Fail> {
+    Ok((
+        Part::Rol(Role::read(b"A.r")?),
+        Part::Ent(Entity::read(b"D")?),
+    ))
+}
+
+fn adds_each_once(rt: &impl Abort, graph: &mut Graph) -> Result<(), Fail> {
+    let (role, entity) = role_and_entity()?;
     graph.reserve(2)?;
-    assert!(rt; node_of(&mut graph, &role)? == (0, true));
-    assert!(rt; node_of(&mut graph, &entity)? == (1, true));
-    assert!(rt; node_of(&mut graph, &role)? == (0, false));
+    assert!(rt; node_of(graph, &role.expr())? == (0, true));
+    assert!(rt; node_of(graph, &entity.expr())? == (1, true));
+    assert!(rt; node_of(graph, &role.expr())? == (0, false));
     graph.give_back();
-    assert!(rt; reads_back(&graph, &role));
-    assert!(rt; reads_back(&graph, &entity));
+    assert!(rt; reads_back(graph, role));
+    assert!(rt; reads_back(graph, entity));
     assert!(rt; graph.node(&Expr::Ent(Entity::read(b"E")?)).is_none());
     Ok(())
 }
 
 #[test]
+fn one_node_for_each_expression(rt: HostRuntime) -> Result<(), Fail> {
+    adds_each_once(&rt, &mut Graph::new(rt.alloc()))
+}
+
+fn hears_on_two_ports(rt: &impl Abort, graph: &mut Graph) -> Result<(), Fail> {
+    let (role, entity) = role_and_entity()?;
+    assert!(rt; listen(graph, entity, role, Port::Body)? == None);
+    add_nodes(graph, &[role, entity])?;
+    assert!(rt; listen(graph, entity, role, Port::Body)? == Some(true));
+    assert!(rt; listen(graph, entity, role, Port::Body)? == Some(false));
+    assert!(rt; listen(graph, entity, role, Port::Part(0))? == Some(true));
+    assert!(rt; listener_of(graph, entity, 0) == Some((0, Port::Body)));
+    assert!(rt; listener_of(graph, entity, 1) == Some((0, Port::Part(0))));
+    assert!(rt; listener_of(graph, entity, 2) == None);
+    assert!(rt; listener_of(graph, role, 0) == None);
+    Ok(())
+}
+
+#[test]
 fn two_ports_are_two_listeners(rt: HostRuntime) -> Result<(), Fail> {
-    let role = Expr::Rol(Role::read(b"A.r")?);
-    let entity = Expr::Ent(Entity::read(b"D")?);
-    let mut graph = Graph::new(rt.alloc());
-    assert!(rt; listen(&mut graph, &entity, &role, Port::Body)? == None);
-    let _role = node_of(&mut graph, &role)?;
-    let _entity = node_of(&mut graph, &entity)?;
-    assert!(rt; listen(&mut graph, &entity, &role, Port::Body)? == Some(true));
-    assert!(rt; listen(&mut graph, &entity, &role, Port::Body)? == Some(false));
-    assert!(rt; listen(&mut graph, &entity, &role, Port::Part(0))? == Some(true));
-    assert!(rt; listener_of(&graph, &entity, 0) == Some((0, Port::Body)));
-    assert!(rt; listener_of(&graph, &entity, 1) == Some((0, Port::Part(0))));
-    assert!(rt; listener_of(&graph, &entity, 2) == None);
-    assert!(rt; listener_of(&graph, &role, 0) == None);
+    hears_on_two_ports(&rt, &mut Graph::new(rt.alloc()))
+}
+
+fn hears_a_fifth(rt: &impl Abort, graph: &mut Graph) -> Result<(), Fail> {
+    let (role, entity) = role_and_entity()?;
+    add_nodes(graph, &[role, entity])?;
+    for part in 0..5 {
+        assert!(rt; listen(graph, entity, role, Port::Part(part))? == Some(true));
+    }
+    assert!(rt; listen(graph, entity, role, Port::Part(4))? == Some(false));
+    assert!(rt; listener_of(graph, entity, 3) == Some((0, Port::Part(3))));
+    assert!(rt; listener_of(graph, entity, 4) == Some((0, Port::Part(4))));
+    assert!(rt; listener_of(graph, entity, 5) == None);
     Ok(())
 }
 
 #[test]
 fn a_fifth_listener_stands_behind_four(rt: HostRuntime) -> Result<(), Fail> {
-    let role = Expr::Rol(Role::read(b"A.r")?);
-    let entity = Expr::Ent(Entity::read(b"D")?);
-    let mut graph = Graph::new(rt.alloc());
-    let _role = node_of(&mut graph, &role)?;
-    let _entity = node_of(&mut graph, &entity)?;
-    for part in 0..5 {
-        assert!(rt; listen(&mut graph, &entity, &role, Port::Part(part))? == Some(true));
-    }
-    assert!(rt; listen(&mut graph, &entity, &role, Port::Part(4))? == Some(false));
-    assert!(rt; listener_of(&graph, &entity, 3) == Some((0, Port::Part(3))));
-    assert!(rt; listener_of(&graph, &entity, 4) == Some((0, Port::Part(4))));
-    assert!(rt; listener_of(&graph, &entity, 5) == None);
-    Ok(())
+    hears_a_fifth(&rt, &mut Graph::new(rt.alloc()))
 }
 
-#[test]
-fn a_solution_stands_once_with_its_reason(rt: HostRuntime) -> Result<(), Fail> {
+fn solves_once(rt: &impl Abort, graph: &mut Graph) -> Result<(), Fail> {
     let role = Role::read(b"A.r")?;
     let who = Entity::read(b"D")?;
-    let entity = Expr::Ent(who);
-    let mut graph = Graph::new(rt.alloc());
-    let (role_node, _) = node_of(&mut graph, &Expr::Rol(role))?;
-    let (entity_node, _) = node_of(&mut graph, &entity)?;
-    assert!(rt; solve_role(&mut graph, role, &entity, who)? == None);
-    assert!(rt; solve_entity(&mut graph, who)? == Some(true));
-    assert!(rt; solve_entity(&mut graph, who)? == Some(false));
-    assert!(rt; solve_role(&mut graph, role, &entity, who)? == Some(true));
-    assert!(rt; solution_of(&graph, &entity, 0) == Some(who));
-    assert!(rt; solution_of(&graph, &entity, 1) == None);
+    let entity = Part::Ent(who);
+    let (role_node, _) = node_of(graph, &Expr::Rol(role))?;
+    let (entity_node, _) = node_of(graph, &entity.expr())?;
+    assert!(rt; solve_role(graph, role, entity, who)? == None);
+    assert!(rt; solve_entity(graph, who)? == Some(true));
+    assert!(rt; solve_entity(graph, who)? == Some(false));
+    assert!(rt; solve_role(graph, role, entity, who)? == Some(true));
+    assert!(rt; solution_of(graph, entity, 0) == Some(who));
+    assert!(rt; solution_of(graph, entity, 1) == None);
     assert!(rt; graph.reason(entity_node, &who) == Some((0, Reason::Leaf)));
     assert!(rt; graph.reason(role_node, &who) == Some((1, Reason::Body(1))));
     Ok(())
 }
 
 #[test]
-fn a_linked_role_is_solved_by_way_of_its_base(rt: HostRuntime) -> Result<(), Fail> {
+fn a_solution_stands_once_with_its_reason(rt: HostRuntime) -> Result<(), Fail> {
+    solves_once(&rt, &mut Graph::new(rt.alloc()))
+}
+
+fn solves_by_a_base(rt: &impl Abort, graph: &mut Graph) -> Result<(), Fail> {
     let base = Role::read(b"A.s")?;
     let name = RoleName::read(b"t")?;
-    let b = Entity::read(b"B")?;
-    let d = Entity::read(b"D")?;
+    let (b, d) = (Entity::read(b"B")?, Entity::read(b"D")?);
     let given = Role { owner: b, name };
-    let linked = Expr::Link(base, name);
-    let mut graph = Graph::new(rt.alloc());
-    let (node, _) = node_of(&mut graph, &linked)?;
-    let _base = node_of(&mut graph, &Expr::Rol(base))?;
-    let _given = node_of(&mut graph, &Expr::Rol(given))?;
-    let _b = node_of(&mut graph, &Expr::Ent(b))?;
-    let _d = node_of(&mut graph, &Expr::Ent(d))?;
-    let _b = solve_entity(&mut graph, b)?;
-    let _d = solve_entity(&mut graph, d)?;
-    assert!(rt; solve_role(&mut graph, base, &Expr::Ent(b), b)? == Some(true));
-    assert!(rt; solve_link(&mut graph, base, name, b, d)? == None);
-    assert!(rt; solve_role(&mut graph, given, &Expr::Ent(d), d)? == Some(true));
-    assert!(rt; solve_link(&mut graph, base, name, b, d)? == Some(true));
+    let (node, _) = node_of(graph, &Expr::Link(base, name))?;
+    let (one, other) = (Part::Ent(b), Part::Ent(d));
+    add_nodes(graph, &[Part::Rol(base), Part::Rol(given), one, other])?;
+    let _b = solve_entity(graph, b)?;
+    let _d = solve_entity(graph, d)?;
+    assert!(rt; solve_role(graph, base, one, b)? == Some(true));
+    assert!(rt; solve_link(graph, base, name, b, d)? == None);
+    assert!(rt; solve_role(graph, given, other, d)? == Some(true));
+    assert!(rt; solve_link(graph, base, name, b, d)? == Some(true));
     assert!(rt; graph.reason(node, &d) == Some((4, Reason::Via(b))));
     assert!(rt; graph.reason(node, &b) == None);
     Ok(())
 }
 
 #[test]
-fn an_intersection_is_solved_by_all_its_parts(rt: HostRuntime) -> Result<(), Fail> {
+fn a_linked_role_is_solved_by_way_of_its_base(rt: HostRuntime) -> Result<(), Fail> {
+    solves_by_a_base(&rt, &mut Graph::new(rt.alloc()))
+}
+
+/// The node of the intersection of two parts, which is added.
+fn add_meet(alloc: Global, graph: &mut Graph, first: Part, second: Part) -> Result<u64, Fail> {
+    let parts = pair_of(alloc, first, second)?.ok_or("two parts")?;
+    let (node, _) = node_of(graph, &Expr::Meet(parts))?;
+    Ok(node)
+}
+
+fn solves_by_parts(rt: &impl Abort, alloc: Global, graph: &mut Graph) -> Result<(), Fail> {
     let role = Role::read(b"A.r")?;
     let who = Entity::read(b"D")?;
-    let one = Part::Ent(who);
-    let other = Part::Rol(role);
-    let parts = pair_of(rt.alloc(), one, other)?.ok_or("two parts")?;
-    let mut graph = Graph::new(rt.alloc());
-    let (node, _) = node_of(&mut graph, &Expr::Meet(parts))?;
-    let _one = node_of(&mut graph, &one.expr())?;
-    let _other = node_of(&mut graph, &other.expr())?;
-    assert!(rt; solve_entity(&mut graph, who)? == Some(true));
-    assert!(rt; solve_meet(rt.alloc(), &mut graph, one, other, who)? == None);
-    assert!(rt; solve_role(&mut graph, role, &Expr::Ent(who), who)? == Some(true));
-    assert!(rt; solve_meet(rt.alloc(), &mut graph, one, other, who)? == Some(true));
+    let (one, other) = (Part::Ent(who), Part::Rol(role));
+    let node = add_meet(alloc, graph, one, other)?;
+    add_nodes(graph, &[one, other])?;
+    assert!(rt; solve_entity(graph, who)? == Some(true));
+    assert!(rt; solve_meet(alloc, graph, one, other, who)? == None);
+    assert!(rt; solve_role(graph, role, one, who)? == Some(true));
+    assert!(rt; solve_meet(alloc, graph, one, other, who)? == Some(true));
     assert!(rt; graph.reason(node, &who) == Some((2, Reason::Parts)));
     Ok(())
+}
+
+#[test]
+fn an_intersection_is_solved_by_all_its_parts(rt: HostRuntime) -> Result<(), Fail> {
+    solves_by_parts(&rt, rt.alloc(), &mut Graph::new(rt.alloc()))
 }
 
 /// Lets an expression listen to another by way of the entity, by its number.
 fn listen_by_number(
     graph: &mut Graph,
-    asked: &Expr,
-    asker: &Expr,
+    asked: Part,
+    asker: Part,
     who: &Entity,
 ) -> Result<Option<bool>, AllocError> {
-    let Some(n) = graph.node(asked) else {
+    let Some(n) = graph.node(&asked.expr()) else {
         return Ok(None);
     };
-    let Some(m) = graph.node(asker) else {
+    let Some(m) = graph.node(&asker.expr()) else {
         return Ok(None);
     };
     let Some(k) = graph.entity_number(who) else {
@@ -303,68 +332,73 @@ fn solve_by_number(graph: &mut Graph, who: &Entity) -> Result<Option<bool>, Allo
     }
 }
 
-/// The first solution of the expression's node, by its number.
-fn first_solution(graph: &Graph, expr: &Expr) -> Option<Entity> {
-    let n = graph.node(expr)?;
+/// The first solution of the part's node, by its number.
+fn first_solution(graph: &Graph, part: Part) -> Option<Entity> {
+    let n = graph.node(&part.expr())?;
     if graph.solutions(n) == 0 {
         return None;
     }
     Some(graph.entity(graph.numbered_solution(n, 0)))
 }
 
-#[test]
-fn numbers_stand_for_names(rt: HostRuntime) -> Result<(), Fail> {
-    let role = Expr::Rol(Role::read(b"A.r")?);
+fn knows_numbers(rt: &impl Abort, graph: &mut Graph) -> Result<(), Fail> {
+    let (role, entity) = role_and_entity()?;
     let who = Entity::read(b"D")?;
-    let entity = Expr::Ent(who);
-    let mut graph = Graph::new(rt.alloc());
-    let _role = node_of(&mut graph, &role)?;
-    assert!(rt; listen_by_number(&mut graph, &role, &role, &who)? == None);
-    let _entity = node_of(&mut graph, &entity)?;
+    add_nodes(graph, &[role])?;
+    assert!(rt; listen_by_number(graph, role, role, &who)? == None);
+    add_nodes(graph, &[entity])?;
     assert!(rt; graph.entity_number(&who) == Some(1));
-    assert!(rt; listen_by_number(&mut graph, &entity, &role, &who)? == Some(true));
-    assert!(rt; listen(&mut graph, &entity, &role, Port::Via(who))? == Some(false));
-    assert!(rt; listener_of(&graph, &entity, 0) == Some((0, Port::Via(who))));
-    assert!(rt; solve_by_number(&mut graph, &who)? == Some(true));
-    assert!(rt; solve_entity(&mut graph, who)? == Some(false));
-    assert!(rt; first_solution(&graph, &entity) == Some(who));
+    assert!(rt; listen_by_number(graph, entity, role, &who)? == Some(true));
+    assert!(rt; listen(graph, entity, role, Port::Via(who))? == Some(false));
+    assert!(rt; listener_of(graph, entity, 0) == Some((0, Port::Via(who))));
+    assert!(rt; solve_by_number(graph, &who)? == Some(true));
+    assert!(rt; solve_entity(graph, who)? == Some(false));
+    assert!(rt; first_solution(graph, entity) == Some(who));
     assert!(rt; graph.reason(1, &who) == Some((0, Reason::Leaf)));
     Ok(())
 }
 
 #[test]
-fn a_stranger_goes_on_to_be_one_listener(rt: HostRuntime) -> Result<(), Fail> {
-    let role = Expr::Rol(Role::read(b"A.r")?);
+fn numbers_stand_for_names(rt: HostRuntime) -> Result<(), Fail> {
+    knows_numbers(&rt, &mut Graph::new(rt.alloc()))
+}
+
+fn hears_a_stranger(rt: &impl Abort, graph: &mut Graph) -> Result<(), Fail> {
+    let (role, entity) = role_and_entity()?;
     let who = Entity::read(b"D")?;
-    let entity = Expr::Ent(who);
-    let mut graph = Graph::new(rt.alloc());
-    let _role = node_of(&mut graph, &role)?;
-    assert!(rt; listen(&mut graph, &role, &role, Port::Via(who))? == Some(true));
-    assert!(rt; listen(&mut graph, &role, &role, Port::Via(who))? == Some(false));
-    let _entity = node_of(&mut graph, &entity)?;
-    assert!(rt; listen_by_number(&mut graph, &role, &role, &who)? == Some(false));
-    assert!(rt; listen_by_number(&mut graph, &entity, &role, &who)? == Some(true));
-    assert!(rt; listener_of(&graph, &role, 0) == Some((0, Port::Via(who))));
-    assert!(rt; listener_of(&graph, &role, 1) == None);
+    add_nodes(graph, &[role])?;
+    assert!(rt; listen(graph, role, role, Port::Via(who))? == Some(true));
+    assert!(rt; listen(graph, role, role, Port::Via(who))? == Some(false));
+    add_nodes(graph, &[entity])?;
+    assert!(rt; listen_by_number(graph, role, role, &who)? == Some(false));
+    assert!(rt; listen_by_number(graph, entity, role, &who)? == Some(true));
+    assert!(rt; listener_of(graph, role, 0) == Some((0, Port::Via(who))));
+    assert!(rt; listener_of(graph, role, 1) == None);
+    Ok(())
+}
+
+#[test]
+fn a_stranger_goes_on_to_be_one_listener(rt: HostRuntime) -> Result<(), Fail> {
+    hears_a_stranger(&rt, &mut Graph::new(rt.alloc()))
+}
+
+fn hears_eleven(rt: &impl Abort, graph: &mut Graph) -> Result<(), Fail> {
+    let (role, entity) = role_and_entity()?;
+    add_nodes(graph, &[role, entity])?;
+    for part in 0..11 {
+        assert!(rt; listen(graph, entity, role, Port::Part(part))? == Some(true));
+        assert!(rt; listener_of(graph, entity, part as u64) == Some((0, Port::Part(part))));
+        assert!(rt; listener_of(graph, entity, part as u64 + 1) == None);
+    }
+    for part in 0..11 {
+        assert!(rt; listen(graph, entity, role, Port::Part(part))? == Some(false));
+    }
     Ok(())
 }
 
 #[test]
 fn listeners_beyond_eight_stand_once(rt: HostRuntime) -> Result<(), Fail> {
-    let role = Expr::Rol(Role::read(b"A.r")?);
-    let entity = Expr::Ent(Entity::read(b"D")?);
-    let mut graph = Graph::new(rt.alloc());
-    let _role = node_of(&mut graph, &role)?;
-    let _entity = node_of(&mut graph, &entity)?;
-    for part in 0..11 {
-        assert!(rt; listen(&mut graph, &entity, &role, Port::Part(part))? == Some(true));
-        assert!(rt; listener_of(&graph, &entity, part as u64) == Some((0, Port::Part(part))));
-        assert!(rt; listener_of(&graph, &entity, part as u64 + 1) == None);
-    }
-    for part in 0..11 {
-        assert!(rt; listen(&mut graph, &entity, &role, Port::Part(part))? == Some(false));
-    }
-    Ok(())
+    hears_eleven(&rt, &mut Graph::new(rt.alloc()))
 }
 
 fn mix(sum: u64, more: u64) -> u64 {
@@ -382,17 +416,17 @@ fn code(port: Port) -> u64 {
 
 /// A sum over what can be read of the node of an entity.
 fn read_node(graph: &Graph, who: &Entity) -> u64 {
-    let expr = Expr::Ent(*who);
-    let Some(n) = graph.node(&expr) else {
+    let part = Part::Ent(*who);
+    let Some(n) = graph.node(&part.expr()) else {
         return 1;
     };
     let mut sum = mix(mix(n, graph.listeners(n)), graph.solutions(n));
     for i in 0..8 {
-        sum = match listener_of(graph, &expr, i) {
+        sum = match listener_of(graph, part, i) {
             Some((asker, port)) => mix(mix(sum, asker), code(port)),
             None => mix(sum, 1),
         };
-        sum = mix(sum, (solution_of(graph, &expr, i) == Some(*who)) as u64);
+        sum = mix(sum, (solution_of(graph, part, i) == Some(*who)) as u64);
     }
     match graph.reason(n, who) {
         Some((place, reason)) => mix(mix(sum, place), (reason == Reason::Leaf) as u64),
@@ -461,23 +495,36 @@ fn add_leaf(
     Ok(())
 }
 
+static SIX: [&[u8]; 6] = [b"A", b"B", b"C", b"D", b"E", b"F"];
+
+fn six(alloc: Global) -> Result<Vec<Entity>, Fail> {
+    let mut all = Vec::with_capacity(alloc, 6)?;
+    for name in &SIX {
+        all.push(Entity::read(name)?)?;
+    }
+    Ok(all)
+}
+
+/// Each of these becomes its own solution, and listens to the first.
+fn add_each(
+    rt: &impl Abort,
+    graph: &mut Graph,
+    all: &[Entity],
+    first: Entity,
+) -> Result<(), AllocError> {
+    for who in all {
+        add_node(rt, graph, all, *who)?;
+        add_listener(rt, graph, all, first, *who)?;
+        add_leaf(rt, graph, all, *who)?;
+    }
+    Ok(())
+}
+
 #[test]
 fn a_refused_addition_changes_nothing(rt: HostRuntime) -> Result<(), Fail> {
     let first = Entity::read(b"A")?;
-    let all = [
-        first,
-        Entity::read(b"B")?,
-        Entity::read(b"C")?,
-        Entity::read(b"D")?,
-        Entity::read(b"E")?,
-        Entity::read(b"F")?,
-    ];
     let mut graph = Graph::new(rt.alloc());
-    for who in all {
-        add_node(&rt, &mut graph, &all, who)?;
-        add_listener(&rt, &mut graph, &all, first, who)?;
-        add_leaf(&rt, &mut graph, &all, who)?;
-    }
+    add_each(&rt, &mut graph, &six(rt.alloc())?, first)?;
     let Some(n) = graph.node(&Expr::Ent(first)) else {
         return Err(Fail::from("the first node is gone"));
     };

@@ -191,14 +191,20 @@ fn parts_held(alloc: Global, parts: &[Part]) -> Result<Option<usize>, AllocError
     }
 }
 
+static HELD: [(usize, Option<usize>); 5] = [
+    (0, None),
+    (1, None),
+    (2, Some(2)),
+    (8, Some(8)),
+    (9, None),
+];
+
 #[test]
 fn parts_are_2_to_8(rt: HostRuntime) -> Result<(), Fail> {
     let many = [Part::Ent(Entity::read(b"D")?); 9];
-    for (count, held) in [(0, None), (1, None), (2, Some(2)), (8, Some(8)), (9, None)] {
-        assert!(rt;
-            parts_held(rt.alloc(), &many[..count])? == held,
-            "{count} parts"
-        );
+    for (count, held) in &HELD {
+        let parts = many.get(..*count).ok_or("nine parts")?;
+        assert!(rt; parts_held(rt.alloc(), parts)? == *held, "{count} parts");
     }
     Ok(())
 }
@@ -231,17 +237,19 @@ fn append_body(alloc: Global, text: &[u8], out: &mut Vec<u8>) -> Result<(), Fail
     Ok(write_expr(&credential.body, out)?)
 }
 
+/// Credentials, and what is written once their bodies are appended in turn.
+static APPENDED: [(&[u8], &[u8]); 3] = [
+    (b"A.r <- B.s", b"in B.s"),
+    (b"A.r <- D", b"in B.sD"),
+    (b"A.r <- A.s.t & B.s", b"in B.sDA.s.t & B.s"),
+];
+
 #[test]
 fn what_stood_there_stays_before_what_is_written(rt: HostRuntime) -> Result<(), Fail> {
-    let table: [(&[u8], &[u8]); 3] = [
-        (b"A.r <- B.s", b"in B.s"),
-        (b"A.r <- D", b"in B.sD"),
-        (b"A.r <- A.s.t & B.s", b"in B.sDA.s.t & B.s"),
-    ];
     let mut out = Vec::from_slice(rt.alloc(), b"in ")?;
-    for (text, all) in table {
+    for (text, all) in &APPENDED {
         append_body(rt.alloc(), text, &mut out)?;
-        assert_eq!(rt; out.as_slice(), all);
+        assert_eq!(rt; out.as_slice(), *all);
     }
     Ok(())
 }
@@ -303,7 +311,7 @@ fn is_cloned(alloc: Global, text: &[u8]) -> Result<bool, Fail> {
 
 #[test]
 fn clones_are_equal(rt: HostRuntime) -> Result<(), Fail> {
-    for text in KINDS {
+    for text in &KINDS {
         assert!(rt; is_cloned(rt.alloc(), text)?);
     }
     Ok(())

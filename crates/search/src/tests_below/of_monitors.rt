@@ -3,6 +3,7 @@ ghost use Rattle.std.specs.Prelude.{◌≡◌, ◌<◌, OnOk, Contains};
 use monitors::{LinkMonitor, MeetMonitor};
 use names::Entity;
 use std::alloc::{AllocError, Global};
+use std::process::Abort;
 use std::test::Fail;
 
 /// Tells it again where memory is refused, so that a test sees that the refusal changed nothing.
@@ -34,28 +35,39 @@ fn tell_part(monitor: &mut MeetMonitor, part: u8, who: Entity) -> Result<bool, A
     }
 }
 
+fn hears_once(rt: &impl Abort, monitor: &mut LinkMonitor) -> Result<(), Fail> {
+    let (b, c, d) = (
+        Entity::read(b"B")?,
+        Entity::read(b"C")?,
+        Entity::read(b"D")?,
+    );
+    let told = [
+        tell_base(monitor, b)?,
+        tell_base(monitor, b)?,
+        tell_via(monitor, b, d)?,
+        tell_base(monitor, c)?,
+        tell_via(monitor, c, d)?,
+    ];
+    assert_eq!(rt; told, [true, false, true, true, false]);
+    Ok(())
+}
+
 #[test]
 fn a_linked_role_hears_each_member_once(rt: HostRuntime) -> Result<(), Fail> {
-    let b = Entity::read(b"B")?;
-    let c = Entity::read(b"C")?;
-    let d = Entity::read(b"D")?;
-    let mut monitor = LinkMonitor::new(rt.alloc());
-    assert_eq!(rt; tell_base(&mut monitor, b)?, true);
-    assert_eq!(rt; tell_base(&mut monitor, b)?, false);
-    assert_eq!(rt; tell_via(&mut monitor, b, d)?, true);
-    assert_eq!(rt; tell_base(&mut monitor, c)?, true);
-    assert_eq!(rt; tell_via(&mut monitor, c, d)?, false);
-    Ok(())
+    hears_once(&rt, &mut LinkMonitor::new(rt.alloc()))
 }
 
 #[test]
 fn an_intersection_hears_its_last_part_once(rt: HostRuntime) -> Result<(), Fail> {
     let d = Entity::read(b"D")?;
     let mut monitor = MeetMonitor::make(rt.alloc(), 2);
-    assert_eq!(rt; tell_part(&mut monitor, 0, d)?, false);
-    assert_eq!(rt; tell_part(&mut monitor, 0, d)?, false);
-    assert_eq!(rt; tell_part(&mut monitor, 1, d)?, true);
-    assert_eq!(rt; tell_part(&mut monitor, 1, d)?, false);
+    let told = [
+        tell_part(&mut monitor, 0, d)?,
+        tell_part(&mut monitor, 0, d)?,
+        tell_part(&mut monitor, 1, d)?,
+        tell_part(&mut monitor, 1, d)?,
+    ];
+    assert_eq!(rt; told, [false, false, true, false]);
     Ok(())
 }
 
@@ -64,12 +76,15 @@ fn each_entity_needs_every_part(rt: HostRuntime) -> Result<(), Fail> {
     let d = Entity::read(b"D")?;
     let e = Entity::read(b"E")?;
     let mut monitor = MeetMonitor::make(rt.alloc(), 3);
-    assert_eq!(rt; tell_part(&mut monitor, 2, d)?, false);
-    assert_eq!(rt; tell_part(&mut monitor, 0, e)?, false);
-    assert_eq!(rt; tell_part(&mut monitor, 1, e)?, false);
-    assert_eq!(rt; tell_part(&mut monitor, 0, d)?, false);
-    assert_eq!(rt; tell_part(&mut monitor, 2, e)?, true);
-    assert_eq!(rt; tell_part(&mut monitor, 1, d)?, true);
+    let told = [
+        tell_part(&mut monitor, 2, d)?,
+        tell_part(&mut monitor, 0, e)?,
+        tell_part(&mut monitor, 1, e)?,
+        tell_part(&mut monitor, 0, d)?,
+        tell_part(&mut monitor, 2, e)?,
+        tell_part(&mut monitor, 1, d)?,
+    ];
+    assert_eq!(rt; told, [false, false, false, false, true, true]);
     Ok(())
 }
 

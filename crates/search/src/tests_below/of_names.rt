@@ -19,22 +19,23 @@ fn role_fault(text: &[u8]) -> u64 {
     }
 }
 
+static NAME_FAULTS: [(&[u8], u64); 10] = [
+    (b"A", 0),
+    (b"z9_-", 0),
+    (b"Bob", 0),
+    (b"", 11),
+    (b"9", 12),
+    (b"_a", 12),
+    (b"a b", 13),
+    (b"a.b", 13),
+    (b"a\xc3\xa9", 13),
+    (b" a", 12),
+];
+
 #[test]
 fn names_and_their_faults(rt: HostRuntime) {
-    let table: [(&[u8], u64); 10] = [
-        (b"A", 0),
-        (b"z9_-", 0),
-        (b"Bob", 0),
-        (b"", 11),
-        (b"9", 12),
-        (b"_a", 12),
-        (b"a b", 13),
-        (b"a.b", 13),
-        (b"a\xc3\xa9", 13),
-        (b" a", 12),
-    ];
-    for (text, number) in table {
-        assert_eq!(rt; entity_fault(text), number);
+    for (text, number) in &NAME_FAULTS {
+        assert_eq!(rt; entity_fault(text), *number);
     }
 }
 
@@ -154,9 +155,11 @@ fn texts_lose_their_outer_spaces(rt: HostRuntime) {
     }
 }
 
+static BLANKS: [(&[u8], bool); 3] = [(b"", true), (b"  ", true), (b" \t", false)];
+
 #[test]
 fn texts_of_spaces_are_blank(rt: HostRuntime) {
-    for (text, blank) in [(b"".as_slice(), true), (b"  ", true), (b" \t", false)] {
-        assert_eq!(rt; is_blank(text), blank);
+    for (text, blank) in &BLANKS {
+        assert_eq!(rt; is_blank(text), *blank);
     }
 }

@@ -129,120 +129,134 @@ fn act(
     Ok(())
 }
 
-// Does the deeds in turn, from a first letter to node 0 on, and looks at the computation after each.
-fn play(rt: &impl Abort, alloc: Global, deeds: &[(Deed, Counts)]) -> Result<(), AllocError> {
-    let start = || Diffusion::start(alloc, 0, 0);
-    let mut d = start().or_else(|_| start())?;
-    assert_eq!(rt; look_at(&d), [1, 1, 0, 1]);
+// Does the deeds in turn, and looks at the computation after each.
+fn play_on(
+    rt: &impl Abort,
+    alloc: Global,
+    d: &mut Diffusion<u64>,
+    deeds: &[(Deed, Counts)],
+) -> Result<(), AllocError> {
+    assert_eq!(rt; look_at(d), [1, 1, 0, 1]);
     for (deed, after) in deeds {
-        act(rt, alloc, &mut d, *deed)?;
-        assert_eq!(rt; look_at(&d), *after);
+        act(rt, alloc, d, *deed)?;
+        assert_eq!(rt; look_at(d), *after);
         assert_eq!(rt; d.is_complete(), after[3] == 0);
     }
     Ok(())
+}
+
+// Does the deeds from a first letter to node 0 on.
+fn play(rt: &impl Abort, alloc: Global, deeds: &[(Deed, Counts)]) -> Result<(), AllocError> {
+    let start = || Diffusion::start(alloc, 0, 0);
+    let mut d = start().or_else(|_| start())?;
+    play_on(rt, alloc, &mut d, deeds)
 }
 
 const ENVIRONMENT: Parent = Parent::Environment;
 
 const NEUTRAL: Parent = Parent::Neutral;
 
+static THERE_AND_BACK: [(Deed, Counts); 17] = [
+    (Take(0, 1), [1, 0, 0, 1]),
+    (Finish(1, &[1]), [2, 1, 0, 1]),
+    (Node(0, ENVIRONMENT, 1), [2, 1, 0, 1]),
+    (Take(0, 2), [2, 0, 0, 1]),
+    (Finish(2, &[0]), [3, 1, 0, 1]),
+    (Node(1, Parent::Node(0), 1), [3, 1, 0, 1]),
+    (Node(0, ENVIRONMENT, 1), [3, 1, 0, 1]),
+    (Take(0, 3), [3, 0, 0, 1]),
+    (PutBack(3), [3, 1, 0, 1]),
+    (Take(0, 3), [3, 0, 0, 1]),
+    (Finish(3, &[]), [3, 0, 1, 1]),
+    (Node(1, Parent::Node(0), 1), [3, 0, 1, 1]),
+    (Signal(0), [3, 0, 1, 1]),
+    (Node(1, NEUTRAL, 0), [3, 0, 1, 1]),
+    (Signal(0), [3, 0, 1, 1]),
+    (Node(0, NEUTRAL, 0), [3, 0, 1, 1]),
+    (Signal(0), [3, 0, 0, 0]),
+];
+
 #[test]
 fn goes_there_and_back(rt: HostRuntime) -> Result<(), Fail> {
-    let deeds = [
-        (Take(0, 1), [1, 0, 0, 1]),
-        (Finish(1, &[1]), [2, 1, 0, 1]),
-        (Node(0, ENVIRONMENT, 1), [2, 1, 0, 1]),
-        (Take(0, 2), [2, 0, 0, 1]),
-        (Finish(2, &[0]), [3, 1, 0, 1]),
-        (Node(1, Parent::Node(0), 1), [3, 1, 0, 1]),
-        (Node(0, ENVIRONMENT, 1), [3, 1, 0, 1]),
-        (Take(0, 3), [3, 0, 0, 1]),
-        (PutBack(3), [3, 1, 0, 1]),
-        (Take(0, 3), [3, 0, 0, 1]),
-        (Finish(3, &[]), [3, 0, 1, 1]),
-        (Node(1, Parent::Node(0), 1), [3, 0, 1, 1]),
-        (Signal(0), [3, 0, 1, 1]),
-        (Node(1, NEUTRAL, 0), [3, 0, 1, 1]),
-        (Signal(0), [3, 0, 1, 1]),
-        (Node(0, NEUTRAL, 0), [3, 0, 1, 1]),
-        (Signal(0), [3, 0, 0, 0]),
-    ];
-    play(&rt, rt.alloc(), &deeds)?;
+    play(&rt, rt.alloc(), &THERE_AND_BACK)?;
     Ok(())
 }
+
+static TO_ITSELF: [(Deed, Counts); 8] = [
+    (Take(0, 1), [1, 0, 0, 1]),
+    (Finish(1, &[0]), [2, 1, 0, 1]),
+    (Take(0, 2), [2, 0, 0, 1]),
+    (Finish(2, &[]), [2, 0, 1, 1]),
+    (Node(0, ENVIRONMENT, 1), [2, 0, 1, 1]),
+    (Signal(0), [2, 0, 1, 1]),
+    (Node(0, NEUTRAL, 0), [2, 0, 1, 1]),
+    (Signal(0), [2, 0, 0, 0]),
+];
 
 #[test]
 fn a_node_writes_to_itself(rt: HostRuntime) -> Result<(), Fail> {
-    let deeds = [
-        (Take(0, 1), [1, 0, 0, 1]),
-        (Finish(1, &[0]), [2, 1, 0, 1]),
-        (Take(0, 2), [2, 0, 0, 1]),
-        (Finish(2, &[]), [2, 0, 1, 1]),
-        (Node(0, ENVIRONMENT, 1), [2, 0, 1, 1]),
-        (Signal(0), [2, 0, 1, 1]),
-        (Node(0, NEUTRAL, 0), [2, 0, 1, 1]),
-        (Signal(0), [2, 0, 0, 0]),
-    ];
-    play(&rt, rt.alloc(), &deeds)?;
+    play(&rt, rt.alloc(), &TO_ITSELF)?;
     Ok(())
 }
 
+static ENGAGED_AGAIN: [(Deed, Counts); 20] = [
+    (Take(0, 1), [1, 0, 0, 1]),
+    (Finish(1, &[1, 1]), [3, 2, 0, 1]),
+    (Take(0, 2), [3, 1, 0, 1]),
+    (Finish(2, &[2]), [4, 2, 0, 1]),
+    (Node(1, Parent::Node(0), 1), [4, 2, 0, 1]),
+    (Take(1, 4), [4, 1, 0, 1]),
+    (Finish(4, &[]), [4, 1, 1, 1]),
+    (Signal(0), [4, 1, 1, 1]),
+    (Node(1, NEUTRAL, 0), [4, 1, 1, 1]),
+    (Take(0, 3), [4, 0, 1, 1]),
+    (Finish(3, &[2]), [5, 1, 1, 1]),
+    (Node(1, Parent::Node(0), 1), [5, 1, 1, 1]),
+    (Node(0, ENVIRONMENT, 2), [5, 1, 1, 1]),
+    (Take(0, 5), [5, 0, 1, 1]),
+    (Finish(5, &[]), [5, 0, 2, 1]),
+    (Signal(1), [5, 0, 2, 1]),
+    (Signal(0), [5, 0, 1, 1]),
+    (Signal(0), [5, 0, 1, 1]),
+    (Node(0, NEUTRAL, 0), [5, 0, 1, 1]),
+    (Signal(0), [5, 0, 0, 0]),
+];
+
 #[test]
 fn a_node_is_engaged_a_second_time(rt: HostRuntime) -> Result<(), Fail> {
-    let deeds = [
-        (Take(0, 1), [1, 0, 0, 1]),
-        (Finish(1, &[1, 1]), [3, 2, 0, 1]),
-        (Take(0, 2), [3, 1, 0, 1]),
-        (Finish(2, &[2]), [4, 2, 0, 1]),
-        (Node(1, Parent::Node(0), 1), [4, 2, 0, 1]),
-        (Take(1, 4), [4, 1, 0, 1]),
-        (Finish(4, &[]), [4, 1, 1, 1]),
-        (Signal(0), [4, 1, 1, 1]),
-        (Node(1, NEUTRAL, 0), [4, 1, 1, 1]),
-        (Take(0, 3), [4, 0, 1, 1]),
-        (Finish(3, &[2]), [5, 1, 1, 1]),
-        (Node(1, Parent::Node(0), 1), [5, 1, 1, 1]),
-        (Node(0, ENVIRONMENT, 2), [5, 1, 1, 1]),
-        (Take(0, 5), [5, 0, 1, 1]),
-        (Finish(5, &[]), [5, 0, 2, 1]),
-        (Signal(1), [5, 0, 2, 1]),
-        (Signal(0), [5, 0, 1, 1]),
-        (Signal(0), [5, 0, 1, 1]),
-        (Node(0, NEUTRAL, 0), [5, 0, 1, 1]),
-        (Signal(0), [5, 0, 0, 0]),
-    ];
-    play(&rt, rt.alloc(), &deeds)?;
+    play(&rt, rt.alloc(), &ENGAGED_AGAIN)?;
     Ok(())
 }
 
 // Finished letters leave holes: at the end, between others, and more than half of all.
+static AT_ANY_PLACE: [(Deed, Counts); 22] = [
+    (Take(0, 1), [1, 0, 0, 1]),
+    (Finish(1, &[1, 2, 3, 4, 5]), [6, 5, 0, 1]),
+    (Take(4, 6), [6, 4, 0, 1]),
+    (Take(1, 3), [6, 3, 0, 1]),
+    (Take(1, 4), [6, 2, 0, 1]),
+    (PutBack(3), [6, 3, 0, 1]),
+    (Take(0, 2), [6, 2, 0, 1]),
+    (Take(0, 3), [6, 1, 0, 1]),
+    (PutBack(2), [6, 2, 0, 1]),
+    (Finish(3, &[]), [6, 2, 1, 1]),
+    (Finish(4, &[]), [6, 2, 2, 1]),
+    (Finish(6, &[9, 9]), [8, 4, 2, 1]),
+    (Take(3, 8), [8, 3, 2, 1]),
+    (Take(1, 5), [8, 2, 2, 1]),
+    (Finish(5, &[]), [8, 2, 3, 1]),
+    (PutBack(8), [8, 3, 3, 1]),
+    (Take(0, 2), [8, 2, 3, 1]),
+    (Take(1, 8), [8, 1, 3, 1]),
+    (Finish(8, &[]), [8, 1, 4, 1]),
+    (Take(0, 7), [8, 0, 4, 1]),
+    (Finish(7, &[]), [8, 0, 5, 1]),
+    (Finish(2, &[]), [8, 0, 6, 1]),
+];
+
 #[test]
 fn letters_are_taken_at_any_place(rt: HostRuntime) -> Result<(), Fail> {
-    let deeds = [
-        (Take(0, 1), [1, 0, 0, 1]),
-        (Finish(1, &[1, 2, 3, 4, 5]), [6, 5, 0, 1]),
-        (Take(4, 6), [6, 4, 0, 1]),
-        (Take(1, 3), [6, 3, 0, 1]),
-        (Take(1, 4), [6, 2, 0, 1]),
-        (PutBack(3), [6, 3, 0, 1]),
-        (Take(0, 2), [6, 2, 0, 1]),
-        (Take(0, 3), [6, 1, 0, 1]),
-        (PutBack(2), [6, 2, 0, 1]),
-        (Finish(3, &[]), [6, 2, 1, 1]),
-        (Finish(4, &[]), [6, 2, 2, 1]),
-        (Finish(6, &[9, 9]), [8, 4, 2, 1]),
-        (Take(3, 8), [8, 3, 2, 1]),
-        (Take(1, 5), [8, 2, 2, 1]),
-        (Finish(5, &[]), [8, 2, 3, 1]),
-        (PutBack(8), [8, 3, 3, 1]),
-        (Take(0, 2), [8, 2, 3, 1]),
-        (Take(1, 8), [8, 1, 3, 1]),
-        (Finish(8, &[]), [8, 1, 4, 1]),
-        (Take(0, 7), [8, 0, 4, 1]),
-        (Finish(7, &[]), [8, 0, 5, 1]),
-        (Finish(2, &[]), [8, 0, 6, 1]),
-    ];
-    play(&rt, rt.alloc(), &deeds)?;
+    play(&rt, rt.alloc(), &AT_ANY_PLACE)?;
     Ok(())
 }
 
@@ -250,18 +264,27 @@ fn text(alloc: Global, word: &str) -> Result<String, AllocError> {
     String::from_str(alloc, word).or_else(|_| String::from_str(alloc, word))
 }
 
-#[test]
-fn a_load_owns_memory(rt: HostRuntime) -> Result<(), Fail> {
-    let mut d = Diffusion::start(rt.alloc(), 7, text(rt.alloc(), "ask")?)?;
+// A letter to node 8 that says so.
+fn tell(alloc: Global) -> Result<Vec<(u64, String)>, AllocError> {
+    let mut outs = Vec::new(alloc);
+    outs.push((8, text(alloc, "tell")?))?;
+    Ok(outs)
+}
+
+fn carries_texts(rt: &impl Abort, alloc: Global, d: &mut Diffusion<String>) -> Result<(), Fail> {
     assert!(rt; d.waiting() > 0);
     assert_eq!(rt; d.take(0), 1);
-    let mut outs = Vec::new(rt.alloc());
-    outs.push((8, text(rt.alloc(), "tell")?))?;
-    finish_with(&rt, &mut d, 1, outs)?;
+    finish_with(rt, d, 1, tell(alloc)?)?;
     let Some(letter) = d.letter(2) else {
         return Err(Fail::from("letter 2 is gone"));
     };
     assert_eq!(rt; letter.load.as_str(), "tell");
     assert_eq!(rt; (letter.from, letter.to), (Parent::Node(7), 8));
     Ok(())
+}
+
+#[test]
+fn a_load_owns_memory(rt: HostRuntime) -> Result<(), Fail> {
+    let mut d = Diffusion::start(rt.alloc(), 7, text(rt.alloc(), "ask")?)?;
+    carries_texts(&rt, rt.alloc(), &mut d)
 }

@@ -79,26 +79,28 @@ fn judges<L: Ledger>(
     Ok(true)
 }
 
+static FOUND: [(&str, u64, u64, u64); 8] = [
+    ("A.r", 0, 0, 2),
+    ("A.s", 0, 2, 2),
+    ("A.t", 0, 2, 3),
+    ("B.r", 1, 0, 0),
+    ("C.r", 1, 0, 0),
+    ("D.r", 2, 0, 0),
+    ("A.a", 0, 0, 0),
+    ("A.z", 0, 3, 3),
+];
+
+static JUDGED: [(&str, u64, u64, u64, bool); 4] = [
+    ("A.r", 0, 0, 2, true),
+    ("A.r", 0, 0, 1, false),
+    ("B.r", 1, 0, 0, true),
+    ("B.r", 0, 0, 0, false),
+];
+
 /// The spans of roles that are there and of others, as they are found and judged.
 fn find_spans(rt: &impl Abort, snapshot: &Snapshot) -> Result<(), Fail> {
-    let rows = [
-        ("A.r", 0, 0, 2),
-        ("A.s", 0, 2, 2),
-        ("A.t", 0, 2, 3),
-        ("B.r", 1, 0, 0),
-        ("C.r", 1, 0, 0),
-        ("D.r", 2, 0, 0),
-        ("A.a", 0, 0, 0),
-        ("A.z", 0, 3, 3),
-    ];
-    assert!(*rt; finds_all(snapshot, &rows)?);
-    let judged = [
-        ("A.r", 0, 0, 2, true),
-        ("A.r", 0, 0, 1, false),
-        ("B.r", 1, 0, 0, true),
-        ("B.r", 0, 0, 0, false),
-    ];
-    assert!(*rt; judges::<Brand>(snapshot, Blank::new(1), &judged)?);
+    assert!(*rt; finds_all(snapshot, &FOUND)?);
+    assert!(*rt; judges::<Brand>(snapshot, Blank::new(1), &JUDGED)?);
     Ok(())
 }
 
@@ -109,11 +111,16 @@ fn spans_of_roles(rt: HostRuntime) -> Result<(), Fail> {
     find_spans(&rt, &snapshot)
 }
 
+static FOUND_BY_C: [(&str, u64, u64, u64); 3] = [
+    ("A.r", 0, 0, 0),
+    ("C.r", 0, 0, 0),
+    ("D.r", 1, 0, 0),
+];
+
 /// What C sees: its own vault, which is empty.
 fn is_empty_for(rt: &impl Abort, snapshot: &Snapshot, c: Entity) -> Result<(), Fail> {
     assert!(*rt; snapshot.asker() == c);
-    let rows = [("A.r", 0, 0, 0), ("C.r", 0, 0, 0), ("D.r", 1, 0, 0)];
-    assert!(*rt; finds_all(snapshot, &rows)?);
+    assert!(*rt; finds_all(snapshot, &FOUND_BY_C)?);
     Ok(())
 }
 

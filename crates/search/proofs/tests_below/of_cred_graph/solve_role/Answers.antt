@@ -2,4 +2,4 @@ use Rattle.cred_graph.proofs.Found.{solution_at_place}
 use Rattle.search.proofs.tests_below.of_cred_graph.solve_role.Goals as goal
 
 pub solve-requires : goal.solve-requires
-solve-requires c = (c.args.role, c.args.body.now, c.in-Some.ensures.node, c.in-Some-node.ensures.node, solution_at_place _ _ _ _ _ c.in-Some-reason.ensures.found)
+solve-requires c = (c.args.role, _, c.in-Some.ensures.node, c.in-Some-node.ensures.node, solution_at_place _ _ _ _ _ c.in-Some-reason.ensures.found)
