@@ -164,139 +164,135 @@ fn add_nodes(graph: &mut Graph, parts: &[Part]) -> Result<(), AllocError> {
     Ok(())
 }
 
+fn read_role(rt: &impl Abort, text: &[u8]) -> Role {
+    Role::read(text).expect(rt, "a role")
+}
+
+fn read_entity(rt: &impl Abort, text: &[u8]) -> Entity {
+    Entity::read(text).expect(rt, "an entity")
+}
+
 /// The role and the entity of which most of the tests speak.
-fn role_and_entity() -> Result<(Part, Part), Fail> {
-    Ok((
-        Part::Rol(Role::read(b"A.r")?),
-        Part::Ent(Entity::read(b"D")?),
-    ))
+fn role_and_entity(rt: &impl Abort) -> (Part, Part) {
+    (
+        Part::Rol(read_role(rt, b"A.r")),
+        Part::Ent(read_entity(rt, b"D")),
+    )
 }
 
-fn adds_each_once(rt: &impl Abort, graph: &mut Graph) -> Result<(), Fail> {
-    let (role, entity) = role_and_entity()?;
+#[test]
+fn one_node_for_each_expression(rt: HostRuntime) -> Result<(), AllocError> {
+    let (role, entity) = role_and_entity(&rt);
+    let mut graph = Graph::new(rt.alloc());
     graph.reserve(2)?;
-    assert!(rt; node_of(graph, &role.expr())? == (0, true));
-    assert!(rt; node_of(graph, &entity.expr())? == (1, true));
-    assert!(rt; node_of(graph, &role.expr())? == (0, false));
+    assert!(rt; node_of(&mut graph, &role.expr())? == (0, true));
+    assert!(rt; node_of(&mut graph, &entity.expr())? == (1, true));
+    assert!(rt; node_of(&mut graph, &role.expr())? == (0, false));
     graph.give_back();
-    assert!(rt; reads_back(graph, role));
-    assert!(rt; reads_back(graph, entity));
-    assert!(rt; graph.node(&Expr::Ent(Entity::read(b"E")?)).is_none());
+    assert!(rt; reads_back(&graph, role));
+    assert!(rt; reads_back(&graph, entity));
+    assert!(rt; graph.node(&Expr::Ent(read_entity(&rt, b"E"))).is_none());
     Ok(())
 }
 
 #[test]
-fn one_node_for_each_expression(rt: HostRuntime) -> Result<(), Fail> {
-    adds_each_once(&rt, &mut Graph::new(rt.alloc()))
-}
-
-fn hears_on_two_ports(rt: &impl Abort, graph: &mut Graph) -> Result<(), Fail> {
-    let (role, entity) = role_and_entity()?;
-    assert!(rt; listen(graph, entity, role, Port::Body)? == None);
-    add_nodes(graph, &[role, entity])?;
-    assert!(rt; listen(graph, entity, role, Port::Body)? == Some(true));
-    assert!(rt; listen(graph, entity, role, Port::Body)? == Some(false));
-    assert!(rt; listen(graph, entity, role, Port::Part(0))? == Some(true));
-    assert!(rt; listener_of(graph, entity, 0) == Some((0, Port::Body)));
-    assert!(rt; listener_of(graph, entity, 1) == Some((0, Port::Part(0))));
-    assert!(rt; listener_of(graph, entity, 2) == None);
-    assert!(rt; listener_of(graph, role, 0) == None);
+fn two_ports_are_two_listeners(rt: HostRuntime) -> Result<(), AllocError> {
+    let (role, entity) = role_and_entity(&rt);
+    let mut graph = Graph::new(rt.alloc());
+    assert!(rt; listen(&mut graph, entity, role, Port::Body)? == None);
+    add_nodes(&mut graph, &[role, entity])?;
+    assert!(rt; listen(&mut graph, entity, role, Port::Body)? == Some(true));
+    assert!(rt; listen(&mut graph, entity, role, Port::Body)? == Some(false));
+    assert!(rt; listen(&mut graph, entity, role, Port::Part(0))? == Some(true));
+    assert!(rt; listener_of(&graph, entity, 0) == Some((0, Port::Body)));
+    assert!(rt; listener_of(&graph, entity, 1) == Some((0, Port::Part(0))));
+    assert!(rt; listener_of(&graph, entity, 2) == None);
+    assert!(rt; listener_of(&graph, role, 0) == None);
     Ok(())
 }
 
 #[test]
-fn two_ports_are_two_listeners(rt: HostRuntime) -> Result<(), Fail> {
-    hears_on_two_ports(&rt, &mut Graph::new(rt.alloc()))
-}
-
-fn hears_a_fifth(rt: &impl Abort, graph: &mut Graph) -> Result<(), Fail> {
-    let (role, entity) = role_and_entity()?;
-    add_nodes(graph, &[role, entity])?;
+fn a_fifth_listener_stands_behind_four(rt: HostRuntime) -> Result<(), AllocError> {
+    let (role, entity) = role_and_entity(&rt);
+    let mut graph = Graph::new(rt.alloc());
+    add_nodes(&mut graph, &[role, entity])?;
     for part in 0..5 {
-        assert!(rt; listen(graph, entity, role, Port::Part(part))? == Some(true));
+        assert!(rt; listen(&mut graph, entity, role, Port::Part(part))? == Some(true));
     }
-    assert!(rt; listen(graph, entity, role, Port::Part(4))? == Some(false));
-    assert!(rt; listener_of(graph, entity, 3) == Some((0, Port::Part(3))));
-    assert!(rt; listener_of(graph, entity, 4) == Some((0, Port::Part(4))));
-    assert!(rt; listener_of(graph, entity, 5) == None);
+    assert!(rt; listen(&mut graph, entity, role, Port::Part(4))? == Some(false));
+    assert!(rt; listener_of(&graph, entity, 3) == Some((0, Port::Part(3))));
+    assert!(rt; listener_of(&graph, entity, 4) == Some((0, Port::Part(4))));
+    assert!(rt; listener_of(&graph, entity, 5) == None);
     Ok(())
 }
 
 #[test]
-fn a_fifth_listener_stands_behind_four(rt: HostRuntime) -> Result<(), Fail> {
-    hears_a_fifth(&rt, &mut Graph::new(rt.alloc()))
-}
-
-fn solves_once(rt: &impl Abort, graph: &mut Graph) -> Result<(), Fail> {
-    let role = Role::read(b"A.r")?;
-    let who = Entity::read(b"D")?;
+fn a_solution_stands_once_with_its_reason(rt: HostRuntime) -> Result<(), AllocError> {
+    let role = read_role(&rt, b"A.r");
+    let who = read_entity(&rt, b"D");
     let entity = Part::Ent(who);
-    let (role_node, _) = node_of(graph, &Expr::Rol(role))?;
-    let (entity_node, _) = node_of(graph, &entity.expr())?;
-    assert!(rt; solve_role(graph, role, entity, who)? == None);
-    assert!(rt; solve_entity(graph, who)? == Some(true));
-    assert!(rt; solve_entity(graph, who)? == Some(false));
-    assert!(rt; solve_role(graph, role, entity, who)? == Some(true));
-    assert!(rt; solution_of(graph, entity, 0) == Some(who));
-    assert!(rt; solution_of(graph, entity, 1) == None);
+    let mut graph = Graph::new(rt.alloc());
+    let (role_node, _) = node_of(&mut graph, &Expr::Rol(role))?;
+    let (entity_node, _) = node_of(&mut graph, &entity.expr())?;
+    assert!(rt; solve_role(&mut graph, role, entity, who)? == None);
+    assert!(rt; solve_entity(&mut graph, who)? == Some(true));
+    assert!(rt; solve_entity(&mut graph, who)? == Some(false));
+    assert!(rt; solve_role(&mut graph, role, entity, who)? == Some(true));
+    assert!(rt; solution_of(&graph, entity, 0) == Some(who));
+    assert!(rt; solution_of(&graph, entity, 1) == None);
     assert!(rt; graph.reason(entity_node, &who) == Some((0, Reason::Leaf)));
     assert!(rt; graph.reason(role_node, &who) == Some((1, Reason::Body(1))));
     Ok(())
 }
 
 #[test]
-fn a_solution_stands_once_with_its_reason(rt: HostRuntime) -> Result<(), Fail> {
-    solves_once(&rt, &mut Graph::new(rt.alloc()))
-}
-
-fn solves_by_a_base(rt: &impl Abort, graph: &mut Graph) -> Result<(), Fail> {
-    let base = Role::read(b"A.s")?;
-    let name = RoleName::read(b"t")?;
-    let (b, d) = (Entity::read(b"B")?, Entity::read(b"D")?);
+fn a_linked_role_is_solved_by_way_of_its_base(rt: HostRuntime) -> Result<(), AllocError> {
+    let base = read_role(&rt, b"A.s");
+    let name = RoleName::read(b"t").expect(&rt, "a name");
+    let (b, d) = (read_entity(&rt, b"B"), read_entity(&rt, b"D"));
     let given = Role { owner: b, name };
-    let (node, _) = node_of(graph, &Expr::Link(base, name))?;
+    let mut graph = Graph::new(rt.alloc());
+    let (node, _) = node_of(&mut graph, &Expr::Link(base, name))?;
     let (one, other) = (Part::Ent(b), Part::Ent(d));
-    add_nodes(graph, &[Part::Rol(base), Part::Rol(given), one, other])?;
-    let _b = solve_entity(graph, b)?;
-    let _d = solve_entity(graph, d)?;
-    assert!(rt; solve_role(graph, base, one, b)? == Some(true));
-    assert!(rt; solve_link(graph, base, name, b, d)? == None);
-    assert!(rt; solve_role(graph, given, other, d)? == Some(true));
-    assert!(rt; solve_link(graph, base, name, b, d)? == Some(true));
+    add_nodes(&mut graph, &[Part::Rol(base), Part::Rol(given), one, other])?;
+    let _b = solve_entity(&mut graph, b)?;
+    let _d = solve_entity(&mut graph, d)?;
+    assert!(rt; solve_role(&mut graph, base, one, b)? == Some(true));
+    assert!(rt; solve_link(&mut graph, base, name, b, d)? == None);
+    assert!(rt; solve_role(&mut graph, given, other, d)? == Some(true));
+    assert!(rt; solve_link(&mut graph, base, name, b, d)? == Some(true));
     assert!(rt; graph.reason(node, &d) == Some((4, Reason::Via(b))));
     assert!(rt; graph.reason(node, &b) == None);
     Ok(())
 }
 
-#[test]
-fn a_linked_role_is_solved_by_way_of_its_base(rt: HostRuntime) -> Result<(), Fail> {
-    solves_by_a_base(&rt, &mut Graph::new(rt.alloc()))
-}
-
 /// The node of the intersection of two parts, which is added.
-fn add_meet(alloc: Global, graph: &mut Graph, first: Part, second: Part) -> Result<u64, Fail> {
-    let parts = pair_of(alloc, first, second)?.ok_or("two parts")?;
+fn add_meet(
+    rt: &impl Abort,
+    alloc: Global,
+    graph: &mut Graph,
+    first: Part,
+    second: Part,
+) -> Result<u64, AllocError> {
+    let parts = pair_of(alloc, first, second)?.expect(rt, "two parts");
     let (node, _) = node_of(graph, &Expr::Meet(parts))?;
     Ok(node)
 }
 
-fn solves_by_parts(rt: &impl Abort, alloc: Global, graph: &mut Graph) -> Result<(), Fail> {
-    let role = Role::read(b"A.r")?;
-    let who = Entity::read(b"D")?;
+#[test]
+fn an_intersection_is_solved_by_all_its_parts(rt: HostRuntime) -> Result<(), AllocError> {
+    let role = read_role(&rt, b"A.r");
+    let who = read_entity(&rt, b"D");
     let (one, other) = (Part::Ent(who), Part::Rol(role));
-    let node = add_meet(alloc, graph, one, other)?;
-    add_nodes(graph, &[one, other])?;
-    assert!(rt; solve_entity(graph, who)? == Some(true));
-    assert!(rt; solve_meet(alloc, graph, one, other, who)? == None);
-    assert!(rt; solve_role(graph, role, one, who)? == Some(true));
-    assert!(rt; solve_meet(alloc, graph, one, other, who)? == Some(true));
+    let mut graph = Graph::new(rt.alloc());
+    let node = add_meet(&rt, rt.alloc(), &mut graph, one, other)?;
+    add_nodes(&mut graph, &[one, other])?;
+    assert!(rt; solve_entity(&mut graph, who)? == Some(true));
+    assert!(rt; solve_meet(rt.alloc(), &mut graph, one, other, who)? == None);
+    assert!(rt; solve_role(&mut graph, role, one, who)? == Some(true));
+    assert!(rt; solve_meet(rt.alloc(), &mut graph, one, other, who)? == Some(true));
     assert!(rt; graph.reason(node, &who) == Some((2, Reason::Parts)));
     Ok(())
-}
-
-#[test]
-fn an_intersection_is_solved_by_all_its_parts(rt: HostRuntime) -> Result<(), Fail> {
-    solves_by_parts(&rt, rt.alloc(), &mut Graph::new(rt.alloc()))
 }
 
 /// Lets an expression listen to another by way of the entity, by its number.
@@ -341,64 +337,55 @@ fn first_solution(graph: &Graph, part: Part) -> Option<Entity> {
     Some(graph.entity(graph.numbered_solution(n, 0)))
 }
 
-fn knows_numbers(rt: &impl Abort, graph: &mut Graph) -> Result<(), Fail> {
-    let (role, entity) = role_and_entity()?;
-    let who = Entity::read(b"D")?;
-    add_nodes(graph, &[role])?;
-    assert!(rt; listen_by_number(graph, role, role, &who)? == None);
-    add_nodes(graph, &[entity])?;
+#[test]
+fn numbers_stand_for_names(rt: HostRuntime) -> Result<(), AllocError> {
+    let (role, entity) = role_and_entity(&rt);
+    let who = read_entity(&rt, b"D");
+    let mut graph = Graph::new(rt.alloc());
+    add_nodes(&mut graph, &[role])?;
+    assert!(rt; listen_by_number(&mut graph, role, role, &who)? == None);
+    add_nodes(&mut graph, &[entity])?;
     assert!(rt; graph.entity_number(&who) == Some(1));
-    assert!(rt; listen_by_number(graph, entity, role, &who)? == Some(true));
-    assert!(rt; listen(graph, entity, role, Port::Via(who))? == Some(false));
-    assert!(rt; listener_of(graph, entity, 0) == Some((0, Port::Via(who))));
-    assert!(rt; solve_by_number(graph, &who)? == Some(true));
-    assert!(rt; solve_entity(graph, who)? == Some(false));
-    assert!(rt; first_solution(graph, entity) == Some(who));
+    assert!(rt; listen_by_number(&mut graph, entity, role, &who)? == Some(true));
+    assert!(rt; listen(&mut graph, entity, role, Port::Via(who))? == Some(false));
+    assert!(rt; listener_of(&graph, entity, 0) == Some((0, Port::Via(who))));
+    assert!(rt; solve_by_number(&mut graph, &who)? == Some(true));
+    assert!(rt; solve_entity(&mut graph, who)? == Some(false));
+    assert!(rt; first_solution(&graph, entity) == Some(who));
     assert!(rt; graph.reason(1, &who) == Some((0, Reason::Leaf)));
     Ok(())
 }
 
 #[test]
-fn numbers_stand_for_names(rt: HostRuntime) -> Result<(), Fail> {
-    knows_numbers(&rt, &mut Graph::new(rt.alloc()))
-}
-
-fn hears_a_stranger(rt: &impl Abort, graph: &mut Graph) -> Result<(), Fail> {
-    let (role, entity) = role_and_entity()?;
-    let who = Entity::read(b"D")?;
-    add_nodes(graph, &[role])?;
-    assert!(rt; listen(graph, role, role, Port::Via(who))? == Some(true));
-    assert!(rt; listen(graph, role, role, Port::Via(who))? == Some(false));
-    add_nodes(graph, &[entity])?;
-    assert!(rt; listen_by_number(graph, role, role, &who)? == Some(false));
-    assert!(rt; listen_by_number(graph, entity, role, &who)? == Some(true));
-    assert!(rt; listener_of(graph, role, 0) == Some((0, Port::Via(who))));
-    assert!(rt; listener_of(graph, role, 1) == None);
+fn a_stranger_goes_on_to_be_one_listener(rt: HostRuntime) -> Result<(), AllocError> {
+    let (role, entity) = role_and_entity(&rt);
+    let who = read_entity(&rt, b"D");
+    let mut graph = Graph::new(rt.alloc());
+    add_nodes(&mut graph, &[role])?;
+    assert!(rt; listen(&mut graph, role, role, Port::Via(who))? == Some(true));
+    assert!(rt; listen(&mut graph, role, role, Port::Via(who))? == Some(false));
+    add_nodes(&mut graph, &[entity])?;
+    assert!(rt; listen_by_number(&mut graph, role, role, &who)? == Some(false));
+    assert!(rt; listen_by_number(&mut graph, entity, role, &who)? == Some(true));
+    assert!(rt; listener_of(&graph, role, 0) == Some((0, Port::Via(who))));
+    assert!(rt; listener_of(&graph, role, 1) == None);
     Ok(())
 }
 
 #[test]
-fn a_stranger_goes_on_to_be_one_listener(rt: HostRuntime) -> Result<(), Fail> {
-    hears_a_stranger(&rt, &mut Graph::new(rt.alloc()))
-}
-
-fn hears_eleven(rt: &impl Abort, graph: &mut Graph) -> Result<(), Fail> {
-    let (role, entity) = role_and_entity()?;
-    add_nodes(graph, &[role, entity])?;
+fn listeners_beyond_eight_stand_once(rt: HostRuntime) -> Result<(), AllocError> {
+    let (role, entity) = role_and_entity(&rt);
+    let mut graph = Graph::new(rt.alloc());
+    add_nodes(&mut graph, &[role, entity])?;
     for part in 0..11 {
-        assert!(rt; listen(graph, entity, role, Port::Part(part))? == Some(true));
-        assert!(rt; listener_of(graph, entity, part as u64) == Some((0, Port::Part(part))));
-        assert!(rt; listener_of(graph, entity, part as u64 + 1) == None);
+        assert!(rt; listen(&mut graph, entity, role, Port::Part(part))? == Some(true));
+        assert!(rt; listener_of(&graph, entity, part as u64) == Some((0, Port::Part(part))));
+        assert!(rt; listener_of(&graph, entity, part as u64 + 1) == None);
     }
     for part in 0..11 {
-        assert!(rt; listen(graph, entity, role, Port::Part(part))? == Some(false));
+        assert!(rt; listen(&mut graph, entity, role, Port::Part(part))? == Some(false));
     }
     Ok(())
-}
-
-#[test]
-fn listeners_beyond_eight_stand_once(rt: HostRuntime) -> Result<(), Fail> {
-    hears_eleven(&rt, &mut Graph::new(rt.alloc()))
 }
 
 fn mix(sum: u64, more: u64) -> u64 {
@@ -520,15 +507,17 @@ fn add_each(
     Ok(())
 }
 
+/// How many listeners and solutions the entity's node has, if it has one.
+fn counts_of(graph: &Graph, who: Entity) -> Option<(u64, u64)> {
+    let n = graph.node(&Expr::Ent(who))?;
+    Some((graph.listeners(n), graph.solutions(n)))
+}
+
 #[test]
 fn a_refused_addition_changes_nothing(rt: HostRuntime) -> Result<(), Fail> {
     let first = Entity::read(b"A")?;
     let mut graph = Graph::new(rt.alloc());
     add_each(&rt, &mut graph, &six(rt.alloc())?, first)?;
-    let Some(n) = graph.node(&Expr::Ent(first)) else {
-        return Err(Fail::from("the first node is gone"));
-    };
-    assert_eq!(rt; graph.listeners(n), 6);
-    assert_eq!(rt; graph.solutions(n), 1);
+    assert_eq!(rt; counts_of(&graph, first), Some((6, 1)));
     Ok(())
 }

@@ -129,27 +129,17 @@ fn act(
     Ok(())
 }
 
-// Does the deeds in turn, and looks at the computation after each.
-fn play_on(
-    rt: &impl Abort,
-    alloc: Global,
-    d: &mut Diffusion<u64>,
-    deeds: &[(Deed, Counts)],
-) -> Result<(), AllocError> {
-    assert_eq!(rt; look_at(d), [1, 1, 0, 1]);
-    for (deed, after) in deeds {
-        act(rt, alloc, d, *deed)?;
-        assert_eq!(rt; look_at(d), *after);
-        assert_eq!(rt; d.is_complete(), after[3] == 0);
-    }
-    Ok(())
-}
-
-// Does the deeds from a first letter to node 0 on.
+// Does the deeds in turn, from a first letter to node 0 on, and looks at the computation after each.
 fn play(rt: &impl Abort, alloc: Global, deeds: &[(Deed, Counts)]) -> Result<(), AllocError> {
     let start = || Diffusion::start(alloc, 0, 0);
     let mut d = start().or_else(|_| start())?;
-    play_on(rt, alloc, &mut d, deeds)
+    assert_eq!(rt; look_at(&d), [1, 1, 0, 1]);
+    for (deed, after) in deeds {
+        act(rt, alloc, &mut d, *deed)?;
+        assert_eq!(rt; look_at(&d), *after);
+        assert_eq!(rt; d.is_complete(), after[3] == 0);
+    }
+    Ok(())
 }
 
 const ENVIRONMENT: Parent = Parent::Environment;
@@ -264,27 +254,18 @@ fn text(alloc: Global, word: &str) -> Result<String, AllocError> {
     String::from_str(alloc, word).or_else(|_| String::from_str(alloc, word))
 }
 
-// A letter to node 8 that says so.
-fn tell(alloc: Global) -> Result<Vec<(u64, String)>, AllocError> {
-    let mut outs = Vec::new(alloc);
-    outs.push((8, text(alloc, "tell")?))?;
-    Ok(outs)
-}
-
-fn carries_texts(rt: &impl Abort, alloc: Global, d: &mut Diffusion<String>) -> Result<(), Fail> {
+#[test]
+fn a_load_owns_memory(rt: HostRuntime) -> Result<(), Fail> {
+    let mut d = Diffusion::start(rt.alloc(), 7, text(rt.alloc(), "ask")?)?;
     assert!(rt; d.waiting() > 0);
     assert_eq!(rt; d.take(0), 1);
-    finish_with(rt, d, 1, tell(alloc)?)?;
+    let mut outs = Vec::new(rt.alloc());
+    outs.push((8, text(rt.alloc(), "tell")?))?;
+    finish_with(&rt, &mut d, 1, outs)?;
     let Some(letter) = d.letter(2) else {
         return Err(Fail::from("letter 2 is gone"));
     };
     assert_eq!(rt; letter.load.as_str(), "tell");
     assert_eq!(rt; (letter.from, letter.to), (Parent::Node(7), 8));
     Ok(())
-}
-
-#[test]
-fn a_load_owns_memory(rt: HostRuntime) -> Result<(), Fail> {
-    let mut d = Diffusion::start(rt.alloc(), 7, text(rt.alloc(), "ask")?)?;
-    carries_texts(&rt, rt.alloc(), &mut d)
 }
