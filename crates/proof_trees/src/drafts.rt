@@ -14,10 +14,16 @@ use std::alloc::{AllocError, Global};
 use std::marker::Model;
 
 /// A proof in the making: its steps so far, and the place of the solution that each claims.
-#[derive(Drop)]
 pub(crate) struct Draft {
     places: IndexSet<u64>,
     proof: Proof,
+}
+
+// By hand, so that who holds one drops it by one call, whose proof stands here.
+impl Drop for Draft {
+    fn drop(self) {
+        let _proof = self.into_proof();
+    }
 }
 
 impl Model for Draft {
