@@ -40,8 +40,8 @@ returns-in_ok-extend_from_slice-in-Cred c = record {
   written =
       on_ok_weaker c.append_numbers.result
       (λ last.
-          cited _ _ _ _ _ _ c.in_ok-append_credential-in-Cred.ensures.written c.in_ok-extend_from_slice-in-Cred.ensures.items last
-          ∙ by_rule c.args.out.now.items c.args.steps.now c.args.step.now.claim (Cred c.in-Cred.body) c.in-Cred.is)
+      cited _ _ _ _ _ _ c.in_ok-append_credential-in-Cred.ensures.written c.in_ok-extend_from_slice-in-Cred.ensures.items last
+      ∙ by_rule c.args.out.now.items c.args.steps.now c.args.step.now.claim (Cred c.in-Cred.body) c.in-Cred.is)
       c.append_numbers.ensures.written;
   kept =
       keeps_through _ c.append_credential.new.out.items _ c.append_credential.ensures.kept
@@ -61,8 +61,8 @@ returns-in_ok-extend_from_slice-in-Link c = record {
   written =
       on_ok_weaker c.append_numbers-in-Link.result
       (λ last.
-          twice _ _ _ c.in_ok-extend_from_slice-in-Link.ensures.items last
-          ∙ by_rule c.args.out.now.items c.args.steps.now c.args.step.now.claim (Link c.in-Link.base c.in-Link.role) c.in-Link.is)
+      twice _ _ _ c.in_ok-extend_from_slice-in-Link.ensures.items last
+      ∙ by_rule c.args.out.now.items c.args.steps.now c.args.step.now.claim (Link c.in-Link.base c.in-Link.role) c.in-Link.is)
       c.append_numbers-in-Link.ensures.written;
   kept = keeps_more _ _ _ _ c.in_ok-extend_from_slice-in-Link.ensures.items c.append_numbers-in-Link.ensures.kept;
   capacity = omega arith;
@@ -80,9 +80,9 @@ returns-in_ok-extend_from_slice-in-Parts c = record {
   written =
       on_ok_weaker c.append_numbers-in-Parts.result
       (λ last.
-          twice _ _ _ c.in_ok-extend_from_slice-in-Parts.ensures.items last
-          ∙ ap (λ (l : List ℕ). c.args.out.now.items ++ (codes "parts from" ++ numbers_text l)) c.as_slice.ensures
-          ∙ by_rule c.args.out.now.items c.args.steps.now c.args.step.now.claim (Parts c.in-Parts.premises) c.in-Parts.is)
+      twice _ _ _ c.in_ok-extend_from_slice-in-Parts.ensures.items last
+      ∙ ap (λ (l : List ℕ). c.args.out.now.items ++ (codes "parts from" ++ numbers_text l)) c.as_slice.ensures
+      ∙ by_rule c.args.out.now.items c.args.steps.now c.args.step.now.claim (Parts c.in-Parts.premises) c.in-Parts.is)
       c.append_numbers-in-Parts.ensures.written;
   kept = keeps_more _ _ _ _ c.in_ok-extend_from_slice-in-Parts.ensures.items c.append_numbers-in-Parts.ensures.kept;
   capacity = omega arith;
