@@ -1,11 +1,12 @@
 -- The premises of a solution: one that no step claims yet, or a rule from the steps of all.
-use Rattle.std.proofs.Common.{ℕ, ◌≡◌, inl, inr, sym, subst, refl, List, Result, Err, IfErr}
+use Rattle.std.proofs.Common.{ℕ, ◌≡◌, ◌∙◌, Some, inl, inr, sym, subst, refl, List, Result, Err, IfErr}
 use Rattle.names.specs.declared.roles.Role.{Role}
 use Rattle.credential_text.specs.declared.intersections.Part.{Part}
 use Rattle.credential_text.specs.declared.exprs.Expr.TheVariants.{Rol, Link, Meet}
 use Rattle.credential_text.specs.Expr.{part_expr}
 use Rattle.cred_graph.specs.declared.solutions.Reason.TheVariants as reason
-use Rattle.cred_graph.specs.GraphState.{GraphState, IsNode}
+use Rattle.cred_graph.specs.GraphState.{GraphState, IsNode, Known}
+use Rattle.cred_graph.specs.Reason.{Fits}
 use Rattle.proof_trees.specs.declared.findings.Finding.{Finding}
 use Rattle.proof_trees.specs.Draft.{DraftState, IsMissing, IsMissingPart, IsMissingPremise}
 
@@ -35,6 +36,15 @@ module _ (g : GraphState) (d : DraftState) (n : ℕ) (who : List ℕ) (f : Findi
         stands = missed.missing.stands;
         absent = missed.missing.absent;
       }
+
+-- a linked role's base and the role of its member are known
+pub via_known : (g : GraphState) (n : ℕ) (who b : List ℕ) (base : Role) (name : List ℕ) → IsNode g n (Link base name) → Fits g n who (reason.Via b) →
+    Known g b (Rol base) × Known g who (Rol (record { owner = b; name = name }))
+via_known g n who b base name node (r, t, again, in_base, in_role) =
+    let links : Some (Link r t) ≡ Some (Link base name) = sym again ∙ node in
+    let bases : r ≡ base = cc in
+    let names : t ≡ name = cc in
+    (subst (λ (x : Role). Known g b (Rol x)) bases in_base, subst (λ (x : List ℕ). Known g who (Rol (record { owner = b; name = x }))) names in_role)
 
 -- what holds of the finding that a call answers holds of the answer
 pub missing_err : {T : Type 0} (P : Finding → Type 0) (r : Result T Finding) (f h : Finding) → r ≡ Err f → f ≡ h → P h → IfErr r P
