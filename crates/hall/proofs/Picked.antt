@@ -144,8 +144,8 @@ module _ (h : HallState) (who : List ℕ) (made : Step) (next : IsNextOf h who m
   pub picked_left : SearchIsQuiet h (step_name made) (step_search made) → ⊥
   picked_left = let (k, r, at, is) = next in is_left h who k r at made is
 
-  pub picked_some : (Some made ≡ None) ↔ NothingToDo h
-  picked_some = (λ none. clash none, λ nothing. absurd (picked_left (nothing (step_name made) (step_search made))))
-    where
-      clash : Some made ≡ None → NothingToDo h
-      clash e = cc
+pub picked_some : (h : HallState) (made : Step) → (SearchIsQuiet h (step_name made) (step_search made) → ⊥) → (Some made ≡ None) ↔ NothingToDo h
+picked_some h made left = (λ none. clash none, λ nothing. absurd (left (nothing (step_name made) (step_search made))))
+  where
+    clash : Some made ≡ None → NothingToDo h
+    clash e = cc

@@ -1,5 +1,6 @@
 //! Which searches of a hall may still go on, and which of them has its turn.
-ghost use Rattle.std.specs.Prelude.{◌≡◌, ◌≤◌, ◌↔◌, None, IfSome, OnOk};
+ghost use Rattle.std.specs.Prelude.{◌≡◌, ◌≤◌, ◌↔◌, None, IfSome, OnOk, MatchOption};
+ghost use Rattle.std.specs.List.{AllByRecursion};
 ghost use Rattle.{search.specs.Search.IsSoundStage, hall.specs.Hall.step_name, hall.specs.Hall.step_search};
 ghost use Rattle.hall.specs.Visits.{SearchIsQuiet, NothingToDo, CanBeMade};
 ghost use Rattle.hall.specs.Kept.{IsUnsettled, Lists, KeepsBut};
@@ -64,15 +65,26 @@ impl Hall {
         let (place, round) = begin_at(self.busy.len(), turn);
         let (before, from_there) = self.busy.as_slice().split_at(place);
         for (who, numbers) in from_there.iter().chain(before.iter()) {
-            let (place, _round) = begin_at(numbers.len(), round);
-            let (before, from_there) = numbers.as_slice().split_at(place);
-            for &number in from_there.iter().chain(before.iter()) {
-                let Some(search) = self.search(*who, number) else {
-                    continue;
-                };
-                if let Some(step) = next_step(search, *who, number) {
-                    return Some(step);
-                }
+            if let Some(step) = self.pick_of(*who, numbers, round) {
+                return Some(step);
+            }
+        }
+        None
+    }
+
+    /// The same among the tenant's searches of these numbers.
+    fn pick_of(&self, who: Entity, numbers: &IndexSet<u64>, turn: u64) -> Option<Step>
+        ensures { MatchOption result (AllByRecursion (SearchIsQuiet self.now who) numbers.now.keys)
+            (λ step. CanBeMade self.now step × (SearchIsQuiet self.now (step_name step) (step_search step) → ⊥)) }
+    {
+        let (place, _round) = begin_at(numbers.len(), turn);
+        let (before, from_there) = numbers.as_slice().split_at(place);
+        for &number in from_there.iter().chain(before.iter()) {
+            let Some(search) = self.search(who, number) else {
+                continue;
+            };
+            if let Some(step) = next_step(search, who, number) {
+                return Some(step);
             }
         }
         None

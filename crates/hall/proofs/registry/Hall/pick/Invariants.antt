@@ -6,7 +6,3 @@ use Rattle.hall.proofs.registry.Hall.pick.Given as goal
 -- the searches of the tenants so far are quiet
 abbrev pub invariant-loop-who : goal.invariant-loop-who
 invariant-loop-who l = All (λ e. AllByRecursion (SearchIsQuiet l.self e.0.now) e.1.now.keys) l.yielded
-
--- and so are those of this tenant so far
-abbrev pub invariant-loop-number : goal.invariant-loop-number
-invariant-loop-number l = All (λ k. SearchIsQuiet l.self l.who k.now) l.yielded
