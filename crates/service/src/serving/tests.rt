@@ -7,7 +7,7 @@ use std::net::{Net, Shutdown, TcpStream};
 use std::test::Fail;
 use std::time::Duration;
 
-const ROSTER: &[u8] = b"tenant A a\nbegin\n";
+static ROSTER: &[u8] = b"tenant A a\nbegin\n";
 
 const ONE_PEER: ServeOptions = ServeOptions {
     workers: 2,
@@ -163,6 +163,12 @@ fn serve_at<R: Threads + Wait + Clock + Sync>(
     serve(rt, alloc, roster, listener, options, writer)
 }
 
+/// The roster of A.
+fn one_tenant(alloc: Global) -> Result<Roster, Fail> {
+    let mut lines = LineReader::make(alloc, ROSTER)?;
+    Ok(Roster::read(alloc, &mut lines)?)
+}
+
 /// Serves at this listener. Answers what the service came to, and whether all went as it should meanwhile.
 fn serve_while<R: Net<Stream = TcpStream> + Threads + Wait + Clock + Sync>(
     rt: &R,
@@ -172,14 +178,39 @@ fn serve_while<R: Net<Stream = TcpStream> + Threads + Wait + Clock + Sync>(
     meanwhile: Meanwhile,
     writer: &mut Trickles,
 ) -> Result<(Result<u64, ServeFault>, bool), Fail> {
-    let mut lines = LineReader::make(alloc, ROSTER)?;
-    let roster = Roster::read(alloc, &mut lines)?;
     let port = listener.local_addr()?.port();
+    let roster = one_tenant(alloc)?;
     Ok(thread::join(
         rt,
         || serve_at(rt, alloc, &roster, listener, options, writer),
         || goes_well(rt, port, meanwhile).unwrap_or(false),
     ))
+}
+
+/// What a service comes to, and whether all goes as it should meanwhile.
+fn came_to<R: Net<Stream = TcpStream> + Threads + Wait + Clock + Sync>(
+    rt: &R,
+    alloc: Global,
+    listener: TcpListener,
+    options: ServeOptions,
+    meanwhile: Meanwhile,
+) -> Result<(Result<u64, ServeFault>, bool), Fail> {
+    let mut writer = Trickles::new(Vec::new(alloc), NEVER, Refuses::WithAnError);
+    serve_while(rt, alloc, listener, options, meanwhile, &mut writer)
+}
+
+/// Whether a service of one peer comes to this, all goes as it should meanwhile, and this is written.
+fn is_written<R: Net<Stream = TcpStream> + Threads + Wait + Clock + Sync>(
+    rt: &R,
+    alloc: Global,
+    listener: TcpListener,
+    meanwhile: Meanwhile,
+    end: Result<u64, ServeFault>,
+    writer: &mut Trickles,
+    wanted: &[u8],
+) -> Result<bool, Fail> {
+    let came_to = serve_while(rt, alloc, listener, ONE_PEER, meanwhile, writer)?;
+    Ok(came_to == (end, true) && writer.taken.as_slice() == wanted)
 }
 
 /// Whether a service comes to this, all goes as it should meanwhile, and it tells where it listens and then this.
@@ -192,10 +223,17 @@ fn comes_to<R: Net<Stream = TcpStream> + Threads + Wait + Clock + Sync>(
     then: &str,
 ) -> Result<bool, Fail> {
     let port = listener.local_addr()?.port();
-    let mut writer = Trickles::new(Vec::new(alloc), NEVER, Refuses::WithAnError);
-    let came_to = serve_while(rt, alloc, listener, ONE_PEER, meanwhile, &mut writer)?;
     let wanted = format!(in alloc; "listening 127.0.0.1:{port}\n{then}")?;
-    Ok(came_to == (end, true) && writer.taken.as_slice() == wanted.as_bytes())
+    let mut writer = Trickles::new(Vec::new(alloc), NEVER, Refuses::WithAnError);
+    is_written(
+        rt,
+        alloc,
+        listener,
+        meanwhile,
+        end,
+        &mut writer,
+        wanted.as_bytes(),
+    )
 }
 
 #[test]
@@ -220,8 +258,7 @@ fn a_listener_that_fails(rt: HostRuntime) -> Result<(), Fail> {
 fn a_listener_that_fails_beside_a_session(rt: HostRuntime) -> Result<(), Fail> {
     let listener = TcpListener::bind(&rt, ("127.0.0.1", 0))?;
     let fails = Meanwhile::TheListenerFails(listener.try_clone()?);
-    let mut writer = Trickles::new(Vec::new(rt.alloc()), NEVER, Refuses::WithAnError);
-    let came_to = serve_while(&rt, rt.alloc(), listener, MANY_PEERS, fails, &mut writer)?;
+    let came_to = came_to(&rt, rt.alloc(), listener, MANY_PEERS, fails)?;
     assert_eq!(rt; came_to, (Err(ServeFault::Socket), true));
     Ok(())
 }
@@ -229,47 +266,42 @@ fn a_listener_that_fails_beside_a_session(rt: HostRuntime) -> Result<(), Fail> {
 #[test]
 fn peers_that_are_idle(rt: HostRuntime) -> Result<(), Fail> {
     let listener = TcpListener::bind(&rt, ("127.0.0.1", 0))?;
-    let silent = Meanwhile::TwoFallSilent;
-    let mut writer = Trickles::new(Vec::new(rt.alloc()), NEVER, Refuses::WithAnError);
-    let came_to = serve_while(
+    let came_to = came_to(
         &rt,
         rt.alloc(),
         listener,
         TWO_IDLE_PEERS,
-        silent,
-        &mut writer,
+        Meanwhile::TwoFallSilent,
     )?;
     assert_eq!(rt; came_to, (Ok(2), true));
     Ok(())
 }
 
-/// Whether a service ends as it should whose writer refuses so many bytes behind the start of the first line, where nobody
-/// comes, and else of the second.
+/// Whether a service ends as it should whose writer refuses so many bytes behind the start of the second line, where one
+/// comes, and else of the first.
 fn ends_at_a_write<
     R: Net<Listener = TcpListener, Stream = TcpStream> + Threads + Wait + Clock + Sync,
->(
-    rt: &R,
-    alloc: Global,
-    meanwhile: Meanwhile,
-    behind: usize,
-    refuses: Refuses,
-) -> Result<bool, Fail> {
+>(rt: &R, alloc: Global, one_comes: bool, behind: usize, refuses: Refuses) -> Result<bool, Fail> {
     let listener = TcpListener::bind(rt, ("127.0.0.1", 0))?;
     let port = listener.local_addr()?.port();
-    let first = format!(in alloc; "listening 127.0.0.1:{port}\n")?;
     let both = format!(in alloc; "listening 127.0.0.1:{port}\nserved 1\n")?;
-    let before = match &meanwhile {
-        Meanwhile::NobodyComes => 0,
-        _ => first.len(),
+    let (meanwhile, before) = if one_comes {
+        (
+            Meanwhile::OneComesAndCloses,
+            both.len().saturating_sub(b"served 1\n".len()),
+        )
+    } else {
+        (Meanwhile::NobodyComes, 0)
     };
-    let at = before.saturating_add(behind);
-    let mut writer = Trickles::new(Vec::new(alloc), at as u64, refuses);
-    let came_to = serve_while(rt, alloc, listener, ONE_PEER, meanwhile, &mut writer)?;
-    Ok(
-        came_to == (Err(ServeFault::Write), true)
-            && writer.taken.len() == at
-            && both.as_bytes().starts_with(&writer.taken),
-    )
+    let Some((front, _)) = both
+        .as_bytes()
+        .split_at_checked(before.saturating_add(behind))
+    else {
+        return Ok(false);
+    };
+    let end = Err(ServeFault::Write);
+    let mut writer = Trickles::new(Vec::new(alloc), front.len() as u64, refuses);
+    is_written(rt, alloc, listener, meanwhile, end, &mut writer, front)
 }
 
 // Each line has at least nine bytes.
@@ -277,10 +309,8 @@ fn ends_at_a_write<
 fn a_writer_that_fails(rt: HostRuntime) -> Result<(), Fail> {
     for refuses in [Refuses::WithAnError, Refuses::ByTakingNothing] {
         for behind in 0..9usize {
-            let nobody = Meanwhile::NobodyComes;
-            let one = Meanwhile::OneComesAndCloses;
-            let first = ends_at_a_write(&rt, rt.alloc(), nobody, behind, refuses)?;
-            let second = ends_at_a_write(&rt, rt.alloc(), one, behind, refuses)?;
+            let first = ends_at_a_write(&rt, rt.alloc(), false, behind, refuses)?;
+            let second = ends_at_a_write(&rt, rt.alloc(), true, behind, refuses)?;
             assert!(rt; first && second, "{refuses:?} at byte {behind}");
         }
     }

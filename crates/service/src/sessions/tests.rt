@@ -3,7 +3,7 @@ ghost use Rattle.service.specs.Roster.{names_of};
 
 use super::*;
 use crate::fakes::{Drips, NEVER, Refuses, Trickles};
-use pool::{NoGate, PARTS, run_workers};
+use pool::{DeskFault, NoGate, PARTS, run_workers};
 use std::alloc::AllocError;
 use std::marker::Brand;
 use std::sync::ledger::Blank;
@@ -18,11 +18,11 @@ fn tenants(alloc: Global) -> Result<Roster, Fail> {
     Ok(Roster::read(alloc, &mut lines)?)
 }
 
-/// How many changes were accepted, where all passes have left.
-fn told_to_all<L: Ledger, R: Wait>(rt: &R, alloc: Global, desk: &Desk<L>) -> Result<u64, Fail> {
+/// How many changes were accepted, unless a pass is still out.
+fn told_to_all<L: Ledger, R: Wait>(rt: &R, alloc: Global, desk: &Desk<L>) -> Option<u64> {
     match desk.gather(rt, Vec::new(alloc)) {
-        Ok(gathered) => Ok(gathered.length),
-        Err(_) => Err("a pass is still out")?,
+        Ok(gathered) => Some(gathered.length),
+        Err(_) => None,
     }
 }
 
@@ -33,7 +33,7 @@ fn serve_at<L: Ledger, R: Wait>(
     blank: Blank,
     reader: &mut Drips<'_>,
     writer: &mut Trickles,
-) -> Result<(SessionEnd, u64), Fail>
+) -> Result<(SessionEnd, Option<u64>), Fail>
     requires name { blank.name ≡ L.name }
     requires parts { blank.parts ≡ L.parts }
     requires room { blank.parts ≡ PARTS }
@@ -41,7 +41,7 @@ fn serve_at<L: Ledger, R: Wait>(
     let roster = tenants(alloc)?;
     let desk = roster.desk::<L>(alloc, blank)?;
     let end = serve_session(rt, alloc, &desk, &roster, reader, writer);
-    Ok((end, told_to_all(rt, alloc, &desk)?))
+    Ok((end, told_to_all(rt, alloc, &desk)))
 }
 
 /// Serves a session at a desk of its own, without workers, and answers how it ended and how many changes were accepted.
@@ -50,7 +50,7 @@ fn serve<R: Wait>(
     alloc: Global,
     reader: &mut Drips<'_>,
     writer: &mut Trickles,
-) -> Result<(SessionEnd, u64), Fail> {
+) -> Result<(SessionEnd, Option<u64>), Fail> {
     serve_at::<Brand, _>(rt, alloc, Blank::new(PARTS), reader, writer)
 }
 
@@ -64,23 +64,26 @@ fn is_told<R: Wait>(
 ) -> Result<bool, Fail> {
     let mut reader = Drips::new(said, NEVER);
     let mut writer = Trickles::new(Vec::new(alloc), NEVER, Refuses::WithAnError);
-    let (ended, _) = serve(rt, alloc, &mut reader, &mut writer)?;
-    Ok(ended == end && writer.taken.as_slice() == told)
+    let (ended, accepted) = serve(rt, alloc, &mut reader, &mut writer)?;
+    Ok(ended == end && accepted.is_some() && writer.taken.as_slice() == told)
 }
+
+static WHOLE: &[u8] =
+    b"vault\nhello A x\nhello Z a\nhello A a\nput A.r <- D\nvault\nsees\nask A.r D\npoll 1\nend 7\n\
+    look\nquit\nvault\nquit\n";
+
+static WHOLE_TOLD: &[u8] =
+    b"error 61 no hello\nerror 62 bad hello\nerror 62 bad hello\nhello A\nok 1\n\
+    vault 1\nA.r <- D\nsees A\nsearch 1\nworking\nerror 51 no such search\n\
+    error 64 command\nbye\n";
 
 #[test]
 fn a_session_from_its_hello_to_bye(rt: HostRuntime) -> Result<(), Fail> {
-    let said: &[u8] =
-        b"vault\nhello A x\nhello Z a\nhello A a\nput A.r <- D\nvault\nsees\nask A.r D\npoll 1\nend 7\n\
-        look\nquit\nvault\nquit\n";
-    let told: &[u8] = b"error 61 no hello\nerror 62 bad hello\nerror 62 bad hello\nhello A\nok 1\n\
-        vault 1\nA.r <- D\nsees A\nsearch 1\nworking\nerror 51 no such search\n\
-        error 64 command\nbye\n";
-    let mut reader = Drips::new(said, NEVER);
+    let mut reader = Drips::new(WHOLE, NEVER);
     let mut writer = Trickles::new(Vec::new(rt.alloc()), NEVER, Refuses::WithAnError);
     let ended = serve(&rt, rt.alloc(), &mut reader, &mut writer)?;
-    assert_eq!(rt; ended, (SessionEnd::Quit, 1));
-    assert_eq!(rt; writer.taken.as_slice(), told);
+    assert_eq!(rt; ended, (SessionEnd::Quit, Some(1)));
+    assert_eq!(rt; writer.taken.as_slice(), WHOLE_TOLD);
     assert_eq!(rt; reader.rest(), b"vault\nquit\n".as_slice());
     Ok(())
 }
@@ -155,70 +158,79 @@ fn is_told_between<R: Wait>(
     is_told(rt, alloc, &said, &told, SessionEnd::EndOfInput)
 }
 
-// The long lines have one byte more than there is room for, and one byte outside as well.
+/// Whether the line is told this before a hello, which is taken after it.
+fn is_told_first<R: Wait>(rt: &R, alloc: Global, line: &[u8], told: &[u8]) -> Result<bool, Fail> {
+    let behind: (&[u8], &[u8]) = (b"\nhello A a\nsees\n", b"hello A\nsees A\n");
+    is_told_between(rt, alloc, (b"", b""), (line, told), behind)
+}
+
+/// Whether the line is told this after a hello of A, who stays the one that speaks.
+fn is_told_later<R: Wait>(rt: &R, alloc: Global, line: &[u8], told: &[u8]) -> Result<bool, Fail> {
+    let before: (&[u8], &[u8]) = (b"hello A a\n", b"hello A\n");
+    is_told_between(rt, alloc, before, (line, told), (b"\nsees", b"sees A\n"))
+}
+
 #[test]
 fn lines_before_and_after_a_hello(rt: HostRuntime) -> Result<(), Fail> {
-    let before: (&[u8], &[u8]) = (b"hello A a\n", b"hello A\n");
-    let behind: (&[u8], &[u8]) = (b"\nhello A a\nsees\n", b"hello A\nsees A\n");
-    for (line, reply) in &BEFORE_A_HELLO {
-        let is_right = is_told_between(&rt, rt.alloc(), (b"", b""), (*line, *reply), behind)?;
-        assert!(rt; is_right, "before a hello: {line:?}");
+    for (line, told) in &BEFORE_A_HELLO {
+        assert!(rt;
+            is_told_first(&rt, rt.alloc(), *line, *told)?,
+            "before a hello: {line:?}"
+        );
     }
-    for (line, reply) in &AFTER_A_HELLO {
-        let is_right = is_told_between(
-            &rt,
-            rt.alloc(),
-            before,
-            (*line, *reply),
-            (b"\nsees", b"sees A\n"),
-        )?;
-        assert!(rt; is_right, "after a hello: {line:?}");
-    }
-    let told: &[u8] = b"error 65 line too long\n";
-    let mut lines = [
-        vec![in rt.alloc(); b' '; 4097]?,
-        vec![in rt.alloc(); b'x'; 5000]?,
-    ];
-    lines[1][2000] = 200;
-    for line in &lines {
-        let first = is_told_between(
-            &rt,
-            rt.alloc(),
-            (b"", b""),
-            (line, told),
-            (b"\nlook", b"error 61 no hello\n"),
-        )?;
-        let later = is_told_between(
-            &rt,
-            rt.alloc(),
-            before,
-            (line, told),
-            (b"\nsees", b"sees A\n"),
-        )?;
-        assert!(rt; first && later);
+    for (line, told) in &AFTER_A_HELLO {
+        assert!(rt;
+            is_told_later(&rt, rt.alloc(), *line, *told)?,
+            "after a hello: {line:?}"
+        );
     }
     Ok(())
 }
+
+/// Whether the line is told that it is too long, before and after a hello.
+fn is_too_long<R: Wait>(rt: &R, alloc: Global, line: &[u8]) -> Result<bool, Fail> {
+    let told: &[u8] = b"error 65 line too long\n";
+    let behind: (&[u8], &[u8]) = (b"\nlook", NO_HELLO);
+    Ok(
+        is_told_between(rt, alloc, (b"", b""), (line, told), behind)?
+            && is_told_later(rt, alloc, line, told)?,
+    )
+}
+
+// They have one byte more than there is room for, and one byte outside as well.
+#[test]
+fn lines_that_are_too_long(rt: HostRuntime) -> Result<(), Fail> {
+    let spaces = vec![in rt.alloc(); b' '; 4097]?;
+    assert!(rt; is_too_long(&rt, rt.alloc(), &spaces)?);
+    let mut text = vec![in rt.alloc(); b'x'; 5000]?;
+    text[2000] = 200;
+    assert!(rt; is_too_long(&rt, rt.alloc(), &text)?);
+    Ok(())
+}
+
+/// What is said without `quit`, and told.
+static UNENDED: [(&[u8], &[u8]); 5] = [
+    (b"", b""),
+    (b"hello A a", b"hello A\n"),
+    (b"hello A a\r\nput A.r <- D", b"hello A\nok 1\n"),
+    (b"hello A a\nput A.r <-", b"hello A\nerror 23 empty body\n"),
+    (b"hello A a\nput A.", b"hello A\nerror 21 no arrow\n"),
+];
 
 #[test]
 fn an_input_that_ends_without_quit(rt: HostRuntime) -> Result<(), Fail> {
-    let table: [(&[u8], &[u8]); 5] = [
-        (b"", b""),
-        (b"hello A a", b"hello A\n"),
-        (b"hello A a\r\nput A.r <- D", b"hello A\nok 1\n"),
-        (b"hello A a\nput A.r <-", b"hello A\nerror 23 empty body\n"),
-        (b"hello A a\nput A.", b"hello A\nerror 21 no arrow\n"),
-    ];
-    for (said, told) in table {
-        let is_right = is_told(&rt, rt.alloc(), said, told, SessionEnd::EndOfInput)?;
-        assert!(rt; is_right, "at the end of {said:?}");
+    for (said, told) in &UNENDED {
+        assert!(rt;
+            is_told(&rt, rt.alloc(), *said, *told, SessionEnd::EndOfInput)?,
+            "at the end of {said:?}"
+        );
     }
     Ok(())
 }
 
-const SAID: &[u8] = b"hello A a\nput A.r <- D\nsees\nquit\nvault\n";
+static SAID: &[u8] = b"hello A a\nput A.r <- D\nsees\nquit\nvault\n";
 
-const TOLD: &[u8] = b"hello A\nok 1\nsees A\nbye\n";
+static TOLD: &[u8] = b"hello A\nok 1\nsees A\nbye\n";
 
 /// Whether that is so much of the front of `TOLD`.
 fn is_front(taken: &[u8], length: usize) -> bool {
@@ -241,7 +253,7 @@ fn ends_at_a_read<R: Wait>(rt: &R, alloc: Global, read: usize) -> Result<bool, F
     let mut reader = Drips::new(SAID, read as u64);
     let mut writer = Trickles::new(Vec::new(alloc), NEVER, Refuses::WithAnError);
     let ended = serve(rt, alloc, &mut reader, &mut writer)?;
-    Ok(ended == (SessionEnd::Read, changes) && is_front(&writer.taken, front))
+    Ok(ended == (SessionEnd::Read, Some(changes)) && is_front(&writer.taken, front))
 }
 
 // The line `quit` ends at byte 33, and nothing is read behind it.
@@ -280,7 +292,7 @@ fn ends_at_a_write<R: Wait>(
     let ended = serve(rt, alloc, &mut reader, &mut writer)?;
     let rest = reader.rest();
     Ok(
-        ended == (SessionEnd::Write, changes)
+        ended == (SessionEnd::Write, Some(changes))
             && is_front(&writer.taken, written)
             && rest.len() == unread
             && SAID.ends_with(rest),
@@ -340,20 +352,47 @@ fn are_told<L: Ledger, R: Wait>(
     desk: &Desk<L>,
     roster: &Roster,
     talks: &[Talk],
-) -> Result<bool, AllocError>
+) -> bool
     requires { desk.now ≡ names_of roster.now }
 {
     for (said, told) in talks {
         let mut written = Vec::new(alloc);
         serve_session(rt, alloc, desk, roster, *said, &mut written);
         if written.as_slice() != *told {
-            return Ok(false);
+            return false;
         }
     }
-    Ok(true)
+    true
 }
 
-/// Whether the sessions are told what they should be, beside workers and after these are stopped.
+/// Whether the sessions at this desk are told what they should be, beside workers and after these are stopped.
+fn are_all_told<L: Ledger + Send + Sync, R: Threads + Wait + Sync>(
+    rt: &R,
+    alloc: Global,
+    desk: &Desk<L>,
+    roster: &Roster,
+) -> Result<bool, DeskFault>
+    requires { desk.now ≡ names_of roster.now }
+{
+    let (worked, beside) = thread::join(
+        rt,
+        || {
+            let worked = run_workers(rt, desk, 2, &NoGate);
+            desk.stop(rt);
+            worked
+        },
+        || {
+            let beside = are_told(rt, alloc, desk, roster, &BESIDE_WORKERS);
+            desk.stop(rt);
+            beside
+        },
+    );
+    worked?;
+    let after = are_told(rt, alloc, desk, roster, &AFTER_THE_STOP);
+    Ok(beside && after && told_to_all(rt, alloc, desk) == Some(6))
+}
+
+/// Whether the sessions at a desk of this ledger are told what they should be.
 fn are_told_at<L: Ledger + Send + Sync, R: Threads + Wait + Sync>(
     rt: &R,
     alloc: Global,
@@ -365,22 +404,7 @@ fn are_told_at<L: Ledger + Send + Sync, R: Threads + Wait + Sync>(
 {
     let roster = tenants(alloc)?;
     let desk = roster.desk::<L>(alloc, blank)?;
-    let (worked, beside) = thread::join(
-        rt,
-        || {
-            let worked = run_workers(rt, &desk, 2, &NoGate);
-            desk.stop(rt);
-            worked
-        },
-        || {
-            let beside = are_told(rt, alloc, &desk, &roster, &BESIDE_WORKERS);
-            desk.stop(rt);
-            beside
-        },
-    );
-    worked?;
-    let after = are_told(rt, alloc, &desk, &roster, &AFTER_THE_STOP)?;
-    Ok(beside? && after && told_to_all(rt, alloc, &desk)? == 6)
+    Ok(are_all_told(rt, alloc, &desk, &roster)?)
 }
 
 #[test]
