@@ -1,5 +1,5 @@
 -- The text is cut where the byte stands first.
-use Rattle.std.proofs.Common.{ℕ, ◌≡◌, ◌==◌, true, false, sym, ◌∙◌, refl, arith}
+use Rattle.std.proofs.Common.{◌==◌, sym, ◌∙◌, refl, arith}
 use Rattle.names.proofs.Positions.{none_passes, first_passes, list_any-inside, list_any-outside}
 use Rattle.names.proofs.PieceLemmas.{before_place, after_place, pieces_place, whole_place, before_none, pieces_nowhere}
 use Rattle.names.proofs.texts.cut.Goals as goal
