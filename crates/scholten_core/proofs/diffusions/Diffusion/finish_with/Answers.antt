@@ -1,7 +1,8 @@
 use Rattle.std.proofs.Common.{ℕ, ◌+◌, ◌++◌, ◌==◌, not, filter, option_to_list, refl, sym, ap, subst, ◌∙◌, arith}
+use Rattle.std.proofs.lemmas.Result.{err_from_is_err_and}
 use Rattle.std.specs.Map.{lookup}
 use Rattle.scholten_core.specs.declared.parents.Parent.TheVariants.{Node}
-use Rattle.scholten_core.specs.Kept.{Receives, held_in}
+use Rattle.scholten_core.specs.Kept.{Receives, engagements, held_in}
 use Rattle.scholten_core.specs.Step.{numbered}
 use Rattle.scholten_core.proofs.Complete.{sound}
 use Rattle.scholten_core.proofs.Fields.{unchanged_kept}
@@ -11,13 +12,37 @@ use Rattle.scholten_core.proofs.diffusions.Diffusion.finish_with.Given.{Over}
 use Rattle.scholten_core.proofs.diffusions.Diffusion.finish_with.Goals as goal
 use Rattle.scholten_core.proofs.diffusions.Diffusion.finish_with.Goals.{After-send}
 
-pub returns-in_err-reserve-clause-sound : goal.returns-in_err-reserve-clause-sound
-returns-in_err-reserve-clause-sound g c =
-    sound _ (unchanged_kept c.self.inside.letters c.reserve.new.self c.self.inside.signals.items c.self.inside.signals.items c.self.inside.environment c.self.inside.nodes.items c.self.inside.nodes.items c.reserve.ensures.letters c.reserve.ensures.sent refl refl c.self.invariant).settled
+pub returns-in_err-reserve : goal.returns-in_err-reserve
+returns-in_err-reserve g c =
+    let p = err_from_is_err_and c.from_residual.result c.from_residual.ensures.1 in
+    rw p.1 record {
+      finished = tt;
+      emptied = tt;
+      unchanged = (λ i. record {
+        sent = c.reserve.ensures.sent i;
+        letters = c.reserve.ensures.letters i;
+        signals = c.self.inside.signals.items;
+        engaged = engagements c.self.inside.nodes.items;
+      }) ∙ c.self.view_is;
+      kept = refl;
+      sound = sound _ (unchanged_kept c.self.inside.letters c.reserve.new.self c.self.inside.signals.items c.self.inside.signals.items c.self.inside.environment c.self.inside.nodes.items c.self.inside.nodes.items c.reserve.ensures.letters c.reserve.ensures.sent refl refl c.self.invariant).settled;
+    }
 
-pub returns-in_err-reserve-2-clause-sound : goal.returns-in_err-reserve-2-clause-sound
-returns-in_err-reserve-2-clause-sound g c =
-    sound _ (unchanged_kept c.self.inside.letters c.reserve.new.self c.self.inside.signals.items c.reserve-2.new.self.items c.self.inside.environment c.self.inside.nodes.items c.self.inside.nodes.items c.reserve.ensures.letters c.reserve.ensures.sent c.reserve-2.ensures.items refl c.self.invariant).settled
+pub returns-in_err-reserve-2 : goal.returns-in_err-reserve-2
+returns-in_err-reserve-2 g c =
+    let p = err_from_is_err_and c.from_residual-in_err-reserve-2.result c.from_residual-in_err-reserve-2.ensures.1 in
+    rw p.1 record {
+      finished = tt;
+      emptied = tt;
+      unchanged = (λ i. record {
+        sent = c.reserve.ensures.sent i;
+        letters = c.reserve.ensures.letters i;
+        signals = c.reserve-2.ensures.items i;
+        engaged = engagements c.self.inside.nodes.items;
+      }) ∙ c.self.view_is;
+      kept = refl;
+      sound = sound _ (unchanged_kept c.self.inside.letters c.reserve.new.self c.self.inside.signals.items c.reserve-2.new.self.items c.self.inside.environment c.self.inside.nodes.items c.self.inside.nodes.items c.reserve.ensures.letters c.reserve.ensures.sent c.reserve-2.ensures.items refl c.self.invariant).settled;
+    }
 
 pub receive-requires : goal.receive-requires
 receive-requires g c =
@@ -30,8 +55,21 @@ pub invariant_of-self-in_err-by : goal.invariant_of-self-in_err-by
 invariant_of-self-in_err-by g c =
     unchanged_kept c.self.inside.letters c.reserve.new.self c.self.inside.signals.items c.reserve-2.new.self.items c.self.inside.environment c.self.inside.nodes.items c.receive.new.nodes.items c.reserve.ensures.letters c.reserve.ensures.sent c.reserve-2.ensures.items c.in_err-by.ensures.unchanged c.self.invariant
 
-pub returns-in_err-by-clause-sound : goal.returns-in_err-by-clause-sound
-returns-in_err-by-clause-sound g c = sound _ (invariant_of-self-in_err-by g c).settled
+pub returns-in_err-by : goal.returns-in_err-by
+returns-in_err-by g c =
+    let p = err_from_is_err_and c.from_residual-in_err-by.result c.from_residual-in_err-by.ensures.1 in
+    rw p.1 record {
+      finished = tt;
+      emptied = tt;
+      unchanged = (λ i. record {
+        sent = c.reserve.ensures.sent i;
+        letters = c.reserve.ensures.letters i;
+        signals = c.reserve-2.ensures.items i;
+        engaged = engagements (c.in_err-by.ensures.unchanged i);
+      }) ∙ c.self.view_is;
+      kept = refl;
+      sound = sound _ (invariant_of-self-in_err-by g c).settled;
+    }
 
 -- the fields hold the computation with the letter finished
 done : (g : Over) (c : After-send g) → IsFinishedIn (held_in c.self.inside.letters c.self.inside.signals.items c.self.inside.nodes.items) c.args.number c.args.outs.now.items (held_in c.send.new.self c.put.new.signals.items c.receive.new.nodes.items) c.self.inside.environment c.receive.new.nodes.items
@@ -51,9 +89,11 @@ done g c =
 pub invariant_of-self-2 : goal.invariant_of-self-2
 invariant_of-self-2 g c = (done g (goal.at.invariant_of-self-2 g c).After-send).kept
 
-pub returns-clause-finished : goal.returns-clause-finished
-returns-clause-finished g c =
-    rw (← c.self.view_is) (done g (goal.at.returns-clause-finished g c).After-send).step
-
-pub returns-clause-sound : goal.returns-clause-sound
-returns-clause-sound g c = sound _ (invariant_of-self-2 g c).settled
+pub returns : goal.returns
+returns g c = record {
+  finished = rw (← c.self.view_is) (done g (goal.at.returns g c).After-send).step;
+  emptied = c.send.ensures.emptied;
+  unchanged = tt;
+  kept = tt;
+  sound = sound _ (invariant_of-self-2 g c).settled;
+}
