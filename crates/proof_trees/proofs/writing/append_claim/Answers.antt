@@ -1,4 +1,4 @@
-use Rattle.std.proofs.Common.{◌≡◌, ◌∙◌, List, ℕ, ◌++◌, ap, arith}
+use Rattle.std.proofs.Common.{◌∙◌, List, ℕ, ◌++◌, ap, arith}
 use Rattle.std.proofs.lemmas.Result.{on_ok_weaker}
 use Rattle.credential_text.proofs.Keeping.{keeps_more, keeps_same, nothing_written}
 use Rattle.proof_trees.proofs.TextLemmas.{joined, twice, keeps_written}

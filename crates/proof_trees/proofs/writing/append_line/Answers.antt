@@ -1,4 +1,4 @@
-use Rattle.std.proofs.Common.{◌≡◌, refl, arith}
+use Rattle.std.proofs.Common.{refl, arith}
 use Rattle.credential_text.proofs.Keeping.{keeps_more, keeps_same, nothing_written}
 use Rattle.proof_trees.proofs.TextLemmas.{joined}
 use Rattle.proof_trees.proofs.writing.append_line.Goals as goal
