@@ -158,21 +158,7 @@ fn told_twice(waited: &Verdict, polled: &Verdict, about: Option<&Credential>) ->
     }
 }
 
-/// What a poll tells, where it is what the wait told.
-fn polled_after<L: Ledger, R: Wait>(
-    rt: &R,
-    desk: &Desk<L>,
-    pass: &mut Pass<L>,
-    number: u64,
-    about: Option<&Credential>,
-    waited: &Verdict,
-) -> Told {
-    match desk.poll(rt, pass, number) {
-        Ok(polled) => told_twice(waited, &polled, about),
-        Err(fault) => refused(fault),
-    }
-}
-
+/// What a wait tells, where a poll tells the same.
 fn waited<L: Ledger, R: Wait>(
     rt: &R,
     desk: &Desk<L>,
@@ -180,8 +166,12 @@ fn waited<L: Ledger, R: Wait>(
     number: u64,
     about: Option<&Credential>,
 ) -> Told {
-    match desk.wait(rt, pass, number) {
-        Ok(verdict) => polled_after(rt, desk, pass, number, about, &verdict),
+    let waited = match desk.wait(rt, pass, number) {
+        Ok(verdict) => verdict,
+        Err(fault) => return refused(fault),
+    };
+    match desk.poll(rt, pass, number) {
+        Ok(polled) => told_twice(&waited, &polled, about),
         Err(fault) => refused(fault),
     }
 }

@@ -45,46 +45,49 @@ fn the_ends_of_the_ranges(rt: HostRuntime) {
     }
 }
 
+fn numbers(limits: &Limits) -> [u64; 6] {
+    [
+        limits.creds(),
+        limits.grants(),
+        limits.searches(),
+        limits.changes(),
+        limits.opens(),
+        limits.work(),
+    ]
+}
+
 #[test]
 fn the_six_numbers(rt: HostRuntime) -> Result<(), Fail> {
     let limits = limits().ok_or("in their ranges")?;
-    assert_eq!(rt; limits.creds(), 2);
-    assert_eq!(rt; limits.grants(), 1);
-    assert_eq!(rt; limits.searches(), 3);
-    assert_eq!(rt; limits.changes(), 5);
-    assert_eq!(rt; limits.opens(), 4);
-    assert_eq!(rt; limits.work(), 9);
-    let usual = Limits::usual();
-    assert_eq!(rt; usual.creds(), 1_000);
-    assert_eq!(rt; usual.grants(), 100);
-    assert_eq!(rt; usual.searches(), 16);
-    assert_eq!(rt; usual.changes(), 10_000);
-    assert_eq!(rt; usual.opens(), 10_000);
-    assert_eq!(rt; usual.work(), 1_000_000);
+    assert_eq!(rt; numbers(&limits), [2, 1, 3, 5, 4, 9]);
+    let usual = [1_000, 100, 16, 10_000, 10_000, 1_000_000];
+    assert_eq!(rt; numbers(&Limits::usual()), usual);
     Ok(())
 }
 
-#[test]
-fn one_below_each_limit(rt: HostRuntime) -> Result<(), Fail> {
-    let limits = limits().ok_or("in their ranges")?;
-    let used = used(1, 0, 2, 4, 3);
-    assert_eq!(rt; limits.may_hold(&used), Ok(()));
-    assert_eq!(rt; limits.may_grant(&used), Ok(()));
-    assert_eq!(rt; limits.may_search(&used), Ok(()));
-    assert_eq!(rt; limits.may_change(&used), Ok(()));
-    assert_eq!(rt; limits.may_open(&used), Ok(()));
-    Ok(())
+/// Whether there may be one more credential, grant, search, change and opening.
+fn one_more(limits: &Limits, used: &Used) -> [Result<(), QuotaFault>; 5] {
+    [
+        limits.may_hold(used),
+        limits.may_grant(used),
+        limits.may_search(used),
+        limits.may_change(used),
+        limits.may_open(used),
+    ]
 }
 
 #[test]
-fn at_each_limit(rt: HostRuntime) -> Result<(), Fail> {
+fn one_below_and_at_each_limit(rt: HostRuntime) -> Result<(), Fail> {
     let limits = limits().ok_or("in their ranges")?;
-    let used = used(2, 1, 3, 5, 4);
-    assert_eq!(rt; limits.may_hold(&used), Err(QuotaFault::Creds));
-    assert_eq!(rt; limits.may_grant(&used), Err(QuotaFault::Grants));
-    assert_eq!(rt; limits.may_search(&used), Err(QuotaFault::Searches));
-    assert_eq!(rt; limits.may_change(&used), Err(QuotaFault::Changes));
-    assert_eq!(rt; limits.may_open(&used), Err(QuotaFault::Opens));
+    assert_eq!(rt; one_more(&limits, &used(1, 0, 2, 4, 3)), [Ok(()); 5]);
+    let refused = [
+        Err(QuotaFault::Creds),
+        Err(QuotaFault::Grants),
+        Err(QuotaFault::Searches),
+        Err(QuotaFault::Changes),
+        Err(QuotaFault::Opens),
+    ];
+    assert_eq!(rt; one_more(&limits, &used(2, 1, 3, 5, 4)), refused);
     Ok(())
 }
 
