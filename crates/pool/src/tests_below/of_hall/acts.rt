@@ -1,51 +1,53 @@
 //! Events as a table writes them, and what a table wants each to be answered.
 use super::entity;
-use credential_text::read_credential;
+use credential_text::{Credential, read_credential};
 use hall::{
-    Answer, Event, Fault, Hall, Names, Proof, Query, Reply, Request, Rows, Sights, Step, Stepped,
+    Answer, Event, Fault, Hall, Names, Proof, Query, Reply, Request, Sights, Step, Stepped,
     write_proof,
 };
-use names::Role;
+use names::{Entity, Role};
 use search::{Hint, Need};
 use std::alloc::{AllocError, Global};
 use std::test::Fail;
 use vaults::Change;
 
-/// What is asked of a hall, or done for it. The first field is whose request or search it is; a step names the number of
-/// its search next.
+/// What a tenant asks of a hall, or what is done for its search; a step names the number of the search first.
 #[derive(Clone, Copy)]
 pub(super) enum Act {
     /// The credential that this text spells is uploaded.
-    Put(&'static str, &'static str),
+    Put(&'static str),
     /// It is withdrawn.
-    Drop(&'static str, &'static str),
+    Drop(&'static str),
     /// The reader is granted the vault.
-    Grant(&'static str, &'static str),
+    Grant(&'static str),
     /// That is revoked.
-    Revoke(&'static str, &'static str),
+    Revoke(&'static str),
     /// Every tenant is granted the vault.
-    GrantAll(&'static str),
+    GrantAll,
     /// That is revoked.
-    RevokeAll(&'static str),
+    RevokeAll,
     /// Is the entity a member of the role?
-    Ask(&'static str, &'static str, &'static str),
+    Ask(&'static str, &'static str),
     /// Who is a member of the role?
-    Who(&'static str, &'static str),
-    Poll(&'static str, u64),
-    Close(&'static str, u64),
-    Vault(&'static str),
-    Sees(&'static str),
+    Who(&'static str),
+    Poll(u64),
+    Close(u64),
+    Vault,
+    Sees,
     /// Why is the entity a member of the role that the search of this number asked about?
-    Proof(&'static str, u64, &'static str),
+    Proof(u64, &'static str),
     /// The waiting letter at this place is taken.
-    Take(&'static str, u64, u64),
+    Take(u64, u64),
     /// The letter of this number is given back.
-    GiveBack(&'static str, u64, u64),
+    GiveBack(u64, u64),
     /// The letter of this number is finished.
-    Finish(&'static str, u64, u64, Hint),
+    Finish(u64, u64, Hint),
     /// The signal at this place is delivered.
-    Signal(&'static str, u64, u64),
+    Signal(u64, u64),
 }
+
+/// Whose request or search it is, the act, and what it is to be answered.
+pub(super) type Row = (&'static str, Act, Told);
 
 /// What is wanted for an answer.
 #[derive(Clone, Copy)]
@@ -78,59 +80,65 @@ pub(super) enum Told {
     Gone,
 }
 
-/// The tenant's request.
-fn request(who: &str, request: Request) -> Result<Event, Fail> {
-    Ok(Event::Request(entity(who)?, request))
+/// The credential that the text spells.
+fn spelled(alloc: Global, text: &str) -> Result<Credential, Fail> {
+    Ok(read_credential(alloc, text.as_bytes())?)
 }
 
-/// The tenant's change.
-fn alter(who: &str, change: Change) -> Result<Event, Fail> {
-    request(who, Request::Alter(change))
+/// The change that the act stands for.
+fn change_of(alloc: Global, act: &Act) -> Result<Change, Fail> {
+    Ok(match act {
+        Act::Put(text) => Change::Upload(spelled(alloc, text)?),
+        Act::Drop(text) => Change::Withdraw(spelled(alloc, text)?),
+        Act::Grant(reader) => Change::Grant(entity(reader)?),
+        Act::Revoke(reader) => Change::Revoke(entity(reader)?),
+        Act::GrantAll => Change::GrantAll,
+        Act::RevokeAll => Change::RevokeAll,
+        _ => Err("no change")?,
+    })
 }
 
-/// The event that the act stands for.
-fn event(alloc: Global, act: &Act) -> Result<Event, Fail> {
-    match act {
-        Act::Put(who, text) => {
-            let credential = read_credential(alloc, text.as_bytes())?;
-            alter(who, Change::Upload(credential))
-        }
-        Act::Drop(who, text) => {
-            let credential = read_credential(alloc, text.as_bytes())?;
-            alter(who, Change::Withdraw(credential))
-        }
-        Act::Grant(who, reader) => alter(who, Change::Grant(entity(reader)?)),
-        Act::Revoke(who, reader) => alter(who, Change::Revoke(entity(reader)?)),
-        Act::GrantAll(who) => alter(who, Change::GrantAll),
-        Act::RevokeAll(who) => alter(who, Change::RevokeAll),
-        Act::Ask(who, role, member) => {
-            let query = Query::Ask(Role::read(role.as_bytes())?, entity(member)?);
-            request(who, Request::Seek(query))
-        }
-        Act::Who(who, role) => {
-            let query = Query::Who(Role::read(role.as_bytes())?);
-            request(who, Request::Seek(query))
-        }
-        Act::Poll(who, number) => request(who, Request::Poll(*number)),
-        Act::Close(who, number) => request(who, Request::Close(*number)),
-        Act::Vault(who) => request(who, Request::Vault),
-        Act::Sees(who) => request(who, Request::Sees),
-        Act::Proof(who, number, member) => {
-            request(who, Request::Proof(*number, entity(member)?))
-        }
-        Act::Take(who, number, place) => {
-            Ok(Event::Step(Step::Take(entity(who)?, *number, *place)))
-        }
-        Act::GiveBack(who, number, letter) => {
-            Ok(Event::Step(Step::GiveBack(entity(who)?, *number, *letter)))
-        }
-        Act::Finish(who, number, letter, hint) => {
-            Ok(Event::Step(Step::Finish(entity(who)?, *number, *letter, *hint)))
-        }
-        Act::Signal(who, number, place) => {
-            Ok(Event::Step(Step::Signal(entity(who)?, *number, *place)))
-        }
+/// The query with these names.
+fn query(role: &str, member: Option<&str>) -> Result<Query, Fail> {
+    let role = Role::read(role.as_bytes())?;
+    Ok(match member {
+        Some(member) => Query::Ask(role, entity(member)?),
+        None => Query::Who(role),
+    })
+}
+
+/// The request that the act stands for.
+fn request_of(alloc: Global, act: &Act) -> Result<Request, Fail> {
+    Ok(match act {
+        Act::Ask(role, member) => Request::Seek(query(role, Some(*member))?),
+        Act::Who(role) => Request::Seek(query(role, None)?),
+        Act::Poll(number) => Request::Poll(*number),
+        Act::Close(number) => Request::Close(*number),
+        Act::Vault => Request::Vault,
+        Act::Sees => Request::Sees,
+        Act::Proof(number, member) => Request::Proof(*number, entity(member)?),
+        _ => Request::Alter(change_of(alloc, act)?),
+    })
+}
+
+/// The step that the act stands for, where it is one.
+fn step_of(who: Entity, act: &Act) -> Option<Step> {
+    match *act {
+        Act::Take(number, place) => Some(Step::Take(who, number, place)),
+        Act::GiveBack(number, letter) => Some(Step::GiveBack(who, number, letter)),
+        Act::Finish(number, letter, hint) => Some(Step::Finish(who, number, letter, hint)),
+        Act::Signal(number, place) => Some(Step::Signal(who, number, place)),
+        _ => None,
     }
+}
+
+/// The event that the tenant's act stands for.
+fn event(alloc: Global, who: &str, act: &Act) -> Result<Event, Fail> {
+    let who = entity(who)?;
+    Ok(match step_of(who, act) {
+        Some(step) => Event::Step(step),
+        None => Event::Request(who, request_of(alloc, act)?),
+    })
 }
 
 /// Whether the letter needs the rows of this role.
@@ -151,14 +159,16 @@ fn are_named(names: &Names, wanted: &[&str]) -> bool {
             .all(|(name, text)| name.bytes() == text.as_bytes())
 }
 
+/// Whether the text spells the credential.
+fn is_spelled(alloc: Global, row: &Credential, text: &str) -> Result<bool, Fail> {
+    Ok(row.compare(&spelled(alloc, text)?).is_eq())
+}
+
 /// Whether these are the credentials that the texts spell, in this order.
-fn are_spelled(alloc: Global, rows: &Rows, wanted: &[&str]) -> Result<bool, Fail> {
-    let rows = rows.as_slice();
+fn are_spelled(alloc: Global, rows: &[Credential], wanted: &[&str]) -> Result<bool, Fail> {
     let mut are = rows.len() == wanted.len();
     for (row, text) in rows.iter().zip(wanted) {
-        are &= row
-            .compare(&read_credential(alloc, text.as_bytes())?)
-            .is_eq();
+        are &= is_spelled(alloc, row, text)?;
     }
     Ok(are)
 }
@@ -199,7 +209,7 @@ fn went(stepped: &Stepped, wanted: &Told) -> Result<bool, Fail> {
 }
 
 /// Whether the search has come to what is wanted.
-fn came_to(answer: &Answer, wanted: &Told) -> Result<bool, Fail> {
+pub(super) fn came_to(answer: &Answer, wanted: &Told) -> Result<bool, Fail> {
     Ok(match (answer, wanted) {
         (Answer::Broken, _) => Err(AllocError)?,
         (Answer::Working, Told::Working) => true,
@@ -210,21 +220,64 @@ fn came_to(answer: &Answer, wanted: &Told) -> Result<bool, Fail> {
     })
 }
 
-/// Whether the reply is the one that is wanted. Where memory was refused, that is the fault.
-fn is_told(alloc: Global, reply: &Reply, wanted: &Told) -> Result<bool, Fail> {
+/// Whether the refusal is the one that is wanted. Where memory was refused, that is the fault.
+fn is_refusal(fault: Fault, wanted: &Told) -> Result<bool, Fail> {
+    match (fault, wanted) {
+        (Fault::Memory, _) => Err(AllocError)?,
+        (_, Told::Refused(number)) => Ok(fault.number() == *number),
+        _ => Ok(false),
+    }
+}
+
+/// Whether the reply counts, numbers or lists what is wanted.
+fn shows(alloc: Global, reply: &Reply, wanted: &Told) -> Result<bool, Fail> {
     Ok(match (reply, wanted) {
-        (Reply::Refused(Fault::Memory), _) => Err(AllocError)?,
-        (Reply::Refused(fault), Told::Refused(number)) => fault.number() == *number,
         (Reply::Counted(count), Told::Counted(wanted)) => count == wanted,
         (Reply::Opened(number), Told::Opened(wanted)) => number == wanted,
         (Reply::Closed, Told::Closed) => true,
-        (Reply::Vault(rows), Told::Vault(wanted)) => are_spelled(alloc, rows, wanted)?,
+        (Reply::Vault(rows), Told::Vault(wanted)) => are_spelled(alloc, rows.as_slice(), wanted)?,
         (Reply::Sees(sights), Told::Sees(wanted)) => are_seen(sights, wanted),
         (Reply::Proof(proof), Told::Proof(wanted)) => is_written(alloc, proof, wanted)?,
-        (Reply::Answered(answer), _) => came_to(answer, wanted)?,
-        (Reply::Stepped(stepped), _) => went(stepped, wanted)?,
         _ => false,
     })
+}
+
+/// Whether the reply is the one that is wanted.
+fn is_told(alloc: Global, reply: &Reply, wanted: &Told) -> Result<bool, Fail> {
+    match reply {
+        Reply::Refused(fault) => is_refusal(*fault, wanted),
+        Reply::Answered(answer) => came_to(answer, wanted),
+        Reply::Stepped(stepped) => went(stepped, wanted),
+        _ => shows(alloc, reply, wanted),
+    }
+}
+
+/// The events of the parts, one part after another.
+fn events_of(alloc: Global, parts: &[&[Row]]) -> Result<Vec<Event>, Fail> {
+    let mut events = Vec::new(alloc);
+    for part in parts {
+        for (who, act, _told) in *part {
+            events.push(event(alloc, who, act)?)?;
+        }
+    }
+    Ok(events)
+}
+
+/// The place of the first reply that isn't the one that is wanted, where there is one.
+fn first_other(alloc: Global, replies: &[Reply], parts: &[&[Row]]) -> Result<Option<usize>, Fail> {
+    let mut rest = replies.iter().enumerate();
+    for part in parts {
+        for (_who, _act, told) in *part {
+            let (place, reply) = rest.next().ok_or("a reply for each event")?;
+            if !is_told(alloc, reply, told)? {
+                return Ok(Some(place));
+            }
+        }
+    }
+    match rest.next() {
+        Some(_more) => Err("one reply for each event")?,
+        None => Ok(None),
+    }
 }
 
 /// Runs the acts of the parts, one part after another, and answers the place of the first reply that isn't the one that
@@ -232,24 +285,9 @@ fn is_told(alloc: Global, reply: &Reply, wanted: &Told) -> Result<bool, Fail> {
 pub(super) fn first_wrong(
     alloc: Global,
     hall: &mut Hall,
-    parts: &[&[(Act, Told)]],
+    parts: &[&[Row]],
 ) -> Result<Option<usize>, Fail> {
-    let mut events = Vec::new(alloc);
-    let mut wanted = Vec::new(alloc);
-    for part in parts {
-        for (act, told) in *part {
-            events.push(event(alloc, act)?)?;
-            wanted.push(*told)?;
-        }
-    }
+    let events = events_of(alloc, parts)?;
     let replies = hall.run(&events)?;
-    if replies.len() != wanted.len() {
-        return Err("one reply for each event")?;
-    }
-    for (place, (reply, told)) in replies.iter().zip(&wanted).enumerate() {
-        if !is_told(alloc, reply, told)? {
-            return Ok(Some(place));
-        }
-    }
-    Ok(None)
+    first_other(alloc, &replies, parts)
 }

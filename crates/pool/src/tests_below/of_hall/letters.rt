@@ -1,5 +1,5 @@
 //! Which letters are taken, at each place, and with which hint they are finished.
-use super::acts::{Act, Told, first_wrong};
+use super::acts::{Act, Row, Told, first_wrong};
 use super::entity;
 use super::runs::{ANSWERED, ASKED, two_tenants};
 use hall::{Batch, Event, Hall, Reply, Step, Stepped};
@@ -17,24 +17,24 @@ const BOTH: Hint = Hint::Rows(Span {
 });
 
 /// A asks about a role that two others are included in. Its first letter sends two, which wait for their turns.
-static TWO_WAIT: [(Act, Told); 5] = [
-    (Act::Put("A", "A.r <- B.s"), Told::Counted(1)),
-    (Act::Put("A", "A.r <- B.t"), Told::Counted(2)),
-    (Act::Ask("A", "A.r", "D"), Told::Opened(1)),
-    (Act::Take("A", 1, 0), Told::TookFor(1, "A.r")),
-    (Act::Finish("A", 1, 1, BOTH), Told::Done),
+static TWO_WAIT: [Row; 5] = [
+    ("A", Act::Put("A.r <- B.s"), Told::Counted(1)),
+    ("A", Act::Put("A.r <- B.t"), Told::Counted(2)),
+    ("A", Act::Ask("A.r", "D"), Told::Opened(1)),
+    ("A", Act::Take(1, 0), Told::TookFor(1, "A.r")),
+    ("A", Act::Finish(1, 1, BOTH), Told::Done),
 ];
 
 /// The second is taken before the first, and waits behind it again where it is given back.
-static OUT_OF_TURN: [(Act, Told); 8] = [
-    (Act::Take("A", 1, 2), Told::Nothing),
-    (Act::Take("A", 1, 1), Told::TookFor(3, "B.t")),
-    (Act::Take("A", 1, 1), Told::Nothing),
-    (Act::GiveBack("A", 1, 3), Told::Back),
-    (Act::Take("A", 1, 1), Told::TookFor(3, "B.t")),
-    (Act::Take("A", 1, 0), Told::TookFor(2, "B.s")),
-    (Act::Take("A", 1, 0), Told::Nothing),
-    (Act::GiveBack("A", 1, 2), Told::Back),
+static OUT_OF_TURN: [Row; 8] = [
+    ("A", Act::Take(1, 2), Told::Nothing),
+    ("A", Act::Take(1, 1), Told::TookFor(3, "B.t")),
+    ("A", Act::Take(1, 1), Told::Nothing),
+    ("A", Act::GiveBack(1, 3), Told::Back),
+    ("A", Act::Take(1, 1), Told::TookFor(3, "B.t")),
+    ("A", Act::Take(1, 0), Told::TookFor(2, "B.s")),
+    ("A", Act::Take(1, 0), Told::Nothing),
+    ("A", Act::GiveBack(1, 2), Told::Back),
 ];
 
 /// A's first letter is finished with the hint, and taken again.

@@ -1,16 +1,16 @@
 //! A search through a linked role, letter by letter, and the proof of what it found.
-use super::acts::{Act, Told};
+use super::acts::{Act, Row, Told};
 use super::runs::run;
 use search::Hint;
 use snapshots::Span;
 use std::test::Fail;
 
 /// Who A.s has, says who is in A.r: the members of the role t of each of them.
-static HELD: [(Act, Told); 4] = [
-    (Act::Put("A", "A.r <- A.s.t"), Told::Counted(1)),
-    (Act::Put("A", "A.s <- A"), Told::Counted(2)),
-    (Act::Put("A", "A.t <- D"), Told::Counted(3)),
-    (Act::Ask("A", "A.r", "D"), Told::Opened(1)),
+static HELD: [Row; 4] = [
+    ("A", Act::Put("A.r <- A.s.t"), Told::Counted(1)),
+    ("A", Act::Put("A.s <- A"), Told::Counted(2)),
+    ("A", Act::Put("A.t <- D"), Told::Counted(3)),
+    ("A", Act::Ask("A.r", "D"), Told::Opened(1)),
 ];
 
 /// The first row of A's vault, the second, and the third.
@@ -33,50 +33,50 @@ const THIRD: Hint = Hint::Rows(Span {
 });
 
 /// Down to A.s, whose member is A.
-static BASE_ASKED: [(Act, Told); 8] = [
-    (Act::Take("A", 1, 0), Told::TookFor(1, "A.r")),
-    (Act::Finish("A", 1, 1, FIRST), Told::Done),
-    (Act::Take("A", 1, 0), Told::Took(2)),
-    (Act::Finish("A", 1, 2, Hint::Nothing), Told::Done),
-    (Act::Take("A", 1, 0), Told::TookFor(3, "A.s")),
-    (Act::Finish("A", 1, 3, SECOND), Told::Done),
-    (Act::Take("A", 1, 0), Told::Took(4)),
-    (Act::Finish("A", 1, 4, Hint::Nothing), Told::Done),
+static BASE_ASKED: [Row; 8] = [
+    ("A", Act::Take(1, 0), Told::TookFor(1, "A.r")),
+    ("A", Act::Finish(1, 1, FIRST), Told::Done),
+    ("A", Act::Take(1, 0), Told::Took(2)),
+    ("A", Act::Finish(1, 2, Hint::Nothing), Told::Done),
+    ("A", Act::Take(1, 0), Told::TookFor(3, "A.s")),
+    ("A", Act::Finish(1, 3, SECOND), Told::Done),
+    ("A", Act::Take(1, 0), Told::Took(4)),
+    ("A", Act::Finish(1, 4, Hint::Nothing), Told::Done),
 ];
 
 /// The linked role is told of A, and asks A.t, whose member is D.
-static LINK_ASKED: [(Act, Told); 8] = [
-    (Act::Take("A", 1, 0), Told::Took(5)),
-    (Act::Finish("A", 1, 5, Hint::Nothing), Told::Done),
-    (Act::Take("A", 1, 0), Told::Took(6)),
-    (Act::Finish("A", 1, 6, Hint::Nothing), Told::Done),
-    (Act::Take("A", 1, 0), Told::TookFor(7, "A.t")),
-    (Act::Finish("A", 1, 7, THIRD), Told::Done),
-    (Act::Take("A", 1, 0), Told::Took(8)),
-    (Act::Finish("A", 1, 8, Hint::Nothing), Told::Done),
+static LINK_ASKED: [Row; 8] = [
+    ("A", Act::Take(1, 0), Told::Took(5)),
+    ("A", Act::Finish(1, 5, Hint::Nothing), Told::Done),
+    ("A", Act::Take(1, 0), Told::Took(6)),
+    ("A", Act::Finish(1, 6, Hint::Nothing), Told::Done),
+    ("A", Act::Take(1, 0), Told::TookFor(7, "A.t")),
+    ("A", Act::Finish(1, 7, THIRD), Told::Done),
+    ("A", Act::Take(1, 0), Told::Took(8)),
+    ("A", Act::Finish(1, 8, Hint::Nothing), Told::Done),
 ];
 
 /// D is told all the way up.
-static TOLD_UP: [(Act, Told); 8] = [
-    (Act::Take("A", 1, 0), Told::Took(9)),
-    (Act::Finish("A", 1, 9, Hint::Nothing), Told::Done),
-    (Act::Take("A", 1, 0), Told::Took(10)),
-    (Act::Finish("A", 1, 10, Hint::Nothing), Told::Done),
-    (Act::Take("A", 1, 0), Told::Took(11)),
-    (Act::Finish("A", 1, 11, Hint::Nothing), Told::Done),
-    (Act::Take("A", 1, 0), Told::Nothing),
-    (Act::Poll("A", 1), Told::Working),
+static TOLD_UP: [Row; 8] = [
+    ("A", Act::Take(1, 0), Told::Took(9)),
+    ("A", Act::Finish(1, 9, Hint::Nothing), Told::Done),
+    ("A", Act::Take(1, 0), Told::Took(10)),
+    ("A", Act::Finish(1, 10, Hint::Nothing), Told::Done),
+    ("A", Act::Take(1, 0), Told::Took(11)),
+    ("A", Act::Finish(1, 11, Hint::Nothing), Told::Done),
+    ("A", Act::Take(1, 0), Told::Nothing),
+    ("A", Act::Poll(1), Told::Working),
 ];
 
 /// A signal for each of the letters.
-static SIGNALLED: [(Act, Told); 11] = [(Act::Signal("A", 1, 0), Told::Signalled); 11];
+static SIGNALLED: [Row; 11] = [("A", Act::Signal(1, 0), Told::Signalled); 11];
 
 /// The answer, why, and the end.
-static ANSWERED: [(Act, Told); 4] = [
-    (Act::Signal("A", 1, 0), Told::Nothing),
-    (Act::Poll("A", 1), Told::Yes),
-    (Act::Proof("A", 1, "D"), Told::Proof(WHY)),
-    (Act::Close("A", 1), Told::Closed),
+static ANSWERED: [Row; 4] = [
+    ("A", Act::Signal(1, 0), Told::Nothing),
+    ("A", Act::Poll(1), Told::Yes),
+    ("A", Act::Proof(1, "D"), Told::Proof(WHY)),
+    ("A", Act::Close(1), Told::Closed),
 ];
 
 /// Why D is in A.r.

@@ -1,5 +1,5 @@
 //! Whole runs of events, with each reply.
-use super::acts::{Act, Told, first_wrong};
+use super::acts::{Act, Row, Told, first_wrong};
 use super::entity;
 use hall::Hall;
 use quotas::Limits;
@@ -14,9 +14,7 @@ pub(super) fn two_tenants(alloc: Global) -> Result<Hall, Fail> {
     if a == b {
         return Err("two names")?;
     }
-    let mut roster = Vec::new(alloc);
-    roster.push((a, Limits::usual()))?;
-    roster.push((b, Limits::usual()))?;
+    let roster = vec![in alloc; (a, Limits::usual()), (b, Limits::usual())]?;
     Ok(Hall::make(alloc, roster)?)
 }
 
@@ -42,169 +40,169 @@ const NONE: Hint = Hint::Rows(Span {
 });
 
 /// A holds that D is in A.r, asks about D, and the first letter is taken. A name that is no tenant's is refused.
-pub(super) static ASKED: [(Act, Told); 4] = [
-    (Act::Put("A", "A.r <- D"), Told::Counted(1)),
-    (Act::Sees("Z"), Told::Refused(62)),
-    (Act::Ask("A", "A.r", "D"), Told::Opened(1)),
-    (Act::Take("A", 1, 0), Told::TookFor(1, "A.r")),
+pub(super) static ASKED: [Row; 4] = [
+    ("A", Act::Put("A.r <- D"), Told::Counted(1)),
+    ("Z", Act::Sees, Told::Refused(62)),
+    ("A", Act::Ask("A.r", "D"), Told::Opened(1)),
+    ("A", Act::Take(1, 0), Told::TookFor(1, "A.r")),
 ];
 
 /// The search goes on with its first letter, to its answer.
-pub(super) static ANSWERED: [(Act, Told); 12] = [
-    (Act::Poll("A", 1), Told::Working),
-    (Act::Finish("A", 1, 1, FIRST), Told::Done),
-    (Act::Take("A", 1, 0), Told::Took(2)),
-    (Act::Finish("A", 1, 2, Hint::Nothing), Told::Done),
-    (Act::Take("A", 1, 0), Told::Took(3)),
-    (Act::Finish("A", 1, 3, Hint::Nothing), Told::Done),
-    (Act::Signal("A", 1, 0), Told::Signalled),
-    (Act::Signal("A", 1, 0), Told::Signalled),
-    (Act::Poll("A", 1), Told::Working),
-    (Act::Signal("A", 1, 0), Told::Signalled),
-    (Act::Poll("A", 1), Told::Yes),
-    (Act::Signal("A", 1, 0), Told::Nothing),
+pub(super) static ANSWERED: [Row; 12] = [
+    ("A", Act::Poll(1), Told::Working),
+    ("A", Act::Finish(1, 1, FIRST), Told::Done),
+    ("A", Act::Take(1, 0), Told::Took(2)),
+    ("A", Act::Finish(1, 2, Hint::Nothing), Told::Done),
+    ("A", Act::Take(1, 0), Told::Took(3)),
+    ("A", Act::Finish(1, 3, Hint::Nothing), Told::Done),
+    ("A", Act::Signal(1, 0), Told::Signalled),
+    ("A", Act::Signal(1, 0), Told::Signalled),
+    ("A", Act::Poll(1), Told::Working),
+    ("A", Act::Signal(1, 0), Told::Signalled),
+    ("A", Act::Poll(1), Told::Yes),
+    ("A", Act::Signal(1, 0), Told::Nothing),
 ];
 
 /// With a wrong hint the letter waits again.
-static WRONGLY_HINTED: [(Act, Told); 3] = [
-    (Act::Finish("A", 1, 1, NONE), Told::BadHint),
-    (Act::Finish("A", 1, 1, Hint::Nothing), Told::NotHeld),
-    (Act::Take("A", 1, 0), Told::TookFor(1, "A.r")),
+static WRONGLY_HINTED: [Row; 3] = [
+    ("A", Act::Finish(1, 1, NONE), Told::BadHint),
+    ("A", Act::Finish(1, 1, Hint::Nothing), Told::NotHeld),
+    ("A", Act::Take(1, 0), Told::TookFor(1, "A.r")),
 ];
 
 /// The search is ended while its letter is out.
-static ENDED: [(Act, Told); 3] = [
-    (Act::Close("A", 1), Told::Closed),
-    (Act::Finish("A", 1, 1, FIRST), Told::Gone),
-    (Act::Poll("A", 1), Told::Refused(51)),
+static ENDED: [Row; 3] = [
+    ("A", Act::Close(1), Told::Closed),
+    ("A", Act::Finish(1, 1, FIRST), Told::Gone),
+    ("A", Act::Poll(1), Told::Refused(51)),
 ];
 
 /// A, which may read B's vault, asks about D, whom B holds in B.s; then B holds E in its place.
-static REPLACED: [(Act, Told); 8] = [
-    (Act::Put("A", "A.r <- B.s"), Told::Counted(1)),
-    (Act::Put("B", "B.s <- D"), Told::Counted(1)),
-    (Act::Grant("B", "A"), Told::Counted(2)),
-    (Act::Ask("A", "A.r", "D"), Told::Opened(1)),
-    (Act::Take("A", 1, 0), Told::TookFor(1, "A.r")),
-    (Act::Finish("A", 1, 1, FIRST), Told::Done),
-    (Act::Drop("B", "B.s <- D"), Told::Counted(3)),
-    (Act::Put("B", "B.s <- E"), Told::Counted(4)),
+static REPLACED: [Row; 8] = [
+    ("A", Act::Put("A.r <- B.s"), Told::Counted(1)),
+    ("B", Act::Put("B.s <- D"), Told::Counted(1)),
+    ("B", Act::Grant("A"), Told::Counted(2)),
+    ("A", Act::Ask("A.r", "D"), Told::Opened(1)),
+    ("A", Act::Take(1, 0), Told::TookFor(1, "A.r")),
+    ("A", Act::Finish(1, 1, FIRST), Told::Done),
+    ("B", Act::Drop("B.s <- D"), Told::Counted(3)),
+    ("B", Act::Put("B.s <- E"), Told::Counted(4)),
 ];
 
 /// The other letters of the search find the vault as it was.
-static AS_IT_WAS: [(Act, Told); 14] = [
-    (Act::Take("A", 1, 0), Told::TookFor(2, "B.s")),
-    (Act::Finish("A", 1, 2, SECOND), Told::Done),
-    (Act::Take("A", 1, 0), Told::Took(3)),
-    (Act::Finish("A", 1, 3, Hint::Nothing), Told::Done),
-    (Act::Take("A", 1, 0), Told::Took(4)),
-    (Act::Finish("A", 1, 4, Hint::Nothing), Told::Done),
-    (Act::Take("A", 1, 0), Told::Took(5)),
-    (Act::Finish("A", 1, 5, Hint::Nothing), Told::Done),
-    (Act::Signal("A", 1, 0), Told::Signalled),
-    (Act::Signal("A", 1, 0), Told::Signalled),
-    (Act::Signal("A", 1, 0), Told::Signalled),
-    (Act::Signal("A", 1, 0), Told::Signalled),
-    (Act::Signal("A", 1, 0), Told::Signalled),
-    (Act::Poll("A", 1), Told::Yes),
+static AS_IT_WAS: [Row; 14] = [
+    ("A", Act::Take(1, 0), Told::TookFor(2, "B.s")),
+    ("A", Act::Finish(1, 2, SECOND), Told::Done),
+    ("A", Act::Take(1, 0), Told::Took(3)),
+    ("A", Act::Finish(1, 3, Hint::Nothing), Told::Done),
+    ("A", Act::Take(1, 0), Told::Took(4)),
+    ("A", Act::Finish(1, 4, Hint::Nothing), Told::Done),
+    ("A", Act::Take(1, 0), Told::Took(5)),
+    ("A", Act::Finish(1, 5, Hint::Nothing), Told::Done),
+    ("A", Act::Signal(1, 0), Told::Signalled),
+    ("A", Act::Signal(1, 0), Told::Signalled),
+    ("A", Act::Signal(1, 0), Told::Signalled),
+    ("A", Act::Signal(1, 0), Told::Signalled),
+    ("A", Act::Signal(1, 0), Told::Signalled),
+    ("A", Act::Poll(1), Told::Yes),
 ];
 
 /// A search that is opened now finds it as it is.
-static AS_IT_IS: [(Act, Told); 17] = [
-    (Act::Ask("A", "A.r", "D"), Told::Opened(2)),
-    (Act::Take("A", 2, 0), Told::TookFor(1, "A.r")),
-    (Act::Finish("A", 2, 1, FIRST), Told::Done),
-    (Act::Take("A", 2, 0), Told::TookFor(2, "B.s")),
-    (Act::Finish("A", 2, 2, SECOND), Told::Done),
-    (Act::Take("A", 2, 0), Told::Took(3)),
-    (Act::Finish("A", 2, 3, Hint::Nothing), Told::Done),
-    (Act::Take("A", 2, 0), Told::Took(4)),
-    (Act::Finish("A", 2, 4, Hint::Nothing), Told::Done),
-    (Act::Take("A", 2, 0), Told::Took(5)),
-    (Act::Finish("A", 2, 5, Hint::Nothing), Told::Done),
-    (Act::Signal("A", 2, 0), Told::Signalled),
-    (Act::Signal("A", 2, 0), Told::Signalled),
-    (Act::Signal("A", 2, 0), Told::Signalled),
-    (Act::Signal("A", 2, 0), Told::Signalled),
-    (Act::Signal("A", 2, 0), Told::Signalled),
-    (Act::Poll("A", 2), Told::No),
+static AS_IT_IS: [Row; 17] = [
+    ("A", Act::Ask("A.r", "D"), Told::Opened(2)),
+    ("A", Act::Take(2, 0), Told::TookFor(1, "A.r")),
+    ("A", Act::Finish(2, 1, FIRST), Told::Done),
+    ("A", Act::Take(2, 0), Told::TookFor(2, "B.s")),
+    ("A", Act::Finish(2, 2, SECOND), Told::Done),
+    ("A", Act::Take(2, 0), Told::Took(3)),
+    ("A", Act::Finish(2, 3, Hint::Nothing), Told::Done),
+    ("A", Act::Take(2, 0), Told::Took(4)),
+    ("A", Act::Finish(2, 4, Hint::Nothing), Told::Done),
+    ("A", Act::Take(2, 0), Told::Took(5)),
+    ("A", Act::Finish(2, 5, Hint::Nothing), Told::Done),
+    ("A", Act::Signal(2, 0), Told::Signalled),
+    ("A", Act::Signal(2, 0), Told::Signalled),
+    ("A", Act::Signal(2, 0), Told::Signalled),
+    ("A", Act::Signal(2, 0), Told::Signalled),
+    ("A", Act::Signal(2, 0), Told::Signalled),
+    ("A", Act::Poll(2), Told::No),
 ];
 
 /// Two searches of A and one of B are opened; each tenant's numbers count from 1, and so do each search's letters. A's first
 /// letter gets a wrong hint and is given back, while B's is finished.
-static INTERLEAVED: [(Act, Told); 22] = [
-    (Act::Put("A", "A.r <- B.s"), Told::Counted(1)),
-    (Act::Put("B", "B.s <- D"), Told::Counted(1)),
-    (Act::Grant("B", "A"), Told::Counted(2)),
-    (Act::Ask("A", "A.r", "D"), Told::Opened(1)),
-    (Act::Who("B", "B.s"), Told::Opened(1)),
-    (Act::Ask("A", "A.r", "E"), Told::Opened(2)),
-    (Act::Take("A", 1, 0), Told::TookFor(1, "A.r")),
-    (Act::Take("B", 1, 0), Told::TookFor(1, "B.s")),
-    (Act::Take("A", 1, 0), Told::Nothing),
-    (Act::Finish("A", 1, 1, SECOND), Told::BadHint),
-    (Act::Finish("B", 1, 1, FIRST), Told::Done),
-    (Act::Finish("A", 1, 1, FIRST), Told::NotHeld),
-    (Act::Take("A", 1, 0), Told::TookFor(1, "A.r")),
-    (Act::GiveBack("A", 1, 1), Told::Back),
-    (Act::GiveBack("A", 1, 1), Told::NotHeld),
-    (Act::GiveBack("B", 1, 1), Told::NotHeld),
-    (Act::Take("A", 2, 0), Told::TookFor(1, "A.r")),
-    (Act::Take("B", 1, 0), Told::Took(2)),
-    (Act::Take("A", 1, 0), Told::TookFor(1, "A.r")),
-    (Act::Finish("A", 1, 1, FIRST), Told::Done),
-    (Act::Take("A", 1, 0), Told::TookFor(2, "B.s")),
-    (Act::Finish("A", 1, 2, FIRST), Told::BadHint),
+static INTERLEAVED: [Row; 22] = [
+    ("A", Act::Put("A.r <- B.s"), Told::Counted(1)),
+    ("B", Act::Put("B.s <- D"), Told::Counted(1)),
+    ("B", Act::Grant("A"), Told::Counted(2)),
+    ("A", Act::Ask("A.r", "D"), Told::Opened(1)),
+    ("B", Act::Who("B.s"), Told::Opened(1)),
+    ("A", Act::Ask("A.r", "E"), Told::Opened(2)),
+    ("A", Act::Take(1, 0), Told::TookFor(1, "A.r")),
+    ("B", Act::Take(1, 0), Told::TookFor(1, "B.s")),
+    ("A", Act::Take(1, 0), Told::Nothing),
+    ("A", Act::Finish(1, 1, SECOND), Told::BadHint),
+    ("B", Act::Finish(1, 1, FIRST), Told::Done),
+    ("A", Act::Finish(1, 1, FIRST), Told::NotHeld),
+    ("A", Act::Take(1, 0), Told::TookFor(1, "A.r")),
+    ("A", Act::GiveBack(1, 1), Told::Back),
+    ("A", Act::GiveBack(1, 1), Told::NotHeld),
+    ("B", Act::GiveBack(1, 1), Told::NotHeld),
+    ("A", Act::Take(2, 0), Told::TookFor(1, "A.r")),
+    ("B", Act::Take(1, 0), Told::Took(2)),
+    ("A", Act::Take(1, 0), Told::TookFor(1, "A.r")),
+    ("A", Act::Finish(1, 1, FIRST), Told::Done),
+    ("A", Act::Take(1, 0), Told::TookFor(2, "B.s")),
+    ("A", Act::Finish(1, 2, FIRST), Told::BadHint),
 ];
 
 /// A ends its second search, while its first letter is out; B's next one gets a hint that it doesn't need.
-static ENDED_BETWEEN: [(Act, Told); 16] = [
-    (Act::Close("A", 2), Told::Closed),
-    (Act::Finish("A", 2, 1, FIRST), Told::Gone),
-    (Act::GiveBack("A", 2, 1), Told::Gone),
-    (Act::Take("A", 2, 0), Told::Gone),
-    (Act::Signal("A", 2, 0), Told::Gone),
-    (Act::Poll("A", 2), Told::Refused(51)),
-    (Act::Close("A", 2), Told::Refused(51)),
-    (Act::Finish("B", 1, 2, Hint::Nothing), Told::Done),
-    (Act::Take("A", 1, 0), Told::TookFor(2, "B.s")),
-    (Act::Take("B", 1, 0), Told::Took(3)),
-    (Act::Finish("B", 1, 3, FIRST), Told::BadHint),
-    (Act::Finish("A", 1, 2, SECOND), Told::Done),
-    (Act::Poll("A", 1), Told::Working),
-    (Act::Take("B", 1, 0), Told::Took(3)),
-    (Act::Finish("B", 1, 3, Hint::Nothing), Told::Done),
-    (Act::Signal("B", 1, 1), Told::Nothing),
+static ENDED_BETWEEN: [Row; 16] = [
+    ("A", Act::Close(2), Told::Closed),
+    ("A", Act::Finish(2, 1, FIRST), Told::Gone),
+    ("A", Act::GiveBack(2, 1), Told::Gone),
+    ("A", Act::Take(2, 0), Told::Gone),
+    ("A", Act::Signal(2, 0), Told::Gone),
+    ("A", Act::Poll(2), Told::Refused(51)),
+    ("A", Act::Close(2), Told::Refused(51)),
+    ("B", Act::Finish(1, 2, Hint::Nothing), Told::Done),
+    ("A", Act::Take(1, 0), Told::TookFor(2, "B.s")),
+    ("B", Act::Take(1, 0), Told::Took(3)),
+    ("B", Act::Finish(1, 3, FIRST), Told::BadHint),
+    ("A", Act::Finish(1, 2, SECOND), Told::Done),
+    ("A", Act::Poll(1), Told::Working),
+    ("B", Act::Take(1, 0), Told::Took(3)),
+    ("B", Act::Finish(1, 3, Hint::Nothing), Told::Done),
+    ("B", Act::Signal(1, 1), Told::Nothing),
 ];
 
 /// B's search is answered while A's still works, and ended before A's is answered.
-static ANSWERED_IN_TURN: [(Act, Told); 22] = [
-    (Act::Signal("B", 1, 0), Told::Signalled),
-    (Act::Take("A", 1, 0), Told::Took(3)),
-    (Act::Signal("B", 1, 0), Told::Signalled),
-    (Act::Finish("A", 1, 3, Hint::Nothing), Told::Done),
-    (Act::Poll("B", 1), Told::Working),
-    (Act::Signal("B", 1, 0), Told::Signalled),
-    (Act::Poll("B", 1), Told::Members(&["D"])),
-    (Act::Take("A", 1, 0), Told::Took(4)),
-    (Act::Finish("A", 1, 4, Hint::Nothing), Told::Done),
-    (Act::Close("B", 1), Told::Closed),
-    (Act::Signal("A", 1, 0), Told::Signalled),
-    (Act::Take("A", 1, 0), Told::Took(5)),
-    (Act::Finish("A", 1, 5, Hint::Nothing), Told::Done),
-    (Act::Signal("A", 1, 0), Told::Signalled),
-    (Act::Signal("A", 1, 0), Told::Signalled),
-    (Act::Signal("A", 1, 0), Told::Signalled),
-    (Act::Poll("A", 1), Told::Working),
-    (Act::Signal("A", 1, 0), Told::Signalled),
-    (Act::Poll("A", 1), Told::Yes),
-    (Act::Poll("B", 1), Told::Refused(51)),
-    (Act::Ask("B", "B.s", "D"), Told::Opened(2)),
-    (Act::Ask("A", "A.r", "E"), Told::Opened(3)),
+static ANSWERED_IN_TURN: [Row; 22] = [
+    ("B", Act::Signal(1, 0), Told::Signalled),
+    ("A", Act::Take(1, 0), Told::Took(3)),
+    ("B", Act::Signal(1, 0), Told::Signalled),
+    ("A", Act::Finish(1, 3, Hint::Nothing), Told::Done),
+    ("B", Act::Poll(1), Told::Working),
+    ("B", Act::Signal(1, 0), Told::Signalled),
+    ("B", Act::Poll(1), Told::Members(&["D"])),
+    ("A", Act::Take(1, 0), Told::Took(4)),
+    ("A", Act::Finish(1, 4, Hint::Nothing), Told::Done),
+    ("B", Act::Close(1), Told::Closed),
+    ("A", Act::Signal(1, 0), Told::Signalled),
+    ("A", Act::Take(1, 0), Told::Took(5)),
+    ("A", Act::Finish(1, 5, Hint::Nothing), Told::Done),
+    ("A", Act::Signal(1, 0), Told::Signalled),
+    ("A", Act::Signal(1, 0), Told::Signalled),
+    ("A", Act::Signal(1, 0), Told::Signalled),
+    ("A", Act::Poll(1), Told::Working),
+    ("A", Act::Signal(1, 0), Told::Signalled),
+    ("A", Act::Poll(1), Told::Yes),
+    ("B", Act::Poll(1), Told::Refused(51)),
+    ("B", Act::Ask("B.s", "D"), Told::Opened(2)),
+    ("A", Act::Ask("A.r", "E"), Told::Opened(3)),
 ];
 
 /// The place of the first reply of a run that isn't the one that is wanted, where there is one.
-pub(super) fn run(alloc: Global, parts: &[&[(Act, Told)]]) -> Result<Option<usize>, Fail> {
+pub(super) fn run(alloc: Global, parts: &[&[Row]]) -> Result<Option<usize>, Fail> {
     let mut hall = two_tenants(alloc)?;
     first_wrong(alloc, &mut hall, parts)
 }

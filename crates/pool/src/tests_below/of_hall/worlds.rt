@@ -48,35 +48,51 @@ impl Numbers {
     }
 }
 
-fn part(alloc: Global, numbers: &mut Numbers, owner: u8) -> Result<Vec<u8>, AllocError> {
+/// A part of a body, as it is written.
+#[derive(Clone, Copy)]
+enum Piece {
+    Name([u8; 1]),
+    Role([u8; 3]),
+    Link([u8; 5]),
+}
+
+fn part(numbers: &mut Numbers, owner: u8) -> Piece {
     match numbers.below(5) {
-        0 => Vec::from_slice(alloc, &[numbers.name()]),
-        1 => Vec::from_slice(alloc, &numbers.link(owner)),
-        _ => Vec::from_slice(alloc, &numbers.role()),
+        0 => Piece::Name([numbers.name()]),
+        1 => Piece::Link(numbers.link(owner)),
+        _ => Piece::Role(numbers.role()),
+    }
+}
+
+fn write(text: &mut Vec<u8>, piece: Piece) -> Result<(), AllocError> {
+    match &piece {
+        Piece::Name(bytes) => text.extend_from_slice(bytes),
+        Piece::Role(bytes) => text.extend_from_slice(bytes),
+        Piece::Link(bytes) => text.extend_from_slice(bytes),
     }
 }
 
 /// Two parts, which may be one part twice, or three.
-fn parts(alloc: Global, numbers: &mut Numbers, owner: u8) -> Result<Vec<u8>, AllocError> {
-    let mut text = part(alloc, numbers, owner)?;
-    let other = part(alloc, numbers, owner)?;
+fn write_parts(text: &mut Vec<u8>, numbers: &mut Numbers, owner: u8) -> Result<(), AllocError> {
+    let first = part(numbers, owner);
+    let other = part(numbers, owner);
     let turn = numbers.below(4);
-    let second = if turn == 0 { text.clone()? } else { other };
+    write(text, first)?;
     text.extend_from_slice(b" & ")?;
-    text.extend_from_slice(&second)?;
+    write(text, if turn == 0 { first } else { other })?;
     if turn == 1 {
         text.extend_from_slice(b" & ")?;
-        text.extend_from_slice(&part(alloc, numbers, owner)?)?;
+        write(text, part(numbers, owner))?;
     }
-    Ok(text)
+    Ok(())
 }
 
-fn body(alloc: Global, numbers: &mut Numbers, owner: u8) -> Result<Vec<u8>, AllocError> {
+fn write_body(text: &mut Vec<u8>, numbers: &mut Numbers, owner: u8) -> Result<(), AllocError> {
     match numbers.below(6) {
-        0 | 3 => Vec::from_slice(alloc, &numbers.role()),
-        1 => Vec::from_slice(alloc, &numbers.link(owner)),
-        2 => parts(alloc, numbers, owner),
-        _ => Vec::from_slice(alloc, &[numbers.name()]),
+        0 | 3 => write(text, Piece::Role(numbers.role())),
+        1 => write(text, Piece::Link(numbers.link(owner))),
+        2 => write_parts(text, numbers, owner),
+        _ => write(text, Piece::Name([numbers.name()])),
     }
 }
 
@@ -85,7 +101,7 @@ fn credential(alloc: Global, numbers: &mut Numbers) -> Result<Credential, Fail> 
     let head = numbers.role();
     let mut text = Vec::from_slice(alloc, &head)?;
     text.extend_from_slice(b" <- ")?;
-    text.extend_from_slice(&body(alloc, numbers, head[0])?)?;
+    write_body(&mut text, numbers, head[0])?;
     Ok(read_credential(alloc, &text)?)
 }
 
@@ -101,64 +117,60 @@ fn credentials(alloc: Global, numbers: &mut Numbers) -> Result<Vec<Credential>, 
     Ok(all)
 }
 
-/// A grant that stands: the owner's vault may be read by the reader.
+/// A grant that stands: the owner's vault may be read by the reader, and by every tenant where none is named.
 #[derive(Clone, Copy, PartialEq, Eq)]
 struct Grant {
     owner: Entity,
-    reader: Entity,
+    reader: Option<Entity>,
 }
 
-/// The grants that stand: to one reader each, and those of the owners whose vaults every tenant may read.
-#[derive(Drop)]
-struct Grants {
-    to_one: Vec<Grant>,
-    to_all: Vec<Entity>,
+/// Whether the owner's vault is public.
+fn allow_all(grants: &[Grant], owner: Entity) -> bool {
+    let reader = None;
+    grants.contains(&Grant { owner, reader })
 }
 
-impl Grants {
-    /// Whether the owner's vault may be read by the reader.
-    fn allow(&self, owner: Entity, reader: Entity) -> bool {
-        owner == reader
-            || self.to_all.contains(&owner)
-            || self.to_one.contains(&Grant { owner, reader })
-    }
+/// Whether the owner's vault may be read by the reader.
+fn allow(grants: &[Grant], owner: Entity, reader: Entity) -> bool {
+    let to_one = Grant {
+        owner,
+        reader: Some(reader),
+    };
+    owner == reader || allow_all(grants, owner) || grants.contains(&to_one)
+}
 
-    /// The owner grants to the reader, or where that stands revokes it.
-    fn turn(&mut self, hall: &mut Hall, grant: Grant) -> Result<(), Fail> {
-        let Grant { owner, reader } = grant;
-        if self.to_one.contains(&grant) {
-            self.to_one.retain(|other| *other != grant);
-            hall.change(owner, Change::Revoke(reader))?;
-        } else {
-            self.to_one.push(grant)?;
-            hall.change(owner, Change::Grant(reader))?;
-        }
-        Ok(())
+/// The change that makes the grant, or where it stands revokes it.
+fn change_of(grant: Grant, stands: bool) -> Change {
+    match (grant.reader, stands) {
+        (Some(reader), false) => Change::Grant(reader),
+        (Some(reader), true) => Change::Revoke(reader),
+        (None, false) => Change::GrantAll,
+        (None, true) => Change::RevokeAll,
     }
+}
 
-    /// The owner grants to all, or where that stands revokes it.
-    fn turn_for_all(&mut self, hall: &mut Hall, owner: Entity) -> Result<(), Fail> {
-        if self.to_all.contains(&owner) {
-            self.to_all.retain(|other| *other != owner);
-            hall.change(owner, Change::RevokeAll)?;
-        } else {
-            self.to_all.push(owner)?;
-            hall.change(owner, Change::GrantAll)?;
-        }
-        Ok(())
+/// The owner grants, or where that stands revokes it.
+fn turn(hall: &mut Hall, grants: &mut Vec<Grant>, grant: Grant) -> Result<(), Fail> {
+    let stands = grants.contains(&grant);
+    hall.change(grant.owner, change_of(grant, stands))?;
+    if stands {
+        grants.retain(|other| *other != grant);
+    } else {
+        grants.push(grant)?;
     }
+    Ok(())
 }
 
 /// What the tenant sees by these grants.
 fn view(
     alloc: Global,
     credentials: &[Credential],
-    grants: &Grants,
+    grants: &[Grant],
     reader: Entity,
 ) -> Result<Vec<Credential>, AllocError> {
     let mut seen = Vec::new(alloc);
     for credential in credentials {
-        if grants.allow(credential.head.owner, reader) {
+        if allow(grants, credential.head.owner, reader) {
             seen.push(credential.try_clone()?)?;
         }
     }
@@ -170,15 +182,15 @@ fn tells_sights(
     alloc: Global,
     hall: &Hall,
     tenants: &[Entity],
-    grants: &Grants,
+    grants: &[Grant],
     reader: Entity,
 ) -> Result<bool, Fail> {
     let mut wanted = Vec::new(alloc);
     for owner in tenants {
-        if grants.allow(*owner, reader) {
+        if allow(grants, *owner, reader) {
             wanted.push(Seen {
                 name: *owner,
-                to_all: grants.to_all.contains(owner),
+                to_all: allow_all(grants, *owner),
             })?;
         }
     }
@@ -193,22 +205,13 @@ struct Question {
     first: u64,
 }
 
-/// Opens a search for the members.
-fn open_members(hall: &mut Hall, question: &mut Question) -> Result<(), Fault> {
-    question.first = hall.open(question.asker, Query::Who(question.role))?;
-    Ok(())
-}
-
-fn open_one(hall: &mut Hall, question: &Question, who: Entity) -> Result<u64, Fault> {
-    hall.open(question.asker, Query::Ask(question.role, who))
-}
-
-/// Opens a search for each tenant.
-fn open_each(hall: &mut Hall, tenants: &[Entity], question: &Question) -> Result<(), Fault> {
+/// Opens a search for the members, whose number it answers, and one for each tenant.
+fn open(hall: &mut Hall, tenants: &[Entity], question: Question) -> Result<u64, Fault> {
+    let first = hall.open(question.asker, Query::Who(question.role))?;
     for who in tenants {
-        let _number = open_one(hall, question, *who)?;
+        let _number = hall.open(question.asker, Query::Ask(question.role, *who))?;
     }
-    Ok(())
+    Ok(first)
 }
 
 /// What the search has come to; where it is broken, want of memory.
@@ -228,12 +231,7 @@ fn tells_members(hall: &mut Hall, question: Question, members: &[Entity]) -> Res
 }
 
 /// Whether the search of the number says that the entity is a member, or that it isn't.
-pub(super) fn tells(
-    hall: &mut Hall,
-    asker: Entity,
-    number: u64,
-    is_member: bool,
-) -> Result<bool, Fail> {
+fn tells(hall: &mut Hall, asker: Entity, number: u64, is_member: bool) -> Result<bool, Fail> {
     match told(hall, asker, number)? {
         Answer::Yes => Ok(is_member),
         Answer::No => Ok(!is_member),
@@ -278,25 +276,18 @@ fn is_answered(
 }
 
 /// The four tenants.
-fn four(alloc: Global) -> Result<Vec<Entity>, Fail> {
-    let mut tenants = Vec::new(alloc);
-    for name in ["A", "B", "C", "D"] {
-        tenants.push(entity(name)?)?;
-    }
-    Ok(tenants)
+fn four() -> Result<[Entity; 4], Fail> {
+    Ok([entity("A")?, entity("B")?, entity("C")?, entity("D")?])
 }
 
 /// The hall of the four.
 fn hall_of_four(alloc: Global) -> Result<Hall, Fail> {
-    let (a, b, c, d) = (entity("A")?, entity("B")?, entity("C")?, entity("D")?);
+    let [a, b, c, d] = four()?;
     if b == a || c == a || d == a || c == b || d == b || d == c {
         return Err("a name twice")?;
     }
-    let mut roster = Vec::new(alloc);
-    roster.push((a, Limits::usual()))?;
-    roster.push((b, Limits::usual()))?;
-    roster.push((c, Limits::usual()))?;
-    roster.push((d, Limits::usual()))?;
+    let usual = Limits::usual();
+    let roster = vec![in alloc; (a, usual), (b, usual), (c, usual), (d, usual)]?;
     Ok(Hall::make(alloc, roster)?)
 }
 
@@ -304,20 +295,25 @@ fn hall_of_four(alloc: Global) -> Result<Hall, Fail> {
 fn turn_some(
     hall: &mut Hall,
     tenants: &[Entity],
-    grants: &mut Grants,
+    grants: &mut Vec<Grant>,
     numbers: &mut Numbers,
 ) -> Result<(), Fail> {
     for owner in tenants {
+        let owner = *owner;
         if numbers.below(5) == 0 {
-            grants.turn_for_all(hall, *owner)?;
+            turn(
+                hall,
+                grants,
+                Grant {
+                    owner,
+                    reader: None,
+                },
+            )?;
         }
         for reader in tenants {
-            if owner != reader && numbers.below(3) > 0 {
-                let grant = Grant {
-                    owner: *owner,
-                    reader: *reader,
-                };
-                grants.turn(hall, grant)?;
+            if owner != *reader && numbers.below(3) > 0 {
+                let reader = Some(*reader);
+                turn(hall, grants, Grant { owner, reader })?;
             }
         }
     }
@@ -333,26 +329,20 @@ fn upload(hall: &mut Hall, credentials: &[Credential]) -> Result<(), Fail> {
     Ok(())
 }
 
-/// Opens a search for the members, and one for each tenant.
-fn open(hall: &mut Hall, tenants: &[Entity], question: &mut Question) -> Result<(), Fault> {
-    open_members(hall, question)?;
-    open_each(hall, tenants, question)
-}
-
 /// Whether the tenant who asks is answered rightly, with grants that the numbers make before it asks and after.
 fn answers(
     alloc: Global,
     hall: &mut Hall,
     tenants: &[Entity],
     credentials: &[Credential],
-    grants: &mut Grants,
+    grants: &mut Vec<Grant>,
     numbers: &mut Numbers,
     mut question: Question,
 ) -> Result<bool, Fail> {
     turn_some(hall, tenants, grants, numbers)?;
     let is_seen = tells_sights(alloc, hall, tenants, grants, question.asker)?;
     let seen = view(alloc, credentials, grants, question.asker)?;
-    open(hall, tenants, &mut question)?;
+    question.first = open(hall, tenants, question)?;
     turn_some(hall, tenants, grants, numbers)?;
     let members = members_plain(alloc, &seen, &question.role)?;
     Ok(is_answered(hall, tenants, question, &seen, &members)? && is_seen)
@@ -365,13 +355,10 @@ fn answers_each(
     role: Role,
     numbers: &mut Numbers,
 ) -> Result<bool, Fail> {
-    let tenants = four(alloc)?;
+    let tenants = four()?;
     let mut hall = hall_of_four(alloc)?;
     upload(&mut hall, credentials)?;
-    let mut grants = Grants {
-        to_one: Vec::new(alloc),
-        to_all: Vec::new(alloc),
-    };
+    let mut grants = Vec::new(alloc);
     let mut is_right = true;
     for asker in &tenants {
         let asker = *asker;
