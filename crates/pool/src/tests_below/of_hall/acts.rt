@@ -263,21 +263,21 @@ fn events_of(alloc: Global, parts: &[&[Row]]) -> Result<Vec<Event>, Fail> {
     Ok(events)
 }
 
-/// The place of the first reply that isn't the one that is wanted, where there is one.
+/// The place of the first reply that isn't the one that is wanted, or lacks or is one too many, where there is one.
 fn first_other(alloc: Global, replies: &[Reply], parts: &[&[Row]]) -> Result<Option<usize>, Fail> {
-    let mut rest = replies.iter().enumerate();
+    let mut place = 0usize;
     for part in parts {
         for (_who, _act, told) in *part {
-            let (place, reply) = rest.next().ok_or("a reply for each event")?;
+            let Some(reply) = replies.get(place) else {
+                return Ok(Some(place));
+            };
             if !is_told(alloc, reply, told)? {
                 return Ok(Some(place));
             }
+            place = place.saturating_add(1);
         }
     }
-    match rest.next() {
-        Some(_more) => Err("one reply for each event")?,
-        None => Ok(None),
-    }
+    Ok((place != replies.len()).then_some(place))
 }
 
 /// Runs the acts of the parts, one part after another, and answers the place of the first reply that isn't the one that
