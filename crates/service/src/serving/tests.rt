@@ -47,13 +47,14 @@ static WORKED: [Step; 10] = [
 ];
 
 /// What happens while a service answers.
-#[derive(Drop)]
+#[derive(Clone, Copy)]
 enum Meanwhile {
+    /// And the listener waits for nobody.
     NobodyComes,
     OneComesAndCloses,
     OneSays(&'static [Step]),
     /// One is greeted, and then the listener no longer waits for others.
-    TheListenerFails(TcpListener),
+    TheListenerFails,
     /// One says nothing, and one stops within its second line.
     TwoFallSilent,
 }
@@ -122,27 +123,44 @@ fn are_refused<R: Net<Stream = TcpStream> + Clock>(
     Ok(is_greeted && is_refused && is_cut_off(first))
 }
 
+/// Whether nothing more is told to these peers, of whom the second stops within its second line.
+fn are_over(first: &TcpStream, mut second: &TcpStream) -> io::Result<bool> {
+    let is_greeted = is_answered(second, b"hello A a\n", b"hello A\n")?;
+    second.write_all(b"vau")?;
+    Ok(is_greeted && is_over(second)? && is_over(first)?)
+}
+
+/// Whether all goes as it should once the first has come.
+fn goes_on<R: Net<Stream = TcpStream> + Clock>(
+    rt: &R,
+    port: u16,
+    first: &TcpStream,
+    lent: TcpListener,
+    meanwhile: Meanwhile,
+) -> io::Result<bool> {
+    match meanwhile {
+        Meanwhile::NobodyComes | Meanwhile::OneComesAndCloses => Ok(true),
+        Meanwhile::OneSays(steps) => is_told_all(first, steps),
+        Meanwhile::TheListenerFails => are_refused(rt, port, first, lent),
+        Meanwhile::TwoFallSilent => {
+            let second = TcpStream::connect(rt, ("127.0.0.1", port))?;
+            are_over(first, &second)
+        }
+    }
+}
+
 /// Whether all goes as it should meanwhile.
 fn goes_well<R: Net<Stream = TcpStream> + Clock>(
     rt: &R,
     port: u16,
+    lent: TcpListener,
     meanwhile: Meanwhile,
 ) -> io::Result<bool> {
     if let Meanwhile::NobodyComes = meanwhile {
         return Ok(true);
     }
     let first = TcpStream::connect(rt, ("127.0.0.1", port))?;
-    match meanwhile {
-        Meanwhile::NobodyComes | Meanwhile::OneComesAndCloses => Ok(true),
-        Meanwhile::OneSays(steps) => is_told_all(&first, steps),
-        Meanwhile::TheListenerFails(lent) => are_refused(rt, port, &first, lent),
-        Meanwhile::TwoFallSilent => {
-            let mut second = TcpStream::connect(rt, ("127.0.0.1", port))?;
-            let is_greeted = is_answered(&second, b"hello A a\n", b"hello A\n")?;
-            second.write_all(b"vau")?;
-            Ok(is_greeted && is_over(&second)? && is_over(&first)?)
-        }
-    }
+    goes_on(rt, port, &first, lent, meanwhile)
 }
 
 /// Serves at this listener.
@@ -179,129 +197,120 @@ fn serve_while<R: Net<Stream = TcpStream> + Threads + Wait + Clock + Sync>(
     writer: &mut Trickles,
 ) -> Result<(Result<u64, ServeFault>, bool), Fail> {
     let port = listener.local_addr()?.port();
+    let lent = listener.try_clone()?;
     let roster = one_tenant(alloc)?;
     Ok(thread::join(
         rt,
         || serve_at(rt, alloc, &roster, listener, options, writer),
-        || goes_well(rt, port, meanwhile).unwrap_or(false),
+        || goes_well(rt, port, lent, meanwhile).unwrap_or(false),
     ))
 }
 
-/// What a service comes to, and whether all goes as it should meanwhile.
-fn came_to<R: Net<Stream = TcpStream> + Threads + Wait + Clock + Sync>(
+/// A listener at a port that is free.
+fn bound<R: Net<Listener = TcpListener, Stream = TcpStream>>(
     rt: &R,
-    alloc: Global,
-    listener: TcpListener,
-    options: ServeOptions,
     meanwhile: Meanwhile,
-) -> Result<(Result<u64, ServeFault>, bool), Fail> {
-    let mut writer = Trickles::new(Vec::new(alloc), NEVER, Refuses::WithAnError);
-    serve_while(rt, alloc, listener, options, meanwhile, &mut writer)
+) -> io::Result<TcpListener> {
+    let listener = TcpListener::bind(rt, ("127.0.0.1", 0))?;
+    listener.set_nonblocking(matches!(meanwhile, Meanwhile::NobodyComes))?;
+    Ok(listener)
 }
 
-/// Whether a service of one peer comes to this, all goes as it should meanwhile, and this is written.
+/// Whether a service of one peer comes to this, all goes as it should meanwhile, and this is written to a writer that refuses
+/// the byte behind it, if any.
 fn is_written<R: Net<Stream = TcpStream> + Threads + Wait + Clock + Sync>(
     rt: &R,
     alloc: Global,
     listener: TcpListener,
     meanwhile: Meanwhile,
+    refuses: Option<Refuses>,
     end: Result<u64, ServeFault>,
-    writer: &mut Trickles,
-    wanted: &[u8],
+    wanted: &str,
 ) -> Result<bool, Fail> {
-    let came_to = serve_while(rt, alloc, listener, ONE_PEER, meanwhile, writer)?;
-    Ok(came_to == (end, true) && writer.taken.as_slice() == wanted)
+    let mut writer = match refuses {
+        Some(refuses) => Trickles::new(Vec::new(alloc), wanted.len() as u64, refuses),
+        None => Trickles::new(Vec::new(alloc), NEVER, Refuses::WithAnError),
+    };
+    let came_to = serve_while(rt, alloc, listener, ONE_PEER, meanwhile, &mut writer)?;
+    Ok(came_to == (end, true) && writer.taken.as_slice() == wanted.as_bytes())
 }
 
-/// Whether a service comes to this, all goes as it should meanwhile, and it tells where it listens and then this.
-fn comes_to<R: Net<Stream = TcpStream> + Threads + Wait + Clock + Sync>(
+/// The same of a service that tells where it listens and then this.
+fn is_told_then<R: Net<Listener = TcpListener, Stream = TcpStream> + Threads + Wait + Clock + Sync>(
     rt: &R,
     alloc: Global,
-    listener: TcpListener,
     meanwhile: Meanwhile,
+    refuses: Option<Refuses>,
     end: Result<u64, ServeFault>,
     then: &str,
 ) -> Result<bool, Fail> {
+    let listener = bound(rt, meanwhile)?;
     let port = listener.local_addr()?.port();
     let wanted = format!(in alloc; "listening 127.0.0.1:{port}\n{then}")?;
-    let mut writer = Trickles::new(Vec::new(alloc), NEVER, Refuses::WithAnError);
-    is_written(
-        rt,
-        alloc,
-        listener,
-        meanwhile,
-        end,
-        &mut writer,
-        wanted.as_bytes(),
-    )
+    is_written(rt, alloc, listener, meanwhile, refuses, end, &wanted)
 }
 
 #[test]
 fn a_worked_session(rt: HostRuntime) -> Result<(), Fail> {
-    let listener = TcpListener::bind(&rt, ("127.0.0.1", 0))?;
     let says = Meanwhile::OneSays(&WORKED);
-    assert!(rt; comes_to(&rt, rt.alloc(), listener, says, Ok(1), "served 1\n")?);
+    assert!(rt; is_told_then(&rt, rt.alloc(), says, None, Ok(1), "served 1\n")?);
     Ok(())
 }
 
 // Nobody has come when it is to accept, and it may not wait.
 #[test]
 fn a_listener_that_fails(rt: HostRuntime) -> Result<(), Fail> {
-    let listener = TcpListener::bind(&rt, ("127.0.0.1", 0))?;
-    listener.set_nonblocking(true)?;
     let end = Err(ServeFault::Socket);
-    assert!(rt; comes_to(&rt, rt.alloc(), listener, Meanwhile::NobodyComes, end, "")?);
+    assert!(rt; is_told_then(&rt, rt.alloc(), Meanwhile::NobodyComes, None, end, "")?);
     Ok(())
+}
+
+/// What a service comes to, and whether all goes as it should meanwhile.
+fn came_to<R: Net<Listener = TcpListener, Stream = TcpStream> + Threads + Wait + Clock + Sync>(
+    rt: &R,
+    alloc: Global,
+    options: ServeOptions,
+    meanwhile: Meanwhile,
+) -> Result<(Result<u64, ServeFault>, bool), Fail> {
+    let listener = bound(rt, meanwhile)?;
+    let mut writer = Trickles::new(Vec::new(alloc), NEVER, Refuses::WithAnError);
+    serve_while(rt, alloc, listener, options, meanwhile, &mut writer)
 }
 
 #[test]
 fn a_listener_that_fails_beside_a_session(rt: HostRuntime) -> Result<(), Fail> {
-    let listener = TcpListener::bind(&rt, ("127.0.0.1", 0))?;
-    let fails = Meanwhile::TheListenerFails(listener.try_clone()?);
-    let came_to = came_to(&rt, rt.alloc(), listener, MANY_PEERS, fails)?;
+    let came_to = came_to(&rt, rt.alloc(), MANY_PEERS, Meanwhile::TheListenerFails)?;
     assert_eq!(rt; came_to, (Err(ServeFault::Socket), true));
     Ok(())
 }
 
 #[test]
 fn peers_that_are_idle(rt: HostRuntime) -> Result<(), Fail> {
-    let listener = TcpListener::bind(&rt, ("127.0.0.1", 0))?;
-    let came_to = came_to(
-        &rt,
-        rt.alloc(),
-        listener,
-        TWO_IDLE_PEERS,
-        Meanwhile::TwoFallSilent,
-    )?;
+    let came_to = came_to(&rt, rt.alloc(), TWO_IDLE_PEERS, Meanwhile::TwoFallSilent)?;
     assert_eq!(rt; came_to, (Ok(2), true));
     Ok(())
 }
 
-/// Whether a service ends as it should whose writer refuses so many bytes behind the start of the second line, where one
-/// comes, and else of the first.
+/// Whether a service ends as it should whose writer refuses so many bytes behind the start of the first line, where nobody
+/// comes, and of the second.
 fn ends_at_a_write<
     R: Net<Listener = TcpListener, Stream = TcpStream> + Threads + Wait + Clock + Sync,
->(rt: &R, alloc: Global, one_comes: bool, behind: usize, refuses: Refuses) -> Result<bool, Fail> {
-    let listener = TcpListener::bind(rt, ("127.0.0.1", 0))?;
-    let port = listener.local_addr()?.port();
-    let both = format!(in alloc; "listening 127.0.0.1:{port}\nserved 1\n")?;
-    let (meanwhile, before) = if one_comes {
-        (
-            Meanwhile::OneComesAndCloses,
-            both.len().saturating_sub(b"served 1\n".len()),
-        )
-    } else {
-        (Meanwhile::NobodyComes, 0)
-    };
-    let Some((front, _)) = both
-        .as_bytes()
-        .split_at_checked(before.saturating_add(behind))
-    else {
+>(rt: &R, alloc: Global, behind: usize, refuses: Refuses) -> Result<bool, Fail> {
+    let refuses = Some(refuses);
+    let lines = (
+        "listening".split_at_checked(behind),
+        "served 1\n".split_at_checked(behind),
+    );
+    let (Some((first, _)), Some((second, _))) = lines else {
         return Ok(false);
     };
     let end = Err(ServeFault::Write);
-    let mut writer = Trickles::new(Vec::new(alloc), front.len() as u64, refuses);
-    is_written(rt, alloc, listener, meanwhile, end, &mut writer, front)
+    let nobody = Meanwhile::NobodyComes;
+    let one = Meanwhile::OneComesAndCloses;
+    Ok(
+        is_written(rt, alloc, bound(rt, nobody)?, nobody, refuses, end, first)?
+            && is_told_then(rt, alloc, one, refuses, end, second)?,
+    )
 }
 
 // Each line has at least nine bytes.
@@ -309,9 +318,10 @@ fn ends_at_a_write<
 fn a_writer_that_fails(rt: HostRuntime) -> Result<(), Fail> {
     for refuses in [Refuses::WithAnError, Refuses::ByTakingNothing] {
         for behind in 0..9usize {
-            let first = ends_at_a_write(&rt, rt.alloc(), false, behind, refuses)?;
-            let second = ends_at_a_write(&rt, rt.alloc(), true, behind, refuses)?;
-            assert!(rt; first && second, "{refuses:?} at byte {behind}");
+            assert!(rt;
+                ends_at_a_write(&rt, rt.alloc(), behind, refuses)?,
+                "{refuses:?} at byte {behind}"
+            );
         }
     }
     Ok(())

@@ -197,7 +197,7 @@ fn is_too_long<R: Wait>(rt: &R, alloc: Global, line: &[u8]) -> Result<bool, Fail
     )
 }
 
-// They have one byte more than there is room for, and one byte outside as well.
+// Each has more bytes than there is room for, the second also one outside 32 to 126.
 #[test]
 fn lines_that_are_too_long(rt: HostRuntime) -> Result<(), Fail> {
     let spaces = vec![in rt.alloc(); b' '; 4097]?;
