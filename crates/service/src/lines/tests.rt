@@ -2,123 +2,101 @@ use super::limit::Limited;
 use super::*;
 use crate::fakes::{Drips, NEVER};
 use NextLine::{End, Fault, Long, NotAscii, Text};
+use std::process::Abort;
 use std::test::Fail;
 
-/// Whether these are the next lines.
-fn are_next<R: Read + Drop>(lines: &mut LineReader<R>, wanted: &[NextLine]) -> bool {
-    for line in wanted {
-        if lines.next() != *line {
-            return false;
-        }
-    }
-    true
-}
-
-/// Whether a reader's lines are these.
-fn reads_as<R: Read + Drop>(
-    alloc: Global,
+fn expect_lines<R: Read + Drop>(
+    rt: &(impl Abort + AllocGlobal),
     reader: R,
     wanted: &[NextLine],
-) -> Result<bool, AllocError> {
-    let mut lines = LineReader::make(alloc, reader)?;
-    Ok(are_next(&mut lines, wanted))
-}
-
-/// Whether an input's lines are these, at once and one byte a call.
-fn is_cut_into(alloc: Global, input: &[u8], wanted: &[NextLine]) -> Result<bool, AllocError> {
-    Ok(reads_as(alloc, input, wanted)? && reads_as(alloc, Drips::new(input, NEVER), wanted)?)
-}
-
-/// Inputs and their lines. The end stays.
-static INPUTS: [(&[u8], &[NextLine]); 11] = [
-    (b"", &[End, End]),
-    (b"\n", &[Text(b""), End, End]),
-    (b"a b\n\nc\n", &[Text(b"a b"), Text(b""), Text(b"c"), End]),
-    (b"a\nb", &[Text(b"a"), Text(b"b"), End, End]),
-    (b"a\r\nb\r\n", &[Text(b"a"), Text(b"b"), End]),
-    (b"\r\n", &[Text(b""), End]),
-    (b"a\r\r\nb", &[NotAscii, Text(b"b"), End]),
-    (b"a\rb\n", &[NotAscii, End]),
-    (b"a\n\r", &[Text(b"a"), NotAscii, End]),
-    (
-        b"\x00\n\t\n\x1f\n \n",
-        &[NotAscii, NotAscii, NotAscii, Text(b" "), End],
-    ),
-    (b"~\n\x7f\na\xc8\n", &[Text(b"~"), NotAscii, NotAscii, End]),
-];
-
-#[test]
-fn cuts_an_input_into_lines(rt: HostRuntime) -> Result<(), Fail> {
-    for (input, wanted) in &INPUTS {
-        assert!(rt; is_cut_into(rt.alloc(), *input, *wanted)?, "at {input:?}");
+) -> Result<(), Fail> {
+    let mut lines = LineReader::make(rt.alloc(), reader)?;
+    for line in wanted {
+        assert_eq!(rt; lines.next(), *line);
     }
     Ok(())
 }
 
-/// So many bytes `x`, what stands behind them, and what the first line is: the text of `LINE_ROOM` of them where it is `None`.
-static ENDS: [(usize, &[u8], Option<NextLine>); 12] = [
-    (4096, b"\nb", None),
-    (4096, b"\r\nb", None),
-    (4097, b"\nb", Some(Long)),
-    (4097, b"\r\nb", Some(Long)),
-    (4096, b"\r\r\nb", Some(Long)),
-    (4096, b"\t\nb", Some(Long)),
-    (4095, b"\t\nb", Some(NotAscii)),
-    (9000, b"\xc8\nb", Some(Long)),
-    (4096, b"", None),
-    (4097, b"", Some(Long)),
-    (4096, b"\r", Some(Long)),
-    (4095, b"\r", Some(NotAscii)),
-];
+// Each input at once, and one byte a call; the end stays.
+fn expect_both_ways(
+    rt: &(impl Abort + AllocGlobal),
+    input: &[u8],
+    wanted: &[NextLine],
+) -> Result<(), Fail> {
+    expect_lines(rt, input, wanted)?;
+    expect_lines(rt, Drips::new(input, NEVER), wanted)
+}
 
-/// Whether so many bytes `x` and this end are this line, and `b` follows where the end has it.
-fn begins_with(
-    alloc: Global,
-    count: usize,
-    end: &[u8],
-    line: NextLine,
-) -> Result<bool, AllocError> {
-    let mut input = vec![in alloc; b'x'; count]?;
-    input.extend_from_slice(end)?;
-    if end.ends_with(b"b") {
-        is_cut_into(alloc, &input, &[line, Text(b"b"), End])
-    } else {
-        is_cut_into(alloc, &input, &[line, End])
+#[test]
+fn cuts_an_input_into_lines(rt: HostRuntime) -> Result<(), Fail> {
+    let cases: [(&[u8], &[NextLine]); 11] = [
+        (b"", &[End, End]),
+        (b"\n", &[Text(b""), End, End]),
+        (b"a b\n\nc\n", &[Text(b"a b"), Text(b""), Text(b"c"), End]),
+        (b"a\nb", &[Text(b"a"), Text(b"b"), End, End]),
+        (b"a\r\nb\r\n", &[Text(b"a"), Text(b"b"), End]),
+        (b"\r\n", &[Text(b""), End]),
+        (b"a\r\r\nb", &[NotAscii, Text(b"b"), End]),
+        (b"a\rb\n", &[NotAscii, End]),
+        (b"a\n\r", &[Text(b"a"), NotAscii, End]),
+        (
+            b"\x00\n\t\n\x1f\n \n",
+            &[NotAscii, NotAscii, NotAscii, Text(b" "), End],
+        ),
+        (b"~\n\x7f\na\xc8\n", &[Text(b"~"), NotAscii, NotAscii, End]),
+    ];
+    for (input, wanted) in cases {
+        expect_both_ways(&rt, input, wanted)?;
     }
+    Ok(())
 }
 
 #[test]
 fn allows_lines_up_to_their_room(rt: HostRuntime) -> Result<(), Fail> {
     let room = vec![in rt.alloc(); b'x'; LINE_ROOM]?;
-    for (count, end, line) in &ENDS {
-        let line = line.unwrap_or(Text(&room));
-        assert!(rt;
-            begins_with(rt.alloc(), *count, *end, line)?,
-            "at {count} and {end:?}"
-        );
+    let full = Text(&room);
+    let ends: [(usize, &[u8], NextLine); 8] = [
+        (4096, b"\nb", full),
+        (4096, b"\r\nb", full),
+        (4097, b"\nb", Long),
+        (4097, b"\r\nb", Long),
+        (4096, b"\r\r\nb", Long),
+        (4096, b"\t\nb", Long),
+        (4095, b"\t\nb", NotAscii),
+        (9000, b"\xc8\nb", Long),
+    ];
+    for (count, end, wanted) in ends {
+        let mut input = vec![in rt.alloc(); b'x'; count]?;
+        input.extend_from_slice(end)?;
+        expect_both_ways(&rt, &input, &[wanted, Text(b"b"), End])?;
+    }
+    let last_ends: [(usize, &[u8], NextLine); 4] = [
+        (4096, b"", full),
+        (4097, b"", Long),
+        (4096, b"\r", Long),
+        (4095, b"\r", NotAscii),
+    ];
+    for (count, end, wanted) in last_ends {
+        let mut input = vec![in rt.alloc(); b'x'; count]?;
+        input.extend_from_slice(end)?;
+        expect_both_ways(&rt, &input, &[wanted, End])?;
     }
     Ok(())
 }
 
-/// After how many calls the reader fails, and what is read of two lines: those that came whole, and the fault, which stays.
-static FAULTS: [(u64, &[NextLine]); 6] = [
-    (0, &[Fault, Fault]),
-    (1, &[Fault, Fault]),
-    (2, &[Text(b"a"), Fault, Fault]),
-    (3, &[Text(b"a"), Fault, Fault]),
-    (4, &[Text(b"a"), Text(b"b"), Fault, Fault]),
-    (5, &[Text(b"a"), Text(b"b"), End, End]),
-];
-
-// Each call fails in turn, the one at the end too.
+// Each call fails in turn, the one at the end too; the lines that came whole are given, and the fault stays.
 #[test]
 fn stays_at_a_fault(rt: HostRuntime) -> Result<(), Fail> {
-    for (calls, wanted) in &FAULTS {
-        let reader = Drips::new(b"a\nb\n", *calls);
-        assert!(rt;
-            reads_as(rt.alloc(), reader, *wanted)?,
-            "after {calls} calls"
-        );
+    let cases: [(u64, &[NextLine]); 6] = [
+        (0, &[Fault, Fault]),
+        (1, &[Fault, Fault]),
+        (2, &[Text(b"a"), Fault, Fault]),
+        (3, &[Text(b"a"), Fault, Fault]),
+        (4, &[Text(b"a"), Text(b"b"), Fault, Fault]),
+        (5, &[Text(b"a"), Text(b"b"), End, End]),
+    ];
+    for (before_fault, wanted) in cases {
+        expect_lines(&rt, Drips::new(b"a\nb\n", before_fault), wanted)?;
     }
     Ok(())
 }
