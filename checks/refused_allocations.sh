@@ -38,8 +38,9 @@ for asked in "$@"; do
     [ "$asked" = "$crate" ] || only=${asked#*:}
     tests=$root/crates/$crate/out/${crate}_tests
     [ -x "$tests" ] || (cd "$root/crates/$crate" && rt test) > "$work/log" 2>&1 || { cat "$work/log"; exit 1; }
-    all=0 well=0 lacked=0 other=0
+    runs=0 all=0 well=0 lacked=0 other=0
     for test in $("$tests" --list | sed -n 's/: test$//p' | grep -F -- "$only"); do
+        runs=$((runs + 1))
         one "$test" 0
         [ "$status" -eq 0 ] || { cat "$work/out"; exit 1; }
         count=$(cat "$work/count")
@@ -60,7 +61,8 @@ for asked in "$@"; do
         done
     done
     echo "$asked: $all allocations; $well runs ended as with ample memory, $lacked with want of memory, $other otherwise"
-    if [ "$other" -eq 0 ]; then
+    [ "$runs" -gt 0 ] || echo "$asked: there is no such test"
+    if [ "$runs" -gt 0 ] && [ "$other" -eq 0 ]; then
         passed=$((passed + 1))
     else
         failed=$((failed + 1))
