@@ -1,0 +1,24 @@
+use Rattle.std.proofs.Common.{◌≡◌, ℕ, zero, suc, List, [], ◌∷◌, Option, Some, None, option_map}
+use Rattle.std.proofs.Common.{refl, sym, ap, ◌∙◌, arith}
+use Rattle.std.specs.List.{slice_set}
+use Rattle.std.proofs.lemmas.List.{get_or-set_other}
+use Rattle.scholten_core.specs.declared.engagement.Engagement.{Engagement}
+use Rattle.scholten_core.specs.Kept.{engagement_of}
+use Rattle.scholten_core.proofs.Paid.{count_of}
+use Rattle.scholten_core.proofs.engagement.pay.Goals as goal
+
+let_go : (nodes : List (Option Engagement)) (n : ℕ) → engagement_of (slice_set nodes n None) n ≡ None
+let_go [] n = refl
+let_go (o ∷ nodes) zero = refl
+let_go (o ∷ nodes) (suc n) = let_go nodes n
+
+pub returns : goal.returns
+returns c =
+    let nodes = c.args.nodes.now.items in
+    let engaged : Some c.in_ok-engaged.engaged ≡ engagement_of nodes c.args.node =
+        sym c.in_ok-engaged.was ∙ c.engaged_at.ensures in
+    record {
+      same = λ n other. get_or-set_other nodes c.args.node n None None other;
+      paid = λ e there more. absurd (omega (arith, more, ap count_of (engaged ∙ there)));
+      gone = λ e there one. (ap (option_map (λ (x : Engagement). x.parent)) (engaged ∙ there), let_go nodes c.args.node);
+    }
