@@ -1,10 +1,11 @@
 -- Listeners in their lists and in the table of those beyond the first 8 of a node.
-use Rattle.std.proofs.Common.{ℕ, ◌≡◌, ◌==◌, ◌≤◌, ◌<◌, ◌∙◌, ◌↔◌, IsTrue, ap, sym, subst, inl, inr, arith, min, Bool, true, false, true≢false, List, [], ◌∷◌, ◌++◌, Contains, drop, length, take}
+use Rattle.std.proofs.Common.{ℕ, ◌≡◌, ◌==◌, ◌≤◌, ◌<◌, ◌∙◌, ◌↔◌, IsTrue, ap, refl, sym, subst, inl, inr, arith, min, Bool, true, false, not, true≢false, List, [], ◌∷◌, ◌++◌, Contains, drop, length, take}
 use Rattle.std.specs.Bool.{Decides}
 use Rattle.std.specs.List.{list_any}
 use Rattle.std.proofs.lemmas.Bool.{cases_eq, cond-true, cond-false, eq-eqb, ne_eqb}
 use Rattle.std.proofs.lemmas.List.{drop_all, drop_min, drop-append-le, length_push, take-append-drop}
 use Rattle.std.proofs.lemmas.List.Elements.{Contains-append_cases, Contains-append_left, Contains-append_right, Contains-push, Contains-push_cases}
+use Rattle.std.proofs.lemmas.Map.Views.{exact_unsigned_eq}
 use Rattle.indexmap.specs.IndexSet.{insert_key}
 use Rattle.cred_graph.specs.declared.listeners.KeptListening.{KeptListening}
 use Rattle.cred_graph.specs.declared.listeners.FarListening.{FarListening}
@@ -27,25 +28,54 @@ min_turned m = omega arith
 one_more : (xs : List KeptListening) (l : KeptListening) → length xs < 8 → length (xs ++ l ∷ []) ≤ 8
 one_more xs l few = omega (arith, length_push xs l)
 
--- a listener that isn't among the first is looked for in the table
-pub has_far : (lists : List (List KeptListening)) (rows : List FarListening) (n : ℕ) (l : KeptListening) (list near others : List KeptListening) (found r : Bool) →
-    AreFar lists rows → list ≡ list_at lists n → near ≡ take (min (length list) 8) list → others ≡ drop (min (length list) 8) list →
-    found ≡ list_any (λ y. kept.ghosts.eq y l) near → found ≡ false → r ≡ list_any (far.ghosts.eq (far_of n l)) rows → IsTrue r ↔ Contains (list_at lists n) l
-has_far lists rows n l list near others found r are is front back any none has =
-    let shown : (list_any (λ y. kept.ghosts.eq y l) near ≡ true) ↔ Contains near l = any_exact (λ x y. kept.ghosts.eq y x) seen_from near l in
-    let kept_out : Contains near l → ⊥ = λ there. true≢false (sym (shown.1 there) ∙ sym any ∙ none) in
-    let tail : drop 8 (list_at lists n) ≡ others = ap (drop 8) (sym is) ∙ sym (drop_min 8 list) ∙ ap (λ k. drop k list) (min_turned (length list)) ∙ sym back in
-    let whole : near ++ others ≡ list_at lists n =
-    ap (λ xs. xs ++ others) front ∙ ap (λ xs. take (min (length list) 8) list ++ xs) back ∙ take-append-drop (min (length list) 8) list ∙ is in
-    let rows_have = any_exact far.ghosts.eq far_decided rows (far_of n l) in (
-      λ (yes : r ≡ true).
-          subst (λ xs. Contains xs l) whole (Contains-append_right near others l (subst (λ xs. Contains xs l) tail ((are n l).0 (rows_have.0 (sym has ∙ yes))))),
-      λ (there : Contains (list_at lists n) l).
-          elim (Contains-append_cases near others l (subst (λ xs. Contains xs l) (sym whole) there)) [
-            | inl here ↦ absurd (kept_out here)
-            | inr beyond ↦ has ∙ rows_have.1 ((are n l).1 (subst (λ xs. Contains xs l) (sym tail) beyond))
-          ],
-    )
+-- whether a listener is among the first
+shown : (near : List KeptListening) (l : KeptListening) → (list_any (λ y. kept.ghosts.eq y l) near ≡ true) ↔ Contains near l
+shown near l = any_exact (λ x y. kept.ghosts.eq y x) seen_from near l
+
+module _ (lists : List (List KeptListening)) (n : ℕ) (l : KeptListening) (list near others : List KeptListening) (found : Bool)
+    (is : list ≡ list_at lists n) (front : near ≡ take (min (length list) 8) list)
+    (back : others ≡ drop (min (length list) 8) list) (any : found ≡ list_any (λ y. kept.ghosts.eq y l) near) where
+  whole : near ++ others ≡ list_at lists n
+  whole =
+      ap (λ xs. xs ++ others) front ∙ ap (λ xs. take (min (length list) 8) list ++ xs) back
+      ∙ take-append-drop (min (length list) 8) list ∙ is
+
+  -- a listener that isn't among the first is among the others
+  beyond : found ≡ false → Contains (list_at lists n) l → Contains others l
+  beyond none there =
+      elim (Contains-append_cases near others l (subst (λ xs. Contains xs l) (sym whole) there)) [
+        | inl here ↦ absurd (true≢false (sym ((shown near l).1 here) ∙ sym any ∙ none))
+        | inr last ↦ last
+      ]
+
+  pub has_near : found ≡ true → IsTrue true ↔ Contains (list_at lists n) l
+  has_near some = (
+    λ _. subst (λ xs. Contains xs l) whole (Contains-append_left near others l ((shown near l).0 (sym any ∙ some))),
+    λ _. refl,
+  )
+
+  pub has_none : (empty : Bool) → found ≡ false → empty ≡ (length others == 0) → empty ≡ true →
+      IsTrue (not empty) ↔ Contains (list_at lists n) l
+  has_none empty none is_empty empty_is =
+      let gone : length others ≡ 0 = exact_unsigned_eq (length others) 0 (sym is_empty ∙ empty_is) in (
+        λ (no : not empty ≡ true). absurd (true≢false (sym no ∙ ap not empty_is)),
+        λ there. absurd (omega (arith, (beyond none there).1, gone)),
+      )
+
+  -- a listener that isn't among the first is looked for in the table
+  pub has_far : (rows : List FarListening) (r : Bool) → AreFar lists rows → found ≡ false →
+      r ≡ list_any (far.ghosts.eq (far_of n l)) rows → IsTrue r ↔ Contains (list_at lists n) l
+  has_far rows r are none has =
+      let tail : drop 8 (list_at lists n) ≡ others =
+          ap (drop 8) (sym is) ∙ sym (drop_min 8 list) ∙ ap (λ k. drop k list) (min_turned (length list)) ∙ sym back in
+      let rows_have = any_exact far.ghosts.eq far_decided rows (far_of n l) in (
+        λ (yes : r ≡ true).
+            subst (λ xs. Contains xs l) whole
+            (Contains-append_right near others l
+            (subst (λ xs. Contains xs l) tail ((are n l).0 (rows_have.0 (sym has ∙ yes))))),
+        λ (there : Contains (list_at lists n) l).
+            has ∙ rows_have.1 ((are n l).1 (subst (λ xs. Contains xs l) (sym tail) (beyond none there))),
+      )
 
 -- the table stays where a list with room among the first gets one more
 pub far_near : (lists after : List (List KeptListening)) (rows : List FarListening) (n : ℕ) (l : KeptListening) → AreFar lists rows → length (list_at lists n) < 8 → AddsAt lists after n l → AreFar after rows

@@ -1,6 +1,8 @@
 use Rattle.cred_graph.proofs.Lists.{on_err}
-use Rattle.cred_graph.proofs.CallLemmas.{joined, joined_same, listener_kept, listens_by, no_listener}
+use Rattle.cred_graph.specs.Stored.{graph_as}
+use Rattle.cred_graph.proofs.CallLemmas.{Listened, joined, joined_same, listener_kept, listens_by, no_listener}
 use Rattle.cred_graph.proofs.graphs.Graph.add_listener.Goals as goal
+use Rattle.cred_graph.proofs.graphs.Graph.add_listener.Goals.{After-add}
 
 pub invariant_of-self : goal.invariant_of-self
 invariant_of-self c = joined c.self.inside.nodes c.self.inside.strangers _ c.self.inside.listeners c.self.inside.listeners c.self.inside.solutions c.self.invariant c.keep_port.ensures.joins
@@ -26,37 +28,35 @@ invariant_of-self-2 c =
     let asker = rw (← c.self.view_is, ← c.short-asker.ensures) at c.requires.asker in
     listener_kept c.self.inside.nodes c.self.inside.strangers c.keep_port.new.strangers c.self.inside.listeners c.add.new.self c.self.inside.solutions c.self.invariant c.keep_port.ensures.joins c.short-asked.result (record { asker = c.short-asker.result; port = c.in_ok-port.port }) asked asker c.in_ok-port.ensures.kept.0 c.add.result c.add.ensures.ok c.add.ensures.unchanged
 
-pub returns-clause-ok : goal.returns-clause-ok
-returns-clause-ok c =
+-- what the call gives
+given : (c : After-add) →
+    Listened c.args.self.now
+    (graph_as c.self.inside.nodes c.keep_port.new.strangers c.add.new.self c.self.inside.solutions)
+    c.args.n
+    (record { asker = c.args.m; port = c.args.port })
+    c.add.result
+given c =
     let asked = rw (← c.self.view_is, ← c.short-asked.ensures) at c.requires.asked in
     let asker = rw (← c.self.view_is, ← c.short-asker.ensures) at c.requires.asker in
-    rw (← c.self.view_is, ← c.short-asked.ensures) (listens_by c.self.inside.nodes c.self.inside.strangers c.keep_port.new.strangers c.self.inside.listeners c.add.new.self c.self.inside.solutions c.self.invariant c.keep_port.ensures.joins c.short-asked.result (record { asker = c.short-asker.result; port = c.in_ok-port.port }) asked asker c.in_ok-port.ensures.kept.0 (record { asker = c.args.m; port = c.args.port }) (λ i. record { asker = c.short-asker.ensures i; port = c.in_ok-port.ensures.kept.1 i })
-    c.add.result c.add.ensures.ok c.add.ensures.growth c.add.ensures.unchanged).ok
+    rw (← c.self.view_is, ← c.short-asked.ensures)
+    (listens_by c.self.inside.nodes c.self.inside.strangers c.keep_port.new.strangers c.self.inside.listeners
+    c.add.new.self c.self.inside.solutions c.self.invariant c.keep_port.ensures.joins c.short-asked.result
+    (record { asker = c.short-asker.result; port = c.in_ok-port.port }) asked asker c.in_ok-port.ensures.kept.0
+    (record { asker = c.args.m; port = c.args.port })
+    (λ i. record { asker = c.short-asker.ensures i; port = c.in_ok-port.ensures.kept.1 i })
+    c.add.result c.add.ensures.ok c.add.ensures.growth c.add.ensures.unchanged)
+
+pub returns-clause-ok : goal.returns-clause-ok
+returns-clause-ok c = (given (goal.at.returns-clause-ok c).After-add).ok
 
 pub returns-clause-listens : goal.returns-clause-listens
-returns-clause-listens c =
-    let asked = rw (← c.self.view_is, ← c.short-asked.ensures) at c.requires.asked in
-    let asker = rw (← c.self.view_is, ← c.short-asker.ensures) at c.requires.asker in
-    rw (← c.short-asked.ensures) (listens_by c.self.inside.nodes c.self.inside.strangers c.keep_port.new.strangers c.self.inside.listeners c.add.new.self c.self.inside.solutions c.self.invariant c.keep_port.ensures.joins c.short-asked.result (record { asker = c.short-asker.result; port = c.in_ok-port.port }) asked asker c.in_ok-port.ensures.kept.0 (record { asker = c.args.m; port = c.args.port }) (λ i. record { asker = c.short-asker.ensures i; port = c.in_ok-port.ensures.kept.1 i })
-    c.add.result c.add.ensures.ok c.add.ensures.growth c.add.ensures.unchanged).listens
+returns-clause-listens c = (given (goal.at.returns-clause-listens c).After-add).listens
 
 pub returns-clause-graph : goal.returns-clause-graph
-returns-clause-graph c =
-    let asked = rw (← c.self.view_is, ← c.short-asked.ensures) at c.requires.asked in
-    let asker = rw (← c.self.view_is, ← c.short-asker.ensures) at c.requires.asker in
-    (listens_by c.self.inside.nodes c.self.inside.strangers c.keep_port.new.strangers c.self.inside.listeners c.add.new.self c.self.inside.solutions c.self.invariant c.keep_port.ensures.joins c.short-asked.result (record { asker = c.short-asker.result; port = c.in_ok-port.port }) asked asker c.in_ok-port.ensures.kept.0 (record { asker = c.args.m; port = c.args.port }) (λ i. record { asker = c.short-asker.ensures i; port = c.in_ok-port.ensures.kept.1 i })
-    c.add.result c.add.ensures.ok c.add.ensures.growth c.add.ensures.unchanged).graph
+returns-clause-graph c = (given (goal.at.returns-clause-graph c).After-add).graph
 
 pub returns-clause-growth : goal.returns-clause-growth
-returns-clause-growth c =
-    let asked = rw (← c.self.view_is, ← c.short-asked.ensures) at c.requires.asked in
-    let asker = rw (← c.self.view_is, ← c.short-asker.ensures) at c.requires.asker in
-    rw (← c.self.view_is, ← c.short-asked.ensures) (listens_by c.self.inside.nodes c.self.inside.strangers c.keep_port.new.strangers c.self.inside.listeners c.add.new.self c.self.inside.solutions c.self.invariant c.keep_port.ensures.joins c.short-asked.result (record { asker = c.short-asker.result; port = c.in_ok-port.port }) asked asker c.in_ok-port.ensures.kept.0 (record { asker = c.args.m; port = c.args.port }) (λ i. record { asker = c.short-asker.ensures i; port = c.in_ok-port.ensures.kept.1 i })
-    c.add.result c.add.ensures.ok c.add.ensures.growth c.add.ensures.unchanged).growth
+returns-clause-growth c = (given (goal.at.returns-clause-growth c).After-add).growth
 
 pub returns-clause-unchanged : goal.returns-clause-unchanged
-returns-clause-unchanged c =
-    let asked = rw (← c.self.view_is, ← c.short-asked.ensures) at c.requires.asked in
-    let asker = rw (← c.self.view_is, ← c.short-asker.ensures) at c.requires.asker in
-    rw (← c.self.view_is) (listens_by c.self.inside.nodes c.self.inside.strangers c.keep_port.new.strangers c.self.inside.listeners c.add.new.self c.self.inside.solutions c.self.invariant c.keep_port.ensures.joins c.short-asked.result (record { asker = c.short-asker.result; port = c.in_ok-port.port }) asked asker c.in_ok-port.ensures.kept.0 (record { asker = c.args.m; port = c.args.port }) (λ i. record { asker = c.short-asker.ensures i; port = c.in_ok-port.ensures.kept.1 i })
-    c.add.result c.add.ensures.ok c.add.ensures.growth c.add.ensures.unchanged).unchanged
+returns-clause-unchanged c = (given (goal.at.returns-clause-unchanged c).After-add).unchanged

@@ -6,7 +6,7 @@ use Rattle.cred_graph.specs.declared.solutions.Reason.{Reason}
 use Rattle.cred_graph.specs.declared.solutions.Solved.{Solved}
 use Rattle.cred_graph.specs.Graph.{IsGraph}
 use Rattle.cred_graph.specs.GraphState.{empty_graph}
-use Rattle.cred_graph.specs.Stored.{IsStored}
+use Rattle.cred_graph.specs.Stored.{graph_as, IsStored}
 use Rattle.cred_graph.proofs.graphs.Graph.new.Goals as goal
 
 no_place : {X : Type 0} {P : Type 0} (i : ℕ) (x : X) → slice_get [] i ≡ Some x → P
@@ -33,6 +33,15 @@ stored nodes strangers lists entries a b c d = rw (a, b, c, d) (record {
   members = λ j e at. no_place j e at;
   reasons = λ j e at. no_place j e at;
 })
+
+none : (nodes : List Expr) (strangers : List (List ℕ))
+    (lists : List (List KeptListening)) (entries : List (Solved × Reason ℕ ℕ)) →
+    nodes ≡ [] → entries ≡ [] → graph_as nodes strangers lists entries ≡ empty_graph
+none nodes strangers lists entries a b = rw (a, b)
+
+pub returns-clause-empty : goal.returns-clause-empty
+returns-clause-empty c =
+    none c.new.result c.new-2.result c.new-3.result c.new-4.result c.new.ensures c.new-4.ensures
 
 pub invariant_of-result : goal.invariant_of-result
 invariant_of-result c = stored c.new.result c.new-2.result c.new-3.result c.new-4.result c.new.ensures c.new-2.ensures c.new-3.ensures c.new-4.ensures
