@@ -1,5 +1,6 @@
 -- Listeners in their lists and in the table of those beyond the first 8 of a node.
-use Rattle.std.proofs.Common.{ℕ, ◌≡◌, ◌==◌, ◌≤◌, ◌<◌, ◌∙◌, ◌↔◌, IsTrue, ap, refl, sym, subst, inl, inr, arith, min, Bool, true, false, not, true≢false, List, [], ◌∷◌, ◌++◌, Contains, drop, length, take}
+use Rattle.std.proofs.Common.{ℕ, ◌≡◌, ◌==◌, ◌≤◌, ◌<◌, ◌∙◌, ◌↔◌, IsTrue, ap, refl, sym, subst, inl, inr, arith, min}
+use Rattle.std.proofs.Common.{Bool, true, false, not, true≢false, List, [], ◌∷◌, ◌++◌, Contains, drop, length, take}
 use Rattle.std.specs.Bool.{Decides}
 use Rattle.std.specs.List.{list_any}
 use Rattle.std.proofs.lemmas.Bool.{cases_eq, cond-true, cond-false, eq-eqb, ne_eqb}
@@ -29,10 +30,12 @@ one_more : (xs : List KeptListening) (l : KeptListening) → length xs < 8 → l
 one_more xs l few = omega (arith, length_push xs l)
 
 -- whether a listener is among the first
-shown : (near : List KeptListening) (l : KeptListening) → (list_any (λ y. kept.ghosts.eq y l) near ≡ true) ↔ Contains near l
+shown : (near : List KeptListening) (l : KeptListening) →
+    (list_any (λ y. kept.ghosts.eq y l) near ≡ true) ↔ Contains near l
 shown near l = any_exact (λ x y. kept.ghosts.eq y x) seen_from near l
 
-module _ (lists : List (List KeptListening)) (n : ℕ) (l : KeptListening) (list near others : List KeptListening) (found : Bool)
+module _ (lists : List (List KeptListening)) (n : ℕ) (l : KeptListening)
+    (list near others : List KeptListening) (found : Bool)
     (is : list ≡ list_at lists n) (front : near ≡ take (min (length list) 8) list)
     (back : others ≡ drop (min (length list) 8) list) (any : found ≡ list_any (λ y. kept.ghosts.eq y l) near) where
   whole : near ++ others ≡ list_at lists n

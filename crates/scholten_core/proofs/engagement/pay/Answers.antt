@@ -20,5 +20,6 @@ returns c =
     record {
       same = λ n other. get_or-set_other nodes c.args.node n None None other;
       paid = λ e there more. absurd (omega (arith, more, ap count_of (engaged ∙ there)));
-      gone = λ e there one. (ap (option_map (λ (x : Engagement). x.parent)) (engaged ∙ there), let_go nodes c.args.node);
+      gone = λ e there one.
+          (ap (option_map (λ (x : Engagement). x.parent)) (engaged ∙ there), let_go nodes c.args.node);
     }

@@ -6,22 +6,22 @@ returns-then-contains c =
     rw (← c.self.view_is)
     (has_near c.self.inside.lists c.args.n c.args.listening.now
     c.of-list.result.now c.split_at.result.0.now c.split_at.result.1.now c.contains.result c.of-list.ensures
-    (rw c.min.ensures at c.split_at.ensures.front) (rw c.min.ensures at c.split_at.ensures.back) c.contains.ensures.value
-    c.if-contains.true)
+    (rw c.min.ensures at c.split_at.ensures.front) (rw c.min.ensures at c.split_at.ensures.back)
+    c.contains.ensures.value c.if-contains.true)
 
 pub returns-then-not-is_empty : goal.returns-then-not-is_empty
 returns-then-not-is_empty c =
     rw (← c.self.view_is)
     (has_far c.self.inside.lists c.args.n c.args.listening.now
     c.of-list.result.now c.split_at.result.0.now c.split_at.result.1.now c.contains.result c.of-list.ensures
-    (rw c.min.ensures at c.split_at.ensures.front) (rw c.min.ensures at c.split_at.ensures.back) c.contains.ensures.value
-    c.self.inside.far.keys c.contains-then-not-is_empty.result c.self.invariant c.if-contains.false
-    c.contains-then-not-is_empty.ensures)
+    (rw c.min.ensures at c.split_at.ensures.front) (rw c.min.ensures at c.split_at.ensures.back)
+    c.contains.ensures.value c.self.inside.far.keys c.contains-then-not-is_empty.result c.self.invariant
+    c.if-contains.false c.contains-then-not-is_empty.ensures)
 
 pub returns-else-not-is_empty : goal.returns-else-not-is_empty
 returns-else-not-is_empty c =
     rw (← c.self.view_is)
     (has_none c.self.inside.lists c.args.n c.args.listening.now
     c.of-list.result.now c.split_at.result.0.now c.split_at.result.1.now c.contains.result c.of-list.ensures
-    (rw c.min.ensures at c.split_at.ensures.front) (rw c.min.ensures at c.split_at.ensures.back) c.contains.ensures.value
-    c.is_empty.result c.if-contains.false c.is_empty.ensures c.if-not-is_empty.false)
+    (rw c.min.ensures at c.split_at.ensures.front) (rw c.min.ensures at c.split_at.ensures.back)
+    c.contains.ensures.value c.is_empty.result c.if-contains.false c.is_empty.ensures c.if-not-is_empty.false)
