@@ -12,10 +12,24 @@ use Rattle.search.specs.declared.stages.Stage.{Stage}
 use Rattle.search.specs.Need.{need_of}
 use Rattle.search.specs.Stage.{waiting_in, Holds}
 use Rattle.search.specs.Search.{SearchState, IsKept, Settles, settled_of}
-use Rattle.search.specs.Finish.{TakesHeld}
+use Rattle.search.specs.Finish.{Takes, TakesHeld}
 use Rattle.search.proofs.Searching.{taken_to, marked_stage_kept}
 use Rattle.search.proofs.Answered.{waits_outstanding}
 use Rattle.search.proofs.Ended.{same_question, settles}
+
+-- what is needed of the letter in hand is needed of the letter that is taken
+pub takes : (s : SearchState) (st : Stage) (place number : ℕ) (h : Held (Load (List ℕ))) (e : Expr) → Holds s.stage st place number h → IsNode s.graph h.to e → Takes s (record s { stage = st }) place number (need_of e h.load)
+takes s st place number h e holds at =
+    let same_to : holds.letter.to ≡ h.to = ap (λ (l : Letter (Load (List ℕ))). l.to) holds.taken in
+    let same_load : holds.letter.load ≡ h.load = ap (λ (l : Letter (Load (List ℕ))). l.load) holds.taken in
+    record {
+      letter = holds.letter;
+      waited = holds.waited;
+      needs = (e, subst (λ (n : ℕ). IsNode s.graph n e) (sym same_to) at, ap (need_of e) (sym same_load));
+      after = ap (λ (x : Stage). record s { stage = x }) holds.marked;
+      free = holds.free;
+      held = holds.held;
+    }
 
 -- there is no letter at the place, or it is taken
 abbrev pub MayTake : SearchState → SearchState → ℕ → Option (ℕ × Held (Load (List ℕ))) → Type 0
@@ -32,21 +46,12 @@ module _ (s : SearchState) (st : Stage) (place : ℕ) (kept : IsKept s) where
   some_taken number h holds =
       let e : Expr = get_or s.graph.nodes h.to (Ent []) in
       let at : IsNode s.graph h.to e = slice_get-get_or s.graph.nodes h.to (Ent []) (taken_to s st place number h kept.rules holds) in
-      let same_to : holds.letter.to ≡ h.to = ap (λ (l : Letter (Load (List ℕ))). l.to) holds.taken in
-      let same_load : holds.letter.load ≡ h.load = ap (λ (l : Letter (Load (List ℕ))). l.load) holds.taken in
       let after = marked_stage_kept s st number true kept holds.marked in
       record {
         taken = record {
           expr = e;
           node = at;
-          takes = record {
-            letter = holds.letter;
-            waited = holds.waited;
-            needs = (e, subst (λ (n : ℕ). IsNode s.graph n e) (sym same_to) at, ap (need_of e) (sym same_load));
-            after = ap (λ (x : Stage). record s { stage = x }) holds.marked;
-            free = holds.free;
-            held = holds.held;
-          };
+          takes = takes s st place number h e holds at;
           holds = holds.holds;
         };
         kept = after;

@@ -1,5 +1,7 @@
-use Rattle.std.proofs.Common.{Bool, false, sym, subst, refl}
+use Rattle.std.proofs.Common.{Bool, false, sym, subst, refl, rules}
+use Rattle.search.specs.declared.queries.Hint.{Hint}
 use Rattle.search.specs.Batches.{HandsInAs, taken_of}
+use Rattle.search.specs.Finish.{Finishes}
 use Rattle.search.proofs.Batched.{puts_back}
 use Rattle.search.proofs.batches.hand_in.Goals as goal
 
@@ -13,4 +15,19 @@ returns-then-back c =
       refl,
       c.put_back.ensures.settles,
       c.kept.ensures.sound,
+    )
+
+pub returns : goal.returns
+returns c =
+    let of = c.args.of.now in
+    let s = c.args.search.now in
+    let e = c.args.held_letter.now in
+    let t = c.finish-finished.new.self in
+    let told = c.finish-finished.result in
+    subst (λ (b : Bool). HandsInAs of.who of.number b s (taken_of of e) c.eq.result t) (sym c.if-back.false) (
+      (told, subst (λ (h : Hint). Finishes s t e.letter h told) c.requires c.finish-finished.ensures.finishes, search rules),
+      refl,
+      refl,
+      c.finish-finished.ensures.settles,
+      c.kept-2.ensures.sound,
     )

@@ -3,6 +3,7 @@ use Rattle.std.proofs.Common.{ap, sym, subst}
 use Rattle.cred_graph.specs.GraphState.{GraphState}
 use Rattle.search.specs.Stage.{HoldsLetter, letter_in}
 use Rattle.search.specs.Search.{SearchState}
+use Rattle.search.specs.Driven.{a_signal}
 use Rattle.search.specs.Finish.{Receives}
 use Rattle.search.specs.Numbered.{held_at}
 use Rattle.search.proofs.Driven.{nothing_first, same_search, finishes_first}
@@ -23,3 +24,15 @@ returns c =
 pub receive_held-finished-requires-clause-held : goal.receive_held-finished-requires-clause-held
 receive_held-finished-requires-clause-held c =
     subst (λ (g : GraphState). HoldsLetter c.take_held.new.self.stage c.in-Some.letter (held_at g.nodes c.in-Some.held)) (sym (ap (λ (x : SearchState). x.graph) c.in-Some.ensures.taken.takes.after)) c.in-Some.ensures.taken.holds
+
+pub returns-then-signal : goal.returns-then-signal
+returns-then-signal c = (
+  a_signal,
+  record {
+    delivered = c.if-signal.ensures.delivered;
+    graph = c.if-signal.ensures.findings.0;
+    monitors = c.if-signal.ensures.findings.1;
+    question = c.if-signal.ensures.question;
+    settles = c.if-signal.ensures.settles;
+  },
+)

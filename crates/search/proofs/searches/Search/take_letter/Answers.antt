@@ -1,11 +1,17 @@
 -- A letter that waits goes to a node, and says the same where it is held.
-use Rattle.std.proofs.Common.{true, ◌<◌, length, sym, subst}
-use Rattle.cred_graph.specs.GraphState.{GraphState}
+use Rattle.std.proofs.Common.{true, ◌≡◌, ◌<◌, None, ap, length, slice_get, sym, subst}
+use Rattle.credential_text.specs.declared.exprs.Expr.{Expr}
+use Rattle.cred_graph.specs.GraphState.{GraphState, IsNode}
 use Rattle.search.specs.declared.stages.Stage.{Stage}
-use Rattle.search.specs.Search.{IsKept}
-use Rattle.search.specs.Numbered.{held_at, stage_at}
+use Rattle.search.specs.declared.queries.Need.{Need}
+use Rattle.search.specs.Need.{need_of}
+use Rattle.search.specs.Stage.{waiting_in}
+use Rattle.search.specs.Search.{SearchState, IsKept}
+use Rattle.search.specs.Finish.{Takes}
+use Rattle.search.specs.Numbered.{held_at, load_at, stage_at}
 use Rattle.search.specs.contracts.searches.Search.{the_view}
 use Rattle.search.proofs.Searching.{taken_to, marked_stage_kept}
+use Rattle.search.proofs.Taking.{takes}
 use Rattle.search.proofs.Answered.{waits_outstanding}
 use Rattle.search.proofs.Ended.{same_question, settles}
 use Rattle.search.proofs.searches.Search.take_letter.Goals as goal
@@ -34,3 +40,23 @@ invariant_of-self c =
       subst (λ (st : Stage). IsKept (record (the_view c.self.inside) { stage = st })) (sym (c.in_default.ensures.held nodes).1) c.self.invariant.0,
       c.hold.ensures.loads nodes c.self.invariant.1,
     )
+
+pub returns-in_default-clause-taken : goal.returns-in_default-clause-taken
+returns-in_default-clause-taken c =
+    let s = the_view c.self.inside in
+    let nodes = c.self.inside.found.graph.nodes in
+    let held = c.in_default.ensures.held nodes in
+    subst (λ (x : SearchState). (slice_get (waiting_in x.stage) c.args.place ≡ None) × (record s { stage = stage_at nodes c.hold.new.stage } ≡ x))
+    c.self.view_is (held.0, ap (λ (st : Stage). record s { stage = st }) held.1)
+
+pub returns-clause-taken : goal.returns-clause-taken
+returns-clause-taken c =
+    let s = the_view c.self.inside in
+    let nodes = s.graph.nodes in
+    let st = stage_at nodes c.hold.new.stage in
+    let h = c.in-Some.held in
+    let needs = subst (λ (g : GraphState). (e : Expr) × IsNode g h.to e × (c.needed.result ≡ need_of e (load_at g.nodes h.load)))
+    c.graph.ensures c.needed.ensures in
+    subst (λ (x : SearchState). Takes x (record s { stage = st }) c.args.place c.in-Some.number c.needed.result) c.self.view_is
+    (subst (λ (n : Need). Takes s (record s { stage = st }) c.args.place c.in-Some.number n) (sym needs.2)
+    (takes s st c.args.place c.in-Some.number (held_at nodes h) needs.0 (c.in-Some.ensures.held nodes) needs.1))
