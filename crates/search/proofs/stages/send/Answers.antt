@@ -43,3 +43,8 @@ returns-in-Err-clause-sends c =
     let within : c.in-Running.running.sent ≤ c.args.work = subst (λ (d : Computation (Load (List ℕ))). d.sent ≤ c.args.work) (sym (shown_is c.requires.0 c.args.stage.now c.in-Running.running c.in-Running.is c.requires.1 c.requires.2)) c.requires.4 in
     let count : c.len.result ≡ length c.args.outs.now.items = c.len.ensures ∙ c.args.outs.now.ok.0 in
     (shown nodes c.args.stage.now c.in-Running.running c.in-Running.is, shows nodes c.args.stage.now c.in-Running.running c.in-Running.is, omega (arith, c.if-work-sent.false, c.sent.ensures, outs_count nodes c.args.outs.now.items), refl)
+
+pub finish_with-requires-clause-room : goal.finish_with-requires-clause-room
+finish_with-requires-clause-room c =
+    let within : c.in-Running.running.sent ≤ c.args.work = subst (λ (d : Computation (Load (List ℕ))). d.sent ≤ c.args.work) (sym (shown_is c.requires.0 c.args.stage.now c.in-Running.running c.in-Running.is c.requires.1 c.requires.2)) c.requires.4 in
+    omega (arith, c.if-work-sent.false, c.sent.ensures, c.len.ensures)
