@@ -18,7 +18,9 @@ use Rattle.search.proofs.Answered.{waits_outstanding}
 use Rattle.search.proofs.Ended.{same_question, settles}
 
 -- what is needed of the letter in hand is needed of the letter that is taken
-pub takes : (s : SearchState) (st : Stage) (place number : ℕ) (h : Held (Load (List ℕ))) (e : Expr) → Holds s.stage st place number h → IsNode s.graph h.to e → Takes s (record s { stage = st }) place number (need_of e h.load)
+pub takes : (s : SearchState) (st : Stage) (place number : ℕ) (h : Held (Load (List ℕ))) (e : Expr) →
+    Holds s.stage st place number h → IsNode s.graph h.to e →
+    Takes s (record s { stage = st }) place number (need_of e h.load)
 takes s st place number h e holds at =
     let same_to : holds.letter.to ≡ h.to = ap (λ (l : Letter (Load (List ℕ))). l.to) holds.taken in
     let same_load : holds.letter.load ≡ h.load = ap (λ (l : Letter (Load (List ℕ))). l.load) holds.taken in

@@ -24,8 +24,9 @@ returns c =
     let e = c.args.held_letter.now in
     let t = c.finish-finished.new.self in
     let told = c.finish-finished.result in
+    let finishes = subst (λ (h : Hint). Finishes s t e.letter h told) c.requires c.finish-finished.ensures.finishes in
     subst (λ (b : Bool). HandsInAs of.who of.number b s (taken_of of e) c.eq.result t) (sym c.if-back.false) (
-      (told, subst (λ (h : Hint). Finishes s t e.letter h told) c.requires c.finish-finished.ensures.finishes, search rules),
+      (told, finishes, search rules),
       refl,
       refl,
       c.finish-finished.ensures.settles,

@@ -46,8 +46,9 @@ returns-in_default-clause-taken c =
     let s = the_view c.self.inside in
     let nodes = c.self.inside.found.graph.nodes in
     let held = c.in_default.ensures.held nodes in
-    subst (λ (x : SearchState). (slice_get (waiting_in x.stage) c.args.place ≡ None) × (record s { stage = stage_at nodes c.hold.new.stage } ≡ x))
-    c.self.view_is (held.0, ap (λ (st : Stage). record s { stage = st }) held.1)
+    let t : SearchState = record s { stage = stage_at nodes c.hold.new.stage } in
+    subst (λ (x : SearchState). (slice_get (waiting_in x.stage) c.args.place ≡ None) × (t ≡ x)) c.self.view_is
+    (held.0, ap (λ (st : Stage). record s { stage = st }) held.1)
 
 pub returns-clause-taken : goal.returns-clause-taken
 returns-clause-taken c =
@@ -55,8 +56,11 @@ returns-clause-taken c =
     let nodes = s.graph.nodes in
     let st = stage_at nodes c.hold.new.stage in
     let h = c.in-Some.held in
-    let needs = subst (λ (g : GraphState). (e : Expr) × IsNode g h.to e × (c.needed.result ≡ need_of e (load_at g.nodes h.load)))
+    let t : SearchState = record s { stage = st } in
+    let need = c.needed.result in
+    let needs =
+    subst (λ (g : GraphState). (e : Expr) × IsNode g h.to e × (need ≡ need_of e (load_at g.nodes h.load)))
     c.graph.ensures c.needed.ensures in
-    subst (λ (x : SearchState). Takes x (record s { stage = st }) c.args.place c.in-Some.number c.needed.result) c.self.view_is
-    (subst (λ (n : Need). Takes s (record s { stage = st }) c.args.place c.in-Some.number n) (sym needs.2)
+    subst (λ (x : SearchState). Takes x t c.args.place c.in-Some.number need) c.self.view_is
+    (subst (λ (n : Need). Takes s t c.args.place c.in-Some.number n) (sym needs.2)
     (takes s st c.args.place c.in-Some.number (held_at nodes h) needs.0 (c.in-Some.ensures.held nodes) needs.1))
