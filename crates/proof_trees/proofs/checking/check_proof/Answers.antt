@@ -10,8 +10,8 @@ returns-in_default c =
 
 pub returns-then-claims : goal.returns-then-claims
 returns-then-claims c =
-    subst (λ (steps : List Step). IsTrue c.are_by_rules.result ↔ IsProof c.args.credentials.now c.args.role.now c.args.who.now steps)
-    c.steps-steps.ensures (
+    let proves : List Step → Type 0 = IsProof c.args.credentials.now c.args.role.now c.args.who.now in
+    subst (λ (steps : List Step). IsTrue c.are_by_rules.result ↔ proves steps) c.steps-steps.ensures (
       λ yes. record {
         by_rules = c.are_by_rules.ensures.0 yes;
         concludes = (c.in-Some.last, omega (arith, c.in-Some.ensures), c.claims.ensures.0 c.if-claims.true);
