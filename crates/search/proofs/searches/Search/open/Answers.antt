@@ -1,5 +1,5 @@
 -- A new search keeps what it has to.
-use Rattle.std.proofs.Common.{◌∙◌, ap, sym, subst, ℕ}
+use Rattle.std.proofs.Common.{◌∙◌, ap, refl, sym, subst, ℕ}
 use Rattle.std.specs.Arc.{arc_value}
 use Rattle.scholten_core.specs.Computation.{Computation}
 use Rattle.scholten_core.specs.Named.{named_with}
@@ -19,3 +19,15 @@ invariant_of-result c =
           (ap (λ (s : Progress). s.graph) c.in_ok-found.ensures.found ∙ ap first_graph c.role.ensures) (ap (λ (s : Progress). s.monitors) c.in_ok-found.ensures.found) runs c.requires c.in_ok-found.ensures.laws,
       subst (λ (d : Computation (Load ℕ)). AreLetters found.graph.nodes d.letters) (sym c.in_ok-running.ensures.started) (start_says found.graph.nodes 0),
     )
+
+pub returns : goal.returns
+returns c =
+    let f = load_at c.in_ok-found.found.graph.nodes in
+    record {
+      query_is = refl;
+      work_is = refl;
+      snapshot_is = refl;
+      graph_is = ap (λ (s : Progress). s.graph) c.in_ok-found.ensures.found ∙ ap first_graph c.role.ensures;
+      monitors_is = ap (λ (s : Progress). s.monitors) c.in_ok-found.ensures.found;
+      stage_is = ap (λ (d : Computation (Load ℕ)). stage.Running (named_with f d)) c.in_ok-running.ensures.started;
+    }
