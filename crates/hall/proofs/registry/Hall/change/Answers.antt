@@ -39,9 +39,10 @@ served c =
 
 pub invariant_of-self-2 : goal.invariant_of-self-2
 invariant_of-self-2 c = record {
-  sound = served_sound _ _ c.args.who (Alter c.args.change) (Counted c.in_ok-change.field-0) c.self.invariant.sound (served c);
+  sound = served_sound _ _ c.args.who (Alter c.args.change) (Counted c.in_ok-change.field-0) c.self.invariant.sound
+      (served (goal.at.invariant_of-self-2 c).In_ok-change);
   listed = c.self.invariant.listed;
 }
 
 pub returns : goal.returns
-returns c = rw (← c.self.view_is) record { served = served c }
+returns c = rw (← c.self.view_is) record { served = served (goal.at.returns c).In_ok-change }
