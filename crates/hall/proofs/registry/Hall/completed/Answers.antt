@@ -51,7 +51,7 @@ returns-in_err-lend c =
     let p = err_from_is_err_and c.from_residual.result c.from_residual.ensures.1 in rw p.1 record { completed = tt; same = shared c.before.before ∙ c.self.view_is }
 
 pub invariant_of-self-2 : goal.invariant_of-self-2
-invariant_of-self-2 c = subst (IsIndexed c.self.inside.busy) (sym (shared c.before)) c.self.invariant
+invariant_of-self-2 c = subst (IsIndexed c.self.inside.busy) (sym (shared (goal.at.invariant_of-self-2 c).After-branch-lend)) c.self.invariant
 
 pub returns : goal.returns
 returns c =
@@ -64,5 +64,5 @@ returns c =
         is = is;
         completed = subst (λ (s : SearchState). IsCompleted s.stage) (here ∙ is) (c.is_completed.ensures.completed.0 c.if-not-is_completed.false);
       };
-      same = shared c.before;
+      same = shared (goal.at.returns c).After-branch-lend;
     }

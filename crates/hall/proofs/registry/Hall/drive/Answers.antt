@@ -48,7 +48,7 @@ driven c = drives_as _ c.args.who c.args.number _ (goes c) (goes_there c) (went 
 
 pub invariant_of-self-2 : goal.invariant_of-self-2
 invariant_of-self-2 c =
-    let d = c.before in
+    let d = (goal.at.invariant_of-self-2 c).After-settle in
     indexed_there _ _ _ (goes d) (goes_there d) _ (went d).search (becomes d)
     c.self.inside.busy c.settle.new.busy
     (unsettled_before_driven (goes d).search (went d).search c.drive-told.ensures.driven.driven)
@@ -58,7 +58,7 @@ invariant_of-self-2 c =
 
 pub returns : goal.returns
 returns c =
-    let d = c.before in
+    let d = (goal.at.returns c).After-settle in
     rw (← c.self.view_is) record {
       driven = driven d;
       quiet = drives_quiet _ c.args.who c.args.number _ (goes d) (goes_there d) (went d).search (becomes d) c.drive-told.result c.drive-told.ensures.driven;
