@@ -51,7 +51,8 @@ returns-in_err-lend c =
     let p = err_from_is_err_and c.from_residual.result c.from_residual.ensures.1 in rw p.1 record { completed = tt; same = shared c.before.before ∙ c.self.view_is }
 
 pub invariant_of-self-2 : goal.invariant_of-self-2
-invariant_of-self-2 c = subst (IsIndexed c.self.inside.busy) (sym (shared (goal.at.invariant_of-self-2 c).After-branch-lend)) c.self.invariant
+invariant_of-self-2 c =
+    subst (IsIndexed c.self.inside.busy) (sym (shared (goal.at.invariant_of-self-2 c).After-branch-lend)) c.self.invariant
 
 pub returns : goal.returns
 returns c =

@@ -7,12 +7,14 @@ use Rattle.hall.specs.declared.faults.Fault.TheVariants.{NoTenant}
 use Rattle.hall.specs.Hall.{Tenant, HallState}
 use Rattle.hall.proofs.registry.Hall.has.Goals as goal
 
-found : (r : Result (Bor Tenant) Fault) (o : Option Tenant) → IfOk r (λ seat. o ≡ Some seat.now) → IfErr r (λ f. (f ≡ NoTenant) × (o ≡ None)) →
-    is_ok r ≡ is_some o
+-- a seat is found where the name is a tenant's
+found : (r : Result (Bor Tenant) Fault) (o : Option Tenant) → IfOk r (λ seat. o ≡ Some seat.now) →
+    IfErr r (λ f. (f ≡ NoTenant) × (o ≡ None)) → is_ok r ≡ is_some o
 found (Ok seat) o here nobody = ap is_some (sym here)
 found (Err f) o here nobody = ap is_some (sym nobody.1)
 
 pub returns : goal.returns
 returns c =
-    c.is_ok.ensures.value ∙ found c.seat.result (get c.self.inside.tenants c.args.who) c.seat.ensures.here c.seat.ensures.nobody
+    c.is_ok.ensures.value
+    ∙ found c.seat.result (get c.self.inside.tenants c.args.who) c.seat.ensures.here c.seat.ensures.nobody
     ∙ ap (λ (h : HallState). is_some (get h.tenants c.args.who)) c.self.view_is

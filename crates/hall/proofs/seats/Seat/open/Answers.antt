@@ -8,7 +8,7 @@ use Rattle.hall.proofs.Maps.{numbers_exact}
 use Rattle.hall.proofs.Indexed.{inserted}
 use Rattle.hall.proofs.Opening.{within_limits}
 use Rattle.hall.proofs.seats.Seat.open.Goals as goal
-use Rattle.hall.proofs.seats.Seat.open.Goals.{After-branch-enter}
+use Rattle.hall.proofs.seats.Seat.open.Goals.{After-branch-enter, After-branch-insert}
 
 -- no refusal is due
 allowed : (c : After-branch-enter) → seek_refusal (account c.args.book.now c.args.who c.args.self.now) ≡ None
@@ -53,12 +53,16 @@ returns-in_err-insert c =
       kept = c.in_ok-enter.ensures.kept;
     }
 
+-- it may send as many letters as the limit allows
+begun : (c : After-branch-insert) →
+    c.in_ok-begin.field-0 ≡ beginning c.args.book.now c.args.who c.args.query c.self.inside.limits.work
+begun c = c.in_ok-begin.ensures.begun ∙ ap (beginning c.args.book.now c.args.who c.args.query) c.work.ensures.limit
+
 pub returns : goal.returns
 returns c =
     let s = c.self.inside in
-    let begun = c.in_ok-begin.ensures.begun ∙ ap (beginning c.args.book.now c.args.who c.args.query) c.work.ensures.limit in
     let searches = inserted numbers_exact (◌==◌) unsigned_tied s.searches c.insert.new.self (s.opens + 1) c.in_ok-begin.field-0 c.in_ok-insert.ensures.updates
-    ∙ ap (insert (from_entries s.searches.entries) (s.opens + 1)) begun in
+    ∙ ap (insert (from_entries s.searches.entries) (s.opens + 1)) (begun (goal.at.returns c).After-branch-insert) in
     record {
       allowed = allowed (goal.at.returns c).After-branch-enter;
       number = ap (λ (t : Tenant). t.opens + 1) c.self.view_is;
