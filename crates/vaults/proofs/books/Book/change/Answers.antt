@@ -59,3 +59,6 @@ returns-in_err-count-clause-revocable c = λ revoked accepted.
     c.in_err-count.ensures.revocable revoked (revoker_has_page c.self.inside.journal.kept.0 c.args.who c.args.change c.self.inside.pages c.self.invariant.pages_are
     (subst (λ (j : List Entry). refusal j c.args.who c.args.change ≡ None) (sym c.self.view_is) accepted) revoked) in
     cc
+
+pub returns-clause-entered : goal.returns-clause-entered
+returns-clause-entered c = cc

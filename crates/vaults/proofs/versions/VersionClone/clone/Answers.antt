@@ -1,7 +1,9 @@
-use Rattle.std.proofs.Common.{List, [], ◌∷◌, ◌++◌, ◌∙◌, sym, ap, take, arith}
+use Rattle.std.proofs.Common.{List, [], ◌∷◌, ◌++◌, ◌∙◌, sym, ap, subst, take, arith}
+use Rattle.std.specs.List.Sorted.{IsStrictlySortedBy}
 use Rattle.std.proofs.lemmas.List.{take_all}
 use Rattle.std.proofs.lemmas.Grind.{take_at_read}
 use Rattle.credential_text.specs.declared.credentials.Credential.{Credential}
+use Rattle.credential_text.specs.Credential.{credential_order}
 use Rattle.vaults.proofs.versions.VersionClone.clone.Goals as goal
 
 pub loop-row-preserved : goal.loop-row-preserved
@@ -17,3 +19,9 @@ pub returns : goal.returns
 returns c = record {
   cases = c.loop-row.invariant.copied ∙ take_all c.loop-row.row-index c.deref-row-items.result.now c.loop-row-test.false ∙ c.deref-row-items.ensures.value ∙ c.self.view_is;
 }
+
+pub invariant_of-result : goal.invariant_of-result
+invariant_of-result c =
+    subst (IsStrictlySortedBy credential_order)
+    (sym (c.loop-row.invariant.copied ∙ take_all c.loop-row.row-index c.deref-row-items.result.now c.loop-row-test.false ∙ c.deref-row-items.ensures.value))
+    c.self.invariant

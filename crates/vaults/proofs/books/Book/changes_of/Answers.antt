@@ -1,0 +1,17 @@
+use Rattle.std.proofs.Common.{List, ◌∙◌, ap, length}
+use Rattle.vaults.specs.declared.changes.Entry.{Entry}
+use Rattle.vaults.specs.Journal.{entries_of}
+use Rattle.vaults.specs.Page.{PageState}
+use Rattle.vaults.proofs.Steps.{page_found, page_missing}
+use Rattle.vaults.proofs.books.Book.changes_of.Goals as goal
+
+pub returns-in-Some : goal.returns-in-Some
+returns-in-Some c =
+    c.changes.ensures
+    ∙ ap (λ (k : PageState). k.changes) (page_found c.self.inside.journal.kept.0 c.self.inside.pages c.args.who _ c.self.invariant.pages_are c.in-Some.ensures.value)
+    ∙ ap (λ (j : List Entry). length (entries_of c.args.who j)) c.self.view_is
+
+pub returns-in-None : goal.returns-in-None
+returns-in-None c =
+    ap (λ (k : PageState). k.changes) (page_missing c.self.inside.journal.kept.0 c.self.inside.pages c.args.who c.self.invariant.pages_are c.in-None.ensures.value)
+    ∙ ap (λ (j : List Entry). length (entries_of c.args.who j)) c.self.view_is
