@@ -2,7 +2,7 @@ use Rattle.std.proofs.Common.{subst, sym, ap, ◌∙◌, Contains}
 use Rattle.indexmap.proofs.CallerLemmas.{Contains-insert_key}
 use Rattle.monitors.specs.LinkMonitor.{LinkToldBy, HearsVia}
 use Rattle.monitors.specs.Memories.{sets_told, link_told}
-use Rattle.monitors.proofs.KeyLemmas.{hears_via}
+use Rattle.monitors.proofs.KeyLemmas.{on_err, is_new, hears_via}
 use Rattle.monitors.proofs.link_monitors.LinkMonitor.via_told.Goals as goal
 
 pub returns-clause-ok : goal.returns-clause-ok
@@ -14,3 +14,9 @@ returns-clause-ok g c =
 pub returns-clause-told : goal.returns-clause-told
 returns-clause-told g c =
     subst (λ keys. Contains keys c.args.who) (sym c.in_ok-insert-in-Told.ensures.keys) (Contains-insert_key g.K.PartialEq.eq g.met.K.Key.exact c.deref_mut.result.now.members.keys c.args.who)
+
+pub returns-in_err-insert-in-Told-clause-growth : goal.returns-in_err-insert-in-Told-clause-growth
+returns-in_err-insert-in-Told-clause-growth g c =
+    let was = ap sets_told c.deref_mut.ensures.value ∙ ap link_told (sym c.in-Told.is) ∙ c.self.view_is in
+    on_err c.from_residual.result (subst (λ (old : LinkToldBy g.row.K.Denot). Contains old.members c.args.who → ⊥) was
+    (is_new g.K.PartialEq.eq g.met.K.Eq.laws g.met.K.Key.exact c.deref_mut.result.now.members.keys c.args.who c.in_err-insert-in-Told.ensures.absent))

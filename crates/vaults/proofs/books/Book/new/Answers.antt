@@ -10,6 +10,3 @@ invariant_of-result c = rw (c.new.ensures, c.new-2.ensures.empty, c.new-3.ensure
   granting_are = λ owner reader. refl;
   public_are = λ owner. refl;
 })
-
-pub returns : goal.returns
-returns c = c.new.ensures

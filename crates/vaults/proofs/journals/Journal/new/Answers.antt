@@ -3,8 +3,8 @@ use Rattle.vaults.proofs.journals.Journal.new.Goals as goal
 
 pub invariant_of-result : goal.invariant_of-result
 invariant_of-result c = record {
-  kept = ([], (tt, c.new.ensures.items));
+  kept = ([], (tt, cc));
   counted = refl;
   owes = omega arith;
-  has_room = omega (arith, c.new.ensures.len);
+  has_room = omega arith;
 }

@@ -1,0 +1,8 @@
+use Rattle.std.proofs.Common.{refl}
+use Rattle.monitors.proofs.keyed_meets.KeyedMeet.make.Goals as goal
+
+pub returns : goal.returns
+returns g c = refl
+
+pub invariant_of-result : goal.invariant_of-result
+invariant_of-result g c = (c.requires.low, c.requires.high)
