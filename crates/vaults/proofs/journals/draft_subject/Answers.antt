@@ -7,7 +7,9 @@ pub returns-in-Grant-clause-subject : goal.returns-in-Grant-clause-subject
 returns-in-Grant-clause-subject c = elim c.in-Grant.is [ | inl e ↦ rw e | inr e ↦ rw e ]
 
 pub returns-in-Grant-clause-names : goal.returns-in-Grant-clause-names
-returns-in-Grant-clause-names c = elim c.in-Grant.is [ | inl e ↦ rw e c.bytes.ensures.name | inr e ↦ rw e c.bytes.ensures.name ]
+returns-in-Grant-clause-names c =
+    let named = c.bytes.ensures.name in
+    elim c.in-Grant.is [ | inl e ↦ rw e named | inr e ↦ rw e named ]
 
 pub returns-in-Grant-clause-size : goal.returns-in-Grant-clause-size
 returns-in-Grant-clause-size c =

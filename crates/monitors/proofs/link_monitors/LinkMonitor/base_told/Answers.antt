@@ -9,7 +9,7 @@ pub returns-in_ok-insert-in-Told-clause-ok : goal.returns-in_ok-insert-in-Told-c
 returns-in_ok-insert-in-Told-clause-ok g c =
     let was = ap sets_told c.deref_mut.ensures.value ∙ ap link_told (sym c.in-Told.is) ∙ c.self.view_is in
     subst (λ (old : LinkToldBy g.row.K.Denot). HearsBase old (record (sets_told c.deref_mut.result.now) { bases = c.insert.new.self.keys }) c.args.base c.in_ok-insert-in-Told.field-0) was
-    (hears_base g.K.PartialEq.eq g.met.K.Eq.laws g.met.K.Key.exact (sets_told c.deref_mut.result.now) c.args.base _ _ c.in_ok-insert-in-Told.ensures.added c.in_ok-insert-in-Told.ensures.keys)
+    (hears_base g.K.PartialEq.eq g.met.K.Eq.laws g.met.K.Key.exact (sets_told c.deref_mut.result.now) c.args.base c.in_ok-insert-in-Told.field-0 c.insert.new.self.keys c.in_ok-insert-in-Told.ensures.added c.in_ok-insert-in-Told.ensures.keys)
 
 pub returns-in_ok-insert-in-Told-clause-told : goal.returns-in_ok-insert-in-Told-clause-told
 returns-in_ok-insert-in-Told-clause-told g c =

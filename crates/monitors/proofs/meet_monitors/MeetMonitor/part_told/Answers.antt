@@ -1,5 +1,5 @@
 -- Each name stands for itself.
-use Rattle.std.proofs.Common.{Bool, ◌∙◌, ap}
+use Rattle.std.proofs.Common.{ℕ, Bool, List, ◌∙◌, ap}
 use Rattle.std.proofs.lemmas.Result.{IfOk-weaker, on_err_weaker}
 use Rattle.monitors.specs.MeetMonitor.{MeetTold, HasTold, HearsPart}
 use Rattle.monitors.specs.KeyedMeet.{told_by, HearsByName}
@@ -21,9 +21,11 @@ part_told-requires c = rw (← c.self.view_is) at c.requires
 
 pub returns-clause-ok : goal.returns-clause-ok
 returns-clause-ok c =
+    let old = told_by (λ (who : List ℕ). who) c.self.inside.told in
+    let new = told_by (λ (who : List ℕ). who) c.part_told.new.self in
     rw (← c.self.view_is) (IfOk-weaker c.part_told.result
     (λ (last : Bool). HearsByName c.self.inside.told c.part_told.new.self c.args.part c.args.who last)
-    (λ (last : Bool). HearsPart (told_by (λ who. who) c.self.inside.told) (told_by (λ who. who) c.part_told.new.self) c.args.part c.args.who last)
+    (λ (last : Bool). HearsPart old new c.args.part c.args.who last)
     (λ last hears. hears (λ who. who) (λ a b x y e. e)) c.part_told.ensures.ok)
 
 pub returns-clause-parts : goal.returns-clause-parts
@@ -31,4 +33,5 @@ returns-clause-parts c = c.part_told.ensures.parts ∙ ap (λ (m : MeetTold). m.
 
 pub returns-clause-unchanged : goal.returns-clause-unchanged
 returns-clause-unchanged c =
-    on_err_weaker c.part_told.result (λ same. ap (told_by (λ who. who)) same ∙ c.self.view_is) c.part_told.ensures.unchanged
+    on_err_weaker c.part_told.result (λ same. ap (told_by (λ who. who)) same ∙ c.self.view_is)
+    c.part_told.ensures.unchanged

@@ -7,11 +7,15 @@ use Rattle.vaults.proofs.books.Book.changes_of.Goals as goal
 
 pub returns-in-Some : goal.returns-in-Some
 returns-in-Some c =
+    let kept = c.self.inside.journal.kept.0 in
+    let found = page_found kept c.self.inside.pages c.args.who _ c.self.invariant.pages_are c.in-Some.ensures.value in
     c.changes.ensures
-    ∙ ap (λ (k : PageState). k.changes) (page_found c.self.inside.journal.kept.0 c.self.inside.pages c.args.who _ c.self.invariant.pages_are c.in-Some.ensures.value)
+    ∙ ap (λ (k : PageState). k.changes) found
     ∙ ap (λ (j : List Entry). length (entries_of c.args.who j)) c.self.view_is
 
 pub returns-in-None : goal.returns-in-None
 returns-in-None c =
-    ap (λ (k : PageState). k.changes) (page_missing c.self.inside.journal.kept.0 c.self.inside.pages c.args.who c.self.invariant.pages_are c.in-None.ensures.value)
+    let kept = c.self.inside.journal.kept.0 in
+    let none = page_missing kept c.self.inside.pages c.args.who c.self.invariant.pages_are c.in-None.ensures.value in
+    ap (λ (k : PageState). k.changes) none
     ∙ ap (λ (j : List Entry). length (entries_of c.args.who j)) c.self.view_is

@@ -11,7 +11,8 @@ returns-then-grants c =
           c.if-grants.true ∙ is
       | else-eq w ↦
           let given = sym w.grants.ensures ∙ sym w.value-is ∙ c.if-grants.true in
-          let is : true ≡ reads c.args.self.now c.args.who c.args.owner = rw (sym c.eq.ensures ∙ w.if-eq.false, given) in
+          let is : true ≡ reads c.args.self.now c.args.who c.args.owner =
+          rw (sym c.eq.ensures ∙ w.if-eq.false, given) in
           c.if-grants.true ∙ is
     ]
 

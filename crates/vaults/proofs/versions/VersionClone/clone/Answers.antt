@@ -22,6 +22,8 @@ returns c = record {
 
 pub invariant_of-result : goal.invariant_of-result
 invariant_of-result c =
+    let rows = c.deref-row-items in
     subst (IsStrictlySortedBy credential_order)
-    (sym (c.loop-row.invariant.copied ∙ take_all c.loop-row.row-index c.deref-row-items.result.now c.loop-row-test.false ∙ c.deref-row-items.ensures.value))
+    (sym (c.loop-row.invariant.copied ∙ take_all c.loop-row.row-index rows.result.now c.loop-row-test.false
+    ∙ rows.ensures.value))
     c.self.invariant
