@@ -1,9 +1,10 @@
 -- A text has no fault exactly where it is a name, or spells a role.
-use Rattle.std.proofs.Common.{ℕ, true, List, [], ◌∷◌, ◌++◌, ◌<◌, ◌≡◌, ◌∙◌, sym, ap, refl, Option, Some, None, arith, length}
+use Rattle.std.proofs.Common.{ℕ, true, false, List, [], ◌∷◌, ◌++◌, ◌<◌, ◌≡◌, ◌∙◌, sym, ap, refl, Option, Some, None, arith, length}
 use Rattle.std.specs.Prelude.{MatchOption, is_some}
 use Rattle.std.specs.List.{join_with_byte}
 use Rattle.std.proofs.lemmas.List.Splits.{join_with_byte-slice_split}
 use Rattle.names.specs.declared.roles.Role.{Role}
+use Rattle.names.specs.declared.faults.NameFault.{NameFault}
 use Rattle.names.specs.declared.faults.NameFault.TheVariants.{NotRole}
 use Rattle.names.specs.Name.{IsName}
 use Rattle.names.specs.Fault.{name_fault, role_fault, role_fault_of, or_then}
@@ -68,3 +69,17 @@ two_dots value text owner rest name (Some more) first some second =
     ap role_fault_of first
     ∙ ap (λ (ps : List (List ℕ)). role_fault_of (owner ∷ ps)) second
     ∙ many_pieces owner name (pieces dot (value more)) (some_piece dot (value more))
+
+-- a text with one dot is two pieces
+pub one_dot : {B : Type 0} (value : B → List ℕ) (text owner rest name : List ℕ) (more : Option B)
+    → pieces dot text ≡ owner ∷ pieces dot rest → is_some more ≡ false
+    → MatchOption more (pieces dot rest ≡ name ∷ []) (λ m. pieces dot rest ≡ name ∷ pieces dot (value m))
+    → pieces dot text ≡ owner ∷ name ∷ []
+one_dot value text owner rest name None first none second = first ∙ ap (λ (ps : List (List ℕ)). owner ∷ ps) second
+one_dot value text owner rest name (Some more) first none second = cc
+
+-- its first fault is that of its owner
+pub owner_first : (text owner name : List ℕ) (fault : NameFault) → pieces dot text ≡ owner ∷ name ∷ []
+    → name_fault owner ≡ Some fault → role_fault text ≡ Some fault
+owner_first text owner name fault both of_owner =
+    ap role_fault_of both ∙ ap (λ (f : Option NameFault). or_then f (name_fault name)) of_owner

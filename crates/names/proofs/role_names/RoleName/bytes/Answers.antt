@@ -1,0 +1,5 @@
+use Rattle.std.proofs.Common.{◌∙◌}
+use Rattle.names.proofs.role_names.RoleName.bytes.Goals as goal
+
+pub returns-clause-value : goal.returns-clause-value
+returns-clause-value c = c.bytes.ensures.value ∙ c.self.view_is
