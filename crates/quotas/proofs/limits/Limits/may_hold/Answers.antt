@@ -1,0 +1,4 @@
+use Rattle.quotas.proofs.limits.Limits.may_hold.Goals as goal
+
+pub returns : goal.returns
+returns c = rw (← c.self.view_is) (record { ok = c.below.ensures.ok; full = c.below.ensures.full })

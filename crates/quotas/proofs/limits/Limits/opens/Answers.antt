@@ -1,0 +1,4 @@
+use Rattle.quotas.proofs.limits.Limits.opens.Goals as goal
+
+pub returns-clause-limit : goal.returns-clause-limit
+returns-clause-limit c j = (c.self.view_is j).opens
