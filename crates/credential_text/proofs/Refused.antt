@@ -13,6 +13,7 @@ use Rattle.names.specs.Role.{role_text, SpellsRole}
 use Rattle.names.proofs.PieceLemmas.{pieces_none, some_piece}
 use Rattle.names.proofs.RoleLemmas.{role_pieces, role_faultless, faultless_are_roles, neither}
 use Rattle.credential_text.specs.declared.faults.CredFault.{CredFault}
+use Rattle.credential_text.specs.declared.faults.CredFault.TheVariants as faults
 use Rattle.credential_text.specs.declared.intersections.Part.{Part}
 use Rattle.credential_text.specs.declared.intersections.Part.TheVariants.{Ent, Rol, Link}
 use Rattle.credential_text.specs.declared.exprs.Expr.{Expr}
@@ -100,6 +101,11 @@ refused_as_body text before after r short arrow head =
     ∙ ap fault_round arrow
     ∙ ap (λ (g : Option CredFault). or_then g (body_fault (owner_text (trim before)) after)) (head_faultless (trim before) r head)
     ∙ ap (λ (owner : List ℕ). body_fault owner after) (owner_of (trim before) r head)
+
+-- one without an arrow is refused for that
+pub no_arrow_refused : (text : List ℕ) → length text ≤ 4096 → split_arrow text ≡ None → refusal text ≡ Some faults.NoArrow
+no_arrow_refused text short none =
+    cond-false (nat_lt 4096 (length text)) _ _ (le-ltb 4096 (length text) short) ∙ ap fault_round none
 
 shown_head : (text : List ℕ) (c : Credential) (s : Shows text c) → SpellsRole (trim s.before) c.head
 shown_head text c s = record { spelled = s.head; owner = s.is_credential.owner; name = s.is_credential.name }

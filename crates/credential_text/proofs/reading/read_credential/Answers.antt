@@ -3,8 +3,15 @@ use Rattle.std.proofs.lemmas.Result.{err_from_is_err_and, IfOk-from_err}
 use Rattle.names.specs.Role.{SpellsRole}
 use Rattle.names.specs.Texts.{trim}
 use Rattle.credential_text.proofs.Showing.{spelled_from}
-use Rattle.credential_text.proofs.Refused.{shown_by, refused_as_body}
+use Rattle.credential_text.proofs.Refused.{shown_by, refused_as_body, no_arrow_refused}
 use Rattle.credential_text.proofs.reading.read_credential.Goals as goal
+
+pub returns-in_default : goal.returns-in_default
+returns-in_default c = record {
+  read = tt;
+  refused = λ _. no_arrow_refused c.args.text.now (omega arith) c.in_default.ensures;
+  memory_last = λ e. cc;
+}
 
 pub returns-in_err-body : goal.returns-in_err-body
 returns-in_err-body c =
