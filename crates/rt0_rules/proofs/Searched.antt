@@ -1,5 +1,5 @@
 -- What a search over the credentials finds, and what it means that it finds nothing.
-use Rattle.std.proofs.Common.{ℕ, List, ◌<◌, ◌≤◌, ◌≡◌, sym, refl, true, Some, length, take, get_or}
+use Rattle.std.proofs.Common.{ℕ, List, ◌<◌, ◌≤◌, ◌≡◌, sym, refl, subst, true, Some, length, take, get_or}
 use Rattle.std.specs.List.{Contains, find}
 use Rattle.std.proofs.lemmas.List.{take_all}
 use Rattle.credential_text.specs.declared.credentials.Credential.{Credential}
@@ -18,3 +18,9 @@ owed_at C entities facts i c who within is found =
 pub closed_past : (C : List Credential) (entities : List (List ℕ)) (facts : List Fact) (i : ℕ) → length C ≤ i →
     IsClosed (take i C) entities facts → IsClosed C entities facts
 closed_past C entities facts i past closed = let all : take i C ≡ C = take_all i C past in rw all at closed
+
+-- nothing is owed of equal lists either
+pub closed_alike : (C : List Credential) (entities others : List (List ℕ)) (facts more : List Fact) → entities ≡ others
+    → facts ≡ more → IsClosed C entities facts → IsClosed C others more
+closed_alike C entities others facts more same alike closed =
+    subst (λ (es : List (List ℕ)). IsClosed C es more) same (subst (IsClosed C entities) alike closed)

@@ -5,6 +5,10 @@ use Rattle.rt0_rules.specs.Facts.{all_entities}
 use Rattle.rt0_rules.proofs.Counted.{counted_within, count_alike}
 use Rattle.rt0_rules.proofs.work.work_plain.Goals as goal
 
+pub returns-in_default : goal.returns-in_default
+returns-in_default c =
+    subst (IsAskedWithin c.args.credentials.now c.args.role.now c.args.limit) c.in_default.is c.in_ok-asks.ensures
+
 pub returns : goal.returns
 returns c =
     let facts = c.in_ok-facts.facts.items in
