@@ -1,6 +1,6 @@
 -- What a part's text and its pieces tell of the part.
-use Rattle.std.proofs.Common.{ℕ, Bool, true, false, List, [], ◌∷◌, ◌++◌, ◌≡◌, refl, ap, sym, ◌∙◌, Option, Some, None, length, ◌<◌, arith, append_assoc, cond, if◌then◌else◌}
-use Rattle.std.specs.Prelude.{MatchOption, is_some}
+use Rattle.std.proofs.Common.{ℕ, Bool, true, false, List, [], ◌∷◌, ◌++◌, ◌≡◌, refl, ap, sym, ◌∙◌, Option, Some, None, length, ◌<◌, arith, append_assoc, cond}
+use Rattle.std.specs.Prelude.{MatchOption, is_some, if◌then◌else◌}
 use Rattle.std.specs.List.{join_with_byte}
 use Rattle.std.proofs.lemmas.List.Splits.{join_with_byte-slice_split}
 use Rattle.std.proofs.lemmas.Bool.{and_from}
@@ -109,7 +109,8 @@ four_pieces value owner text a rest b last c (Some more) first second some third
     ap (part_fault_of owner) first ∙ ap (λ (ps : List (List ℕ)). part_fault_of owner (a ∷ ps)) second
     ∙ ap (λ (ps : List (List ℕ)). part_fault_of owner (a ∷ b ∷ ps)) third ∙ many_pieces owner a b c (pieces dot (value more)) (some_piece dot (value more))
 
-earlier : (x y z : Option NameFault) (fault : NameFault) → or_then x y ≡ Some fault → or_then x (or_then y z) ≡ Some fault
+earlier : (x y z : Option NameFault) (fault : NameFault) → or_then x y ≡ Some fault
+    → or_then x (or_then y z) ≡ Some fault
 earlier (Some x) y z fault e = e
 earlier None (Some y) z fault e = e
 earlier None None z fault e = cc
@@ -132,7 +133,7 @@ base_refused owner text a b c fault three of_base =
     (earlier (name_fault a) (name_fault b) (name_fault c) fault of_base)
 
 -- or else for that of its last name
-pub last_refused : (owner text a b c : List ℕ) (fault : NameFault) → pieces dot text ≡ a ∷ b ∷ c ∷ [] → IsName a → IsName b
-    → name_fault c ≡ Some fault → part_fault owner text ≡ Some (faults.Name fault)
+pub last_refused : (owner text a b c : List ℕ) (fault : NameFault) → pieces dot text ≡ a ∷ b ∷ c ∷ []
+    → IsName a → IsName b → name_fault c ≡ Some fault → part_fault owner text ≡ Some (faults.Name fault)
 last_refused owner text a b c fault three of_a of_b of_c =
     ap (part_fault_of owner) three ∙ simp (name_faultless a of_a, name_faultless b of_b, of_c)

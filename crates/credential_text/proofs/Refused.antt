@@ -103,7 +103,8 @@ refused_as_body text before after r short arrow head =
     ∙ ap (λ (owner : List ℕ). body_fault owner after) (owner_of (trim before) r head)
 
 -- one without an arrow is refused for that
-pub no_arrow_refused : (text : List ℕ) → length text ≤ 4096 → split_arrow text ≡ None → refusal text ≡ Some faults.NoArrow
+pub no_arrow_refused : (text : List ℕ) → length text ≤ 4096 → split_arrow text ≡ None
+    → refusal text ≡ Some faults.NoArrow
 no_arrow_refused text short none =
     cond-false (nat_lt 4096 (length text)) _ _ (le-ltb 4096 (length text) short) ∙ ap fault_round none
 

@@ -1,5 +1,6 @@
 -- A text has no fault exactly where it is a name, or spells a role.
-use Rattle.std.proofs.Common.{ℕ, true, false, List, [], ◌∷◌, ◌++◌, ◌<◌, ◌≡◌, ◌∙◌, sym, ap, refl, Option, Some, None, arith, length}
+use Rattle.std.proofs.Common.{ℕ, true, false, List, [], ◌∷◌, ◌++◌, ◌<◌, ◌≡◌, ◌∙◌, sym, ap, refl}
+use Rattle.std.proofs.Common.{Option, Some, None, arith, length}
 use Rattle.std.specs.Prelude.{MatchOption, is_some}
 use Rattle.std.specs.List.{join_with_byte}
 use Rattle.std.proofs.lemmas.List.Splits.{join_with_byte-slice_split}

@@ -1,6 +1,6 @@
 -- A text without its outer spaces.
-use Rattle.std.proofs.Common.{ℕ, suc, true, false, List, [], ◌∷◌, ◌++◌, ◌≡◌, ◌==◌, refl, ap, sym, ◌∙◌, inl, inr, append_assoc, ◌+◌, ◌-◌, ◌<◌, ◌≤◌}
-use Rattle.std.proofs.Common.{length, take, drop, drop-cons, get_or, arith}
+use Rattle.std.proofs.Common.{ℕ, suc, true, false, List, [], ◌∷◌, ◌++◌, ◌≡◌, ◌==◌, refl, ap, sym, ◌∙◌}
+use Rattle.std.proofs.Common.{inl, inr, append_assoc, ◌+◌, ◌-◌, ◌<◌, ◌≤◌, length, take, drop, drop-cons, get_or, arith}
 use Rattle.std.specs.List.{list_all}
 use Rattle.std.proofs.lemmas.List.{append-nil, take_more}
 use Rattle.std.proofs.lemmas.List.Elements.{All-head, All-tail}
@@ -165,8 +165,10 @@ other_last text end some within other =
     ap trim_end last ∙ trim_end-other (take (end - 1) text) (get_or text (end - 1) 0) (ne_eqb (get_or text (end - 1) 0) 32 other) ∙ sym last
 
 -- a text that begins with no space keeps all
-pub other_first : (text : List ℕ) (i : ℕ) → i < length text → (get_or text i 0 ≡ 32 → ⊥) → trim_start (drop i text) ≡ drop i text
+pub other_first : (text : List ℕ) (i : ℕ) → i < length text → (get_or text i 0 ≡ 32 → ⊥)
+    → trim_start (drop i text) ≡ drop i text
 other_first text i inside other =
     let first : drop i text ≡ get_or text i 0 ∷ drop (suc i) text = drop-cons text i 0 inside in
     ap trim_start first
-    ∙ cond-false (get_or text i 0 == 32) (trim_start (drop (suc i) text)) _ (ne_eqb (get_or text i 0) 32 other) ∙ sym first
+    ∙ cond-false (get_or text i 0 == 32) (trim_start (drop (suc i) text)) _ (ne_eqb (get_or text i 0) 32 other)
+    ∙ sym first

@@ -21,7 +21,8 @@ three : (c : After-cut-3) → is_some c.cut-3.result.1 ≡ false
     → pieces dot c.args.text.now ≡ c.cut.result.0.now ∷ c.cut-2.result.0.now ∷ c.cut-3.result.0.now ∷ []
 three c none =
     three_pieces (λ m. m.now) c.args.text.now c.cut.result.0.now c.in_default-Some.others.now c.cut-2.result.0.now
-    c.in_default-Some-cut.last.now c.cut-3.result.0.now c.cut-3.result.1 (rw c.in_default-Some.is-1 at c.cut.ensures.pieces)
+    c.in_default-Some-cut.last.now c.cut-3.result.0.now c.cut-3.result.1
+    (rw c.in_default-Some.is-1 at c.cut.ensures.pieces)
     (rw c.in_default-Some-cut.is-1 at (rw c.in_default-Some.others-is at c.cut-2.ensures.pieces)) none
     (rw c.in_default-Some-cut.last-is at c.cut-3.ensures.pieces)
 
@@ -41,4 +42,8 @@ returns-in_err-name-clause-refused c =
 pub returns-clause-part : goal.returns-clause-part
 returns-clause-part c =
     let same : c.ne.result ≡ false = cc in
-    record { named = search rules; based = not-false _ (sym c.ne.ensures ∙ same); spelled = grind (arith, common_steps) }
+    record {
+      named = search rules;
+      based = not-false _ (sym c.ne.ensures ∙ same);
+      spelled = grind (arith, common_steps);
+    }

@@ -7,14 +7,16 @@ use Rattle.names.proofs.texts.trim_end.Goals.{then-loop-end-test+else-text-end-e
 pub loop-end-preserved : goal.loop-end-preserved
 loop-end-preserved c = (
   omega arith,
-  c.loop-end.invariant.1 ∙ space_last c.args.text.now c.loop-end.end (omega arith) c.loop-end.invariant.0 c.if-text-end-eq32.true,
+  c.loop-end.invariant.1
+      ∙ space_last c.args.text.now c.loop-end.end (omega arith) c.loop-end.invariant.0 c.if-text-end-eq32.true,
 )
 
 pub returns : goal.returns
 returns c =
     elim c.loop-end-test.branch [
       | then-loop-end-test+else-text-end-eq32 w ↦
-          sym (c.loop-end.invariant.1 ∙ other_last c.args.text.now c.loop-end.end (omega arith) c.loop-end.invariant.0 w.if-text-end-eq32.false)
+          sym (c.loop-end.invariant.1
+          ∙ other_last c.args.text.now c.loop-end.end (omega arith) c.loop-end.invariant.0 w.if-text-end-eq32.false)
       | else-loop-end-test w ↦
           let nothing : c.loop-end.end ≡ 0 = omega arith in
           ap (λ (n : ℕ). take n c.args.text.now) nothing

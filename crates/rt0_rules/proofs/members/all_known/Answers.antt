@@ -23,6 +23,7 @@ returns-clause-sound c = c.loop-fact.invariant.0
 pub returns-clause-closed : goal.returns-clause-closed
 returns-clause-closed c =
     let none : c.next_fact.result ≡ None = cc in
-    closed_alike c.args.credentials.now c.deref.result.now (all_entities c.args.credentials.now) c.deref-in-loop-fact.result.now
-    c.loop-fact.facts.items (c.deref.ensures.value ∙ c.loop-fact.invariant.1) c.deref-in-loop-fact.ensures.value
+    closed_alike c.args.credentials.now c.deref.result.now (all_entities c.args.credentials.now)
+    c.deref-in-loop-fact.result.now c.loop-fact.facts.items (c.deref.ensures.value ∙ c.loop-fact.invariant.1)
+    c.deref-in-loop-fact.ensures.value
     (rw none at c.next_fact.ensures.closed)

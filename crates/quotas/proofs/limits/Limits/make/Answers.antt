@@ -3,7 +3,8 @@ use Rattle.quotas.specs.Quota.{IsQuota, quota}
 use Rattle.quotas.proofs.limits.Limits.make.Goals as goal
 use Rattle.quotas.proofs.limits.Limits.make.Goals.{Then-large}
 
-in_range : (c : Then-large) → IsQuota (quota c.args.creds c.args.grants c.args.searches c.args.changes c.args.opens c.args.work)
+in_range : (c : Then-large)
+    → IsQuota (quota c.args.creds c.args.grants c.args.searches c.args.changes c.args.opens c.args.work)
 in_range c = record {
   creds = grind arith;
   grants = grind arith;
