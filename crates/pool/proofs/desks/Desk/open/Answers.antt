@@ -18,3 +18,6 @@ returns-in-Opened-clause-answered g c = value_told (λ (t : Ticket). reply.Opene
 
 pub returns-in-Refused-clause-answered : goal.returns-in-Refused-clause-answered
 returns-in-Refused-clause-answered g c = refusal_told (λ (t : Ticket). reply.Opened t.no) c.args.pass.now _ (request.Seek c.args.query) c.in_ok-no.field-0 c.in-Refused.fault c.in_ok-no.ensures c.in-Refused.is
+
+pub returns-in-Opened-clause-opened_at : goal.returns-in-Opened-clause-opened_at
+returns-in-Opened-clause-opened_at g c = c.front.ensures
