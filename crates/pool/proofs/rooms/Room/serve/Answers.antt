@@ -1,4 +1,5 @@
 use Rattle.std.proofs.Common.{◌∙◌, ap, sym, length}
+use Rattle.std.proofs.lemmas.Result.{err_from_is_err_and}
 use Rattle.hall.specs.declared.calls.replies.Reply.TheVariants.{Refused}
 use Rattle.pool.specs.Passes.{PassState, length_after, pass_after}
 use Rattle.pool.specs.Rooms.{RoomState}
@@ -38,3 +39,16 @@ returns g c =
           ∙ pass_shown c.args.pass.now (length c.args.self.now.hall.journal) c.in_ok-reply.reply;
       room = ap (λ (r : RoomState). record r { hall = c.ask.new.self; accepted = c.hear.new.book.total }) room;
     }
+
+pub returns-in_err-reply : goal.returns-in_err-reply
+returns-in_err-reply g c =
+    let p = err_from_is_err_and c.from_residual-in_err-reply.result c.from_residual-in_err-reply.ensures.1 in
+    let room = c.self.view_is in
+    rw (p.1, p.2) (record {
+      kept = c.show.ensures.kept;
+      seen = c.in_ok-show.ensures.ok.0;
+      served = served_same c.self.inside.hall c.args.self.now.hall c.ask.new.self c.tenant.result c.args.pass.now.tenant c.args.request (Refused c.in_err-reply.field-0.0)
+          (ap (λ (r : RoomState). r.hall) room) (c.tenant.ensures ∙ ap (λ (p : PassState). p.tenant) c.in_ok-show.ensures.ok.1) c.in_err-reply.ensures.served;
+      pass = c.in_ok-show.ensures.ok.1;
+      room = ap (λ (r : RoomState). record r { hall = c.ask.new.self; accepted = c.self.inside.book.total }) room;
+    })
