@@ -36,7 +36,7 @@ lines-last raw none some =
     ap lines_of_parts (slice_split_none (λ b. eqb b 10) raw (fails_newline raw none)) ∙ last_part raw some
 
 -- bytes that are too many for a line
-line_of-long : (bytes : List ℕ) → 4096 < length bytes → line_of bytes ≡ too_long
+pub line_of-long : (bytes : List ℕ) → 4096 < length bytes → line_of bytes ≡ too_long
 line_of-long bytes long = rw (lt-leb (length bytes) 4096 long) refl
 
 -- the room for a line is enough to know the line by

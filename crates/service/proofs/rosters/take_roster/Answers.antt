@@ -1,0 +1,6 @@
+-- A faulty roster is answered by the one line.
+use Rattle.service.proofs.LinesLemmas.{IfKnown-map}
+use Rattle.service.proofs.rosters.take_roster.Goals as goal
+
+pub returns-in-Ok-clause-roster : goal.returns-in-Ok-clause-roster
+returns-in-Ok-clause-roster g c = IfKnown-map c.args.lines.now (rw c.in-Err-Roster.field-0-is at c.in-Err-Roster.ensures.roster) (λ lines none. (none, c.in-Ok.ensures.ok))
