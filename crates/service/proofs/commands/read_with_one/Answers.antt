@@ -13,4 +13,5 @@ returns-in_err-read c =
 
 pub returns-then-is_same-5 : goal.returns-then-is_same-5
 returns-then-is_same-5 c =
-    rw (sym c.if-is_same.ensures, sym c.if-is_same-3.ensures, sym c.if-is_same-5.ensures) (inl (_, c.in_ok-read-3.ensures.role, refl))
+    rw (sym c.if-is_same.ensures, sym c.if-is_same-3.ensures, sym c.if-is_same-5.ensures)
+    (inl (_, c.in_ok-read-3.ensures.role, refl))
