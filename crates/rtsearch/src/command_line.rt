@@ -1,6 +1,6 @@
 ghost use Rattle.std.specs.Prelude.{◌≡◌, ◌≤◌, ℕ, List, [], ◌∷◌, codes, map, true, false, IfOk, IfErr, OnOk};
 ghost use Rattle.clap.specs.Words.{app_of, kind_of, found_of, one_text, rule_of, subcommand_rows_of};
-ghost use Rattle.rtsearch.specs.CommandLine.{AsksForScript, IsCommandLine, IsFaultOf, program, serve_command, number_rule};
+ghost use Rattle.rtsearch.specs.CommandLine.{AsksForScript, IsCommandLine, IsFaultOf, program, serve_command, threads_command, number_rule};
 ghost use Rattle.rtsearch.specs.CommandLine.{entered, is_serve, port_test, threads_test, accept_test, idle_test};
 ghost use Rattle.rtsearch.specs.CommandLine.{HasValue, MayHaveValue, HasOptions, IsValue, IsGiven, AreThreads, Asks};
 
@@ -53,21 +53,28 @@ fn program_line<'a>(alloc: Global) -> Result<Command<'a>, AllocError>
 fn serve_line<'a>(alloc: Global) -> Result<Command<'a>, AllocError>
     ensures { IfOk result (λ c. app_of c ≡ serve_command) }
 {
-    let threads = value_parser!(u64).range(1..=64);
     let connections = value_parser!(u64).range(1..=1_000_000);
     let seconds = value_parser!(u64).range(1..=86_400);
+    let accept = "Ends after so many connections";
+    let idle = "Ends a session whose peer has sent nothing for so many seconds";
+    threads_line(alloc)?
+        .arg(number_option(alloc, "accept", accept, connections))?
+        .arg(number_option(alloc, "idle", idle, seconds))
+}
+
+/// Its port and its numbers of threads, which have usual values.
+fn threads_line<'a>(alloc: Global) -> Result<Command<'a>, AllocError>
+    ensures { IfOk result (λ c. app_of c ≡ threads_command) }
+{
+    let threads = value_parser!(u64).range(1..=64);
     let port = "The port on 127.0.0.1, 0 for any that is free";
     let workers = "How many threads go on with the searches";
     let sessions = "How many connections are answered at once";
-    let accept = "Ends after so many connections";
-    let idle = "Ends a session whose peer has sent nothing for so many seconds";
     Command::new(alloc, "serve")
         .about("Reads a roster on standard input, and serves its tenants on 127.0.0.1")
         .arg(number_option(alloc, "port", port, value_parser!(u16)).default_value("0"))?
         .arg(number_option(alloc, "workers", workers, threads).default_value("4"))?
-        .arg(number_option(alloc, "sessions", sessions, threads).default_value("8"))?
-        .arg(number_option(alloc, "accept", accept, connections))?
-        .arg(number_option(alloc, "idle", idle, seconds))
+        .arg(number_option(alloc, "sessions", sessions, threads).default_value("8"))
 }
 
 /// An option of this name, whose value is a number that passes this test.
