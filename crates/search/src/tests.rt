@@ -21,14 +21,15 @@ enum Order {
     InTurn,
 }
 
-/// Each order of letters, with signals before them and after them.
-static ORDERS: [(Order, bool); 6] = [
-    (Order::First, true),
-    (Order::First, false),
-    (Order::Last, true),
-    (Order::Last, false),
-    (Order::InTurn, true),
-    (Order::InTurn, false),
+/// Each order of letters, with signals before them and after them; and none, where the search is driven.
+static WAYS: [Option<(Order, bool)>; 7] = [
+    Some((Order::First, true)),
+    Some((Order::First, false)),
+    Some((Order::Last, true)),
+    Some((Order::Last, false)),
+    Some((Order::InTurn, true)),
+    Some((Order::InTurn, false)),
+    None,
 ];
 
 // The place of the letter that is taken next.
@@ -79,6 +80,15 @@ fn ending(search: &Search) -> Result<Status, AllocError> {
     }
 }
 
+// Carries the search on this way until nothing is left to do. What it has come to.
+fn come_to(search: &mut Search, way: Option<(Order, bool)>) -> Result<Status, AllocError> {
+    match way {
+        Some((order, signals_first)) => run(search, order, signals_first),
+        None => search.drive(),
+    }
+    ending(search)
+}
+
 // How the finish went; where it broke the search, want of memory.
 fn finished(search: &mut Search, letter: u64, hint: Hint) -> Result<Finished, AllocError> {
     match search.finish(letter, hint) {
@@ -107,15 +117,31 @@ fn upload(alloc: Global, book: &mut Book, text: &[u8]) -> Result<(), Fail> {
     Ok(())
 }
 
+// Puts the credentials into the vaults of their issuers, and grants the vault of `B` to `A`.
+fn fill(alloc: Global, book: &mut Book, texts: &[&[u8]]) -> Result<(), Fail> {
+    for text in texts {
+        upload(alloc, book, text)?;
+    }
+    grant(book, b"B")
+}
+
+// Grants that tenant's vault to `A`.
+fn grant(book: &mut Book, owner: &[u8]) -> Result<(), Fail> {
+    book.change(Entity::read(owner)?, Change::Grant(Entity::read(b"A")?))?;
+    Ok(())
+}
+
+// What `A` reads.
+fn seen(alloc: Global, book: &mut Book) -> Result<Arc<Snapshot>, Fail> {
+    let snapshot = Snapshot::take(alloc, book, Entity::read(b"A")?)?;
+    Ok(Arc::new(alloc, snapshot)?)
+}
+
 // What `A` reads, where the credentials stand in the vaults of their issuers and `B` has granted its own.
 fn snapshot_of(alloc: Global, texts: &[&[u8]]) -> Result<Arc<Snapshot>, Fail> {
     let mut book = Book::new(alloc);
-    for text in texts {
-        upload(alloc, &mut book, text)?;
-    }
-    let reader = Entity::read(b"A")?;
-    book.change(Entity::read(b"B")?, Change::Grant(reader))?;
-    Ok(Arc::new(alloc, Snapshot::take(alloc, &mut book, reader)?)?)
+    fill(alloc, &mut book, texts)?;
+    seen(alloc, &mut book)
 }
 
 fn opened(alloc: Global, texts: &[&[u8]], query: Query, work: u64) -> Result<Search, Fail> {

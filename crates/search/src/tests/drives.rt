@@ -1,31 +1,35 @@
-use super::{ORDERS, Order, ending, is_member, opened, run};
+use super::{Order, WAYS, come_to, is_member, opened};
 use crate::Status;
 use std::alloc::Global;
 use std::test::Fail;
 
-/// What the search comes to where it is stepped in this order, or else driven.
+/// What a search for `D` in `A.r` over these comes to, carried on this way.
 fn ended(
     alloc: Global,
     texts: &[&[u8]],
     work: u64,
-    order: Option<(Order, bool)>,
+    way: Option<(Order, bool)>,
 ) -> Result<Status, Fail> {
     let mut search = opened(alloc, texts, is_member()?, work)?;
-    match order {
-        Some((order, signals_first)) => run(&mut search, order, signals_first),
-        None => search.drive(),
-    }
-    Ok(ending(&search)?)
+    Ok(come_to(&mut search, way)?)
 }
 
-/// Whether the search comes to this in each order of its steps, and driven.
+/// Whether the search comes to this, whichever way it is carried on.
 fn ends_so(alloc: Global, texts: &[&[u8]], work: u64, status: Status) -> Result<bool, Fail> {
-    for order in &ORDERS {
-        if ended(alloc, texts, work, Some(*order))? != status {
+    for way in &WAYS {
+        if ended(alloc, texts, work, *way)? != status {
             return Ok(false);
         }
     }
-    Ok(ended(alloc, texts, work, None)? == status)
+    Ok(true)
+}
+
+/// Whether the search comes to this by this work, and by less is spent.
+fn takes_work(alloc: Global, texts: &[&[u8]], work: u64, status: Status) -> Result<bool, Fail> {
+    if work > 1 && !ends_so(alloc, texts, work - 1, Status::Spent)? {
+        return Ok(false);
+    }
+    ends_so(alloc, texts, work, status)
 }
 
 /// Credentials, the work of a search for `D` in `A.r` over them, and what it comes to.
@@ -50,13 +54,7 @@ static SEARCHES: [(&[&[u8]], u64, Status); 7] = [
 #[test]
 fn table_of_searches(rt: HostRuntime) -> Result<(), Fail> {
     for (texts, work, status) in &SEARCHES {
-        assert!(rt; ends_so(rt.alloc(), texts, *work, *status)?, "work {work}");
-        if *work > 1 {
-            assert!(rt;
-                ends_so(rt.alloc(), texts, *work - 1, Status::Spent)?,
-                "work {work} less 1"
-            );
-        }
+        assert!(rt; takes_work(rt.alloc(), texts, *work, *status)?);
     }
     Ok(())
 }

@@ -1,11 +1,10 @@
 use super::{ending, finished, is_member, opened};
 use crate::{Finished, Hint, Need, Search, Status};
 use snapshots::Span;
-use std::alloc::AllocError;
+use std::alloc::{AllocError, Global};
 use std::test::Fail;
 
 /// What is done with a search, and how it goes.
-#[derive(Clone, Copy)]
 enum Act {
     /// The first waiting letter is taken: it has this number, and needs rows or nothing.
     Take(u64, bool),
@@ -14,6 +13,7 @@ enum Act {
     PutBack(u64, bool),
     /// The oldest signal is delivered, where there is one.
     Signal(bool),
+    /// The search is driven until nothing moves.
     Drive,
     /// So many letters wait, so many signals are under way, and the search has come to this.
     Look(u64, u64, Status),
@@ -27,6 +27,18 @@ fn takes(search: &mut Search, number: u64, rows: bool) -> Result<bool, AllocErro
     Ok(task.letter == number && matches!(&task.need, Need::Rows(_)) == rows)
 }
 
+/// The search is driven until nothing moves.
+fn drives(search: &mut Search) -> bool {
+    search.drive();
+    search.is_quiet()
+}
+
+/// So many letters wait, so many signals are under way, and the search has come to this.
+fn looks(search: &Search, waiting: u64, signals: u64, status: Status) -> Result<bool, AllocError> {
+    let ended = ending(search)?;
+    Ok(search.waiting() == waiting && search.signals() == signals && ended == status)
+}
+
 /// Whether the act goes as it says.
 fn goes(search: &mut Search, act: &Act) -> Result<bool, AllocError> {
     match act {
@@ -34,26 +46,25 @@ fn goes(search: &mut Search, act: &Act) -> Result<bool, AllocError> {
         Act::Finish(number, hint, outcome) => Ok(finished(search, *number, *hint)? == *outcome),
         Act::PutBack(number, held) => Ok(search.put_back(*number) == *held),
         Act::Signal(there) => Ok(search.signal(0) == *there),
-        Act::Drive => {
-            search.drive();
-            Ok(search.is_quiet())
-        }
-        Act::Look(waiting, signals, status) => Ok(
-            search.waiting() == *waiting
-                && search.signals() == *signals
-                && ending(search)? == *status,
-        ),
+        Act::Drive => Ok(drives(search)),
+        Act::Look(waiting, signals, status) => looks(search, *waiting, *signals, *status),
     }
 }
 
-/// The place of the first act that goes otherwise.
-fn first_wrong(search: &mut Search, acts: &[Act]) -> Result<Option<usize>, AllocError> {
-    for (place, act) in acts.iter().enumerate() {
+/// Whether each act goes as it says.
+fn all_go(search: &mut Search, acts: &[Act]) -> Result<bool, AllocError> {
+    for act in acts {
         if !goes(search, act)? {
-            return Ok(Some(place));
+            return Ok(false);
         }
     }
-    Ok(None)
+    Ok(true)
+}
+
+/// Whether each act goes as it says with a search that is just opened.
+fn all_go_anew(alloc: Global, acts: &[Act]) -> Result<bool, Fail> {
+    let mut search = opened(alloc, &[b"A.r <- D"], is_member()?, 3)?;
+    Ok(all_go(&mut search, acts)?)
 }
 
 // The rows of `A.r`, and spans that are one off.
@@ -87,69 +98,70 @@ const LONG: Hint = Hint::Rows(Span {
     hi: 2,
 });
 
-/// One member, found letter by letter; the last letter is put back once.
-static FOUND: [Act; 18] = [
-    Act::Look(1, 0, Status::Working),
-    Act::Take(1, true),
-    Act::Look(0, 0, Status::Working),
-    Act::Finish(1, RIGHT, Finished::Done),
-    Act::Take(2, false),
-    Act::Finish(2, Hint::Nothing, Finished::Done),
-    Act::Take(3, false),
-    Act::PutBack(3, true),
-    Act::PutBack(3, false),
-    Act::Take(3, false),
-    Act::Finish(3, Hint::Nothing, Finished::Done),
-    Act::Look(0, 1, Status::Working),
-    Act::Signal(true),
-    Act::Signal(true),
-    Act::Look(0, 1, Status::Working),
-    Act::Signal(true),
-    Act::Look(0, 0, Status::Yes),
-    Act::Signal(false),
-];
-
-/// With a wrong hint a letter waits again; each number of the span is off by one in turn.
-static HINTED: [Act; 17] = [
-    Act::Take(1, true),
-    Act::Finish(1, OTHER_VAULT, Finished::BadHint),
-    Act::Finish(1, RIGHT, Finished::NotHeld),
-    Act::Look(1, 0, Status::Working),
-    Act::Take(1, true),
-    Act::Finish(1, LATE, Finished::BadHint),
-    Act::Take(1, true),
-    Act::Finish(1, SHORT, Finished::BadHint),
-    Act::Take(1, true),
-    Act::Finish(1, LONG, Finished::BadHint),
-    Act::Take(1, true),
-    Act::Finish(1, Hint::Nothing, Finished::BadHint),
-    Act::Take(1, true),
-    Act::Finish(1, RIGHT, Finished::Done),
-    Act::Take(2, false),
-    Act::Finish(2, RIGHT, Finished::BadHint),
-    Act::Drive,
-];
-
-/// A drive leaves a held letter, and goes on once it is finished or put back.
-static HELD: [Act; 9] = [
-    Act::Take(1, true),
-    Act::Drive,
-    Act::Look(0, 0, Status::Working),
-    Act::Finish(1, RIGHT, Finished::Done),
-    Act::Take(2, false),
-    Act::Drive,
-    Act::Look(0, 0, Status::Working),
-    Act::PutBack(2, true),
-    Act::Drive,
+/// What is done with a search each time, from its opening on.
+static SCRIPTS: [&[Act]; 3] = [
+    // One member, found letter by letter; the last letter is put back once.
+    &[
+        Act::Look(1, 0, Status::Working),
+        Act::Take(1, true),
+        Act::Look(0, 0, Status::Working),
+        Act::Finish(1, RIGHT, Finished::Done),
+        Act::Take(2, false),
+        Act::Finish(2, Hint::Nothing, Finished::Done),
+        Act::Take(3, false),
+        Act::PutBack(3, true),
+        Act::PutBack(3, false),
+        Act::Take(3, false),
+        Act::Finish(3, Hint::Nothing, Finished::Done),
+        Act::Look(0, 1, Status::Working),
+        Act::Signal(true),
+        Act::Signal(true),
+        Act::Look(0, 1, Status::Working),
+        Act::Signal(true),
+        Act::Look(0, 0, Status::Yes),
+        Act::Signal(false),
+        Act::Look(0, 0, Status::Yes),
+    ],
+    // With a wrong hint a letter waits again; each number of the span is off by one in turn.
+    &[
+        Act::Take(1, true),
+        Act::Finish(1, OTHER_VAULT, Finished::BadHint),
+        Act::Finish(1, RIGHT, Finished::NotHeld),
+        Act::Look(1, 0, Status::Working),
+        Act::Take(1, true),
+        Act::Finish(1, LATE, Finished::BadHint),
+        Act::Take(1, true),
+        Act::Finish(1, SHORT, Finished::BadHint),
+        Act::Take(1, true),
+        Act::Finish(1, LONG, Finished::BadHint),
+        Act::Take(1, true),
+        Act::Finish(1, Hint::Nothing, Finished::BadHint),
+        Act::Take(1, true),
+        Act::Finish(1, RIGHT, Finished::Done),
+        Act::Take(2, false),
+        Act::Finish(2, RIGHT, Finished::BadHint),
+        Act::Drive,
+        Act::Look(0, 0, Status::Yes),
+    ],
+    // A drive leaves a held letter, and goes on once it is finished or put back.
+    &[
+        Act::Take(1, true),
+        Act::Drive,
+        Act::Look(0, 0, Status::Working),
+        Act::Finish(1, RIGHT, Finished::Done),
+        Act::Take(2, false),
+        Act::Drive,
+        Act::Look(0, 0, Status::Working),
+        Act::PutBack(2, true),
+        Act::Drive,
+        Act::Look(0, 0, Status::Yes),
+    ],
 ];
 
 #[test]
 fn letter_by_letter(rt: HostRuntime) -> Result<(), Fail> {
-    let scripts: [&[Act]; 3] = [&FOUND, &HINTED, &HELD];
-    for acts in scripts {
-        let mut search = opened(rt.alloc(), &[b"A.r <- D"], is_member()?, 3)?;
-        assert_eq!(rt; first_wrong(&mut search, acts)?, None);
-        assert_eq!(rt; ending(&search)?, Status::Yes);
+    for acts in &SCRIPTS {
+        assert!(rt; all_go_anew(rt.alloc(), acts)?);
     }
     Ok(())
 }

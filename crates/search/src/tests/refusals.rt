@@ -3,7 +3,6 @@ use crate::{Query, Search, Status};
 use names::{Entity, Role};
 use snapshots::Snapshot;
 use std::alloc::Global;
-use std::process::Abort;
 use std::sync::Arc;
 use std::test::Fail;
 
@@ -12,31 +11,37 @@ fn is_right_or_broken(search: &Search, status: Status) -> bool {
     search.is_quiet() && (search.status() == status || search.status() == Status::Broken)
 }
 
-// Where memory is refused to one of the three, each other still has its answer.
-fn are_right(rt: &impl Abort, first: &Search, second: &Search, third: &Search) -> Result<(), Fail> {
-    assert!(rt; is_right_or_broken(first, Status::Yes));
-    assert!(rt; is_right_or_broken(second, Status::No));
-    assert!(rt; is_right_or_broken(third, Status::Members));
+// Whether each search has its answer; where memory is refused to one of the three, each other still has it.
+fn have_answers(first: &Search, second: &Search, third: &Search) -> bool {
     let whole = first.status() != Status::Broken && second.status() != Status::Broken;
-    assert!(rt; whole || third.status() == Status::Members);
-    if third.status() == Status::Members {
-        let expected = [Entity::read(b"A")?, Entity::read(b"D")?];
-        assert!(rt; members_found(third)?.as_slice() == expected.as_slice());
-    }
-    Ok(())
+    is_right_or_broken(first, Status::Yes)
+        && is_right_or_broken(second, Status::No)
+        && is_right_or_broken(third, Status::Members)
+        && (whole || third.status() == Status::Members)
+}
+
+// Whether the search finds these members, where it finds any.
+fn has_members(search: &Search, expected: &[Entity]) -> Result<bool, Fail> {
+    Ok(search.status() != Status::Members || members_found(search)?.as_slice() == expected)
+}
+
+// Drives the three, and whether they have their answers.
+fn drive(first: &mut Search, second: &mut Search, third: &mut Search) -> Result<bool, Fail> {
+    first.drive();
+    second.drive();
+    third.drive();
+    let members = [Entity::read(b"A")?, Entity::read(b"D")?];
+    Ok(have_answers(first, second, third) && has_members(third, &members)?)
 }
 
 // Opens and drives three searches over one snapshot.
-fn share(rt: &impl Abort, alloc: Global, snapshot: &Arc<Snapshot>) -> Result<(), Fail> {
+fn share(alloc: Global, snapshot: &Arc<Snapshot>) -> Result<bool, Fail> {
     let role = Role::read(b"A.r")?;
     let (d, e) = (Entity::read(b"D")?, Entity::read(b"E")?);
     let mut first = opened_over(alloc, snapshot, Query::Ask(role, d), 18)?;
     let mut second = opened_over(alloc, snapshot, Query::Ask(role, e), 18)?;
     let mut third = opened_over(alloc, snapshot, Query::Who(role), 18)?;
-    first.drive();
-    second.drive();
-    third.drive();
-    are_right(rt, &first, &second, &third)
+    drive(&mut first, &mut second, &mut third)
 }
 
 static TEXTS: [&[u8]; 4] = [
@@ -48,5 +53,7 @@ static TEXTS: [&[u8]; 4] = [
 
 #[test]
 fn three_searches(rt: HostRuntime) -> Result<(), Fail> {
-    share(&rt, rt.alloc(), &snapshot_of(rt.alloc(), &TEXTS)?)
+    let snapshot = snapshot_of(rt.alloc(), &TEXTS)?;
+    assert!(rt; share(rt.alloc(), &snapshot)?);
+    Ok(())
 }

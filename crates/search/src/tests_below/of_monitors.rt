@@ -3,7 +3,6 @@ ghost use Rattle.std.specs.Prelude.{◌≡◌, ◌<◌, OnOk, Contains};
 use monitors::{LinkMonitor, MeetMonitor};
 use names::Entity;
 use std::alloc::{AllocError, Global};
-use std::process::Abort;
 use std::test::Fail;
 
 /// Tells it again where memory is refused, so that a test sees that the refusal changed nothing.
@@ -35,56 +34,73 @@ fn tell_part(monitor: &mut MeetMonitor, part: u8, who: Entity) -> Result<bool, A
     }
 }
 
-fn hears_once(rt: &impl Abort, monitor: &mut LinkMonitor) -> Result<(), Fail> {
-    let (b, c, d) = (
-        Entity::read(b"B")?,
-        Entity::read(b"C")?,
-        Entity::read(b"D")?,
-    );
-    let told = [
-        tell_base(monitor, b)?,
-        tell_base(monitor, b)?,
-        tell_via(monitor, b, d)?,
-        tell_base(monitor, c)?,
-        tell_via(monitor, c, d)?,
-    ];
-    assert_eq!(rt; told, [true, false, true, true, false]);
-    Ok(())
+/// Whether the base is heard as new where it is to, and then `D` by way of it.
+fn hears(
+    monitor: &mut LinkMonitor,
+    base: Entity,
+    new_base: bool,
+    new_member: bool,
+) -> Result<bool, Fail> {
+    Ok(
+        tell_base(monitor, base)? == new_base
+            && tell_via(monitor, base, Entity::read(b"D")?)? == new_member,
+    )
+}
+
+fn hears_once(monitor: &mut LinkMonitor, b: Entity, c: Entity) -> Result<bool, Fail> {
+    Ok(tell_base(monitor, b)? && hears(monitor, b, false, true)? && hears(monitor, c, true, false)?)
 }
 
 #[test]
 fn a_linked_role_hears_each_member_once(rt: HostRuntime) -> Result<(), Fail> {
-    hears_once(&rt, &mut LinkMonitor::new(rt.alloc()))
+    let (b, c) = (Entity::read(b"B")?, Entity::read(b"C")?);
+    assert!(rt; hears_once(&mut LinkMonitor::new(rt.alloc()), b, c)?);
+    Ok(())
 }
+
+/// Whether each part that is told of an entity completes it where it is to: part, entity and whether.
+fn hears_parts(
+    monitor: &mut MeetMonitor,
+    parts: u8,
+    told: &[(u8, &[u8], bool)],
+) -> Result<bool, Fail>
+    requires { monitor.old.parts ≡ parts }
+{
+    for (part, name, is_last) in told {
+        if *part >= parts || tell_part(monitor, *part, Entity::read(name)?)? != *is_last {
+            return Ok(false);
+        }
+    }
+    Ok(true)
+}
+
+static TWO_PARTS: [(u8, &[u8], bool); 4] = [
+    (0, b"D", false),
+    (0, b"D", false),
+    (1, b"D", true),
+    (1, b"D", false),
+];
+
+static THREE_PARTS: [(u8, &[u8], bool); 6] = [
+    (2, b"D", false),
+    (0, b"E", false),
+    (1, b"E", false),
+    (0, b"D", false),
+    (2, b"E", true),
+    (1, b"D", true),
+];
 
 #[test]
 fn an_intersection_hears_its_last_part_once(rt: HostRuntime) -> Result<(), Fail> {
-    let d = Entity::read(b"D")?;
     let mut monitor = MeetMonitor::make(rt.alloc(), 2);
-    let told = [
-        tell_part(&mut monitor, 0, d)?,
-        tell_part(&mut monitor, 0, d)?,
-        tell_part(&mut monitor, 1, d)?,
-        tell_part(&mut monitor, 1, d)?,
-    ];
-    assert_eq!(rt; told, [false, false, true, false]);
+    assert!(rt; hears_parts(&mut monitor, 2, &TWO_PARTS)?);
     Ok(())
 }
 
 #[test]
 fn each_entity_needs_every_part(rt: HostRuntime) -> Result<(), Fail> {
-    let d = Entity::read(b"D")?;
-    let e = Entity::read(b"E")?;
     let mut monitor = MeetMonitor::make(rt.alloc(), 3);
-    let told = [
-        tell_part(&mut monitor, 2, d)?,
-        tell_part(&mut monitor, 0, e)?,
-        tell_part(&mut monitor, 1, e)?,
-        tell_part(&mut monitor, 0, d)?,
-        tell_part(&mut monitor, 2, e)?,
-        tell_part(&mut monitor, 1, d)?,
-    ];
-    assert_eq!(rt; told, [false, false, false, false, true, true]);
+    assert!(rt; hears_parts(&mut monitor, 3, &THREE_PARTS)?);
     Ok(())
 }
 

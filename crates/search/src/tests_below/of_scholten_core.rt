@@ -3,11 +3,9 @@ ghost use Rattle.scholten_core.specs.Computation.{IsHeld};
 
 use scholten_core::{Diffusion, Parent};
 use std::alloc::{AllocError, Global};
-use std::process::Abort;
 use std::test::Fail;
 
 // What is done, or looked at.
-#[derive(Clone, Copy)]
 enum Deed {
     // Takes the waiting letter at that place, which has that number.
     Take(u64, u64),
@@ -73,73 +71,97 @@ fn letters_to(alloc: Global, nodes: &[u64]) -> Result<Vec<(u64, u64)>, AllocErro
     letters().or_else(|_| letters())
 }
 
+// Finishes the letter, where it is held.
 fn finish_with<P: Drop>(
-    rt: &impl Abort,
     d: &mut Diffusion<P>,
     number: u64,
     outs: Vec<(u64, P)>,
-) -> Result<(), AllocError> {
-    assert!(rt; is_held(d, number));
-    assert!(rt; d.sent() < 1_000);
-    assert!(rt; outs.len() < 1_000);
-    d.finish(number, outs)
+) -> Result<bool, AllocError> {
+    if !is_held(d, number) || d.sent() >= 1_000 || outs.len() >= 1_000 {
+        return Ok(false);
+    }
+    d.finish(number, outs)?;
+    Ok(true)
 }
 
 // Finishes a letter. Where memory is refused all is as before, and the same call is made again.
-fn finish(
-    rt: &impl Abort,
+fn finishes(
     alloc: Global,
     d: &mut Diffusion<u64>,
     number: u64,
     nodes: &[u64],
-) -> Result<(), AllocError> {
+) -> Result<bool, AllocError> {
     let before = read_all(d);
-    if finish_with(rt, d, number, letters_to(alloc, nodes)?).is_ok() {
-        return Ok(());
+    if let Ok(finished) = finish_with(d, number, letters_to(alloc, nodes)?) {
+        return Ok(finished);
     }
-    assert_eq!(rt; read_all(d), before);
-    finish_with(rt, d, number, letters_to(alloc, nodes)?)
+    Ok(read_all(d) == before && finish_with(d, number, letters_to(alloc, nodes)?)?)
 }
 
-fn act(
-    rt: &impl Abort,
-    alloc: Global,
-    d: &mut Diffusion<u64>,
-    deed: Deed,
-) -> Result<(), AllocError> {
+fn takes<P: Drop>(d: &mut Diffusion<P>, place: u64, number: u64) -> bool {
+    place < d.waiting() && d.take(place) == number
+}
+
+fn puts_back(d: &mut Diffusion<u64>, number: u64) -> bool {
+    if !is_held(d, number) {
+        return false;
+    }
+    d.put_back(number);
+    true
+}
+
+fn signals(d: &mut Diffusion<u64>, place: u64) -> bool {
+    if place >= d.signals() {
+        return false;
+    }
+    d.signal(place);
+    true
+}
+
+// Whether the deed goes as it says.
+fn goes(alloc: Global, d: &mut Diffusion<u64>, deed: &Deed) -> Result<bool, AllocError> {
     match deed {
-        Take(place, number) => {
-            assert!(rt; place < d.waiting());
-            assert_eq!(rt; d.take(place), number);
-        }
-        PutBack(number) => {
-            assert!(rt; is_held(d, number));
-            d.put_back(number);
-        }
-        Finish(number, nodes) => finish(rt, alloc, d, number, nodes)?,
-        Signal(place) => {
-            assert!(rt; place < d.signals());
-            d.signal(place);
-        }
+        Take(place, number) => Ok(takes(d, *place, *number)),
+        PutBack(number) => Ok(puts_back(d, *number)),
+        Finish(number, nodes) => finishes(alloc, d, *number, nodes),
+        Signal(place) => Ok(signals(d, *place)),
         Node(node, parent, deficit) => {
-            assert_eq!(rt; d.parent(node), parent);
-            assert_eq!(rt; d.deficit(node), deficit);
+            Ok(d.parent(*node) == *parent && d.deficit(*node) == *deficit)
         }
     }
-    Ok(())
+}
+
+// Whether the computation looks so, and is complete just where the environment is owed nothing.
+fn looks(d: &Diffusion<u64>, counts: &Counts) -> bool {
+    look_at(d) == *counts && d.is_complete() == (counts[3] == 0)
+}
+
+// A first letter to node 0. Where memory is refused, once more.
+fn started(alloc: Global) -> Result<Diffusion<u64>, AllocError> {
+    match Diffusion::start(alloc, 0, 0) {
+        Ok(d) => Ok(d),
+        Err(_) => Diffusion::start(alloc, 0, 0),
+    }
+}
+
+// Whether each deed goes as it says, and the computation looks so after it.
+fn all_go(
+    alloc: Global,
+    d: &mut Diffusion<u64>,
+    deeds: &[(Deed, Counts)],
+) -> Result<bool, AllocError> {
+    for (deed, after) in deeds {
+        if !goes(alloc, d, deed)? || !looks(d, after) {
+            return Ok(false);
+        }
+    }
+    Ok(true)
 }
 
 // Does the deeds in turn, from a first letter to node 0 on, and looks at the computation after each.
-fn play(rt: &impl Abort, alloc: Global, deeds: &[(Deed, Counts)]) -> Result<(), AllocError> {
-    let start = || Diffusion::start(alloc, 0, 0);
-    let mut d = start().or_else(|_| start())?;
-    assert_eq!(rt; look_at(&d), [1, 1, 0, 1]);
-    for (deed, after) in deeds {
-        act(rt, alloc, &mut d, *deed)?;
-        assert_eq!(rt; look_at(&d), *after);
-        assert_eq!(rt; d.is_complete(), after[3] == 0);
-    }
-    Ok(())
+fn play(alloc: Global, deeds: &[(Deed, Counts)]) -> Result<bool, AllocError> {
+    let mut d = started(alloc)?;
+    Ok(looks(&d, &[1, 1, 0, 1]) && all_go(alloc, &mut d, deeds)?)
 }
 
 const ENVIRONMENT: Parent = Parent::Environment;
@@ -168,7 +190,7 @@ static THERE_AND_BACK: [(Deed, Counts); 17] = [
 
 #[test]
 fn goes_there_and_back(rt: HostRuntime) -> Result<(), Fail> {
-    play(&rt, rt.alloc(), &THERE_AND_BACK)?;
+    assert!(rt; play(rt.alloc(), &THERE_AND_BACK)?);
     Ok(())
 }
 
@@ -185,7 +207,7 @@ static TO_ITSELF: [(Deed, Counts); 8] = [
 
 #[test]
 fn a_node_writes_to_itself(rt: HostRuntime) -> Result<(), Fail> {
-    play(&rt, rt.alloc(), &TO_ITSELF)?;
+    assert!(rt; play(rt.alloc(), &TO_ITSELF)?);
     Ok(())
 }
 
@@ -214,7 +236,7 @@ static ENGAGED_AGAIN: [(Deed, Counts); 20] = [
 
 #[test]
 fn a_node_is_engaged_a_second_time(rt: HostRuntime) -> Result<(), Fail> {
-    play(&rt, rt.alloc(), &ENGAGED_AGAIN)?;
+    assert!(rt; play(rt.alloc(), &ENGAGED_AGAIN)?);
     Ok(())
 }
 
@@ -246,7 +268,7 @@ static AT_ANY_PLACE: [(Deed, Counts); 22] = [
 
 #[test]
 fn letters_are_taken_at_any_place(rt: HostRuntime) -> Result<(), Fail> {
-    play(&rt, rt.alloc(), &AT_ANY_PLACE)?;
+    assert!(rt; play(rt.alloc(), &AT_ANY_PLACE)?);
     Ok(())
 }
 
@@ -254,18 +276,31 @@ fn text(alloc: Global, word: &str) -> Result<String, AllocError> {
     String::from_str(alloc, word).or_else(|_| String::from_str(alloc, word))
 }
 
+// A letter to node 8.
+fn told(alloc: Global) -> Result<Vec<(u64, String)>, AllocError> {
+    let mut outs = Vec::new(alloc);
+    outs.push((8, text(alloc, "tell")?))?;
+    Ok(outs)
+}
+
+// Whether node 7 has sent that letter.
+fn is_told(d: &Diffusion<String>) -> bool {
+    match d.letter(2) {
+        Some(letter) => {
+            letter.load.as_str() == "tell" && letter.from == Parent::Node(7) && letter.to == 8
+        }
+        None => false,
+    }
+}
+
+// Whether the first letter is taken, and finished with that one.
+fn tells(alloc: Global, d: &mut Diffusion<String>) -> Result<bool, AllocError> {
+    Ok(takes(d, 0, 1) && finish_with(d, 1, told(alloc)?)? && is_told(d))
+}
+
 #[test]
 fn a_load_owns_memory(rt: HostRuntime) -> Result<(), Fail> {
     let mut d = Diffusion::start(rt.alloc(), 7, text(rt.alloc(), "ask")?)?;
-    assert!(rt; d.waiting() > 0);
-    assert_eq!(rt; d.take(0), 1);
-    let mut outs = Vec::new(rt.alloc());
-    outs.push((8, text(rt.alloc(), "tell")?))?;
-    finish_with(&rt, &mut d, 1, outs)?;
-    let Some(letter) = d.letter(2) else {
-        return Err(Fail::from("letter 2 is gone"));
-    };
-    assert_eq!(rt; letter.load.as_str(), "tell");
-    assert_eq!(rt; (letter.from, letter.to), (Parent::Node(7), 8));
+    assert!(rt; tells(rt.alloc(), &mut d)?);
     Ok(())
 }

@@ -22,12 +22,14 @@ fn credential(head: &str, body: &str) -> Result<Credential, Fail> {
     Ok(Credential::make(role(head)?, Expr::Ent(entity(body)?)).ok_or("no credential")?)
 }
 
+/// What `A` holds.
+static HELD: [(&str, &str); 3] = [("A.r", "D"), ("A.r", "E"), ("A.t", "D")];
+
 /// `A` comes to hold three credentials and to read the empty vault of `C`.
-fn fill(book: &mut Book) -> Result<(), Fail> {
-    let (a, c) = (entity("A")?, entity("C")?);
-    book.change(a, Change::Upload(credential("A.r", "D")?))?;
-    book.change(a, Change::Upload(credential("A.r", "E")?))?;
-    book.change(a, Change::Upload(credential("A.t", "D")?))?;
+fn fill(book: &mut Book, a: Entity, c: Entity) -> Result<(), Fail> {
+    for (head, body) in &HELD {
+        book.change(a, Change::Upload(credential(head, body)?))?;
+    }
     book.change(c, Change::Grant(a))?;
     Ok(())
 }
@@ -35,7 +37,7 @@ fn fill(book: &mut Book) -> Result<(), Fail> {
 /// The book of these two.
 fn book_of_two(alloc: Global) -> Result<Book, Fail> {
     let mut book = Book::new(alloc);
-    fill(&mut book)?;
+    fill(&mut book, entity("A")?, entity("C")?)?;
     Ok(book)
 }
 
@@ -55,6 +57,25 @@ fn finds_all(snapshot: &Snapshot, rows: &[(&str, u64, u64, u64)]) -> Result<bool
 }
 
 /// Whether the snapshot takes each span for the role's: role, vault, first row, last row and answer.
+fn judges_all<L: Ledger>(
+    snapshot: &Snapshot,
+    steps: &mut Steps<L>,
+    rows: &[(&str, u64, u64, u64, bool)],
+) -> Result<bool, Fail> {
+    for (text, vault, lo, hi, expected) in rows {
+        let span = Span {
+            vault: *vault,
+            lo: *lo,
+            hi: *hi,
+        };
+        if snapshot.span_is(&role(text)?, span, steps) != *expected {
+            return Ok(false);
+        }
+    }
+    Ok(true)
+}
+
+/// The same with steps that are counted from none.
 fn judges<L: Ledger>(
     snapshot: &Snapshot,
     blank: Blank,
@@ -65,18 +86,7 @@ fn judges<L: Ledger>(
     requires some { 0 < blank.parts }
 {
     let (book, share) = blank.open::<L>();
-    let mut steps = Steps::new(book, share);
-    for (text, vault, lo, hi, expected) in rows {
-        let span = Span {
-            vault: *vault,
-            lo: *lo,
-            hi: *hi,
-        };
-        if snapshot.span_is(&role(text)?, span, &mut steps) != *expected {
-            return Ok(false);
-        }
-    }
-    Ok(true)
+    judges_all(snapshot, &mut Steps::new(book, share), rows)
 }
 
 static FOUND: [(&str, u64, u64, u64); 8] = [
@@ -124,27 +134,25 @@ fn is_empty_for(rt: &impl Abort, snapshot: &Snapshot, c: Entity) -> Result<(), F
     Ok(())
 }
 
-/// What A saw when it held three credentials.
-fn has_both(rt: &impl Abort, snapshot: &Snapshot) -> Result<(), Fail> {
-    let span = snapshot.find(&role("A.r")?);
-    assert_eq!(*rt; span.hi, 2);
-    assert_eq!(*rt; span.lo, 0);
-    assert!(*rt;
-        snapshot
-            .row(span, 1)
-            .compare(&credential("A.r", "E")?)
-            .is_eq()
-    );
-    Ok(())
+/// Whether the snapshot has both rows of the role, the second of which is this credential.
+fn has_both(snapshot: &Snapshot, role: Role, second: &Credential) -> bool {
+    let span = snapshot.find(&role);
+    span.hi == 2 && span.lo == 0 && snapshot.row(span, 1).compare(second).is_eq()
+}
+
+/// Whether `A` sees what it held when it took the snapshot, before a withdrawal.
+fn stays(book: &mut Book, snapshot: &Snapshot) -> Result<bool, Fail> {
+    book.change(entity("A")?, Change::Withdraw(credential("A.r", "E")?))?;
+    Ok(has_both(snapshot, role("A.r")?, &credential("A.r", "E")?))
 }
 
 /// Two snapshots, and a withdrawal behind the second.
 fn withdraw(rt: &impl Abort, alloc: Global, book: &mut Book) -> Result<(), Fail> {
-    let (a, c) = (entity("A")?, entity("C")?);
+    let c = entity("C")?;
     is_empty_for(rt, &Snapshot::take(alloc, book, c)?, c)?;
-    let snapshot = Snapshot::take(alloc, book, a)?;
-    book.change(a, Change::Withdraw(credential("A.r", "E")?))?;
-    has_both(rt, &snapshot)
+    let snapshot = Snapshot::take(alloc, book, entity("A")?)?;
+    assert!(*rt; stays(book, &snapshot)?);
+    Ok(())
 }
 
 #[test]
