@@ -65,10 +65,17 @@ fn read_all(d: &Diffusion<u64>) -> u64 {
     look_at(d).iter().fold(sum, |sum, count| mix(sum, *count))
 }
 
-// Letters to these nodes, each with its node's number as its load. Where memory is refused, once more.
+// Letters to these nodes, each with its node's number as its load.
+fn collect_letters(alloc: Global, nodes: &[u64]) -> Result<Vec<(u64, u64)>, AllocError> {
+    nodes.iter().map(|node| (*node, *node)).collect(alloc)
+}
+
+// The same. Where memory is refused, once more.
 fn letters_to(alloc: Global, nodes: &[u64]) -> Result<Vec<(u64, u64)>, AllocError> {
-    let letters = || nodes.iter().map(|node| (*node, *node)).collect(alloc);
-    letters().or_else(|_| letters())
+    match collect_letters(alloc, nodes) {
+        Ok(letters) => Ok(letters),
+        Err(_) => collect_letters(alloc, nodes),
+    }
 }
 
 // Finishes the letter, where it is held.
