@@ -1,19 +1,62 @@
-ghost use Rattle.std.specs.Prelude.{◌≡◌, ◌∷◌, [], IfOk, IfSome};
-ghost use Rattle.cred_graph.specs.Reason.{Fits};
+ghost use Rattle.std.specs.Prelude.{◌<◌, ◌≡◌, ◌∷◌, [], length, IfOk, IfSome};
+ghost use Rattle.credential_text.specs.Expr.{part_expr};
+ghost use Rattle.cred_graph.specs.GraphState.{IsNode};
 
 use cred_graph::{Graph, Port, Reason};
-use credential_text::{Expr, Part, Parts};
+use credential_text::{CredFault, Expr, Part, Parts, read_credential};
 use names::{Entity, Role, RoleName};
 use std::alloc::{AllocError, Global};
 use std::process::Abort;
-use std::test::Fail;
 
-/// Asks again where memory is refused, so that a test sees that the refusal changed nothing.
-fn node_of(graph: &mut Graph, expr: &Expr) -> Result<(u64, bool), AllocError> {
-    match graph.node_of(expr) {
-        Ok(given) => Ok(given),
-        Err(_) => graph.node_of(expr),
+/// The role that the text spells where it has a dot, and else the entity.
+fn part_of(text: &[u8]) -> Result<Part, CredFault> {
+    match Role::read(text) {
+        Ok(role) => Ok(Part::Rol(role)),
+        Err(_fault) => Ok(Part::Ent(Entity::read(text)?)),
     }
+}
+
+fn port_of(port: &Port<&[u8]>) -> Result<Port, CredFault> {
+    Ok(match port {
+        Port::Body => Port::Body,
+        Port::Base => Port::Base,
+        Port::Via(who) => Port::Via(Entity::read(who)?),
+        Port::Part(part) => Port::Part(*part),
+    })
+}
+
+fn reason_of(reason: &Reason<u64, &[u8]>) -> Result<Reason, CredFault> {
+    Ok(match reason {
+        Reason::Leaf => Reason::Leaf,
+        Reason::Body(m) => Reason::Body(*m),
+        Reason::Via(who) => Reason::Via(Entity::read(who)?),
+        Reason::Parts => Reason::Parts,
+    })
+}
+
+/// The number of the part's node.
+fn number_of(graph: &Graph, part: Part) -> Option<u64>
+    ensures node { IfSome result (λ n. IsNode graph.now n (part_expr part)) }
+    ensures within { IfSome result (λ n. n < length graph.now.nodes) }
+{
+    graph.node(&part.expr())
+}
+
+/// Whether the body of the credential that the text spells is given the node of this number, a new one or not.
+fn gives_node(
+    alloc: Global,
+    graph: &mut Graph,
+    text: &[u8],
+    n: u64,
+    is_new: bool,
+) -> Result<bool, CredFault> {
+    let credential = read_credential(alloc, text)?;
+    Ok(graph.node_of(&credential.body)? == (n, is_new))
+}
+
+fn reserves(graph: &mut Graph, count: u64) -> Result<bool, CredFault> {
+    graph.reserve(count)?;
+    Ok(true)
 }
 
 fn listen(
@@ -22,32 +65,82 @@ fn listen(
     asker: Part,
     port: Port,
 ) -> Result<Option<bool>, AllocError> {
-    let Some(n) = graph.node(&asked.expr()) else {
+    let Some(n) = number_of(graph, asked) else {
         return Ok(None);
     };
-    let Some(m) = graph.node(&asker.expr()) else {
+    let Some(m) = number_of(graph, asker) else {
         return Ok(None);
     };
-    match graph.add_listener(n, m, port) {
-        Ok(is_new) => Ok(Some(is_new)),
-        Err(_) => Ok(Some(graph.add_listener(n, m, port)?)),
-    }
+    Ok(Some(graph.add_listener(n, m, port)?))
 }
 
-fn solve(graph: &mut Graph, n: u64, who: Entity, reason: &Reason) -> Result<bool, AllocError>
-    requires { Fits graph.old n who reason.now }
-{
-    match graph.add_solution(n, who, *reason) {
-        Ok(is_new) => Ok(is_new),
-        Err(_) => graph.add_solution(n, who, *reason),
-    }
+fn listens(
+    graph: &mut Graph,
+    asked: &[u8],
+    asker: &[u8],
+    port: &Port<&[u8]>,
+    told: Option<bool>,
+) -> Result<bool, CredFault> {
+    Ok(listen(graph, part_of(asked)?, part_of(asker)?, port_of(port)?)? == told)
 }
 
-fn solve_entity(graph: &mut Graph, who: Entity) -> Result<Option<bool>, AllocError> {
-    let Some(n) = graph.node(&Expr::Ent(who)) else {
+/// Whether `A.r` listens to `D` by this part, as its last listener where it is a new one.
+fn listens_by_part(graph: &mut Graph, part: u8, is_new: bool) -> Result<bool, CredFault> {
+    let port = Port::Part(part);
+    let asked = part_of(b"D")?;
+    Ok(
+        listen(graph, asked, part_of(b"A.r")?, port)? == Some(is_new)
+            && listener_of(graph, asked, part as u64) == Some((0, port))
+            && (!is_new || listener_of(graph, asked, part as u64 + 1).is_none()),
+    )
+}
+
+/// Lets an expression listen to another by way of the entity, by its number.
+fn listen_by_number(
+    graph: &mut Graph,
+    asked: Part,
+    asker: Part,
+    who: &Entity,
+) -> Result<Option<bool>, AllocError> {
+    let Some(n) = number_of(graph, asked) else {
         return Ok(None);
     };
-    Ok(Some(solve(graph, n, who, &Reason::Leaf)?))
+    let Some(m) = number_of(graph, asker) else {
+        return Ok(None);
+    };
+    let Some(k) = graph.entity_number(who) else {
+        return Ok(None);
+    };
+    Ok(Some(graph.add_numbered_listener(n, m, Port::Via(k))?))
+}
+
+fn listens_by_number(
+    graph: &mut Graph,
+    asked: &[u8],
+    asker: &[u8],
+    who: &[u8],
+    told: Option<bool>,
+) -> Result<bool, CredFault> {
+    let who = Entity::read(who)?;
+    Ok(listen_by_number(graph, part_of(asked)?, part_of(asker)?, &who)? == told)
+}
+
+/// Whether the entity becomes its own solution, a new one or not.
+fn solves_itself(graph: &mut Graph, who: &[u8], is_new: bool) -> Result<bool, CredFault> {
+    let who = Entity::read(who)?;
+    let Some(n) = number_of(graph, Part::Ent(who)) else {
+        return Ok(false);
+    };
+    Ok(graph.add_solution(n, who, Reason::Leaf)? == is_new)
+}
+
+/// The same by its number.
+fn solves_by_number(graph: &mut Graph, who: &[u8], is_new: bool) -> Result<bool, CredFault> {
+    let who = Entity::read(who)?;
+    let Some(k) = graph.entity_number(&who) else {
+        return Ok(false);
+    };
+    Ok(graph.add_numbered_solution(k as u64, k, Reason::Leaf)? == is_new)
 }
 
 fn solve_role(
@@ -56,16 +149,26 @@ fn solve_role(
     body: Part,
     who: Entity,
 ) -> Result<Option<bool>, AllocError> {
-    let Some(n) = graph.node(&Expr::Rol(role)) else {
+    let Some(n) = number_of(graph, Part::Rol(role)) else {
         return Ok(None);
     };
-    let Some(m) = graph.node(&body.expr()) else {
+    let Some(m) = number_of(graph, body) else {
         return Ok(None);
     };
     let Some(_reason) = graph.reason(m, &who) else {
         return Ok(None);
     };
-    Ok(Some(solve(graph, n, who, &Reason::Body(m))?))
+    Ok(Some(graph.add_solution(n, who, Reason::Body(m))?))
+}
+
+fn solves_role(
+    graph: &mut Graph,
+    role: &[u8],
+    who: &[u8],
+    told: Option<bool>,
+) -> Result<bool, CredFault> {
+    let who = Entity::read(who)?;
+    Ok(solve_role(graph, Role::read(role)?, Part::Ent(who), who)? == told)
 }
 
 fn solve_link(
@@ -75,13 +178,13 @@ fn solve_link(
     by: Entity,
     who: Entity,
 ) -> Result<Option<bool>, AllocError> {
-    let Some(n) = graph.node(&Expr::Link(base, name)) else {
+    let Some(n) = number_of(graph, Part::Link(base, name)) else {
         return Ok(None);
     };
-    let Some(m) = graph.node(&Expr::Rol(base)) else {
+    let Some(m) = number_of(graph, Part::Rol(base)) else {
         return Ok(None);
     };
-    let Some(k) = graph.node(&Expr::Rol(Role { owner: by, name })) else {
+    let Some(k) = number_of(graph, Part::Rol(Role { owner: by, name })) else {
         return Ok(None);
     };
     let Some(_member) = graph.reason(m, &by) else {
@@ -90,17 +193,20 @@ fn solve_link(
     let Some(_given) = graph.reason(k, &who) else {
         return Ok(None);
     };
-    Ok(Some(solve(graph, n, who, &Reason::Via(by))?))
+    Ok(Some(graph.add_solution(n, who, Reason::Via(by))?))
+}
+
+/// Whether `D` becomes a solution of `A.s.t` by way of `B`, as is told.
+fn solves_link(graph: &mut Graph, told: Option<bool>) -> Result<bool, CredFault> {
+    let base = Role::read(b"A.s")?;
+    let name = RoleName::read(b"t")?;
+    Ok(solve_link(graph, base, name, Entity::read(b"B")?, Entity::read(b"D")?)? == told)
 }
 
 fn pair_of(alloc: Global, first: Part, second: Part) -> Result<Option<Parts>, AllocError>
     ensures { IfOk result (λ made. IfSome made (λ parts. parts ≡ first ∷ second ∷ [])) }
 {
-    let both = [first, second];
-    match Parts::make(alloc, &both) {
-        Ok(made) => Ok(made),
-        Err(_) => Parts::make(alloc, &both),
-    }
+    Parts::make(alloc, &[first, second])
 }
 
 fn solve_meet(
@@ -116,10 +222,10 @@ fn solve_meet(
     let Some(n) = graph.node(&Expr::Meet(parts)) else {
         return Ok(None);
     };
-    let Some(m) = graph.node(&first.expr()) else {
+    let Some(m) = number_of(graph, first) else {
         return Ok(None);
     };
-    let Some(k) = graph.node(&second.expr()) else {
+    let Some(k) = number_of(graph, second) else {
         return Ok(None);
     };
     let Some(_one) = graph.reason(m, &who) else {
@@ -128,11 +234,17 @@ fn solve_meet(
     let Some(_other) = graph.reason(k, &who) else {
         return Ok(None);
     };
-    Ok(Some(solve(graph, n, who, &Reason::Parts)?))
+    Ok(Some(graph.add_solution(n, who, Reason::Parts)?))
+}
+
+/// Whether `D` becomes a solution of `D & A.r`, as is told.
+fn solves_meet(alloc: Global, graph: &mut Graph, told: Option<bool>) -> Result<bool, CredFault> {
+    let who = Entity::read(b"D")?;
+    Ok(solve_meet(alloc, graph, Part::Ent(who), part_of(b"A.r")?, who)? == told)
 }
 
 fn listener_of(graph: &Graph, asked: Part, i: u64) -> Option<(u64, Port)> {
-    let n = graph.node(&asked.expr())?;
+    let n = number_of(graph, asked)?;
     if i < graph.listeners(n) {
         Some(graph.listener(n, i))
     } else {
@@ -140,8 +252,21 @@ fn listener_of(graph: &Graph, asked: Part, i: u64) -> Option<(u64, Port)> {
     }
 }
 
+fn has_listener(
+    graph: &Graph,
+    asked: &[u8],
+    i: u64,
+    told: &Option<Port<&[u8]>>,
+) -> Result<bool, CredFault> {
+    let listener = listener_of(graph, part_of(asked)?, i);
+    match told {
+        Some(port) => Ok(listener == Some((0, port_of(port)?))),
+        None => Ok(listener.is_none()),
+    }
+}
+
 fn solution_of(graph: &Graph, part: Part, i: u64) -> Option<Entity> {
-    let n = graph.node(&part.expr())?;
+    let n = number_of(graph, part)?;
     if i < graph.solutions(n) {
         Some(graph.solution(n, i))
     } else {
@@ -149,243 +274,136 @@ fn solution_of(graph: &Graph, part: Part, i: u64) -> Option<Entity> {
     }
 }
 
-fn reads_back(graph: &Graph, part: Part) -> bool {
-    match graph.node(&part.expr()) {
-        Some(n) => graph.node(graph.expr(n)) == Some(n),
-        None => false,
-    }
+/// Whether the entity's one solution is itself.
+fn has_itself(graph: &Graph, who: &[u8]) -> Result<bool, CredFault> {
+    let who = Entity::read(who)?;
+    let part = Part::Ent(who);
+    Ok(solution_of(graph, part, 0) == Some(who) && solution_of(graph, part, 1).is_none())
 }
 
-/// Adds a node for each of these.
-fn add_nodes(graph: &mut Graph, parts: &[Part]) -> Result<(), AllocError> {
-    for part in parts {
-        let _given = node_of(graph, &part.expr())?;
-    }
-    Ok(())
-}
-
-fn read_role(rt: &impl Abort, text: &[u8]) -> Role {
-    Role::read(text).expect(rt, "a role")
-}
-
-fn read_entity(rt: &impl Abort, text: &[u8]) -> Entity {
-    Entity::read(text).expect(rt, "an entity")
-}
-
-/// The role and the entity of which most of the tests speak.
-fn role_and_entity(rt: &impl Abort) -> (Part, Part) {
-    (
-        Part::Rol(read_role(rt, b"A.r")),
-        Part::Ent(read_entity(rt, b"D")),
-    )
-}
-
-#[test]
-fn one_node_for_each_expression(rt: HostRuntime) -> Result<(), AllocError> {
-    let (role, entity) = role_and_entity(&rt);
-    let mut graph = Graph::new(rt.alloc());
-    graph.reserve(2)?;
-    assert!(rt; node_of(&mut graph, &role.expr())? == (0, true));
-    assert!(rt; node_of(&mut graph, &entity.expr())? == (1, true));
-    assert!(rt; node_of(&mut graph, &role.expr())? == (0, false));
-    graph.give_back();
-    assert!(rt; reads_back(&graph, role));
-    assert!(rt; reads_back(&graph, entity));
-    assert!(rt; graph.node(&Expr::Ent(read_entity(&rt, b"E"))).is_none());
-    Ok(())
-}
-
-#[test]
-fn two_ports_are_two_listeners(rt: HostRuntime) -> Result<(), AllocError> {
-    let (role, entity) = role_and_entity(&rt);
-    let mut graph = Graph::new(rt.alloc());
-    assert!(rt; listen(&mut graph, entity, role, Port::Body)? == None);
-    add_nodes(&mut graph, &[role, entity])?;
-    assert!(rt; listen(&mut graph, entity, role, Port::Body)? == Some(true));
-    assert!(rt; listen(&mut graph, entity, role, Port::Body)? == Some(false));
-    assert!(rt; listen(&mut graph, entity, role, Port::Part(0))? == Some(true));
-    assert!(rt; listener_of(&graph, entity, 0) == Some((0, Port::Body)));
-    assert!(rt; listener_of(&graph, entity, 1) == Some((0, Port::Part(0))));
-    assert!(rt; listener_of(&graph, entity, 2) == None);
-    assert!(rt; listener_of(&graph, role, 0) == None);
-    Ok(())
-}
-
-#[test]
-fn a_fifth_listener_stands_behind_four(rt: HostRuntime) -> Result<(), AllocError> {
-    let (role, entity) = role_and_entity(&rt);
-    let mut graph = Graph::new(rt.alloc());
-    add_nodes(&mut graph, &[role, entity])?;
-    for part in 0..5 {
-        assert!(rt; listen(&mut graph, entity, role, Port::Part(part))? == Some(true));
-    }
-    assert!(rt; listen(&mut graph, entity, role, Port::Part(4))? == Some(false));
-    assert!(rt; listener_of(&graph, entity, 3) == Some((0, Port::Part(3))));
-    assert!(rt; listener_of(&graph, entity, 4) == Some((0, Port::Part(4))));
-    assert!(rt; listener_of(&graph, entity, 5) == None);
-    Ok(())
-}
-
-#[test]
-fn a_solution_stands_once_with_its_reason(rt: HostRuntime) -> Result<(), AllocError> {
-    let role = read_role(&rt, b"A.r");
-    let who = read_entity(&rt, b"D");
-    let entity = Part::Ent(who);
-    let mut graph = Graph::new(rt.alloc());
-    let (role_node, _) = node_of(&mut graph, &Expr::Rol(role))?;
-    let (entity_node, _) = node_of(&mut graph, &entity.expr())?;
-    assert!(rt; solve_role(&mut graph, role, entity, who)? == None);
-    assert!(rt; solve_entity(&mut graph, who)? == Some(true));
-    assert!(rt; solve_entity(&mut graph, who)? == Some(false));
-    assert!(rt; solve_role(&mut graph, role, entity, who)? == Some(true));
-    assert!(rt; solution_of(&graph, entity, 0) == Some(who));
-    assert!(rt; solution_of(&graph, entity, 1) == None);
-    assert!(rt; graph.reason(entity_node, &who) == Some((0, Reason::Leaf)));
-    assert!(rt; graph.reason(role_node, &who) == Some((1, Reason::Body(1))));
-    Ok(())
-}
-
-#[test]
-fn a_linked_role_is_solved_by_way_of_its_base(rt: HostRuntime) -> Result<(), AllocError> {
-    let base = read_role(&rt, b"A.s");
-    let name = RoleName::read(b"t").expect(&rt, "a name");
-    let (b, d) = (read_entity(&rt, b"B"), read_entity(&rt, b"D"));
-    let given = Role { owner: b, name };
-    let mut graph = Graph::new(rt.alloc());
-    let (node, _) = node_of(&mut graph, &Expr::Link(base, name))?;
-    let (one, other) = (Part::Ent(b), Part::Ent(d));
-    add_nodes(&mut graph, &[Part::Rol(base), Part::Rol(given), one, other])?;
-    let _b = solve_entity(&mut graph, b)?;
-    let _d = solve_entity(&mut graph, d)?;
-    assert!(rt; solve_role(&mut graph, base, one, b)? == Some(true));
-    assert!(rt; solve_link(&mut graph, base, name, b, d)? == None);
-    assert!(rt; solve_role(&mut graph, given, other, d)? == Some(true));
-    assert!(rt; solve_link(&mut graph, base, name, b, d)? == Some(true));
-    assert!(rt; graph.reason(node, &d) == Some((4, Reason::Via(b))));
-    assert!(rt; graph.reason(node, &b) == None);
-    Ok(())
-}
-
-/// The node of the intersection of two parts, which is added.
-fn add_meet(
-    rt: &impl Abort,
-    alloc: Global,
-    graph: &mut Graph,
-    first: Part,
-    second: Part,
-) -> Result<u64, AllocError> {
-    let parts = pair_of(alloc, first, second)?.expect(rt, "two parts");
-    let (node, _) = node_of(graph, &Expr::Meet(parts))?;
-    Ok(node)
-}
-
-#[test]
-fn an_intersection_is_solved_by_all_its_parts(rt: HostRuntime) -> Result<(), AllocError> {
-    let role = read_role(&rt, b"A.r");
-    let who = read_entity(&rt, b"D");
-    let (one, other) = (Part::Ent(who), Part::Rol(role));
-    let mut graph = Graph::new(rt.alloc());
-    let node = add_meet(&rt, rt.alloc(), &mut graph, one, other)?;
-    add_nodes(&mut graph, &[one, other])?;
-    assert!(rt; solve_entity(&mut graph, who)? == Some(true));
-    assert!(rt; solve_meet(rt.alloc(), &mut graph, one, other, who)? == None);
-    assert!(rt; solve_role(&mut graph, role, one, who)? == Some(true));
-    assert!(rt; solve_meet(rt.alloc(), &mut graph, one, other, who)? == Some(true));
-    assert!(rt; graph.reason(node, &who) == Some((2, Reason::Parts)));
-    Ok(())
-}
-
-/// Lets an expression listen to another by way of the entity, by its number.
-fn listen_by_number(
-    graph: &mut Graph,
-    asked: Part,
-    asker: Part,
-    who: &Entity,
-) -> Result<Option<bool>, AllocError> {
-    let Some(n) = graph.node(&asked.expr()) else {
-        return Ok(None);
+/// Whether the entity is the first solution of its own node, by its number.
+fn has_itself_by_number(graph: &Graph, who: &[u8]) -> Result<bool, CredFault> {
+    let who = Entity::read(who)?;
+    let Some(n) = number_of(graph, Part::Ent(who)) else {
+        return Ok(false);
     };
-    let Some(m) = graph.node(&asker.expr()) else {
-        return Ok(None);
+    Ok(graph.solutions(n) > 0 && graph.entity(graph.numbered_solution(n, 0)) == who)
+}
+
+fn has_reason(
+    graph: &Graph,
+    n: u64,
+    who: &[u8],
+    told: &Option<(u64, Reason<u64, &[u8]>)>,
+) -> Result<bool, CredFault> {
+    let found = graph.reason(n, &Entity::read(who)?);
+    match told {
+        Some((place, reason)) => Ok(found == Some((*place, reason_of(reason)?))),
+        None => Ok(found.is_none()),
+    }
+}
+
+/// Whether the part has the node of this number, which reads back as that node, or has none.
+fn reads_back(graph: &Graph, text: &[u8], told: Option<u64>) -> Result<bool, CredFault> {
+    Ok(match number_of(graph, part_of(text)?) {
+        Some(n) => Some(n) == told && graph.node(graph.expr(n)) == told,
+        None => told.is_none(),
+    })
+}
+
+fn has_number(graph: &Graph, who: &[u8], k: u32) -> Result<bool, CredFault> {
+    Ok(graph.entity_number(&Entity::read(who)?) == Some(k))
+}
+
+/// Whether the part's node has so many listeners and solutions.
+fn has_counts(
+    graph: &Graph,
+    text: &[u8],
+    listeners: u64,
+    solutions: u64,
+) -> Result<bool, CredFault> {
+    let Some(n) = number_of(graph, part_of(text)?) else {
+        return Ok(false);
     };
-    let Some(k) = graph.entity_number(who) else {
-        return Ok(None);
-    };
-    match graph.add_numbered_listener(n, m, Port::Via(k)) {
-        Ok(is_new) => Ok(Some(is_new)),
-        Err(_) => Ok(Some(graph.add_numbered_listener(n, m, Port::Via(k))?)),
+    Ok(graph.listeners(n) == listeners && graph.solutions(n) == solutions)
+}
+
+/// What is done to a graph or asked of it, and what it is to answer: of an addition whether it is a new one, or nothing
+/// where a node or a premise is missing.
+enum Line {
+    /// Room for so many nodes.
+    Reserve(u64),
+    /// Room that isn't needed is given back.
+    GiveBack,
+    /// A node for the body of the credential: its number, and whether it is new.
+    Node(&'static [u8], u64, bool),
+    /// A listener to the first by the second, on a port.
+    Listen(&'static [u8], &'static [u8], Port<&'static [u8]>, Option<bool>),
+    /// The same by way of an entity, by its number.
+    ListenByNumber(&'static [u8], &'static [u8], &'static [u8], Option<bool>),
+    /// `A.r` listens to `D` by the part, which is its place too.
+    ListenByPart(u8, bool),
+    /// The entity becomes its own solution.
+    Itself(&'static [u8], bool),
+    /// The same by its number.
+    ItselfByNumber(&'static [u8], bool),
+    /// The role has the entity by a credential of which that is the body.
+    Role(&'static [u8], &'static [u8], Option<bool>),
+    /// `A.s.t` has `D` by way of `B`.
+    Link(Option<bool>),
+    /// `D & A.r` has `D`.
+    Meet(Option<bool>),
+    /// The listener at a place is the node 0 on a port, or there is none.
+    Listener(&'static [u8], u64, Option<Port<&'static [u8]>>),
+    /// The one solution of the entity's node is itself.
+    HasItself(&'static [u8]),
+    /// The first solution of the entity's node is itself, by its number.
+    HasItselfByNumber(&'static [u8]),
+    /// The place and the reason of an entity as a solution of the node of this number.
+    Reason(u64, &'static [u8], Option<(u64, Reason<u64, &'static [u8]>)>),
+    /// The node of a part.
+    Stands(&'static [u8], Option<u64>),
+    /// The number of an entity.
+    Number(&'static [u8], u32),
+    /// So many listeners and solutions of a part.
+    Counts(&'static [u8], u64, u64),
+}
+
+/// Whether the graph answers the question as it is to.
+fn tells_so(graph: &Graph, line: &Line) -> Result<bool, CredFault> {
+    match line {
+        Line::Listener(asked, i, told) => has_listener(graph, asked, *i, told),
+        Line::HasItself(who) => has_itself(graph, who),
+        Line::HasItselfByNumber(who) => has_itself_by_number(graph, who),
+        Line::Reason(n, who, told) => has_reason(graph, *n, who, told),
+        Line::Stands(text, told) => reads_back(graph, text, *told),
+        Line::Number(who, k) => has_number(graph, who, *k),
+        Line::Counts(text, listeners, solutions) => has_counts(graph, text, *listeners, *solutions),
+        _ => Ok(false),
     }
 }
 
-/// Makes the entity its own solution, by its number.
-fn solve_by_number(graph: &mut Graph, who: &Entity) -> Result<Option<bool>, AllocError> {
-    let Some(k) = graph.entity_number(who) else {
-        return Ok(None);
-    };
-    match graph.add_numbered_solution(k as u64, k, Reason::Leaf) {
-        Ok(is_new) => Ok(Some(is_new)),
-        Err(_) => Ok(Some(graph.add_numbered_solution(k as u64, k, Reason::Leaf)?)),
+/// Whether the graph answers the line as it is to.
+fn is_so(alloc: Global, graph: &mut Graph, line: &Line) -> Result<bool, CredFault> {
+    match line {
+        Line::Reserve(count) => reserves(graph, *count),
+        Line::GiveBack => {
+            graph.give_back();
+            Ok(true)
+        }
+        Line::Node(text, n, is_new) => gives_node(alloc, graph, text, *n, *is_new),
+        Line::Listen(asked, asker, port, told) => listens(graph, asked, asker, port, *told),
+        Line::ListenByNumber(asked, asker, who, told) => {
+            listens_by_number(graph, asked, asker, who, *told)
+        }
+        Line::ListenByPart(part, is_new) => listens_by_part(graph, *part, *is_new),
+        Line::Itself(who, is_new) => solves_itself(graph, who, *is_new),
+        Line::ItselfByNumber(who, is_new) => solves_by_number(graph, who, *is_new),
+        Line::Role(role, who, told) => solves_role(graph, role, who, *told),
+        Line::Link(told) => solves_link(graph, *told),
+        Line::Meet(told) => solves_meet(alloc, graph, *told),
+        _ => tells_so(graph, line),
     }
-}
-
-/// The first solution of the part's node, by its number.
-fn first_solution(graph: &Graph, part: Part) -> Option<Entity> {
-    let n = graph.node(&part.expr())?;
-    if graph.solutions(n) == 0 {
-        return None;
-    }
-    Some(graph.entity(graph.numbered_solution(n, 0)))
-}
-
-#[test]
-fn numbers_stand_for_names(rt: HostRuntime) -> Result<(), AllocError> {
-    let (role, entity) = role_and_entity(&rt);
-    let who = read_entity(&rt, b"D");
-    let mut graph = Graph::new(rt.alloc());
-    add_nodes(&mut graph, &[role])?;
-    assert!(rt; listen_by_number(&mut graph, role, role, &who)? == None);
-    add_nodes(&mut graph, &[entity])?;
-    assert!(rt; graph.entity_number(&who) == Some(1));
-    assert!(rt; listen_by_number(&mut graph, entity, role, &who)? == Some(true));
-    assert!(rt; listen(&mut graph, entity, role, Port::Via(who))? == Some(false));
-    assert!(rt; listener_of(&graph, entity, 0) == Some((0, Port::Via(who))));
-    assert!(rt; solve_by_number(&mut graph, &who)? == Some(true));
-    assert!(rt; solve_entity(&mut graph, who)? == Some(false));
-    assert!(rt; first_solution(&graph, entity) == Some(who));
-    assert!(rt; graph.reason(1, &who) == Some((0, Reason::Leaf)));
-    Ok(())
-}
-
-#[test]
-fn a_stranger_goes_on_to_be_one_listener(rt: HostRuntime) -> Result<(), AllocError> {
-    let (role, entity) = role_and_entity(&rt);
-    let who = read_entity(&rt, b"D");
-    let mut graph = Graph::new(rt.alloc());
-    add_nodes(&mut graph, &[role])?;
-    assert!(rt; listen(&mut graph, role, role, Port::Via(who))? == Some(true));
-    assert!(rt; listen(&mut graph, role, role, Port::Via(who))? == Some(false));
-    add_nodes(&mut graph, &[entity])?;
-    assert!(rt; listen_by_number(&mut graph, role, role, &who)? == Some(false));
-    assert!(rt; listen_by_number(&mut graph, entity, role, &who)? == Some(true));
-    assert!(rt; listener_of(&graph, role, 0) == Some((0, Port::Via(who))));
-    assert!(rt; listener_of(&graph, role, 1) == None);
-    Ok(())
-}
-
-#[test]
-fn listeners_beyond_eight_stand_once(rt: HostRuntime) -> Result<(), AllocError> {
-    let (role, entity) = role_and_entity(&rt);
-    let mut graph = Graph::new(rt.alloc());
-    add_nodes(&mut graph, &[role, entity])?;
-    for part in 0..11 {
-        assert!(rt; listen(&mut graph, entity, role, Port::Part(part))? == Some(true));
-        assert!(rt; listener_of(&graph, entity, part as u64) == Some((0, Port::Part(part))));
-        assert!(rt; listener_of(&graph, entity, part as u64 + 1) == None);
-    }
-    for part in 0..11 {
-        assert!(rt; listen(&mut graph, entity, role, Port::Part(part))? == Some(false));
-    }
-    Ok(())
 }
 
 fn mix(sum: u64, more: u64) -> u64 {
@@ -401,19 +419,23 @@ fn code(port: Port) -> u64 {
     }
 }
 
+/// The sum, with what can be read at this place of the node of an entity.
+fn read_place(graph: &Graph, who: &Entity, i: u64, sum: u64) -> u64 {
+    let is_itself = solution_of(graph, Part::Ent(*who), i) == Some(*who);
+    match listener_of(graph, Part::Ent(*who), i) {
+        Some((asker, port)) => mix(mix(mix(sum, asker), code(port)), is_itself as u64),
+        None => mix(mix(sum, 1), is_itself as u64),
+    }
+}
+
 /// A sum over what can be read of the node of an entity.
 fn read_node(graph: &Graph, who: &Entity) -> u64 {
-    let part = Part::Ent(*who);
-    let Some(n) = graph.node(&part.expr()) else {
+    let Some(n) = number_of(graph, Part::Ent(*who)) else {
         return 1;
     };
     let mut sum = mix(mix(n, graph.listeners(n)), graph.solutions(n));
     for i in 0..8 {
-        sum = match listener_of(graph, part, i) {
-            Some((asker, port)) => mix(mix(sum, asker), code(port)),
-            None => mix(sum, 1),
-        };
-        sum = mix(sum, (solution_of(graph, part, i) == Some(*who)) as u64);
+        sum = read_place(graph, who, i, sum);
     }
     match graph.reason(n, who) {
         Some((place, reason)) => mix(mix(sum, place), (reason == Reason::Leaf) as u64),
@@ -421,103 +443,242 @@ fn read_node(graph: &Graph, who: &Entity) -> u64 {
     }
 }
 
-/// The same over the nodes of all these.
-fn read_all(graph: &Graph, all: &[Entity]) -> u64 {
-    let mut sum = 0;
-    for who in all {
-        sum = mix(sum, read_node(graph, who));
-    }
-    sum
-}
-
-/// Adds the entity's node. Where memory is refused all is as before, and the same call is made again.
-fn add_node(
-    rt: &impl Abort,
-    graph: &mut Graph,
-    all: &[Entity],
-    who: Entity,
-) -> Result<(), AllocError> {
-    let before = read_all(graph, all);
-    if graph.node_of(&Expr::Ent(who)).is_err() {
-        assert_eq!(rt; read_all(graph, all), before);
-        let _given = graph.node_of(&Expr::Ent(who))?;
-    }
-    Ok(())
-}
-
-/// The same for one entity that listens to another.
-fn add_listener(
-    rt: &impl Abort,
-    graph: &mut Graph,
-    all: &[Entity],
-    asked: Entity,
-    asker: Entity,
-) -> Result<(), AllocError> {
-    let before = read_all(graph, all);
-    let (Some(n), Some(m)) = (graph.node(&Expr::Ent(asked)), graph.node(&Expr::Ent(asker))) else {
-        return Ok(());
-    };
-    if graph.add_listener(n, m, Port::Body).is_err() {
-        assert_eq!(rt; read_all(graph, all), before);
-        let _is_new = graph.add_listener(n, m, Port::Body)?;
-    }
-    Ok(())
-}
-
-/// The same for the entity as its own solution.
-fn add_leaf(
-    rt: &impl Abort,
-    graph: &mut Graph,
-    all: &[Entity],
-    who: Entity,
-) -> Result<(), AllocError> {
-    let before = read_all(graph, all);
-    let Some(n) = graph.node(&Expr::Ent(who)) else {
-        return Ok(());
-    };
-    if graph.add_solution(n, who, Reason::Leaf).is_err() {
-        assert_eq!(rt; read_all(graph, all), before);
-        let _is_new = graph.add_solution(n, who, Reason::Leaf)?;
-    }
-    Ok(())
-}
-
 static SIX: [&[u8]; 6] = [b"A", b"B", b"C", b"D", b"E", b"F"];
 
-fn six(alloc: Global) -> Result<Vec<Entity>, Fail> {
-    let mut all = Vec::with_capacity(alloc, 6)?;
+/// The same over the nodes of all six.
+fn read_all(graph: &Graph) -> Result<u64, CredFault> {
+    let mut sum = 0;
     for name in &SIX {
-        all.push(Entity::read(name)?)?;
+        sum = mix(sum, read_node(graph, &Entity::read(name)?));
     }
-    Ok(all)
+    Ok(sum)
 }
 
-/// Each of these becomes its own solution, and listens to the first.
-fn add_each(
+/// Whether the graph answers the line as it is to. Where memory is refused all is as before, and the same is done again.
+fn is_so_in_the_end(alloc: Global, graph: &mut Graph, line: &Line) -> Result<bool, CredFault> {
+    let before = read_all(graph)?;
+    match is_so(alloc, graph, line) {
+        Err(CredFault::Memory) => Ok(read_all(graph)? == before && is_so(alloc, graph, line)?),
+        told => told,
+    }
+}
+
+fn play(
     rt: &impl Abort,
+    alloc: Global,
     graph: &mut Graph,
-    all: &[Entity],
-    first: Entity,
-) -> Result<(), AllocError> {
-    for who in all {
-        add_node(rt, graph, all, *who)?;
-        add_listener(rt, graph, all, first, *who)?;
-        add_leaf(rt, graph, all, *who)?;
+    lines: &[Line],
+) -> Result<(), CredFault> {
+    for line in lines {
+        assert!(*rt; is_so_in_the_end(alloc, graph, line)?);
     }
     Ok(())
 }
 
-/// How many listeners and solutions the entity's node has, if it has one.
-fn counts_of(graph: &Graph, who: Entity) -> Option<(u64, u64)> {
-    let n = graph.node(&Expr::Ent(who))?;
-    Some((graph.listeners(n), graph.solutions(n)))
+/// Asserts each line of a graph that is empty at first.
+fn play_anew(rt: &impl Abort, alloc: Global, lines: &[Line]) -> Result<(), CredFault> {
+    let mut graph = Graph::new(alloc);
+    play(rt, alloc, &mut graph, lines)
 }
+
+static ONE_NODE_EACH: [Line; 8] = [
+    Line::Reserve(2),
+    Line::Node(b"A.x <- A.r", 0, true),
+    Line::Node(b"A.x <- D", 1, true),
+    Line::Node(b"A.x <- A.r", 0, false),
+    Line::GiveBack,
+    Line::Stands(b"A.r", Some(0)),
+    Line::Stands(b"D", Some(1)),
+    Line::Stands(b"E", None),
+];
 
 #[test]
-fn a_refused_addition_changes_nothing(rt: HostRuntime) -> Result<(), Fail> {
-    let first = Entity::read(b"A")?;
-    let mut graph = Graph::new(rt.alloc());
-    add_each(&rt, &mut graph, &six(rt.alloc())?, first)?;
-    assert_eq!(rt; counts_of(&graph, first), Some((6, 1)));
-    Ok(())
+fn one_node_for_each_expression(rt: HostRuntime) -> Result<(), CredFault> {
+    play_anew(&rt, rt.alloc(), &ONE_NODE_EACH)
+}
+
+static TWO_PORTS: [Line; 10] = [
+    Line::Listen(b"D", b"A.r", Port::Body, None),
+    Line::Node(b"A.x <- A.r", 0, true),
+    Line::Node(b"A.x <- D", 1, true),
+    Line::Listen(b"D", b"A.r", Port::Body, Some(true)),
+    Line::Listen(b"D", b"A.r", Port::Body, Some(false)),
+    Line::Listen(b"D", b"A.r", Port::Part(0), Some(true)),
+    Line::Listener(b"D", 0, Some(Port::Body)),
+    Line::Listener(b"D", 1, Some(Port::Part(0))),
+    Line::Listener(b"D", 2, None),
+    Line::Listener(b"A.r", 0, None),
+];
+
+#[test]
+fn two_ports_are_two_listeners(rt: HostRuntime) -> Result<(), CredFault> {
+    play_anew(&rt, rt.alloc(), &TWO_PORTS)
+}
+
+static FIVE_LISTENERS: [Line; 11] = [
+    Line::Node(b"A.x <- A.r", 0, true),
+    Line::Node(b"A.x <- D", 1, true),
+    Line::ListenByPart(0, true),
+    Line::ListenByPart(1, true),
+    Line::ListenByPart(2, true),
+    Line::ListenByPart(3, true),
+    Line::ListenByPart(4, true),
+    Line::ListenByPart(4, false),
+    Line::Listener(b"D", 3, Some(Port::Part(3))),
+    Line::Listener(b"D", 4, Some(Port::Part(4))),
+    Line::Listener(b"D", 5, None),
+];
+
+#[test]
+fn a_fifth_listener_stands_behind_four(rt: HostRuntime) -> Result<(), CredFault> {
+    play_anew(&rt, rt.alloc(), &FIVE_LISTENERS)
+}
+
+static ONE_SOLUTION: [Line; 9] = [
+    Line::Node(b"A.x <- A.r", 0, true),
+    Line::Node(b"A.x <- D", 1, true),
+    Line::Role(b"A.r", b"D", None),
+    Line::Itself(b"D", true),
+    Line::Itself(b"D", false),
+    Line::Role(b"A.r", b"D", Some(true)),
+    Line::HasItself(b"D"),
+    Line::Reason(1, b"D", Some((0, Reason::Leaf))),
+    Line::Reason(0, b"D", Some((1, Reason::Body(1)))),
+];
+
+#[test]
+fn a_solution_stands_once_with_its_reason(rt: HostRuntime) -> Result<(), CredFault> {
+    play_anew(&rt, rt.alloc(), &ONE_SOLUTION)
+}
+
+static BY_WAY_OF_ITS_BASE: [Line; 13] = [
+    Line::Node(b"A.x <- A.s.t", 0, true),
+    Line::Node(b"A.x <- A.s", 1, true),
+    Line::Node(b"A.x <- B.t", 2, true),
+    Line::Node(b"A.x <- B", 3, true),
+    Line::Node(b"A.x <- D", 4, true),
+    Line::Itself(b"B", true),
+    Line::Itself(b"D", true),
+    Line::Role(b"A.s", b"B", Some(true)),
+    Line::Link(None),
+    Line::Role(b"B.t", b"D", Some(true)),
+    Line::Link(Some(true)),
+    Line::Reason(0, b"D", Some((4, Reason::Via(b"B")))),
+    Line::Reason(0, b"B", None),
+];
+
+#[test]
+fn a_linked_role_is_solved_by_way_of_its_base(rt: HostRuntime) -> Result<(), CredFault> {
+    play_anew(&rt, rt.alloc(), &BY_WAY_OF_ITS_BASE)
+}
+
+static ALL_PARTS: [Line; 8] = [
+    Line::Node(b"A.x <- D & A.r", 0, true),
+    Line::Node(b"A.x <- D", 1, true),
+    Line::Node(b"A.x <- A.r", 2, true),
+    Line::Itself(b"D", true),
+    Line::Meet(None),
+    Line::Role(b"A.r", b"D", Some(true)),
+    Line::Meet(Some(true)),
+    Line::Reason(0, b"D", Some((2, Reason::Parts))),
+];
+
+#[test]
+fn an_intersection_is_solved_by_all_its_parts(rt: HostRuntime) -> Result<(), CredFault> {
+    play_anew(&rt, rt.alloc(), &ALL_PARTS)
+}
+
+static NUMBERS: [Line; 11] = [
+    Line::Node(b"A.x <- A.r", 0, true),
+    Line::ListenByNumber(b"A.r", b"A.r", b"D", None),
+    Line::Node(b"A.x <- D", 1, true),
+    Line::Number(b"D", 1),
+    Line::ListenByNumber(b"D", b"A.r", b"D", Some(true)),
+    Line::Listen(b"D", b"A.r", Port::Via(b"D"), Some(false)),
+    Line::Listener(b"D", 0, Some(Port::Via(b"D"))),
+    Line::ItselfByNumber(b"D", true),
+    Line::Itself(b"D", false),
+    Line::HasItselfByNumber(b"D"),
+    Line::Reason(1, b"D", Some((0, Reason::Leaf))),
+];
+
+#[test]
+fn numbers_stand_for_names(rt: HostRuntime) -> Result<(), CredFault> {
+    play_anew(&rt, rt.alloc(), &NUMBERS)
+}
+
+static STRANGER: [Line; 8] = [
+    Line::Node(b"A.x <- A.r", 0, true),
+    Line::Listen(b"A.r", b"A.r", Port::Via(b"D"), Some(true)),
+    Line::Listen(b"A.r", b"A.r", Port::Via(b"D"), Some(false)),
+    Line::Node(b"A.x <- D", 1, true),
+    Line::ListenByNumber(b"A.r", b"A.r", b"D", Some(false)),
+    Line::ListenByNumber(b"D", b"A.r", b"D", Some(true)),
+    Line::Listener(b"A.r", 0, Some(Port::Via(b"D"))),
+    Line::Listener(b"A.r", 1, None),
+];
+
+#[test]
+fn a_stranger_goes_on_to_be_one_listener(rt: HostRuntime) -> Result<(), CredFault> {
+    play_anew(&rt, rt.alloc(), &STRANGER)
+}
+
+static ELEVEN_LISTENERS: [Line; 24] = [
+    Line::Node(b"A.x <- A.r", 0, true),
+    Line::Node(b"A.x <- D", 1, true),
+    Line::ListenByPart(0, true),
+    Line::ListenByPart(1, true),
+    Line::ListenByPart(2, true),
+    Line::ListenByPart(3, true),
+    Line::ListenByPart(4, true),
+    Line::ListenByPart(5, true),
+    Line::ListenByPart(6, true),
+    Line::ListenByPart(7, true),
+    Line::ListenByPart(8, true),
+    Line::ListenByPart(9, true),
+    Line::ListenByPart(10, true),
+    Line::ListenByPart(0, false),
+    Line::ListenByPart(1, false),
+    Line::ListenByPart(2, false),
+    Line::ListenByPart(3, false),
+    Line::ListenByPart(4, false),
+    Line::ListenByPart(5, false),
+    Line::ListenByPart(6, false),
+    Line::ListenByPart(7, false),
+    Line::ListenByPart(8, false),
+    Line::ListenByPart(9, false),
+    Line::ListenByPart(10, false),
+];
+
+#[test]
+fn listeners_beyond_eight_stand_once(rt: HostRuntime) -> Result<(), CredFault> {
+    play_anew(&rt, rt.alloc(), &ELEVEN_LISTENERS)
+}
+
+/// Each of six becomes its own solution, and listens to the first.
+static ADDITIONS: [Line; 19] = [
+    Line::Node(b"A.x <- A", 0, true),
+    Line::Listen(b"A", b"A", Port::Body, Some(true)),
+    Line::Itself(b"A", true),
+    Line::Node(b"A.x <- B", 1, true),
+    Line::Listen(b"A", b"B", Port::Body, Some(true)),
+    Line::Itself(b"B", true),
+    Line::Node(b"A.x <- C", 2, true),
+    Line::Listen(b"A", b"C", Port::Body, Some(true)),
+    Line::Itself(b"C", true),
+    Line::Node(b"A.x <- D", 3, true),
+    Line::Listen(b"A", b"D", Port::Body, Some(true)),
+    Line::Itself(b"D", true),
+    Line::Node(b"A.x <- E", 4, true),
+    Line::Listen(b"A", b"E", Port::Body, Some(true)),
+    Line::Itself(b"E", true),
+    Line::Node(b"A.x <- F", 5, true),
+    Line::Listen(b"A", b"F", Port::Body, Some(true)),
+    Line::Itself(b"F", true),
+    Line::Counts(b"A", 6, 1),
+];
+
+#[test]
+fn a_refused_addition_changes_nothing(rt: HostRuntime) -> Result<(), CredFault> {
+    play_anew(&rt, rt.alloc(), &ADDITIONS)
 }

@@ -18,8 +18,8 @@ both_know g n who p q made parts two is node one other =
     let parts_are : parts ≡ p ∷ q ∷ [] = MatchOption-at_some _ (λ (ps : List Part). ps ≡ p ∷ q ∷ []) parts is two in
     (parts, node, All-same known parts (p ∷ q ∷ []) parts_are (All-cons known p (q ∷ []) one (All-cons known q [] other (All-nil known))))
 
-pub solve-requires : goal.solve-requires
-solve-requires c =
+pub add_solution-requires : goal.add_solution-requires
+add_solution-requires c =
     both_know c.args.graph.now _ _ c.args.first c.args.second _ _ c.in_ok-parts.ensures c.in-Some.is c.in-Some-node.ensures.node
-    (c.in-Some-node-2.m, rw c.expr.ensures at c.in-Some-node-2.ensures.node, solution_at_place _ _ _ _ _ c.in-Some-reason.ensures.found)
-    (c.in-Some-node-3.k, rw c.expr-2.ensures at c.in-Some-node-3.ensures.node, solution_at_place _ _ _ _ _ c.in-Some-reason-2.ensures.found)
+    (c.in-Some-number_of.m, c.in-Some-number_of.ensures.node, solution_at_place _ _ _ _ _ c.in-Some-reason.ensures.found)
+    (c.in-Some-number_of-2.k, c.in-Some-number_of-2.ensures.node, solution_at_place _ _ _ _ _ c.in-Some-reason-2.ensures.found)
