@@ -59,21 +59,7 @@ fn reserves(graph: &mut Graph, count: u64) -> Result<bool, CredFault> {
     Ok(true)
 }
 
-fn listen(
-    graph: &mut Graph,
-    asked: Part,
-    asker: Part,
-    port: Port,
-) -> Result<Option<bool>, AllocError> {
-    let Some(n) = number_of(graph, asked) else {
-        return Ok(None);
-    };
-    let Some(m) = number_of(graph, asker) else {
-        return Ok(None);
-    };
-    Ok(Some(graph.add_listener(n, m, port)?))
-}
-
+/// Whether the second becomes a listener to the first on this port, as is told.
 fn listens(
     graph: &mut Graph,
     asked: &[u8],
@@ -81,39 +67,16 @@ fn listens(
     port: &Port<&[u8]>,
     told: Option<bool>,
 ) -> Result<bool, CredFault> {
-    Ok(listen(graph, part_of(asked)?, part_of(asker)?, port_of(port)?)? == told)
+    let Some(n) = number_of(graph, part_of(asked)?) else {
+        return Ok(told.is_none());
+    };
+    let Some(m) = number_of(graph, part_of(asker)?) else {
+        return Ok(told.is_none());
+    };
+    Ok(told == Some(graph.add_listener(n, m, port_of(port)?)?))
 }
 
-/// Whether `A.r` listens to `D` by this part, as its last listener where it is a new one.
-fn listens_by_part(graph: &mut Graph, part: u8, is_new: bool) -> Result<bool, CredFault> {
-    let port = Port::Part(part);
-    let asked = part_of(b"D")?;
-    Ok(
-        listen(graph, asked, part_of(b"A.r")?, port)? == Some(is_new)
-            && listener_of(graph, asked, part as u64) == Some((0, port))
-            && (!is_new || listener_of(graph, asked, part as u64 + 1).is_none()),
-    )
-}
-
-/// Lets an expression listen to another by way of the entity, by its number.
-fn listen_by_number(
-    graph: &mut Graph,
-    asked: Part,
-    asker: Part,
-    who: &Entity,
-) -> Result<Option<bool>, AllocError> {
-    let Some(n) = number_of(graph, asked) else {
-        return Ok(None);
-    };
-    let Some(m) = number_of(graph, asker) else {
-        return Ok(None);
-    };
-    let Some(k) = graph.entity_number(who) else {
-        return Ok(None);
-    };
-    Ok(Some(graph.add_numbered_listener(n, m, Port::Via(k))?))
-}
-
+/// The same by way of the entity, by its number.
 fn listens_by_number(
     graph: &mut Graph,
     asked: &[u8],
@@ -121,8 +84,26 @@ fn listens_by_number(
     who: &[u8],
     told: Option<bool>,
 ) -> Result<bool, CredFault> {
-    let who = Entity::read(who)?;
-    Ok(listen_by_number(graph, part_of(asked)?, part_of(asker)?, &who)? == told)
+    let Some(n) = number_of(graph, part_of(asked)?) else {
+        return Ok(told.is_none());
+    };
+    let Some(m) = number_of(graph, part_of(asker)?) else {
+        return Ok(told.is_none());
+    };
+    let Some(k) = graph.entity_number(&Entity::read(who)?) else {
+        return Ok(told.is_none());
+    };
+    Ok(told == Some(graph.add_numbered_listener(n, m, Port::Via(k))?))
+}
+
+/// Whether `A.r` becomes a listener to `D` by this part, as its last where it is a new one.
+fn listens_by_part(graph: &mut Graph, part: u8, is_new: bool) -> Result<bool, CredFault> {
+    let asked = part_of(b"D")?;
+    Ok(
+        listens(graph, b"D", b"A.r", &Port::Part(part), Some(is_new))?
+            && listener_of(graph, asked, part as u64) == Some((0, Port::Part(part)))
+            && (!is_new || listener_of(graph, asked, part as u64 + 1).is_none()),
+    )
 }
 
 /// Whether the entity becomes its own solution, a new one or not.
