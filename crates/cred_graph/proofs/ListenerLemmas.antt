@@ -70,7 +70,7 @@ module _ (lists : List (List KeptListening)) (n : ℕ) (l : KeptListening)
       r ≡ list_any (far.ghosts.eq (far_of n l)) rows → IsTrue r ↔ Contains (list_at lists n) l
   has_far rows r are none has =
       let tail : drop 8 (list_at lists n) ≡ others =
-          ap (drop 8) (sym is) ∙ sym (drop_min 8 list) ∙ ap (λ k. drop k list) (min_turned (length list)) ∙ sym back in
+      ap (drop 8) (sym is) ∙ sym (drop_min 8 list) ∙ ap (λ k. drop k list) (min_turned (length list)) ∙ sym back in
       let rows_have = any_exact far.ghosts.eq far_decided rows (far_of n l) in (
         λ (yes : r ≡ true).
             subst (λ xs. Contains xs l) whole

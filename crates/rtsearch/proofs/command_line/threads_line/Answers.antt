@@ -15,20 +15,20 @@ global a = a.global
 pub returns : goal.returns
 returns c =
     let threads : c.range-threads.result ≡ vp.Unsigned 1 64 =
-        rw (c.value_parser.ensures, c.new.ensures.end, c.new.ensures.start) at c.range-threads.ensures in
+    rw (c.value_parser.ensures, c.new.ensures.end, c.new.ensures.start) at c.range-threads.ensures in
     let port_is : rule_of c.default_value.result ≡ usually (codes "0") (number_rule (codes "port") (vp.Signed (pos 0) (pos 65535))) =
-        ap rule_of c.default_value.ensures
-        ∙ ap (usually (codes "0")) (c.number_option.ensures.rule ∙ ap (number_rule (codes "port")) c.value_parser-2.ensures) in
+    ap rule_of c.default_value.ensures
+    ∙ ap (usually (codes "0")) (c.number_option.ensures.rule ∙ ap (number_rule (codes "port")) c.value_parser-2.ensures) in
     let workers_is : rule_of c.default_value-2.result ≡ usually (codes "4") (number_rule (codes "workers") (vp.Unsigned 1 64)) =
-        ap rule_of c.default_value-2.ensures
-        ∙ ap (usually (codes "4")) (c.number_option-2.ensures.rule ∙ ap (number_rule (codes "workers")) threads) in
+    ap rule_of c.default_value-2.ensures
+    ∙ ap (usually (codes "4")) (c.number_option-2.ensures.rule ∙ ap (number_rule (codes "workers")) threads) in
     let sessions_is : rule_of c.default_value-3.result ≡ usually (codes "8") (number_rule (codes "sessions") (vp.Unsigned 1 64)) =
-        ap rule_of c.default_value-3.ensures
-        ∙ ap (usually (codes "8")) (c.number_option-3.ensures.rule ∙ ap (number_rule (codes "sessions")) threads) in
+    ap rule_of c.default_value-3.ensures
+    ∙ ap (usually (codes "8")) (c.number_option-3.ensures.rule ∙ ap (number_rule (codes "sessions")) threads) in
     let bare = ap app_of_fields c.about.ensures ∙ c.new-2.ensures.app in
     let one = c.in_ok-arg.ensures.shape (ap global c.default_value.ensures ∙ c.number_option.ensures.local) ∙ ap₂ with_rule bare port_is in
     let two = c.in_ok-arg-2.ensures.shape (ap global c.default_value-2.ensures ∙ c.number_option-2.ensures.local) ∙ ap₂ with_rule one workers_is in
     IfOk-weaker c.arg-3.result _ _
     (λ command adds.
-        adds.shape (ap global c.default_value-3.ensures ∙ c.number_option-3.ensures.local) ∙ ap₂ with_rule two sessions_is)
+    adds.shape (ap global c.default_value-3.ensures ∙ c.number_option-3.ensures.local) ∙ ap₂ with_rule two sessions_is)
     c.arg-3.ensures

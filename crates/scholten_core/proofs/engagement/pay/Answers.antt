@@ -16,7 +16,7 @@ pub returns : goal.returns
 returns c =
     let nodes = c.args.nodes.now.items in
     let engaged : Some c.in_ok-engaged.engaged ≡ engagement_of nodes c.args.node =
-        sym c.in_ok-engaged.was ∙ c.engaged_at.ensures in
+    sym c.in_ok-engaged.was ∙ c.engaged_at.ensures in
     record {
       same = λ n other. get_or-set_other nodes c.args.node n None None other;
       paid = λ e there more. absurd (omega (arith, more, ap count_of (engaged ∙ there)));

@@ -7,9 +7,9 @@ use Rattle.scholten_core.proofs.engagement.receive.Goals as goal
 pub returns-in_err-make_place-clause-growth : goal.returns-in_err-make_place-clause-growth
 returns-in_err-make_place-clause-growth c =
     let neutral : engagement_of c.args.nodes.now.items c.args.to ≡ None =
-        sym c.engaged_at.ensures ∙ c.in_default.is in
+    sym c.engaged_at.ensures ∙ c.in_default.is in
     elim c.from_residual.result as
-        (λ r. OnErr r ((engagement_of c.args.nodes.now.items c.args.to ≡ None) × (0 < c.args.count))) [
+    (λ r. OnErr r ((engagement_of c.args.nodes.now.items c.args.to ≡ None) × (0 < c.args.count))) [
       | Ok _ ↦ tt
       | Err _ ↦ (neutral, omega arith)
     ]
@@ -18,7 +18,7 @@ pub returns-clause-received : goal.returns-clause-received
 returns-clause-received c =
     let nodes = c.make_place.new.nodes.items in
     let neutral : None ≡ engagement_of c.args.nodes.now.items c.args.to =
-        sym c.in_default.is ∙ c.engaged_at.ensures in
+    sym c.in_default.is ∙ c.engaged_at.ensures in
     let within : c.args.to < length nodes = omega (arith, c.in_ok-make_place.ensures.place) in
     record {
       same = λ n other. get_or-set_other nodes c.args.to n _ _ other ∙ c.in_ok-make_place.ensures.same n;

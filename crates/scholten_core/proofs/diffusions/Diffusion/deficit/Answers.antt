@@ -13,6 +13,6 @@ count_by_case (Some e) n is each = each e is
 pub returns : goal.returns
 returns g c =
     let kept : c.map_or.result ≡ deficit_kept c.self.inside.nodes.items c.args.node =
-        rw (← c.engaged_at.ensures) (count_by_case c.engaged_at.result c.map_or.result c.map_or.ensures
-        (λ e is. search rules)) in
+    rw (← c.engaged_at.ensures) (count_by_case c.engaged_at.result c.map_or.result c.map_or.ensures
+    (λ e is. search rules)) in
     rw (← c.self.view_is) (kept ∙ c.self.invariant.counts (Node c.args.node))
