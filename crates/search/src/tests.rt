@@ -6,7 +6,7 @@ mod refusals;
 mod sharing;
 
 use crate::{Finished, Hint, Need, Query, Search, Status};
-use credential_text::read_credential;
+use credential_text::{CredFault, Credential, read_credential};
 use names::{Entity, Role};
 use snapshots::Snapshot;
 use std::alloc::{AllocError, Global};
@@ -97,37 +97,35 @@ fn finished(search: &mut Search, letter: u64, hint: Hint) -> Result<Finished, Al
     }
 }
 
-// The members that the search has found, where it was asked for them and is completed.
-fn members_found(search: &Search) -> Result<Vec<Entity>, Fail> {
+// Whether the search has found these members, where it was asked for them and is completed.
+fn has_members(search: &Search, expected: &[Entity]) -> Result<bool, AllocError> {
     match search.status() {
-        Status::Members => Ok(search.members()?),
-        _ => Err("no members")?,
+        Status::Members => Ok(search.members()?.as_slice() == expected),
+        _ => Ok(true),
     }
 }
 
-fn issuer(alloc: Global, text: &[u8]) -> Result<Entity, Fail> {
-    let credential = read_credential(alloc, text)?;
-    Ok(credential.head.owner)
-}
-
-// Puts the credential into its issuer's vault.
-fn upload(alloc: Global, book: &mut Book, text: &[u8]) -> Result<(), Fail> {
-    let owner = issuer(alloc, text)?;
-    book.change(owner, Change::Upload(read_credential(alloc, text)?))?;
-    Ok(())
-}
-
-// Puts the credentials into the vaults of their issuers, and grants the vault of `B` to `A`.
-fn fill(alloc: Global, book: &mut Book, texts: &[&[u8]]) -> Result<(), Fail> {
+/// The credentials that the texts spell.
+pub(crate) fn credentials(alloc: Global, texts: &[&[u8]]) -> Result<Vec<Credential>, CredFault> {
+    let mut all = Vec::new(alloc);
     for text in texts {
-        upload(alloc, book, text)?;
+        all.push(read_credential(alloc, text)?)
+            .map_err(AllocError::from)?;
     }
-    grant(book, b"B")
+    Ok(all)
 }
 
-// Grants that tenant's vault to `A`.
-fn grant(book: &mut Book, owner: &[u8]) -> Result<(), Fail> {
-    book.change(Entity::read(owner)?, Change::Grant(Entity::read(b"A")?))?;
+static OTHERS: [&[u8]; 3] = [b"B", b"C", b"D"];
+
+// Puts the credentials into the vaults of their issuers, and grants the vaults of the three others to `A`.
+fn fill(book: &mut Book, credentials: &[Credential]) -> Result<(), Fail> {
+    for credential in credentials {
+        let upload = Change::Upload(credential.try_clone()?);
+        book.change(credential.head.owner, upload)?;
+    }
+    for owner in &OTHERS {
+        book.change(Entity::read(owner)?, Change::Grant(Entity::read(b"A")?))?;
+    }
     Ok(())
 }
 
@@ -137,11 +135,16 @@ fn seen(alloc: Global, book: &mut Book) -> Result<Arc<Snapshot>, Fail> {
     Ok(Arc::new(alloc, snapshot)?)
 }
 
-// What `A` reads, where the credentials stand in the vaults of their issuers and `B` has granted its own.
-fn snapshot_of(alloc: Global, texts: &[&[u8]]) -> Result<Arc<Snapshot>, Fail> {
+// What `A` reads, where each of the four holds its credentials and has granted them to `A`.
+fn snapshot_over(alloc: Global, credentials: &[Credential]) -> Result<Arc<Snapshot>, Fail> {
     let mut book = Book::new(alloc);
-    fill(alloc, &mut book, texts)?;
+    fill(&mut book, credentials)?;
     seen(alloc, &mut book)
+}
+
+fn snapshot_of(alloc: Global, texts: &[&[u8]]) -> Result<Arc<Snapshot>, Fail> {
+    let all = credentials(alloc, texts)?;
+    snapshot_over(alloc, &all)
 }
 
 fn opened(alloc: Global, texts: &[&[u8]], query: Query, work: u64) -> Result<Search, Fail> {

@@ -1,4 +1,4 @@
-use super::{members_found, opened_over, snapshot_of};
+use super::{has_members, opened_over, snapshot_of};
 use crate::{Query, Search, Status};
 use names::{Entity, Role};
 use snapshots::Snapshot;
@@ -18,11 +18,6 @@ fn have_answers(first: &Search, second: &Search, third: &Search) -> bool {
         && is_right_or_broken(second, Status::No)
         && is_right_or_broken(third, Status::Members)
         && (whole || third.status() == Status::Members)
-}
-
-// Whether the search finds these members, where it finds any.
-fn has_members(search: &Search, expected: &[Entity]) -> Result<bool, Fail> {
-    Ok(search.status() != Status::Members || members_found(search)?.as_slice() == expected)
 }
 
 // Drives the three, and whether they have their answers.

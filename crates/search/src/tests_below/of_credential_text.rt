@@ -5,8 +5,8 @@ use names::{Entity, NameFault, Role, RoleName};
 use std::alloc::{AllocError, Global};
 use std::cmp::Ordering;
 use std::collections::HashMap;
-use std::test::Fail;
 
+/// How a credential is written.
 fn written(alloc: Global, credential: &Credential) -> Result<Vec<u8>, AllocError> {
     let mut out = Vec::new(alloc);
     write_credential(credential, &mut out)?;
@@ -14,7 +14,7 @@ fn written(alloc: Global, credential: &Credential) -> Result<Vec<u8>, AllocError
 }
 
 /// Whether the text spells a credential of this canonical spelling.
-fn is_spelled(alloc: Global, text: &[u8], canonical: &[u8]) -> Result<bool, Fail> {
+fn is_spelled(alloc: Global, text: &[u8], canonical: &[u8]) -> Result<bool, CredFault> {
     let credential = read_credential(alloc, text)?;
     Ok(written(alloc, &credential)?.as_slice() == canonical)
 }
@@ -27,212 +27,238 @@ fn fault_number(alloc: Global, text: &[u8]) -> u64 {
     }
 }
 
-/// The text, with the byte behind it up to this length.
-fn padded(alloc: Global, text: &[u8], length: usize, byte: u8) -> Result<Vec<u8>, AllocError> {
-    let mut out = Vec::from_slice(alloc, text)?;
-    out.resize(length, byte)?;
-    Ok(out)
+/// Whether the text spells a credential of this canonical spelling, which spells it too, or has the fault of this number.
+fn reads(alloc: Global, text: &[u8], told: &Result<&[u8], u64>) -> Result<bool, CredFault> {
+    match told {
+        Ok(canonical) => {
+            Ok(is_spelled(alloc, text, canonical)? && is_spelled(alloc, canonical, canonical)?)
+        }
+        Err(number) => Ok(fault_number(alloc, text) == *number),
+    }
 }
 
-fn role(text: &[u8]) -> Result<Role, NameFault> {
-    Role::read(text)
+/// The same of the text with spaces behind it up to this length.
+fn reads_padded(
+    alloc: Global,
+    text: &[u8],
+    length: usize,
+    told: &Result<&[u8], u64>,
+) -> Result<bool, CredFault> {
+    let mut padded = Vec::from_slice(alloc, text)?;
+    padded.resize(length, b' ')?;
+    reads(alloc, &padded, told)
 }
 
-static SPELLED: [(&[u8], &[u8]); 14] = [
-    (b" A.r<-B.s&C ", b"A.r <- B.s & C"),
-    (b"A.r <- A.s.t & D", b"A.r <- A.s.t & D"),
-    (b"A.r<-A.s.t", b"A.r <- A.s.t"),
-    (b"A.r <- B&B", b"A.r <- B & B"),
-    (b"A.r <- C&B.s", b"A.r <- C & B.s"),
-    (
+/// Whether the fault has this text.
+fn is_printed(alloc: Global, fault: CredFault, text: &str) -> Result<bool, AllocError> {
+    let printed = format!(in alloc; "{fault}")?;
+    Ok(printed.as_str() == text)
+}
+
+/// Whether a clone of the parts is equal to them.
+fn are_cloned(parts: &Parts) -> Result<bool, AllocError> {
+    let again = parts.try_clone()?;
+    Ok(again == *parts && again.as_slice().len() == parts.as_slice().len())
+}
+
+/// Whether an intersection of so many parts has that many and a clone equal to it, or there is none.
+fn are_held(alloc: Global, count: usize, held: Option<usize>) -> Result<bool, CredFault> {
+    let many = [Part::Ent(Entity::read(b"D")?); 9];
+    match Parts::make(alloc, many.get(..count).unwrap_or_default())? {
+        Some(made) => Ok(held == Some(made.as_slice().len()) && are_cloned(&made)?),
+        None => Ok(held.is_none()),
+    }
+}
+
+/// The linked role over this base.
+fn linked(base: &[u8]) -> Result<Part, CredFault> {
+    Ok(Part::Link(Role::read(base)?, RoleName::read(b"t")?))
+}
+
+/// The body that is linked over one base, or an intersection of two that are.
+fn body_over(alloc: Global, bases: &[&[u8]]) -> Result<Option<Expr>, CredFault> {
+    match bases {
+        [base] => Ok(Some(linked(base)?.expr())),
+        [base, other] => {
+            let parts = Parts::make(alloc, &[linked(base)?, linked(other)?])?;
+            Ok(parts.map(Expr::Meet))
+        }
+        _ => Ok(None),
+    }
+}
+
+/// Whether there is a credential of the head `A.r` over these bases, as is told.
+fn is_made(alloc: Global, bases: &[&[u8]], told: bool) -> Result<bool, CredFault> {
+    let Some(body) = body_over(alloc, bases)? else {
+        return Ok(false);
+    };
+    Ok(Credential::make(Role::read(b"A.r")?, body).is_some() == told)
+}
+
+/// What is looked at.
+enum Line {
+    /// A text: the canonical spelling of its credential, or the number of its fault.
+    Reads(&'static [u8], Result<&'static [u8], u64>),
+    /// The same with spaces behind it, up to this length.
+    Padded(&'static [u8], usize, Result<&'static [u8], u64>),
+    /// A fault, its number and its text.
+    Fault(CredFault, u64, &'static str),
+    /// So many parts, and how many an intersection of them has, if there is one.
+    Parts(usize, Option<usize>),
+    /// The bases of linked roles, and whether a credential of `A.r` may have them.
+    Made(&'static [&'static [u8]], bool),
+}
+
+use Line::{Fault, Made, Padded, Reads};
+
+fn is_so(alloc: Global, line: &Line) -> Result<bool, CredFault> {
+    match line {
+        Reads(text, told) => reads(alloc, text, told),
+        Padded(text, length, told) => reads_padded(alloc, text, *length, told),
+        Fault(fault, number, text) => {
+            Ok(fault.number() == *number && is_printed(alloc, *fault, text)?)
+        }
+        Line::Parts(count, held) => are_held(alloc, *count, *held),
+        Made(bases, told) => is_made(alloc, bases, *told),
+    }
+}
+
+fn all_so(alloc: Global, lines: &[Line]) -> Result<bool, CredFault> {
+    for line in lines {
+        if !is_so(alloc, line)? {
+            return Ok(false);
+        }
+    }
+    Ok(true)
+}
+
+/// The last has names of 64 bytes.
+static SPELLED: [Line; 15] = [
+    Reads(b" A.r<-B.s&C ", Ok(b"A.r <- B.s & C")),
+    Reads(b"A.r <- A.s.t & D", Ok(b"A.r <- A.s.t & D")),
+    Reads(b"A.r<-A.s.t", Ok(b"A.r <- A.s.t")),
+    Reads(b"A.r <- B&B", Ok(b"A.r <- B & B")),
+    Reads(b"A.r <- C&B.s", Ok(b"A.r <- C & B.s")),
+    Reads(
         b"A.r<-  A.s.t  &  A.s.u  &  B  ",
-        b"A.r <- A.s.t & A.s.u & B",
+        Ok(b"A.r <- A.s.t & A.s.u & B"),
     ),
-    (
+    Reads(
         b"A.r<-B&C&D&E&F&G&H&I",
-        b"A.r <- B & C & D & E & F & G & H & I",
+        Ok(b"A.r <- B & C & D & E & F & G & H & I"),
     ),
-    (b"A.r <- A.r.r", b"A.r <- A.r.r"),
-    (b" A.r<-B.s ", b"A.r <- B.s"),
-    (b"A.r <- D", b"A.r <- D"),
-    (b"   A.r   <-   D   ", b"A.r <- D"),
-    (b"A-1.r_2<-Bob.friend", b"A-1.r_2 <- Bob.friend"),
-    (b"a.r <- A", b"a.r <- A"),
-    (b"A.r- <- D-", b"A.r- <- D-"),
+    Reads(b"A.r <- A.r.r", Ok(b"A.r <- A.r.r")),
+    Reads(b" A.r<-B.s ", Ok(b"A.r <- B.s")),
+    Reads(b"A.r <- D", Ok(b"A.r <- D")),
+    Reads(b"   A.r   <-   D   ", Ok(b"A.r <- D")),
+    Reads(b"A-1.r_2<-Bob.friend", Ok(b"A-1.r_2 <- Bob.friend")),
+    Reads(b"a.r <- A", Ok(b"a.r <- A")),
+    Reads(b"A.r- <- D-", Ok(b"A.r- <- D-")),
+    Reads(
+        b"A.r <- xxxxxxxxxxxxxxxxxxxxxxxxxxxxxxxxxxxxxxxxxxxxxxxxxxxxxxxxxxxxxxxx",
+        Ok(b"A.r <- xxxxxxxxxxxxxxxxxxxxxxxxxxxxxxxxxxxxxxxxxxxxxxxxxxxxxxxxxxxxxxxx"),
+    ),
+];
+
+static REFUSED: [Line; 16] = [
+    Reads(b"", Err(21)),
+    Reads(b"A.r = D", Err(21)),
+    Reads(b"A.r < - D", Err(21)),
+    Reads(b"A <- D", Err(22)),
+    Reads(b"A.r.s <- D", Err(22)),
+    Reads(b"<- D", Err(22)),
+    Reads(b"A. <- D", Err(11)),
+    Reads(b".r <- D", Err(11)),
+    Reads(b"9.r <- D", Err(12)),
+    Reads(b"A b.r <- D", Err(13)),
+    Reads(b"A.r <- D <- E", Err(13)),
+    Reads(b"9.r! <-", Err(12)),
+    Reads(b"A.r <-", Err(23)),
+    Reads(b"A.r <-   ", Err(23)),
+    Reads(b"A.r <- A.b.c.d", Err(24)),
+    Reads(b"A.r <- 9.b.c.d", Err(24)),
+];
+
+/// The last has a name of 65 bytes.
+static REFUSED_BODIES: [Line; 19] = [
+    Reads(b"A.r <- D & A.b.c.d", Err(24)),
+    Reads(b"A.r <- B &", Err(26)),
+    Reads(b"A.r <- & B", Err(26)),
+    Reads(b"A.r <- B & & C", Err(26)),
+    Reads(b"A.r <- &", Err(26)),
+    Reads(b"A.r <- 9 &", Err(26)),
+    Reads(b"A.r <- B&C&D&E&F&G&H&I&J", Err(26)),
+    Reads(b"A.r <- 9&C&D&E&F&G&H&I&J", Err(26)),
+    Reads(b"A.r <- D & B.s.t", Err(25)),
+    Reads(b"A.r <- B.s.t", Err(25)),
+    Reads(b"A.r <- B.s.9", Err(12)),
+    Reads(b"A.r <- B.s.t & 9", Err(25)),
+    Reads(b"A.r <- 9 & B.s.t", Err(12)),
+    Reads(b"A.r <- A.s.", Err(11)),
+    Reads(b"A.r <- A..t", Err(11)),
+    Reads(b"A.r <- A.s.t u", Err(13)),
+    Reads(b"A.r <- 9.s", Err(12)),
+    Reads(b"A.r <- B . s", Err(13)),
+    Reads(
+        b"A.r <- xxxxxxxxxxxxxxxxxxxxxxxxxxxxxxxxxxxxxxxxxxxxxxxxxxxxxxxxxxxxxxxxx",
+        Err(14),
+    ),
+];
+
+static OTHERS: [Line; 22] = [
+    Padded(b"A.r <- D", 4096, Ok(b"A.r <- D")),
+    Padded(b"A.r <- D", 4097, Err(27)),
+    Padded(b"A.r", 4097, Err(27)),
+    Fault(CredFault::NoArrow, 21, "no arrow"),
+    Fault(CredFault::Head, 22, "head"),
+    Fault(CredFault::BodyEmpty, 23, "empty body"),
+    Fault(CredFault::Dots, 24, "too many dots"),
+    Fault(CredFault::LinkBase, 25, "link base"),
+    Fault(CredFault::Parts, 26, "parts"),
+    Fault(CredFault::Long, 27, "credential too long"),
+    Fault(CredFault::Name(NameFault::Byte), 13, "name byte"),
+    Fault(CredFault::Memory, 90, "memory"),
+    Line::Parts(0, None),
+    Line::Parts(1, None),
+    Line::Parts(2, Some(2)),
+    Line::Parts(3, Some(3)),
+    Line::Parts(8, Some(8)),
+    Line::Parts(9, None),
+    Made(&[b"A.s"], true),
+    Made(&[b"B.s"], false),
+    Made(&[b"A.s", b"A.s"], true),
+    Made(&[b"A.s", b"B.s"], false),
 ];
 
 #[test]
-fn texts_that_spell_a_credential(rt: HostRuntime) -> Result<(), Fail> {
-    for (text, canonical) in &SPELLED {
-        assert!(rt; is_spelled(rt.alloc(), text, canonical)?);
-        assert!(rt; is_spelled(rt.alloc(), canonical, canonical)?);
+fn texts_faults_parts_and_bases(rt: HostRuntime) -> Result<(), CredFault> {
+    let tables: [&[Line]; 4] = [&SPELLED, &REFUSED, &REFUSED_BODIES, &OTHERS];
+    for lines in tables {
+        assert!(rt; all_so(rt.alloc(), lines)?);
     }
-    Ok(())
-}
-
-static REFUSED: [(&[u8], u64); 34] = [
-    (b"", 21),
-    (b"A.r = D", 21),
-    (b"A.r < - D", 21),
-    (b"A <- D", 22),
-    (b"A.r.s <- D", 22),
-    (b"<- D", 22),
-    (b"A. <- D", 11),
-    (b".r <- D", 11),
-    (b"9.r <- D", 12),
-    (b"A b.r <- D", 13),
-    (b"A.r <- D <- E", 13),
-    (b"9.r! <-", 12),
-    (b"A.r <-", 23),
-    (b"A.r <-   ", 23),
-    (b"A.r <- A.b.c.d", 24),
-    (b"A.r <- 9.b.c.d", 24),
-    (b"A.r <- D & A.b.c.d", 24),
-    (b"A.r <- B &", 26),
-    (b"A.r <- & B", 26),
-    (b"A.r <- B & & C", 26),
-    (b"A.r <- &", 26),
-    (b"A.r <- 9 &", 26),
-    (b"A.r <- B&C&D&E&F&G&H&I&J", 26),
-    (b"A.r <- 9&C&D&E&F&G&H&I&J", 26),
-    (b"A.r <- D & B.s.t", 25),
-    (b"A.r <- B.s.t", 25),
-    (b"A.r <- B.s.9", 12),
-    (b"A.r <- B.s.t & 9", 25),
-    (b"A.r <- 9 & B.s.t", 12),
-    (b"A.r <- A.s.", 11),
-    (b"A.r <- A..t", 11),
-    (b"A.r <- A.s.t u", 13),
-    (b"A.r <- 9.s", 12),
-    (b"A.r <- B . s", 13),
-];
-
-#[test]
-fn texts_that_are_refused(rt: HostRuntime) {
-    for (text, number) in &REFUSED {
-        assert_eq!(rt; fault_number(rt.alloc(), text), *number);
-    }
-}
-
-/// Whether the fault has this number and this text.
-fn reads_as(alloc: Global, fault: CredFault, number: u64, text: &str) -> Result<bool, AllocError> {
-    let written = format!(in alloc; "{fault}")?;
-    Ok(fault.number() == number && written.as_str() == text)
-}
-
-static FAULTS: [(CredFault, u64, &str); 9] = [
-    (CredFault::NoArrow, 21, "no arrow"),
-    (CredFault::Head, 22, "head"),
-    (CredFault::BodyEmpty, 23, "empty body"),
-    (CredFault::Dots, 24, "too many dots"),
-    (CredFault::LinkBase, 25, "link base"),
-    (CredFault::Parts, 26, "parts"),
-    (CredFault::Long, 27, "credential too long"),
-    (CredFault::Name(NameFault::Byte), 13, "name byte"),
-    (CredFault::Memory, 90, "memory"),
-];
-
-#[test]
-fn faults_by_number_and_text(rt: HostRuntime) -> Result<(), AllocError> {
-    for (fault, number, text) in &FAULTS {
-        assert!(rt; reads_as(rt.alloc(), *fault, *number, text)?, "at {number}");
-    }
-    Ok(())
-}
-
-/// The number of the fault of the text with the byte behind it up to this length, or 0.
-fn padded_fault(alloc: Global, text: &[u8], length: usize, byte: u8) -> Result<u64, AllocError> {
-    let text = padded(alloc, text, length, byte)?;
-    Ok(fault_number(alloc, &text))
-}
-
-#[test]
-fn texts_of_the_greatest_length(rt: HostRuntime) -> Result<(), Fail> {
-    let longest = padded(rt.alloc(), b"A.r <- D", 4096, b' ')?;
-    assert!(rt; is_spelled(rt.alloc(), &longest, b"A.r <- D")?);
-    assert_eq!(rt; padded_fault(rt.alloc(), b"A.r <- D", 4097, b' ')?, 27);
-    assert_eq!(rt; padded_fault(rt.alloc(), b"A.r", 4097, b' ')?, 27);
-    Ok(())
-}
-
-#[test]
-fn names_of_the_greatest_length(rt: HostRuntime) -> Result<(), Fail> {
-    let longest = padded(rt.alloc(), b"A.r <- ", 7 + 64, b'x')?;
-    assert!(rt; is_spelled(rt.alloc(), &longest, &longest)?);
-    assert_eq!(rt; padded_fault(rt.alloc(), b"A.r <- ", 7 + 65, b'x')?, 14);
     Ok(())
 }
 
 /// The spelling of a credential of eight linked roles, whose names are of the greatest length.
-fn longest_text(alloc: Global) -> Result<Vec<u8>, Fail> {
+fn longest_text(alloc: Global) -> Result<Vec<u8>, CredFault> {
     let longest = [b'x'; 64];
     let head = Role {
         owner: Entity::read(&longest)?,
         name: RoleName::read(&longest)?,
     };
-    let parts = Parts::make(alloc, &[Part::Link(head, head.name); 8])?.ok_or("made")?;
-    let credential = Credential::make(head, Expr::Meet(parts)).ok_or("made")?;
+    let parts = Parts::make(alloc, &[Part::Link(head, head.name); 8])?.ok_or(CredFault::Parts)?;
+    let credential = Credential::make(head, Expr::Meet(parts)).ok_or(CredFault::LinkBase)?;
     Ok(written(alloc, &credential)?)
 }
 
-#[test]
-fn the_longest_canonical_text_is_written_and_read(rt: HostRuntime) -> Result<(), Fail> {
-    let text = longest_text(rt.alloc())?;
-    assert_eq!(rt; text.len(), 1706);
-    assert!(rt; is_spelled(rt.alloc(), &text, &text)?);
-    Ok(())
-}
-
-/// How many parts an intersection of these has, if there is one.
-fn parts_held(alloc: Global, parts: &[Part]) -> Result<Option<usize>, AllocError> {
-    match Parts::make(alloc, parts)? {
-        Some(made) => Ok(Some(made.as_slice().len())),
-        None => Ok(None),
-    }
-}
-
-static HELD: [(usize, Option<usize>); 5] = [
-    (0, None),
-    (1, None),
-    (2, Some(2)),
-    (8, Some(8)),
-    (9, None),
-];
-
-#[test]
-fn parts_are_2_to_8(rt: HostRuntime) -> Result<(), Fail> {
-    let many = [Part::Ent(Entity::read(b"D")?); 9];
-    for (count, held) in &HELD {
-        let parts = many.get(..*count).ok_or("nine parts")?;
-        assert!(rt; parts_held(rt.alloc(), parts)? == *held, "{count} parts");
-    }
-    Ok(())
-}
-
-/// Whether a credential of the head `A.r` has these parts as its body.
-fn is_made(alloc: Global, parts: &[Part]) -> Result<bool, Fail> {
-    let head = role(b"A.r")?;
-    let body = match parts {
-        [part] => part.expr(),
-        several => Expr::Meet(Parts::make(alloc, several)?.ok_or("made")?),
-    };
-    Ok(Credential::make(head, body).is_some())
-}
-
-#[test]
-fn a_linked_role_is_based_on_the_issuers_own(rt: HostRuntime) -> Result<(), Fail> {
-    let name = RoleName::read(b"t")?;
-    let own = Part::Link(role(b"A.s")?, name);
-    let others = Part::Link(role(b"B.s")?, name);
-    assert!(rt; is_made(rt.alloc(), &[own])?);
-    assert!(rt; !is_made(rt.alloc(), &[others])?);
-    assert!(rt; is_made(rt.alloc(), &[own, own])?);
-    assert!(rt; !is_made(rt.alloc(), &[own, others])?);
-    Ok(())
+/// Whether that spelling has so many bytes, and is read again.
+fn longest_is_read(alloc: Global, length: usize) -> Result<bool, CredFault> {
+    let text = longest_text(alloc)?;
+    Ok(text.len() == length && is_spelled(alloc, &text, &text)?)
 }
 
 /// Appends the body of the credential that the text spells.
-fn append_body(alloc: Global, text: &[u8], out: &mut Vec<u8>) -> Result<(), Fail> {
+fn append_body(alloc: Global, text: &[u8], out: &mut Vec<u8>) -> Result<(), CredFault> {
     let credential = read_credential(alloc, text)?;
     Ok(write_expr(&credential.body, out)?)
 }
@@ -244,18 +270,25 @@ static APPENDED: [(&[u8], &[u8]); 3] = [
     (b"A.r <- A.s.t & B.s", b"in B.sDA.s.t & B.s"),
 ];
 
-#[test]
-fn what_stood_there_stays_before_what_is_written(rt: HostRuntime) -> Result<(), Fail> {
-    let mut out = Vec::from_slice(rt.alloc(), b"in ")?;
+/// Whether what stood there stays before each body that is appended.
+fn are_appended(alloc: Global) -> Result<bool, CredFault> {
+    let mut out = Vec::from_slice(alloc, b"in ")?;
     for (text, all) in &APPENDED {
-        append_body(rt.alloc(), text, &mut out)?;
-        assert_eq!(rt; out.as_slice(), *all);
+        append_body(alloc, text, &mut out)?;
+        if out.as_slice() != *all {
+            return Ok(false);
+        }
     }
-    Ok(())
+    Ok(true)
 }
 
 /// Whether the credentials that the texts spell are ordered so, and their bodies too, where their heads are the same.
-fn are_ordered(alloc: Global, text: &[u8], other: &[u8], order: Ordering) -> Result<bool, Fail> {
+fn are_ordered(
+    alloc: Global,
+    text: &[u8],
+    other: &[u8],
+    order: Ordering,
+) -> Result<bool, CredFault> {
     let lower = read_credential(alloc, text)?;
     let upper = read_credential(alloc, other)?;
     let bodies = lower.head != upper.head || lower.body.compare(&upper.body) == order;
@@ -280,17 +313,16 @@ static IN_ORDER: [&[u8]; 15] = [
     b"B.a <- A",
 ];
 
-#[test]
-fn credentials_in_order(rt: HostRuntime) -> Result<(), Fail> {
+/// Whether each two of the credentials are in the order of their places.
+fn are_in_order(alloc: Global) -> Result<bool, CredFault> {
     for (i, text) in IN_ORDER.iter().enumerate() {
         for (j, other) in IN_ORDER.iter().enumerate() {
-            assert!(rt;
-                are_ordered(rt.alloc(), text, other, i.cmp(&j))?,
-                "{i} and {j}"
-            );
+            if !are_ordered(alloc, text, other, i.cmp(&j))? {
+                return Ok(false);
+            }
         }
     }
-    Ok(())
+    Ok(true)
 }
 
 /// Credentials whose bodies are of each kind.
@@ -301,47 +333,58 @@ static KINDS: [&[u8]; 4] = [
     b"A.r <- D & B.s & A.s.t",
 ];
 
-/// Whether a clone of the credential that the text spells is tied with it, and a clone of its body equal to that.
-fn is_cloned(alloc: Global, text: &[u8]) -> Result<bool, Fail> {
-    let credential = read_credential(alloc, text)?;
+/// Notes their places by their bodies.
+fn note_places(alloc: Global, places: &mut HashMap<Expr, usize>) -> Result<(), CredFault> {
+    for (place, text) in KINDS.iter().enumerate() {
+        places
+            .insert(read_credential(alloc, text)?.body, place)
+            .map_err(AllocError::from)?;
+    }
+    Ok(())
+}
+
+/// Whether a clone of the credential is tied with it, and a clone of its body equal to that.
+fn is_cloned(credential: &Credential) -> Result<bool, AllocError> {
     let again = credential.try_clone()?;
     let body = credential.body.try_clone()?;
-    Ok(again.compare(&credential) == Ordering::Equal && body == credential.body)
+    Ok(again.compare(credential).is_eq() && body == credential.body)
 }
 
-#[test]
-fn clones_are_equal(rt: HostRuntime) -> Result<(), Fail> {
-    for text in &KINDS {
-        assert!(rt; is_cloned(rt.alloc(), text)?);
-    }
-    Ok(())
-}
-
-#[test]
-fn clones_of_parts_are_equal(rt: HostRuntime) -> Result<(), Fail> {
-    let part = Part::Ent(Entity::read(b"D")?);
-    let parts = Parts::make(rt.alloc(), &[part; 3])?.ok_or("made")?;
-    let again = parts.try_clone()?;
-    assert!(rt; again == parts);
-    assert_eq!(rt; again.as_slice().len(), 3);
-    Ok(())
-}
-
-fn body_of(alloc: Global, text: &[u8]) -> Result<Expr, Fail> {
+/// Whether that place is noted for the body of the credential that the text spells, and clones are equal to it.
+fn is_noted(
+    alloc: Global,
+    places: &HashMap<Expr, usize>,
+    text: &[u8],
+    place: usize,
+) -> Result<bool, CredFault> {
     let credential = read_credential(alloc, text)?;
-    Ok(credential.body)
+    Ok(places.get(&credential.body) == Some(&place) && is_cloned(&credential)?)
+}
+
+/// Whether expressions serve as keys.
+fn are_keys(alloc: Global, places: &mut HashMap<Expr, usize>) -> Result<bool, CredFault> {
+    note_places(alloc, places)?;
+    for (place, text) in KINDS.iter().enumerate() {
+        if !is_noted(alloc, places, text, place)? {
+            return Ok(false);
+        }
+    }
+    Ok(places.len() == 4)
+}
+
+/// Whether credentials are written, ordered, and found in these.
+fn are_right(alloc: Global, places: &mut HashMap<Expr, usize>) -> Result<bool, CredFault> {
+    Ok(
+        longest_is_read(alloc, 1706)?
+            && are_appended(alloc)?
+            && are_in_order(alloc)?
+            && are_keys(alloc, places)?,
+    )
 }
 
 #[test]
-fn expressions_as_keys(rt: HostRuntime) -> Result<(), Fail> {
+fn credentials_are_written_ordered_cloned_and_found(rt: HostRuntime) -> Result<(), CredFault> {
     let mut places = HashMap::new(rt.alloc());
-    for (i, text) in KINDS.iter().enumerate() {
-        places.insert(body_of(rt.alloc(), text)?, i)?;
-    }
-    for (i, text) in KINDS.iter().enumerate() {
-        let body = body_of(rt.alloc(), text)?;
-        assert!(rt; places.get(&body).copied() == Some(i));
-    }
-    assert_eq!(rt; places.len(), 4);
+    assert!(rt; are_right(rt.alloc(), &mut places)?);
     Ok(())
 }

@@ -1,8 +1,8 @@
 ghost use Rattle.std.specs.Prelude.{◌≡◌, ◌<◌, OnOk, Contains};
 
 use monitors::{LinkMonitor, MeetMonitor};
-use names::Entity;
-use std::alloc::{AllocError, Global};
+use names::{Entity, NameFault};
+use std::alloc::AllocError;
 use std::test::Fail;
 
 /// Tells it again where memory is refused, so that a test sees that the refusal changed nothing.
@@ -81,6 +81,7 @@ static TWO_PARTS: [(u8, &[u8], bool); 4] = [
     (1, b"D", false),
 ];
 
+/// Each entity needs every part.
 static THREE_PARTS: [(u8, &[u8], bool); 6] = [
     (2, b"D", false),
     (0, b"E", false),
@@ -92,15 +93,8 @@ static THREE_PARTS: [(u8, &[u8], bool); 6] = [
 
 #[test]
 fn an_intersection_hears_its_last_part_once(rt: HostRuntime) -> Result<(), Fail> {
-    let mut monitor = MeetMonitor::make(rt.alloc(), 2);
-    assert!(rt; hears_parts(&mut monitor, 2, &TWO_PARTS)?);
-    Ok(())
-}
-
-#[test]
-fn each_entity_needs_every_part(rt: HostRuntime) -> Result<(), Fail> {
-    let mut monitor = MeetMonitor::make(rt.alloc(), 3);
-    assert!(rt; hears_parts(&mut monitor, 3, &THREE_PARTS)?);
+    assert!(rt; hears_parts(&mut MeetMonitor::make(rt.alloc(), 2), 2, &TWO_PARTS)?);
+    assert!(rt; hears_parts(&mut MeetMonitor::make(rt.alloc(), 3), 3, &THREE_PARTS)?);
     Ok(())
 }
 
@@ -209,28 +203,27 @@ fn first_incomplete(
     Ok(None)
 }
 
-/// Nine entities.
-fn nine(alloc: Global) -> Result<Vec<Entity>, Fail> {
-    let mut entities = Vec::with_capacity(alloc, 9)?;
-    for name in ["B", "C", "D", "E", "F", "G", "H", "I", "J"] {
-        entities.push(Entity::read(name.as_bytes())?)?;
+/// Nine entities, from `B` on.
+fn nine() -> Result<[Entity; 9], NameFault> {
+    let mut entities = [Entity::read(b"B")?; 9];
+    for place in 1..9usize {
+        entities[place] = Entity::read(&[b'B' + place as u8])?;
     }
     Ok(entities)
 }
 
 #[test]
 fn a_refused_telling_changes_no_linked_role(rt: HostRuntime) -> Result<(), Fail> {
-    let entities = nine(rt.alloc())?;
-    let mut monitor = LinkMonitor::new(rt.alloc());
-    assert_eq!(rt; first_unheard(&mut monitor, &entities)?, None);
+    let entities = nine()?;
+    assert!(rt; first_unheard(&mut LinkMonitor::new(rt.alloc()), &entities)?.is_none());
     Ok(())
 }
 
 #[test]
 fn a_refused_telling_changes_no_intersection(rt: HostRuntime) -> Result<(), Fail> {
-    let entities = nine(rt.alloc())?;
+    let entities = nine()?;
     let mut monitor = MeetMonitor::make(rt.alloc(), 2);
-    assert_eq!(rt; first_complete(&mut monitor, &entities)?, None);
-    assert_eq!(rt; first_incomplete(&mut monitor, &entities)?, None);
+    assert!(rt; first_complete(&mut monitor, &entities)?.is_none());
+    assert!(rt; first_incomplete(&mut monitor, &entities)?.is_none());
     Ok(())
 }

@@ -3,163 +3,155 @@ use names::{Entity, NameFault, Role, RoleName};
 use std::alloc::{AllocError, Global};
 use std::cmp::Ordering;
 
-/// The number of the text's fault as an entity, or 0.
-fn entity_fault(text: &[u8]) -> u64 {
-    match Entity::read(text) {
-        Ok(_entity) => 0,
-        Err(fault) => fault.number(),
+/// Whether the text is a name where the number is 0, and kept whole, and else has the fault of this number: as an entity
+/// and as the name of a role.
+fn reads_name(text: &[u8], number: u64) -> bool {
+    match (Entity::read(text), RoleName::read(text)) {
+        (Ok(entity), Ok(name)) => number == 0 && entity.bytes() == text && name.bytes() == text,
+        (Err(fault), Err(same)) => fault.number() == number && same == fault,
+        _ => false,
     }
 }
 
-/// The number of the text's fault as a role, or 0.
-fn role_fault(text: &[u8]) -> u64 {
-    match Role::read(text) {
-        Ok(_role) => 0,
-        Err(fault) => fault.number(),
+/// Whether the text is a role of this owner and this name, or has the fault of this number.
+fn reads_role(text: &[u8], told: &Result<(&[u8], &[u8]), u64>) -> bool {
+    match (Role::read(text), told) {
+        (Ok(role), Ok((owner, name))) => role.owner.bytes() == *owner && role.name.bytes() == *name,
+        (Err(fault), Err(number)) => fault.number() == *number,
+        _ => false,
     }
 }
 
-static NAME_FAULTS: [(&[u8], u64); 10] = [
-    (b"A", 0),
-    (b"z9_-", 0),
-    (b"Bob", 0),
-    (b"", 11),
-    (b"9", 12),
-    (b"_a", 12),
-    (b"a b", 13),
-    (b"a.b", 13),
-    (b"a\xc3\xa9", 13),
-    (b" a", 12),
+/// Whether the roles are ordered so.
+fn are_ordered(role: &[u8], other: &[u8], order: Ordering) -> bool {
+    match (Role::read(role), Role::read(other)) {
+        (Ok(role), Ok(other)) => role.compare(&other) == order,
+        _ => false,
+    }
+}
+
+/// Whether the fault has this text.
+fn is_printed(alloc: Global, fault: NameFault, text: &str) -> Result<bool, AllocError> {
+    let printed = format!(in alloc; "{fault}")?;
+    Ok(printed.as_str() == text)
+}
+
+/// What is looked at.
+enum Line {
+    /// A text as a name: 0, or the number of its fault.
+    Name(&'static [u8], u64),
+    /// A text as a role: its owner and its name, or the number of its fault.
+    Role(&'static [u8], Result<(&'static [u8], &'static [u8]), u64>),
+    /// Two roles, and their order.
+    Order(&'static [u8], &'static [u8], Ordering),
+    /// A fault, its number and its text.
+    Fault(NameFault, u64, &'static str),
+    /// A text, and what stands in it before the first dot and after it.
+    Cut(&'static [u8], &'static [u8], Option<&'static [u8]>),
+    /// A text, and what is left of it without the spaces in front, without those at the end, and without both.
+    Trimmed(&'static [u8], &'static [u8], &'static [u8], &'static [u8]),
+    /// Whether a text has nothing but spaces.
+    Blank(&'static [u8], bool),
+}
+
+use Line::{Blank, Cut, Fault, Name, Order, Trimmed};
+
+fn is_so(alloc: Global, line: &Line) -> Result<bool, AllocError> {
+    match line {
+        Name(text, number) => Ok(reads_name(text, *number)),
+        Line::Role(text, told) => Ok(reads_role(text, told)),
+        Order(role, other, order) => Ok(are_ordered(role, other, *order)),
+        Fault(fault, number, text) => {
+            Ok(fault.number() == *number && is_printed(alloc, *fault, text)?)
+        }
+        Cut(text, before, after) => Ok(cut(text, b'.') == (*before, *after)),
+        Trimmed(text, start, end, both) => {
+            Ok(trim_start(text) == *start && trim_end(text) == *end && trim(text) == *both)
+        }
+        Blank(text, blank) => Ok(is_blank(text) == *blank),
+    }
+}
+
+/// The last two have 64 bytes and 65.
+static NAMES: [Line; 12] = [
+    Name(b"A", 0),
+    Name(b"z9_-", 0),
+    Name(b"Bob", 0),
+    Name(b"", 11),
+    Name(b"9", 12),
+    Name(b"_a", 12),
+    Name(b"a b", 13),
+    Name(b"a.b", 13),
+    Name(b"a\xc3\xa9", 13),
+    Name(b" a", 12),
+    Name(
+        b"xxxxxxxxxxxxxxxxxxxxxxxxxxxxxxxxxxxxxxxxxxxxxxxxxxxxxxxxxxxxxxxx",
+        0,
+    ),
+    Name(
+        b"xxxxxxxxxxxxxxxxxxxxxxxxxxxxxxxxxxxxxxxxxxxxxxxxxxxxxxxxxxxxxxxxx",
+        14,
+    ),
+];
+
+static ROLES: [Line; 11] = [
+    Line::Role(b"A.r", Ok((b"A", b"r"))),
+    Line::Role(b"", Err(15)),
+    Line::Role(b"A", Err(15)),
+    Line::Role(b"A.r.s", Err(15)),
+    Line::Role(b"..", Err(15)),
+    Line::Role(b".9", Err(11)),
+    Line::Role(b"9.", Err(12)),
+    Line::Role(b"A.", Err(11)),
+    Order(b"A.z", b"B.a", Ordering::Less),
+    Order(b"A.r", b"A.r-", Ordering::Less),
+    Order(b"B-.r", b"B.s", Ordering::Greater),
+];
+
+static FAULTS: [Line; 5] = [
+    Fault(NameFault::Empty, 11, "empty name"),
+    Fault(NameFault::Start, 12, "name start"),
+    Fault(NameFault::Byte, 13, "name byte"),
+    Fault(NameFault::Long, 14, "name too long"),
+    Fault(NameFault::NotRole, 15, "not a role"),
+];
+
+static TEXTS: [Line; 7] = [
+    Cut(b"A.r.s", b"A", Some(b"r.s")),
+    Cut(b"A", b"A", None),
+    Trimmed(b"  a b\t ", b"a b\t ", b"  a b\t", b"a b\t"),
+    Trimmed(b"   ", b"", b"", b""),
+    Blank(b"", true),
+    Blank(b"  ", true),
+    Blank(b" \t", false),
 ];
 
 #[test]
-fn names_and_their_faults(rt: HostRuntime) {
-    for (text, number) in &NAME_FAULTS {
-        assert_eq!(rt; entity_fault(text), *number);
-    }
-}
-
-#[test]
-fn the_longest_names(rt: HostRuntime) -> Result<(), NameFault> {
-    let longest = [b'x'; 64];
-    assert!(rt; Entity::read(&longest)?.bytes() == longest.as_slice());
-    assert!(rt; RoleName::read(&longest)?.bytes() == longest.as_slice());
-    let longer = [b'x'; 65];
-    assert_eq!(rt; entity_fault(&longer), 14);
-    assert!(rt; RoleName::read(&longer) == Err(NameFault::Long));
-    Ok(())
-}
-
-static ROLE_FAULTS: [(&[u8], u64); 8] = [
-    (b"A.r", 0),
-    (b"", 15),
-    (b"A", 15),
-    (b"A.r.s", 15),
-    (b"..", 15),
-    (b".9", 11),
-    (b"9.", 12),
-    (b"A.", 11),
-];
-
-#[test]
-fn roles_and_their_faults(rt: HostRuntime) -> Result<(), NameFault> {
-    let role = Role::read(b"A.r")?;
-    assert!(rt; role.owner.bytes() == b"A".as_slice());
-    assert!(rt; role.name.bytes() == b"r".as_slice());
-    for (text, number) in &ROLE_FAULTS {
-        assert_eq!(rt; role_fault(text), *number);
-    }
-    Ok(())
-}
-
-/// Whether the names are ordered so, as entities and as role names.
-fn are_ordered(name: &[u8], other: &[u8], order: Ordering) -> Result<bool, NameFault> {
-    let entities = Entity::read(name)?.compare(&Entity::read(other)?);
-    let role_names = RoleName::read(name)?.compare(&RoleName::read(other)?);
-    Ok(entities == order && role_names == order)
-}
-
-static NAMES: [&[u8]; 6] = [b"A", b"A-", b"B", b"Ba", b"a", b"b"];
-
-#[test]
-fn orders_of_names(rt: HostRuntime) -> Result<(), NameFault> {
-    for (i, name) in NAMES.iter().enumerate() {
-        for (j, other) in NAMES.iter().enumerate() {
-            assert!(rt; are_ordered(name, other, i.cmp(&j))?, "{i} and {j}");
+fn names_roles_faults_and_texts(rt: HostRuntime) -> Result<(), AllocError> {
+    let tables: [&[Line]; 4] = [&NAMES, &ROLES, &FAULTS, &TEXTS];
+    for lines in tables {
+        for line in lines {
+            assert!(rt; is_so(rt.alloc(), line)?);
         }
     }
     Ok(())
 }
 
-static ROLES: [(&[u8], &[u8], Ordering); 3] = [
-    (b"A.z", b"B.a", Ordering::Less),
-    (b"A.r", b"A.r-", Ordering::Less),
-    (b"B-.r", b"B.s", Ordering::Greater),
-];
+static IN_ORDER: [&[u8]; 6] = [b"A", b"A-", b"B", b"Ba", b"a", b"b"];
+
+/// Whether the names are ordered so, as entities and as role names.
+fn names_are_ordered(name: &[u8], other: &[u8], order: Ordering) -> Result<bool, NameFault> {
+    let entities = Entity::read(name)?.compare(&Entity::read(other)?);
+    let role_names = RoleName::read(name)?.compare(&RoleName::read(other)?);
+    Ok(entities == order && role_names == order)
+}
 
 #[test]
-fn orders_of_roles(rt: HostRuntime) -> Result<(), NameFault> {
-    for (role, other, order) in &ROLES {
-        assert!(rt; Role::read(role)?.compare(&Role::read(other)?) == *order);
+fn orders_of_names(rt: HostRuntime) -> Result<(), NameFault> {
+    for (i, name) in IN_ORDER.iter().enumerate() {
+        for (j, other) in IN_ORDER.iter().enumerate() {
+            assert!(rt; names_are_ordered(name, other, i.cmp(&j))?);
+        }
     }
     Ok(())
-}
-
-/// Whether the fault has this number and this text.
-fn reads_as(alloc: Global, fault: NameFault, number: u64, text: &str) -> Result<bool, AllocError> {
-    let written = format!(in alloc; "{fault}")?;
-    Ok(fault.number() == number && written.as_str() == text)
-}
-
-static FAULTS: [(NameFault, u64, &str); 5] = [
-    (NameFault::Empty, 11, "empty name"),
-    (NameFault::Start, 12, "name start"),
-    (NameFault::Byte, 13, "name byte"),
-    (NameFault::Long, 14, "name too long"),
-    (NameFault::NotRole, 15, "not a role"),
-];
-
-#[test]
-fn faults_by_number_and_text(rt: HostRuntime) -> Result<(), AllocError> {
-    for (fault, number, text) in &FAULTS {
-        assert!(rt; reads_as(rt.alloc(), *fault, *number, text)?, "at {number}");
-    }
-    Ok(())
-}
-
-/// Texts, what stands in them before the first dot, and what stands after it.
-static CUTS: [(&[u8], &[u8], Option<&[u8]>); 2] = [
-    (b"A.r.s", b"A", Some(b"r.s")),
-    (b"A", b"A", None),
-];
-
-#[test]
-fn texts_are_cut_at_the_first_place(rt: HostRuntime) {
-    for (text, before, after) in &CUTS {
-        assert!(rt; cut(text, b'.') == (*before, *after));
-    }
-}
-
-/// Texts, and what is left of them without the spaces in front, without those at the end, and without both.
-static TRIMMED: [[&[u8]; 4]; 2] = [
-    [b"  a b\t ", b"a b\t ", b"  a b\t", b"a b\t"],
-    [b"   ", b"", b"", b""],
-];
-
-#[test]
-fn texts_lose_their_outer_spaces(rt: HostRuntime) {
-    for [text, start, end, both] in &TRIMMED {
-        assert!(rt; trim_start(text) == *start);
-        assert!(rt; trim_end(text) == *end);
-        assert!(rt; trim(text) == *both);
-    }
-}
-
-static BLANKS: [(&[u8], bool); 3] = [(b"", true), (b"  ", true), (b" \t", false)];
-
-#[test]
-fn texts_of_spaces_are_blank(rt: HostRuntime) {
-    for (text, blank) in &BLANKS {
-        assert_eq!(rt; is_blank(text), *blank);
-    }
 }

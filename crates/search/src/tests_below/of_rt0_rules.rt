@@ -1,197 +1,193 @@
-use credential_text::{Credential, read_credential};
+use crate::tests::credentials;
+use credential_text::{CredFault, Credential};
 use names::{Entity, Role};
 use rt0_rules::{members_plain, membership_is_exact, work_is_exact, work_plain};
-use std::alloc::{AllocGlobal, Global};
-use std::process::Abort;
-use std::test::Fail;
+use std::alloc::Global;
 
-/// Credentials, a role, and its members over them in order.
-type Members = (
-    &'static [&'static str],
-    &'static str,
-    &'static [&'static str],
-);
-
-fn role(text: &str) -> Result<Role, Fail> {
-    Ok(Role::read(text.as_bytes())?)
+/// What is asked of credentials, and what it is to come to.
+enum Told {
+    /// The members of a role, in order.
+    Members(&'static [u8], &'static [&'static [u8]]),
+    /// The work of a search for the members of `A.r`: within this limit and above it, and not within the one below.
+    Work(u64),
 }
 
-fn credentials(alloc: Global, texts: &[&str]) -> Result<Vec<Credential>, Fail> {
-    let mut all = Vec::new(alloc);
-    for text in texts {
-        all.push(read_credential(alloc, text.as_bytes())?)?;
+use Told::{Members, Work};
+
+/// Whether the entities have these names, in this order.
+fn are_named(entities: &[Entity], names: &[&[u8]]) -> bool {
+    for (entity, name) in entities.iter().zip(names) {
+        if entity.bytes() != *name {
+            return false;
+        }
     }
-    Ok(all)
+    entities.len() == names.len()
 }
 
-fn entities(alloc: Global, names: &[&str]) -> Result<Vec<Entity>, Fail> {
-    let mut all = Vec::new(alloc);
-    for name in names {
-        all.push(Entity::read(name.as_bytes())?)?;
-    }
-    Ok(all)
-}
-
-/// Whether these are the members of the role over these credentials, in this order.
 fn has_members(
     alloc: Global,
-    texts: &[&str],
-    asked: &str,
-    expected: &[&str],
-) -> Result<bool, Fail> {
-    let asked = role(asked)?;
-    let expected = entities(alloc, expected)?;
-    let all = credentials(alloc, texts)?;
-    Ok(members_plain(alloc, &all, &asked)? == expected)
+    all: &[Credential],
+    asked: &[u8],
+    names: &[&[u8]],
+) -> Result<bool, CredFault> {
+    let members = members_plain(alloc, all, &Role::read(asked)?)?;
+    Ok(are_named(&members, names))
 }
 
-fn all_have_members(rt: &(impl Abort + AllocGlobal), table: &[Members]) -> Result<(), Fail> {
-    for (texts, asked, expected) in table {
-        assert!(rt;
-            has_members(rt.alloc(), texts, asked, expected)?,
-            "members of {asked}"
-        );
+fn has_work(alloc: Global, all: &[Credential], work: u64) -> Result<bool, CredFault> {
+    let asked = Role::read(b"A.r")?;
+    let below = work_plain(alloc, all, &asked, work.saturating_sub(1))?;
+    let within = work_plain(alloc, all, &asked, work)?;
+    let above = work_plain(alloc, all, &asked, u64::MAX)?;
+    Ok(below.is_none() && within == Some(work) && above == Some(work))
+}
+
+/// Credentials, and what is told of them.
+type Line = (&'static [&'static [u8]], Told);
+
+/// Whether it comes to this over these credentials.
+fn is_so(alloc: Global, texts: &[&[u8]], told: &Told) -> Result<bool, CredFault> {
+    let all = credentials(alloc, texts)?;
+    match told {
+        Members(asked, names) => has_members(alloc, &all, asked, names),
+        Work(work) => has_work(alloc, &all, *work),
     }
-    Ok(())
 }
 
-/// Whether a search for the members of `A.r` over these credentials has this work: within this limit and above it, and
-/// not within the one below.
-fn has_work(alloc: Global, texts: &[&str], work: u64) -> Result<bool, Fail> {
-    let asked = role("A.r")?;
-    let all = credentials(alloc, texts)?;
-    let below = work_plain(alloc, &all, &asked, work.saturating_sub(1))?;
-    let within = work_plain(alloc, &all, &asked, work)?;
-    let above = work_plain(alloc, &all, &asked, u64::MAX)?;
-    Ok(below == None && within == Some(work) && above == Some(work))
+fn all_so(alloc: Global, lines: &[Line]) -> Result<bool, CredFault> {
+    for (texts, told) in lines {
+        if !is_so(alloc, texts, told)? {
+            return Ok(false);
+        }
+    }
+    Ok(true)
 }
 
-#[test]
-fn nobody_is_a_member_without_credentials(rt: HostRuntime) -> Result<(), Fail> {
-    membership_is_exact();
-    work_is_exact();
-    assert!(rt; has_members(rt.alloc(), &[], "A.r", &[])?);
-    assert!(rt; has_members(rt.alloc(), &["A.s <- D", "B.r <- E"], "A.r", &[])?);
-    Ok(())
-}
-
-static ENTITIES: [Members; 2] = [
-    (&["A.r <- D", "A.r <- A"], "A.r", &["A", "D"]),
-    (
-        &["A.r <- D", "A.r <- A", "A.r <- D", "A.r <- Da", "A.r <- B"],
-        "A.r",
-        &["A", "B", "D", "Da"],
-    ),
+const CHAIN: &[&[u8]] = &[
+    b"A.r <- B.s",
+    b"B.s <- C.t",
+    b"C.t <- D.u",
+    b"D.u <- E",
+    b"B.s <- F",
 ];
 
-#[test]
-fn entities_are_listed_in_order_and_once(rt: HostRuntime) -> Result<(), Fail> {
-    all_have_members(&rt, &ENTITIES)
-}
-
-const CHAIN: &[&str] = &[
-    "A.r <- B.s",
-    "B.s <- C.t",
-    "C.t <- D.u",
-    "D.u <- E",
-    "B.s <- F",
+const ROLES: &[&[u8]] = &[
+    b"B.s <- D",
+    b"B.s <- E",
+    b"C.t <- E",
+    b"A.two <- B.s & C.t",
+    b"A.same <- B.s & B.s",
 ];
 
-static CHAINED: [Members; 2] = [(CHAIN, "A.r", &["E", "F"]), (CHAIN, "C.t", &["E"])];
-
-#[test]
-fn inclusions_are_followed_along_a_chain(rt: HostRuntime) -> Result<(), Fail> {
-    all_have_members(&rt, &CHAINED)
-}
-
-static CIRCLES: [Members; 3] = [
-    (&["A.r <- B.s", "B.s <- A.r"], "A.r", &[]),
-    (&["A.r <- A.r"], "A.r", &[]),
-    (&["A.r <- B.s", "B.s <- A.r", "B.s <- D"], "A.r", &["D"]),
+const WITH_AN_ENTITY: &[&[u8]] = &[
+    b"B.s <- D",
+    b"B.s <- E",
+    b"A.one <- D & B.s",
+    b"A.none <- B.s & F",
 ];
 
-#[test]
-fn circular_inclusions_give_nobody(rt: HostRuntime) -> Result<(), Fail> {
-    all_have_members(&rt, &CIRCLES)
-}
+const WITH_A_LINKED_ROLE: &[&[u8]] = &[b"A.r <- A.s.t & D", b"A.s <- B", b"B.t <- D", b"B.t <- E"];
 
-/// Over a base of another name; over their own head; and passed on.
-static LINKED: [Members; 3] = [
+/// Nobody is a member without credentials.
+static NOBODY: [Line; 2] = [
+    (&[], Members(b"A.r", &[])),
+    (&[b"A.s <- D", b"B.r <- E"], Members(b"A.r", &[])),
+];
+
+/// Entities are listed in order, and once.
+static ENTITIES: [Line; 2] = [
+    (&[b"A.r <- D", b"A.r <- A"], Members(b"A.r", &[b"A", b"D"])),
     (
         &[
-            "A.r <- A.s.t",
-            "A.s <- B",
-            "B.t <- D",
-            "C.t <- E",
-            "A.t <- F",
+            b"A.r <- D",
+            b"A.r <- A",
+            b"A.r <- D",
+            b"A.r <- Da",
+            b"A.r <- B",
         ],
-        "A.r",
-        &["D"],
+        Members(b"A.r", &[b"A", b"B", b"D", b"Da"]),
+    ),
+];
+
+/// Inclusions are followed along a chain.
+static CHAINED: [Line; 2] = [
+    (CHAIN, Members(b"A.r", &[b"E", b"F"])),
+    (CHAIN, Members(b"C.t", &[b"E"])),
+];
+
+/// Inclusions in a circle give nobody.
+static CIRCLES: [Line; 3] = [
+    (&[b"A.r <- B.s", b"B.s <- A.r"], Members(b"A.r", &[])),
+    (&[b"A.r <- A.r"], Members(b"A.r", &[])),
+    (
+        &[b"A.r <- B.s", b"B.s <- A.r", b"B.s <- D"],
+        Members(b"A.r", &[b"D"]),
+    ),
+];
+
+/// A linked role asks the members of its base: over a base of another name; over its own head; and passed on.
+static LINKED: [Line; 3] = [
+    (
+        &[
+            b"A.r <- A.s.t",
+            b"A.s <- B",
+            b"B.t <- D",
+            b"C.t <- E",
+            b"A.t <- F",
+        ],
+        Members(b"A.r", &[b"D"]),
     ),
     (
-        &["A.r <- A", "A.r <- D", "A.r <- A.r.r"],
-        "A.r",
-        &["A", "D"],
+        &[b"A.r <- A", b"A.r <- D", b"A.r <- A.r.r"],
+        Members(b"A.r", &[b"A", b"D"]),
     ),
     (
-        &["A.r <- A", "A.r <- A.r.s", "A.s <- E"],
-        "A.r",
-        &["A", "E"],
+        &[b"A.r <- A", b"A.r <- A.r.s", b"A.s <- E"],
+        Members(b"A.r", &[b"A", b"E"]),
     ),
 ];
 
-#[test]
-fn a_linked_role_asks_the_members_of_its_base(rt: HostRuntime) -> Result<(), Fail> {
-    all_have_members(&rt, &LINKED)
-}
-
-const ROLES: &[&str] = &[
-    "B.s <- D",
-    "B.s <- E",
-    "C.t <- E",
-    "A.two <- B.s & C.t",
-    "A.same <- B.s & B.s",
+/// An intersection wants every part.
+static INTERSECTIONS: [Line; 5] = [
+    (ROLES, Members(b"A.two", &[b"E"])),
+    (ROLES, Members(b"A.same", &[b"D", b"E"])),
+    (WITH_AN_ENTITY, Members(b"A.one", &[b"D"])),
+    (WITH_AN_ENTITY, Members(b"A.none", &[])),
+    (WITH_A_LINKED_ROLE, Members(b"A.r", &[b"D"])),
 ];
 
-const WITH_AN_ENTITY: &[&str] = &[
-    "B.s <- D",
-    "B.s <- E",
-    "A.one <- D & B.s",
-    "A.none <- B.s & F",
-];
-
-const WITH_A_LINKED_ROLE: &[&str] = &["A.r <- A.s.t & D", "A.s <- B", "B.t <- D", "B.t <- E"];
-
-static INTERSECTIONS: [Members; 5] = [
-    (ROLES, "A.two", &["E"]),
-    (ROLES, "A.same", &["D", "E"]),
-    (WITH_AN_ENTITY, "A.one", &["D"]),
-    (WITH_AN_ENTITY, "A.none", &[]),
-    (WITH_A_LINKED_ROLE, "A.r", &["D"]),
+/// Work is one, and each ask and each member told: with no credentials; with one, once and twice; in a circle; with a role
+/// in itself; with a repeated part; with a linked role, and with one over its own head.
+static WORKS: [Line; 8] = [
+    (&[], Work(1)),
+    (&[b"A.r <- D"], Work(3)),
+    (&[b"A.r <- D", b"A.r <- D"], Work(3)),
+    (&[b"A.r <- B.s", b"B.s <- A.r"], Work(3)),
+    (&[b"A.r <- A.r", b"A.r <- D"], Work(5)),
+    (&[b"A.r <- B.s & B.s", b"B.s <- D"], Work(9)),
+    (&[b"A.s <- B", b"A.r <- A.s.t", b"B.t <- D"], Work(11)),
+    (&[b"A.r <- A", b"A.r <- D", b"A.r <- A.r.r"], Work(15)),
 ];
 
 #[test]
-fn an_intersection_wants_every_part(rt: HostRuntime) -> Result<(), Fail> {
-    all_have_members(&rt, &INTERSECTIONS)
-}
-
-/// Credentials, and the work of a search for the members of `A.r`: none; one, once and twice; a circle; a role in itself; a
-/// repeated part; a linked role, and one over its own head.
-static WORKS: [(&[&str], u64); 8] = [
-    (&[], 1),
-    (&["A.r <- D"], 3),
-    (&["A.r <- D", "A.r <- D"], 3),
-    (&["A.r <- B.s", "B.s <- A.r"], 3),
-    (&["A.r <- A.r", "A.r <- D"], 5),
-    (&["A.r <- B.s & B.s", "B.s <- D"], 9),
-    (&["A.s <- B", "A.r <- A.s.t", "B.t <- D"], 11),
-    (&["A.r <- A", "A.r <- D", "A.r <- A.r.r"], 15),
-];
-
-#[test]
-fn work_is_one_and_each_ask_and_each_member_told(rt: HostRuntime) -> Result<(), Fail> {
-    for (texts, work) in &WORKS {
-        assert!(rt; has_work(rt.alloc(), texts, *work)?, "{work}");
+fn members_and_works_over_credentials(rt: HostRuntime) -> Result<(), CredFault> {
+    let tables: [&[Line]; 7] = [
+        &NOBODY,
+        &ENTITIES,
+        &CHAINED,
+        &CIRCLES,
+        &LINKED,
+        &INTERSECTIONS,
+        &WORKS,
+    ];
+    for lines in tables {
+        assert!(rt; all_so(rt.alloc(), lines)?);
     }
     Ok(())
+}
+
+#[test]
+fn laws() {
+    membership_is_exact();
+    work_is_exact();
 }

@@ -62,7 +62,10 @@ fn read_all(d: &Diffusion<u64>) -> u64 {
     for node in 0..10 {
         sum = mix(mix(sum, d.deficit(node)), code(d.parent(node)));
     }
-    look_at(d).iter().fold(sum, |sum, count| mix(sum, *count))
+    for count in &look_at(d) {
+        sum = mix(sum, *count);
+    }
+    sum
 }
 
 // Letters to these nodes, each with its node's number as its load.
@@ -195,12 +198,7 @@ static THERE_AND_BACK: [(Deed, Counts); 17] = [
     (Signal(0), [3, 0, 0, 0]),
 ];
 
-#[test]
-fn goes_there_and_back(rt: HostRuntime) -> Result<(), Fail> {
-    assert!(rt; play(rt.alloc(), &THERE_AND_BACK)?);
-    Ok(())
-}
-
+// A node writes to itself.
 static TO_ITSELF: [(Deed, Counts); 8] = [
     (Take(0, 1), [1, 0, 0, 1]),
     (Finish(1, &[0]), [2, 1, 0, 1]),
@@ -212,12 +210,7 @@ static TO_ITSELF: [(Deed, Counts); 8] = [
     (Signal(0), [2, 0, 0, 0]),
 ];
 
-#[test]
-fn a_node_writes_to_itself(rt: HostRuntime) -> Result<(), Fail> {
-    assert!(rt; play(rt.alloc(), &TO_ITSELF)?);
-    Ok(())
-}
-
+// A node is engaged a second time.
 static ENGAGED_AGAIN: [(Deed, Counts); 20] = [
     (Take(0, 1), [1, 0, 0, 1]),
     (Finish(1, &[1, 1]), [3, 2, 0, 1]),
@@ -241,13 +234,7 @@ static ENGAGED_AGAIN: [(Deed, Counts); 20] = [
     (Signal(0), [5, 0, 0, 0]),
 ];
 
-#[test]
-fn a_node_is_engaged_a_second_time(rt: HostRuntime) -> Result<(), Fail> {
-    assert!(rt; play(rt.alloc(), &ENGAGED_AGAIN)?);
-    Ok(())
-}
-
-// Finished letters leave holes: at the end, between others, and more than half of all.
+// Letters are taken at any place. Finished letters leave holes: at the end, between others, and more than half of all.
 static AT_ANY_PLACE: [(Deed, Counts); 22] = [
     (Take(0, 1), [1, 0, 0, 1]),
     (Finish(1, &[1, 2, 3, 4, 5]), [6, 5, 0, 1]),
@@ -274,13 +261,24 @@ static AT_ANY_PLACE: [(Deed, Counts); 22] = [
 ];
 
 #[test]
-fn letters_are_taken_at_any_place(rt: HostRuntime) -> Result<(), Fail> {
-    assert!(rt; play(rt.alloc(), &AT_ANY_PLACE)?);
+fn deeds_go_as_they_are_to(rt: HostRuntime) -> Result<(), AllocError> {
+    let tables: [&[(Deed, Counts)]; 4] = [
+        &THERE_AND_BACK,
+        &TO_ITSELF,
+        &ENGAGED_AGAIN,
+        &AT_ANY_PLACE,
+    ];
+    for deeds in tables {
+        assert!(rt; play(rt.alloc(), deeds)?);
+    }
     Ok(())
 }
 
 fn text(alloc: Global, word: &str) -> Result<String, AllocError> {
-    String::from_str(alloc, word).or_else(|_| String::from_str(alloc, word))
+    match String::from_str(alloc, word) {
+        Ok(text) => Ok(text),
+        Err(_) => String::from_str(alloc, word),
+    }
 }
 
 // A letter to node 8.

@@ -1,55 +1,36 @@
 ghost use Rattle.std.specs.Prelude.{◌≡◌, ◌<◌};
 
-use credential_text::{Credential, Expr};
-use names::{Entity, Role};
+use credential_text::{Credential, read_credential};
+use names::{Entity, NameFault, Role};
 use snapshots::{Snapshot, Span, Steps};
 use std::alloc::Global;
 use std::marker::Brand;
-use std::process::Abort;
 use std::sync::ledger::{Blank, Ledger};
 use std::test::Fail;
 use vaults::{Book, Change};
 
-fn entity(name: &str) -> Result<Entity, Fail> {
-    Ok(Entity::read(name.as_bytes())?)
-}
-
-fn role(text: &str) -> Result<Role, Fail> {
-    Ok(Role::read(text.as_bytes())?)
-}
-
-fn credential(head: &str, body: &str) -> Result<Credential, Fail> {
-    Ok(Credential::make(role(head)?, Expr::Ent(entity(body)?)).ok_or("no credential")?)
-}
-
 /// What `A` holds.
-static HELD: [(&str, &str); 3] = [("A.r", "D"), ("A.r", "E"), ("A.t", "D")];
+static HELD: [&[u8]; 3] = [b"A.r <- D", b"A.r <- E", b"A.t <- D"];
 
 /// `A` comes to hold three credentials and to read the empty vault of `C`.
-fn fill(book: &mut Book, a: Entity, c: Entity) -> Result<(), Fail> {
-    for (head, body) in &HELD {
-        book.change(a, Change::Upload(credential(head, body)?))?;
+fn fill(alloc: Global, book: &mut Book) -> Result<(), Fail> {
+    let a = Entity::read(b"A")?;
+    for text in &HELD {
+        book.change(a, Change::Upload(read_credential(alloc, text)?))?;
     }
-    book.change(c, Change::Grant(a))?;
+    book.change(Entity::read(b"C")?, Change::Grant(a))?;
     Ok(())
 }
 
-/// The book of these two.
-fn book_of_two(alloc: Global) -> Result<Book, Fail> {
-    let mut book = Book::new(alloc);
-    fill(&mut book, entity("A")?, entity("C")?)?;
-    Ok(book)
-}
-
-/// Whether the role's span is this one.
-fn finds(snapshot: &Snapshot, text: &str, vault: u64, lo: u64, hi: u64) -> Result<bool, Fail> {
-    Ok(snapshot.find(&role(text)?) == Span { vault, lo, hi })
-}
-
 /// Whether each role's span is this one: role, vault, first row and last row.
-fn finds_all(snapshot: &Snapshot, rows: &[(&str, u64, u64, u64)]) -> Result<bool, Fail> {
+fn finds_all(snapshot: &Snapshot, rows: &[(&[u8], u64, u64, u64)]) -> Result<bool, NameFault> {
     for (text, vault, lo, hi) in rows {
-        if !finds(snapshot, text, *vault, *lo, *hi)? {
+        let span = Span {
+            vault: *vault,
+            lo: *lo,
+            hi: *hi,
+        };
+        if snapshot.find(&Role::read(text)?) != span {
             return Ok(false);
         }
     }
@@ -60,15 +41,15 @@ fn finds_all(snapshot: &Snapshot, rows: &[(&str, u64, u64, u64)]) -> Result<bool
 fn judges_all<L: Ledger>(
     snapshot: &Snapshot,
     steps: &mut Steps<L>,
-    rows: &[(&str, u64, u64, u64, bool)],
-) -> Result<bool, Fail> {
+    rows: &[(&[u8], u64, u64, u64, bool)],
+) -> Result<bool, NameFault> {
     for (text, vault, lo, hi, expected) in rows {
         let span = Span {
             vault: *vault,
             lo: *lo,
             hi: *hi,
         };
-        if snapshot.span_is(&role(text)?, span, steps) != *expected {
+        if snapshot.span_is(&Role::read(text)?, span, steps) != *expected {
             return Ok(false);
         }
     }
@@ -79,8 +60,8 @@ fn judges_all<L: Ledger>(
 fn judges<L: Ledger>(
     snapshot: &Snapshot,
     blank: Blank,
-    rows: &[(&str, u64, u64, u64, bool)],
-) -> Result<bool, Fail>
+    rows: &[(&[u8], u64, u64, u64, bool)],
+) -> Result<bool, NameFault>
     requires name { blank.name ≡ L.name }
     requires parts { blank.parts ≡ L.parts }
     requires some { 0 < blank.parts }
@@ -89,49 +70,46 @@ fn judges<L: Ledger>(
     judges_all(snapshot, &mut Steps::new(book, share), rows)
 }
 
-static FOUND: [(&str, u64, u64, u64); 8] = [
-    ("A.r", 0, 0, 2),
-    ("A.s", 0, 2, 2),
-    ("A.t", 0, 2, 3),
-    ("B.r", 1, 0, 0),
-    ("C.r", 1, 0, 0),
-    ("D.r", 2, 0, 0),
-    ("A.a", 0, 0, 0),
-    ("A.z", 0, 3, 3),
+static FOUND: [(&[u8], u64, u64, u64); 8] = [
+    (b"A.r", 0, 0, 2),
+    (b"A.s", 0, 2, 2),
+    (b"A.t", 0, 2, 3),
+    (b"B.r", 1, 0, 0),
+    (b"C.r", 1, 0, 0),
+    (b"D.r", 2, 0, 0),
+    (b"A.a", 0, 0, 0),
+    (b"A.z", 0, 3, 3),
 ];
 
-static JUDGED: [(&str, u64, u64, u64, bool); 4] = [
-    ("A.r", 0, 0, 2, true),
-    ("A.r", 0, 0, 1, false),
-    ("B.r", 1, 0, 0, true),
-    ("B.r", 0, 0, 0, false),
+static JUDGED: [(&[u8], u64, u64, u64, bool); 4] = [
+    (b"A.r", 0, 0, 2, true),
+    (b"A.r", 0, 0, 1, false),
+    (b"B.r", 1, 0, 0, true),
+    (b"B.r", 0, 0, 0, false),
 ];
 
-/// The spans of roles that are there and of others, as they are found and judged.
-fn find_spans(rt: &impl Abort, snapshot: &Snapshot) -> Result<(), Fail> {
-    assert!(*rt; finds_all(snapshot, &FOUND)?);
-    assert!(*rt; judges::<Brand>(snapshot, Blank::new(1), &JUDGED)?);
-    Ok(())
+/// Whether the spans of roles that are there and of others are found and judged.
+fn find_spans(snapshot: &Snapshot) -> Result<bool, NameFault> {
+    Ok(finds_all(snapshot, &FOUND)? && judges::<Brand>(snapshot, Blank::new(1), &JUDGED)?)
 }
 
-#[test]
-fn spans_of_roles(rt: HostRuntime) -> Result<(), Fail> {
-    let mut book = book_of_two(rt.alloc())?;
-    let snapshot = Snapshot::take(rt.alloc(), &mut book, entity("A")?)?;
-    find_spans(&rt, &snapshot)
+/// The same in what `A` sees.
+fn sees_spans(alloc: Global, book: &mut Book) -> Result<bool, Fail> {
+    let snapshot = Snapshot::take(alloc, book, Entity::read(b"A")?)?;
+    Ok(find_spans(&snapshot)?)
 }
 
-static FOUND_BY_C: [(&str, u64, u64, u64); 3] = [
-    ("A.r", 0, 0, 0),
-    ("C.r", 0, 0, 0),
-    ("D.r", 1, 0, 0),
+static FOUND_BY_C: [(&[u8], u64, u64, u64); 3] = [
+    (b"A.r", 0, 0, 0),
+    (b"C.r", 0, 0, 0),
+    (b"D.r", 1, 0, 0),
 ];
 
-/// What C sees: its own vault, which is empty.
-fn is_empty_for(rt: &impl Abort, snapshot: &Snapshot, c: Entity) -> Result<(), Fail> {
-    assert!(*rt; snapshot.asker() == c);
-    assert!(*rt; finds_all(snapshot, &FOUND_BY_C)?);
-    Ok(())
+/// Whether `C` sees its own vault alone, which is empty.
+fn sees_nothing(alloc: Global, book: &mut Book) -> Result<bool, Fail> {
+    let c = Entity::read(b"C")?;
+    let snapshot = Snapshot::take(alloc, book, c)?;
+    Ok(snapshot.asker() == c && finds_all(&snapshot, &FOUND_BY_C)?)
 }
 
 /// Whether the snapshot has both rows of the role, the second of which is this credential.
@@ -141,22 +119,27 @@ fn has_both(snapshot: &Snapshot, role: Role, second: &Credential) -> bool {
 }
 
 /// Whether `A` sees what it held when it took the snapshot, before a withdrawal.
-fn stays(book: &mut Book, snapshot: &Snapshot) -> Result<bool, Fail> {
-    book.change(entity("A")?, Change::Withdraw(credential("A.r", "E")?))?;
-    Ok(has_both(snapshot, role("A.r")?, &credential("A.r", "E")?))
+fn stays(alloc: Global, book: &mut Book, snapshot: &Snapshot) -> Result<bool, Fail> {
+    let a = Entity::read(b"A")?;
+    book.change(a, Change::Withdraw(read_credential(alloc, b"A.r <- E")?))?;
+    let role = Role::read(b"A.r")?;
+    Ok(has_both(snapshot, role, &read_credential(alloc, b"A.r <- E")?))
 }
 
-/// Two snapshots, and a withdrawal behind the second.
-fn withdraw(rt: &impl Abort, alloc: Global, book: &mut Book) -> Result<(), Fail> {
-    let c = entity("C")?;
-    is_empty_for(rt, &Snapshot::take(alloc, book, c)?, c)?;
-    let snapshot = Snapshot::take(alloc, book, entity("A")?)?;
-    assert!(*rt; stays(book, &snapshot)?);
-    Ok(())
+fn sees_what_was(alloc: Global, book: &mut Book) -> Result<bool, Fail> {
+    let snapshot = Snapshot::take(alloc, book, Entity::read(b"A")?)?;
+    stays(alloc, book, &snapshot)
+}
+
+/// Whether snapshots of the book of these two are right.
+fn all_is_seen(alloc: Global, book: &mut Book) -> Result<bool, Fail> {
+    fill(alloc, book)?;
+    Ok(sees_spans(alloc, book)? && sees_nothing(alloc, book)? && sees_what_was(alloc, book)?)
 }
 
 #[test]
-fn a_snapshot_stays(rt: HostRuntime) -> Result<(), Fail> {
-    let mut book = book_of_two(rt.alloc())?;
-    withdraw(&rt, rt.alloc(), &mut book)
+fn snapshots_have_their_spans_and_stay(rt: HostRuntime) -> Result<(), Fail> {
+    let mut book = Book::new(rt.alloc());
+    assert!(rt; all_is_seen(rt.alloc(), &mut book)?);
+    Ok(())
 }
