@@ -1,14 +1,16 @@
 -- Lemmas on the lines of a roster.
 use Rattle.std.proofs.Common.{◌≡◌, ℕ, ◌<◌, ◌≤◌, Bool, List, [], ◌∷◌, ◌++◌, length, true, false, arith, refl, sym, ap, ◌∙◌, subst, append_assoc}
-use Rattle.std.proofs.Common.{Ok}
-use Rattle.std.specs.Prelude.{codes, ◌||◌}
+use Rattle.std.proofs.Common.{Result, Ok, Err}
+use Rattle.std.specs.Prelude.{codes, ◌||◌, is_ok, if◌then◌else◌}
 use Rattle.std.specs.List.{IsDistinct, list_any}
+use Rattle.std.specs.Result.{result_or}
 use Rattle.std.proofs.lemmas.Cmp.{nat_list_eq_equiv}
 use Rattle.std.proofs.lemmas.List.{append-nil, length-append, map-append}
 use Rattle.std.proofs.lemmas.List.Elements.{All-from_recursion, All-contains, Contains-append_right}
 use Rattle.std.proofs.lemmas.Map.Keys.{IsDistinct-head, IsDistinct-tail, IsDistinct-push}
 use Rattle.names.specs.Name.{is_same}
 use Rattle.quotas.specs.Quota.{Quota}
+use Rattle.service.specs.declared.faults.ScriptFault.TheVariants.{Memory}
 use Rattle.service.specs.Line.{Line, text, too_long, not_ascii}
 use Rattle.service.specs.Words.{words}
 use Rattle.service.specs.Roster.{Row, IsRow, HasRows, HasRoster, HasNoRoster, IsRoster, AddsRow, names_of}
@@ -137,7 +139,7 @@ IsDistinct-row rows row distinct new =
     rw (map-append (λ (r : Row). r.name) rows (row ∷ [])) (IsDistinct-push nat_list_eq_equiv (names_of rows) row.name distinct (list_any-names row.name rows ∙ new))
 
 -- so a roster may have one row more
-pub AddsRow-row : {pushed : Row} {name : List ℕ} (rows new : List Row) (line : List ℕ) (row : Row) → IsRow line row → new ≡ rows ++ pushed ∷ [] → pushed ≡ row → length rows < 1000 →
+AddsRow-row : {pushed : Row} {name : List ℕ} (rows new : List Row) (line : List ℕ) (row : Row) → IsRow line row → new ≡ rows ++ pushed ∷ [] → pushed ≡ row → length rows < 1000 →
     list_any (λ other. is_same name other.name) rows ≡ false → name ≡ row.name → AddsRow rows line (Ok tt) new
 AddsRow-row rows new line row is pushed same few other named =
     let are = pushed ∙ ap (λ (r : Row). rows ++ r ∷ []) same in
@@ -152,3 +154,10 @@ AddsRow-row rows new line row is pushed same few other named =
         most = omega (arith, longer, few);
       }),
     )
+
+-- and has it there, unless memory lacked for it
+pub AddsRow-pushed : {E : Type 0} {pushed : Row} {name : List ℕ} (tried : Result (Unit {0}) E) (rows new : List Row) (line : List ℕ) (row : Row) → IsRow line row →
+    new ≡ (if is_ok tried then rows ++ pushed ∷ [] else rows) → pushed ≡ row → length rows < 1000 → list_any (λ other. is_same name other.name) rows ≡ false → name ≡ row.name →
+    AddsRow rows line (result_or tried (Err Memory)) new
+AddsRow-pushed (Ok _) rows new line row is are same few other named = AddsRow-row rows new line row is are same few other named
+AddsRow-pushed (Err _) rows new line row is are same few other named = tt

@@ -78,8 +78,7 @@ impl Read for Says<'_> {
     fn read(&mut self, buf: &mut [u8]) -> io::Result<usize> {
         self.arrivals.go_on()?;
         let read = self.stream.read(buf);
-        self.arrivals.go_on()?;
-        read
+        self.arrivals.go_on().and(read)
     }
 }
 
@@ -149,10 +148,8 @@ fn accept_all<R: Wait + Clock, S: OpenListener>(
         if accept == Some(count) {
             return Ok(count);
         }
-        let stream = next_connection(rt, listener)?;
-        let Ok(()) = queue.send(rt, stream) else {
-            return Err(ServeFault::Memory);
-        };
+        let sent = queue.send(rt, next_connection(rt, listener)?);
+        sent.or(Err(ServeFault::Memory))?;
         count = count.saturating_add(1);
     }
     unreachable!()

@@ -74,14 +74,12 @@ impl<R: Read + Drop> LineReader<R> {
             inner: reader,
             left: MOST_READS,
         };
-        match BufReader::new(alloc, limited) {
-            Ok(ahead) => Ok(LineReader {
-                bytes: ahead.bytes(),
-                line,
-                stage: Stage::Open,
-            }),
-            Err(_) => Err(AllocError),
-        }
+        let ahead = BufReader::new(alloc, limited).or(Err(AllocError))?;
+        Ok(LineReader {
+            bytes: ahead.bytes(),
+            line,
+            stage: Stage::Open,
+        })
     }
 
     /// The next line, lent from the room that `make` took; this takes no memory. The end and a fault stay:

@@ -140,10 +140,8 @@ fn add_row(rows: &mut Vec<Row>, text: &[u8]) -> Result<(), ScriptFault>
         return Err(ScriptFault::Roster);
     }
     let word = Vec::from_slice(*rows.allocator(), word)?;
-    match rows.push(Row { name, word, limits }) {
-        Ok(()) => Ok(()),
-        Err(_unplaced) => Err(ScriptFault::Memory),
-    }
+    let row = Row { name, word, limits };
+    rows.push(row).or(Err(ScriptFault::Memory))
 }
 
 /// Whether a tenant has this name.

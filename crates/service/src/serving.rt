@@ -123,10 +123,8 @@ fn answer_beside_workers<L: Ledger + Send + Sync, R: Threads + Wait + Clock + Sy
             };
             let answered = answer_connections(rt, alloc, desk, roster, listener, options);
             desk.stop(rt);
-            match worked_well(working.join(rt)) {
-                Err(fault) if answered.is_ok() => Err(fault),
-                _ => answered,
-            }
+            let worked = worked_well(working.join(rt));
+            worked.and(Ok(answered?))
         },
     )
 }
