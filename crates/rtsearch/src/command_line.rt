@@ -1,6 +1,6 @@
 ghost use Rattle.std.specs.Prelude.{◌≡◌, ◌≤◌, ℕ, List, [], ◌∷◌, codes, map, true, false, IfOk, IfErr, OnOk};
 ghost use Rattle.clap.specs.Words.{app_of, kind_of, found_of, one_text, rule_of, subcommand_rows_of};
-ghost use Rattle.rtsearch.specs.CommandLine.{AsksForScript, IsCommandLine, IsFaultOf, program, serve_command, threads_command, number_rule};
+ghost use Rattle.rtsearch.specs.CommandLine.{AsksForScript, IsCommandLine, IsFaultOf, program, serve_command, threads_command, number_rule, usually};
 ghost use Rattle.rtsearch.specs.CommandLine.{entered, is_serve, port_test, threads_test, accept_test, idle_test};
 ghost use Rattle.rtsearch.specs.CommandLine.{HasValue, MayHaveValue, HasOptions, IsValue, IsGiven, AreThreads, Asks};
 
@@ -72,9 +72,23 @@ fn threads_line<'a>(alloc: Global) -> Result<Command<'a>, AllocError>
     let sessions = "How many connections are answered at once";
     Command::new(alloc, "serve")
         .about("Reads a roster on standard input, and serves its tenants on 127.0.0.1")
-        .arg(number_option(alloc, "port", port, value_parser!(u16)).default_value("0"))?
-        .arg(number_option(alloc, "workers", workers, threads).default_value("4"))?
-        .arg(number_option(alloc, "sessions", sessions, threads).default_value("8"))
+        .arg(usual_option(alloc, "port", port, value_parser!(u16), "0"))?
+        .arg(usual_option(alloc, "workers", workers, threads, "4"))?
+        .arg(usual_option(alloc, "sessions", sessions, threads, "8"))
+}
+
+/// A number's option that has a usual value.
+fn usual_option<'a>(
+    alloc: Global,
+    name: &'a str,
+    help: &'a str,
+    test: ValueParser<'a>,
+    usual: &'a str,
+) -> Arg<'a>
+    ensures rule { rule_of result ≡ usually usual.entry.now (number_rule name.entry.now test.entry) }
+    ensures local { result.global ≡ false }
+{
+    number_option(alloc, name, help, test).default_value(usual)
 }
 
 /// An option of this name, whose value is a number that passes this test.
