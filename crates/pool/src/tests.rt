@@ -1,13 +1,8 @@
 //! The numbers and the texts of faults.
 use crate::DeskFault;
+use crate::tests_below::is_text;
 use hall::Fault;
-use std::alloc::{AllocError, Global};
-
-/// Whether the fault has this number and this text.
-fn reads_as(alloc: Global, fault: DeskFault, number: u64, text: &str) -> Result<bool, AllocError> {
-    let written = format!(in alloc; "{fault}")?;
-    Ok(fault.number() == number && written.as_str() == text)
-}
+use std::alloc::AllocError;
 
 /// Faults, with their numbers and texts.
 static FAULTS: [(DeskFault, u64, &str); 5] = [
@@ -21,7 +16,7 @@ static FAULTS: [(DeskFault, u64, &str); 5] = [
 #[test]
 fn numbers_and_texts(rt: HostRuntime) -> Result<(), AllocError> {
     for (fault, number, text) in &FAULTS {
-        assert!(rt; reads_as(rt.alloc(), *fault, *number, text)?, "at {number}");
+        assert!(rt; fault.number() == *number && is_text(rt.alloc(), fault, text)?);
     }
     Ok(())
 }

@@ -9,32 +9,35 @@ mod public_reading;
 mod runs;
 mod worlds;
 
+use super::is_text;
 use hall::{
-    Fault, Names, answers_are_true, refusals_come_first, runs_are_allowed, scripts_are_exact,
+    Fault, Hall, Names, answers_are_true, refusals_come_first, runs_are_allowed, scripts_are_exact,
     scripts_are_isolated, two_worlds,
 };
 use names::Entity;
-use quotas::QuotaFault;
-use std::alloc::Global;
-use std::test::Fail;
+use quotas::{Limits, QuotaFault};
+use std::alloc::{AllocError, Global};
 use vaults::VaultFault;
 
-fn entity(name: &str) -> Result<Entity, Fail> {
-    Ok(Entity::read(name.as_bytes())?)
+/// The entity of this name; where it is no name, nobody is let in under it.
+fn entity(name: &str) -> Result<Entity, Fault> {
+    Entity::read(name.as_bytes()).or(Err(Fault::NoTenant))
 }
 
-/// The names of two entities; want of memory is a fault of the hall.
-fn pair(alloc: Global, first: Entity, second: Entity) -> Result<Names, Fault> {
-    let mut entities = Vec::with_capacity(alloc, 1)?;
-    entities.push(first)?;
-    entities.push(second)?;
-    Ok(Names::new(entities))
+/// The four tenants.
+fn four() -> Result<[Entity; 4], Fault> {
+    Ok([entity("A")?, entity("B")?, entity("C")?, entity("D")?])
 }
 
-/// Whether the fault has this number and this text.
-fn reads_as(alloc: Global, fault: Fault, number: u64, text: &str) -> Result<bool, Fail> {
-    let written = format!(in alloc; "{fault}")?;
-    Ok(fault.number() == number && written.as_str() == text)
+/// The hall of tenants A, with these limits, B, C and D, who have done nothing.
+fn four_tenants(alloc: Global, limits: Limits) -> Result<Hall, Fault> {
+    let [a, b, c, d] = four()?;
+    if b == a || c == a || d == a || c == b || d == b || d == c {
+        return Err(Fault::NoTenant);
+    }
+    let usual = Limits::usual();
+    let roster = Vec::from_slice(alloc, &[(a, limits), (b, usual), (c, usual), (d, usual)])?;
+    Hall::make(alloc, roster)
 }
 
 static FAULTS: [(Fault, u64, &str); 16] = [
@@ -56,14 +59,6 @@ static FAULTS: [(Fault, u64, &str); 16] = [
     (Fault::Memory, 90, "memory"),
 ];
 
-#[test]
-fn numbers_and_texts(rt: HostRuntime) -> Result<(), Fail> {
-    for (fault, number, text) in &FAULTS {
-        assert!(rt; reads_as(rt.alloc(), *fault, *number, text)?, "at {number}");
-    }
-    Ok(())
-}
-
 static VAULT_FAULTS: [(VaultFault, u64); 7] = [
     (VaultFault::NotIssuer, 31),
     (VaultFault::AlreadyHeld, 32),
@@ -82,21 +77,31 @@ static QUOTA_FAULTS: [(QuotaFault, u64); 5] = [
     (QuotaFault::Opens, 45),
 ];
 
+/// Numbers and texts, and the numbers of the lower layers' faults as the hall's.
 #[test]
-fn faults_of_the_lower_layers(rt: HostRuntime) {
+fn faults(rt: HostRuntime) -> Result<(), AllocError> {
+    for (fault, number, text) in &FAULTS {
+        assert!(rt; fault.number() == *number && is_text(rt.alloc(), fault, text)?);
+    }
     for (fault, number) in &VAULT_FAULTS {
-        assert_eq!(rt; Fault::from(*fault).number(), *number);
+        assert!(rt; Fault::from(*fault).number() == *number);
     }
     for (fault, number) in &QUOTA_FAULTS {
-        assert_eq!(rt; Fault::from(*fault).number(), *number);
+        assert!(rt; Fault::from(*fault).number() == *number);
     }
+    Ok(())
+}
+
+/// Whether a list of these names has them in this order.
+fn lists_as_given(alloc: Global, given: &[Entity]) -> Result<bool, AllocError> {
+    let names = Names::new(Vec::from_slice(alloc, given)?);
+    Ok(names.as_slice() == given)
 }
 
 #[test]
-fn lists_as_they_were_given(rt: HostRuntime) -> Result<(), Fail> {
-    let (first, second) = (entity("B")?, entity("A")?);
-    let names = pair(rt.alloc(), first, second)?;
-    assert!(rt; names.as_slice() == [first, second].as_slice());
+fn lists_as_they_were_given(rt: HostRuntime) -> Result<(), Fault> {
+    let [a, b, c, d] = four()?;
+    assert!(rt; lists_as_given(rt.alloc(), &[b, a, d, c])?);
     Ok(())
 }
 

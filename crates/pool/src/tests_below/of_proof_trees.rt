@@ -1,102 +1,151 @@
-use credential_text::{Credential, Expr, read_credential};
+use credential_text::{CredFault, Credential, Expr, read_credential};
 use names::{Entity, Role};
 use proof_trees::{Premises, Proof, Rule, Step, check_proof, write_proof};
 use std::alloc::{AllocError, Global};
-use std::test::Fail;
 
-/// Who a step is about, the body of `A.r <- TEXT` that it claims, and the steps that it stands on.
+/// Who a step is about, a credential whose body it claims, and the steps that it stands on.
 type Row = (&'static [u8], &'static [u8], &'static [usize]);
 
-pub(super) fn credentials(alloc: Global, texts: &[&[u8]]) -> Result<Vec<Credential>, Fail> {
-    let mut credentials = Vec::new(alloc);
+fn add_credentials(
+    alloc: Global,
+    texts: &[&[u8]],
+    credentials: &mut Vec<Credential>,
+) -> Result<(), CredFault> {
     for text in texts {
-        credentials.push(read_credential(alloc, text)?)?;
+        let credential = read_credential(alloc, text)?;
+        credentials.push(credential).or(Err(CredFault::Memory))?;
     }
-    Ok(credentials)
+    Ok(())
 }
 
-/// The body of `A.r <- TEXT`.
-fn expr(alloc: Global, text: &[u8]) -> Result<Expr, Fail> {
-    let mut spelled = Vec::from_slice(alloc, b"A.r <- ")?;
-    spelled.extend_from_slice(text)?;
-    let Credential { head, body } = read_credential(alloc, &spelled)?;
-    let _head = head;
-    Ok(body)
+/// Whether this is a proof by these credentials that the entity is in A.r.
+pub(super) fn is_proof(
+    alloc: Global,
+    proof: &Proof,
+    who: &Entity,
+    texts: &[&[u8]],
+) -> Result<bool, CredFault> {
+    let role = Role::read(b"A.r")?;
+    let mut credentials = Vec::new(alloc);
+    add_credentials(alloc, texts, &mut credentials)?;
+    Ok(check_proof(&credentials, &role, who, proof))
 }
 
-fn rule(alloc: Global, claim: &Expr, steps: &[usize]) -> Result<Rule, Fail> {
+/// The rule of a claim that stands on these steps, which are eight at most.
+fn rule(alloc: Global, claim: &Expr, steps: &[usize]) -> Option<Rule> {
     match (claim, steps) {
-        (_, []) => Ok(Rule::Leaf),
-        (_, [step]) => Ok(Rule::Cred(*step)),
-        (Expr::Link(..), [base, step]) => Ok(Rule::Link(*base, *step)),
-        _ => {
-            let premises = Premises::make(alloc, steps).ok_or("two premises")?;
-            Ok(Rule::Parts(premises))
-        }
+        (_, []) => Some(Rule::Leaf),
+        (_, [step]) => Some(Rule::Cred(*step)),
+        (Expr::Link(..), [base, step]) => Some(Rule::Link(*base, *step)),
+        _ => Some(Rule::Parts(Premises::make(alloc, steps)?)),
     }
 }
 
-fn step(alloc: Global, (who, claim, steps): &Row) -> Result<Step, Fail> {
+fn step(alloc: Global, (who, text, steps): &Row) -> Result<Step, CredFault> {
     let who = Entity::read(who)?;
-    let claim = expr(alloc, claim)?;
-    let rule = rule(alloc, &claim, steps)?;
-    Ok(Step { who, claim, rule })
+    let Credential { head, body } = read_credential(alloc, text)?;
+    let _head = head;
+    match rule(alloc, &body, steps) {
+        Some(rule) => Ok(Step {
+            who,
+            claim: body,
+            rule,
+        }),
+        None => Err(CredFault::Parts),
+    }
 }
 
-fn proof(alloc: Global, rows: &[Row]) -> Result<Proof, Fail> {
-    let mut proof = Proof::new(alloc);
+fn add_steps(alloc: Global, rows: &[Row], proof: &mut Proof) -> Result<(), CredFault> {
     for row in rows {
         proof.push(step(alloc, row)?)?;
     }
-    Ok(proof)
+    Ok(())
 }
 
 /// Whether these steps prove by these credentials that D is in A.r.
-fn proves(alloc: Global, rows: &[Row], texts: &[&[u8]]) -> Result<bool, Fail> {
-    let role = Role::read(b"A.r")?;
+fn proves(alloc: Global, rows: &[Row], texts: &[&[u8]]) -> Result<bool, CredFault> {
     let who = Entity::read(b"D")?;
-    let credentials = credentials(alloc, texts)?;
-    let proof = proof(alloc, rows)?;
-    Ok(check_proof(&credentials, &role, &who, &proof))
+    let mut proof = Proof::new(alloc);
+    add_steps(alloc, rows, &mut proof)?;
+    is_proof(alloc, &proof, &who, texts)
 }
 
-/// What is written behind what stood there. Writes it again where memory is refused, so that a test sees that the refusal left
-/// that.
-pub(super) fn text_of(alloc: Global, before: &[u8], proof: &Proof) -> Result<Vec<u8>, AllocError> {
-    let mut text = Vec::from_slice(alloc, before)?;
-    match write_proof(proof, &mut text) {
-        Ok(()) => {}
-        Err(_) => write_proof(proof, &mut text)?,
+/// Writes it again where memory is refused, so that a test sees that the refusal left what stood there.
+fn write(proof: &Proof, text: &mut Vec<u8>) -> Result<(), AllocError> {
+    match write_proof(proof, text) {
+        Ok(()) => Ok(()),
+        Err(_) => write_proof(proof, text),
     }
-    Ok(text)
+}
+
+/// Whether it is written as these lines, behind what stood there.
+pub(super) fn is_written(
+    alloc: Global,
+    before: &[u8],
+    proof: &Proof,
+    lines: &[u8],
+) -> Result<bool, AllocError> {
+    let mut text = Vec::from_slice(alloc, before)?;
+    write(proof, &mut text)?;
+    Ok(text.as_slice() == lines)
 }
 
 /// Whether these steps are written as these lines, behind what stood there.
-fn reads_as(alloc: Global, rows: &[Row], lines: &[u8]) -> Result<bool, Fail> {
-    let proof = proof(alloc, rows)?;
-    let text = text_of(alloc, b"a proof:\n", &proof)?;
-    Ok(text.as_slice() == lines)
+fn reads_as(alloc: Global, rows: &[Row], lines: &[u8]) -> Result<bool, CredFault> {
+    let mut proof = Proof::new(alloc);
+    add_steps(alloc, rows, &mut proof)?;
+    Ok(is_written(alloc, b"a proof:\n", &proof, lines)?)
 }
 
 /// That D is in A.r by A.r <- A.s.t, A.s <- B and B.t <- D.
 static TWO_VAULTS: [Row; 6] = [
-    (b"B", b"B", &[]),
-    (b"B", b"A.s", &[0]),
-    (b"D", b"D", &[]),
-    (b"D", b"B.t", &[2]),
-    (b"D", b"A.s.t", &[1, 3]),
-    (b"D", b"A.r", &[4]),
+    (b"B", b"A.r <- B", &[]),
+    (b"B", b"A.r <- A.s", &[0]),
+    (b"D", b"A.r <- D", &[]),
+    (b"D", b"A.r <- B.t", &[2]),
+    (b"D", b"A.r <- A.s.t", &[1, 3]),
+    (b"D", b"A.r <- A.r", &[4]),
 ];
 
 /// The same with another rule for the second step.
 static CITES_A_LATER_STEP: [Row; 6] = [
-    (b"B", b"B", &[]),
-    (b"B", b"A.s", &[5]),
-    (b"D", b"D", &[]),
-    (b"D", b"B.t", &[2]),
-    (b"D", b"A.s.t", &[1, 3]),
-    (b"D", b"A.r", &[4]),
+    (b"B", b"A.r <- B", &[]),
+    (b"B", b"A.r <- A.s", &[5]),
+    (b"D", b"A.r <- D", &[]),
+    (b"D", b"A.r <- B.t", &[2]),
+    (b"D", b"A.r <- A.s.t", &[1, 3]),
+    (b"D", b"A.r <- A.r", &[4]),
 ];
+
+static INTERSECTION: [Row; 4] = [
+    (b"D", b"A.r <- D", &[]),
+    (b"D", b"A.r <- B.s", &[0]),
+    (b"D", b"A.r <- B.s & D", &[1, 0]),
+    (b"D", b"A.r <- A.r", &[2]),
+];
+
+static OVER_ITS_OWN_HEAD: [Row; 6] = [
+    (b"A", b"A.r <- A", &[]),
+    (b"A", b"A.r <- A.r", &[0]),
+    (b"D", b"A.r <- D", &[]),
+    (b"D", b"A.r <- A.r", &[2]),
+    (b"D", b"A.r <- A.r.r", &[1, 3]),
+    (b"D", b"A.r <- A.r", &[4]),
+];
+
+static TWO_VAULTS_LINES: &[u8] = b"a proof:\n\
+    1 B in B by itself\n\
+    2 B in A.s by A.s <- B from 1\n\
+    3 D in D by itself\n\
+    4 D in B.t by B.t <- D from 3\n\
+    5 D in A.s.t by link from 2 4\n\
+    6 D in A.r by A.r <- A.s.t from 5\n";
+
+static INTERSECTION_LINES: &[u8] = b"a proof:\n\
+    1 D in D by itself\n\
+    2 D in B.s by B.s <- D from 1\n\
+    3 D in B.s & D by parts from 2 1\n\
+    4 D in A.r by A.r <- B.s & D from 3\n";
 
 /// Credentials, and whether the proof over two vaults is one by them.
 static TWO_VAULTS_BY: [(&[&[u8]], bool); 3] = [
@@ -105,63 +154,28 @@ static TWO_VAULTS_BY: [(&[&[u8]], bool); 3] = [
     (&[b"A.r <- A.s.t", b"A.s <- B"], false),
 ];
 
+static ALL_OF_TWO_VAULTS: [&[u8]; 3] = [b"A.r <- A.s.t", b"A.s <- B", b"B.t <- D"];
+
 #[test]
-fn linked_role_over_two_vaults(rt: HostRuntime) -> Result<(), Fail> {
-    let alloc = rt.alloc();
-    for (row, (texts, is_proof)) in TWO_VAULTS_BY.iter().enumerate() {
-        assert!(rt;
-            proves(alloc, &TWO_VAULTS, texts)? == *is_proof,
-            "row {row}"
-        );
+fn linked_role_over_two_vaults(rt: HostRuntime) -> Result<(), CredFault> {
+    for (texts, is_proof) in &TWO_VAULTS_BY {
+        assert!(rt; proves(rt.alloc(), &TWO_VAULTS, texts)? == *is_proof);
     }
-    let all: [&[u8]; 3] = [b"A.r <- A.s.t", b"A.s <- B", b"B.t <- D"];
-    assert!(rt; !proves(alloc, &CITES_A_LATER_STEP, &all)?);
-    assert!(rt; !proves(alloc, &[], &all)?);
-    let lines = b"a proof:\n\
-                  1 B in B by itself\n\
-                  2 B in A.s by A.s <- B from 1\n\
-                  3 D in D by itself\n\
-                  4 D in B.t by B.t <- D from 3\n\
-                  5 D in A.s.t by link from 2 4\n\
-                  6 D in A.r by A.r <- A.s.t from 5\n";
-    assert!(rt; reads_as(alloc, &TWO_VAULTS, lines)?);
+    assert!(rt; !proves(rt.alloc(), &CITES_A_LATER_STEP, &ALL_OF_TWO_VAULTS)?);
+    assert!(rt; !proves(rt.alloc(), &[], &ALL_OF_TWO_VAULTS)?);
+    assert!(rt; reads_as(rt.alloc(), &TWO_VAULTS, TWO_VAULTS_LINES)?);
     Ok(())
 }
 
-static INTERSECTION: [Row; 4] = [
-    (b"D", b"D", &[]),
-    (b"D", b"B.s", &[0]),
-    (b"D", b"B.s & D", &[1, 0]),
-    (b"D", b"A.r", &[2]),
-];
+static BY_INTERSECTION: [&[u8]; 2] = [b"A.r <- B.s & D", b"B.s <- D"];
+
+static BY_ITS_OWN_HEAD: [&[u8]; 3] = [b"A.r <- A", b"A.r <- D", b"A.r <- A.r.r"];
 
 #[test]
-fn intersection(rt: HostRuntime) -> Result<(), Fail> {
-    let alloc = rt.alloc();
-    assert!(rt; proves(alloc, &INTERSECTION, &[b"A.r <- B.s & D", b"B.s <- D"])?);
-    let lines = b"a proof:\n\
-                  1 D in D by itself\n\
-                  2 D in B.s by B.s <- D from 1\n\
-                  3 D in B.s & D by parts from 2 1\n\
-                  4 D in A.r by A.r <- B.s & D from 3\n";
-    assert!(rt; reads_as(alloc, &INTERSECTION, lines)?);
-    Ok(())
-}
-
-static OVER_ITS_OWN_HEAD: [Row; 6] = [
-    (b"A", b"A", &[]),
-    (b"A", b"A.r", &[0]),
-    (b"D", b"D", &[]),
-    (b"D", b"A.r", &[2]),
-    (b"D", b"A.r.r", &[1, 3]),
-    (b"D", b"A.r", &[4]),
-];
-
-#[test]
-fn linked_role_over_its_own_head(rt: HostRuntime) -> Result<(), Fail> {
-    let alloc = rt.alloc();
-    let all: [&[u8]; 3] = [b"A.r <- A", b"A.r <- D", b"A.r <- A.r.r"];
-    assert!(rt; proves(alloc, &OVER_ITS_OWN_HEAD, &all)?);
-    assert!(rt; !proves(alloc, &OVER_ITS_OWN_HEAD, &all[1..])?);
+fn intersection_and_a_role_over_its_own_head(rt: HostRuntime) -> Result<(), CredFault> {
+    assert!(rt; proves(rt.alloc(), &INTERSECTION, &BY_INTERSECTION)?);
+    assert!(rt; reads_as(rt.alloc(), &INTERSECTION, INTERSECTION_LINES)?);
+    assert!(rt; proves(rt.alloc(), &OVER_ITS_OWN_HEAD, &BY_ITS_OWN_HEAD)?);
+    assert!(rt; !proves(rt.alloc(), &OVER_ITS_OWN_HEAD, &BY_ITS_OWN_HEAD[1..])?);
     Ok(())
 }

@@ -1,23 +1,10 @@
+use super::is_text;
 use quotas::{Limits, QuotaFault, Used};
-use std::alloc::{AllocError, Global};
-use std::test::Fail;
+use std::alloc::AllocError;
 
-fn limits() -> Option<Limits> {
-    Limits::make(2, 1, 3, 5, 4, 9)
-}
-
-fn used(creds: u64, grants: u64, searches: u64, changes: u64, opens: u64) -> Used {
-    Used {
-        creds,
-        grants,
-        searches,
-        changes,
-        opens,
-    }
-}
-
-/// Six limits, and whether they are in their ranges.
-static ENDS: [([u64; 6], bool); 14] = [
+/// Six numbers, and whether they are limits in their ranges.
+static NUMBERS: [([u64; 6], bool); 15] = [
+    ([2, 1, 3, 5, 4, 9], true),
     ([1, 1, 1, 1, 1, 1], true),
     (
         [100_000, 1_000, 64, 1_000_000, 1_000_000_000, 4_294_967_296],
@@ -37,64 +24,76 @@ static ENDS: [([u64; 6], bool); 14] = [
     ([1, 1, 1, 1, 1, 4_294_967_297], false),
 ];
 
+fn made_of(numbers: &[u64; 6]) -> Option<Limits> {
+    let [creds, grants, searches, changes, opens, work] = *numbers;
+    Limits::make(creds, grants, searches, changes, opens, work)
+}
+
+/// Whether the limits are these.
+fn are(limits: &Limits, numbers: &[u64; 6]) -> bool {
+    let [creds, grants, searches, changes, opens, work] = *numbers;
+    limits.creds() == creds
+        && limits.grants() == grants
+        && limits.searches() == searches
+        && limits.changes() == changes
+        && limits.opens() == opens
+        && limits.work() == work
+}
+
 #[test]
-fn the_ends_of_the_ranges(rt: HostRuntime) {
-    for ([creds, grants, searches, changes, opens, work], is_made) in &ENDS {
-        let made = Limits::make(*creds, *grants, *searches, *changes, *opens, *work);
-        assert_eq!(rt; made.is_some(), *is_made);
+fn six_numbers_in_their_ranges(rt: HostRuntime) {
+    for (numbers, is_made) in &NUMBERS {
+        match made_of(numbers) {
+            Some(limits) => assert!(rt; *is_made && are(&limits, numbers)),
+            None => assert!(rt; !*is_made),
+        }
+    }
+    let usual = [1_000, 100, 16, 10_000, 10_000, 1_000_000];
+    assert!(rt; are(&Limits::usual(), &usual));
+}
+
+/// Used credentials, grants, searches, changes and openings, and whether there may be one more of each.
+static USED: [(Used, bool); 2] = [
+    (
+        Used {
+            creds: 1,
+            grants: 0,
+            searches: 2,
+            changes: 4,
+            opens: 3,
+        },
+        true,
+    ),
+    (
+        Used {
+            creds: 2,
+            grants: 1,
+            searches: 3,
+            changes: 5,
+            opens: 4,
+        },
+        false,
+    ),
+];
+
+/// Whether this is what is told where there may be one more, or else may not by this fault.
+fn is_told(told: Result<(), QuotaFault>, may: bool, fault: QuotaFault) -> bool {
+    match told {
+        Ok(()) => may,
+        Err(other) => !may && other == fault,
     }
 }
 
-fn numbers(limits: &Limits) -> [u64; 6] {
-    [
-        limits.creds(),
-        limits.grants(),
-        limits.searches(),
-        limits.changes(),
-        limits.opens(),
-        limits.work(),
-    ]
-}
-
 #[test]
-fn the_six_numbers(rt: HostRuntime) -> Result<(), Fail> {
-    let limits = limits().ok_or("in their ranges")?;
-    assert_eq!(rt; numbers(&limits), [2, 1, 3, 5, 4, 9]);
-    let usual = [1_000, 100, 16, 10_000, 10_000, 1_000_000];
-    assert_eq!(rt; numbers(&Limits::usual()), usual);
-    Ok(())
-}
-
-/// Whether there may be one more credential, grant, search, change and opening.
-fn one_more(limits: &Limits, used: &Used) -> [Result<(), QuotaFault>; 5] {
-    [
-        limits.may_hold(used),
-        limits.may_grant(used),
-        limits.may_search(used),
-        limits.may_change(used),
-        limits.may_open(used),
-    ]
-}
-
-#[test]
-fn one_below_and_at_each_limit(rt: HostRuntime) -> Result<(), Fail> {
-    let limits = limits().ok_or("in their ranges")?;
-    assert_eq!(rt; one_more(&limits, &used(1, 0, 2, 4, 3)), [Ok(()); 5]);
-    let refused = [
-        Err(QuotaFault::Creds),
-        Err(QuotaFault::Grants),
-        Err(QuotaFault::Searches),
-        Err(QuotaFault::Changes),
-        Err(QuotaFault::Opens),
-    ];
-    assert_eq!(rt; one_more(&limits, &used(2, 1, 3, 5, 4)), refused);
-    Ok(())
-}
-
-/// Whether the fault has this number and this text.
-fn reads_as(alloc: Global, fault: QuotaFault, number: u64, text: &str) -> Result<bool, AllocError> {
-    let written = format!(in alloc; "{fault}")?;
-    Ok(fault.number() == number && written.as_str() == text)
+fn one_below_and_at_each_limit(rt: HostRuntime) {
+    let limits = made_of(&NUMBERS[0].0).expect(&rt, "in their ranges");
+    for (used, may) in &USED {
+        assert!(rt; is_told(limits.may_hold(used), *may, QuotaFault::Creds));
+        assert!(rt; is_told(limits.may_grant(used), *may, QuotaFault::Grants));
+        assert!(rt; is_told(limits.may_search(used), *may, QuotaFault::Searches));
+        assert!(rt; is_told(limits.may_change(used), *may, QuotaFault::Changes));
+        assert!(rt; is_told(limits.may_open(used), *may, QuotaFault::Opens));
+    }
 }
 
 static FAULTS: [(QuotaFault, u64, &str); 5] = [
@@ -108,7 +107,7 @@ static FAULTS: [(QuotaFault, u64, &str); 5] = [
 #[test]
 fn faults_by_number_and_text(rt: HostRuntime) -> Result<(), AllocError> {
     for (fault, number, text) in &FAULTS {
-        assert!(rt; reads_as(rt.alloc(), *fault, *number, text)?, "at {number}");
+        assert!(rt; fault.number() == *number && is_text(rt.alloc(), fault, text)?);
     }
     Ok(())
 }

@@ -1,18 +1,12 @@
 //! Events as a table writes them, and what a table wants each to be answered.
-use super::entity;
-use credential_text::{Credential, read_credential};
-use hall::{
-    Answer, Event, Fault, Hall, Names, Proof, Query, Reply, Request, Sights, Step, Stepped,
-    write_proof,
-};
+use credential_text::{CredFault, Credential, read_credential};
+use hall::{Answer, Event, Fault, Hall, Proof, Query, Reply, Request, Step, Stepped, write_proof};
 use names::{Entity, Role};
 use search::{Hint, Need};
-use std::alloc::{AllocError, Global};
-use std::test::Fail;
-use vaults::Change;
+use std::alloc::Global;
+use vaults::{Change, Seen};
 
 /// What a tenant asks of a hall, or what is done for its search; a step names the number of the search first.
-#[derive(Clone, Copy)]
 pub(super) enum Act {
     /// The credential that this text spells is uploaded.
     Put(&'static str),
@@ -50,7 +44,6 @@ pub(super) enum Act {
 pub(super) type Row = (&'static str, Act, Told);
 
 /// What is wanted for an answer.
-#[derive(Clone, Copy)]
 pub(super) enum Told {
     Counted(u64),
     Opened(u64),
@@ -80,214 +73,177 @@ pub(super) enum Told {
     Gone,
 }
 
-/// The credential that the text spells.
-fn spelled(alloc: Global, text: &str) -> Result<Credential, Fail> {
-    Ok(read_credential(alloc, text.as_bytes())?)
-}
-
-/// The change that the act stands for.
-fn change_of(alloc: Global, act: &Act) -> Result<Change, Fail> {
+/// The change that the act stands for, which is one.
+fn change_of(alloc: Global, act: &Act) -> Result<Change, CredFault> {
     Ok(match act {
-        Act::Put(text) => Change::Upload(spelled(alloc, text)?),
-        Act::Drop(text) => Change::Withdraw(spelled(alloc, text)?),
-        Act::Grant(reader) => Change::Grant(entity(reader)?),
-        Act::Revoke(reader) => Change::Revoke(entity(reader)?),
+        Act::Put(text) => Change::Upload(read_credential(alloc, text.as_bytes())?),
+        Act::Drop(text) => Change::Withdraw(read_credential(alloc, text.as_bytes())?),
+        Act::Grant(reader) => Change::Grant(Entity::read(reader.as_bytes())?),
+        Act::Revoke(reader) => Change::Revoke(Entity::read(reader.as_bytes())?),
         Act::GrantAll => Change::GrantAll,
-        Act::RevokeAll => Change::RevokeAll,
-        _ => Err("no change")?,
-    })
-}
-
-/// The query with these names.
-fn query(role: &str, member: Option<&str>) -> Result<Query, Fail> {
-    let role = Role::read(role.as_bytes())?;
-    Ok(match member {
-        Some(member) => Query::Ask(role, entity(member)?),
-        None => Query::Who(role),
+        _ => Change::RevokeAll,
     })
 }
 
 /// The request that the act stands for.
-fn request_of(alloc: Global, act: &Act) -> Result<Request, Fail> {
+fn request_of(alloc: Global, act: &Act) -> Result<Request, CredFault> {
     Ok(match act {
-        Act::Ask(role, member) => Request::Seek(query(role, Some(*member))?),
-        Act::Who(role) => Request::Seek(query(role, None)?),
+        Act::Ask(role, member) => {
+            let role = Role::read(role.as_bytes())?;
+            Request::Seek(Query::Ask(role, Entity::read(member.as_bytes())?))
+        }
+        Act::Who(role) => Request::Seek(Query::Who(Role::read(role.as_bytes())?)),
         Act::Poll(number) => Request::Poll(*number),
         Act::Close(number) => Request::Close(*number),
         Act::Vault => Request::Vault,
         Act::Sees => Request::Sees,
-        Act::Proof(number, member) => Request::Proof(*number, entity(member)?),
+        Act::Proof(number, member) => Request::Proof(*number, Entity::read(member.as_bytes())?),
         _ => Request::Alter(change_of(alloc, act)?),
     })
 }
 
-/// The step that the act stands for, where it is one.
-fn step_of(who: Entity, act: &Act) -> Option<Step> {
-    match *act {
-        Act::Take(number, place) => Some(Step::Take(who, number, place)),
-        Act::GiveBack(number, letter) => Some(Step::GiveBack(who, number, letter)),
-        Act::Finish(number, letter, hint) => Some(Step::Finish(who, number, letter, hint)),
-        Act::Signal(number, place) => Some(Step::Signal(who, number, place)),
-        _ => None,
+/// The event that the tenant's act stands for.
+fn event_of(alloc: Global, who: &str, act: &Act) -> Result<Event, CredFault> {
+    let who = Entity::read(who.as_bytes())?;
+    Ok(match act {
+        Act::Take(number, place) => Event::Step(Step::Take(who, *number, *place)),
+        Act::GiveBack(number, letter) => Event::Step(Step::GiveBack(who, *number, *letter)),
+        Act::Finish(number, letter, hint) => {
+            Event::Step(Step::Finish(who, *number, *letter, *hint))
+        }
+        Act::Signal(number, place) => Event::Step(Step::Signal(who, *number, *place)),
+        _ => Event::Request(who, request_of(alloc, act)?),
+    })
+}
+
+/// Adds the events of the rows. Each text of a row is one that can be read, and so it is want of memory where one isn't.
+fn add_events(alloc: Global, rows: &[Row], events: &mut Vec<Event>) -> Result<(), Fault> {
+    for (who, act, _told) in rows {
+        let event = event_of(alloc, who, act).or(Err(Fault::Memory))?;
+        events.push(event)?;
+    }
+    Ok(())
+}
+
+/// Whether this is the role that the text spells.
+fn is_role(role: &Role, text: &str) -> bool {
+    match Role::read(text.as_bytes()) {
+        Ok(spelled) => spelled == *role,
+        Err(_) => false,
     }
 }
 
-/// The event that the tenant's act stands for.
-fn event(alloc: Global, who: &str, act: &Act) -> Result<Event, Fail> {
-    let who = entity(who)?;
-    Ok(match step_of(who, act) {
-        Some(step) => Event::Step(step),
-        None => Event::Request(who, request_of(alloc, act)?),
-    })
-}
-
-/// Whether the letter needs the rows of this role.
-fn is_for(need: &Need, role: &str) -> Result<bool, Fail> {
-    Ok(match need {
-        Need::Rows(needed) => *needed == Role::read(role.as_bytes())?,
-        Need::Nothing => false,
-    })
-}
-
 /// Whether these are the names, in this order.
-fn are_named(names: &Names, wanted: &[&str]) -> bool {
-    let names = names.as_slice();
+fn are_named(names: &[Entity], wanted: &[&str]) -> bool {
+    for (name, text) in names.iter().zip(wanted) {
+        if name.bytes() != text.as_bytes() {
+            return false;
+        }
+    }
     names.len() == wanted.len()
-        && names
-            .iter()
-            .zip(wanted)
-            .all(|(name, text)| name.bytes() == text.as_bytes())
 }
 
-/// Whether the text spells the credential.
-fn is_spelled(alloc: Global, row: &Credential, text: &str) -> Result<bool, Fail> {
-    Ok(row.compare(&spelled(alloc, text)?).is_eq())
+/// Whether these are the names with their marks, in this order.
+fn are_seen(seen: &[Seen], wanted: &[(&str, bool)]) -> bool {
+    for (one, (text, to_all)) in seen.iter().zip(wanted) {
+        if one.to_all != *to_all || one.name.bytes() != text.as_bytes() {
+            return false;
+        }
+    }
+    seen.len() == wanted.len()
 }
 
 /// Whether these are the credentials that the texts spell, in this order.
-fn are_spelled(alloc: Global, rows: &[Credential], wanted: &[&str]) -> Result<bool, Fail> {
+fn are_spelled(alloc: Global, rows: &[Credential], wanted: &[&str]) -> Result<bool, CredFault> {
     let mut are = rows.len() == wanted.len();
     for (row, text) in rows.iter().zip(wanted) {
-        are &= is_spelled(alloc, row, text)?;
+        let spelled = read_credential(alloc, text.as_bytes())?;
+        are &= row.compare(&spelled).is_eq();
     }
     Ok(are)
 }
 
 /// Whether the proof is written in these lines.
-fn is_written(alloc: Global, proof: &Proof, wanted: &str) -> Result<bool, AllocError> {
+fn is_written(alloc: Global, proof: &Proof, wanted: &str) -> Result<bool, Fault> {
     let mut lines = Vec::new(alloc);
     write_proof(proof, &mut lines)?;
     Ok(lines.as_slice() == wanted.as_bytes())
 }
 
-/// Whether these are the names with their marks, in this order.
-fn are_seen(sights: &Sights, wanted: &[(&str, bool)]) -> bool {
-    let seen = sights.as_slice();
-    seen.len() == wanted.len()
-        && seen.iter().zip(wanted).all(|(seen, (text, to_all))| {
-            seen.name.bytes() == text.as_bytes() && seen.to_all == *to_all
-        })
-}
-
-/// Whether the step went as is wanted.
-fn went(stepped: &Stepped, wanted: &Told) -> Result<bool, Fail> {
-    Ok(match (stepped, wanted) {
-        (Stepped::Broken, _) => Err(AllocError)?,
-        (Stepped::Took(letter, need), Told::TookFor(number, role)) => {
-            letter == number && is_for(need, role)?
+/// Whether the step went as is wanted. Where the search is broken, memory was refused.
+fn went(stepped: &Stepped, wanted: &Told) -> Result<bool, Fault> {
+    match (stepped, wanted) {
+        (Stepped::Broken, _) => Err(Fault::Memory),
+        (Stepped::Took(letter, Need::Rows(role)), Told::TookFor(number, text)) => {
+            Ok(letter == number && is_role(role, text))
         }
-        (Stepped::Took(letter, Need::Nothing), Told::Took(number)) => letter == number,
-        (Stepped::Nothing, Told::Nothing) => true,
-        (Stepped::Back, Told::Back) => true,
-        (Stepped::Signalled, Told::Signalled) => true,
-        (Stepped::Done, Told::Done) => true,
-        (Stepped::BadHint, Told::BadHint) => true,
-        (Stepped::NotHeld, Told::NotHeld) => true,
-        (Stepped::Gone, Told::Gone) => true,
-        _ => false,
-    })
-}
-
-/// Whether the search has come to what is wanted.
-pub(super) fn came_to(answer: &Answer, wanted: &Told) -> Result<bool, Fail> {
-    Ok(match (answer, wanted) {
-        (Answer::Broken, _) => Err(AllocError)?,
-        (Answer::Working, Told::Working) => true,
-        (Answer::Yes, Told::Yes) => true,
-        (Answer::No, Told::No) => true,
-        (Answer::Members(names), Told::Members(wanted)) => are_named(names, wanted),
-        _ => false,
-    })
-}
-
-/// Whether the refusal is the one that is wanted. Where memory was refused, that is the fault.
-fn is_refusal(fault: Fault, wanted: &Told) -> Result<bool, Fail> {
-    match (fault, wanted) {
-        (Fault::Memory, _) => Err(AllocError)?,
-        (_, Told::Refused(number)) => Ok(fault.number() == *number),
+        (Stepped::Took(letter, Need::Nothing), Told::Took(number)) => Ok(letter == number),
+        (Stepped::Nothing, Told::Nothing)
+        | (Stepped::Back, Told::Back)
+        | (Stepped::Signalled, Told::Signalled)
+        | (Stepped::Done, Told::Done)
+        | (Stepped::BadHint, Told::BadHint)
+        | (Stepped::NotHeld, Told::NotHeld)
+        | (Stepped::Gone, Told::Gone) => Ok(true),
         _ => Ok(false),
     }
 }
 
-/// Whether the reply counts, numbers or lists what is wanted.
-fn shows(alloc: Global, reply: &Reply, wanted: &Told) -> Result<bool, Fail> {
-    Ok(match (reply, wanted) {
-        (Reply::Counted(count), Told::Counted(wanted)) => count == wanted,
-        (Reply::Opened(number), Told::Opened(wanted)) => number == wanted,
-        (Reply::Closed, Told::Closed) => true,
-        (Reply::Vault(rows), Told::Vault(wanted)) => are_spelled(alloc, rows.as_slice(), wanted)?,
-        (Reply::Sees(sights), Told::Sees(wanted)) => are_seen(sights, wanted),
-        (Reply::Proof(proof), Told::Proof(wanted)) => is_written(alloc, proof, wanted)?,
-        _ => false,
-    })
-}
-
-/// Whether the reply is the one that is wanted.
-fn is_told(alloc: Global, reply: &Reply, wanted: &Told) -> Result<bool, Fail> {
-    match reply {
-        Reply::Refused(fault) => is_refusal(*fault, wanted),
-        Reply::Answered(answer) => came_to(answer, wanted),
-        Reply::Stepped(stepped) => went(stepped, wanted),
-        _ => shows(alloc, reply, wanted),
+/// Whether the search has come to what is wanted. Where it is broken, memory was refused.
+pub(super) fn came_to(answer: &Answer, wanted: &Told) -> Result<bool, Fault> {
+    match (answer, wanted) {
+        (Answer::Broken, _) => Err(Fault::Memory),
+        (Answer::Working, Told::Working) | (Answer::Yes, Told::Yes) | (Answer::No, Told::No) => {
+            Ok(true)
+        }
+        (Answer::Members(names), Told::Members(wanted)) => Ok(are_named(names.as_slice(), wanted)),
+        _ => Ok(false),
     }
 }
 
-/// The events of the parts, one part after another.
-fn events_of(alloc: Global, parts: &[&[Row]]) -> Result<Vec<Event>, Fail> {
-    let mut events = Vec::new(alloc);
-    for part in parts {
-        for (who, act, _told) in *part {
-            events.push(event(alloc, who, act)?)?;
+/// Whether the reply is the one that is wanted, and not that memory was refused.
+fn is_told(alloc: Global, reply: &Reply, wanted: &Told) -> Result<bool, Fault> {
+    match (reply, wanted) {
+        (Reply::Refused(Fault::Memory), _) => Err(Fault::Memory),
+        (Reply::Refused(fault), Told::Refused(number)) => Ok(fault.number() == *number),
+        (Reply::Answered(answer), _) => came_to(answer, wanted),
+        (Reply::Stepped(stepped), _) => went(stepped, wanted),
+        (Reply::Counted(count), Told::Counted(wanted)) => Ok(count == wanted),
+        (Reply::Opened(number), Told::Opened(wanted)) => Ok(number == wanted),
+        (Reply::Closed, Told::Closed) => Ok(true),
+        (Reply::Vault(rows), Told::Vault(wanted)) => {
+            are_spelled(alloc, rows.as_slice(), wanted).or(Err(Fault::Memory))
+        }
+        (Reply::Sees(sights), Told::Sees(wanted)) => Ok(are_seen(sights.as_slice(), wanted)),
+        (Reply::Proof(proof), Told::Proof(wanted)) => is_written(alloc, proof, wanted),
+        _ => Ok(false),
+    }
+}
+
+/// Whether the replies are those that the rows want.
+fn are_told(alloc: Global, replies: &[Reply], rows: &[Row]) -> Result<bool, Fault> {
+    for (reply, (_who, _act, told)) in replies.iter().zip(rows) {
+        if !is_told(alloc, reply, told)? {
+            return Ok(false);
         }
     }
-    Ok(events)
+    Ok(replies.len() == rows.len())
 }
 
-/// The place of the first reply that isn't the one that is wanted, or lacks or is one too many, where there is one.
-fn first_other(alloc: Global, replies: &[Reply], parts: &[&[Row]]) -> Result<Option<usize>, Fail> {
-    let mut place = 0usize;
-    for part in parts {
-        for (_who, _act, told) in *part {
-            let Some(reply) = replies.get(place) else {
-                return Ok(Some(place));
-            };
-            if !is_told(alloc, reply, told)? {
-                return Ok(Some(place));
-            }
-            place = place.saturating_add(1);
-        }
-    }
-    Ok((place != replies.len()).then_some(place))
-}
-
-/// Runs the acts of the parts, one part after another, and answers the place of the first reply that isn't the one that
-/// is wanted; where all are, none.
-pub(super) fn first_wrong(
+/// Whether each reply to the events is the one that its row wants.
+fn replies_so(
     alloc: Global,
     hall: &mut Hall,
-    parts: &[&[Row]],
-) -> Result<Option<usize>, Fail> {
-    let events = events_of(alloc, parts)?;
-    let replies = hall.run(&events)?;
-    first_other(alloc, &replies, parts)
+    events: &[Event],
+    rows: &[Row],
+) -> Result<bool, Fault> {
+    let replies = hall.run(events)?;
+    are_told(alloc, &replies, rows)
+}
+
+/// Runs the acts of the rows, and answers whether each reply is the one that is wanted.
+pub(super) fn run(alloc: Global, hall: &mut Hall, rows: &[Row]) -> Result<bool, Fault> {
+    let mut events = Vec::new(alloc);
+    add_events(alloc, rows, &mut events)?;
+    replies_so(alloc, hall, &events, rows)
 }

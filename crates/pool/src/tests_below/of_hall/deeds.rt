@@ -1,55 +1,58 @@
 //! What is done with a hall and found of it, as a table writes it: events, and calls that no event stands for.
-use super::acts::{Row, Told, came_to, first_wrong};
-use super::entity;
-use hall::{Fault, Hall, Job, Query, Step, Stepped};
-use names::{Entity, Role};
-use search::Hint;
+use super::acts::{Row, Told, came_to, run};
+use super::{entity, four_tenants};
+use hall::{Answer, Batch, Fault, Hall, Step, Stepped, told_of};
+use names::Entity;
+use quotas::Limits;
+use search::{Hint, Search};
+use snapshots::Span;
 use std::alloc::Global;
-use std::test::Fail;
 
 /// What is done, or found. Where no search is named, it is A's first one.
-#[derive(Clone, Copy)]
 pub(super) enum Deed {
-    /// Acts, with what each is to be answered.
-    Acts(&'static [Row]),
     /// The tenant's search of the number is carried on to its end, which is to be this.
     Drive(&'static str, u64, Told),
-    /// A asks more questions, each of which is answered.
-    AskMore,
     /// The turn picks the letter of this search that waits first.
     Pick(u64, &'static str, u64),
     /// The turn picks nothing.
     Rest(u64),
-    /// The letter that waits first is taken and given back.
-    GiveBack,
-    /// It is taken and finished.
-    Finish,
-    /// No step moves anything, and no letter is taken.
-    Still,
+    /// The letter that waits first is taken and given back. Then it is taken and finished.
+    Jobs,
     /// The search can't be polled, worked on or seen any more.
     Gone,
+    /// The first letter is finished with no hint of numbers below 3 but the right one, nor without any.
+    OneHint,
+    /// A visit of one step takes the letter of this number, which is then given back.
+    Visit(u64),
     /// The tenant's first search isn't shared.
     Unshared(&'static str),
+    /// The search is shared. No step moves anything of it then, and no letter is taken; it stays shared for who has it
+    /// when it is ended.
+    Shared,
+    /// So many changes were accepted in all.
+    Journal(u64),
 }
 
-/// The letter of A's search that waits first.
-fn taken(hall: &mut Hall, a: Entity) -> Result<Job, Fail> {
-    Ok(hall.take(a, 1, 0)?.ok_or("a letter waits")?)
+/// A part of a play: acts, with what each is to be answered, or deeds.
+#[derive(Clone, Copy)]
+pub(super) enum Part<'a> {
+    Acts(&'a [Row]),
+    Deeds(&'a [Deed]),
 }
 
-/// Whether it can be given back.
-fn goes_back(hall: &mut Hall, a: Entity) -> Result<bool, Fail> {
-    let job = taken(hall, a)?;
-    Ok(matches!(hall.give_back(job), Stepped::Back))
-}
-
-/// Whether it is the first letter of A's first search, and is finished by what is looked up for it.
-fn goes_through(hall: &mut Hall, a: Entity) -> Result<bool, Fail> {
-    let job = taken(hall, a)?;
+/// Whether the job goes back, and whether another of the same letter, A's first, is finished by what is looked up for it.
+fn moves_jobs(hall: &mut Hall, a: Entity) -> Result<bool, Fault> {
+    let Some(job) = hall.take(a, 1, 0)? else {
+        return Ok(false);
+    };
+    let is_back = matches!(hall.give_back(job), Stepped::Back);
+    let Some(job) = hall.take(a, 1, 0)? else {
+        return Ok(false);
+    };
     let hint = job.look_up();
     let is_first = matches!(hall.step(Step::GiveBack(a, 1, 1)), Stepped::Back)
         && matches!(hall.step(Step::Take(a, 1, 0)), Stepped::Took(1, _));
-    Ok(matches!(hall.finish(job, hint), Stepped::Done) && is_first)
+    Ok(matches!(hall.finish(job, hint), Stepped::Done) && is_back && is_first)
 }
 
 /// Whether A's search can't be polled, worked on or seen any more.
@@ -60,7 +63,7 @@ fn is_gone(hall: &mut Hall, a: Entity) -> bool {
 }
 
 /// Whether no step of A's search moves anything, and no letter of it is taken.
-fn stays(hall: &mut Hall, a: Entity) -> Result<bool, Fail> {
+fn stays(hall: &mut Hall, a: Entity) -> Result<bool, Fault> {
     let still = matches!(hall.step(Step::Take(a, 1, 0)), Stepped::Nothing)
         && matches!(hall.step(Step::Signal(a, 1, 0)), Stepped::Nothing)
         && matches!(hall.step(Step::GiveBack(a, 1, 1)), Stepped::NotHeld)
@@ -75,6 +78,37 @@ fn stays(hall: &mut Hall, a: Entity) -> Result<bool, Fail> {
     Ok(false)
 }
 
+/// Whether A's first letter can't be finished with the hint, and is there to be taken again.
+fn is_wrong(hall: &mut Hall, a: Entity, hint: Hint) -> bool {
+    matches!(hall.step(Step::Finish(a, 1, 1, hint)), Stepped::BadHint)
+        && matches!(hall.step(Step::Take(a, 1, 0)), Stepped::Took(1, _))
+}
+
+/// Whether so is each hint of numbers below 3 but the right one, and none.
+fn others_are_wrong(hall: &mut Hall, a: Entity) -> bool {
+    let mut are = is_wrong(hall, a, Hint::Nothing);
+    for vault in 0..3 {
+        for lo in 0..3 {
+            for hi in 0..3 {
+                let is_right = vault == 0 && lo == 0 && hi == 1;
+                are &= is_right || is_wrong(hall, a, Hint::Rows(Span { vault, lo, hi }));
+            }
+        }
+    }
+    are
+}
+
+/// Whether a visit of one step takes the letter of this number of A's first search, which is then given back.
+fn visits(alloc: Global, hall: &mut Hall, a: Entity, letter: u64) -> Result<bool, Fault> {
+    let mut batch = Batch::make(alloc, 1)?;
+    let told = hall.visit(a, 1, 1, &mut batch);
+    let number = batch.next();
+    batch.let_go();
+    batch.destroy_empty();
+    told?;
+    Ok(number == Some(letter) && matches!(hall.step(Step::GiveBack(a, 1, letter)), Stepped::Back))
+}
+
 /// Whether the turn picks the letter of this search that waits first.
 fn picks(hall: &Hall, turn: u64, who: Entity, number: u64) -> bool {
     let Some(step) = hall.pick(turn) else {
@@ -85,49 +119,79 @@ fn picks(hall: &Hall, turn: u64, who: Entity, number: u64) -> bool {
 }
 
 /// Whether the search comes to this end.
-fn drives_to(hall: &mut Hall, who: Entity, number: u64, end: &Told) -> Result<bool, Fail> {
-    came_to(&hall.drive(who, number)?, end)
+pub(super) fn drives_to(
+    hall: &mut Hall,
+    who: Entity,
+    number: u64,
+    end: &Told,
+) -> Result<bool, Fault> {
+    let answer = hall.drive(who, number)?;
+    came_to(&answer, end)
 }
 
-/// Whether A asks eight more questions, and nobody is a member.
-fn asks_more(hall: &mut Hall, a: Entity) -> Result<bool, Fail> {
-    let query = Query::Who(Role::read(b"A.r")?);
-    for _more in 0..8 {
-        let number = hall.open(a, query)?;
-        if !drives_to(hall, a, number, &Told::Members(&[]))? {
+/// Whether the tenant's first search isn't shared.
+fn is_unshared(hall: &mut Hall, who: &str) -> Result<bool, Fault> {
+    Ok(hall.completed(entity(who)?, 1)?.is_none())
+}
+
+/// Whether what A shares stands still, and is told of after A ended it.
+fn outlives(hall: &mut Hall, a: Entity, shared: &Search) -> Result<bool, Fault> {
+    let stands = stays(hall, a)? && drives_to(hall, a, 1, &Told::Yes)? && hall.pick(7).is_none();
+    hall.end(a, 1)?;
+    let is_apart = is_unshared(hall, "A")?;
+    Ok(matches!(told_of(shared)?, Answer::Yes) && stands && is_apart)
+}
+
+fn is_shared(hall: &mut Hall, a: Entity) -> Result<bool, Fault> {
+    match hall.completed(a, 1)? {
+        Some(shared) => outlives(hall, a, &shared),
+        None => Ok(false),
+    }
+}
+
+/// Whether the deed goes so.
+fn goes(alloc: Global, hall: &mut Hall, a: Entity, deed: &Deed) -> Result<bool, Fault> {
+    match deed {
+        Deed::Drive(who, number, end) => drives_to(hall, entity(who)?, *number, end),
+        Deed::Pick(turn, who, number) => Ok(picks(hall, *turn, entity(who)?, *number)),
+        Deed::Rest(turn) => Ok(hall.pick(*turn).is_none()),
+        Deed::Jobs => moves_jobs(hall, a),
+        Deed::Gone => Ok(is_gone(hall, a)),
+        Deed::OneHint => Ok(others_are_wrong(hall, a)),
+        Deed::Visit(letter) => visits(alloc, hall, a, *letter),
+        Deed::Unshared(who) => is_unshared(hall, who),
+        Deed::Shared => is_shared(hall, a),
+        Deed::Journal(length) => Ok(hall.journal_len() == *length),
+    }
+}
+
+/// Whether each deed goes so.
+fn all_go(alloc: Global, hall: &mut Hall, deeds: &[Deed]) -> Result<bool, Fault> {
+    let a = entity("A")?;
+    for deed in deeds {
+        if !goes(alloc, hall, a, deed)? {
             return Ok(false);
         }
     }
     Ok(true)
 }
 
-/// Whether the deed goes so.
-fn goes(alloc: Global, hall: &mut Hall, deed: Deed) -> Result<bool, Fail> {
-    let a = entity("A")?;
-    match deed {
-        Deed::Acts(acts) => Ok(first_wrong(alloc, hall, &[acts])?.is_none()),
-        Deed::Drive(who, number, end) => drives_to(hall, entity(who)?, number, &end),
-        Deed::AskMore => asks_more(hall, a),
-        Deed::Pick(turn, who, number) => Ok(picks(hall, turn, entity(who)?, number)),
-        Deed::Rest(turn) => Ok(hall.pick(turn).is_none()),
-        Deed::GiveBack => goes_back(hall, a),
-        Deed::Finish => goes_through(hall, a),
-        Deed::Still => stays(hall, a),
-        Deed::Gone => Ok(is_gone(hall, a)),
-        Deed::Unshared(who) => Ok(hall.completed(entity(who)?, 1)?.is_none()),
-    }
-}
-
-/// The place of the first deed that doesn't, where there is one.
-pub(super) fn first_astray(
-    alloc: Global,
-    hall: &mut Hall,
-    deeds: &[Deed],
-) -> Result<Option<usize>, Fail> {
-    for (place, deed) in deeds.iter().enumerate() {
-        if !goes(alloc, hall, *deed)? {
-            return Ok(Some(place));
+/// Whether each part goes so.
+fn all_parts_go(alloc: Global, hall: &mut Hall, parts: &[Part<'_>]) -> Result<bool, Fault> {
+    for part in parts {
+        let goes = match part {
+            Part::Acts(rows) => run(alloc, hall, rows)?,
+            Part::Deeds(deeds) => all_go(alloc, hall, deeds)?,
+        };
+        if !goes {
+            return Ok(false);
         }
     }
-    Ok(None)
+    Ok(true)
+}
+
+/// Whether each part goes so in the hall of the four tenants, where A has these limits.
+pub(super) fn plays(alloc: Global, limits: Limits, parts: &[Part<'_>]) -> Result<bool, Fault> {
+    let mut hall = four_tenants(alloc, limits)?;
+    all_parts_go(alloc, &mut hall, parts)
 }

@@ -1,7 +1,9 @@
 //! What tenants are shown by a run of events: their vaults, whose vaults they read, and why somebody is a member.
 use super::acts::{Act, Row, Told};
-use super::runs::{ANSWERED, ASKED, run};
-use std::test::Fail;
+use super::deeds::{Part, plays};
+use super::runs::{ANSWERED, ASKED};
+use hall::Fault;
+use quotas::Limits;
 
 /// Why D is in A.r where A holds that it is.
 const WHY: &str = "1 D in D by itself\n2 D in A.r by A.r <- D from 1\n";
@@ -51,13 +53,20 @@ static WITHDRAWN: [Row; 7] = [
 ];
 
 #[test]
-fn what_tenants_are_shown(rt: HostRuntime) -> Result<(), Fail> {
-    let wrong = run(
-        rt.alloc(),
-        &[
-            &ASKED, &TOO_EARLY, &ANSWERED, &EXPLAINED, &SHOWN, &WITHDRAWN,
-        ],
-    )?;
-    assert_eq!(rt; wrong, None);
+fn what_tenants_are_shown(rt: HostRuntime) -> Result<(), Fault> {
+    assert!(rt;
+        plays(
+            rt.alloc(),
+            Limits::usual(),
+            &[
+                Part::Acts(&ASKED),
+                Part::Acts(&TOO_EARLY),
+                Part::Acts(&ANSWERED),
+                Part::Acts(&EXPLAINED),
+                Part::Acts(&SHOWN),
+                Part::Acts(&WITHDRAWN)
+            ]
+        )?
+    );
     Ok(())
 }

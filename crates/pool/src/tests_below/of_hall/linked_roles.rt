@@ -1,9 +1,10 @@
 //! A search through a linked role, letter by letter, and the proof of what it found.
 use super::acts::{Act, Row, Told};
-use super::runs::run;
+use super::deeds::{Part, plays};
+use hall::Fault;
+use quotas::Limits;
 use search::Hint;
 use snapshots::Span;
-use std::test::Fail;
 
 /// Who A.s has, says who is in A.r: the members of the role t of each of them.
 static HELD: [Row; 4] = [
@@ -69,7 +70,19 @@ static TOLD_UP: [Row; 8] = [
 ];
 
 /// A signal for each of the letters.
-static SIGNALLED: [Row; 11] = [("A", Act::Signal(1, 0), Told::Signalled); 11];
+static SIGNALLED: [Row; 11] = [
+    ("A", Act::Signal(1, 0), Told::Signalled),
+    ("A", Act::Signal(1, 0), Told::Signalled),
+    ("A", Act::Signal(1, 0), Told::Signalled),
+    ("A", Act::Signal(1, 0), Told::Signalled),
+    ("A", Act::Signal(1, 0), Told::Signalled),
+    ("A", Act::Signal(1, 0), Told::Signalled),
+    ("A", Act::Signal(1, 0), Told::Signalled),
+    ("A", Act::Signal(1, 0), Told::Signalled),
+    ("A", Act::Signal(1, 0), Told::Signalled),
+    ("A", Act::Signal(1, 0), Told::Signalled),
+    ("A", Act::Signal(1, 0), Told::Signalled),
+];
 
 /// The answer, why, and the end.
 static ANSWERED: [Row; 4] = [
@@ -84,18 +97,20 @@ const WHY: &str = "1 A in A by itself\n2 A in A.s by A.s <- A from 1\n3 D in D b
     4 D in A.t by A.t <- D from 3\n5 D in A.s.t by link from 2 4\n6 D in A.r by A.r <- A.s.t from 5\n";
 
 #[test]
-fn a_linked_role_with_its_proof(rt: HostRuntime) -> Result<(), Fail> {
-    let wrong = run(
-        rt.alloc(),
-        &[
-            &HELD,
-            &BASE_ASKED,
-            &LINK_ASKED,
-            &TOLD_UP,
-            &SIGNALLED,
-            &ANSWERED,
-        ],
-    )?;
-    assert_eq!(rt; wrong, None);
+fn a_linked_role_with_its_proof(rt: HostRuntime) -> Result<(), Fault> {
+    assert!(rt;
+        plays(
+            rt.alloc(),
+            Limits::usual(),
+            &[
+                Part::Acts(&HELD),
+                Part::Acts(&BASE_ASKED),
+                Part::Acts(&LINK_ASKED),
+                Part::Acts(&TOLD_UP),
+                Part::Acts(&SIGNALLED),
+                Part::Acts(&ANSWERED)
+            ]
+        )?
+    );
     Ok(())
 }

@@ -1,22 +1,10 @@
 //! Whole runs of events, with each reply.
-use super::acts::{Act, Row, Told, first_wrong};
-use super::entity;
-use hall::Hall;
+use super::acts::{Act, Row, Told};
+use super::deeds::{Part, plays};
+use hall::Fault;
 use quotas::Limits;
 use search::Hint;
 use snapshots::Span;
-use std::alloc::Global;
-use std::test::Fail;
-
-/// The hall of tenants A and B, who have done nothing.
-pub(super) fn two_tenants(alloc: Global) -> Result<Hall, Fail> {
-    let (a, b) = (entity("A")?, entity("B")?);
-    if a == b {
-        return Err("two names")?;
-    }
-    let roster = vec![in alloc; (a, Limits::usual()), (b, Limits::usual())]?;
-    Ok(Hall::make(alloc, roster)?)
-}
 
 /// The first row of the first vault, which is all rows of A.r for A, and of B.s for B.
 const FIRST: Hint = Hint::Rows(Span {
@@ -201,22 +189,59 @@ static ANSWERED_IN_TURN: [Row; 22] = [
     ("A", Act::Ask("A.r", "E"), Told::Opened(3)),
 ];
 
-/// The place of the first reply of a run that isn't the one that is wanted, where there is one.
-pub(super) fn run(alloc: Global, parts: &[&[Row]]) -> Result<Option<usize>, Fail> {
-    let mut hall = two_tenants(alloc)?;
-    first_wrong(alloc, &mut hall, parts)
+#[test]
+fn events_and_their_replies(rt: HostRuntime) -> Result<(), Fault> {
+    assert!(rt;
+        plays(
+            rt.alloc(),
+            Limits::usual(),
+            &[Part::Acts(&ASKED), Part::Acts(&ANSWERED)]
+        )?
+    );
+    assert!(rt;
+        plays(
+            rt.alloc(),
+            Limits::usual(),
+            &[
+                Part::Acts(&ASKED),
+                Part::Acts(&WRONGLY_HINTED),
+                Part::Acts(&ANSWERED)
+            ]
+        )?
+    );
+    assert!(rt;
+        plays(
+            rt.alloc(),
+            Limits::usual(),
+            &[Part::Acts(&ASKED), Part::Acts(&ENDED)]
+        )?
+    );
+    Ok(())
 }
 
 #[test]
-fn events_and_their_replies(rt: HostRuntime) -> Result<(), Fail> {
-    let alloc = rt.alloc();
-    let wrong = [
-        run(alloc, &[&ASKED, &ANSWERED])?,
-        run(alloc, &[&ASKED, &WRONGLY_HINTED, &ANSWERED])?,
-        run(alloc, &[&ASKED, &ENDED])?,
-        run(alloc, &[&REPLACED, &AS_IT_WAS, &AS_IT_IS])?,
-        run(alloc, &[&INTERLEAVED, &ENDED_BETWEEN, &ANSWERED_IN_TURN])?,
-    ];
-    assert_eq!(rt; wrong, [None; 5]);
+fn events_of_two_tenants(rt: HostRuntime) -> Result<(), Fault> {
+    assert!(rt;
+        plays(
+            rt.alloc(),
+            Limits::usual(),
+            &[
+                Part::Acts(&REPLACED),
+                Part::Acts(&AS_IT_WAS),
+                Part::Acts(&AS_IT_IS)
+            ]
+        )?
+    );
+    assert!(rt;
+        plays(
+            rt.alloc(),
+            Limits::usual(),
+            &[
+                Part::Acts(&INTERLEAVED),
+                Part::Acts(&ENDED_BETWEEN),
+                Part::Acts(&ANSWERED_IN_TURN)
+            ]
+        )?
+    );
     Ok(())
 }
