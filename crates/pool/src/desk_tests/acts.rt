@@ -1,7 +1,7 @@
 //! Calls of a desk as a table writes them, and what each is told.
 use crate::{Desk, DeskFault, Pass, Verdict};
-use credential_text::{Credential, Expr, read_credential};
-use hall::{Answer, Fault, Query};
+use credential_text::{CredFault, Credential, Expr, read_credential};
+use hall::{Answer, Fault, Query, Request};
 use names::{Entity, Role};
 use snapshots::Span;
 use std::alloc::Global;
@@ -93,12 +93,17 @@ static FORTY: [&str; 40] = [
 ];
 
 fn are_forty(names: &[Entity]) -> bool {
-    for (name, wanted) in names.iter().zip(&FORTY) {
-        if name.bytes() != wanted.as_bytes() {
+    let mut wanted = FORTY.as_slice();
+    for name in names {
+        let Some((first, rest)) = wanted.split_first() else {
+            return false;
+        };
+        if name.bytes() != first.as_bytes() {
             return false;
         }
+        wanted = rest;
     }
-    names.len() == FORTY.len()
+    wanted.is_empty()
 }
 
 fn refused(fault: DeskFault) -> Told {
@@ -176,20 +181,6 @@ fn waited<L: Ledger, R: Wait>(
     }
 }
 
-fn polled<L: Ledger, R: Wait>(rt: &R, desk: &Desk<L>, pass: &mut Pass<L>, number: u64) -> Told {
-    match desk.poll(rt, pass, number) {
-        Ok(verdict) => end_of(&verdict.answer),
-        Err(fault) => refused(fault),
-    }
-}
-
-fn changed<L: Ledger, R: Wait>(rt: &R, desk: &Desk<L>, pass: &mut Pass<L>, change: Change) -> Told {
-    match desk.change(rt, pass, change) {
-        Ok(count) => Told::Counted(count),
-        Err(fault) => refused(fault),
-    }
-}
-
 fn rows_told(rows: &[Credential], credential: &Credential) -> Told {
     match rows {
         [first, ..] => Told::Rows(rows.len(), first.compare(credential).is_eq()),
@@ -209,42 +200,40 @@ fn held<L: Ledger, R: Wait>(
     }
 }
 
-fn public_among(seen: &[Seen]) -> usize {
-    seen.iter().filter(|one| one.to_all).count()
-}
-
-fn seen<L: Ledger, R: Wait>(rt: &R, desk: &Desk<L>, pass: &mut Pass<L>) -> Told {
-    match desk.sees(rt, pass) {
-        Ok(seen) => Told::Seen(seen.as_slice().len(), public_among(seen.as_slice())),
-        Err(fault) => refused(fault),
+fn sights_told(seen: &[Seen]) -> Told {
+    let mut public = 0usize;
+    for one in seen {
+        if one.to_all {
+            public = public.saturating_add(1);
+        }
     }
+    Told::Seen(seen.len(), public)
 }
 
-fn opened<L: Ledger, R: Wait>(rt: &R, desk: &Desk<L>, pass: &mut Pass<L>, query: Query) -> Told {
-    match desk.open(rt, pass, query) {
-        Ok(ticket) => Told::Opened(ticket.no, ticket.opened_at),
-        Err(fault) => refused(fault),
-    }
-}
-
-fn proved<L: Ledger, R: Wait>(
+/// What a call with the request is told.
+fn answered<L: Ledger, R: Wait>(
     rt: &R,
     desk: &Desk<L>,
     pass: &mut Pass<L>,
-    number: u64,
-    member: Entity,
-) -> Told {
-    match desk.proof(rt, pass, number, member) {
-        Ok(proof) => Told::Steps(proof.steps().len()),
-        Err(fault) => refused(fault),
-    }
-}
-
-fn ended<L: Ledger, R: Wait>(rt: &R, desk: &Desk<L>, pass: &mut Pass<L>, number: u64) -> Told {
-    match desk.end(rt, pass, number) {
-        Ok(()) => Told::Done,
-        Err(fault) => refused(fault),
-    }
+    request: Request,
+) -> Result<Told, DeskFault> {
+    Ok(match request {
+        Request::Alter(change) => Told::Counted(desk.change(rt, pass, change)?),
+        Request::Seek(query) => {
+            let ticket = desk.open(rt, pass, query)?;
+            Told::Opened(ticket.no, ticket.opened_at)
+        }
+        Request::Poll(number) => told_by(&desk.poll(rt, pass, number)?, None),
+        Request::Close(number) => {
+            desk.end(rt, pass, number)?;
+            Told::Done
+        }
+        Request::Proof(number, member) => {
+            Told::Steps(desk.proof(rt, pass, number, member)?.steps().len())
+        }
+        Request::Sees => sights_told(desk.sees(rt, pass)?.as_slice()),
+        Request::Vault => Told::Otherwise,
+    })
 }
 
 fn renewed<L: Ledger, R: Wait>(rt: &R, desk: &Desk<L>, pass: &mut Pass<L>, who: Entity) -> Told {
@@ -257,70 +246,44 @@ fn renewed<L: Ledger, R: Wait>(rt: &R, desk: &Desk<L>, pass: &mut Pass<L>, who: 
     }
 }
 
+/// The request that the act makes.
+fn request_of(alloc: Global, act: Act) -> Result<Request, CredFault> {
+    Ok(match act {
+        Act::Put(text) => Request::Alter(Change::Upload(read_credential(alloc, text.as_bytes())?)),
+        Act::Drop(text) => {
+            Request::Alter(Change::Withdraw(read_credential(alloc, text.as_bytes())?))
+        }
+        Act::Grant(name) => Request::Alter(Change::Grant(Entity::read(name.as_bytes())?)),
+        Act::Revoke(name) => Request::Alter(Change::Revoke(Entity::read(name.as_bytes())?)),
+        Act::GrantAll => Request::Alter(Change::GrantAll),
+        Act::RevokeAll => Request::Alter(Change::RevokeAll),
+        Act::Ask(role, name) => Request::Seek(Query::Ask(
+            Role::read(role.as_bytes())?,
+            Entity::read(name.as_bytes())?,
+        )),
+        Act::Who(role) => Request::Seek(Query::Who(Role::read(role.as_bytes())?)),
+        Act::Poll(number) => Request::Poll(number),
+        Act::End(number) => Request::Close(number),
+        Act::Proof(number, name) => Request::Proof(number, Entity::read(name.as_bytes())?),
+        _ => Request::Sees,
+    })
+}
+
 /// What an act about a credential is told.
 fn about_credential<L: Ledger, R: Wait>(
     rt: &R,
     desk: &Desk<L>,
     pass: &mut Pass<L>,
     act: Act,
-    credential: Credential,
+    credential: &Credential,
 ) -> Told {
     match act {
-        Act::Put(_) => changed(rt, desk, pass, Change::Upload(credential)),
-        Act::Drop(_) => changed(rt, desk, pass, Change::Withdraw(credential)),
-        Act::Find(number, _) => waited(rt, desk, pass, number, Some(&credential)),
-        _ => held(rt, desk, pass, &credential),
+        Act::Find(number, _) => waited(rt, desk, pass, number, Some(credential)),
+        _ => held(rt, desk, pass, credential),
     }
 }
 
-/// What an act about an entity is told.
-fn about_entity<L: Ledger, R: Wait>(
-    rt: &R,
-    desk: &Desk<L>,
-    pass: &mut Pass<L>,
-    act: Act,
-    who: Entity,
-) -> Told {
-    match act {
-        Act::Grant(_) => changed(rt, desk, pass, Change::Grant(who)),
-        Act::Revoke(_) => changed(rt, desk, pass, Change::Revoke(who)),
-        Act::Proof(number, _) => proved(rt, desk, pass, number, who),
-        _ => renewed(rt, desk, pass, who),
-    }
-}
-
-/// The query with these names.
-fn query_of(role: &str, member: Option<&str>) -> Option<Query> {
-    let role = Role::read(role.as_bytes()).ok()?;
-    let Some(member) = member else {
-        return Some(Query::Who(role));
-    };
-    Some(Query::Ask(role, Entity::read(member.as_bytes()).ok()?))
-}
-
-/// What an act without a text is told.
-fn about_pass<L: Ledger, R: Wait>(rt: &R, desk: &Desk<L>, pass: &mut Pass<L>, act: Act) -> Told {
-    match act {
-        Act::Poll(number) => polled(rt, desk, pass, number),
-        Act::Wait(number) => waited(rt, desk, pass, number, None),
-        Act::End(number) => ended(rt, desk, pass, number),
-        Act::GrantAll => changed(rt, desk, pass, Change::GrantAll),
-        Act::RevokeAll => changed(rt, desk, pass, Change::RevokeAll),
-        Act::Sees => seen(rt, desk, pass),
-        Act::See(length) => {
-            pass.front = length;
-            Told::Done
-        }
-        Act::Share => Told::Share(pass.front(), pass.share()),
-        _ => {
-            desk.stop(rt);
-            Told::Done
-        }
-    }
-}
-
-/// What the act is told. A text that a table has for a credential spells one, and so it is want of memory where it isn't
-/// read.
+/// What the act is told. A text of a table spells what it has to, and so it is want of memory where it isn't read.
 pub(super) fn answer_to<L: Ledger, R: Wait>(
     rt: &R,
     alloc: Global,
@@ -329,26 +292,30 @@ pub(super) fn answer_to<L: Ledger, R: Wait>(
     act: Act,
 ) -> Told {
     match act {
-        Act::Put(text) | Act::Drop(text) | Act::Find(_, text) | Act::Vault(text) => {
-            match read_credential(alloc, text.as_bytes()) {
-                Ok(credential) => about_credential(rt, desk, pass, act, credential),
-                Err(_) => Told::NoMemory,
-            }
-        }
-        Act::Grant(name) | Act::Revoke(name) | Act::Proof(_, name) | Act::Pass(name) => {
-            match Entity::read(name.as_bytes()) {
-                Ok(who) => about_entity(rt, desk, pass, act, who),
-                Err(_) => Told::Otherwise,
-            }
-        }
-        Act::Ask(role, member) => match query_of(role, Some(member)) {
-            Some(query) => opened(rt, desk, pass, query),
-            None => Told::Otherwise,
+        Act::Find(_, text) | Act::Vault(text) => match read_credential(alloc, text.as_bytes()) {
+            Ok(credential) => about_credential(rt, desk, pass, act, &credential),
+            Err(_) => Told::NoMemory,
         },
-        Act::Who(role) => match query_of(role, None) {
-            Some(query) => opened(rt, desk, pass, query),
-            None => Told::Otherwise,
+        Act::Wait(number) => waited(rt, desk, pass, number, None),
+        Act::Pass(name) => match Entity::read(name.as_bytes()) {
+            Ok(who) => renewed(rt, desk, pass, who),
+            Err(_) => Told::Otherwise,
         },
-        _ => about_pass(rt, desk, pass, act),
+        Act::See(length) => {
+            pass.front = length;
+            Told::Done
+        }
+        Act::Share => Told::Share(pass.front(), pass.share()),
+        Act::Stop => {
+            desk.stop(rt);
+            Told::Done
+        }
+        _ => match request_of(alloc, act) {
+            Ok(request) => match answered(rt, desk, pass, request) {
+                Ok(told) => told,
+                Err(fault) => refused(fault),
+            },
+            Err(_) => Told::NoMemory,
+        },
     }
 }

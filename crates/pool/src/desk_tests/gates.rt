@@ -30,24 +30,17 @@ pub(super) struct Meeting {
     pub(super) left: AtomicBool,
 }
 
-/// Whether so many have come within 100,000 turns.
-fn have_come<R: Clock>(rt: &R, came: &AtomicU64, wanted: u64) -> bool {
-    for _ in 0..100_000u64 {
-        if came.load(Ordering::SeqCst) >= wanted {
-            return true;
-        }
-        thread::sleep(rt, Duration::from_micros(100));
-    }
-    false
-}
-
 impl Meeting {
-    /// The first letter of a search waits for those of the others.
+    /// The first letter of a search waits for those of the others, for 100,000 turns at the most.
     fn meet<R: Clock>(&self, rt: &R) {
         self.came.fetch_add(1, Ordering::SeqCst);
-        if !have_come(rt, &self.came, self.searches) {
-            self.left.store(true, Ordering::SeqCst);
+        for _ in 0..100_000u64 {
+            if self.came.load(Ordering::SeqCst) >= self.searches {
+                return;
+            }
+            thread::sleep(rt, Duration::from_micros(100));
         }
+        self.left.store(true, Ordering::SeqCst);
     }
 }
 

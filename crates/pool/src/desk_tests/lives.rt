@@ -3,8 +3,12 @@ use super::acts::{Act, Told};
 use super::gates::{Meeting, Way};
 use super::plays::{Break, Line, Scene, USUAL, played};
 use snapshots::Span;
-use std::alloc::{AllocError, Global};
+use std::alloc::Global;
+use std::array;
+use std::rt::Clock;
+use std::sync::Wait;
 use std::sync::atomic::{AtomicBool, AtomicU64, Ordering};
+use std::thread::Threads;
 
 /// A credential, and a search of its one member.
 const OPENED: &[Line] = &[
@@ -82,18 +86,6 @@ static FOUR_SEARCHES: Scene = Scene {
     letters: Some(12),
 };
 
-#[test]
-fn four_first_letters_meet_at_the_gate(rt: HostRuntime) -> Result<(), Break> {
-    let meeting = Meeting {
-        searches: 4,
-        came: AtomicU64::new(0),
-        left: AtomicBool::new(false),
-    };
-    played(&rt, rt.alloc(), &FOUR_SEARCHES, Way::Meet(&meeting))?;
-    assert!(rt; !meeting.left.load(Ordering::SeqCst));
-    Ok(())
-}
-
 /// The first search is ended while its first letter is held. It is gone, and the second one's letters are finished.
 static ENDED: Scene = Scene {
     limits: USUAL,
@@ -108,14 +100,6 @@ static ENDED: Scene = Scene {
     left: 0,
     letters: Some(3),
 };
-
-#[test]
-fn a_gate_that_ends_the_search_of_a_held_letter(rt: HostRuntime) -> Result<(), Break> {
-    let over = AtomicBool::new(false);
-    played(&rt, rt.alloc(), &ENDED, Way::End(&over))?;
-    assert!(rt; over.load(Ordering::SeqCst));
-    Ok(())
-}
 
 /// 40 members of a role, and who is in it.
 static FORTY_MEMBERS: Scene = Scene {
@@ -171,33 +155,43 @@ static FORTY_MEMBERS: Scene = Scene {
     letters: Some(81),
 };
 
-/// A count for no letter, and one for each of so many, none of which has passed.
-fn counts_of(alloc: Global, letters: u64) -> Result<Vec<AtomicU64>, AllocError> {
-    let mut counts = Vec::new(alloc);
-    counts.push(AtomicU64::new(0))?;
-    for _ in 0..letters {
-        counts.push(AtomicU64::new(0))?;
+/// Whether each letter has passed once, and none of no number, for which the first count is.
+fn passed_once(counts: &[AtomicU64]) -> bool {
+    let mut wanted = 0;
+    for count in counts {
+        if count.load(Ordering::SeqCst) != wanted {
+            return false;
+        }
+        wanted = 1;
     }
-    Ok(counts)
+    true
 }
 
-/// The first letter that hasn't passed once, or a pass of none.
-fn passed_otherwise(counts: &[AtomicU64]) -> Option<usize> {
-    for (letter, count) in counts.iter().enumerate() {
-        let times = if letter == 0 { 0 } else { 1 };
-        if count.load(Ordering::SeqCst) != times {
-            return Some(letter);
-        }
-    }
-    None
+/// Four first letters meet at the gate, a gate ends the search of a letter that it holds, and of 40 members each of the 81
+/// letters passes once.
+fn held_and_counted<R: Threads + Wait + Clock + Sync>(
+    rt: &R,
+    alloc: Global,
+    meeting: &Meeting,
+    over: &AtomicBool,
+    counts: &[AtomicU64],
+) -> Result<bool, Break> {
+    played(rt, alloc, &FOUR_SEARCHES, Way::Meet(meeting))?;
+    played(rt, alloc, &ENDED, Way::End(over))?;
+    played(rt, alloc, &FORTY_MEMBERS, Way::Count(counts))?;
+    Ok(!meeting.left.load(Ordering::SeqCst) && over.load(Ordering::SeqCst) && passed_once(counts))
 }
 
 #[test]
-fn forty_members_as_81_letters(rt: HostRuntime) -> Result<(), Break> {
-    let Ok(counts) = counts_of(rt.alloc(), 81) else {
-        return Err(Break::NoMemory);
+fn letters_that_a_gate_holds_and_counts(rt: HostRuntime) -> Result<(), Break> {
+    let meeting = Meeting {
+        searches: 4,
+        came: AtomicU64::new(0),
+        left: AtomicBool::new(false),
     };
-    played(&rt, rt.alloc(), &FORTY_MEMBERS, Way::Count(&counts))?;
-    assert_eq!(rt; passed_otherwise(&counts), None);
+    let over = AtomicBool::new(false);
+    let counts: [AtomicU64; 82] = array::from_fn(|_| AtomicU64::new(0));
+    let is_right = held_and_counted(&rt, rt.alloc(), &meeting, &over, &counts)?;
+    assert!(rt; is_right);
     Ok(())
 }

@@ -82,19 +82,6 @@ fn told_to<L: Ledger>(passes: &[Pass<L>]) -> u64 {
     told
 }
 
-/// The passes, which come back since another is out.
-fn come_back<L: Ledger, R: Wait>(
-    rt: &R,
-    desk: &Desk<L>,
-    passes: Vec<Pass<L>>,
-) -> Result<Vec<Pass<L>>, Break> {
-    let count = passes.len();
-    match desk.gather(rt, passes) {
-        Err((DeskFault::PassesOut, passes)) if passes.len() == count => Ok(passes),
-        _ => Err(Break::WrongAnswer),
-    }
-}
-
 /// Takes back all passes. They were told of so many changes, and those that left of so many others.
 fn gather_all<L: Ledger, R: Wait>(
     rt: &R,
@@ -107,6 +94,19 @@ fn gather_all<L: Ledger, R: Wait>(
         Ok(gathered) if gathered.left == left && gathered.length == told.saturating_add(left) => {
             Ok(())
         }
+        _ => Err(Break::WrongAnswer),
+    }
+}
+
+/// The passes, which come back since another is out.
+fn come_back<L: Ledger, R: Wait>(
+    rt: &R,
+    desk: &Desk<L>,
+    passes: Vec<Pass<L>>,
+) -> Result<Vec<Pass<L>>, Break> {
+    let count = passes.len();
+    match desk.gather(rt, passes) {
+        Err((DeskFault::PassesOut, passes)) if passes.len() == count => Ok(passes),
         _ => Err(Break::WrongAnswer),
     }
 }
@@ -148,44 +148,6 @@ fn admit<L: Ledger, R: Wait>(
     }
 }
 
-/// Fills the passes of the scene, and plays the lines before the workers.
-fn begin<L: Ledger, R: Wait>(
-    rt: &R,
-    alloc: Global,
-    desk: &Desk<L>,
-    scene: &Scene<'_>,
-    passes: &mut Vec<Pass<L>>,
-) -> Result<(), Break> {
-    for name in scene.passes {
-        admit(rt, desk, name, passes)?;
-    }
-    tell_each(rt, alloc, desk, passes, scene.before)
-}
-
-/// The passes of the scene, after the lines before the workers.
-fn begun<L: Ledger, R: Wait>(
-    rt: &R,
-    alloc: Global,
-    desk: &Desk<L>,
-    scene: &Scene<'_>,
-) -> Result<Vec<Pass<L>>, Break> {
-    let mut passes = Vec::new(alloc);
-    begin(rt, alloc, desk, scene, &mut passes)?;
-    Ok(passes)
-}
-
-/// Plays the lines beside the workers, and takes the passes back.
-fn beside<L: Ledger, R: Wait>(
-    rt: &R,
-    alloc: Global,
-    desk: &Desk<L>,
-    mut passes: Vec<Pass<L>>,
-    scene: &Scene<'_>,
-) -> Result<(), Break> {
-    tell_each(rt, alloc, desk, &mut passes, scene.beside)?;
-    take_back(rt, desk, passes, scene.left)
-}
-
 /// Runs the workers until the desk is stopped. Where memory was refused to all of them it stops the desk, so that no wait
 /// is left.
 fn work<L: Ledger + Send + Sync, R: Threads + Wait + Clock + Sync>(
@@ -210,7 +172,32 @@ fn finished(worked: Result<u64, DeskFault>, right: Result<(), Break>) -> Result<
     }
 }
 
-/// Plays the scene on the desk, and answers how many letters the workers finished.
+/// Fills the passes of the scene, plays the lines before the workers and those beside them, and answers how many letters
+/// they finished.
+fn acted<L: Ledger + Send + Sync, R: Threads + Wait + Clock + Sync>(
+    rt: &R,
+    alloc: Global,
+    desk: &Desk<L>,
+    passes: &mut Vec<Pass<L>>,
+    scene: &Scene<'_>,
+    way: Way<'_>,
+) -> Result<u64, Break> {
+    for name in scene.passes {
+        admit(rt, desk, name, passes)?;
+    }
+    tell_each(rt, alloc, desk, passes, scene.before)?;
+    thread::scope(thread::scope_env(), rt, |scope| -> Result<u64, Break> {
+        let workers = scene.workers;
+        let Ok(all) = scope.spawn(move || work(rt, desk, workers, way)) else {
+            return Err(Break::NoMemory);
+        };
+        let right = tell_each(rt, alloc, desk, passes, scene.beside);
+        desk.stop(rt);
+        finished(all.join(rt), right)
+    })
+}
+
+/// Plays the scene on the desk, takes the passes back, and answers how many letters the workers finished.
 fn staged<L: Ledger + Send + Sync, R: Threads + Wait + Clock + Sync>(
     rt: &R,
     alloc: Global,
@@ -218,16 +205,10 @@ fn staged<L: Ledger + Send + Sync, R: Threads + Wait + Clock + Sync>(
     scene: &Scene<'_>,
     way: Way<'_>,
 ) -> Result<u64, Break> {
-    thread::scope(thread::scope_env(), rt, |scope| -> Result<u64, Break> {
-        let passes = begun(rt, alloc, desk, scene)?;
-        let workers = scene.workers;
-        let Ok(all) = scope.spawn(move || work(rt, desk, workers, way)) else {
-            return Err(Break::NoMemory);
-        };
-        let right = beside(rt, alloc, desk, passes, scene);
-        desk.stop(rt);
-        finished(all.join(rt), right)
-    })
+    let mut passes = Vec::new(alloc);
+    let letters = acted(rt, alloc, desk, &mut passes, scene, way)?;
+    take_back(rt, desk, passes, scene.left)?;
+    Ok(letters)
 }
 
 /// Plays the scene on a desk of the roster.
@@ -250,17 +231,13 @@ fn on_desk<L: Ledger + Send + Sync, R: Threads + Wait + Clock + Sync>(
     }
 }
 
-fn limits_of(numbers: [u64; 6]) -> Option<Limits> {
-    let [creds, grants, searches, changes, opens, work] = numbers;
-    Limits::make(creds, grants, searches, changes, opens, work)
-}
-
 /// The roster of A, with these limits, and B.
 fn roster_of_two(alloc: Global, numbers: [u64; 6]) -> Result<Vec<(Entity, Limits)>, Break>
     ensures { IfOk result (λ roster. IsDistinct is_same (map (λ row. row.0) roster.items)) }
 {
-    let (Ok(a), Ok(b), Some(limits)) = (Entity::read(b"A"), Entity::read(b"B"), limits_of(numbers))
-    else {
+    let [creds, grants, searches, changes, opens, work] = numbers;
+    let limits = Limits::make(creds, grants, searches, changes, opens, work);
+    let (Ok(a), Ok(b), Some(limits)) = (Entity::read(b"A"), Entity::read(b"B"), limits) else {
         return Err(Break::WrongAnswer);
     };
     if a == b {
