@@ -93,17 +93,15 @@ static FORTY: [&str; 40] = [
 ];
 
 fn are_forty(names: &[Entity]) -> bool {
-    let mut wanted = FORTY.as_slice();
+    let mut place = 0usize;
     for name in names {
-        let Some((first, rest)) = wanted.split_first() else {
-            return false;
-        };
-        if name.bytes() != first.as_bytes() {
-            return false;
+        match FORTY.get(place) {
+            Some(wanted) if name.bytes() == wanted.as_bytes() => {}
+            _ => return false,
         }
-        wanted = rest;
+        place = place.saturating_add(1);
     }
-    wanted.is_empty()
+    place == FORTY.len()
 }
 
 fn refused(fault: DeskFault) -> Told {

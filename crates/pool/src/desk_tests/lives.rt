@@ -157,12 +157,11 @@ static FORTY_MEMBERS: Scene = Scene {
 
 /// Whether each letter has passed once, and none of no number, for which the first count is.
 fn passed_once(counts: &[AtomicU64]) -> bool {
-    let mut wanted = 0;
-    for count in counts {
-        if count.load(Ordering::SeqCst) != wanted {
+    for letter in 0..counts.len() {
+        let times = if letter == 0 { 0 } else { 1 };
+        if counts[letter].load(Ordering::SeqCst) != times {
             return false;
         }
-        wanted = 1;
     }
     true
 }
@@ -175,11 +174,14 @@ fn held_and_counted<R: Threads + Wait + Clock + Sync>(
     meeting: &Meeting,
     over: &AtomicBool,
     counts: &[AtomicU64],
-) -> Result<bool, Break> {
+) -> Result<(), Break> {
     played(rt, alloc, &FOUR_SEARCHES, Way::Meet(meeting))?;
     played(rt, alloc, &ENDED, Way::End(over))?;
     played(rt, alloc, &FORTY_MEMBERS, Way::Count(counts))?;
-    Ok(!meeting.left.load(Ordering::SeqCst) && over.load(Ordering::SeqCst) && passed_once(counts))
+    if meeting.left.load(Ordering::SeqCst) || !over.load(Ordering::SeqCst) || !passed_once(counts) {
+        return Err(Break::WrongAnswer);
+    }
+    Ok(())
 }
 
 #[test]
@@ -191,7 +193,5 @@ fn letters_that_a_gate_holds_and_counts(rt: HostRuntime) -> Result<(), Break> {
     };
     let over = AtomicBool::new(false);
     let counts: [AtomicU64; 82] = array::from_fn(|_| AtomicU64::new(0));
-    let is_right = held_and_counted(&rt, rt.alloc(), &meeting, &over, &counts)?;
-    assert!(rt; is_right);
-    Ok(())
+    held_and_counted(&rt, rt.alloc(), &meeting, &over, &counts)
 }

@@ -46,13 +46,13 @@ pub(super) enum Break {
 }
 
 /// Whether this is what is wanted. Where a search is at work though its end is wanted, its workers had no memory.
-fn hold_against(told: Told, wanted: Told) -> Result<(), Break> {
-    if told == wanted {
-        return Ok(());
-    }
-    match told {
-        Told::NoMemory | Told::Working => Err(Break::NoMemory),
-        _ => Err(Break::WrongAnswer),
+fn hold_against(told: &Told, wanted: &Told) -> Result<(), Break> {
+    if *told == *wanted {
+        Ok(())
+    } else if *told == Told::NoMemory || *told == Told::Working {
+        Err(Break::NoMemory)
+    } else {
+        Err(Break::WrongAnswer)
     }
 }
 
@@ -68,7 +68,7 @@ fn tell_each<L: Ledger, R: Wait>(
         let Some(pass) = passes.get_mut(*place) else {
             return Err(Break::WrongAnswer);
         };
-        hold_against(answer_to(rt, alloc, desk, pass, *act), *wanted)?;
+        hold_against(&answer_to(rt, alloc, desk, pass, *act), wanted)?;
     }
     Ok(())
 }
@@ -76,10 +76,23 @@ fn tell_each<L: Ledger, R: Wait>(
 /// How many changes the passes were told.
 fn told_to<L: Ledger>(passes: &[Pass<L>]) -> u64 {
     let mut told = 0u64;
-    for pass in passes {
-        told = told.saturating_add(pass.share());
+    for place in 0..passes.len() {
+        told = told.saturating_add(passes[place].share());
     }
     told
+}
+
+/// The passes, which come back since another is out.
+fn come_back<L: Ledger, R: Wait>(
+    rt: &R,
+    desk: &Desk<L>,
+    passes: Vec<Pass<L>>,
+) -> Result<Vec<Pass<L>>, Break> {
+    let count = passes.len();
+    match desk.gather(rt, passes) {
+        Err((DeskFault::PassesOut, passes)) if passes.len() == count => Ok(passes),
+        _ => Err(Break::WrongAnswer),
+    }
 }
 
 /// Takes back all passes. They were told of so many changes, and those that left of so many others.
@@ -94,19 +107,6 @@ fn gather_all<L: Ledger, R: Wait>(
         Ok(gathered) if gathered.left == left && gathered.length == told.saturating_add(left) => {
             Ok(())
         }
-        _ => Err(Break::WrongAnswer),
-    }
-}
-
-/// The passes, which come back since another is out.
-fn come_back<L: Ledger, R: Wait>(
-    rt: &R,
-    desk: &Desk<L>,
-    passes: Vec<Pass<L>>,
-) -> Result<Vec<Pass<L>>, Break> {
-    let count = passes.len();
-    match desk.gather(rt, passes) {
-        Err((DeskFault::PassesOut, passes)) if passes.len() == count => Ok(passes),
         _ => Err(Break::WrongAnswer),
     }
 }
@@ -129,22 +129,14 @@ fn take_back<L: Ledger, R: Wait>(
     gather_all(rt, desk, passes, told, left)
 }
 
-/// One pass more.
-fn admit<L: Ledger, R: Wait>(
-    rt: &R,
-    desk: &Desk<L>,
-    name: &str,
-    passes: &mut Vec<Pass<L>>,
-) -> Result<(), Break> {
+/// A pass of the tenant of this name.
+fn admitted<L: Ledger, R: Wait>(rt: &R, desk: &Desk<L>, name: &str) -> Result<Pass<L>, Break> {
     let Ok(who) = Entity::read(name.as_bytes()) else {
         return Err(Break::WrongAnswer);
     };
-    let Ok(pass) = desk.pass(rt, who) else {
-        return Err(Break::WrongAnswer);
-    };
-    match passes.push(pass) {
-        Ok(()) => Ok(()),
-        Err(_) => Err(Break::NoMemory),
+    match desk.pass(rt, who) {
+        Ok(pass) => Ok(pass),
+        Err(_) => Err(Break::WrongAnswer),
     }
 }
 
@@ -183,7 +175,10 @@ fn acted<L: Ledger + Send + Sync, R: Threads + Wait + Clock + Sync>(
     way: Way<'_>,
 ) -> Result<u64, Break> {
     for name in scene.passes {
-        admit(rt, desk, name, passes)?;
+        let pass = admitted(rt, desk, name)?;
+        if passes.push(pass).is_err() {
+            return Err(Break::NoMemory);
+        }
     }
     tell_each(rt, alloc, desk, passes, scene.before)?;
     thread::scope(thread::scope_env(), rt, |scope| -> Result<u64, Break> {
