@@ -76,8 +76,8 @@ fn tell_each<L: Ledger, R: Wait>(
 /// How many changes the passes were told.
 fn told_to<L: Ledger>(passes: &[Pass<L>]) -> u64 {
     let mut told = 0u64;
-    for place in 0..passes.len() {
-        told = told.saturating_add(passes[place].share());
+    for pass in passes {
+        told = told.saturating_add(pass.share());
     }
     told
 }
