@@ -244,7 +244,7 @@ fn renewed<L: Ledger, R: Wait>(rt: &R, desk: &Desk<L>, pass: &mut Pass<L>, who: 
     }
 }
 
-/// The request that the act makes.
+/// The request of an act that is a call with one.
 fn request_of(alloc: Global, act: Act) -> Result<Request, CredFault> {
     Ok(match act {
         Act::Put(text) => Request::Alter(Change::Upload(read_credential(alloc, text.as_bytes())?)),

@@ -131,11 +131,11 @@ fn take_back<L: Ledger, R: Wait>(
 
 /// A pass of the tenant of this name.
 fn admitted<L: Ledger, R: Wait>(rt: &R, desk: &Desk<L>, name: &str) -> Result<Pass<L>, Break> {
-    let Ok(who) = Entity::read(name.as_bytes()) else {
-        return Err(Break::WrongAnswer);
-    };
-    match desk.pass(rt, who) {
-        Ok(pass) => Ok(pass),
+    match Entity::read(name.as_bytes()) {
+        Ok(who) => match desk.pass(rt, who) {
+            Ok(pass) => Ok(pass),
+            Err(_) => Err(Break::WrongAnswer),
+        },
         Err(_) => Err(Break::WrongAnswer),
     }
 }
@@ -226,13 +226,17 @@ fn on_desk<L: Ledger + Send + Sync, R: Threads + Wait + Clock + Sync>(
     }
 }
 
+fn limits_of(numbers: [u64; 6]) -> Option<Limits> {
+    let [creds, grants, searches, changes, opens, work] = numbers;
+    Limits::make(creds, grants, searches, changes, opens, work)
+}
+
 /// The roster of A, with these limits, and B.
 fn roster_of_two(alloc: Global, numbers: [u64; 6]) -> Result<Vec<(Entity, Limits)>, Break>
     ensures { IfOk result (λ roster. IsDistinct is_same (map (λ row. row.0) roster.items)) }
 {
-    let [creds, grants, searches, changes, opens, work] = numbers;
-    let limits = Limits::make(creds, grants, searches, changes, opens, work);
-    let (Ok(a), Ok(b), Some(limits)) = (Entity::read(b"A"), Entity::read(b"B"), limits) else {
+    let (Ok(a), Ok(b), Some(limits)) = (Entity::read(b"A"), Entity::read(b"B"), limits_of(numbers))
+    else {
         return Err(Break::WrongAnswer);
     };
     if a == b {
