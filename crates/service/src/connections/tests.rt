@@ -35,25 +35,24 @@ fn comes_of<R: Wait + Clock>(rt: &R, alloc: Global, faults: &[i32]) -> Result<us
     }
 }
 
-// The numbers are Linux's: no descriptor left for the process (24) or the system (23), no buffer (105), no memory (12); the
-// peer has gone (103, 71), can't be reached (113, 101) or may not connect (1).
+/// The numbers of faults, and what comes of a listener that fails by them. The numbers are Linux's.
+static FAULTS: [(&[i32], Result<usize, ServeFault>); 8] = [
+    // These pass: no descriptor left for the process (24) or the system (23), no buffer (105), no memory (12); the peer has
+    // gone (103, 71), can't be reached (113, 101) or may not connect (1).
+    (&[], Ok(0)),
+    (&[24, 23, 105, 12, 103, 71, 113, 101, 1], Ok(9)),
+    (&[24; 12], Ok(12)),
+    // These are the end: it isn't open (9), no socket (88), no stream (95), not listening (22), or doesn't wait (11).
+    (&[24, 9], Err(ServeFault::Socket)),
+    (&[24, 88], Err(ServeFault::Socket)),
+    (&[24, 95], Err(ServeFault::Socket)),
+    (&[24, 22], Err(ServeFault::Socket)),
+    (&[24, 11], Err(ServeFault::Socket)),
+];
+
 #[test]
 fn a_fault_that_passes_is_no_end(rt: HostRuntime) {
-    assert_eq!(rt; comes_of(&rt, rt.alloc(), &[]), Ok(0));
-    assert_eq!(rt;
-        comes_of(&rt, rt.alloc(), &[24, 23, 105, 12, 103, 71, 113, 101, 1]),
-        Ok(9)
-    );
-    assert_eq!(rt; comes_of(&rt, rt.alloc(), &[24; 12]), Ok(12));
-}
-
-// It isn't open (9), no socket (88), no stream (95), not listening (22), or doesn't wait (11).
-#[test]
-fn a_fault_of_the_listener_is_the_end(rt: HostRuntime) {
-    for number in [9, 88, 95, 22, 11] {
-        assert_eq!(rt;
-            comes_of(&rt, rt.alloc(), &[24, number]),
-            Err(ServeFault::Socket)
-        );
+    for (faults, end) in &FAULTS {
+        assert!(rt; comes_of(&rt, rt.alloc(), *faults) == *end);
     }
 }

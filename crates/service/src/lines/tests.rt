@@ -2,115 +2,135 @@ use super::limit::Limited;
 use super::*;
 use crate::fakes::{Drips, NEVER};
 use NextLine::{End, Fault, Long, NotAscii, Text};
-use std::process::Abort;
-use std::test::Fail;
 
-fn expect_lines<R: Read + Drop>(
-    rt: &(impl Abort + AllocGlobal),
+/// Whether the reader gives this line first, where one is named, and then these.
+fn gives<R: Read + Drop>(
+    alloc: Global,
     reader: R,
-    wanted: &[NextLine],
-) -> Result<(), Fail> {
-    let mut lines = LineReader::make(rt.alloc(), reader)?;
-    for line in wanted {
-        assert_eq!(rt; lines.next(), *line);
+    first: Option<NextLine>,
+    others: &[NextLine],
+) -> bool {
+    let Ok(mut lines) = LineReader::make(alloc, reader) else {
+        return false;
+    };
+    if let Some(first) = first
+        && lines.next() != first
+    {
+        return false;
     }
-    Ok(())
+    for line in others {
+        if lines.next() != *line {
+            return false;
+        }
+    }
+    true
 }
 
-// Each input at once, and one byte a call; the end stays.
-fn expect_both_ways(
-    rt: &(impl Abort + AllocGlobal),
+/// The same of an input as a whole, and of one byte a call.
+fn gives_both_ways(
+    alloc: Global,
     input: &[u8],
-    wanted: &[NextLine],
-) -> Result<(), Fail> {
-    expect_lines(rt, input, wanted)?;
-    expect_lines(rt, Drips::new(input, NEVER), wanted)
+    first: Option<NextLine>,
+    others: &[NextLine],
+) -> bool {
+    let drips = Drips {
+        rest: input,
+        before_fault: NEVER,
+    };
+    gives(alloc, input, first, others) && gives(alloc, drips, first, others)
+}
+
+/// Inputs and their lines. The end stays.
+static INPUTS: [(&[u8], &[NextLine]); 11] = [
+    (b"", &[End, End]),
+    (b"\n", &[Text(b""), End, End]),
+    (b"a b\n\nc\n", &[Text(b"a b"), Text(b""), Text(b"c"), End]),
+    (b"a\nb", &[Text(b"a"), Text(b"b"), End, End]),
+    (b"a\r\nb\r\n", &[Text(b"a"), Text(b"b"), End]),
+    (b"\r\n", &[Text(b""), End]),
+    (b"a\r\r\nb", &[NotAscii, Text(b"b"), End]),
+    (b"a\rb\n", &[NotAscii, End]),
+    (b"a\n\r", &[Text(b"a"), NotAscii, End]),
+    (
+        b"\x00\n\t\n\x1f\n \n",
+        &[NotAscii, NotAscii, NotAscii, Text(b" "), End],
+    ),
+    (b"~\n\x7f\na\xc8\n", &[Text(b"~"), NotAscii, NotAscii, End]),
+];
+
+/// How many bytes stand before these, what the line is, unless it is a text, and what follows.
+static ROOMS: [(usize, &[u8], Option<NextLine>, &[NextLine]); 12] = [
+    (4096, b"\nb", None, &[Text(b"b"), End]),
+    (4096, b"\r\nb", None, &[Text(b"b"), End]),
+    (4097, b"\nb", Some(Long), &[Text(b"b"), End]),
+    (4097, b"\r\nb", Some(Long), &[Text(b"b"), End]),
+    (4096, b"\r\r\nb", Some(Long), &[Text(b"b"), End]),
+    (4096, b"\t\nb", Some(Long), &[Text(b"b"), End]),
+    (4095, b"\t\nb", Some(NotAscii), &[Text(b"b"), End]),
+    (9000, b"\xc8\nb", Some(Long), &[Text(b"b"), End]),
+    (4096, b"", None, &[End]),
+    (4097, b"", Some(Long), &[End]),
+    (4096, b"\r", Some(Long), &[End]),
+    (4095, b"\r", Some(NotAscii), &[End]),
+];
+
+/// Whether so many bytes, and these behind them, are such a line, and these follow. A line of so many bytes is a text.
+fn is_roomy(
+    alloc: Global,
+    count: usize,
+    end: &[u8],
+    first: Option<NextLine>,
+    others: &[NextLine],
+) -> Result<bool, AllocError> {
+    let text = vec![in alloc; b'x'; count]?;
+    let mut input = Vec::from_slice(alloc, &text)?;
+    input.extend_from_slice(end)?;
+    let first = first.unwrap_or(Text(&text));
+    Ok(gives_both_ways(alloc, &input, Some(first), others))
 }
 
 #[test]
-fn cuts_an_input_into_lines(rt: HostRuntime) -> Result<(), Fail> {
-    let cases: [(&[u8], &[NextLine]); 11] = [
-        (b"", &[End, End]),
-        (b"\n", &[Text(b""), End, End]),
-        (b"a b\n\nc\n", &[Text(b"a b"), Text(b""), Text(b"c"), End]),
-        (b"a\nb", &[Text(b"a"), Text(b"b"), End, End]),
-        (b"a\r\nb\r\n", &[Text(b"a"), Text(b"b"), End]),
-        (b"\r\n", &[Text(b""), End]),
-        (b"a\r\r\nb", &[NotAscii, Text(b"b"), End]),
-        (b"a\rb\n", &[NotAscii, End]),
-        (b"a\n\r", &[Text(b"a"), NotAscii, End]),
-        (
-            b"\x00\n\t\n\x1f\n \n",
-            &[NotAscii, NotAscii, NotAscii, Text(b" "), End],
-        ),
-        (b"~\n\x7f\na\xc8\n", &[Text(b"~"), NotAscii, NotAscii, End]),
-    ];
-    for (input, wanted) in cases {
-        expect_both_ways(&rt, input, wanted)?;
+fn cuts_an_input_into_lines(rt: HostRuntime) {
+    for (input, lines) in &INPUTS {
+        assert!(rt; gives_both_ways(rt.alloc(), *input, None, *lines));
     }
-    Ok(())
+    for (count, end, first, others) in &ROOMS {
+        assert!(rt; is_roomy(rt.alloc(), *count, *end, *first, *others) == Ok(true));
+    }
 }
 
-#[test]
-fn allows_lines_up_to_their_room(rt: HostRuntime) -> Result<(), Fail> {
-    let room = vec![in rt.alloc(); b'x'; LINE_ROOM]?;
-    let full = Text(&room);
-    let ends: [(usize, &[u8], NextLine); 8] = [
-        (4096, b"\nb", full),
-        (4096, b"\r\nb", full),
-        (4097, b"\nb", Long),
-        (4097, b"\r\nb", Long),
-        (4096, b"\r\r\nb", Long),
-        (4096, b"\t\nb", Long),
-        (4095, b"\t\nb", NotAscii),
-        (9000, b"\xc8\nb", Long),
-    ];
-    for (count, end, wanted) in ends {
-        let mut input = vec![in rt.alloc(); b'x'; count]?;
-        input.extend_from_slice(end)?;
-        expect_both_ways(&rt, &input, &[wanted, Text(b"b"), End])?;
-    }
-    let last_ends: [(usize, &[u8], NextLine); 4] = [
-        (4096, b"", full),
-        (4097, b"", Long),
-        (4096, b"\r", Long),
-        (4095, b"\r", NotAscii),
-    ];
-    for (count, end, wanted) in last_ends {
-        let mut input = vec![in rt.alloc(); b'x'; count]?;
-        input.extend_from_slice(end)?;
-        expect_both_ways(&rt, &input, &[wanted, End])?;
-    }
-    Ok(())
-}
+/// How many calls come before the one that fails, and the lines that are then given of `a` and `b`. Each call fails in turn,
+/// the one at the end too; the lines that came whole are given, and the fault stays.
+static FAULTS: [(u64, &[NextLine]); 6] = [
+    (0, &[Fault, Fault]),
+    (1, &[Fault, Fault]),
+    (2, &[Text(b"a"), Fault, Fault]),
+    (3, &[Text(b"a"), Fault, Fault]),
+    (4, &[Text(b"a"), Text(b"b"), Fault, Fault]),
+    (5, &[Text(b"a"), Text(b"b"), End, End]),
+];
 
-// Each call fails in turn, the one at the end too; the lines that came whole are given, and the fault stays.
 #[test]
-fn stays_at_a_fault(rt: HostRuntime) -> Result<(), Fail> {
-    let cases: [(u64, &[NextLine]); 6] = [
-        (0, &[Fault, Fault]),
-        (1, &[Fault, Fault]),
-        (2, &[Text(b"a"), Fault, Fault]),
-        (3, &[Text(b"a"), Fault, Fault]),
-        (4, &[Text(b"a"), Text(b"b"), Fault, Fault]),
-        (5, &[Text(b"a"), Text(b"b"), End, End]),
-    ];
-    for (before_fault, wanted) in cases {
-        expect_lines(&rt, Drips::new(b"a\nb\n", before_fault), wanted)?;
+fn stays_at_a_fault(rt: HostRuntime) {
+    for (before_fault, lines) in &FAULTS {
+        let reader = Drips {
+            rest: b"a\nb\n",
+            before_fault: *before_fault,
+        };
+        assert!(rt; gives(rt.alloc(), reader, None, *lines));
     }
-    Ok(())
 }
 
 #[test]
 fn counts_each_call_of_read(rt: HostRuntime) {
-    let mut limited = Limited {
-        inner: Drips::new(b"abc", 1),
-        left: 3,
+    let inner = Drips {
+        rest: b"abc",
+        before_fault: 1,
     };
+    let mut limited = Limited { inner, left: 3 };
     let mut one = [0u8; 1];
-    let was_read = [true, false, true, false, false];
-    for wanted in was_read {
-        assert_eq!(rt; limited.read(&mut one).is_ok(), wanted);
+    for wanted in [true, false, true, false, false] {
+        assert!(rt; limited.read(&mut one).is_ok() == wanted);
     }
-    assert_eq!(rt; one, *b"b");
+    assert!(rt; one[0] == b'b');
 }

@@ -1,85 +1,123 @@
 use super::*;
 use crate::fakes::{Drips, NEVER, Refuses, Trickles};
-use std::test::Fail;
 
-static WRONG_ROSTER: &[u8] = b"?: error 63 roster\n";
+const WRONG_ROSTER: &[u8] = b"?: error 63 roster\n";
 
-static SCRIPT: &[u8] = b"tenant A a\nbegin\nA: put A.r <- D\nA: ask A.r D\nA: wait 1\n";
+const SCRIPT: &[u8] = b"tenant A a\nbegin\nA: put A.r <- D\nA: ask A.r D\nA: wait 1\n";
 
-static REPLIES: &[u8] = b"A: ok 1\nA: search 1\nA: yes\n";
+const REPLIES: &[u8] = b"A: ok 1\nA: search 1\nA: yes\n";
 
-/// Whether a script comes to this, and this is written.
+/// Whether a script comes to this, and this is written to a writer that then refuses, if at all.
 fn comes_to<R: Read + Drop>(
     alloc: Global,
     reader: R,
     end: Result<(), ScriptFault>,
     written: &[u8],
+    refuses: Option<Refuses>,
 ) -> bool {
-    let mut output = Vec::new(alloc);
-    let came_to = run_script(alloc, reader, &mut output);
-    came_to == end && output.as_slice() == written
+    let mut writer = Trickles::new(written, refuses);
+    run_script(alloc, reader, &mut writer) == end && writer.is_content()
 }
 
-/// Whether the writer's refusal of the byte behind what is written here ends a script.
-fn ends_behind<R: Read + Drop>(alloc: Global, reader: R, written: &[u8], refuses: Refuses) -> bool {
-    let mut writer = Trickles::new(Vec::new(alloc), written.len() as u64, refuses);
-    let came_to = run_script(alloc, reader, &mut writer);
-    came_to == Err(ScriptFault::Write) && writer.taken.as_slice() == written
-}
-
-#[test]
-fn runs_a_whole_script(rt: HostRuntime) {
-    assert!(rt; comes_to(rt.alloc(), SCRIPT, Ok(()), REPLIES));
-    let mut bytes = Trickles::new(Vec::new(rt.alloc()), NEVER, Refuses::WithAnError);
-    let came_to = run_script(rt.alloc(), Drips::new(SCRIPT, NEVER), &mut bytes);
-    assert_eq!(rt; came_to, Ok(()));
-    assert_eq!(rt; bytes.taken.as_slice(), REPLIES);
-}
-
-// Each command once, and a long reply.
-#[test]
-fn carries_out_each_command(rt: HostRuntime) {
-    let input: &[u8] = b"tenant A a\ntenant B b\nbegin\n\
-        A: put A.r <- B.s\nB: put B.s <- D\nB: put B.s <- C & B.s.t\nB: grant A\n\
-        A: ask A.r D\nA: poll 1\nA: who A.r\nB: drop B.s <- D\nA: sees\nB: revoke A\n\
-        A: wait 1\nA: wait 2\nA: poll 1\nA: end 1\nA: poll 1\nB: vault\nB: grant *\nA: sees\n\
-        B: revoke *\nB: sees\nB: look\n";
-    let wanted: &[u8] = b"A: ok 1\nB: ok 1\nB: ok 2\nB: ok 3\n\
-        A: search 1\nA: working\nA: search 2\nB: ok 4\nA: sees A B\nB: ok 5\n\
-        A: yes\nA: members D\nA: yes\nA: ended\nA: error 51 no such search\n\
-        B: vault 1\nB: B.s <- C & B.s.t\nB: ok 6\nA: sees A B*\nB: ok 7\nB: sees B\n\
-        B: error 64 command\n";
-    let mut output = Vec::new(rt.alloc());
-    assert_eq!(rt; run_script(rt.alloc(), input, &mut output), Ok(()));
-    assert_eq!(rt; output.as_slice(), wanted);
-}
-
-// What follows the faulty line is left unread.
-#[test]
-fn answers_a_faulty_roster_at_once(rt: HostRuntime) {
-    let mut reader = Drips::new(b"tenant A\nbegin\nA: vault\n", NEVER);
-    let end = Err(ScriptFault::Roster);
-    assert!(rt; comes_to(rt.alloc(), &mut reader, end, WRONG_ROSTER));
-    assert_eq!(rt; reader.rest(), b"begin\nA: vault\n".as_slice());
-}
-
-/// What is written of `REPLIES` before the writer refuses a reply, and what is then left unread of `SCRIPT`.
-static REFUSED: [(&[u8], &[u8]); 3] = [
-    (b"", b"A: ask A.r D\nA: wait 1\n"),
-    (b"A: ok 1\n", b"A: wait 1\n"),
-    (b"A: ok 1\nA: search 1\n", b""),
+/// Scripts and what is written.
+static SCRIPTS: [(&[u8], &[u8]); 2] = [
+    (SCRIPT, REPLIES),
+    // Each command once, and a long reply.
+    (
+        b"tenant A a\ntenant B b\nbegin\n\
+            A: put A.r <- B.s\nB: put B.s <- D\nB: put B.s <- C & B.s.t\nB: grant A\n\
+            A: ask A.r D\nA: poll 1\nA: who A.r\nB: drop B.s <- D\nA: sees\nB: revoke A\n\
+            A: wait 1\nA: wait 2\nA: poll 1\nA: end 1\nA: poll 1\nB: vault\nB: grant *\nA: sees\n\
+            B: revoke *\nB: sees\nB: look\n",
+        b"A: ok 1\nB: ok 1\nB: ok 2\nB: ok 3\n\
+            A: search 1\nA: working\nA: search 2\nB: ok 4\nA: sees A B\nB: ok 5\n\
+            A: yes\nA: members D\nA: yes\nA: ended\nA: error 51 no such search\n\
+            B: vault 1\nB: B.s <- C & B.s.t\nB: ok 6\nA: sees A B*\nB: ok 7\nB: sees B\n\
+            B: error 64 command\n",
+    ),
 ];
 
-// The writer refuses each reply in turn, and then the lines behind that command are left unread.
+/// Whether this is written for a script as a whole, and also byte by byte.
+fn is_run(alloc: Global, script: &[u8], replies: &[u8]) -> bool {
+    let mut output = Vec::new(alloc);
+    run_script(alloc, script, &mut output) == Ok(())
+        && output.as_slice() == replies
+        && comes_to(
+            alloc,
+            Drips {
+                rest: script,
+                before_fault: NEVER,
+            },
+            Ok(()),
+            replies,
+            None,
+        )
+}
+
 #[test]
-fn answers_each_line_before_the_next_is_read(rt: HostRuntime) {
-    for (written, unread) in &REFUSED {
-        let mut reader = Drips::new(SCRIPT, NEVER);
-        assert!(rt;
-            ends_behind(rt.alloc(), &mut reader, *written, Refuses::WithAnError),
-            "behind {written:?}"
-        );
-        assert_eq!(rt; reader.rest(), *unread);
+fn runs_whole_scripts(rt: HostRuntime) {
+    for (script, replies) in &SCRIPTS {
+        assert!(rt; is_run(rt.alloc(), *script, *replies));
+    }
+}
+
+/// A script, what is written of its replies, whether the writer refuses the next one, why the script ends, and what is then
+/// left unread.
+type Broken = (
+    &'static [u8],
+    &'static [u8],
+    Option<Refuses>,
+    ScriptFault,
+    &'static [u8],
+);
+
+static BROKEN: [Broken; 4] = [
+    // What follows a faulty line of the roster.
+    (
+        b"tenant A\nbegin\nA: vault\n",
+        WRONG_ROSTER,
+        None,
+        ScriptFault::Roster,
+        b"begin\nA: vault\n",
+    ),
+    // The lines behind a command whose reply is refused, since each line is answered before the next is read.
+    (
+        SCRIPT,
+        b"",
+        Some(Refuses::WithAnError),
+        ScriptFault::Write,
+        b"A: ask A.r D\nA: wait 1\n",
+    ),
+    (
+        SCRIPT,
+        b"A: ok 1\n",
+        Some(Refuses::WithAnError),
+        ScriptFault::Write,
+        b"A: wait 1\n",
+    ),
+    (
+        SCRIPT,
+        b"A: ok 1\nA: search 1\n",
+        Some(Refuses::WithAnError),
+        ScriptFault::Write,
+        b"",
+    ),
+];
+
+/// Whether the script ends so.
+fn is_left(alloc: Global, broken: &Broken) -> bool {
+    let (script, written, refuses, fault, unread) = *broken;
+    let mut reader = Drips {
+        rest: script,
+        before_fault: NEVER,
+    };
+    comes_to(alloc, &mut reader, Err(fault), written, refuses) && reader.rest == unread
+}
+
+#[test]
+fn leaves_what_follows_unread(rt: HostRuntime) {
+    for broken in &BROKEN {
+        assert!(rt; is_left(rt.alloc(), broken));
     }
 }
 
@@ -96,28 +134,40 @@ fn answers(read: usize) -> &'static [u8] {
 #[test]
 fn answers_the_lines_before_a_read_fault(rt: HostRuntime) {
     for read in 0..57usize {
-        let reader = Drips::new(SCRIPT, read as u64);
-        let end = Err(ScriptFault::Read);
+        let reader = Drips {
+            rest: SCRIPT,
+            before_fault: read as u64,
+        };
         assert!(rt;
-            comes_to(rt.alloc(), reader, end, answers(read)),
-            "after {read} bytes"
+            comes_to(
+                rt.alloc(),
+                reader,
+                Err(ScriptFault::Read),
+                answers(read),
+                None
+            )
         );
     }
 }
 
-#[test]
-fn stops_at_a_write_fault(rt: HostRuntime) {
-    let wrong: &[u8] = b"begin\n";
-    for refuses in [Refuses::WithAnError, Refuses::ByTakingNothing] {
-        for (input, replies) in [(SCRIPT, REPLIES), (wrong, WRONG_ROSTER)] {
-            for at in 0..replies.len() {
-                assert!(rt;
-                    ends_behind(rt.alloc(), input, &replies[..at], refuses),
-                    "{refuses:?} at {at} of {replies:?}"
-                );
-            }
+/// Whether the script stops wherever its writer refuses.
+fn stops_at_each_write(alloc: Global, script: &[u8], replies: &[u8]) -> bool {
+    let end = Err(ScriptFault::Write);
+    for at in 0..replies.len() {
+        let written = &replies[..at];
+        if !comes_to(alloc, script, end, written, Some(Refuses::WithAnError))
+            || !comes_to(alloc, script, end, written, Some(Refuses::ByTakingNothing))
+        {
+            return false;
         }
     }
+    true
+}
+
+#[test]
+fn stops_at_a_write_fault(rt: HostRuntime) {
+    assert!(rt; stops_at_each_write(rt.alloc(), SCRIPT, REPLIES));
+    assert!(rt; stops_at_each_write(rt.alloc(), b"begin\n", WRONG_ROSTER));
 }
 
 static TEXTS: [(ScriptFault, &str); 4] = [
@@ -128,15 +178,14 @@ static TEXTS: [(ScriptFault, &str); 4] = [
 ];
 
 /// Whether the fault has this text.
-fn reads_as(rt: &HostRuntime, fault: ScriptFault, expected: &str) -> Result<bool, Fail> {
-    let text = format!(in rt.alloc(); "{fault}")?;
-    Ok(text.as_str() == expected)
+fn reads_as(fault: ScriptFault, expected: &str) -> bool {
+    let mut writer = Trickles::new(expected.as_bytes(), None);
+    write!(writer, "{fault}").is_ok() && writer.is_content()
 }
 
 #[test]
-fn texts_of_the_faults(rt: HostRuntime) -> Result<(), Fail> {
+fn texts_of_the_faults(rt: HostRuntime) {
     for (fault, text) in &TEXTS {
-        assert!(rt; reads_as(&rt, *fault, *text)?, "at {text}");
+        assert!(rt; reads_as(*fault, text));
     }
-    Ok(())
 }
