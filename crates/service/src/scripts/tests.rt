@@ -40,18 +40,13 @@ static SCRIPTS: [(&[u8], &[u8]); 2] = [
 /// Whether this is written for a script as a whole, and also byte by byte.
 fn is_run(alloc: Global, script: &[u8], replies: &[u8]) -> bool {
     let mut output = Vec::new(alloc);
+    let drips = Drips {
+        rest: script,
+        before_fault: NEVER,
+    };
     run_script(alloc, script, &mut output) == Ok(())
         && output.as_slice() == replies
-        && comes_to(
-            alloc,
-            Drips {
-                rest: script,
-                before_fault: NEVER,
-            },
-            Ok(()),
-            replies,
-            None,
-        )
+        && comes_to(alloc, drips, Ok(()), replies, None)
 }
 
 #[test]
@@ -61,52 +56,15 @@ fn runs_whole_scripts(rt: HostRuntime) {
     }
 }
 
-/// A script, what is written of its replies, whether the writer refuses the next one, why the script ends, and what is then
-/// left unread.
-type Broken = (
-    &'static [u8],
-    &'static [u8],
-    Option<Refuses>,
-    ScriptFault,
-    &'static [u8],
-);
-
-static BROKEN: [Broken; 4] = [
-    // What follows a faulty line of the roster.
-    (
-        b"tenant A\nbegin\nA: vault\n",
-        WRONG_ROSTER,
-        None,
-        ScriptFault::Roster,
-        b"begin\nA: vault\n",
-    ),
-    // The lines behind a command whose reply is refused, since each line is answered before the next is read.
-    (
-        SCRIPT,
-        b"",
-        Some(Refuses::WithAnError),
-        ScriptFault::Write,
-        b"A: ask A.r D\nA: wait 1\n",
-    ),
-    (
-        SCRIPT,
-        b"A: ok 1\n",
-        Some(Refuses::WithAnError),
-        ScriptFault::Write,
-        b"A: wait 1\n",
-    ),
-    (
-        SCRIPT,
-        b"A: ok 1\nA: search 1\n",
-        Some(Refuses::WithAnError),
-        ScriptFault::Write,
-        b"",
-    ),
-];
-
-/// Whether the script ends so.
-fn is_left(alloc: Global, broken: &Broken) -> bool {
-    let (script, written, refuses, fault, unread) = *broken;
+/// Whether a script comes to this fault, and this is written, and this left unread.
+fn leaves(
+    alloc: Global,
+    script: &[u8],
+    fault: ScriptFault,
+    written: &[u8],
+    refuses: Option<Refuses>,
+    unread: &[u8],
+) -> bool {
     let mut reader = Drips {
         rest: script,
         before_fault: NEVER,
@@ -114,10 +72,45 @@ fn is_left(alloc: Global, broken: &Broken) -> bool {
     comes_to(alloc, &mut reader, Err(fault), written, refuses) && reader.rest == unread
 }
 
+// What follows the faulty line is left unread.
 #[test]
-fn leaves_what_follows_unread(rt: HostRuntime) {
-    for broken in &BROKEN {
-        assert!(rt; is_left(rt.alloc(), broken));
+fn answers_a_faulty_roster_at_once(rt: HostRuntime) {
+    let script = b"tenant A\nbegin\nA: vault\n";
+    let unread = b"begin\nA: vault\n";
+    assert!(rt;
+        leaves(
+            rt.alloc(),
+            script,
+            ScriptFault::Roster,
+            WRONG_ROSTER,
+            None,
+            unread
+        )
+    );
+}
+
+/// What is written of `REPLIES` before the writer refuses a reply, and what is then left unread of `SCRIPT`.
+static REFUSED: [(&[u8], &[u8]); 3] = [
+    (b"", b"A: ask A.r D\nA: wait 1\n"),
+    (b"A: ok 1\n", b"A: wait 1\n"),
+    (b"A: ok 1\nA: search 1\n", b""),
+];
+
+// The writer refuses each reply in turn, and then the lines behind that command are left unread.
+#[test]
+fn answers_each_line_before_the_next_is_read(rt: HostRuntime) {
+    let refuses = Some(Refuses::WithAnError);
+    for (written, unread) in &REFUSED {
+        assert!(rt;
+            leaves(
+                rt.alloc(),
+                SCRIPT,
+                ScriptFault::Write,
+                *written,
+                refuses,
+                *unread
+            )
+        );
     }
 }
 
@@ -133,20 +126,13 @@ fn answers(read: usize) -> &'static [u8] {
 
 #[test]
 fn answers_the_lines_before_a_read_fault(rt: HostRuntime) {
+    let end = Err(ScriptFault::Read);
     for read in 0..57usize {
         let reader = Drips {
             rest: SCRIPT,
             before_fault: read as u64,
         };
-        assert!(rt;
-            comes_to(
-                rt.alloc(),
-                reader,
-                Err(ScriptFault::Read),
-                answers(read),
-                None
-            )
-        );
+        assert!(rt; comes_to(rt.alloc(), reader, end, answers(read), None));
     }
 }
 

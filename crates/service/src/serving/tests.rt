@@ -28,9 +28,10 @@ struct Case<'a> {
     end: Result<u64, ServeFault>,
     /// What is written behind the line that tells where it listens.
     then: &'a str,
-    /// How the writer refuses what comes behind that, or behind so many bytes.
-    refuses: Option<Refuses>,
+    /// How many bytes of all that are taken at most.
     most: usize,
+    /// How the writer refuses what comes behind them.
+    refuses: Option<Refuses>,
 }
 
 /// One that its only peer leaves.
@@ -44,8 +45,8 @@ const LEFT: Case<'static> = Case {
     meanwhile: Meanwhile::OneComesAndCloses,
     end: Ok(1),
     then: "served 1\n",
-    refuses: None,
     most: usize::MAX,
+    refuses: None,
 };
 
 static CASES: [Case<'static>; 4] = [
