@@ -22,16 +22,23 @@ impl OpenListener for Reluctant<'_> {
     }
 }
 
+/// What comes first out of the queue once a listener has failed by these numbers, or the fault that ends it.
+fn first_of<R: Wait + Clock>(
+    rt: &R,
+    faults: &[i32],
+    sender: &Sender<usize>,
+    queue: &Receiver<usize>,
+) -> Result<usize, ServeFault> {
+    let tried = Cell::new(0);
+    accept_all(rt, &Reluctant { faults, tried }, sender, Some(1))?;
+    queue.recv(rt).or(Err(ServeFault::Memory))
+}
+
 /// The first connection of a listener that fails by these numbers first, or the fault that ends it.
 fn comes_of<R: Wait + Clock>(rt: &R, alloc: Global, faults: &[i32]) -> Result<usize, ServeFault> {
-    let tried = Cell::new(0);
-    let Ok((sender, queue)) = bounded(alloc, 1) else {
-        return Err(ServeFault::Memory);
-    };
-    accept_all(rt, &Reluctant { faults, tried }, &sender, Some(1))?;
-    match queue.recv(rt) {
-        Ok(first) => Ok(first),
-        Err(_ended) => Err(ServeFault::Memory),
+    match bounded(alloc, 1) {
+        Ok((sender, queue)) => first_of(rt, faults, &sender, &queue),
+        Err(_) => Err(ServeFault::Memory),
     }
 }
 

@@ -3,16 +3,12 @@ use super::*;
 use crate::fakes::{Drips, NEVER};
 use NextLine::{End, Fault, Long, NotAscii, Text};
 
-/// Whether the reader gives this line first, where one is named, and then these.
-fn gives<R: Read + Drop>(
-    alloc: Global,
-    reader: R,
+/// Whether this line comes first, where one is named, and then these.
+fn come<R: Read + Drop>(
+    lines: &mut LineReader<R>,
     first: Option<NextLine>,
     others: &[NextLine],
 ) -> bool {
-    let Ok(mut lines) = LineReader::make(alloc, reader) else {
-        return false;
-    };
     if let Some(first) = first
         && lines.next() != first
     {
@@ -24,6 +20,19 @@ fn gives<R: Read + Drop>(
         }
     }
     true
+}
+
+/// Whether the reader gives this line first, where one is named, and then these.
+fn gives<R: Read + Drop>(
+    alloc: Global,
+    reader: R,
+    first: Option<NextLine>,
+    others: &[NextLine],
+) -> bool {
+    match LineReader::make(alloc, reader) {
+        Ok(mut lines) => come(&mut lines, first, others),
+        Err(_) => false,
+    }
 }
 
 /// The same of an input as a whole, and of one byte a call.
