@@ -1,3 +1,5 @@
+ghost use Rattle.std.specs.Prelude.{◌≤◌};
+
 use super::*;
 use crate::fakes::{Refuses, Trickles, roster_of};
 use std::io::{self, Read};
@@ -196,6 +198,18 @@ fn goes_well<R: Net<Stream = TcpStream> + Clock>(
     }
 }
 
+/// The options of the case, within their bounds.
+fn options_of(case: &Case<'_>) -> ServeOptions
+    ensures workers { (1 ≤ result.workers) × (result.workers ≤ 64) }
+    ensures sessions { (1 ≤ result.sessions) × (result.sessions ≤ 64) }
+{
+    ServeOptions {
+        workers: case.options.workers.clamp(1, 64),
+        sessions: case.options.sessions.clamp(1, 64),
+        ..case.options
+    }
+}
+
 /// Whether that comes of a service at this listener, and this alone is written.
 fn writes<R: Net<Stream = TcpStream> + Threads + Wait + Clock + Sync>(
     rt: &R,
@@ -211,14 +225,7 @@ fn writes<R: Net<Stream = TcpStream> + Threads + Wait + Clock + Sync>(
     let mut writer = Trickles::new(written, case.refuses);
     let (ended, goes_well) = thread::join(
         rt,
-        || {
-            let options = ServeOptions {
-                workers: case.options.workers.clamp(1, 64),
-                sessions: case.options.sessions.clamp(1, 64),
-                ..case.options
-            };
-            serve(rt, alloc, &roster, listener, options, &mut writer)
-        },
+        || serve(rt, alloc, &roster, listener, options_of(case), &mut writer),
         || goes_well(rt, port, lent, case.meanwhile),
     );
     ended == case.end && goes_well && writer.is_content()
