@@ -16,7 +16,7 @@
 set -eu
 if [ "${1-}" = --sample ]; then
     MOST_RUNS=20
-    set -- search:of_cred_graph search:of_monitors search:tests:: pool:a_linked_role_with_its_proof pool:a_whole_life_of_a_search
+    set -- pool:of_cred_graph pool:of_monitors pool:of_search:: pool:a_linked_role_with_its_proof pool:a_whole_life_of_a_search
 fi
 root=$(cd "$(dirname "${BASH_SOURCE[0]}")/.." && pwd)
 work=$(mktemp -d)

@@ -26,10 +26,6 @@ mod searches;
 mod solving;
 mod stages;
 mod telling;
-#[cfg(test)]
-mod tests;
-#[cfg(test)]
-mod tests_below;
 
 pub use batches::Batch;
 pub use carried::Carried;
