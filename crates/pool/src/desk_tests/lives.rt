@@ -157,11 +157,12 @@ static FORTY_MEMBERS: Scene = Scene {
 
 /// Whether each letter has passed once, and none of no number, for which the first count is.
 fn passed_once(counts: &[AtomicU64]) -> bool {
-    for letter in 0..counts.len() {
-        let times = if letter == 0 { 0 } else { 1 };
-        if counts[letter].load(Ordering::SeqCst) != times {
+    let mut wanted = 0;
+    for count in counts {
+        if count.load(Ordering::SeqCst) != wanted {
             return false;
         }
+        wanted = 1;
     }
     true
 }
