@@ -44,9 +44,9 @@ accept_test = vp.Unsigned 1 1000000
 abbrev pub idle_test : ValueParser
 idle_test = vp.Unsigned 1 86400
 
--- `serve` has a port, a number of workers and one of sessions, each of which has a usual value
-abbrev pub threads_command : App
-threads_command =
+-- `serve` with what has a usual value: a port, a number of workers and one of sessions
+abbrev pub usual_command : App
+usual_command =
     with_rule
     (with_rule
     (with_rule (new_app (codes "serve")) (usually (codes "0") (number_rule (codes "port") port_test)))
@@ -56,7 +56,7 @@ threads_command =
 -- and a number of connections and one of seconds
 abbrev pub serve_command : App
 serve_command =
-    with_rule (with_rule threads_command (number_rule (codes "accept") accept_test)) (number_rule (codes "idle") idle_test)
+    with_rule (with_rule usual_command (number_rule (codes "accept") accept_test)) (number_rule (codes "idle") idle_test)
 
 -- the program: its subcommands are `script` and `serve`
 abbrev pub program : App

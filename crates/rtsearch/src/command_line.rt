@@ -1,6 +1,7 @@
 ghost use Rattle.std.specs.Prelude.{◌≡◌, ◌≤◌, ℕ, List, [], ◌∷◌, codes, map, true, false, IfOk, IfErr, OnOk};
 ghost use Rattle.clap.specs.Words.{app_of, kind_of, found_of, one_text, rule_of, subcommand_rows_of};
-ghost use Rattle.rtsearch.specs.CommandLine.{AsksForScript, IsCommandLine, IsFaultOf, program, serve_command, threads_command, number_rule, usually};
+ghost use Rattle.rtsearch.specs.CommandLine.{AsksForScript, IsCommandLine, IsFaultOf, program, serve_command, usual_command};
+ghost use Rattle.rtsearch.specs.CommandLine.{number_rule, usually};
 ghost use Rattle.rtsearch.specs.CommandLine.{entered, is_serve, port_test, threads_test, accept_test, idle_test};
 ghost use Rattle.rtsearch.specs.CommandLine.{HasValue, MayHaveValue, HasOptions, IsValue, IsGiven, AreThreads, Asks};
 
@@ -57,14 +58,14 @@ fn serve_line<'a>(alloc: Global) -> Result<Command<'a>, AllocError>
     let seconds = value_parser!(u64).range(1..=86_400);
     let accept = "Ends after so many connections";
     let idle = "Ends a session whose peer has sent nothing for so many seconds";
-    threads_line(alloc)?
+    usual_line(alloc)?
         .arg(number_option(alloc, "accept", accept, connections))?
         .arg(number_option(alloc, "idle", idle, seconds))
 }
 
-/// Its port and its numbers of threads, which have usual values.
-fn threads_line<'a>(alloc: Global) -> Result<Command<'a>, AllocError>
-    ensures { IfOk result (λ c. app_of c ≡ threads_command) }
+/// Its options that have usual values: its port, and its numbers of threads.
+fn usual_line<'a>(alloc: Global) -> Result<Command<'a>, AllocError>
+    ensures { IfOk result (λ c. app_of c ≡ usual_command) }
 {
     let threads = value_parser!(u64).range(1..=64);
     let port = "The port on 127.0.0.1, 0 for any that is free";
@@ -77,7 +78,7 @@ fn threads_line<'a>(alloc: Global) -> Result<Command<'a>, AllocError>
         .arg(usual_option(alloc, "sessions", sessions, threads, "8"))
 }
 
-/// A number's option that has a usual value.
+/// An option of a number, which has this usual value where the words don't give one.
 fn usual_option<'a>(
     alloc: Global,
     name: &'a str,

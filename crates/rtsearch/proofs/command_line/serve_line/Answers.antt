@@ -16,5 +16,5 @@ returns c =
     c.number_option.ensures.rule ∙ ap (number_rule (codes "accept")) connections in
     let idle_is : rule_of c.number_option-2.result ≡ number_rule (codes "idle") (vp.Unsigned 1 86400) =
     c.number_option-2.ensures.rule ∙ ap (number_rule (codes "idle")) seconds in
-    let four = c.in_ok-arg.ensures.shape c.number_option.ensures.local ∙ ap₂ with_rule c.in_ok-threads_line.ensures accept_is in
+    let four = c.in_ok-arg.ensures.shape c.number_option.ensures.local ∙ ap₂ with_rule c.in_ok-usual_line.ensures accept_is in
     IfOk-weaker c.arg-2.result _ _ (λ command adds. adds.shape c.number_option-2.ensures.local ∙ ap₂ with_rule four idle_is) c.arg-2.ensures

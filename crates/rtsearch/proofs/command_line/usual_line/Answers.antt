@@ -6,7 +6,7 @@ use Rattle.clap.specs.Words.{rule_of, with_rule}
 use Rattle.clap.specs.Simple.{app_of_fields}
 use Rattle.clap.specs.declared.builder.value_parser.ValueParser.TheVariants as vp
 use Rattle.rtsearch.specs.CommandLine.{number_rule, usually}
-use Rattle.rtsearch.proofs.command_line.threads_line.Goals as goal
+use Rattle.rtsearch.proofs.command_line.usual_line.Goals as goal
 
 pub returns : goal.returns
 returns c =
