@@ -280,6 +280,9 @@ module _ (nodes : List Expr) (st : NumberedStage) (d : Computation (Load ℕ)) (
   pub waiting_count : length (waiting_in (stage_at nodes st)) ≡ length (waiting d)
   waiting_count = ap (λ (s : Stage). length (waiting_in s)) shows ∙ ap length (waiting-named (load_at nodes) d) ∙ length-map (waiting d) (entry_with (load_at nodes))
 
+  pub signals_count : length (signals_in (stage_at nodes st)) ≡ length d.signals
+  signals_count = ap (λ (s : Stage). length (signals_in s)) shows
+
   pub none_waits : length (waiting d) ≡ 0 → waiting_in (stage_at nodes st) ≡ []
   none_waits none = nil_from_length (waiting_in (stage_at nodes st)) (waiting_count ∙ none)
 

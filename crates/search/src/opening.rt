@@ -90,7 +90,10 @@ pub(crate) fn open(
             solve(found, node, who, Reason::Leaf)
         }
         Expr::Rol(role) => {
-            let span = looked_up.unwrap_or_else(|| snapshot.find(role));
+            let span = match looked_up {
+                Some(span) => span,
+                None => snapshot.find(role),
+            };
             ask_rows(alloc, found, snapshot, span)
         }
         Expr::Link(base, _name) => {

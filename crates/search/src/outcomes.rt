@@ -1,5 +1,5 @@
 /// What a search has come to.
-#[derive(Clone, Copy, Debug, PartialEq, Eq)]
+#[derive(Clone, Copy, PartialEq, Eq)]
 pub enum Status {
     /// Something of it is outstanding.
     Working,
@@ -16,7 +16,7 @@ pub enum Status {
 }
 
 /// How the finish of a letter went.
-#[derive(Clone, Copy, Debug, PartialEq, Eq)]
+#[derive(Clone, Copy, PartialEq, Eq)]
 pub enum Finished {
     Done,
     /// The hint isn't the one that the letter needs: the letter waits again.

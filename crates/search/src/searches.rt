@@ -24,8 +24,7 @@ use crate::outcomes::{Finished, Status};
 use crate::queries::{Hint, Need, Query, Task};
 use crate::receiving::receive;
 use crate::stages::{
-    NumberedStage, Stage, deliver, has_ended, held_letter, hold, nothing_moves, send,
-    signals_under_way, wait_again, waiting_letters,
+    NumberedStage, Stage, deliver, held_letter, hold, nothing_moves, send, wait_again,
 };
 use cred_graph::{Graph, Port};
 use names::Entity;
@@ -123,14 +122,20 @@ impl Search {
     pub fn waiting(&self) -> u64
         ensures { result ≡ length (waiting_in self.now.stage) }
     {
-        waiting_letters(&self.stage)
+        match &self.stage {
+            NumberedStage::Running(running) => running.waiting(),
+            NumberedStage::Spent | NumberedStage::Broken => 0,
+        }
     }
 
     /// How many signals are under way.
     pub fn signals(&self) -> u64
         ensures { result ≡ length (signals_in self.now.stage) }
     {
-        signals_under_way(&self.stage)
+        match &self.stage {
+            NumberedStage::Running(running) => running.signals(),
+            NumberedStage::Spent | NumberedStage::Broken => 0,
+        }
     }
 
     /// What the search has come to.
@@ -317,7 +322,11 @@ impl Search {
 fn tidy(stage: &NumberedStage, found: &mut Findings, alloc: Global)
     ensures { (found.new.graph ≡ found.old.graph) × (found.new.monitors ≡ found.old.monitors) }
 {
-    if has_ended(stage) {
+    let has_ended = match stage {
+        NumberedStage::Running(running) => running.is_complete(),
+        NumberedStage::Spent | NumberedStage::Broken => true,
+    };
+    if has_ended {
         found.give_back(alloc);
     }
 }

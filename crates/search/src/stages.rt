@@ -1,5 +1,5 @@
 //! Where a search stands, and the steps of its computation.
-ghost use Rattle.std.specs.Prelude.{◌≡◌, ◌≤◌, ◌↔◌, false, List, None, length, slice_get, IsTrue, IfSome, MatchOption};
+ghost use Rattle.std.specs.Prelude.{◌≡◌, ◌≤◌, ◌↔◌, false, List, None, slice_get, IsTrue, IfSome, MatchOption};
 ghost use Rattle.scholten_core.specs.Computation.{Computation, IsHeld};
 ghost use Rattle.search.specs.Net.{Said};
 ghost use Rattle.search.specs.Stage.{waiting_in, signals_in, held_in, HoldsLetter, Holds, stage_marked, Sends, Delivers};
@@ -122,28 +122,6 @@ pub(crate) fn send(
     }
 }
 
-// How many letters wait.
-pub(crate) fn waiting_letters(stage: &NumberedStage) -> u64
-    ensures { (nodes : List Expr) → result ≡ length (waiting_in (stage_at nodes stage.now)) }
-{
-    match stage {
-        NumberedStage::Running(running) => running.waiting(),
-        NumberedStage::Spent => 0,
-        NumberedStage::Broken => 0,
-    }
-}
-
-// How many signals are under way.
-pub(crate) fn signals_under_way(stage: &NumberedStage) -> u64
-    ensures { (nodes : List Expr) → result ≡ length (signals_in (stage_at nodes stage.now)) }
-{
-    match stage {
-        NumberedStage::Running(running) => running.signals(),
-        NumberedStage::Spent => 0,
-        NumberedStage::Broken => 0,
-    }
-}
-
 // The signal at that place is delivered, where there is one. With the last one the memory of letters is given back.
 #[inline(always)]
 pub(crate) fn deliver(stage: &mut NumberedStage, place: u64) -> bool
@@ -159,17 +137,6 @@ pub(crate) fn deliver(stage: &mut NumberedStage, place: u64) -> bool
     running.signal(place);
     running.give_back();
     true
-}
-
-// Whether nothing is outstanding any more.
-pub(crate) fn has_ended(stage: &NumberedStage) -> bool
-    ensures { (nodes : List Expr) → result ≡ false → IsOutstanding (stage_at nodes stage.now) }
-{
-    match stage {
-        NumberedStage::Running(running) => running.is_complete(),
-        NumberedStage::Spent => true,
-        NumberedStage::Broken => true,
-    }
 }
 
 // Whether nothing moves before a held letter comes back: no letter waits and no signal is under way.

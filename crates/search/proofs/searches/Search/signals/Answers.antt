@@ -1,9 +1,11 @@
-use Rattle.std.proofs.Common.{◌∙◌, ap, length}
+use Rattle.std.proofs.Common.{◌∙◌, ap, length, sym}
 use Rattle.search.specs.Search.{SearchState}
 use Rattle.search.specs.Stage.{signals_in}
+use Rattle.search.proofs.Numbered.{signals_count}
 use Rattle.search.proofs.searches.Search.signals.Goals as goal
 
-pub returns : goal.returns
-returns c =
-    c.signals_under_way.ensures c.self.inside.found.graph.nodes
+pub returns-in-Running : goal.returns-in-Running
+returns-in-Running c =
+    c.signals.ensures
+    ∙ sym (signals_count c.self.inside.found.graph.nodes c.self.inside.stage c.in-Running.running c.in-Running.is)
     ∙ ap (λ (s : SearchState). length (signals_in s.stage)) c.self.view_is

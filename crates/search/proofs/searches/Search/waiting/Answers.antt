@@ -1,9 +1,12 @@
-use Rattle.std.proofs.Common.{◌∙◌, ap, length}
+-- As many letters wait in words as with numbers.
+use Rattle.std.proofs.Common.{◌∙◌, ap, length, sym}
 use Rattle.search.specs.Search.{SearchState}
 use Rattle.search.specs.Stage.{waiting_in}
+use Rattle.search.proofs.Numbered.{waiting_count}
 use Rattle.search.proofs.searches.Search.waiting.Goals as goal
 
-pub returns : goal.returns
-returns c =
-    c.waiting_letters.ensures c.self.inside.found.graph.nodes
+pub returns-in-Running : goal.returns-in-Running
+returns-in-Running c =
+    c.waiting.ensures
+    ∙ sym (waiting_count c.self.inside.found.graph.nodes c.self.inside.stage c.in-Running.running c.in-Running.is)
     ∙ ap (λ (s : SearchState). length (waiting_in s.stage)) c.self.view_is
