@@ -43,9 +43,10 @@ impl Hall {
         ensures { Happens self.old event.now result self.new }
     {
         match event {
-            Event::Request(who, request) => {
-                self.serve(*who, request).unwrap_or_else(Reply::Refused)
-            }
+            Event::Request(who, request) => match self.serve(*who, request) {
+                Ok(reply) => reply,
+                Err(fault) => Reply::Refused(fault),
+            },
             Event::Step(step) => Reply::Stepped(self.step(*step)),
         }
     }

@@ -1,4 +1,4 @@
-use Rattle.std.proofs.Common.{◌≡◌, ◌∙◌, ◌++◌, ◌∷◌, [], ℕ, ap, subst, sym}
+use Rattle.std.proofs.Common.{◌≡◌, ◌∙◌, ◌++◌, ◌∷◌, [], ℕ, List, ap, subst, sym}
 use Rattle.std.proofs.lemmas.List.{map-append}
 use Rattle.std.proofs.lemmas.List.Elements.{All-push}
 use Rattle.search.specs.declared.letters.Load.{Load}
@@ -12,7 +12,7 @@ invariant_of-self-2 c =
     let is = subst (λ (s : Progress). IsLoad s.graph.nodes c.args.load) (sym c.self.view_is) c.requires in
     record {
       once = c.self.invariant.once;
-      loads = subst (AreLoads old.graph.nodes) (sym c.in_ok-push_back.ensures.items) (All-push (λ (o : ℕ × Load ℕ). IsLoad old.graph.nodes o.1) old.outs.items (c.args.to, c.args.load) c.self.invariant.loads is);
+      loads = subst (AreLoads old.graph.nodes) (sym {A = List (ℕ × Load ℕ)} c.in_ok-push_back.ensures.items) (All-push (λ (o : ℕ × Load ℕ). IsLoad old.graph.nodes o.1) old.outs.items (c.args.to, c.args.load) c.self.invariant.loads is);
       monitors = c.self.invariant.monitors;
       ports = c.self.invariant.ports;
     }
