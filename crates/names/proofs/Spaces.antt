@@ -172,3 +172,12 @@ other_first text i inside other =
     ap trim_start first
     ∙ cond-false (get_or text i 0 == 32) (trim_start (drop (suc i) text)) _ (ne_eqb (get_or text i 0) 32 other)
     ∙ sym first
+
+-- a text is blank where nothing of it is left without the spaces in front
+pub blank_start : (text : List ℕ) → (length (trim_start text) == 0) ≡ list_all is_space text
+blank_start [] = refl
+blank_start (b ∷ bs) =
+    elim (cases_Bool (b == 32)) [
+      | inl is ↦ ap (λ (t : List ℕ). length t == 0) (cond-true (b == 32) (trim_start bs) (b ∷ bs) is) ∙ blank_start bs ∙ simp is
+      | inr not ↦ ap (λ (t : List ℕ). length t == 0) (cond-false (b == 32) (trim_start bs) (b ∷ bs) not) ∙ ne_eqb (length (b ∷ bs)) 0 (λ e. cc) ∙ sym (and_left (b == 32) (list_all is_space bs) not)
+    ]

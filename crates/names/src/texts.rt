@@ -30,7 +30,7 @@ pub fn cut(text: &[u8], byte: u8) -> (&[u8], Option<&[u8]>)
 pub fn is_blank(text: &[u8]) -> bool
     ensures { result ≡ is_blank text.now }
 {
-    text.iter().all(|byte| *byte == b' ')
+    trim_start(text).is_empty()
 }
 
 /// The text without the spaces in front.
