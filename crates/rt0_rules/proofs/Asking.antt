@@ -1,8 +1,10 @@
 -- What the expressions ask by the facts is what they ask by the rules; and what a whole search asks is found by asking in turn.
+use Rattle.std.specs.Prelude.{nat_lt}
 use Rattle.std.proofs.Common.{ℕ, Bool, true, false, List, [], ◌∷◌, ◌++◌, ◌+◌, ◌<◌, ◌≤◌, ◌≡◌, ◌∙◌, inl, inr, sym, subst, ap, arith, cond, zero, suc, refl, map, length, take, get_or, append_assoc, Some}
 use Rattle.std.specs.List.{Contains, flat_map, slice_get}
 use Rattle.std.proofs.lemmas.List.{take_more, take_all, take-append-le, length-take-le, length-map}
 use Rattle.std.proofs.lemmas.List.Elements.{Contains-push_cases, Contains-get_or}
+use Rattle.std.proofs.lemmas.Bool.{ltb-true, ltb-false}
 use Rattle.names.specs.declared.roles.Role.{Role}
 use Rattle.credential_text.specs.declared.credentials.Credential.{Credential}
 use Rattle.credential_text.specs.declared.intersections.Part.{Part}
@@ -16,7 +18,7 @@ use Rattle.rt0_rules.specs.Derivation.{Derives}
 use Rattle.rt0_rules.specs.Facts.{is_same_role, knows, all_entities, IsSound, IsClosed}
 use Rattle.rt0_rules.specs.Asks.{Why, Asks, asks_body, asks_base, asks_via, asks_part, Demanded, asked_role, asked_by}
 use Rattle.rt0_rules.specs.Work.{Ask, IsAsk, AreDistinct, ListsAll, WorkExceeds}
-use Rattle.rt0_rules.specs.Asked.{why_of, ask_of, body_asks, via_asks, part_ask, part_asks, asks_from, Adds}
+use Rattle.rt0_rules.specs.Asked.{why_of, ask_of, body_asks, via_asks, part_ask, part_asks, asks_from, Adds, IsAskedWithin}
 use Rattle.rt0_rules.proofs.SameTexts.{same_role, role_itself}
 use Rattle.rt0_rules.proofs.Elements.{Contains-none, Contains-first, Contains-later, Contains-cons_cases, Contains-flat_map}
 use Rattle.rt0_rules.proofs.Distinct.{IsMapped, mapped, IsJoined, joined, AreDistinct-map}
@@ -238,3 +240,13 @@ asked_much C facts everyone role asks place limit so_far many = record {
   tells_are = record { distinct = tt; right = λ tell none. absurd (Contains-none tell none) };
   over = omega (arith, length-map asks ask_of);
 }
+
+-- all asks, where they are fewer than the limit
+pub asked_within : (C : List Credential) (facts : List Fact) (everyone : List (List ℕ)) (role : Role) (asks : List Asked) (place limit : ℕ) (all : Bool) →
+    all ≡ nat_lt (length asks) limit → IsClosed C (all_entities C) facts → ListsAll (Contains (all_entities C)) everyone →
+    AskedSoFar C facts everyone role asks place → (length asks < limit → length asks ≤ place) → IsAskedWithin C role limit all asks
+asked_within C facts everyone role asks place limit true is closed everyone_listed so_far past =
+    let below : length asks < limit = ltb-true (length asks) limit (sym is) in
+    (asked_all C facts everyone role asks place closed everyone_listed so_far (past below), below)
+asked_within C facts everyone role asks place limit false is closed everyone_listed so_far past =
+    asked_much C facts everyone role asks place limit so_far (ltb-false (length asks) limit (sym is))

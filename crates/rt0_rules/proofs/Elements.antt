@@ -1,6 +1,6 @@
 -- Elements of lists, and what a search for one finds.
-use Rattle.std.proofs.Common.{ℕ, Bool, true, false, List, [], ◌∷◌, ◌++◌, ◌+◌, ◌<◌, ◌≡◌, ◌∙◌, ◌⊎◌, inl, inr, ap, sym, subst, arith, All, Some, None, length, take, get_or}
-use Rattle.std.proofs.lemmas.List.{flat_map_more, take_more}
+use Rattle.std.proofs.Common.{ℕ, Bool, true, false, List, [], ◌∷◌, ◌++◌, ◌+◌, ◌<◌, ◌≤◌, ◌≡◌, ◌∙◌, ◌⊎◌, inl, inr, ap, sym, subst, arith, cond, All, Some, None, length, take, get_or}
+use Rattle.std.proofs.lemmas.List.{flat_map_more, take_more, take_all, append-nil}
 use Rattle.std.specs.List.{Contains, find, flat_map}
 use Rattle.std.proofs.lemmas.List.Elements.{All-nil, All-cons, Contains-append_left, Contains-append_right, Contains-append_cases, Contains-push, Contains-push_cases}
 use Rattle.std.proofs.lemmas.Bool.{cases_Bool}
@@ -56,3 +56,20 @@ pub appends_next : {X Y : Type 0} (f : X → List Y) (xs : List X) (i : ℕ) (x 
 appends_next f xs i x start before after within is so_far now =
     now ∙ ap (λ l. l ++ f x) so_far ∙ flat_map_more f start (take i xs) x
     ∙ ap (λ l. start ++ flat_map f l) (ap (λ y. take i xs ++ y ∷ []) is ∙ sym (take_more xs i x within))
+
+-- what a loop has appended past all elements
+pub appends_all : {X Y : Type 0} (f : X → List Y) (xs : List X) (i : ℕ) (start now : List Y) → length xs ≤ i →
+    now ≡ start ++ flat_map f (take i xs) → now ≡ start ++ flat_map f xs
+appends_all f xs i start now past so_far = so_far ∙ ap (λ l. start ++ flat_map f l) (take_all i xs past)
+
+-- an element that is appended where something holds
+pub appends_where : {X : Type 0} (holds : Bool) (x : X) (before after : List X) → holds ≡ true → after ≡ before ++ x ∷ [] →
+    after ≡ before ++ cond holds (x ∷ []) []
+appends_where true x before after is now = now
+appends_where false x before after is now = cc
+
+-- and nothing where it doesn't hold
+pub appends_nothing : {X : Type 0} (holds : Bool) (x : X) (before after : List X) → holds ≡ false → after ≡ before →
+    after ≡ before ++ cond holds (x ∷ []) []
+appends_nothing true x before after is now = cc
+appends_nothing false x before after is now = now ∙ sym (append-nil before)

@@ -1,7 +1,8 @@
 -- What a search over the credentials finds, and what it means that it finds nothing.
-use Rattle.std.proofs.Common.{ℕ, List, ◌<◌, ◌≤◌, ◌≡◌, sym, refl, subst, true, Some, length, take, get_or}
+use Rattle.std.proofs.Common.{ℕ, List, [], ◌∷◌, ◌++◌, ◌+◌, ◌<◌, ◌≤◌, ◌≡◌, ◌∙◌, sym, refl, subst, ap, true, Some, None, length, take, get_or}
 use Rattle.std.specs.List.{Contains, find}
-use Rattle.std.proofs.lemmas.List.{take_all}
+use Rattle.std.proofs.lemmas.List.{take_all, take_more}
+use Rattle.std.proofs.lemmas.List.Elements.{All-push}
 use Rattle.credential_text.specs.declared.credentials.Credential.{Credential}
 use Rattle.rt0_rules.specs.declared.facts.Fact.{Fact}
 use Rattle.rt0_rules.specs.Facts.{is_owed, IsOwed, IsClosed}
@@ -24,3 +25,10 @@ pub closed_alike : (C : List Credential) (entities others : List (List ℕ)) (fa
     → facts ≡ more → IsClosed C entities facts → IsClosed C others more
 closed_alike C entities others facts more same alike closed =
     subst (λ (es : List (List ℕ)). IsClosed C es more) same (subst (IsClosed C entities) alike closed)
+
+-- the search at one credential more found nobody
+pub closed_next : (C : List Credential) (entities : List (List ℕ)) (facts : List Fact) (i : ℕ) (c : Credential) →
+    i < length C → c ≡ get_or C i c → find (is_owed facts c) entities ≡ None → IsClosed (take i C) entities facts → IsClosed (take (i + 1) C) entities facts
+closed_next C entities facts i c within is none so_far =
+    let more : take (i + 1) C ≡ take i C ++ c ∷ [] = take_more C i c within ∙ ap (λ y. take i C ++ y ∷ []) (sym is) in
+    subst (λ (l : List Credential). IsClosed l entities facts) (sym more) (All-push (λ d. find (is_owed facts d) entities ≡ None) (take i C) c so_far none)

@@ -1,5 +1,5 @@
 -- What the plain count of a search's work goes through: the asks of each expression, and the members that are told.
-use Rattle.std.specs.Prelude.{ℕ, List, [], ◌∷◌, ◌++◌, ◌+◌, ◌<◌, ◌≤◌, ◌≡◌, ◌⊎◌, ◌↔◌, cond, map, length, Contains, Option, Some, None, Vec}
+use Rattle.std.specs.Prelude.{ℕ, Bool, true, false, List, [], ◌∷◌, ◌++◌, ◌+◌, ◌<◌, ◌≤◌, ◌≡◌, ◌⊎◌, ◌↔◌, cond, map, length, Contains, Option, Some, None}
 use Rattle.std.specs.List.{flat_map, filter, sum_by}
 use Rattle.names.specs.declared.roles.Role.{Role}
 use Rattle.credential_text.specs.declared.credentials.Credential.{Credential}
@@ -74,9 +74,9 @@ pub record Adds {X : Type 0} (xs old new : List X) : Type 0 where
   pub exact : (x : X) → Contains new x ↔ (Contains old x ⊎ Contains xs x)
 
 -- all asks of a search, fewer than the limit; or so many that its work exceeds it
-abbrev pub IsAskedWithin : {A : Type 0} → List Credential → Role → ℕ → Option (Vec Asked A) → Type 0
-IsAskedWithin C role limit (Some asks) = ListsAll (IsAsk C role) (map ask_of asks.items) × (length asks.items < limit)
-IsAskedWithin C role limit None = WorkExceeds C role limit
+abbrev pub IsAskedWithin : List Credential → Role → ℕ → Bool → List Asked → Type 0
+IsAskedWithin C role limit true asks = ListsAll (IsAsk C role) (map ask_of asks) × (length asks < limit)
+IsAskedWithin C role limit false asks = WorkExceeds C role limit
 
 -- the total, where it is at most the limit
 abbrev pub IsCountedWithin : ℕ → ℕ → Option ℕ → Type 0

@@ -28,20 +28,6 @@ pub struct Ask {
     pub asked: Expr,
 }
 
-/// Appends what the role asks for the credential, where it is one of the role.
-fn push_body(credential: &Credential, role: &Role, asks: &mut Vec<Ask>) -> Result<(), AllocError>
-    ensures { OnOk result (asks.new.items ≡ asks.old.items ++ body_asks role.now credential.now) }
-{
-    if credential.head == *role {
-        asks.push(Ask {
-            asker: Expr::Rol(*role),
-            why: Why::Body,
-            asked: credential.body.try_clone()?,
-        })?;
-    }
-    Ok(())
-}
-
 /// Appends what a role asks: the bodies of its credentials.
 fn push_bodies(
     credentials: &[Credential],
@@ -51,59 +37,45 @@ fn push_bodies(
     ensures { OnOk result (asks.new.items ≡ asks.old.items ++ flat_map (body_asks role.now) credentials.now) }
 {
     for credential in credentials {
-        push_body(credential, role, asks)?;
+        if credential.head == *role {
+            asks.push(Ask {
+                asker: Expr::Rol(*role),
+                why: Why::Body,
+                asked: credential.body.try_clone()?,
+            })?;
+        }
     }
     Ok(())
 }
 
-/// Appends what the linked role asks on behalf of the entity, where that is a member of its base.
-fn push_via(
-    facts: &[Fact],
-    base: &Role,
-    name: &RoleName,
-    who: &Entity,
-    asks: &mut Vec<Ask>,
-) -> Result<(), AllocError>
-    ensures { OnOk result (asks.new.items ≡ asks.old.items ++ via_asks facts.now base.now name.now who.now) }
-{
-    if knows(facts, base, who) {
-        let given = Role {
-            owner: *who,
-            name: *name,
-        };
-        asks.push(Ask {
-            asker: Expr::Link(*base, *name),
-            why: Why::Via(*who),
-            asked: Expr::Rol(given),
-        })?;
-    }
-    Ok(())
-}
-
-/// Appends what a linked role asks first: its base.
-fn push_base(base: &Role, name: &RoleName, asks: &mut Vec<Ask>) -> Result<(), AllocError>
-    ensures { OnOk result (asks.new.items ≡ asks.old.items ++ base_ask base.now name.now) }
-{
-    asks.push(Ask {
-        asker: Expr::Link(*base, *name),
-        why: Why::Base,
-        asked: Expr::Rol(*base),
-    })?;
-    Ok(())
-}
-
-/// Appends what a linked role asks on behalf of each member of its base.
-fn push_vias(
+/// Appends what a linked role asks: its base, and on behalf of each member of that the member's role.
+fn push_link(
     facts: &[Fact],
     everyone: &[Entity],
     base: &Role,
     name: &RoleName,
     asks: &mut Vec<Ask>,
 ) -> Result<(), AllocError>
-    ensures { OnOk result (asks.new.items ≡ asks.old.items ++ flat_map (via_asks facts.now base.now name.now) everyone.now) }
+    ensures { OnOk result (asks.new.items ≡ asks.old.items ++ base_ask base.now name.now
+        ++ flat_map (via_asks facts.now base.now name.now) everyone.now) }
 {
+    asks.push(Ask {
+        asker: Expr::Link(*base, *name),
+        why: Why::Base,
+        asked: Expr::Rol(*base),
+    })?;
     for who in everyone {
-        push_via(facts, base, name, who, asks)?;
+        if knows(facts, base, who) {
+            let given = Role {
+                owner: *who,
+                name: *name,
+            };
+            asks.push(Ask {
+                asker: Expr::Link(*base, *name),
+                why: Why::Via(*who),
+                asked: Expr::Rol(given),
+            })?;
+        }
     }
     Ok(())
 }
@@ -143,10 +115,7 @@ pub fn asks_of(
     match asker {
         Expr::Ent(_entity) => {}
         Expr::Rol(role) => push_bodies(credentials, role, &mut asks)?,
-        Expr::Link(base, name) => {
-            push_base(base, name, &mut asks)?;
-            push_vias(facts, everyone, base, name, &mut asks)?;
-        }
+        Expr::Link(base, name) => push_link(facts, everyone, base, name, &mut asks)?,
         Expr::Meet(parts) => push_parts(parts, &mut asks)?,
     }
     Ok(asks)

@@ -1,4 +1,4 @@
-ghost use Rattle.std.specs.Prelude.{◌≡◌, ◌↔◌, ◌<◌, length, Contains, IsTrue, IfOk, OnOk};
+ghost use Rattle.std.specs.Prelude.{◌≡◌, ◌↔◌, ◌<◌, [], length, Contains, IsTrue, IfOk, OnOk};
 ghost use Rattle.rt0_rules.specs.Facts.{all_entities, IsSound, IsClosed};
 ghost use Rattle.rt0_rules.specs.Work.{ListsAll, IsWorkWithin};
 ghost use Rattle.rt0_rules.specs.Asked.{IsWithNew, Adds, IsAskedWithin, members_among, count_of, IsCountedWithin};
@@ -10,12 +10,13 @@ use credential_text::{Credential, Expr};
 use names::{Entity, Role};
 use std::alloc::{AllocError, Global};
 
-/// The entities, each once.
-fn without_repeats(alloc: Global, entities: &[Entity]) -> Result<Vec<Entity>, AllocError>
-    ensures { IfOk result (λ everyone. ListsAll (Contains entities.now) everyone.items) }
+/// The entities that stand in the bodies of the credentials, each once.
+fn everyone_in(alloc: Global, credentials: &[Credential]) -> Result<Vec<Entity>, AllocError>
+    ensures { IfOk result (λ everyone. ListsAll (Contains (all_entities credentials.now)) everyone.items) }
 {
+    let entities = all_entities(alloc, credentials)?;
     let mut everyone = Vec::new(alloc);
-    for entity in entities {
+    for entity in &entities {
         push_new_entity(*entity, &mut everyone)?;
     }
     Ok(everyone)
@@ -58,35 +59,32 @@ fn push_all_new(more: Vec<Ask>, asks: &mut Vec<Ask>) -> Result<(), AllocError>
     Ok(())
 }
 
-/// What a search for the role's members asks, each ask once: what the role asks, and what each asked expression asks in
-/// its turn. `None` where the asks reach the limit.
-fn all_asks(
+/// Fills the list with what a search for the role's members asks, each ask once: what the role asks, and what each asked
+/// expression asks in its turn. Answers whether these are all, which they aren't where they reach the limit.
+fn ask_all(
     alloc: Global,
     credentials: &[Credential],
     facts: &[Fact],
     everyone: &[Entity],
     role: &Role,
     limit: u64,
-) -> Result<Option<Vec<Ask>>, AllocError>
+    asks: &mut Vec<Ask>,
+) -> Result<bool, AllocError>
     requires sound { IsSound credentials.now facts.now }
     requires closed { IsClosed credentials.now (all_entities credentials.now) facts.now }
     requires everyone { ListsAll (Contains (all_entities credentials.now)) everyone.now }
-    ensures { IfOk result (IsAskedWithin credentials.now role.now limit) }
+    requires empty { asks.old.items ≡ [] }
+    ensures { IfOk result (λ all. IsAskedWithin credentials.now role.now limit all asks.new.items) }
 {
-    let mut asks = Vec::new(alloc);
     let first = asks_of(alloc, credentials, facts, everyone, &Expr::Rol(*role))?;
-    push_all_new(first, &mut asks)?;
+    push_all_new(first, asks)?;
     let mut next = 0;
     while next < asks.len() && (asks.len() as u64) < limit {
         let more = asks_of(alloc, credentials, facts, everyone, &asks[next].asked)?;
-        push_all_new(more, &mut asks)?;
+        push_all_new(more, asks)?;
         next += 1;
     }
-    if (asks.len() as u64) < limit {
-        Ok(Some(asks))
-    } else {
-        Ok(None)
-    }
+    Ok((asks.len() as u64) < limit)
 }
 
 /// How many members the expression has.
@@ -126,11 +124,19 @@ pub fn work_plain(
 ) -> Result<Option<u64>, AllocError>
     ensures { IfOk result (λ work. IsWorkWithin credentials.now role.now limit work) }
 {
-    let entities = all_entities(alloc, credentials)?;
-    let everyone = without_repeats(alloc, &entities)?;
+    let everyone = everyone_in(alloc, credentials)?;
     let facts = all_known(alloc, credentials)?;
-    let Some(asks) = all_asks(alloc, credentials, &facts, &everyone, role, limit)? else {
+    let mut asks = Vec::new(alloc);
+    if !ask_all(
+        alloc,
+        credentials,
+        &facts,
+        &everyone,
+        role,
+        limit,
+        &mut asks,
+    )? {
         return Ok(None);
-    };
+    }
     Ok(work_of(&facts, &everyone, &asks, limit))
 }

@@ -2,7 +2,7 @@ use Rattle.std.proofs.Common.{ℕ, List, [], ◌≡◌, ◌∙◌, refl, sym, ap
 use Rattle.credential_text.specs.declared.intersections.Part.{Part}
 use Rattle.credential_text.specs.declared.intersections.Part.TheVariants as part
 use Rattle.rt0_rules.specs.Facts.{entities_in_part}
-use Rattle.rt0_rules.proofs.Elements.{appends_next}
+use Rattle.rt0_rules.proofs.Elements.{appends_next, appends_all}
 use Rattle.rt0_rules.proofs.members.push_part_entities.Goals as goal
 use Rattle.rt0_rules.proofs.members.push_part_entities.Goals.{in-Ent+in_ok-push, in_default}
 
@@ -20,3 +20,8 @@ loop-part-preserved c =
       | in_default w ↦ ap (λ v. v.items) w.entities-is ∙ sym (append-nil c.loop-part.entities.items)
           ∙ ap (λ l. c.loop-part.entities.items ++ l) (sym (no_entity c.part-item.result w.in_default.not-Ent))
     ])
+
+pub returns : goal.returns
+returns c =
+    appends_all entities_in_part c.args.parts.now c.loop-part.part-index c.args.entities.now.items
+    c.loop-part.entities.items c.loop-part-test.false c.loop-part.invariant

@@ -1,7 +1,0 @@
-use Rattle.std.proofs.Common.{◌≡◌, ◌++◌, take}
-use Rattle.std.specs.List.{flat_map}
-use Rattle.rt0_rules.specs.Asked.{via_asks}
-use Rattle.rt0_rules.proofs.asks.push_vias.Given as goal
-
-abbrev pub invariant-loop-who : goal.invariant-loop-who
-invariant-loop-who l = l.asks.items ≡ l.fn.asks.items ++ flat_map (via_asks l.facts l.base l.name) (take l.who-index l.everyone)

@@ -1,6 +1,0 @@
-use Rattle.std.proofs.Common.{[], take}
-use Rattle.rt0_rules.specs.Asked.{Adds}
-use Rattle.rt0_rules.proofs.work.without_repeats.Given as goal
-
-abbrev pub invariant-loop-entity : goal.invariant-loop-entity
-invariant-loop-entity l = Adds (take l.entity-index l.entities) [] l.everyone.items
