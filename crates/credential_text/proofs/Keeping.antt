@@ -1,5 +1,5 @@
 -- What was written first is kept.
-use Rattle.std.proofs.Common.{ℕ, List, [], ◌++◌, ◌≤◌, ◌≡◌, sym, ap, ◌∙◌, refl, length, take, arith, append-nil, Result, Ok, Err, OnOk, IsErr, is_ok, if◌then◌else◌}
+use Rattle.std.proofs.Common.{ℕ, List, [], ◌∷◌, ◌++◌, ◌≤◌, ◌≡◌, sym, ap, ◌∙◌, refl, length, take, arith, append-nil, append_assoc, Result, Ok, Err, OnOk, IsErr, is_ok, if◌then◌else◌}
 use Rattle.std.proofs.lemmas.Result.{IfOk-from_err}
 use Rattle.std.proofs.lemmas.List.{take-take, take_at, length-take}
 
@@ -38,3 +38,14 @@ keeps_last (Err e) mid more new now = keeps_same mid new now
 pub on_ok : {T E : Type 0} (r : Result T E) (P : Type 0) → P → OnOk r P
 on_ok (Ok x) P p = p
 on_ok (Err e) P p = tt
+
+-- what two facts give, where there is no error
+pub on_ok_both : {T E : Type 0} (r : Result T E) (P Q R : Type 0) → (P → Q → R) → OnOk r P → OnOk r Q → OnOk r R
+on_ok_both (Ok x) P Q R both p q = both p q
+on_ok_both (Err e) P Q R both p q = tt
+
+-- a text, a byte and a text behind what was written
+pub written_around : (old first more last : List ℕ) (byte : ℕ) (mid : List ℕ) → mid ≡ old ++ first → more ≡ mid ++ byte ∷ []
+    → more ++ last ≡ old ++ (first ++ byte ∷ last)
+written_around old first more last byte mid begun grown =
+    ap (λ t. t ++ last) (grown ∙ ap (λ t. t ++ byte ∷ []) begun) ∙ append_assoc (old ++ first) (byte ∷ []) last ∙ append_assoc old first (byte ∷ last)

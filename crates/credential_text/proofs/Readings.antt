@@ -1,5 +1,5 @@
 -- What a part's text and its pieces tell of the part.
-use Rattle.std.proofs.Common.{ℕ, Bool, true, false, List, [], ◌∷◌, ◌++◌, ◌≡◌, refl, ap, sym, ◌∙◌, Option, Some, None, length, ◌<◌, arith, append_assoc, cond}
+use Rattle.std.proofs.Common.{ℕ, Bool, true, false, List, [], ◌∷◌, ◌++◌, ◌≡◌, refl, ap, sym, subst, ◌∙◌, Option, Some, None, length, ◌<◌, arith, append_assoc, cond}
 use Rattle.std.specs.Prelude.{MatchOption, is_some, if◌then◌else◌}
 use Rattle.std.specs.List.{join_with_byte}
 use Rattle.std.proofs.lemmas.List.Splits.{join_with_byte-slice_split}
@@ -123,6 +123,22 @@ pub three_pieces : {B : Type 0} (value : B → List ℕ) (text a rest b last c :
 three_pieces value text a rest b last c None first second none third =
     first ∙ ap (λ (ps : List (List ℕ)). a ∷ ps) second ∙ ap (λ (ps : List (List ℕ)). a ∷ b ∷ ps) third
 three_pieces value text a rest b last c (Some more) first second none third = cc
+
+-- it spells a linked role whose base is the owner's
+pub linked_reads : {B : Type 0} (value : B → List ℕ) (owner text a rest b last c : List ℕ) (more : Option B) (base : Role) (n : List ℕ)
+    → text ≡ a ++ dot ∷ rest → rest ≡ b ++ dot ∷ last → is_some more ≡ false
+    → MatchOption more (last ≡ c) (λ m. last ≡ c ++ dot ∷ value m) → IsName a × (base.owner ≡ a) → IsName b × (base.name ≡ b)
+    → IsName c → n ≡ c → is_same base.owner owner ≡ true → ReadsAs owner text (Link base n)
+linked_reads value owner text a rest b last c None base n first second none third of_a of_b of_c is based = record {
+  named =
+      and_from _ _ (subst IsName (sym of_a.1) of_a.0)
+      (and_from _ _ (subst IsName (sym of_b.1) of_b.0) (and_from _ _ (subst IsName (sym is) of_c) refl));
+  based = based;
+  spelled =
+      first ∙ ap (λ t. a ++ dot ∷ t) (second ∙ ap (λ t. b ++ dot ∷ t) third) ∙ sym (link_text a b c)
+      ∙ (λ i. part_text (Link (record { owner = sym of_a.1 i; name = sym of_b.1 i }) (sym is i)));
+}
+linked_reads value owner text a rest b last c (Some more) base n first second none third of_a of_b of_c is based = cc
 
 -- it is refused for the first fault of its base
 pub base_refused : (owner text a b c : List ℕ) (fault : NameFault) → pieces dot text ≡ a ∷ b ∷ c ∷ []
