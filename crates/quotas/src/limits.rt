@@ -50,7 +50,7 @@ impl Model for Limits {
 
 /// What a tenant uses of its limits: the credentials that it holds, the grants that stand, the searches that
 /// it has not ended, its accepted changes, and the searches that it has opened so far.
-#[derive(Clone, Copy, Debug, PartialEq, Eq)]
+#[derive(Clone, Copy)]
 pub struct Used {
     pub creds: u64,
     pub grants: u64,

@@ -14,7 +14,7 @@ use vaults::Row;
 
 /// Where the rows of a role stand in a snapshot: the place of its owner's vault, and in it the rows from `lo` on and
 /// before `hi`. Where there are none, `vault`, `lo` and `hi` say where they would stand.
-#[derive(Clone, Copy, Debug, PartialEq, Eq)]
+#[derive(Clone, Copy, PartialEq, Eq)]
 pub struct Span {
     pub vault: u64,
     pub lo: u64,
