@@ -3,6 +3,11 @@ use Rattle.rt0_rules.specs.Asked.{IsAskedWithin}
 use Rattle.rt0_rules.proofs.Counted.{counted_within, count_alike}
 use Rattle.rt0_rules.proofs.work.work_plain.Goals as goal
 
+pub returns-then-not-branch : goal.returns-then-not-branch
+returns-then-not-branch c =
+    subst (λ (all : Bool). IsAskedWithin c.args.credentials.now c.args.role.now c.args.limit all c.ask_all.new.asks.items) c.if-not-branch.true
+    c.in_ok-ask_all.ensures
+
 pub returns : goal.returns
 returns c =
     let facts = c.in_ok-facts.facts.items in
