@@ -1,16 +1,15 @@
 -- What is left of a body while its parts are read, one after another.
-use Rattle.std.proofs.Common.{ℕ, Bool, true, false, List, [], ◌∷◌, ◌++◌, ◌+◌, ◌<◌, ◌≤◌, ◌≡◌, refl, ap, sym, ◌∙◌, Option, Some, None, MatchOption, Bor, length, map, take, set, count_by, nat_lt, ◌==◌, arith}
-use Rattle.std.specs.List.{list_all}
-use Rattle.std.proofs.lemmas.List.{length-map, length-set, append_assoc, map_push, take_more_set}
-use Rattle.std.proofs.lemmas.Bool.{and_parts, and_from, le-ltb, lt-ltb}
-use Rattle.std.proofs.lemmas.List.Splits.{length-slice_split}
+use Rattle.std.proofs.Common.{ℕ, Bool, true, false, List, [], ◌∷◌, ◌++◌, ◌+◌, ◌<◌, ◌≤◌, ◌≡◌, refl, ap, sym, ◌∙◌, Option, Some, None, MatchOption, Bor, length, map, take, set, nat_lt, not, ◌||◌, ◌==◌, arith}
+use Rattle.std.specs.List.{list_all, list_any}
+use Rattle.std.proofs.lemmas.List.{length-set, append_assoc, map_push, take_more_set}
+use Rattle.std.proofs.lemmas.Bool.{and_parts, and_from, le-ltb, lt-ltb, ne_eqb}
 use Rattle.names.specs.Fault.{or_then}
 use Rattle.names.specs.Texts.{pieces, trim}
 use Rattle.credential_text.specs.declared.faults.CredFault.{CredFault}
 use Rattle.credential_text.specs.declared.intersections.Part.{Part}
 use Rattle.credential_text.specs.Part.{has_names, part_text, is_based_on}
 use Rattle.credential_text.specs.Spelling.{ampersand}
-use Rattle.credential_text.specs.Refusal.{part_texts, part_fault, first_part_fault}
+use Rattle.credential_text.specs.Refusal.{is_empty, part_texts, part_fault, first_part_fault}
 use Rattle.credential_text.specs.Reading.{ReadsAs}
 use Rattle.credential_text.proofs.Readings.{part_faultless}
 
@@ -67,12 +66,47 @@ parts_more owner texts left parts count t p s reads =
           (ap (part_fault owner) reads.spelled ∙ part_faultless owner p reads.named reads.based);
     }
 
--- there is a text for each '&', and one more
-pub length_texts : (body : List ℕ) → length (part_texts body) ≡ count_by (λ b. b == ampersand) body + 1
-length_texts body = length-map (pieces ampersand body) trim ∙ length-slice_split (λ (b : ℕ). b == ampersand) body
+-- so many texts were looked at, 8 at most, and none of them is empty
+pub record PartsSeen (texts left : List (List ℕ)) (count : ℕ) : Type 0 where
+  pub fits : count ≤ 8
+  pub whole : length texts ≡ count + length left
+  pub empty : list_any is_empty texts ≡ list_any is_empty left
 
-pub few_texts : (body : List ℕ) (n : ℕ) → n ≡ count_by (λ b. b == ampersand) body → n < 8 → nat_lt 8 (length (part_texts body)) ≡ false
-few_texts body n counted few = le-ltb 8 (length (part_texts body)) (omega (arith, length_texts body))
+-- no text was looked at yet
+pub none_seen : (texts : List (List ℕ)) → PartsSeen texts texts 0
+none_seen texts = record { fits = omega arith; whole = omega arith; empty = refl }
 
-pub many_texts : (body : List ℕ) (n : ℕ) → n ≡ count_by (λ b. b == ampersand) body → 8 ≤ n → nat_lt 8 (length (part_texts body)) ≡ true
-many_texts body n counted many = lt-ltb 8 (length (part_texts body)) (omega (arith, length_texts body))
+-- one text more
+pub seen_more : (texts left : List (List ℕ)) (t : List ℕ) (count : ℕ) → PartsSeen texts (t ∷ left) count → count < 8 → is_empty t ≡ false
+    → PartsSeen texts left (count + 1)
+seen_more texts left t count s few some = record {
+  fits = omega arith;
+  whole = omega (arith, s.whole);
+  empty = s.empty ∙ ap (λ (b : Bool). b || list_any is_empty left) some;
+}
+
+-- a ninth text
+pub ninth_seen : (texts left : List (List ℕ)) (t : List ℕ) (count : ℕ) → PartsSeen texts (t ∷ left) count → count ≡ 8
+    → false ≡ not (nat_lt 8 (length texts) || list_any is_empty texts)
+ninth_seen texts left t count s many =
+    sym (ap (λ (b : Bool). not (b || list_any is_empty texts)) (lt-ltb 8 (length texts) (omega (arith, s.whole, many))))
+
+either : (a b : Bool) → b ≡ true → false ≡ not (a || b)
+either true b is = refl
+either false b is = sym (ap not is)
+
+-- an empty text
+pub empty_seen : (texts left : List (List ℕ)) (t : List ℕ) (count : ℕ) → PartsSeen texts (t ∷ left) count → is_empty t ≡ true
+    → false ≡ not (nat_lt 8 (length texts) || list_any is_empty texts)
+empty_seen texts left t count s none =
+    either (nat_lt 8 (length texts)) (list_any is_empty texts) (s.empty ∙ ap (λ (b : Bool). b || list_any is_empty left) none)
+
+-- all texts
+pub all_seen : (texts : List (List ℕ)) (count : ℕ) → PartsSeen texts [] count → true ≡ not (nat_lt 8 (length texts) || list_any is_empty texts)
+all_seen texts count s =
+    sym (ap (λ (b : Bool). not (b || list_any is_empty texts)) (le-ltb 8 (length texts) (omega (arith, s.fits, s.whole))) ∙ ap not s.empty)
+
+-- a text is empty where it has no byte
+pub empty_by_length : (t : List ℕ) → is_empty t ≡ (length t == 0)
+empty_by_length [] = refl
+empty_by_length (b ∷ bs) = sym (ne_eqb (length (b ∷ bs)) 0 (λ e. cc))

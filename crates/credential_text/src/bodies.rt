@@ -1,10 +1,9 @@
-ghost use Rattle.std.specs.Prelude.{◌≡◌, ◌≢◌, ◌<◌, ◌≤◌, ◌==◌, ◌||◌, not, nat_lt, length, take, count_by, Some, None, IfOk, IfErr, IsErrOf};
+ghost use Rattle.std.specs.Prelude.{◌≡◌, ◌≢◌, ◌<◌, ◌≤◌, ◌||◌, not, nat_lt, length, take, Some, None, IfOk, IfErr, IsErrOf};
 ghost use Rattle.std.specs.List.{list_any};
 ghost use Rattle.names.specs.Name.{IsName};
 ghost use Rattle.names.specs.Fault.{name_fault, or_then};
 ghost use Rattle.credential_text.specs.declared.faults.CredFault.TheVariants as faults;
 ghost use Rattle.credential_text.specs.Expr.{expr_parts, HasPartsInRange};
-ghost use Rattle.credential_text.specs.Spelling.{ampersand};
 ghost use Rattle.credential_text.specs.Refusal.{is_empty, part_texts, part_fault, first_part_fault, body_fault};
 ghost use Rattle.credential_text.specs.Reading.{ReadsAs, ReadsParts, ReadsBody};
 
@@ -49,31 +48,21 @@ fn read_part(owner: &Entity, text: &[u8]) -> Result<Part, CredFault>
     Ok(Part::Link(base, name))
 }
 
-fn ampersands(text: &[u8]) -> usize
-    ensures { result ≡ count_by (λ b. b == ampersand) text.now }
-{
-    text.iter().filter(|byte| **byte == b'&').count()
-}
-
-fn has_empty_part(body: &[u8]) -> bool
-    ensures { result ≡ list_any is_empty (part_texts body.now) }
-{
-    let mut left = Some(body);
-    while let Some(text) = left {
-        let (part, rest) = cut(text, b'&');
-        if trim(part).is_empty() {
-            return true;
-        }
-        left = rest;
-    }
-    false
-}
-
 /// Whether the body has at most 8 parts, and none of them is empty.
 fn are_parts(body: &[u8]) -> bool
     ensures { result ≡ not (nat_lt 8 (length (part_texts body.now)) || list_any is_empty (part_texts body.now)) }
 {
-    ampersands(body) < MOST_PARTS && !has_empty_part(body)
+    let mut count = 0;
+    let mut left = Some(body);
+    while let Some(text) = left {
+        let (part, rest) = cut(text, b'&');
+        if count == MOST_PARTS || trim(part).is_empty() {
+            return false;
+        }
+        count += 1;
+        left = rest;
+    }
+    true
 }
 
 /// Reads the parts of the body into the front of the array, and answers how many there are.
