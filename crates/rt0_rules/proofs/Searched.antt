@@ -1,11 +1,12 @@
 -- What a search over the credentials finds, and what it means that it finds nothing.
-use Rattle.std.proofs.Common.{ℕ, List, [], ◌∷◌, ◌++◌, ◌+◌, ◌<◌, ◌≤◌, ◌≡◌, ◌∙◌, sym, refl, subst, ap, true, Some, None, length, take, get_or}
-use Rattle.std.specs.List.{Contains, find}
+use Rattle.std.proofs.Common.{ℕ, Bool, List, ◌&&◌, arith, [], ◌∷◌, ◌++◌, ◌+◌, ◌<◌, ◌≤◌, ◌≡◌, ◌∙◌, sym, refl, subst, ap, true, Some, None, length, take, get_or}
+use Rattle.std.specs.List.{Contains, find, list_all}
 use Rattle.std.proofs.lemmas.List.{take_all, take_more}
 use Rattle.std.proofs.lemmas.List.Elements.{All-push}
 use Rattle.credential_text.specs.declared.credentials.Credential.{Credential}
+use Rattle.credential_text.specs.declared.intersections.Part.{Part}
 use Rattle.rt0_rules.specs.declared.facts.Fact.{Fact}
-use Rattle.rt0_rules.specs.Facts.{is_owed, IsOwed, IsClosed}
+use Rattle.rt0_rules.specs.Facts.{is_owed, has_part, IsOwed, IsClosed}
 use Rattle.rt0_rules.proofs.Elements.{find-Some}
 
 -- the search at one credential found the entity
@@ -32,3 +33,8 @@ pub closed_next : (C : List Credential) (entities : List (List ℕ)) (facts : Li
 closed_next C entities facts i c within is none so_far =
     let more : take (i + 1) C ≡ take i C ++ c ∷ [] = take_more C i c within ∙ ap (λ y. take i C ++ y ∷ []) (sym is) in
     subst (λ (l : List Credential). IsClosed l entities facts) (sym more) (All-push (λ d. find (is_owed facts d) entities ≡ None) (take i C) c so_far none)
+
+-- who is in each part of a list that has some
+pub in_each : (p : Part → Bool) (ps now : List Part) (held : Bool) → now ≡ ps → 2 ≤ length ps → held ≡ list_all p now → held ≡ has_part ps && list_all p ps
+in_each p [] now held same several is = absurd (omega (arith, several))
+in_each p (q ∷ qs) now held same several is = is ∙ ap (list_all p) same
