@@ -48,4 +48,5 @@ on_ok_both (Err e) P Q R both p q = tt
 pub written_around : (old first more last : List ℕ) (byte : ℕ) (mid : List ℕ) → mid ≡ old ++ first → more ≡ mid ++ byte ∷ []
     → more ++ last ≡ old ++ (first ++ byte ∷ last)
 written_around old first more last byte mid begun grown =
-    ap (λ t. t ++ last) (grown ∙ ap (λ t. t ++ byte ∷ []) begun) ∙ append_assoc (old ++ first) (byte ∷ []) last ∙ append_assoc old first (byte ∷ last)
+    ap (λ t. t ++ last) (grown ∙ ap (λ t. t ++ byte ∷ []) begun) ∙ append_assoc (old ++ first) (byte ∷ []) last
+    ∙ append_assoc old first (byte ∷ last)

@@ -102,7 +102,8 @@ empty_seen texts left t count s none =
     either (nat_lt 8 (length texts)) (list_any is_empty texts) (s.empty ∙ ap (λ (b : Bool). b || list_any is_empty left) none)
 
 -- all texts
-pub all_seen : (texts : List (List ℕ)) (count : ℕ) → PartsSeen texts [] count → true ≡ not (nat_lt 8 (length texts) || list_any is_empty texts)
+pub all_seen : (texts : List (List ℕ)) (count : ℕ) → PartsSeen texts [] count
+    → true ≡ not (nat_lt 8 (length texts) || list_any is_empty texts)
 all_seen texts count s =
     sym (ap (λ (b : Bool). not (b || list_any is_empty texts)) (le-ltb 8 (length texts) (omega (arith, s.fits, s.whole))) ∙ ap not s.empty)
 

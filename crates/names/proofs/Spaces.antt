@@ -179,5 +179,6 @@ blank_start [] = refl
 blank_start (b ∷ bs) =
     elim (cases_Bool (b == 32)) [
       | inl is ↦ ap (λ (t : List ℕ). length t == 0) (cond-true (b == 32) (trim_start bs) (b ∷ bs) is) ∙ blank_start bs ∙ simp is
-      | inr not ↦ ap (λ (t : List ℕ). length t == 0) (cond-false (b == 32) (trim_start bs) (b ∷ bs) not) ∙ ne_eqb (length (b ∷ bs)) 0 (λ e. cc) ∙ sym (and_left (b == 32) (list_all is_space bs) not)
+      | inr not ↦ ap (λ (t : List ℕ). length t == 0) (cond-false (b == 32) (trim_start bs) (b ∷ bs) not)
+          ∙ ne_eqb (length (b ∷ bs)) 0 (λ e. cc) ∙ sym (and_left (b == 32) (list_all is_space bs) not)
     ]

@@ -242,7 +242,8 @@ asked_much C facts everyone role asks place limit so_far many = record {
 }
 
 -- all asks, where they are fewer than the limit
-pub asked_within : (C : List Credential) (facts : List Fact) (everyone : List (List ℕ)) (role : Role) (asks : List Asked) (place limit : ℕ) (all : Bool) →
+pub asked_within : (C : List Credential) (facts : List Fact) (everyone : List (List ℕ)) (role : Role) (asks : List Asked)
+    (place limit : ℕ) (all : Bool) →
     all ≡ nat_lt (length asks) limit → IsClosed C (all_entities C) facts → ListsAll (Contains (all_entities C)) everyone →
     AskedSoFar C facts everyone role asks place → (length asks < limit → length asks ≤ place) → IsAskedWithin C role limit all asks
 asked_within C facts everyone role asks place limit true is closed everyone_listed so_far past =

@@ -29,12 +29,15 @@ closed_alike C entities others facts more same alike closed =
 
 -- the search at one credential more found nobody
 pub closed_next : (C : List Credential) (entities : List (List ℕ)) (facts : List Fact) (i : ℕ) (c : Credential) →
-    i < length C → c ≡ get_or C i c → find (is_owed facts c) entities ≡ None → IsClosed (take i C) entities facts → IsClosed (take (i + 1) C) entities facts
+    i < length C → c ≡ get_or C i c → find (is_owed facts c) entities ≡ None → IsClosed (take i C) entities facts
+    → IsClosed (take (i + 1) C) entities facts
 closed_next C entities facts i c within is none so_far =
     let more : take (i + 1) C ≡ take i C ++ c ∷ [] = take_more C i c within ∙ ap (λ y. take i C ++ y ∷ []) (sym is) in
-    subst (λ (l : List Credential). IsClosed l entities facts) (sym more) (All-push (λ d. find (is_owed facts d) entities ≡ None) (take i C) c so_far none)
+    subst (λ (l : List Credential). IsClosed l entities facts) (sym more)
+    (All-push (λ d. find (is_owed facts d) entities ≡ None) (take i C) c so_far none)
 
 -- who is in each part of a list that has some
-pub in_each : (p : Part → Bool) (ps now : List Part) (held : Bool) → now ≡ ps → 2 ≤ length ps → held ≡ list_all p now → held ≡ has_part ps && list_all p ps
+pub in_each : (p : Part → Bool) (ps now : List Part) (held : Bool) → now ≡ ps → 2 ≤ length ps → held ≡ list_all p now
+    → held ≡ has_part ps && list_all p ps
 in_each p [] now held same several is = absurd (omega (arith, several))
 in_each p (q ∷ qs) now held same several is = is ∙ ap (list_all p) same

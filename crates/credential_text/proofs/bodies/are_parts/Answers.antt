@@ -21,7 +21,8 @@ loop-left-preserved c =
     let part : List ℕ = c.cut.result.0.now in
     let some : is_empty (trim part) ≡ false =
     empty_by_length (trim part) ∙ ap (λ (t : List ℕ). length t == 0) (sym c.trim.ensures) ∙ sym c.is_empty.ensures ∙ c.if-is_empty.false in
-    seen_more (part_texts c.args.body.now) (texts_left c.cut.result.1) (trim part) c.loop-left.count (seen (goal.at.loop-left-preserved c).After-cut)
+    seen_more (part_texts c.args.body.now) (texts_left c.cut.result.1) (trim part) c.loop-left.count
+    (seen (goal.at.loop-left-preserved c).After-cut)
     (omega (arith, c.loop-left.invariant.fits, c.if-count-eq-MOST_PARTS.false)) some
 
 pub returns-then-count-eq-MOST_PARTS : goal.returns-then-count-eq-MOST_PARTS
@@ -34,10 +35,12 @@ returns-then-count-eq-MOST_PARTS c =
           ninth_seen texts (texts_left c.cut.result.1) (trim part) c.loop-left.count so_far w.if-count-eq-MOST_PARTS.true
       | then-count-eq-MOST_PARTS-via-else-count-eq-MOST_PARTS+then-is_empty w ↦
           empty_seen texts (texts_left c.cut.result.1) (trim part) c.loop-left.count so_far
-          (empty_by_length (trim part) ∙ ap (λ (t : List ℕ). length t == 0) (sym w.trim.ensures) ∙ sym w.is_empty.ensures ∙ w.if-is_empty.true)
+          (empty_by_length (trim part) ∙ ap (λ (t : List ℕ). length t == 0) (sym w.trim.ensures) ∙ sym w.is_empty.ensures
+          ∙ w.if-is_empty.true)
     ]
 
 pub returns : goal.returns
 returns c =
     all_seen (part_texts c.args.body.now) c.loop-left.count
-    (subst (λ (ts : List (List ℕ)). PartsSeen (part_texts c.args.body.now) ts c.loop-left.count) (ap texts_left c.in_default.is) c.loop-left.invariant)
+    (subst (λ (ts : List (List ℕ)). PartsSeen (part_texts c.args.body.now) ts c.loop-left.count) (ap texts_left c.in_default.is)
+    c.loop-left.invariant)

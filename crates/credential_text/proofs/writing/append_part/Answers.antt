@@ -44,7 +44,8 @@ returns-in-Ent c =
 pub returns-in-Rol : goal.returns-in-Rol
 returns-in-Rol c = record {
   written =
-      on_ok_weaker c.append_role.result (λ now. now ∙ ap (λ (p : Part). c.args.out.now.items ++ part_text p) (sym c.in-Rol.is)) c.append_role.ensures.written;
+      on_ok_weaker c.append_role.result (λ now. now ∙ ap (λ (p : Part). c.args.out.now.items ++ part_text p) (sym c.in-Rol.is))
+      c.append_role.ensures.written;
   names =
       on_ok_both c.append_role.result _ _ _
       (λ owner name. subst (λ (p : Part). IsTrue (has_names p)) (sym c.in-Rol.is) (and_from _ _ owner (and_from _ _ name refl)))
@@ -75,5 +76,6 @@ returns-in_ok-push-in-Link c =
           keeps_through old base c.extend_from_slice-in-Link.new.self.items c.append_role-in-Link.ensures.kept
           (keeps_more base mid c.extend_from_slice-in-Link.new.self.items _ c.in_ok-push-in-Link.ensures.items
           (keeps_last c.extend_from_slice-in-Link.result mid name c.extend_from_slice-in-Link.new.self.items last));
-      capacity = omega (arith, c.append_role-in-Link.ensures.capacity, c.push.ensures.capacity, c.extend_from_slice-in-Link.ensures.capacity);
+      capacity =
+          omega (arith, c.append_role-in-Link.ensures.capacity, c.push.ensures.capacity, c.extend_from_slice-in-Link.ensures.capacity);
     }

@@ -11,7 +11,8 @@ loop-credential-preserved c =
     c.loop-credential.asks.items c.if-eq.asks.items c.loop-credential-test.true c.credential-item.is c.loop-credential.invariant
     (elim c.if-eq.branch [
       | then-eq+in_ok-try_clone+in_ok-push w ↦ ap (λ v. v.items) w.asks-is
-          ∙ appends_where (is_same_role c.credential-item.result.head c.args.role.now) _ c.loop-credential.asks.items _ (sym c.eq.ensures ∙ w.if-eq.true)
+          ∙ appends_where (is_same_role c.credential-item.result.head c.args.role.now) _ c.loop-credential.asks.items _
+          (sym c.eq.ensures ∙ w.if-eq.true)
           (rw w.in_ok-try_clone.ensures.same at w.in_ok-push.ensures.items)
       | else-eq w ↦ appends_nothing (is_same_role c.credential-item.result.head c.args.role.now) _ c.loop-credential.asks.items _
           (sym c.eq.ensures ∙ w.if-eq.false) (ap (λ v. v.items) w.asks-is)

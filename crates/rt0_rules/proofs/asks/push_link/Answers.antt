@@ -12,7 +12,8 @@ loop-who-preserved c =
     c.loop-who.asks.items c.if-knows.asks.items c.loop-who-test.true c.who-item.is c.loop-who.invariant
     (elim c.if-knows.branch [
       | then-knows+in_ok-push-2 w ↦ ap (λ v. v.items) w.asks-is
-          ∙ appends_where (knows c.args.facts.now c.args.base.now c.who-item.result) _ c.loop-who.asks.items _ (sym c.knows.ensures ∙ w.if-knows.true) w.in_ok-push-2.ensures.items
+          ∙ appends_where (knows c.args.facts.now c.args.base.now c.who-item.result) _ c.loop-who.asks.items _
+          (sym c.knows.ensures ∙ w.if-knows.true) w.in_ok-push-2.ensures.items
       | else-knows w ↦ appends_nothing (knows c.args.facts.now c.args.base.now c.who-item.result) _ c.loop-who.asks.items _
           (sym c.knows.ensures ∙ w.if-knows.false) (ap (λ v. v.items) w.asks-is)
     ])

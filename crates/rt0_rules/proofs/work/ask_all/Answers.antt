@@ -12,13 +12,15 @@ loop-next-init c =
 pub loop-next-preserved : goal.loop-next-preserved
 loop-next-preserved c =
     asked_next c.args.credentials.now c.args.facts.now c.args.everyone.now c.args.role.now c.in_ok-more.more.items c.loop-next.asks.items
-    c.push_all_new-in-loop-next.new.asks.items c.loop-next.next c.index.result.now c.requires.sound (omega arith) c.index.ensures c.in_ok-more.ensures
+    c.push_all_new-in-loop-next.new.asks.items c.loop-next.next c.index.result.now c.requires.sound (omega arith)
+    c.index.ensures c.in_ok-more.ensures
     c.loop-next.invariant c.in_ok-push_all_new-2.ensures
 
 pub returns : goal.returns
 returns c =
     let len : c.len-2.result ≡ length c.loop-next.asks.items = omega arith in
-    asked_within c.args.credentials.now c.args.facts.now c.args.everyone.now c.args.role.now c.loop-next.asks.items c.loop-next.next c.args.limit
+    asked_within c.args.credentials.now c.args.facts.now c.args.everyone.now c.args.role.now c.loop-next.asks.items
+    c.loop-next.next c.args.limit
     _ (ap (λ (n : ℕ). nat_lt n c.args.limit) len) c.requires.closed c.requires.everyone c.loop-next.invariant
     (λ below. elim c.loop-next-test.branch [
       | then-loop-next-test+else-len-limit w ↦ omega arith

@@ -10,5 +10,6 @@ loop-entity-preserved c =
 
 pub returns : goal.returns
 returns c =
-    subst (λ (es : List (List ℕ)). ListsAll (Contains es) c.loop-entity.everyone.items) (c.deref-entity-items.ensures.value ∙ c.in_ok-entities.ensures)
+    subst (λ (es : List (List ℕ)). ListsAll (Contains es) c.loop-entity.everyone.items)
+    (c.deref-entity-items.ensures.value ∙ c.in_ok-entities.ensures)
     (all_from_adds _ c.loop-entity.everyone.items c.loop-entity.entity-index c.loop-entity-test.false c.loop-entity.invariant)
