@@ -11,7 +11,6 @@ use std::marker::Model;
 /// sent. Nodes are best numbered from 0 on: memory is taken up to the greatest number of a node that was engaged, and
 /// where that can't be had `finish` is refused. Only `start` and `finish` take memory. What a finished letter said is
 /// dropped once no letter that was sent after it is left, or earlier. Contracts see it as a `Computation`.
-#[derive(Debug)]
 pub struct Diffusion<P> {
     letters: LetterTable<P>,
     signals: VecDeque<Parent>,

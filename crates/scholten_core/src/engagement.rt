@@ -5,7 +5,7 @@ use crate::parents::Parent;
 use std::alloc::AllocError;
 
 /// An engaged node: who engaged it, and how much it is owed.
-#[derive(Clone, Copy, Debug)]
+#[derive(Clone, Copy)]
 pub(crate) struct Engagement {
     pub(crate) parent: Parent,
     pub(crate) deficit: u64,

@@ -15,7 +15,7 @@ use std::marker::Model;
 /// The letters that wait or are held, by number, in order of number. A letter that is finished leaves a hole, so that
 /// the others keep their places. Holes at the end are popped when the last letter is finished; all of them are dropped
 /// where room lacks and they are at least an eighth of the entries.
-#[derive(Debug, Drop)]
+#[derive(Drop)]
 pub(crate) struct LetterTable<P> {
     // How many letters were ever sent, the number of the last one.
     sent: u64,
@@ -234,7 +234,7 @@ impl<P: Drop> LetterTable<P> {
         ensures letters { self.new.letters ≡ self.old.letters }
         ensures sent { self.new.sent ≡ self.old.sent }
     {
-        if self.lacks_room(count) && self.has_many_holes() {
+        if self.should_drop_holes(count) {
             self.drop_holes();
         }
         self.letters.reserve(count)
@@ -248,13 +248,10 @@ impl<P: Drop> LetterTable<P> {
         self.letters.shrink_to_fit();
     }
 
-    fn lacks_room(&self, count: usize) -> bool {
-        self.letters.capacity() - self.letters.len() < count
-    }
-
-    // Whether at least an eighth of the entries are holes.
-    fn has_many_holes(&self) -> bool {
-        self.holes >= self.letters.len() / 8
+    // Whether room lacks for so many letters more, and at least an eighth of the entries are holes.
+    fn should_drop_holes(&self, count: usize) -> bool {
+        let len = self.letters.len();
+        self.letters.capacity() - len < count && self.holes >= len / 8
     }
 
     /// Sends letters that wait, where there is room for them.

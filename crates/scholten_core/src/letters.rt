@@ -1,7 +1,7 @@
 use crate::parents::Parent;
 
 /// A letter that waits or is held. It stands in the computation until it is finished.
-#[derive(Debug, Drop)]
+#[derive(Drop)]
 pub struct Letter<P> {
     /// Who sent it, the environment or a node.
     pub from: Parent,

@@ -1,5 +1,5 @@
 /// Who engaged a node, who sent a letter, or whom a signal goes to.
-#[derive(Clone, Copy, Debug, PartialEq, Eq)]
+#[derive(Clone, Copy, PartialEq, Eq)]
 pub enum Parent {
     /// Nobody: the node isn't engaged.
     Neutral,

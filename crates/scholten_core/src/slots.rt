@@ -8,7 +8,7 @@ use crate::parents::Parent;
 use std::marker::Model;
 
 /// A letter, or a hole, which is from nobody. What a finished letter said stays in its hole. Contracts see an option.
-#[derive(Debug, Drop)]
+#[derive(Drop)]
 pub(crate) struct Slot<P> {
     letter: Letter<P>,
 }
