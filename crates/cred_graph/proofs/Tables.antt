@@ -1,10 +1,11 @@
 -- What the look-ups of a table find, where the keys' `==` is equality.
-use Rattle.std.proofs.Common.{ℕ, zero, suc, ◌≡◌, ◌∙◌, ◌↔◌, ap, refl, sym, inl, inr, Bool, true, false, true≢false, List, [], ◌∷◌, ◌++◌, Some, None, Contains, slice_get}
+use Rattle.std.proofs.Common.{ℕ, zero, suc, ◌≡◌, ◌∙◌, ◌↔◌, ap, refl, sym, inl, inr, Bool, true, false, true≢false, List, [], ◌∷◌, ◌++◌, Some, None, Contains, get_or, slice_get}
 use Rattle.std.specs.Bool.{Decides}
-use Rattle.std.specs.List.{list_any, find}
+use Rattle.std.specs.List.{list_any, position}
 use Rattle.std.specs.Map.{lookup_key}
 use Rattle.std.proofs.lemmas.Bool.{cases_Bool, or_left, or_right, cond-true, cond-false, false_from_ne_true}
-use Rattle.std.proofs.lemmas.Option.{none-some, same_Some}
+use Rattle.std.proofs.lemmas.List.Quantifiers.{position-Some}
+use Rattle.std.proofs.lemmas.Option.{none-some, same_Some, slice_get-get_or}
 use Rattle.indexmap.specs.IndexMap.{insert_entry}
 use Rattle.indexmap.specs.IndexSet.{insert_key}
 use Rattle.indexmap.proofs.CallerLemmas.{Contains-list_any}
@@ -22,13 +23,11 @@ module _ {K : Type 0} (eq : K → K → Bool) (exact : (x y : K) → Decides (eq
     λ (stands : Contains ks k). let at = place_of_Contains ks k stands in any_at ks k at.0 at.1,
   )
 
-  -- the key that is found is the one that was looked for
-  pub find_is : (ks : List K) (k x : K) → find (eq k) ks ≡ Some x → k ≡ x
-  find_is [] k x found = absurd (none-some x found)
-  find_is (y ∷ ks) k x found = elim (cases_Bool (eq k y)) [
-    | inl same ↦ (exact k y).0 same ∙ same_Some y x (sym (cond-true (eq k y) (Some y) (find (eq k) ks) same) ∙ found)
-    | inr other ↦ find_is ks k x (sym (cond-false (eq k y) (Some y) (find (eq k) ks) other) ∙ found)
-  ]
+  -- a key stands where it is found
+  pub stands_at : (ks : List K) (k : K) (i : ℕ) → position (eq k) ks ≡ Some i → slice_get ks i ≡ Some k
+  stands_at ks k i found =
+      let passes = position-Some (eq k) ks i k found in
+      slice_get-get_or ks i k passes.0 ∙ ap Some (sym ((exact k (get_or ks i k)).0 passes.1))
 
   -- a key that isn't found isn't there
   pub not_found : (ks : List K) (k : K) → false ≡ list_any (eq k) ks → Contains ks k → ⊥

@@ -51,8 +51,8 @@ impl Interned {
     pub fn number(&self, who: &Entity) -> Option<u32>
         ensures { MatchOption result (Contains self.now who.now → ⊥) (λ k. slice_get self.now k ≡ Some who.now) }
     {
-        match self.names.get_full(who) {
-            Some((number, _name)) => Some(number as u32),
+        match self.names.get_index_of(who) {
+            Some(number) => Some(number as u32),
             None => None,
         }
     }

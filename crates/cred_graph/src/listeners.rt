@@ -22,7 +22,7 @@ pub enum Port<E = Entity> {
 
 /// Who listens to a node: the node `asker`, on a port. One node may listen to another on two ports, which are two
 /// listeners.
-#[derive(Clone, Copy, PartialEq, Eq)]
+#[derive(Clone, Copy)]
 pub struct Listening {
     pub asker: u64,
     pub port: Port,

@@ -50,8 +50,8 @@ impl Nodes {
     pub fn number(&self, expr: &Expr) -> Option<u64>
         ensures { MatchOption result (Contains self.now expr.now → ⊥) (λ n. slice_get self.now n ≡ Some expr.now) }
     {
-        match self.exprs.get_full(expr) {
-            Some((n, _expr)) => Some(n as u64),
+        match self.exprs.get_index_of(expr) {
+            Some(n) => Some(n as u64),
             None => None,
         }
     }

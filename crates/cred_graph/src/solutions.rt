@@ -22,7 +22,7 @@ pub enum Reason<N = u64, E = Entity> {
 }
 
 /// That an entity is a solution of a node, for a reason.
-#[derive(Clone, Copy, PartialEq, Eq)]
+#[derive(Clone, Copy)]
 pub struct Solution {
     pub node: u64,
     pub who: Entity,
