@@ -10,7 +10,7 @@ ghost use Rattle.vaults.specs.Journal.{vault, readers, grant_count, marked_names
 ghost use Rattle.vaults.specs.Page.{page_at, apart_at, is_due};
 ghost use Rattle.vaults.specs.Version.{version_rows};
 ghost use Rattle.vaults.specs.Book.{is_granting, is_listed, KeepsChange, IsUnchanged, KeepsGrant, SameGranting, KeepsPublic, SamePublic};
-ghost use Rattle.vaults.specs.declared.changes.Change.TheVariants.{Grant, Revoke, GrantAll, RevokeAll};
+ghost use Rattle.vaults.specs.declared.changes.Change.TheVariants.{Grant, Revoke, GrantAll};
 
 use crate::changes::Change;
 use crate::copies::copy_of;
@@ -303,16 +303,16 @@ fn keep(
             Ok(count)
         }
         Change::GrantAll => {
-            add_public(public, who)?;
+            public.add(&who)?;
             let counted = keep_on_page(alloc, pages, who, change);
             if counted.is_err() {
-                drop_public(public, who);
+                public.remove(&who);
             }
             counted
         }
         Change::RevokeAll => {
             let count = keep_on_page(alloc, pages, who, change)?;
-            drop_public(public, who);
+            public.remove(&who);
             Ok(count)
         }
         Change::Upload(_) | Change::Withdraw(_) => keep_on_page(alloc, pages, who, change),
@@ -349,21 +349,6 @@ fn drop_granting(granting: &mut BTreeMap<Entity, NameSet>, owner: Entity, reader
     }
 }
 
-/// Keeps that the owner's vault is public.
-fn add_public(public: &mut NameSet, owner: Entity) -> Result<(), AllocError>
-    ensures kept { OnOk result (KeepsPublic owner GrantAll public.old public.new) }
-    ensures unchanged { OnErr result (SamePublic public.old public.new) }
-{
-    public.add(&owner)
-}
-
-/// Keeps that the owner's vault is public no longer.
-fn drop_public(public: &mut NameSet, owner: Entity)
-    ensures { KeepsPublic owner RevokeAll public.old public.new }
-{
-    public.remove(&owner);
-}
-
 /// Those that have granted the reader.
 fn granting_names(
     alloc: Global,
@@ -393,14 +378,10 @@ fn keep_on_page(
     ensures revocable { revokes change.now ≡ true → IsSome (get name_order pages.old who) → IsOk result }
 {
     match pages.get_mut(&who) {
-        Some(page) => {
-            page.keep(change)?;
-            Ok(page.changes())
-        }
+        Some(page) => page.keep(change),
         None => {
             let mut page = Page::new(alloc);
-            page.keep(change)?;
-            let count = page.changes();
+            let count = page.keep(change)?;
             pages.insert(who, page)?;
             Ok(count)
         }

@@ -136,11 +136,12 @@ impl Page {
         self.readers.has(reader)
     }
 
-    /// Keeps one change more.
-    pub fn keep(&mut self, change: &Change) -> Result<(), AllocError>
+    /// Keeps one change more, and answers how many there are.
+    pub fn keep(&mut self, change: &Change) -> Result<u64, AllocError>
         requires fits { self.old.page.changes + 1 < 2 ^ 64 }
         requires due { is_due change.now self.old.page.rows ≡ true }
         ensures kept { OnOk result (self.new.page ≡ page_after change.now self.old.page) }
+        ensures count { IfOk result (λ n. n ≡ self.old.page.changes + 1) }
         ensures revocable { revokes change.now ≡ true → IsOk result }
         ensures unchanged { OnErr result (self.new.page ≡ self.old.page) }
     {
@@ -158,6 +159,6 @@ impl Page {
             Change::GrantAll | Change::RevokeAll => {}
         }
         self.changes += 1;
-        Ok(())
+        Ok(self.changes)
     }
 }

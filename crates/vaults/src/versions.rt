@@ -34,14 +34,6 @@ impl Model for Version {
 }
 
 impl Version {
-    /// A version of these rows.
-    fn of(rows: Vec<Row>) -> Version
-        requires { IsStrictlySortedBy credential_order rows.items }
-        ensures { result ≡ rows.items }
-    {
-        Version { rows }
-    }
-
     /// The rows, in order.
     pub fn rows(&self) -> &[Row]
         ensures rows { result.now ≡ self.now }
@@ -110,7 +102,7 @@ pub fn share(
         return Ok(());
     }
     let rows = own.take_rows();
-    match Arc::new(alloc, Version::of(rows)) {
+    match Arc::new(alloc, Version { rows }) {
         Ok(version) => {
             *held = Some(version);
             Ok(())

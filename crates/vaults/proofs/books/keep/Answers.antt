@@ -1,9 +1,9 @@
-use Rattle.std.proofs.Common.{true, false, ◌≡◌, ◌∙◌, Result, Ok, Err, OnOk, OnErr, is_err, sym, ap, refl, subst}
+use Rattle.std.proofs.Common.{ℕ, List, true, false, ◌≡◌, ◌∙◌, Result, Ok, Err, OnOk, OnErr, is_err, sym, ap, refl, subst}
 use Rattle.std.proofs.lemmas.Result.{err_from_is_err_and}
 use Rattle.vaults.specs.declared.changes.Change.{Change}
 use Rattle.vaults.specs.Journal.{concerns, is_for_all, revokes}
-use Rattle.vaults.specs.Book.{KeepsGrant, KeepsPublic}
-use Rattle.vaults.proofs.Granting.{granting_stays, public_stays, of_rows, granting_undone, public_undone}
+use Rattle.vaults.specs.Book.{KeepsGrant, KeepsPublic, is_listed}
+use Rattle.vaults.proofs.Granting.{granting_stays, public_stays, of_rows, granting_undone, public_undone, public_added, public_dropped}
 use Rattle.vaults.proofs.Outcomes.{on_ok, on_err}
 use Rattle.vaults.proofs.books.keep.Goals as goal
 
@@ -80,9 +80,9 @@ returns-in_ok-count-in-Revoke c = record {
   revocable = λ revoked there. refl;
 }
 
-pub returns-in_err-add_public-in-GrantAll : goal.returns-in_err-add_public-in-GrantAll
-returns-in_err-add_public-in-GrantAll c =
-    let p = err_from_is_err_and c.from_residual-in_err-add_public-in-GrantAll.result c.from_residual-in_err-add_public-in-GrantAll.ensures.1 in
+pub returns-in_err-add-in-GrantAll : goal.returns-in_err-add-in-GrantAll
+returns-in_err-add-in-GrantAll c =
+    let p = err_from_is_err_and c.from_residual-in_err-add-in-GrantAll.result c.from_residual-in_err-add-in-GrantAll.ensures.1 in
     rw p.1 (record {
       kept = tt;
       grant = tt;
@@ -90,7 +90,7 @@ returns-in_err-add_public-in-GrantAll c =
       count = tt;
       unchanged = λ tenant. refl;
       same_granting = λ owner reader. refl;
-      same_public = c.in_err-add_public-in-GrantAll.ensures.unchanged;
+      same_public = λ owner. ap (λ (l : List (List ℕ)). is_listed l owner) c.in_err-add-in-GrantAll.ensures.unchanged;
       revocable = λ revoked there. ap revokes (sym c.in-GrantAll.is) ∙ revoked;
     })
 
@@ -102,8 +102,8 @@ returns-then-is_err-2 c = record {
   count = c.keep_on_page-counted.ensures.count;
   unchanged = c.keep_on_page-counted.ensures.unchanged;
   same_granting = on_err c.keep_on_page-counted.result (λ owner reader. refl);
-  same_public = on_err c.keep_on_page-counted.result (public_undone c.args.who c.args.public.now c.add_public.new.public c.drop_public.new.public
-      (c.requires.first_for_all c.in-GrantAll.is) c.in_ok-add_public-in-GrantAll.ensures.kept c.drop_public.ensures);
+  same_public = on_err c.keep_on_page-counted.result (public_undone c.args.who c.args.public.now c.add.new.self c.remove.new.self
+      (c.requires.first_for_all c.in-GrantAll.is) (public_added _ _ _ c.in_ok-add-in-GrantAll.ensures.added) (public_dropped _ _ _ c.remove.ensures));
   revocable = c.keep_on_page-counted.ensures.revocable;
 }
 
@@ -111,7 +111,7 @@ pub returns-else-is_err-2 : goal.returns-else-is_err-2
 returns-else-is_err-2 c = record {
   kept = c.keep_on_page-counted.ensures.kept;
   grant = on_ok c.keep_on_page-counted.result (granting_stays c.args.who c.args.change.now c.args.granting.now (λ reader. ap (concerns reader) c.in-GrantAll.is));
-  public = on_ok c.keep_on_page-counted.result (subst (λ (x : Change). KeepsPublic c.args.who x c.args.public.now c.add_public.new.public) (sym c.in-GrantAll.is) c.in_ok-add_public-in-GrantAll.ensures.kept);
+  public = on_ok c.keep_on_page-counted.result (subst (λ (x : Change). KeepsPublic c.args.who x c.args.public.now c.add.new.self) (sym c.in-GrantAll.is) (public_added _ _ _ c.in_ok-add-in-GrantAll.ensures.added));
   count = c.keep_on_page-counted.ensures.count;
   unchanged = c.keep_on_page-counted.ensures.unchanged;
   same_granting = on_err c.keep_on_page-counted.result (λ owner reader. refl);
@@ -137,7 +137,7 @@ pub returns-in_ok-count-in-RevokeAll : goal.returns-in_ok-count-in-RevokeAll
 returns-in_ok-count-in-RevokeAll c = record {
   kept = c.in_ok-count-in-RevokeAll.ensures.kept;
   grant = granting_stays c.args.who c.args.change.now c.args.granting.now (λ reader. ap (concerns reader) c.in-RevokeAll.is);
-  public = subst (λ (x : Change). KeepsPublic c.args.who x c.args.public.now c.drop_public-in-RevokeAll.new.public) (sym c.in-RevokeAll.is) c.drop_public-in-RevokeAll.ensures;
+  public = subst (λ (x : Change). KeepsPublic c.args.who x c.args.public.now c.remove-in-RevokeAll.new.self) (sym c.in-RevokeAll.is) (public_dropped _ _ _ c.remove-in-RevokeAll.ensures);
   count = c.in_ok-count-in-RevokeAll.ensures.count;
   unchanged = tt;
   same_granting = tt;
