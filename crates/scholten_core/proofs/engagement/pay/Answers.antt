@@ -1,10 +1,10 @@
 use Rattle.std.proofs.Common.{◌≡◌, ℕ, zero, suc, List, [], ◌∷◌, Option, Some, None, option_map}
-use Rattle.std.proofs.Common.{refl, sym, ap, ◌∙◌, arith}
+use Rattle.std.proofs.Common.{◌-◌, refl, sym, ap, ◌∙◌, arith}
 use Rattle.std.specs.List.{slice_set}
-use Rattle.std.proofs.lemmas.List.{get_or-set_other}
+use Rattle.std.proofs.lemmas.List.{get_or-set_other, get_or-set_same}
 use Rattle.scholten_core.specs.declared.engagement.Engagement.{Engagement}
 use Rattle.scholten_core.specs.Kept.{engagement_of}
-use Rattle.scholten_core.proofs.Paid.{count_of}
+use Rattle.scholten_core.proofs.Paid.{count_of, engaged_within}
 use Rattle.scholten_core.proofs.engagement.pay.Goals as goal
 
 let_go : (nodes : List (Option Engagement)) (n : ℕ) → engagement_of (slice_set nodes n None) n ≡ None
@@ -22,4 +22,18 @@ returns c =
       paid = λ e there more. absurd (omega (arith, more, ap count_of (engaged ∙ there)));
       gone = λ e there one.
           (ap (option_map (λ (x : Engagement). x.parent)) (engaged ∙ there), let_go nodes c.args.node);
+    }
+
+pub returns-then-engaged-gt1 : goal.returns-then-engaged-gt1
+returns-then-engaged-gt1 c =
+    let nodes = c.args.nodes.now.items in
+    let engaged : Some c.in_ok-engaged.engaged ≡ engagement_of nodes c.args.node =
+    sym c.in_ok-engaged.was ∙ c.engaged_at.ensures in
+    let within = engaged_within nodes c.args.node c.in_ok-engaged.engaged engaged in
+    let less : Engagement → Engagement = λ x. record x { deficit = x.deficit - 1 } in
+    record {
+      same = λ n other. get_or-set_other nodes c.args.node n _ None other;
+      paid = λ e there more.
+          (refl, get_or-set_same nodes c.args.node _ None within ∙ ap (option_map less) (engaged ∙ there));
+      gone = λ e there one. absurd (omega (arith, one, ap count_of (engaged ∙ there), c.if-engaged-gt1.true));
     }

@@ -1,7 +1,9 @@
-use Rattle.std.proofs.Common.{◌≡◌, ◌<◌, None, Ok, Err, OnErr, length, refl, sym, ◌∙◌, arith}
+use Rattle.std.proofs.Common.{◌≡◌, ◌+◌, ◌<◌, None, Some, Ok, Err, OnErr, length, option_map, refl, sym, ap, ◌∙◌, arith}
 use Rattle.std.proofs.lemmas.List.{get_or-set_other, get_or-set_same}
 use Rattle.std.proofs.lemmas.Option.{none-some}
+use Rattle.scholten_core.specs.declared.engagement.Engagement.{Engagement}
 use Rattle.scholten_core.specs.Kept.{engagement_of}
+use Rattle.scholten_core.proofs.Paid.{engaged_within}
 use Rattle.scholten_core.proofs.engagement.receive.Goals as goal
 
 pub returns-in_err-make_place-clause-growth : goal.returns-in_err-make_place-clause-growth
@@ -25,4 +27,30 @@ returns-clause-received c =
       engaged = λ e there. absurd (none-some e (neutral ∙ there));
       anew = λ none some. (refl, get_or-set_same nodes c.args.to _ _ within);
       idle = λ none nothing. absurd (omega (arith, nothing));
+    }
+
+pub returns-in-Some-clause-received : goal.returns-in-Some-clause-received
+returns-in-Some-clause-received c =
+    let nodes = c.args.nodes.now.items in
+    let found : Some c.in-Some.engaged ≡ engagement_of nodes c.args.to =
+    sym c.in-Some.is ∙ c.engaged_at.ensures in
+    let within = engaged_within nodes c.args.to c.in-Some.engaged found in
+    let more : Engagement → Engagement = λ x. record x { deficit = x.deficit + c.args.count } in
+    record {
+      same = λ n other. get_or-set_other nodes c.args.to n _ None other;
+      engaged = λ e there.
+          (refl, get_or-set_same nodes c.args.to _ None within ∙ ap (option_map more) (found ∙ there));
+      anew = λ none some. absurd (none-some c.in-Some.engaged (sym none ∙ sym found));
+      idle = λ none nothing. absurd (none-some c.in-Some.engaged (sym none ∙ sym found));
+    }
+
+pub returns-then-count-eq0-clause-received : goal.returns-then-count-eq0-clause-received
+returns-then-count-eq0-clause-received c =
+    let neutral : None ≡ engagement_of c.args.nodes.now.items c.args.to =
+    sym c.in_default.is ∙ c.engaged_at.ensures in
+    record {
+      same = λ n other. refl;
+      engaged = λ e there. absurd (none-some e (neutral ∙ there));
+      anew = λ none some. absurd (omega (arith, some, c.if-count-eq0.true));
+      idle = λ none nothing. (refl, none);
     }
