@@ -1,5 +1,6 @@
 -- What the look-ups of a table find, where the keys' `==` is equality.
-use Rattle.std.proofs.Common.{ℕ, zero, suc, ◌≡◌, ◌∙◌, ◌↔◌, ap, refl, sym, inl, inr, Bool, true, false, true≢false, List, [], ◌∷◌, ◌++◌, Some, None, Contains, get_or, slice_get}
+use Rattle.std.proofs.Common.{ℕ, zero, suc, ◌≡◌, ◌∙◌, ◌↔◌, ap, refl, sym, inl, inr, Bool}
+use Rattle.std.proofs.Common.{true, false, true≢false, List, [], ◌∷◌, ◌++◌, Some, None, Contains, get_or, slice_get}
 use Rattle.std.specs.Bool.{Decides}
 use Rattle.std.specs.List.{list_any, position}
 use Rattle.std.specs.Map.{lookup_key}

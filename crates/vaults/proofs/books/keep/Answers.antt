@@ -103,7 +103,8 @@ returns-then-is_err-2 c = record {
   unchanged = c.keep_on_page-counted.ensures.unchanged;
   same_granting = on_err c.keep_on_page-counted.result (λ owner reader. refl);
   same_public = on_err c.keep_on_page-counted.result (public_undone c.args.who c.args.public.now c.add.new.self c.remove.new.self
-      (c.requires.first_for_all c.in-GrantAll.is) (public_added _ _ _ c.in_ok-add-in-GrantAll.ensures.added) (public_dropped _ _ _ c.remove.ensures));
+      (c.requires.first_for_all c.in-GrantAll.is)
+      (public_added _ _ _ c.in_ok-add-in-GrantAll.ensures.added) (public_dropped _ _ _ c.remove.ensures));
   revocable = c.keep_on_page-counted.ensures.revocable;
 }
 
@@ -111,7 +112,8 @@ pub returns-else-is_err-2 : goal.returns-else-is_err-2
 returns-else-is_err-2 c = record {
   kept = c.keep_on_page-counted.ensures.kept;
   grant = on_ok c.keep_on_page-counted.result (granting_stays c.args.who c.args.change.now c.args.granting.now (λ reader. ap (concerns reader) c.in-GrantAll.is));
-  public = on_ok c.keep_on_page-counted.result (subst (λ (x : Change). KeepsPublic c.args.who x c.args.public.now c.add.new.self) (sym c.in-GrantAll.is) (public_added _ _ _ c.in_ok-add-in-GrantAll.ensures.added));
+  public = on_ok c.keep_on_page-counted.result (subst (λ (x : Change). KeepsPublic c.args.who x c.args.public.now c.add.new.self)
+      (sym c.in-GrantAll.is) (public_added _ _ _ c.in_ok-add-in-GrantAll.ensures.added));
   count = c.keep_on_page-counted.ensures.count;
   unchanged = c.keep_on_page-counted.ensures.unchanged;
   same_granting = on_err c.keep_on_page-counted.result (λ owner reader. refl);
@@ -137,7 +139,8 @@ pub returns-in_ok-count-in-RevokeAll : goal.returns-in_ok-count-in-RevokeAll
 returns-in_ok-count-in-RevokeAll c = record {
   kept = c.in_ok-count-in-RevokeAll.ensures.kept;
   grant = granting_stays c.args.who c.args.change.now c.args.granting.now (λ reader. ap (concerns reader) c.in-RevokeAll.is);
-  public = subst (λ (x : Change). KeepsPublic c.args.who x c.args.public.now c.remove-in-RevokeAll.new.self) (sym c.in-RevokeAll.is) (public_dropped _ _ _ c.remove-in-RevokeAll.ensures);
+  public = subst (λ (x : Change). KeepsPublic c.args.who x c.args.public.now c.remove-in-RevokeAll.new.self)
+      (sym c.in-RevokeAll.is) (public_dropped _ _ _ c.remove-in-RevokeAll.ensures);
   count = c.in_ok-count-in-RevokeAll.ensures.count;
   unchanged = tt;
   same_granting = tt;
