@@ -4,9 +4,9 @@
 # nothing may crash. Needs a C compiler, for a small library that is loaded before the C library's own allocator.
 #
 #   checks/refused_allocations.sh CRATE[:PATH]..  (each: proves the crate's tests first, where they aren't built yet)
-#   checks/refused_allocations.sh --sample        (of the graph, the monitors and a search, 20 allocations of each test; and every
-#                                                 one of a search through a linked role in a hall, and of one from end to end at
-#                                                 a desk)
+#   checks/refused_allocations.sh --sample        (of a search, 20 allocations of each test; and every one of the graph's and
+#                                                 the monitors', of a search through a linked role in a hall, and of one from
+#                                                 end to end at a desk)
 #
 # With a PATH it runs the tests whose path holds it: those of a module, or one test. A test that makes more than 4,000
 # allocations, or MOST_RUNS, is run about so often, with allocations at equal distances; one that is named is run for each.
@@ -16,7 +16,7 @@
 set -eu
 if [ "${1-}" = --sample ]; then
     MOST_RUNS=20
-    set -- pool:of_cred_graph pool:of_monitors pool:of_search:: pool:a_linked_role_with_its_proof pool:a_whole_life_of_a_search
+    set -- pool:each_graph_answers_its_lines pool:monitors_hear_each_once pool:of_search:: pool:a_linked_role_with_its_proof pool:a_whole_life_of_a_search
 fi
 root=$(cd "$(dirname "${BASH_SOURCE[0]}")/.." && pwd)
 work=$(mktemp -d)

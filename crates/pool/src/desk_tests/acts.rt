@@ -1,4 +1,5 @@
 //! Calls of a desk as a table writes them, and what each is told.
+use crate::tests_below::are_named;
 use crate::{Desk, DeskFault, Pass, Verdict};
 use credential_text::{CredFault, Credential, Expr, read_credential};
 use hall::{Answer, Fault, Query, Request};
@@ -86,23 +87,12 @@ pub(super) enum Told {
 }
 
 /// The names `E1` to `E40`, in order.
-static FORTY: [&str; 40] = [
-    "E1", "E10", "E11", "E12", "E13", "E14", "E15", "E16", "E17", "E18", "E19", "E2", "E20", "E21",
-    "E22", "E23", "E24", "E25", "E26", "E27", "E28", "E29", "E3", "E30", "E31", "E32", "E33",
-    "E34", "E35", "E36", "E37", "E38", "E39", "E4", "E40", "E5", "E6", "E7", "E8", "E9",
+static FORTY: [&[u8]; 40] = [
+    b"E1", b"E10", b"E11", b"E12", b"E13", b"E14", b"E15", b"E16", b"E17", b"E18", b"E19", b"E2",
+    b"E20", b"E21", b"E22", b"E23", b"E24", b"E25", b"E26", b"E27", b"E28", b"E29", b"E3", b"E30",
+    b"E31", b"E32", b"E33", b"E34", b"E35", b"E36", b"E37", b"E38", b"E39", b"E4", b"E40", b"E5",
+    b"E6", b"E7", b"E8", b"E9",
 ];
-
-fn are_forty(names: &[Entity]) -> bool {
-    let mut place = 0usize;
-    for name in names {
-        match FORTY.get(place) {
-            Some(wanted) if name.bytes() == wanted.as_bytes() => {}
-            _ => return false,
-        }
-        place = place.saturating_add(1);
-    }
-    place == FORTY.len()
-}
 
 fn refused(fault: DeskFault) -> Told {
     match fault {
@@ -117,7 +107,7 @@ fn end_of(answer: &Answer) -> Told {
         Answer::Working => Told::Working,
         Answer::Yes => Told::Yes,
         Answer::No => Told::No,
-        Answer::Members(names) if are_forty(names.as_slice()) => Told::Forty,
+        Answer::Members(names) if are_named(names.as_slice(), &FORTY) => Told::Forty,
         Answer::Members(_names) => Told::Otherwise,
         Answer::Spent => Told::Spent,
         Answer::Broken => Told::NoMemory,

@@ -5,6 +5,7 @@ ghost use Rattle.names.specs.Name.{is_same};
 
 use super::acts::{Act, Told, answer_to};
 use super::gates::{Doorway, Way};
+use crate::tests_below::limits_of;
 use crate::{Desk, DeskFault, PARTS, Pass, run_workers};
 use names::Entity;
 use quotas::Limits;
@@ -226,16 +227,11 @@ fn on_desk<L: Ledger + Send + Sync, R: Threads + Wait + Clock + Sync>(
     }
 }
 
-fn limits_of(numbers: [u64; 6]) -> Option<Limits> {
-    let [creds, grants, searches, changes, opens, work] = numbers;
-    Limits::make(creds, grants, searches, changes, opens, work)
-}
-
 /// The roster of A, with these limits, and B.
 fn roster_of_two(alloc: Global, numbers: [u64; 6]) -> Result<Vec<(Entity, Limits)>, Break>
     ensures { IfOk result (λ roster. IsDistinct is_same (map (λ row. row.0) roster.items)) }
 {
-    let (Ok(a), Ok(b), Some(limits)) = (Entity::read(b"A"), Entity::read(b"B"), limits_of(numbers))
+    let (Ok(a), Ok(b), Some(limits)) = (Entity::read(b"A"), Entity::read(b"B"), limits_of(&numbers))
     else {
         return Err(Break::WrongAnswer);
     };

@@ -2,11 +2,11 @@ ghost use Rattle.std.specs.Prelude.{◌<◌, ◌≡◌, ◌∷◌, [], length, I
 ghost use Rattle.credential_text.specs.Expr.{part_expr};
 ghost use Rattle.cred_graph.specs.GraphState.{IsNode};
 
+use super::mix;
 use cred_graph::{Graph, Port, Reason};
 use credential_text::{CredFault, Expr, Part, Parts, read_credential};
 use names::{Entity, Role, RoleName};
 use std::alloc::{AllocError, Global};
-use std::process::Abort;
 
 /// The role that the text spells where it has a dot, and else the entity.
 fn part_of(text: &[u8]) -> Result<Part, CredFault> {
@@ -54,11 +54,6 @@ fn gives_node(
     Ok(graph.node_of(&credential.body)? == (n, is_new))
 }
 
-fn reserves(graph: &mut Graph, count: u64) -> Result<bool, CredFault> {
-    graph.reserve(count)?;
-    Ok(true)
-}
-
 /// Whether the second becomes a listener to the first on this port, as is told.
 fn listens(
     graph: &mut Graph,
@@ -96,16 +91,6 @@ fn listens_by_number(
     Ok(told == Some(graph.add_numbered_listener(n, m, Port::Via(k))?))
 }
 
-/// Whether `A.r` becomes a listener to `D` by this part, as its last where it is a new one.
-fn listens_by_part(graph: &mut Graph, part: u8, is_new: bool) -> Result<bool, CredFault> {
-    let asked = part_of(b"D")?;
-    Ok(
-        listens(graph, b"D", b"A.r", &Port::Part(part), Some(is_new))?
-            && listener_of(graph, asked, part as u64) == Some((0, Port::Part(part)))
-            && (!is_new || listener_of(graph, asked, part as u64 + 1).is_none()),
-    )
-}
-
 /// Whether the entity becomes its own solution, a new one or not.
 fn solves_itself(graph: &mut Graph, who: &[u8], is_new: bool) -> Result<bool, CredFault> {
     let who = Entity::read(who)?;
@@ -124,32 +109,25 @@ fn solves_by_number(graph: &mut Graph, who: &[u8], is_new: bool) -> Result<bool,
     Ok(graph.add_numbered_solution(k as u64, k, Reason::Leaf)? == is_new)
 }
 
-fn solve_role(
-    graph: &mut Graph,
-    role: Role,
-    body: Part,
-    who: Entity,
-) -> Result<Option<bool>, AllocError> {
-    let Some(n) = number_of(graph, Part::Rol(role)) else {
-        return Ok(None);
-    };
-    let Some(m) = number_of(graph, body) else {
-        return Ok(None);
-    };
-    let Some(_reason) = graph.reason(m, &who) else {
-        return Ok(None);
-    };
-    Ok(Some(graph.add_solution(n, who, Reason::Body(m))?))
-}
-
+/// Whether the role comes to have the entity by a credential of which that is the body, as is told.
 fn solves_role(
     graph: &mut Graph,
     role: &[u8],
     who: &[u8],
     told: Option<bool>,
 ) -> Result<bool, CredFault> {
+    let role = Role::read(role)?;
     let who = Entity::read(who)?;
-    Ok(solve_role(graph, Role::read(role)?, Part::Ent(who), who)? == told)
+    let Some(n) = number_of(graph, Part::Rol(role)) else {
+        return Ok(told.is_none());
+    };
+    let Some(m) = number_of(graph, Part::Ent(who)) else {
+        return Ok(told.is_none());
+    };
+    let Some(_reason) = graph.reason(m, &who) else {
+        return Ok(told.is_none());
+    };
+    Ok(told == Some(graph.add_solution(n, who, Reason::Body(m))?))
 }
 
 fn solve_link(
@@ -292,10 +270,6 @@ fn reads_back(graph: &Graph, text: &[u8], told: Option<u64>) -> Result<bool, Cre
     })
 }
 
-fn has_number(graph: &Graph, who: &[u8], k: u32) -> Result<bool, CredFault> {
-    Ok(graph.entity_number(&Entity::read(who)?) == Some(k))
-}
-
 /// Whether the part's node has so many listeners and solutions.
 fn has_counts(
     graph: &Graph,
@@ -322,8 +296,6 @@ enum Line {
     Listen(&'static [u8], &'static [u8], Port<&'static [u8]>, Option<bool>),
     /// The same by way of an entity, by its number.
     ListenByNumber(&'static [u8], &'static [u8], &'static [u8], Option<bool>),
-    /// `A.r` listens to `D` by the part, which is its place too.
-    ListenByPart(u8, bool),
     /// The entity becomes its own solution.
     Itself(&'static [u8], bool),
     /// The same by its number.
@@ -358,7 +330,7 @@ fn tells_so(graph: &Graph, line: &Line) -> Result<bool, CredFault> {
         Line::HasItselfByNumber(who) => has_itself_by_number(graph, who),
         Line::Reason(n, who, told) => has_reason(graph, *n, who, told),
         Line::Stands(text, told) => reads_back(graph, text, *told),
-        Line::Number(who, k) => has_number(graph, who, *k),
+        Line::Number(who, k) => Ok(graph.entity_number(&Entity::read(who)?) == Some(*k)),
         Line::Counts(text, listeners, solutions) => has_counts(graph, text, *listeners, *solutions),
         _ => Ok(false),
     }
@@ -367,7 +339,10 @@ fn tells_so(graph: &Graph, line: &Line) -> Result<bool, CredFault> {
 /// Whether the graph answers the line as it is to.
 fn is_so(alloc: Global, graph: &mut Graph, line: &Line) -> Result<bool, CredFault> {
     match line {
-        Line::Reserve(count) => reserves(graph, *count),
+        Line::Reserve(count) => {
+            graph.reserve(*count)?;
+            Ok(true)
+        }
         Line::GiveBack => {
             graph.give_back();
             Ok(true)
@@ -377,7 +352,6 @@ fn is_so(alloc: Global, graph: &mut Graph, line: &Line) -> Result<bool, CredFaul
         Line::ListenByNumber(asked, asker, who, told) => {
             listens_by_number(graph, asked, asker, who, *told)
         }
-        Line::ListenByPart(part, is_new) => listens_by_part(graph, *part, *is_new),
         Line::Itself(who, is_new) => solves_itself(graph, who, *is_new),
         Line::ItselfByNumber(who, is_new) => solves_by_number(graph, who, *is_new),
         Line::Role(role, who, told) => solves_role(graph, role, who, *told),
@@ -385,10 +359,6 @@ fn is_so(alloc: Global, graph: &mut Graph, line: &Line) -> Result<bool, CredFaul
         Line::Meet(told) => solves_meet(alloc, graph, *told),
         _ => tells_so(graph, line),
     }
-}
-
-fn mix(sum: u64, more: u64) -> u64 {
-    sum.wrapping_mul(31).wrapping_add(more)
 }
 
 fn code(port: Port) -> u64 {
@@ -444,24 +414,18 @@ fn is_so_in_the_end(alloc: Global, graph: &mut Graph, line: &Line) -> Result<boo
     }
 }
 
-fn play(
-    rt: &impl Abort,
-    alloc: Global,
-    graph: &mut Graph,
-    lines: &[Line],
-) -> Result<(), CredFault> {
-    for line in lines {
-        assert!(*rt; is_so_in_the_end(alloc, graph, line)?);
-    }
-    Ok(())
-}
-
-/// Asserts each line of a graph that is empty at first.
-fn play_anew(rt: &impl Abort, alloc: Global, lines: &[Line]) -> Result<(), CredFault> {
+/// Whether a graph that is empty at first answers each line as it is to.
+fn all_so_anew(alloc: Global, lines: &[Line]) -> Result<bool, CredFault> {
     let mut graph = Graph::new(alloc);
-    play(rt, alloc, &mut graph, lines)
+    for line in lines {
+        if !is_so_in_the_end(alloc, &mut graph, line)? {
+            return Ok(false);
+        }
+    }
+    Ok(true)
 }
 
+/// One node for each expression.
 static ONE_NODE_EACH: [Line; 8] = [
     Line::Reserve(2),
     Line::Node(b"A.x <- A.r", 0, true),
@@ -473,11 +437,7 @@ static ONE_NODE_EACH: [Line; 8] = [
     Line::Stands(b"E", None),
 ];
 
-#[test]
-fn one_node_for_each_expression(rt: HostRuntime) -> Result<(), CredFault> {
-    play_anew(&rt, rt.alloc(), &ONE_NODE_EACH)
-}
-
+/// Two ports are two listeners.
 static TWO_PORTS: [Line; 10] = [
     Line::Listen(b"D", b"A.r", Port::Body, None),
     Line::Node(b"A.x <- A.r", 0, true),
@@ -491,30 +451,33 @@ static TWO_PORTS: [Line; 10] = [
     Line::Listener(b"A.r", 0, None),
 ];
 
-#[test]
-fn two_ports_are_two_listeners(rt: HostRuntime) -> Result<(), CredFault> {
-    play_anew(&rt, rt.alloc(), &TWO_PORTS)
-}
-
-static FIVE_LISTENERS: [Line; 11] = [
+/// A fifth listener stands behind four.
+static FIVE_LISTENERS: [Line; 22] = [
     Line::Node(b"A.x <- A.r", 0, true),
     Line::Node(b"A.x <- D", 1, true),
-    Line::ListenByPart(0, true),
-    Line::ListenByPart(1, true),
-    Line::ListenByPart(2, true),
-    Line::ListenByPart(3, true),
-    Line::ListenByPart(4, true),
-    Line::ListenByPart(4, false),
+    Line::Listen(b"D", b"A.r", Port::Part(0), Some(true)),
+    Line::Listener(b"D", 0, Some(Port::Part(0))),
+    Line::Listener(b"D", 1, None),
+    Line::Listen(b"D", b"A.r", Port::Part(1), Some(true)),
+    Line::Listener(b"D", 1, Some(Port::Part(1))),
+    Line::Listener(b"D", 2, None),
+    Line::Listen(b"D", b"A.r", Port::Part(2), Some(true)),
+    Line::Listener(b"D", 2, Some(Port::Part(2))),
+    Line::Listener(b"D", 3, None),
+    Line::Listen(b"D", b"A.r", Port::Part(3), Some(true)),
+    Line::Listener(b"D", 3, Some(Port::Part(3))),
+    Line::Listener(b"D", 4, None),
+    Line::Listen(b"D", b"A.r", Port::Part(4), Some(true)),
+    Line::Listener(b"D", 4, Some(Port::Part(4))),
+    Line::Listener(b"D", 5, None),
+    Line::Listen(b"D", b"A.r", Port::Part(4), Some(false)),
+    Line::Listener(b"D", 4, Some(Port::Part(4))),
     Line::Listener(b"D", 3, Some(Port::Part(3))),
     Line::Listener(b"D", 4, Some(Port::Part(4))),
     Line::Listener(b"D", 5, None),
 ];
 
-#[test]
-fn a_fifth_listener_stands_behind_four(rt: HostRuntime) -> Result<(), CredFault> {
-    play_anew(&rt, rt.alloc(), &FIVE_LISTENERS)
-}
-
+/// A solution stands once, with its reason.
 static ONE_SOLUTION: [Line; 9] = [
     Line::Node(b"A.x <- A.r", 0, true),
     Line::Node(b"A.x <- D", 1, true),
@@ -527,11 +490,7 @@ static ONE_SOLUTION: [Line; 9] = [
     Line::Reason(0, b"D", Some((1, Reason::Body(1)))),
 ];
 
-#[test]
-fn a_solution_stands_once_with_its_reason(rt: HostRuntime) -> Result<(), CredFault> {
-    play_anew(&rt, rt.alloc(), &ONE_SOLUTION)
-}
-
+/// A linked role is solved by way of its base.
 static BY_WAY_OF_ITS_BASE: [Line; 13] = [
     Line::Node(b"A.x <- A.s.t", 0, true),
     Line::Node(b"A.x <- A.s", 1, true),
@@ -548,11 +507,7 @@ static BY_WAY_OF_ITS_BASE: [Line; 13] = [
     Line::Reason(0, b"B", None),
 ];
 
-#[test]
-fn a_linked_role_is_solved_by_way_of_its_base(rt: HostRuntime) -> Result<(), CredFault> {
-    play_anew(&rt, rt.alloc(), &BY_WAY_OF_ITS_BASE)
-}
-
+/// An intersection is solved by all its parts.
 static ALL_PARTS: [Line; 8] = [
     Line::Node(b"A.x <- D & A.r", 0, true),
     Line::Node(b"A.x <- D", 1, true),
@@ -564,11 +519,7 @@ static ALL_PARTS: [Line; 8] = [
     Line::Reason(0, b"D", Some((2, Reason::Parts))),
 ];
 
-#[test]
-fn an_intersection_is_solved_by_all_its_parts(rt: HostRuntime) -> Result<(), CredFault> {
-    play_anew(&rt, rt.alloc(), &ALL_PARTS)
-}
-
+/// Numbers stand for names.
 static NUMBERS: [Line; 11] = [
     Line::Node(b"A.x <- A.r", 0, true),
     Line::ListenByNumber(b"A.r", b"A.r", b"D", None),
@@ -583,11 +534,7 @@ static NUMBERS: [Line; 11] = [
     Line::Reason(1, b"D", Some((0, Reason::Leaf))),
 ];
 
-#[test]
-fn numbers_stand_for_names(rt: HostRuntime) -> Result<(), CredFault> {
-    play_anew(&rt, rt.alloc(), &NUMBERS)
-}
-
+/// A stranger goes on to be one listener.
 static STRANGER: [Line; 8] = [
     Line::Node(b"A.x <- A.r", 0, true),
     Line::Listen(b"A.r", b"A.r", Port::Via(b"D"), Some(true)),
@@ -599,42 +546,66 @@ static STRANGER: [Line; 8] = [
     Line::Listener(b"A.r", 1, None),
 ];
 
-#[test]
-fn a_stranger_goes_on_to_be_one_listener(rt: HostRuntime) -> Result<(), CredFault> {
-    play_anew(&rt, rt.alloc(), &STRANGER)
-}
-
-static ELEVEN_LISTENERS: [Line; 24] = [
+/// Listeners beyond eight stand once.
+static ELEVEN_LISTENERS: [Line; 57] = [
     Line::Node(b"A.x <- A.r", 0, true),
     Line::Node(b"A.x <- D", 1, true),
-    Line::ListenByPart(0, true),
-    Line::ListenByPart(1, true),
-    Line::ListenByPart(2, true),
-    Line::ListenByPart(3, true),
-    Line::ListenByPart(4, true),
-    Line::ListenByPart(5, true),
-    Line::ListenByPart(6, true),
-    Line::ListenByPart(7, true),
-    Line::ListenByPart(8, true),
-    Line::ListenByPart(9, true),
-    Line::ListenByPart(10, true),
-    Line::ListenByPart(0, false),
-    Line::ListenByPart(1, false),
-    Line::ListenByPart(2, false),
-    Line::ListenByPart(3, false),
-    Line::ListenByPart(4, false),
-    Line::ListenByPart(5, false),
-    Line::ListenByPart(6, false),
-    Line::ListenByPart(7, false),
-    Line::ListenByPart(8, false),
-    Line::ListenByPart(9, false),
-    Line::ListenByPart(10, false),
+    Line::Listen(b"D", b"A.r", Port::Part(0), Some(true)),
+    Line::Listener(b"D", 0, Some(Port::Part(0))),
+    Line::Listener(b"D", 1, None),
+    Line::Listen(b"D", b"A.r", Port::Part(1), Some(true)),
+    Line::Listener(b"D", 1, Some(Port::Part(1))),
+    Line::Listener(b"D", 2, None),
+    Line::Listen(b"D", b"A.r", Port::Part(2), Some(true)),
+    Line::Listener(b"D", 2, Some(Port::Part(2))),
+    Line::Listener(b"D", 3, None),
+    Line::Listen(b"D", b"A.r", Port::Part(3), Some(true)),
+    Line::Listener(b"D", 3, Some(Port::Part(3))),
+    Line::Listener(b"D", 4, None),
+    Line::Listen(b"D", b"A.r", Port::Part(4), Some(true)),
+    Line::Listener(b"D", 4, Some(Port::Part(4))),
+    Line::Listener(b"D", 5, None),
+    Line::Listen(b"D", b"A.r", Port::Part(5), Some(true)),
+    Line::Listener(b"D", 5, Some(Port::Part(5))),
+    Line::Listener(b"D", 6, None),
+    Line::Listen(b"D", b"A.r", Port::Part(6), Some(true)),
+    Line::Listener(b"D", 6, Some(Port::Part(6))),
+    Line::Listener(b"D", 7, None),
+    Line::Listen(b"D", b"A.r", Port::Part(7), Some(true)),
+    Line::Listener(b"D", 7, Some(Port::Part(7))),
+    Line::Listener(b"D", 8, None),
+    Line::Listen(b"D", b"A.r", Port::Part(8), Some(true)),
+    Line::Listener(b"D", 8, Some(Port::Part(8))),
+    Line::Listener(b"D", 9, None),
+    Line::Listen(b"D", b"A.r", Port::Part(9), Some(true)),
+    Line::Listener(b"D", 9, Some(Port::Part(9))),
+    Line::Listener(b"D", 10, None),
+    Line::Listen(b"D", b"A.r", Port::Part(10), Some(true)),
+    Line::Listener(b"D", 10, Some(Port::Part(10))),
+    Line::Listener(b"D", 11, None),
+    Line::Listen(b"D", b"A.r", Port::Part(0), Some(false)),
+    Line::Listener(b"D", 0, Some(Port::Part(0))),
+    Line::Listen(b"D", b"A.r", Port::Part(1), Some(false)),
+    Line::Listener(b"D", 1, Some(Port::Part(1))),
+    Line::Listen(b"D", b"A.r", Port::Part(2), Some(false)),
+    Line::Listener(b"D", 2, Some(Port::Part(2))),
+    Line::Listen(b"D", b"A.r", Port::Part(3), Some(false)),
+    Line::Listener(b"D", 3, Some(Port::Part(3))),
+    Line::Listen(b"D", b"A.r", Port::Part(4), Some(false)),
+    Line::Listener(b"D", 4, Some(Port::Part(4))),
+    Line::Listen(b"D", b"A.r", Port::Part(5), Some(false)),
+    Line::Listener(b"D", 5, Some(Port::Part(5))),
+    Line::Listen(b"D", b"A.r", Port::Part(6), Some(false)),
+    Line::Listener(b"D", 6, Some(Port::Part(6))),
+    Line::Listen(b"D", b"A.r", Port::Part(7), Some(false)),
+    Line::Listener(b"D", 7, Some(Port::Part(7))),
+    Line::Listen(b"D", b"A.r", Port::Part(8), Some(false)),
+    Line::Listener(b"D", 8, Some(Port::Part(8))),
+    Line::Listen(b"D", b"A.r", Port::Part(9), Some(false)),
+    Line::Listener(b"D", 9, Some(Port::Part(9))),
+    Line::Listen(b"D", b"A.r", Port::Part(10), Some(false)),
+    Line::Listener(b"D", 10, Some(Port::Part(10))),
 ];
-
-#[test]
-fn listeners_beyond_eight_stand_once(rt: HostRuntime) -> Result<(), CredFault> {
-    play_anew(&rt, rt.alloc(), &ELEVEN_LISTENERS)
-}
 
 /// Each of six becomes its own solution, and listens to the first.
 static ADDITIONS: [Line; 19] = [
@@ -660,6 +631,21 @@ static ADDITIONS: [Line; 19] = [
 ];
 
 #[test]
-fn a_refused_addition_changes_nothing(rt: HostRuntime) -> Result<(), CredFault> {
-    play_anew(&rt, rt.alloc(), &ADDITIONS)
+fn each_graph_answers_its_lines(rt: HostRuntime) -> Result<(), CredFault> {
+    let tables: [&[Line]; 10] = [
+        &ONE_NODE_EACH,
+        &TWO_PORTS,
+        &FIVE_LISTENERS,
+        &ONE_SOLUTION,
+        &BY_WAY_OF_ITS_BASE,
+        &ALL_PARTS,
+        &NUMBERS,
+        &STRANGER,
+        &ELEVEN_LISTENERS,
+        &ADDITIONS,
+    ];
+    for lines in tables {
+        assert!(rt; all_so_anew(rt.alloc(), lines)?);
+    }
+    Ok(())
 }

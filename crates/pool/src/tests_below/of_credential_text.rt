@@ -1,3 +1,5 @@
+use super::is_text;
+use super::of_search::credentials;
 use credential_text::{
     CredFault, Credential, Expr, Part, Parts, read_credential, write_credential, write_expr,
 };
@@ -47,12 +49,6 @@ fn reads_padded(
     let mut padded = Vec::from_slice(alloc, text)?;
     padded.resize(length, b' ')?;
     reads(alloc, &padded, told)
-}
-
-/// Whether the fault has this text.
-fn is_printed(alloc: Global, fault: CredFault, text: &str) -> Result<bool, AllocError> {
-    let printed = format!(in alloc; "{fault}")?;
-    Ok(printed.as_str() == text)
 }
 
 /// Whether a clone of the parts is equal to them.
@@ -116,7 +112,7 @@ fn is_so(alloc: Global, line: &Line) -> Result<bool, CredFault> {
         Reads(text, told) => reads(alloc, text, told),
         Padded(text, length, told) => reads_padded(alloc, text, *length, told),
         Fault(fault, number, text) => {
-            Ok(fault.number() == *number && is_printed(alloc, *fault, text)?)
+            Ok(fault.number() == *number && is_text(alloc, fault, text)?)
         }
         Line::Parts(count, held) => are_held(alloc, *count, *held),
         Made(bases, told) => is_made(alloc, bases, *told),
@@ -282,19 +278,6 @@ fn are_appended(alloc: Global) -> Result<bool, CredFault> {
     Ok(true)
 }
 
-/// Whether the credentials that the texts spell are ordered so, and their bodies too, where their heads are the same.
-fn are_ordered(
-    alloc: Global,
-    text: &[u8],
-    other: &[u8],
-    order: Ordering,
-) -> Result<bool, CredFault> {
-    let lower = read_credential(alloc, text)?;
-    let upper = read_credential(alloc, other)?;
-    let bodies = lower.head != upper.head || lower.body.compare(&upper.body) == order;
-    Ok(bodies && lower.compare(&upper) == order)
-}
-
 static IN_ORDER: [&[u8]; 15] = [
     b"A.r <- D",
     b"A.r <- E",
@@ -313,16 +296,22 @@ static IN_ORDER: [&[u8]; 15] = [
     b"B.a <- A",
 ];
 
+/// Whether the credentials are ordered so, and their bodies too, where their heads are the same.
+fn are_ordered(lower: &Credential, upper: &Credential, order: Ordering) -> bool {
+    let bodies = lower.head != upper.head || lower.body.compare(&upper.body) == order;
+    bodies && lower.compare(upper) == order
+}
+
 /// Whether each two of the credentials are in the order of their places.
-fn are_in_order(alloc: Global) -> Result<bool, CredFault> {
-    for (i, text) in IN_ORDER.iter().enumerate() {
-        for (j, other) in IN_ORDER.iter().enumerate() {
-            if !are_ordered(alloc, text, other, i.cmp(&j))? {
-                return Ok(false);
+fn are_in_order(all: &[Credential]) -> bool {
+    for (i, lower) in all.iter().enumerate() {
+        for (j, upper) in all.iter().enumerate() {
+            if !are_ordered(lower, upper, i.cmp(&j)) {
+                return false;
             }
         }
     }
-    Ok(true)
+    true
 }
 
 /// Credentials whose bodies are of each kind.
@@ -333,16 +322,6 @@ static KINDS: [&[u8]; 4] = [
     b"A.r <- D & B.s & A.s.t",
 ];
 
-/// Notes their places by their bodies.
-fn note_places(alloc: Global, places: &mut HashMap<Expr, usize>) -> Result<(), CredFault> {
-    for (place, text) in KINDS.iter().enumerate() {
-        places
-            .insert(read_credential(alloc, text)?.body, place)
-            .map_err(AllocError::from)?;
-    }
-    Ok(())
-}
-
 /// Whether a clone of the credential is tied with it, and a clone of its body equal to that.
 fn is_cloned(credential: &Credential) -> Result<bool, AllocError> {
     let again = credential.try_clone()?;
@@ -350,36 +329,24 @@ fn is_cloned(credential: &Credential) -> Result<bool, AllocError> {
     Ok(again.compare(credential).is_eq() && body == credential.body)
 }
 
-/// Whether that place is noted for the body of the credential that the text spells, and clones are equal to it.
-fn is_noted(
-    alloc: Global,
-    places: &HashMap<Expr, usize>,
-    text: &[u8],
-    place: usize,
-) -> Result<bool, CredFault> {
-    let credential = read_credential(alloc, text)?;
-    Ok(places.get(&credential.body) == Some(&place) && is_cloned(&credential)?)
-}
-
-/// Whether expressions serve as keys.
-fn are_keys(alloc: Global, places: &mut HashMap<Expr, usize>) -> Result<bool, CredFault> {
-    note_places(alloc, places)?;
-    for (place, text) in KINDS.iter().enumerate() {
-        if !is_noted(alloc, places, text, place)? {
+/// Whether expressions serve as keys: each body's place is found by it, and clones are equal.
+fn are_keys(places: &mut HashMap<Expr, usize>, all: &[Credential]) -> Result<bool, AllocError> {
+    for (place, credential) in all.iter().enumerate() {
+        places.insert(credential.body.try_clone()?, place)?;
+    }
+    for (place, credential) in all.iter().enumerate() {
+        if places.get(&credential.body) != Some(&place) || !is_cloned(credential)? {
             return Ok(false);
         }
     }
-    Ok(places.len() == 4)
+    Ok(places.len() == all.len())
 }
 
 /// Whether credentials are written, ordered, and found in these.
 fn are_right(alloc: Global, places: &mut HashMap<Expr, usize>) -> Result<bool, CredFault> {
-    Ok(
-        longest_is_read(alloc, 1706)?
-            && are_appended(alloc)?
-            && are_in_order(alloc)?
-            && are_keys(alloc, places)?,
-    )
+    let is_written = longest_is_read(alloc, 1706)? && are_appended(alloc)?;
+    let is_ordered = are_in_order(&credentials(alloc, &IN_ORDER)?);
+    Ok(is_written && is_ordered && are_keys(places, &credentials(alloc, &KINDS)?)?)
 }
 
 #[test]

@@ -10,10 +10,8 @@ mod runs;
 mod worlds;
 
 use super::is_text;
-use hall::{
-    Fault, Hall, Names, answers_are_true, refusals_come_first, runs_are_allowed, scripts_are_exact,
-    scripts_are_isolated, two_worlds,
-};
+use deeds::{Part, all_play};
+use hall::{Fault, Hall, Names};
 use names::Entity;
 use quotas::{Limits, QuotaFault};
 use std::alloc::{AllocError, Global};
@@ -77,9 +75,15 @@ static QUOTA_FAULTS: [(QuotaFault, u64); 5] = [
     (QuotaFault::Opens, 45),
 ];
 
-/// Numbers and texts, and the numbers of the lower layers' faults as the hall's.
+/// Whether a list of these names has them in this order.
+fn lists_as_given(alloc: Global, given: &[Entity]) -> Result<bool, AllocError> {
+    let names = Names::new(Vec::from_slice(alloc, given)?);
+    Ok(names.as_slice() == given)
+}
+
+/// Numbers and texts, the numbers of the lower layers' faults as the hall's, and a list.
 #[test]
-fn faults(rt: HostRuntime) -> Result<(), AllocError> {
+fn faults_and_lists(rt: HostRuntime) -> Result<(), Fault> {
     for (fault, number, text) in &FAULTS {
         assert!(rt; fault.number() == *number && is_text(rt.alloc(), fault, text)?);
     }
@@ -89,28 +93,24 @@ fn faults(rt: HostRuntime) -> Result<(), AllocError> {
     for (fault, number) in &QUOTA_FAULTS {
         assert!(rt; Fault::from(*fault).number() == *number);
     }
-    Ok(())
-}
-
-/// Whether a list of these names has them in this order.
-fn lists_as_given(alloc: Global, given: &[Entity]) -> Result<bool, AllocError> {
-    let names = Names::new(Vec::from_slice(alloc, given)?);
-    Ok(names.as_slice() == given)
-}
-
-#[test]
-fn lists_as_they_were_given(rt: HostRuntime) -> Result<(), Fault> {
     let [a, b, c, d] = four()?;
     assert!(rt; lists_as_given(rt.alloc(), &[b, a, d, c])?);
     Ok(())
 }
 
 #[test]
-fn each_law_once(_rt: HostRuntime) {
-    two_worlds();
-    scripts_are_isolated();
-    refusals_come_first();
-    answers_are_true();
-    runs_are_allowed();
-    scripts_are_exact();
+fn plays_go_as_they_are_written(rt: HostRuntime) -> Result<(), Fault> {
+    let all: [&[&[Part]]; 5] = [
+        &explained::PLAYS,
+        &jobs::PLAYS,
+        &letters::PLAYS,
+        &public_reading::PLAYS,
+        &runs::PLAYS,
+    ];
+    for plays in all {
+        assert!(rt; all_play(rt.alloc(), Limits::usual(), plays)?);
+    }
+    let few = Limits::make(1, 1, 1, 3, 1, 1000).expect(&rt, "limits");
+    assert!(rt; all_play(rt.alloc(), few, &public_reading::WITH_FEW)?);
+    Ok(())
 }

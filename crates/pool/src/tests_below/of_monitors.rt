@@ -51,13 +51,6 @@ fn hears_once(monitor: &mut LinkMonitor, b: Entity, c: Entity) -> Result<bool, F
     Ok(tell_base(monitor, b)? && hears(monitor, b, false, true)? && hears(monitor, c, true, false)?)
 }
 
-#[test]
-fn a_linked_role_hears_each_member_once(rt: HostRuntime) -> Result<(), Fail> {
-    let (b, c) = (Entity::read(b"B")?, Entity::read(b"C")?);
-    assert!(rt; hears_once(&mut LinkMonitor::new(rt.alloc()), b, c)?);
-    Ok(())
-}
-
 /// Whether each part that is told of an entity completes it where it is to: part, entity and whether.
 fn hears_parts(
     monitor: &mut MeetMonitor,
@@ -90,13 +83,6 @@ static THREE_PARTS: [(u8, &[u8], bool); 6] = [
     (2, b"E", true),
     (1, b"D", true),
 ];
-
-#[test]
-fn an_intersection_hears_its_last_part_once(rt: HostRuntime) -> Result<(), Fail> {
-    assert!(rt; hears_parts(&mut MeetMonitor::make(rt.alloc(), 2), 2, &TWO_PARTS)?);
-    assert!(rt; hears_parts(&mut MeetMonitor::make(rt.alloc(), 3), 3, &THREE_PARTS)?);
-    Ok(())
-}
 
 /// Tells a base after these. Whether the base is new, and a refused telling left these told and the base untold.
 fn hears_new_base(
@@ -212,16 +198,14 @@ fn nine() -> Result<[Entity; 9], NameFault> {
     Ok(entities)
 }
 
+/// A linked role hears each member once, and an intersection its last part; and a refused telling changes neither.
 #[test]
-fn a_refused_telling_changes_no_linked_role(rt: HostRuntime) -> Result<(), Fail> {
+fn monitors_hear_each_once(rt: HostRuntime) -> Result<(), Fail> {
     let entities = nine()?;
+    assert!(rt; hears_once(&mut LinkMonitor::new(rt.alloc()), entities[0], entities[1])?);
     assert!(rt; first_unheard(&mut LinkMonitor::new(rt.alloc()), &entities)?.is_none());
-    Ok(())
-}
-
-#[test]
-fn a_refused_telling_changes_no_intersection(rt: HostRuntime) -> Result<(), Fail> {
-    let entities = nine()?;
+    assert!(rt; hears_parts(&mut MeetMonitor::make(rt.alloc(), 2), 2, &TWO_PARTS)?);
+    assert!(rt; hears_parts(&mut MeetMonitor::make(rt.alloc(), 3), 3, &THREE_PARTS)?);
     let mut monitor = MeetMonitor::make(rt.alloc(), 2);
     assert!(rt; first_complete(&mut monitor, &entities)?.is_none());
     assert!(rt; first_incomplete(&mut monitor, &entities)?.is_none());

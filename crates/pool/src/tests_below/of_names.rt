@@ -1,3 +1,4 @@
+use super::is_text;
 use names::texts::{cut, is_blank, trim, trim_end, trim_start};
 use names::{Entity, NameFault, Role, RoleName};
 use std::alloc::{AllocError, Global};
@@ -30,12 +31,6 @@ fn are_ordered(role: &[u8], other: &[u8], order: Ordering) -> bool {
     }
 }
 
-/// Whether the fault has this text.
-fn is_printed(alloc: Global, fault: NameFault, text: &str) -> Result<bool, AllocError> {
-    let printed = format!(in alloc; "{fault}")?;
-    Ok(printed.as_str() == text)
-}
-
 /// What is looked at.
 enum Line {
     /// A text as a name: 0, or the number of its fault.
@@ -62,7 +57,7 @@ fn is_so(alloc: Global, line: &Line) -> Result<bool, AllocError> {
         Line::Role(text, told) => Ok(reads_role(text, told)),
         Order(role, other, order) => Ok(are_ordered(role, other, *order)),
         Fault(fault, number, text) => {
-            Ok(fault.number() == *number && is_printed(alloc, *fault, text)?)
+            Ok(fault.number() == *number && is_text(alloc, fault, text)?)
         }
         Cut(text, before, after) => Ok(cut(text, b'.') == (*before, *after)),
         Trimmed(text, start, end, both) => {
@@ -126,17 +121,6 @@ static TEXTS: [Line; 7] = [
     Blank(b" \t", false),
 ];
 
-#[test]
-fn names_roles_faults_and_texts(rt: HostRuntime) -> Result<(), AllocError> {
-    let tables: [&[Line]; 4] = [&NAMES, &ROLES, &FAULTS, &TEXTS];
-    for lines in tables {
-        for line in lines {
-            assert!(rt; is_so(rt.alloc(), line)?);
-        }
-    }
-    Ok(())
-}
-
 static IN_ORDER: [&[u8]; 6] = [b"A", b"A-", b"B", b"Ba", b"a", b"b"];
 
 /// Whether the names are ordered so, as entities and as role names.
@@ -146,12 +130,26 @@ fn names_are_ordered(name: &[u8], other: &[u8], order: Ordering) -> Result<bool,
     Ok(entities == order && role_names == order)
 }
 
-#[test]
-fn orders_of_names(rt: HostRuntime) -> Result<(), NameFault> {
+/// Whether each two of them are in the order of their places.
+fn are_in_order() -> Result<bool, NameFault> {
     for (i, name) in IN_ORDER.iter().enumerate() {
         for (j, other) in IN_ORDER.iter().enumerate() {
-            assert!(rt; names_are_ordered(name, other, i.cmp(&j))?);
+            if !names_are_ordered(name, other, i.cmp(&j))? {
+                return Ok(false);
+            }
         }
     }
+    Ok(true)
+}
+
+#[test]
+fn names_roles_faults_texts_and_orders(rt: HostRuntime) -> Result<(), AllocError> {
+    let tables: [&[Line]; 4] = [&NAMES, &ROLES, &FAULTS, &TEXTS];
+    for lines in tables {
+        for line in lines {
+            assert!(rt; is_so(rt.alloc(), line)?);
+        }
+    }
+    assert!(rt; matches!(are_in_order(), Ok(true)));
     Ok(())
 }

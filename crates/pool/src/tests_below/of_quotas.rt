@@ -1,4 +1,4 @@
-use super::is_text;
+use super::{is_text, limits_of};
 use quotas::{Limits, QuotaFault, Used};
 use std::alloc::AllocError;
 
@@ -24,11 +24,6 @@ static NUMBERS: [([u64; 6], bool); 15] = [
     ([1, 1, 1, 1, 1, 4_294_967_297], false),
 ];
 
-fn made_of(numbers: &[u64; 6]) -> Option<Limits> {
-    let [creds, grants, searches, changes, opens, work] = *numbers;
-    Limits::make(creds, grants, searches, changes, opens, work)
-}
-
 /// Whether the limits are these.
 fn are(limits: &Limits, numbers: &[u64; 6]) -> bool {
     let [creds, grants, searches, changes, opens, work] = *numbers;
@@ -40,16 +35,12 @@ fn are(limits: &Limits, numbers: &[u64; 6]) -> bool {
         && limits.work() == work
 }
 
-#[test]
-fn six_numbers_in_their_ranges(rt: HostRuntime) {
-    for (numbers, is_made) in &NUMBERS {
-        match made_of(numbers) {
-            Some(limits) => assert!(rt; *is_made && are(&limits, numbers)),
-            None => assert!(rt; !*is_made),
-        }
+/// Whether the numbers make limits, which are then these, where they are to.
+fn make_limits(numbers: &[u64; 6], is_made: bool) -> bool {
+    match limits_of(numbers) {
+        Some(limits) => is_made && are(&limits, numbers),
+        None => !is_made,
     }
-    let usual = [1_000, 100, 16, 10_000, 10_000, 1_000_000];
-    assert!(rt; are(&Limits::usual(), &usual));
 }
 
 /// Used credentials, grants, searches, changes and openings, and whether there may be one more of each.
@@ -84,16 +75,13 @@ fn is_told(told: Result<(), QuotaFault>, may: bool, fault: QuotaFault) -> bool {
     }
 }
 
-#[test]
-fn one_below_and_at_each_limit(rt: HostRuntime) {
-    let limits = made_of(&NUMBERS[0].0).expect(&rt, "in their ranges");
-    for (used, may) in &USED {
-        assert!(rt; is_told(limits.may_hold(used), *may, QuotaFault::Creds));
-        assert!(rt; is_told(limits.may_grant(used), *may, QuotaFault::Grants));
-        assert!(rt; is_told(limits.may_search(used), *may, QuotaFault::Searches));
-        assert!(rt; is_told(limits.may_change(used), *may, QuotaFault::Changes));
-        assert!(rt; is_told(limits.may_open(used), *may, QuotaFault::Opens));
-    }
+/// Whether there may be one more of each, or else may not by the fault of its kind.
+fn may_all(limits: &Limits, used: &Used, may: bool) -> bool {
+    is_told(limits.may_hold(used), may, QuotaFault::Creds)
+        && is_told(limits.may_grant(used), may, QuotaFault::Grants)
+        && is_told(limits.may_search(used), may, QuotaFault::Searches)
+        && is_told(limits.may_change(used), may, QuotaFault::Changes)
+        && is_told(limits.may_open(used), may, QuotaFault::Opens)
 }
 
 static FAULTS: [(QuotaFault, u64, &str); 5] = [
@@ -104,8 +92,22 @@ static FAULTS: [(QuotaFault, u64, &str); 5] = [
     (QuotaFault::Opens, 45, "opens limit"),
 ];
 
+/// Six numbers in their ranges, one below and at each limit, and faults by number and text.
 #[test]
-fn faults_by_number_and_text(rt: HostRuntime) -> Result<(), AllocError> {
+fn limits_and_faults(rt: HostRuntime) -> Result<(), AllocError> {
+    for (numbers, is_made) in &NUMBERS {
+        assert!(rt; make_limits(numbers, *is_made));
+    }
+    assert!(rt;
+        are(
+            &Limits::usual(),
+            &[1_000, 100, 16, 10_000, 10_000, 1_000_000]
+        )
+    );
+    let limits = limits_of(&NUMBERS[0].0).expect(&rt, "in their ranges");
+    for (used, may) in &USED {
+        assert!(rt; may_all(&limits, used, *may));
+    }
     for (fault, number, text) in &FAULTS {
         assert!(rt; fault.number() == *number && is_text(rt.alloc(), fault, text)?);
     }

@@ -1,7 +1,8 @@
+use super::are_named;
 use super::of_search::credentials;
 use credential_text::{CredFault, Credential};
-use names::{Entity, Role};
-use rt0_rules::{members_plain, membership_is_exact, work_is_exact, work_plain};
+use names::Role;
+use rt0_rules::{members_plain, work_plain};
 use std::alloc::Global;
 
 /// What is asked of credentials, and what it is to come to.
@@ -13,16 +14,6 @@ enum Told {
 }
 
 use Told::{Members, Work};
-
-/// Whether the entities have these names, in this order.
-fn are_named(entities: &[Entity], names: &[&[u8]]) -> bool {
-    for (entity, name) in entities.iter().zip(names) {
-        if entity.bytes() != *name {
-            return false;
-        }
-    }
-    entities.len() == names.len()
-}
 
 fn has_members(
     alloc: Global,
@@ -184,10 +175,4 @@ fn members_and_works_over_credentials(rt: HostRuntime) -> Result<(), CredFault> 
         assert!(rt; all_so(rt.alloc(), lines)?);
     }
     Ok(())
-}
-
-#[test]
-fn laws() {
-    membership_is_exact();
-    work_is_exact();
 }

@@ -1,6 +1,7 @@
 ghost use Rattle.std.specs.Prelude.{◌↔◌, IsTrue};
 ghost use Rattle.scholten_core.specs.Computation.{IsHeld};
 
+use super::mix;
 use scholten_core::{Diffusion, Parent};
 use std::alloc::{AllocError, Global};
 use std::test::Fail;
@@ -33,10 +34,6 @@ fn is_held<P: Drop>(d: &Diffusion<P>, number: u64) -> bool
         Some(letter) => letter.held,
         None => false,
     }
-}
-
-fn mix(sum: u64, more: u64) -> u64 {
-    sum.wrapping_mul(31).wrapping_add(more)
 }
 
 fn code(parent: Parent) -> u64 {

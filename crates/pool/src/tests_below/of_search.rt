@@ -73,7 +73,7 @@ fn run(search: &mut Search, order: Order, signals_first: bool) {
 }
 
 // What the search has come to; where it is broken, want of memory.
-fn ending(search: &Search) -> Result<Status, AllocError> {
+pub(super) fn ending(search: &Search) -> Result<Status, AllocError> {
     match search.status() {
         Status::Broken => Err(AllocError),
         status => Ok(status),
@@ -117,28 +117,41 @@ pub(crate) fn credentials(alloc: Global, texts: &[&[u8]]) -> Result<Vec<Credenti
 
 static OTHERS: [&[u8]; 3] = [b"B", b"C", b"D"];
 
-// Puts the credentials into the vaults of their issuers, and grants the vaults of the three others to `A`.
-fn fill(book: &mut Book, credentials: &[Credential]) -> Result<(), Fail> {
+// Puts the credentials into the vaults of their issuers.
+fn upload(book: &mut Book, credentials: &[Credential]) -> Result<(), Fail> {
     for credential in credentials {
         let upload = Change::Upload(credential.try_clone()?);
         book.change(credential.head.owner, upload)?;
     }
+    Ok(())
+}
+
+// Grants the vaults of the three others to `A`, and those of all who hold one of the credentials.
+fn grant(book: &mut Book, credentials: &[Credential]) -> Result<(), Fail> {
+    let a = Entity::read(b"A")?;
     for owner in &OTHERS {
-        book.change(Entity::read(owner)?, Change::Grant(Entity::read(b"A")?))?;
+        book.change(Entity::read(owner)?, Change::Grant(a))?;
+    }
+    for credential in credentials {
+        let owner = credential.head.owner;
+        if !book.readable(a, owner) {
+            book.change(owner, Change::Grant(a))?;
+        }
     }
     Ok(())
 }
 
 // What `A` reads.
-fn seen(alloc: Global, book: &mut Book) -> Result<Arc<Snapshot>, Fail> {
+pub(super) fn seen(alloc: Global, book: &mut Book) -> Result<Arc<Snapshot>, Fail> {
     let snapshot = Snapshot::take(alloc, book, Entity::read(b"A")?)?;
     Ok(Arc::new(alloc, snapshot)?)
 }
 
-// What `A` reads, where each of the four holds its credentials and has granted them to `A`.
+// What `A` reads, where each holds its credentials and has granted them to `A`, and so have `B`, `C` and `D`.
 fn snapshot_over(alloc: Global, credentials: &[Credential]) -> Result<Arc<Snapshot>, Fail> {
     let mut book = Book::new(alloc);
-    fill(&mut book, credentials)?;
+    upload(&mut book, credentials)?;
+    grant(&mut book, credentials)?;
     seen(alloc, &mut book)
 }
 
@@ -147,13 +160,18 @@ fn snapshot_of(alloc: Global, texts: &[&[u8]]) -> Result<Arc<Snapshot>, Fail> {
     snapshot_over(alloc, &all)
 }
 
-fn opened(alloc: Global, texts: &[&[u8]], query: Query, work: u64) -> Result<Search, Fail> {
+pub(super) fn opened(
+    alloc: Global,
+    texts: &[&[u8]],
+    query: Query,
+    work: u64,
+) -> Result<Search, Fail> {
     let snapshot = snapshot_of(alloc, texts)?;
     Ok(Search::open(alloc, snapshot, query, work.max(1))?)
 }
 
 // A search over a snapshot that others may search too.
-fn opened_over(
+pub(super) fn opened_over(
     alloc: Global,
     snapshot: &Arc<Snapshot>,
     query: Query,

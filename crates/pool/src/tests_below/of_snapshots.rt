@@ -93,12 +93,6 @@ fn find_spans(snapshot: &Snapshot) -> Result<bool, NameFault> {
     Ok(finds_all(snapshot, &FOUND)? && judges::<Brand>(snapshot, Blank::new(1), &JUDGED)?)
 }
 
-/// The same in what `A` sees.
-fn sees_spans(alloc: Global, book: &mut Book) -> Result<bool, Fail> {
-    let snapshot = Snapshot::take(alloc, book, Entity::read(b"A")?)?;
-    Ok(find_spans(&snapshot)?)
-}
-
 static FOUND_BY_C: [(&[u8], u64, u64, u64); 3] = [
     (b"A.r", 0, 0, 0),
     (b"C.r", 0, 0, 0),
@@ -126,15 +120,16 @@ fn stays(alloc: Global, book: &mut Book, snapshot: &Snapshot) -> Result<bool, Fa
     Ok(has_both(snapshot, role, &read_credential(alloc, b"A.r <- E")?))
 }
 
-fn sees_what_was(alloc: Global, book: &mut Book) -> Result<bool, Fail> {
+/// Whether spans are found and judged in what `A` sees, and what it sees stays.
+fn sees_spans(alloc: Global, book: &mut Book) -> Result<bool, Fail> {
     let snapshot = Snapshot::take(alloc, book, Entity::read(b"A")?)?;
-    stays(alloc, book, &snapshot)
+    Ok(find_spans(&snapshot)? && stays(alloc, book, &snapshot)?)
 }
 
 /// Whether snapshots of the book of these two are right.
 fn all_is_seen(alloc: Global, book: &mut Book) -> Result<bool, Fail> {
     fill(alloc, book)?;
-    Ok(sees_spans(alloc, book)? && sees_nothing(alloc, book)? && sees_what_was(alloc, book)?)
+    Ok(sees_nothing(alloc, book)? && sees_spans(alloc, book)?)
 }
 
 #[test]

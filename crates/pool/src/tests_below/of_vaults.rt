@@ -1,10 +1,8 @@
+use super::{are_seen, is_spelled, is_text};
 use credential_text::{CredFault, Credential, read_credential};
 use names::Entity;
 use std::alloc::{AllocError, Global};
-use vaults::{
-    Book, Change, Entries, Row, Seen, VaultFault, Version, accepted_changes_are_own,
-    grants_are_apart, marks_are_exact, own_entries_decide, vaults_are_exact, views_are_exact,
-};
+use vaults::{Book, Change, Entries, Row, VaultFault, Version};
 
 /// A change, by the spelling of its credential or the name of its reader.
 #[derive(Clone, Copy)]
@@ -55,11 +53,6 @@ fn answers(
     Ok(told(book, who, &change)? == expected)
 }
 
-/// Whether the text spells this credential.
-fn is_spelled(alloc: Global, credential: &Credential, text: &[u8]) -> Result<bool, CredFault> {
-    Ok(credential.compare(&read_credential(alloc, text)?).is_eq())
-}
-
 /// Whether the word stands for this change.
 fn is_meant(alloc: Global, change: &Change, word: &Word) -> Result<bool, CredFault> {
     match (change, word) {
@@ -104,16 +97,6 @@ fn are_rows(alloc: Global, rows: &[Row], texts: &[&[u8]]) -> Result<bool, CredFa
         }
     }
     Ok(rows.len() == texts.len())
-}
-
-/// Whether these are the names, in this order, and whether their vaults are public.
-fn are_seen(seen: &[Seen], names: &[(&[u8], bool)]) -> bool {
-    for (seen, (name, to_all)) in seen.iter().zip(names) {
-        if seen.name.bytes() != *name || seen.to_all != *to_all {
-            return false;
-        }
-    }
-    seen.len() == names.len()
 }
 
 fn reads(book: &Book, who: Entity, names: &[(&[u8], bool)]) -> Result<bool, CredFault> {
@@ -435,8 +418,19 @@ static ROW_GONE: [Line; 3] = [
     (b"B", Act::Vault(&[])),
 ];
 
+/// Each fault with its number and its text.
+static FAULTS: [(VaultFault, u64, &str); 7] = [
+    (VaultFault::NotIssuer, 31, "not issuer"),
+    (VaultFault::AlreadyHeld, 32, "already held"),
+    (VaultFault::NotHeld, 33, "not held"),
+    (VaultFault::AlreadyGranted, 34, "already granted"),
+    (VaultFault::NotGranted, 35, "not granted"),
+    (VaultFault::GrantSelf, 36, "grant self"),
+    (VaultFault::Memory, 90, "memory"),
+];
+
 #[test]
-fn each_book_answers_its_lines(rt: HostRuntime) -> Result<(), CredFault> {
+fn each_book_answers_its_lines_and_faults(rt: HostRuntime) -> Result<(), CredFault> {
     let tables: [&[Line]; 8] = [
         &REFUSALS,
         &EVERY_KIND,
@@ -449,6 +443,9 @@ fn each_book_answers_its_lines(rt: HostRuntime) -> Result<(), CredFault> {
     ];
     for lines in tables {
         assert!(rt; all_so_anew(rt.alloc(), lines)?);
+    }
+    for (fault, number, text) in &FAULTS {
+        assert!(rt; fault.number() == *number && is_text(rt.alloc(), fault, text)?);
     }
     Ok(())
 }
@@ -477,39 +474,4 @@ fn a_held_version_stays(rt: HostRuntime) -> Result<(), CredFault> {
     let mut book = Book::new(rt.alloc());
     assert!(rt; stays_from_its_first_row(rt.alloc(), &mut book)?);
     Ok(())
-}
-
-/// Whether the fault has this number and this text.
-fn reads_as(alloc: Global, fault: VaultFault, number: u64, text: &str) -> Result<bool, AllocError> {
-    let written = format!(in alloc; "{fault}")?;
-    Ok(fault.number() == number && written.as_str() == text)
-}
-
-/// Each fault with its number and its text.
-static FAULTS: [(VaultFault, u64, &str); 7] = [
-    (VaultFault::NotIssuer, 31, "not issuer"),
-    (VaultFault::AlreadyHeld, 32, "already held"),
-    (VaultFault::NotHeld, 33, "not held"),
-    (VaultFault::AlreadyGranted, 34, "already granted"),
-    (VaultFault::NotGranted, 35, "not granted"),
-    (VaultFault::GrantSelf, 36, "grant self"),
-    (VaultFault::Memory, 90, "memory"),
-];
-
-#[test]
-fn faults_by_number_and_text(rt: HostRuntime) -> Result<(), AllocError> {
-    for (fault, number, text) in &FAULTS {
-        assert!(rt; reads_as(rt.alloc(), *fault, *number, text)?);
-    }
-    Ok(())
-}
-
-#[test]
-fn laws() {
-    vaults_are_exact();
-    views_are_exact();
-    marks_are_exact();
-    grants_are_apart();
-    accepted_changes_are_own();
-    own_entries_decide();
 }

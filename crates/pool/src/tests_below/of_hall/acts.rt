@@ -1,10 +1,11 @@
 //! Events as a table writes them, and what a table wants each to be answered.
+use crate::tests_below::{are_named, are_seen, is_spelled};
 use credential_text::{CredFault, Credential, read_credential};
 use hall::{Answer, Event, Fault, Hall, Proof, Query, Reply, Request, Step, Stepped, write_proof};
 use names::{Entity, Role};
 use search::{Hint, Need};
 use std::alloc::Global;
-use vaults::{Change, Seen};
+use vaults::Change;
 
 /// What a tenant asks of a hall, or what is done for its search; a step names the number of the search first.
 pub(super) enum Act {
@@ -50,14 +51,14 @@ pub(super) enum Told {
     Working,
     Yes,
     No,
-    Members(&'static [&'static str]),
+    Members(&'static [&'static [u8]]),
     Closed,
     /// The credentials that these texts spell.
     Vault(&'static [&'static str]),
     /// These lines.
     Proof(&'static str),
     /// These names, each with whether its vault is read by every tenant.
-    Sees(&'static [(&'static str, bool)]),
+    Sees(&'static [(&'static [u8], bool)]),
     /// Refused by the fault of this number.
     Refused(u64),
     /// The letter of this number was taken, which needs the rows of this role.
@@ -133,34 +134,14 @@ fn is_role(role: &Role, text: &str) -> bool {
     }
 }
 
-/// Whether these are the names, in this order.
-fn are_named(names: &[Entity], wanted: &[&str]) -> bool {
-    for (name, text) in names.iter().zip(wanted) {
-        if name.bytes() != text.as_bytes() {
-            return false;
-        }
-    }
-    names.len() == wanted.len()
-}
-
-/// Whether these are the names with their marks, in this order.
-fn are_seen(seen: &[Seen], wanted: &[(&str, bool)]) -> bool {
-    for (one, (text, to_all)) in seen.iter().zip(wanted) {
-        if one.to_all != *to_all || one.name.bytes() != text.as_bytes() {
-            return false;
-        }
-    }
-    seen.len() == wanted.len()
-}
-
 /// Whether these are the credentials that the texts spell, in this order.
 fn are_spelled(alloc: Global, rows: &[Credential], wanted: &[&str]) -> Result<bool, CredFault> {
-    let mut are = rows.len() == wanted.len();
     for (row, text) in rows.iter().zip(wanted) {
-        let spelled = read_credential(alloc, text.as_bytes())?;
-        are &= row.compare(&spelled).is_eq();
+        if !is_spelled(alloc, row, text.as_bytes())? {
+            return Ok(false);
+        }
     }
-    Ok(are)
+    Ok(rows.len() == wanted.len())
 }
 
 /// Whether the proof is written in these lines.

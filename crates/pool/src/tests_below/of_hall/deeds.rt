@@ -18,8 +18,8 @@ pub(super) enum Deed {
     Rest(u64),
     /// The letter that waits first is taken and given back. Then it is taken and finished.
     Jobs,
-    /// The search can't be polled, worked on or seen any more.
-    Gone,
+    /// The search can't be seen any more.
+    Unseen,
     /// The first letter is finished with no hint of numbers below 3 but the right one, nor without any.
     OneHint,
     /// A visit of one step takes the letter of this number, which is then given back.
@@ -34,7 +34,6 @@ pub(super) enum Deed {
 }
 
 /// A part of a play: acts, with what each is to be answered, or deeds.
-#[derive(Clone, Copy)]
 pub(super) enum Part<'a> {
     Acts(&'a [Row]),
     Deeds(&'a [Deed]),
@@ -53,13 +52,6 @@ fn moves_jobs(hall: &mut Hall, a: Entity) -> Result<bool, Fault> {
     let is_first = matches!(hall.step(Step::GiveBack(a, 1, 1)), Stepped::Back)
         && matches!(hall.step(Step::Take(a, 1, 0)), Stepped::Took(1, _));
     Ok(matches!(hall.finish(job, hint), Stepped::Done) && is_back && is_first)
-}
-
-/// Whether A's search can't be polled, worked on or seen any more.
-fn is_gone(hall: &mut Hall, a: Entity) -> bool {
-    matches!(hall.poll(a, 1), Err(Fault::NoSuchSearch))
-        && matches!(hall.step(Step::Take(a, 1, 0)), Stepped::Gone)
-        && hall.search(a, 1).is_none()
 }
 
 /// Whether no step of A's search moves anything, and no letter of it is taken.
@@ -87,13 +79,10 @@ fn is_wrong(hall: &mut Hall, a: Entity, hint: Hint) -> bool {
 /// Whether so is each hint of numbers below 3 but the right one, and none.
 fn others_are_wrong(hall: &mut Hall, a: Entity) -> bool {
     let mut are = is_wrong(hall, a, Hint::Nothing);
-    for vault in 0..3 {
-        for lo in 0..3 {
-            for hi in 0..3 {
-                let is_right = vault == 0 && lo == 0 && hi == 1;
-                are &= is_right || is_wrong(hall, a, Hint::Rows(Span { vault, lo, hi }));
-            }
-        }
+    for number in 0..27u64 {
+        let (vault, lo, hi) = (number / 9, number / 3 % 3, number % 3);
+        let is_right = vault == 0 && lo == 0 && hi == 1;
+        are &= is_right || is_wrong(hall, a, Hint::Rows(Span { vault, lo, hi }));
     }
     are
 }
@@ -156,7 +145,7 @@ fn goes(alloc: Global, hall: &mut Hall, a: Entity, deed: &Deed) -> Result<bool, 
         Deed::Pick(turn, who, number) => Ok(picks(hall, *turn, entity(who)?, *number)),
         Deed::Rest(turn) => Ok(hall.pick(*turn).is_none()),
         Deed::Jobs => moves_jobs(hall, a),
-        Deed::Gone => Ok(is_gone(hall, a)),
+        Deed::Unseen => Ok(hall.search(a, 1).is_none()),
         Deed::OneHint => Ok(others_are_wrong(hall, a)),
         Deed::Visit(letter) => visits(alloc, hall, a, *letter),
         Deed::Unshared(who) => is_unshared(hall, who),
@@ -190,8 +179,18 @@ fn all_parts_go(alloc: Global, hall: &mut Hall, parts: &[Part<'_>]) -> Result<bo
     Ok(true)
 }
 
-/// Whether each part goes so in the hall of the four tenants, where A has these limits.
-pub(super) fn plays(alloc: Global, limits: Limits, parts: &[Part<'_>]) -> Result<bool, Fault> {
+/// Whether each part goes so in a hall of the four tenants, where A has these limits.
+fn plays(alloc: Global, limits: Limits, parts: &[Part<'_>]) -> Result<bool, Fault> {
     let mut hall = four_tenants(alloc, limits)?;
     all_parts_go(alloc, &mut hall, parts)
+}
+
+/// Whether so does each play, in a hall of its own.
+pub(super) fn all_play(alloc: Global, limits: Limits, all: &[&[Part<'_>]]) -> Result<bool, Fault> {
+    for parts in all {
+        if !plays(alloc, limits, parts)? {
+            return Ok(false);
+        }
+    }
+    Ok(true)
 }

@@ -1,28 +1,32 @@
 //! Letters that are taken from a hall, what becomes of them, and whose turn it is.
 use super::acts::{Act, Row, Told};
-use super::deeds::{Deed, Part, plays};
-use hall::Fault;
-use quotas::Limits;
+use super::deeds::{Deed, Part};
 
 /// A holds that D is in A.r, and asks about D.
-static ASKED: [Row; 2] = [
+const ASKED: &[Row] = &[
     ("A", Act::Put("A.r <- D"), Told::Counted(1)),
     ("A", Act::Ask("A.r", "D"), Told::Opened(1)),
 ];
 
 /// A ends its first search.
-static ENDED: [Row; 1] = [("A", Act::Close(1), Told::Closed)];
+const ENDED: &[Row] = &[("A", Act::Close(1), Told::Closed)];
 
-static GIVEN_BACK_AND_FINISHED: [Deed; 4] = [
+/// It can't be polled or worked on any more, nor seen.
+const GONE: &[Row] = &[
+    ("A", Act::Poll(1), Told::Refused(51)),
+    ("A", Act::Take(1, 0), Told::Gone),
+];
+
+const UNSEEN: &[Deed] = &[Deed::Unseen, Deed::Journal(1)];
+
+const GIVEN_BACK_AND_FINISHED: &[Deed] = &[
     Deed::Pick(7, "A", 1),
     Deed::Jobs,
     Deed::Drive("A", 1, Told::Yes),
     Deed::Rest(7),
 ];
 
-static GONE: [Deed; 2] = [Deed::Gone, Deed::Journal(1)];
-
-static SHARED: [Deed; 6] = [
+const SHARED: &[Deed] = &[
     Deed::Unshared("A"),
     Deed::Drive("A", 1, Told::Yes),
     Deed::Rest(7),
@@ -31,40 +35,15 @@ static SHARED: [Deed; 6] = [
     Deed::Unshared("Z"),
 ];
 
-#[test]
-fn a_job_and_a_shared_search(rt: HostRuntime) -> Result<(), Fault> {
-    // The job is given back, and then finished.
-    assert!(rt;
-        plays(
-            rt.alloc(),
-            Limits::usual(),
-            &[
-                Part::Acts(&ASKED),
-                Part::Deeds(&GIVEN_BACK_AND_FINISHED),
-                Part::Acts(&ENDED),
-                Part::Deeds(&GONE)
-            ]
-        )?
-    );
-    assert!(rt;
-        plays(
-            rt.alloc(),
-            Limits::usual(),
-            &[Part::Acts(&ASKED), Part::Deeds(&SHARED)]
-        )?
-    );
-    Ok(())
-}
-
 /// A has asked two questions, and B one.
-static THREE_ASKED: [Row; 3] = [
+const THREE_ASKED: &[Row] = &[
     ("A", Act::Who("A.r"), Told::Opened(1)),
     ("A", Act::Who("A.r"), Told::Opened(2)),
     ("B", Act::Who("A.r"), Told::Opened(1)),
 ];
 
 /// A asks eight questions more.
-static EIGHT_ASKED: [Row; 8] = [
+const EIGHT_ASKED: &[Row] = &[
     ("A", Act::Who("A.r"), Told::Opened(3)),
     ("A", Act::Who("A.r"), Told::Opened(4)),
     ("A", Act::Who("A.r"), Told::Opened(5)),
@@ -76,7 +55,7 @@ static EIGHT_ASKED: [Row; 8] = [
 ];
 
 /// Turns, and whose search each of them picks.
-static TURNS: [Deed; 5] = [
+const TURNS: &[Deed] = &[
     Deed::Pick(0, "A", 1),
     Deed::Pick(1, "B", 1),
     Deed::Pick(2, "A", 2),
@@ -85,7 +64,7 @@ static TURNS: [Deed; 5] = [
 ];
 
 /// All but A's first two searches are answered.
-static ANSWERED: [Deed; 9] = [
+const ANSWERED: &[Deed] = &[
     Deed::Drive("A", 3, Told::Members(&[])),
     Deed::Drive("A", 4, Told::Members(&[])),
     Deed::Drive("A", 5, Told::Members(&[])),
@@ -98,7 +77,7 @@ static ANSWERED: [Deed; 9] = [
 ];
 
 /// Turns where A's second search alone isn't answered or ended, and then none.
-static LAST_TURNS: [Deed; 6] = [
+const LAST_TURNS: &[Deed] = &[
     Deed::Pick(0, "A", 2),
     Deed::Pick(1, "A", 2),
     Deed::Pick(2, "A", 2),
@@ -107,22 +86,24 @@ static LAST_TURNS: [Deed; 6] = [
     Deed::Rest(0),
 ];
 
-// Tenants take turns, and so do a tenant's searches from one of its turns to the next. One that is answered or ended has none.
-#[test]
-fn each_search_has_its_turn(rt: HostRuntime) -> Result<(), Fault> {
-    assert!(rt;
-        plays(
-            rt.alloc(),
-            Limits::usual(),
-            &[
-                Part::Acts(&THREE_ASKED),
-                Part::Deeds(&TURNS),
-                Part::Acts(&EIGHT_ASKED),
-                Part::Deeds(&ANSWERED),
-                Part::Acts(&ENDED),
-                Part::Deeds(&LAST_TURNS)
-            ]
-        )?
-    );
-    Ok(())
-}
+pub(super) static PLAYS: [&[Part]; 3] = [
+    // A job is given back, and then finished.
+    &[
+        Part::Acts(ASKED),
+        Part::Deeds(GIVEN_BACK_AND_FINISHED),
+        Part::Acts(ENDED),
+        Part::Acts(GONE),
+        Part::Deeds(UNSEEN),
+    ],
+    &[Part::Acts(ASKED), Part::Deeds(SHARED)],
+    // Tenants take turns, and so do a tenant's searches from one of its turns to the next. One that is answered or ended has
+    // none.
+    &[
+        Part::Acts(THREE_ASKED),
+        Part::Deeds(TURNS),
+        Part::Acts(EIGHT_ASKED),
+        Part::Deeds(ANSWERED),
+        Part::Acts(ENDED),
+        Part::Deeds(LAST_TURNS),
+    ],
+];

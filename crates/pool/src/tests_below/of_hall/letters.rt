@@ -1,9 +1,7 @@
 //! Which letters are taken, at each place, and with which hint they are finished.
 use super::acts::{Act, Row, Told};
-use super::deeds::{Deed, Part, plays};
+use super::deeds::{Deed, Part};
 use super::runs::{ANSWERED, ASKED};
-use hall::Fault;
-use quotas::Limits;
 use search::Hint;
 use snapshots::Span;
 
@@ -15,7 +13,7 @@ const BOTH: Hint = Hint::Rows(Span {
 });
 
 /// A asks about a role that two others are included in. Its first letter sends two, which wait for their turns.
-static TWO_WAIT: [Row; 5] = [
+const TWO_WAIT: &[Row] = &[
     ("A", Act::Put("A.r <- B.s"), Told::Counted(1)),
     ("A", Act::Put("A.r <- B.t"), Told::Counted(2)),
     ("A", Act::Ask("A.r", "D"), Told::Opened(1)),
@@ -24,7 +22,7 @@ static TWO_WAIT: [Row; 5] = [
 ];
 
 /// The second is taken before the first, and waits behind it again where it is given back.
-static OUT_OF_TURN: [Row; 8] = [
+const OUT_OF_TURN: &[Row] = &[
     ("A", Act::Take(1, 2), Told::Nothing),
     ("A", Act::Take(1, 1), Told::TookFor(3, "B.t")),
     ("A", Act::Take(1, 1), Told::Nothing),
@@ -35,33 +33,15 @@ static OUT_OF_TURN: [Row; 8] = [
     ("A", Act::GiveBack(1, 2), Told::Back),
 ];
 
-static NO_OTHER_HINT: [Deed; 1] = [Deed::OneHint];
-
-static VISITED: [Deed; 1] = [Deed::Visit(2)];
-
-#[test]
-fn letters_and_their_hints(rt: HostRuntime) -> Result<(), Fault> {
-    assert!(rt;
-        plays(
-            rt.alloc(),
-            Limits::usual(),
-            &[
-                Part::Acts(&ASKED),
-                Part::Deeds(&NO_OTHER_HINT),
-                Part::Acts(&ANSWERED)
-            ]
-        )?
-    );
-    assert!(rt;
-        plays(
-            rt.alloc(),
-            Limits::usual(),
-            &[
-                Part::Acts(&TWO_WAIT),
-                Part::Acts(&OUT_OF_TURN),
-                Part::Deeds(&VISITED)
-            ]
-        )?
-    );
-    Ok(())
-}
+pub(super) static PLAYS: [&[Part]; 2] = [
+    &[
+        Part::Acts(ASKED),
+        Part::Deeds(&[Deed::OneHint]),
+        Part::Acts(ANSWERED),
+    ],
+    &[
+        Part::Acts(TWO_WAIT),
+        Part::Acts(OUT_OF_TURN),
+        Part::Deeds(&[Deed::Visit(2)]),
+    ],
+];

@@ -1,13 +1,13 @@
 //! A search through a linked role, letter by letter, and the proof of what it found.
 use super::acts::{Act, Row, Told};
-use super::deeds::{Part, plays};
+use super::deeds::{Part, all_play};
 use hall::Fault;
 use quotas::Limits;
 use search::Hint;
 use snapshots::Span;
 
 /// Who A.s has, says who is in A.r: the members of the role t of each of them.
-static HELD: [Row; 4] = [
+const HELD: &[Row] = &[
     ("A", Act::Put("A.r <- A.s.t"), Told::Counted(1)),
     ("A", Act::Put("A.s <- A"), Told::Counted(2)),
     ("A", Act::Put("A.t <- D"), Told::Counted(3)),
@@ -34,7 +34,7 @@ const THIRD: Hint = Hint::Rows(Span {
 });
 
 /// Down to A.s, whose member is A.
-static BASE_ASKED: [Row; 8] = [
+const BASE_ASKED: &[Row] = &[
     ("A", Act::Take(1, 0), Told::TookFor(1, "A.r")),
     ("A", Act::Finish(1, 1, FIRST), Told::Done),
     ("A", Act::Take(1, 0), Told::Took(2)),
@@ -46,7 +46,7 @@ static BASE_ASKED: [Row; 8] = [
 ];
 
 /// The linked role is told of A, and asks A.t, whose member is D.
-static LINK_ASKED: [Row; 8] = [
+const LINK_ASKED: &[Row] = &[
     ("A", Act::Take(1, 0), Told::Took(5)),
     ("A", Act::Finish(1, 5, Hint::Nothing), Told::Done),
     ("A", Act::Take(1, 0), Told::Took(6)),
@@ -58,7 +58,7 @@ static LINK_ASKED: [Row; 8] = [
 ];
 
 /// D is told all the way up.
-static TOLD_UP: [Row; 8] = [
+const TOLD_UP: &[Row] = &[
     ("A", Act::Take(1, 0), Told::Took(9)),
     ("A", Act::Finish(1, 9, Hint::Nothing), Told::Done),
     ("A", Act::Take(1, 0), Told::Took(10)),
@@ -70,7 +70,7 @@ static TOLD_UP: [Row; 8] = [
 ];
 
 /// A signal for each of the letters.
-static SIGNALLED: [Row; 11] = [
+const SIGNALLED: &[Row] = &[
     ("A", Act::Signal(1, 0), Told::Signalled),
     ("A", Act::Signal(1, 0), Told::Signalled),
     ("A", Act::Signal(1, 0), Told::Signalled),
@@ -85,7 +85,7 @@ static SIGNALLED: [Row; 11] = [
 ];
 
 /// The answer, why, and the end.
-static ANSWERED: [Row; 4] = [
+const ANSWERED: &[Row] = &[
     ("A", Act::Signal(1, 0), Told::Nothing),
     ("A", Act::Poll(1), Told::Yes),
     ("A", Act::Proof(1, "D"), Told::Proof(WHY)),
@@ -96,21 +96,17 @@ static ANSWERED: [Row; 4] = [
 const WHY: &str = "1 A in A by itself\n2 A in A.s by A.s <- A from 1\n3 D in D by itself\n\
     4 D in A.t by A.t <- D from 3\n5 D in A.s.t by link from 2 4\n6 D in A.r by A.r <- A.s.t from 5\n";
 
+static PLAYS: [&[Part]; 1] = [&[
+    Part::Acts(HELD),
+    Part::Acts(BASE_ASKED),
+    Part::Acts(LINK_ASKED),
+    Part::Acts(TOLD_UP),
+    Part::Acts(SIGNALLED),
+    Part::Acts(ANSWERED),
+]];
+
 #[test]
 fn a_linked_role_with_its_proof(rt: HostRuntime) -> Result<(), Fault> {
-    assert!(rt;
-        plays(
-            rt.alloc(),
-            Limits::usual(),
-            &[
-                Part::Acts(&HELD),
-                Part::Acts(&BASE_ASKED),
-                Part::Acts(&LINK_ASKED),
-                Part::Acts(&TOLD_UP),
-                Part::Acts(&SIGNALLED),
-                Part::Acts(&ANSWERED)
-            ]
-        )?
-    );
+    assert!(rt; all_play(rt.alloc(), Limits::usual(), &PLAYS)?);
     Ok(())
 }

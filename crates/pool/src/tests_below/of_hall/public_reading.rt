@@ -1,11 +1,9 @@
 //! Vaults that every tenant reads: what a grant to all and its revocation change, and what they leave.
 use super::acts::{Act, Row, Told};
-use super::deeds::{Deed, Part, plays};
-use hall::Fault;
-use quotas::Limits;
+use super::deeds::{Deed, Part};
 
 /// B grants its vault to all between two searches of A.
-static GRANTED: [Row; 5] = [
+const GRANTED: &[Row] = &[
     ("A", Act::Put("A.r <- B.s"), Told::Counted(1)),
     ("B", Act::Put("B.s <- D"), Told::Counted(1)),
     ("A", Act::Ask("A.r", "D"), Told::Opened(1)),
@@ -14,36 +12,36 @@ static GRANTED: [Row; 5] = [
 ];
 
 /// Everybody sees B's vault with its mark, B too.
-static SEEN: [Row; 3] = [
-    ("A", Act::Sees, Told::Sees(&[("A", false), ("B", true)])),
-    ("C", Act::Sees, Told::Sees(&[("B", true), ("C", false)])),
-    ("B", Act::Sees, Told::Sees(&[("B", true)])),
+const SEEN: &[Row] = &[
+    ("A", Act::Sees, Told::Sees(&[(b"A", false), (b"B", true)])),
+    ("C", Act::Sees, Told::Sees(&[(b"B", true), (b"C", false)])),
+    ("B", Act::Sees, Told::Sees(&[(b"B", true)])),
 ];
 
 /// A grant to A alone comes and goes beside the grant to all, which then goes by itself.
-static APART: [Row; 9] = [
+const APART: &[Row] = &[
     ("B", Act::GrantAll, Told::Refused(34)),
     ("B", Act::Revoke("A"), Told::Refused(35)),
     ("B", Act::Grant("A"), Told::Counted(3)),
-    ("A", Act::Sees, Told::Sees(&[("A", false), ("B", true)])),
+    ("A", Act::Sees, Told::Sees(&[(b"A", false), (b"B", true)])),
     ("B", Act::Revoke("A"), Told::Counted(4)),
-    ("A", Act::Sees, Told::Sees(&[("A", false), ("B", true)])),
+    ("A", Act::Sees, Told::Sees(&[(b"A", false), (b"B", true)])),
     ("B", Act::RevokeAll, Told::Counted(5)),
-    ("A", Act::Sees, Told::Sees(&[("A", false)])),
+    ("A", Act::Sees, Told::Sees(&[(b"A", false)])),
     ("B", Act::RevokeAll, Told::Refused(35)),
 ];
 
 /// A grant to A alone outlives the grant to all.
-static OUTLIVED: [Row; 5] = [
+const OUTLIVED: &[Row] = &[
     ("B", Act::Grant("A"), Told::Counted(1)),
     ("B", Act::GrantAll, Told::Counted(2)),
     ("B", Act::RevokeAll, Told::Counted(3)),
-    ("A", Act::Sees, Told::Sees(&[("A", false), ("B", false)])),
-    ("C", Act::Sees, Told::Sees(&[("C", false)])),
+    ("A", Act::Sees, Told::Sees(&[(b"A", false), (b"B", false)])),
+    ("C", Act::Sees, Told::Sees(&[(b"C", false)])),
 ];
 
 /// A may make one grant at a time, and three changes; Z is no tenant's name.
-static LIMITED: [Row; 9] = [
+const LIMITED: &[Row] = &[
     ("A", Act::GrantAll, Told::Counted(1)),
     ("A", Act::Grant("B"), Told::Refused(42)),
     ("A", Act::GrantAll, Told::Refused(42)),
@@ -56,63 +54,44 @@ static LIMITED: [Row; 9] = [
 ];
 
 /// B revokes its grant to all while a search of A is open.
-static REVOKED: [Row; 6] = [
+const REVOKED: &[Row] = &[
     ("A", Act::Put("A.r <- B.s"), Told::Counted(1)),
     ("B", Act::Put("B.s <- D"), Told::Counted(1)),
     ("B", Act::GrantAll, Told::Counted(2)),
     ("A", Act::Ask("A.r", "D"), Told::Opened(1)),
     ("B", Act::RevokeAll, Told::Counted(3)),
-    ("A", Act::Sees, Told::Sees(&[("A", false)])),
+    ("A", Act::Sees, Told::Sees(&[(b"A", false)])),
 ];
 
 /// A asks again.
-static ASKED_AGAIN: [Row; 1] = [("A", Act::Ask("A.r", "D"), Told::Opened(2))];
+const ASKED_AGAIN: &[Row] = &[("A", Act::Ask("A.r", "D"), Told::Opened(2))];
 
 /// The later of A's searches finds D, and the earlier doesn't.
-static FOUND_LATER: [Deed; 2] = [
+const FOUND_LATER: &[Deed] = &[
     Deed::Drive("A", 2, Told::Yes),
     Deed::Drive("A", 1, Told::No),
 ];
 
 /// A's first search finds D.
-static FOUND: [Deed; 1] = [Deed::Drive("A", 1, Told::Yes)];
+const FOUND: &[Deed] = &[Deed::Drive("A", 1, Told::Yes)];
 
 /// A's second search doesn't.
-static NOT_FOUND: [Deed; 1] = [Deed::Drive("A", 2, Told::No)];
+const NOT_FOUND: &[Deed] = &[Deed::Drive("A", 2, Told::No)];
 
-#[test]
-fn grants_to_one_and_to_all(rt: HostRuntime) -> Result<(), Fault> {
-    assert!(rt;
-        plays(
-            rt.alloc(),
-            Limits::usual(),
-            &[
-                Part::Acts(&GRANTED),
-                Part::Deeds(&FOUND_LATER),
-                Part::Acts(&SEEN),
-                Part::Acts(&APART)
-            ]
-        )?
-    );
-    assert!(rt;
-        plays(
-            rt.alloc(),
-            Limits::usual(),
-            &[
-                Part::Acts(&REVOKED),
-                Part::Deeds(&FOUND),
-                Part::Acts(&ASKED_AGAIN),
-                Part::Deeds(&NOT_FOUND)
-            ]
-        )?
-    );
-    Ok(())
-}
+pub(super) static PLAYS: [&[Part]; 3] = [
+    &[
+        Part::Acts(GRANTED),
+        Part::Deeds(FOUND_LATER),
+        Part::Acts(SEEN),
+        Part::Acts(APART),
+    ],
+    &[
+        Part::Acts(REVOKED),
+        Part::Deeds(FOUND),
+        Part::Acts(ASKED_AGAIN),
+        Part::Deeds(NOT_FOUND),
+    ],
+    &[Part::Acts(OUTLIVED)],
+];
 
-#[test]
-fn what_outlives_a_grant_to_all_and_limits(rt: HostRuntime) -> Result<(), Fault> {
-    assert!(rt; plays(rt.alloc(), Limits::usual(), &[Part::Acts(&OUTLIVED)])?);
-    let few = Limits::make(1, 1, 1, 3, 1, 1000).expect(&rt, "limits");
-    assert!(rt; plays(rt.alloc(), few, &[Part::Acts(&LIMITED)])?);
-    Ok(())
-}
+pub(super) static WITH_FEW: [&[Part]; 1] = [&[Part::Acts(LIMITED)]];

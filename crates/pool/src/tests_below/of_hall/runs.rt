@@ -1,8 +1,6 @@
 //! Whole runs of events, with each reply.
 use super::acts::{Act, Row, Told};
-use super::deeds::{Part, plays};
-use hall::Fault;
-use quotas::Limits;
+use super::deeds::Part;
 use search::Hint;
 use snapshots::Span;
 
@@ -28,7 +26,7 @@ const NONE: Hint = Hint::Rows(Span {
 });
 
 /// A holds that D is in A.r, asks about D, and the first letter is taken. A name that is no tenant's is refused.
-pub(super) static ASKED: [Row; 4] = [
+pub(super) const ASKED: &[Row] = &[
     ("A", Act::Put("A.r <- D"), Told::Counted(1)),
     ("Z", Act::Sees, Told::Refused(62)),
     ("A", Act::Ask("A.r", "D"), Told::Opened(1)),
@@ -36,7 +34,7 @@ pub(super) static ASKED: [Row; 4] = [
 ];
 
 /// The search goes on with its first letter, to its answer.
-pub(super) static ANSWERED: [Row; 12] = [
+pub(super) const ANSWERED: &[Row] = &[
     ("A", Act::Poll(1), Told::Working),
     ("A", Act::Finish(1, 1, FIRST), Told::Done),
     ("A", Act::Take(1, 0), Told::Took(2)),
@@ -52,21 +50,21 @@ pub(super) static ANSWERED: [Row; 12] = [
 ];
 
 /// With a wrong hint the letter waits again.
-static WRONGLY_HINTED: [Row; 3] = [
+const WRONGLY_HINTED: &[Row] = &[
     ("A", Act::Finish(1, 1, NONE), Told::BadHint),
     ("A", Act::Finish(1, 1, Hint::Nothing), Told::NotHeld),
     ("A", Act::Take(1, 0), Told::TookFor(1, "A.r")),
 ];
 
 /// The search is ended while its letter is out.
-static ENDED: [Row; 3] = [
+const ENDED: &[Row] = &[
     ("A", Act::Close(1), Told::Closed),
     ("A", Act::Finish(1, 1, FIRST), Told::Gone),
     ("A", Act::Poll(1), Told::Refused(51)),
 ];
 
 /// A, which may read B's vault, asks about D, whom B holds in B.s; then B holds E in its place.
-static REPLACED: [Row; 8] = [
+const REPLACED: &[Row] = &[
     ("A", Act::Put("A.r <- B.s"), Told::Counted(1)),
     ("B", Act::Put("B.s <- D"), Told::Counted(1)),
     ("B", Act::Grant("A"), Told::Counted(2)),
@@ -78,7 +76,7 @@ static REPLACED: [Row; 8] = [
 ];
 
 /// The other letters of the search find the vault as it was.
-static AS_IT_WAS: [Row; 14] = [
+const AS_IT_WAS: &[Row] = &[
     ("A", Act::Take(1, 0), Told::TookFor(2, "B.s")),
     ("A", Act::Finish(1, 2, SECOND), Told::Done),
     ("A", Act::Take(1, 0), Told::Took(3)),
@@ -96,7 +94,7 @@ static AS_IT_WAS: [Row; 14] = [
 ];
 
 /// A search that is opened now finds it as it is.
-static AS_IT_IS: [Row; 17] = [
+const AS_IT_IS: &[Row] = &[
     ("A", Act::Ask("A.r", "D"), Told::Opened(2)),
     ("A", Act::Take(2, 0), Told::TookFor(1, "A.r")),
     ("A", Act::Finish(2, 1, FIRST), Told::Done),
@@ -118,7 +116,7 @@ static AS_IT_IS: [Row; 17] = [
 
 /// Two searches of A and one of B are opened; each tenant's numbers count from 1, and so do each search's letters. A's first
 /// letter gets a wrong hint and is given back, while B's is finished.
-static INTERLEAVED: [Row; 22] = [
+const INTERLEAVED: &[Row] = &[
     ("A", Act::Put("A.r <- B.s"), Told::Counted(1)),
     ("B", Act::Put("B.s <- D"), Told::Counted(1)),
     ("B", Act::Grant("A"), Told::Counted(2)),
@@ -144,7 +142,7 @@ static INTERLEAVED: [Row; 22] = [
 ];
 
 /// A ends its second search, while its first letter is out; B's next one gets a hint that it doesn't need.
-static ENDED_BETWEEN: [Row; 16] = [
+const ENDED_BETWEEN: &[Row] = &[
     ("A", Act::Close(2), Told::Closed),
     ("A", Act::Finish(2, 1, FIRST), Told::Gone),
     ("A", Act::GiveBack(2, 1), Told::Gone),
@@ -164,14 +162,14 @@ static ENDED_BETWEEN: [Row; 16] = [
 ];
 
 /// B's search is answered while A's still works, and ended before A's is answered.
-static ANSWERED_IN_TURN: [Row; 22] = [
+const ANSWERED_IN_TURN: &[Row] = &[
     ("B", Act::Signal(1, 0), Told::Signalled),
     ("A", Act::Take(1, 0), Told::Took(3)),
     ("B", Act::Signal(1, 0), Told::Signalled),
     ("A", Act::Finish(1, 3, Hint::Nothing), Told::Done),
     ("B", Act::Poll(1), Told::Working),
     ("B", Act::Signal(1, 0), Told::Signalled),
-    ("B", Act::Poll(1), Told::Members(&["D"])),
+    ("B", Act::Poll(1), Told::Members(&[b"D"])),
     ("A", Act::Take(1, 0), Told::Took(4)),
     ("A", Act::Finish(1, 4, Hint::Nothing), Told::Done),
     ("B", Act::Close(1), Told::Closed),
@@ -189,59 +187,23 @@ static ANSWERED_IN_TURN: [Row; 22] = [
     ("A", Act::Ask("A.r", "E"), Told::Opened(3)),
 ];
 
-#[test]
-fn events_and_their_replies(rt: HostRuntime) -> Result<(), Fault> {
-    assert!(rt;
-        plays(
-            rt.alloc(),
-            Limits::usual(),
-            &[Part::Acts(&ASKED), Part::Acts(&ANSWERED)]
-        )?
-    );
-    assert!(rt;
-        plays(
-            rt.alloc(),
-            Limits::usual(),
-            &[
-                Part::Acts(&ASKED),
-                Part::Acts(&WRONGLY_HINTED),
-                Part::Acts(&ANSWERED)
-            ]
-        )?
-    );
-    assert!(rt;
-        plays(
-            rt.alloc(),
-            Limits::usual(),
-            &[Part::Acts(&ASKED), Part::Acts(&ENDED)]
-        )?
-    );
-    Ok(())
-}
-
-#[test]
-fn events_of_two_tenants(rt: HostRuntime) -> Result<(), Fault> {
-    assert!(rt;
-        plays(
-            rt.alloc(),
-            Limits::usual(),
-            &[
-                Part::Acts(&REPLACED),
-                Part::Acts(&AS_IT_WAS),
-                Part::Acts(&AS_IT_IS)
-            ]
-        )?
-    );
-    assert!(rt;
-        plays(
-            rt.alloc(),
-            Limits::usual(),
-            &[
-                Part::Acts(&INTERLEAVED),
-                Part::Acts(&ENDED_BETWEEN),
-                Part::Acts(&ANSWERED_IN_TURN)
-            ]
-        )?
-    );
-    Ok(())
-}
+/// What becomes of a tenant's search, and of the searches of two.
+pub(super) static PLAYS: [&[Part]; 5] = [
+    &[Part::Acts(ASKED), Part::Acts(ANSWERED)],
+    &[
+        Part::Acts(ASKED),
+        Part::Acts(WRONGLY_HINTED),
+        Part::Acts(ANSWERED),
+    ],
+    &[Part::Acts(ASKED), Part::Acts(ENDED)],
+    &[
+        Part::Acts(REPLACED),
+        Part::Acts(AS_IT_WAS),
+        Part::Acts(AS_IT_IS),
+    ],
+    &[
+        Part::Acts(INTERLEAVED),
+        Part::Acts(ENDED_BETWEEN),
+        Part::Acts(ANSWERED_IN_TURN),
+    ],
+];

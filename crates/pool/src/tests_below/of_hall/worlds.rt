@@ -1,136 +1,17 @@
 //! Halls of four tenants, with credentials and grants that rows of numbers make: what each tenant sees and is answered,
 //! compared with the plain program over the vaults that it may read.
-ghost use Rattle.std.specs.Prelude.{◌<◌};
-
 use super::acts::Told;
 use super::deeds::drives_to;
 use super::{four, four_tenants};
-use credential_text::{Credential, read_credential};
+use crate::tests_below::numbers::{below, credentials, role};
+use credential_text::Credential;
 use hall::{Answer, Fault, Hall, Query};
 use names::{Entity, Role};
 use proof_trees::check_proof;
 use quotas::Limits;
 use rt0_rules::members_plain;
-use std::alloc::{AllocError, Global};
+use std::alloc::Global;
 use vaults::{Change, Seen};
-
-/// A row of numbers, each from the one before by a linear congruence.
-#[derive(Drop)]
-struct Numbers {
-    state: u64,
-}
-
-impl Numbers {
-    /// The next number, below so many.
-    fn below(&mut self, bound: u64) -> u64
-        requires { 0 < bound }
-        ensures { result < bound }
-    {
-        let low = self.state % 2147483648;
-        self.state = low * 1103515245 + 12345;
-        self.state / 65536 % bound
-    }
-
-    fn letter(&mut self, letters: &[u8; 6]) -> u8 {
-        letters[self.below(6) as usize]
-    }
-
-    fn role(&mut self) -> [u8; 3] {
-        [self.letter(&NAMES), b'.', self.letter(&ROLE_NAMES)]
-    }
-}
-
-/// The letters of entities and of roles.
-static NAMES: [u8; 6] = *b"AABBCD";
-
-static ROLE_NAMES: [u8; 6] = *b"rrsrrs";
-
-fn write_name(text: &mut Vec<u8>, numbers: &mut Numbers) -> Result<(), AllocError> {
-    text.extend_from_slice(&[numbers.letter(&NAMES)])
-}
-
-fn write_role(text: &mut Vec<u8>, numbers: &mut Numbers) -> Result<(), AllocError> {
-    text.extend_from_slice(&numbers.role())
-}
-
-/// A linked role over a role of that owner.
-fn write_link(text: &mut Vec<u8>, numbers: &mut Numbers, owner: u8) -> Result<(), AllocError> {
-    let base = numbers.letter(&ROLE_NAMES);
-    text.extend_from_slice(&[owner, b'.', base, b'.', numbers.letter(&ROLE_NAMES)])
-}
-
-/// A part of a body: a name, a linked role, or a role.
-fn write_part(text: &mut Vec<u8>, numbers: &mut Numbers, owner: u8) -> Result<(), AllocError> {
-    match numbers.below(5) {
-        0 => write_name(text, numbers),
-        1 => write_link(text, numbers, owner),
-        _ => write_role(text, numbers),
-    }
-}
-
-/// Two parts, which may be one part twice, or three.
-fn write_parts(text: &mut Vec<u8>, numbers: &mut Numbers, owner: u8) -> Result<(), AllocError> {
-    let state = numbers.state;
-    write_part(text, numbers, owner)?;
-    text.extend_from_slice(b" & ")?;
-    let length = text.len();
-    write_part(text, numbers, owner)?;
-    match numbers.below(4) {
-        0 => {
-            text.truncate(length);
-            write_part(text, &mut Numbers { state }, owner)
-        }
-        1 => {
-            text.extend_from_slice(b" & ")?;
-            write_part(text, numbers, owner)
-        }
-        _ => Ok(()),
-    }
-}
-
-/// A credential of one of the four forms.
-fn write_credential(text: &mut Vec<u8>, numbers: &mut Numbers) -> Result<(), AllocError> {
-    let head = numbers.role();
-    text.extend_from_slice(&head)?;
-    text.extend_from_slice(b" <- ")?;
-    match numbers.below(6) {
-        0 | 3 => write_role(text, numbers),
-        1 => write_link(text, numbers, head[0]),
-        2 => write_parts(text, numbers, head[0]),
-        _ => write_name(text, numbers),
-    }
-}
-
-/// A credential, whose text can be read, and so it is want of memory where it isn't.
-fn credential(alloc: Global, numbers: &mut Numbers) -> Result<Credential, Fault> {
-    let mut text = Vec::new(alloc);
-    write_credential(&mut text, numbers)?;
-    read_credential(alloc, &text).or(Err(Fault::Memory))
-}
-
-fn has(credentials: &[Credential], one: &Credential) -> bool {
-    for other in credentials {
-        if other.compare(one).is_eq() {
-            return true;
-        }
-    }
-    false
-}
-
-/// Up to sixteen credentials, each once.
-fn add_credentials(
-    alloc: Global,
-    numbers: &mut Numbers,
-    credentials: &mut Vec<Credential>,
-) -> Result<(), Fault> {
-    for _ in 0..numbers.below(17) {
-        let made = credential(alloc, numbers)?;
-        if !has(credentials, &made) {
-            credentials.push(made)?;
-        }
-    }
-    Ok(())
-}
 
 /// A grant that a tenant may make, to one reader or to every tenant where none is named, and whether it stands.
 #[derive(Drop)]
@@ -187,11 +68,11 @@ fn change_of(grant: &Grant) -> Change {
 }
 
 /// Grants and revocations between any two of the tenants, and some for all.
-fn turn_some(hall: &mut Hall, grants: &mut [Grant], numbers: &mut Numbers) -> Result<(), Fault> {
+fn turn_some(hall: &mut Hall, grants: &mut [Grant], numbers: &mut u64) -> Result<(), Fault> {
     for grant in grants {
         let turns = match grant.reader {
-            None => numbers.below(5) == 0,
-            Some(_) => numbers.below(3) > 0,
+            None => below(numbers, 5) == 0,
+            Some(_) => below(numbers, 3) > 0,
         };
         if turns {
             hall.change(grant.owner, change_of(grant))?;
@@ -315,7 +196,7 @@ fn answers(
     hall: &mut Hall,
     tenants: &[Entity],
     grants: &mut [Grant],
-    numbers: &mut Numbers,
+    numbers: &mut u64,
     question: &Question<'_>,
 ) -> Result<bool, Fault> {
     let first = open(hall, tenants, question)?;
@@ -337,7 +218,7 @@ fn answers_one(
     hall: &mut Hall,
     world: &World<'_>,
     grants: &mut [Grant],
-    numbers: &mut Numbers,
+    numbers: &mut u64,
     asker: Entity,
 ) -> Result<bool, Fault> {
     let mut seen = Vec::new(alloc);
@@ -358,7 +239,7 @@ fn answers_each(
     hall: &mut Hall,
     world: &World<'_>,
     grants: &mut [Grant],
-    numbers: &mut Numbers,
+    numbers: &mut u64,
 ) -> Result<bool, Fault> {
     let mut is_right = true;
     for asker in world.tenants {
@@ -379,7 +260,7 @@ fn upload(hall: &mut Hall, credentials: &[Credential]) -> Result<(), Fault> {
 }
 
 /// Whether a hall of the world answers rightly, with grants that the numbers make.
-fn is_right(alloc: Global, world: &World<'_>, numbers: &mut Numbers) -> Result<bool, Fault> {
+fn is_right(alloc: Global, world: &World<'_>, numbers: &mut u64) -> Result<bool, Fault> {
     let mut hall = four_tenants(alloc, Limits::usual())?;
     upload(&mut hall, world.credentials)?;
     let mut grants = Vec::new(alloc);
@@ -388,11 +269,10 @@ fn is_right(alloc: Global, world: &World<'_>, numbers: &mut Numbers) -> Result<b
 }
 
 /// The same of a world that other numbers make.
-fn makes_right(alloc: Global, numbers: &mut Numbers, turns: &mut Numbers) -> Result<bool, Fault> {
+fn makes_right(alloc: Global, numbers: &mut u64, turns: &mut u64) -> Result<bool, Fault> {
     let tenants = four()?;
-    let mut credentials = Vec::new(alloc);
-    add_credentials(alloc, numbers, &mut credentials)?;
-    match Role::read(&numbers.role()) {
+    let credentials = credentials(alloc, numbers).or(Err(Fault::Memory))?;
+    match role(numbers) {
         Ok(role) => is_right(
             alloc,
             &World {
@@ -408,8 +288,7 @@ fn makes_right(alloc: Global, numbers: &mut Numbers, turns: &mut Numbers) -> Res
 
 #[test]
 fn as_the_plain_program(rt: HostRuntime) -> Result<(), Fault> {
-    let mut numbers = Numbers { state: 1 };
-    let mut turns = Numbers { state: 2 };
+    let (mut numbers, mut turns) = (1, 2);
     for _ in 0..240 {
         assert!(rt; makes_right(rt.alloc(), &mut numbers, &mut turns)?);
     }
