@@ -1,7 +1,7 @@
 //! The words of a line.
 ghost use Rattle.std.specs.Prelude.{◌≡◌, ◌↔◌, [], ◌∷◌, IsTrue, MatchOption, IfSome};
-ghost use Rattle.{std.specs.List.list_all, std.specs.Str.bytes_eq, names.specs.Name.is_digit};
-ghost use Rattle.service.specs.Words.{words, after_word, AreArguments, is_number, number_of};
+ghost use Rattle.std.specs.Str.{bytes_eq};
+ghost use Rattle.service.specs.Words.{words, after_word, AreArguments, number_of};
 
 use names::texts::{cut, trim_start};
 use std::str;
@@ -61,26 +61,12 @@ pub(crate) fn split_words(text: &[u8]) -> Arguments<'_>
     }
 }
 
-/// The number that these digits write, if they write one.
+/// The number that the text writes, if it writes one: 1 to 10 digits, the first not 0, nor a sign, which stands before it.
 pub(crate) fn number(text: &[u8]) -> Option<u64>
     ensures { result ≡ number_of text.now }
 {
-    if !is_number(text) {
+    if text.is_empty() || text[0] <= b'0' || text.len() > MOST_DIGITS {
         return None;
     }
     str::from_utf8(text).ok()?.parse().ok()
-}
-
-/// Whether these are 1 to 10 digits, the first not 0.
-fn is_number(text: &[u8]) -> bool
-    ensures { result ≡ is_number text.now }
-{
-    !text.is_empty() && text[0] > b'0' && text.len() <= MOST_DIGITS && are_digits(text)
-}
-
-/// Whether there are digits alone.
-fn are_digits(text: &[u8]) -> bool
-    ensures { result ≡ list_all is_digit text.now }
-{
-    text.iter().all(|byte| (b'0'..=b'9').contains(byte))
 }
