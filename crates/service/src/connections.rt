@@ -111,18 +111,13 @@ pub(crate) fn answer_connections<L: Ledger + Send + Sync, R: Threads + Wait + Cl
             requires { desk.now ≡ names_of roster.now }
             ensures { Answered options.accept result }
         {
-            let mut started = true;
             for _session in 0..options.sessions {
-                started = started
-                    && scope
-                        .spawn(move || answer_queue(rt, alloc, desk, roster, arrivals))
-                        .is_ok();
+                let Ok(_) = scope.spawn(move || answer_queue(rt, alloc, desk, roster, arrivals))
+                else {
+                    return Err(ServeFault::NoThread);
+                };
             }
-            let accepted = if started {
-                accept_all(rt, &listener, &sender, options.accept)
-            } else {
-                Err(ServeFault::NoThread)
-            };
+            let accepted = accept_all(rt, &listener, &sender, options.accept);
             if accepted.is_err() {
                 arrivals.is_stopped.store(true, Ordering::SeqCst);
                 desk.stop(rt);
@@ -186,13 +181,10 @@ fn next_pause(pause: u64) -> u64
 fn is_lasting(error: &Error) -> bool
     ensures { IsTrue result ↔ IsLasting error.now }
 {
-    let kind = error.kind();
-    let number = error.raw_os_error();
-    kind == ErrorKind::InvalidInput
-        || kind == ErrorKind::Unsupported
-        || kind == ErrorKind::WouldBlock
-        || number == Some(NOT_OPEN)
-        || number == Some(NO_SOCKET)
+    matches!(
+        error.kind(),
+        ErrorKind::InvalidInput | ErrorKind::Unsupported | ErrorKind::WouldBlock
+    ) || matches!(error.raw_os_error(), Some(NOT_OPEN | NO_SOCKET))
 }
 
 /// Answers connection after connection until the queue ends. However a session ends, it ends alone. Each reply is sent at
