@@ -10,7 +10,7 @@ use names::texts::is_blank;
 use std::io::{Read, Write};
 
 /// How a conversation ended.
-#[derive(Clone, Copy, Debug, PartialEq, Eq)]
+#[derive(Clone, Copy, PartialEq, Eq)]
 pub enum SessionEnd {
     /// The peer said `quit`. No later line was answered.
     Quit,

@@ -29,7 +29,7 @@ pub struct LineReader<R: Read> {
 }
 
 /// What `LineReader::next` found.
-#[derive(Clone, Copy, Debug, PartialEq, Eq)]
+#[derive(Clone, Copy, PartialEq, Eq)]
 pub enum NextLine<'a> {
     /// A line of spaces and visible characters, without its end.
     Text(&'a [u8]),
