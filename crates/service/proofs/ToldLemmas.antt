@@ -1,13 +1,15 @@
 -- Lemmas on what a line of a session is answered.
-use Rattle.std.proofs.Common.{◌≡◌, ℕ, List, ◌∷◌, [], codes, true, refl, sym, ap, subst, Some, Result, Ok, Err, IfOk, inr}
+use Rattle.std.proofs.Common.{◌≡◌, ℕ, List, ◌∷◌, [], codes, true, refl, sym, ap, subst, Option, None, Some, Result, Ok, Err, IfOk, inr}
 use Rattle.std.specs.Str.{bytes_eq}
 use Rattle.std.specs.Result.{result_or}
 use Rattle.pool.specs.Passes.{PassState}
 use Rattle.pool.specs.Served.{IsAdmitted}
+use Rattle.service.specs.declared.refusals.Refusal.{Refusal}
 use Rattle.service.specs.declared.refusals.Refusal.TheVariants as refusal
 use Rattle.service.specs.Roster.{Row, IsTenant}
 use Rattle.service.specs.Command.{form_of}
-use Rattle.service.specs.Session.{IsQuit, greeting_in, IsLetIn, IsTold, Tells, SessionState}
+use Rattle.service.specs.Refusal.{refusal_number}
+use Rattle.service.specs.Session.{IsQuit, greeting_in, session_refusal, IsLetIn, IsTold, Tells, SessionState}
 use Rattle.service.specs.Words.{words}
 
 -- a tenant said hello by its word, and was let in unless memory lacked for a pass
@@ -22,3 +24,13 @@ pub Tells-held : (before : SessionState) (rows : List Row) (pass next : PassStat
     (IsQuit line → ⊥) → IsTold pass (form_of line) reply next → (IsQuit line → ⊥) × (rows ≡ before.rows) × Tells before.rows before.pass line reply (Some next)
 Tells-held before rows pass next line reply was other told =
     (other, ap (λ (s : SessionState). s.rows) was, subst (λ (s : SessionState). Tells s.rows s.pass line reply (Some next)) was told)
+
+-- one that holds none yet is told why it isn't let in
+pub Tells-refused : (before : SessionState) (rows : List Row) (pass : Option PassState) (line reply : List ℕ) (why : Refusal) →
+    record { rows = rows; pass = pass } ≡ before → ((held : PassState) → pass ≡ Some held → ⊥) → (IsQuit line → ⊥) →
+    IsLetIn rows (greeting_in (words line)) (Err why) → reply ≡ session_refusal (refusal_number why) →
+    (IsQuit line → ⊥) × (rows ≡ before.rows) × Tells before.rows before.pass line reply pass
+Tells-refused before rows (Some held) line reply why was none other let_in told = absurd (none held refl)
+Tells-refused before rows None line reply why was none other let_in told =
+    let tells = subst (λ (s : SessionState). Tells s.rows s.pass line reply None) was (why, let_in, told) in
+    (other, ap (λ (s : SessionState). s.rows) was, tells)
