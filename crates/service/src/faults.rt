@@ -20,15 +20,19 @@ pub enum ScriptFault {
 }
 
 /// Why a service ended before it had answered all its connections, or ended without the line that says so.
-#[derive(Clone, Copy, PartialEq, Eq)]
+#[derive(Clone, Copy, Debug, PartialEq, Eq, Error)]
 pub enum ServeFault {
     /// The listener failed.
+    #[error("socket")]
     Socket,
     /// A thread couldn't be started.
+    #[error("no thread")]
     NoThread,
     /// The writer failed, or took no byte.
+    #[error("write")]
     Write,
     /// There was no memory for the service, or for a letter that a worker took.
+    #[error("memory")]
     Memory,
 }
 
