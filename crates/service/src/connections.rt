@@ -83,8 +83,9 @@ impl Read for Says<'_> {
 }
 
 /// Answers connections by so many sessions at once, and tells how many there were once all have ended. The listener is closed
-/// as soon as no more are accepted. Where that is a fault the desk is stopped first, so that no session waits for a search,
-/// and each session ends where it reads: a peer that is refused finds no session that still answers.
+/// as soon as no more are accepted. Where accepting fails the desk is stopped first, so that no session waits for a search,
+/// and each session ends where it reads: a peer that is refused finds no session that still answers. Where a session can't be
+/// started nothing is accepted, and those that were started end with the queue.
 pub(crate) fn answer_connections<L: Ledger + Send + Sync, R: Threads + Wait + Clock + Sync>(
     rt: &R,
     alloc: Global,
