@@ -1,14 +1,16 @@
 -- A search that is reached among the tenants of a hall, and what becomes of the hall as it goes on.
-use Rattle.std.proofs.Common.{◌≡◌, ◌∙◌, ℕ, List, ap, sym, subst, Some, None, Result, Ok, Err}
+use Rattle.std.proofs.Common.{◌≡◌, ◌∙◌, ℕ, List, ap, sym, subst, Option, Some, None, Result, Ok, Err}
 use Rattle.std.specs.FinMap.{get}
 use Rattle.std.specs.Result.{IsOk, OnErr, is_ok}
 use Rattle.vaults.specs.declared.changes.Entry.{Entry}
 use Rattle.search.specs.Search.{SearchState, IsSoundStage}
 use Rattle.hall.specs.declared.faults.Fault.{Fault}
 use Rattle.hall.specs.Hall.{Running, Tenants, HallState, IsSound, search_at, with_search}
+use Rattle.hall.specs.declared.standings.Standing.{Standing}
+use Rattle.hall.specs.Visits.{Stands, StandsOrGone, StandsAt}
 use Rattle.hall.specs.Kept.{IsNowhere, IsUnsettled, Index, KeepsBut, ListsUnsettled, IsIndexed}
 use Rattle.hall.proofs.Polled.{none_there}
-use Rattle.hall.proofs.Placed.{put_back}
+use Rattle.hall.proofs.Placed.{found_after, put_back}
 use Rattle.hall.proofs.Carrying.{Moves, moves_at}
 use Rattle.hall.proofs.Unsettled.{listed_after}
 use Rattle.hall.proofs.laws.HallChanges.{tenant_of}
@@ -40,6 +42,12 @@ module _ (h : HallState) (who : List ℕ) (k : ℕ) where
       -- a search that goes on in its place
       pub there : (gone : Type 0) (goes : SearchState → SearchState → Type 0) → goes r.search s → Moves h who k gone goes new
       there gone goes does = moves_at h who k gone goes new (Some r) at (s, does, is)
+
+      -- as it stands, it stands in the hall
+      pub stands_there : (standing : Standing) → Stands s standing → StandsAt new who k standing
+      stands_there standing stands =
+          subst (λ (g : HallState). StandsAt g who k standing) (sym is)
+          (subst (λ (o : Option Running). StandsOrGone o standing) (sym (found_after h who k r at (record r { search = s }))) stands)
 
       -- and it is left out of the index where it has settled
       pub indexed_there : {X Y : Type 0} (index kept : Index X Y) → (IsUnsettled s → IsUnsettled r.search) →

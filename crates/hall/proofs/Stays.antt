@@ -7,12 +7,17 @@ use Rattle.search.specs.declared.stages.Stage.{Stage}
 use Rattle.search.specs.declared.stages.Stage.TheVariants as stage
 use Rattle.search.specs.Search.{SearchState, IsCompleted, IsOutstanding, IsSoundStage, settled_of}
 use Rattle.search.specs.Stage.{IsQuiet}
+use Rattle.search.specs.Ending.{Settled}
+use Rattle.search.specs.Found.{IsAnswered, status_of, come_to}
+use Rattle.search.proofs.Answered.{answers_as}
 use Rattle.search.proofs.Stays.{waits_none, signals_none}
 use Rattle.hall.specs.declared.faults.Fault.{Fault}
 use Rattle.hall.specs.declared.calls.answers.Answer.{Answer}
 use Rattle.hall.specs.Hall.{HallState, Running, search_at}
-use Rattle.hall.specs.Visits.{SearchIsQuiet, NoneIsCompletedAt}
-use Rattle.hall.specs.Kept.{IsToldOf, DrivesTo, TakesJob}
+use Rattle.hall.specs.declared.standings.Standing.{Standing}
+use Rattle.hall.specs.declared.standings.Standing.TheVariants.{Over}
+use Rattle.hall.specs.Visits.{SearchIsQuiet, StandsOrGone, StandsAt, NoneIsCompletedAt}
+use Rattle.hall.specs.Kept.{IsUnsettled, IsToldOf, DrivesTo, TakesJob}
 
 -- a search that isn't its keeper's own is completed
 pub lent : (c : Carried) → IsCarried c → ((s : SearchState) → c ≡ Own s → ⊥) → IsCompleted (carried_search c).stage
@@ -31,6 +36,13 @@ ended (stage.Running c) done busy = busy done
 ended stage.Spent done busy = done
 ended stage.Broken done busy = done
 
+-- and it has come to something
+pub over : (s : SearchState) → IsCompleted s.stage → IsUnsettled s → ⊥
+unfolding settled_of
+over s done nothing =
+    let answered : IsAnswered (status_of (come_to s.stage s.graph s.query)) = (answers_as {s = s} {t = s} {result = status_of (come_to s.stage s.graph s.query)} refl refl).1 done in
+    subst (λ (x : Settled). IsAnswered (status_of x)) nothing answered
+
 pub quiet : (st : Stage) → IsCompleted st → IsQuiet st
 quiet st done = (waits_none st done, signals_none st done)
 
@@ -39,6 +51,15 @@ module _ (who : List ℕ) (k : ℕ) (s : SearchState) (done : IsCompleted s.stag
   takes_none E place sound = (ap (λ ls. slice_get ls place) (waits_none s.stage done), refl, sound)
 
 module _ (h : HallState) (who : List ℕ) (k : ℕ) where
+  -- one that isn't there, or is completed, is over
+  pub gone_over : search_at h who k ≡ None → (new : HallState) → new ≡ h → StandsAt new who k Over
+  gone_over none new same =
+      subst (λ (g : HallState). StandsAt g who k Over) (sym same) (subst (λ (o : Option Running). StandsOrGone o Over) (sym none) refl)
+
+  pub completed_over : (r : Running) → search_at h who k ≡ Some r → IsCompleted r.search.stage → (new : HallState) → new ≡ h → StandsAt new who k Over
+  completed_over r at done new same =
+      subst (λ (g : HallState). StandsAt g who k Over) (sym same) (subst (λ (o : Option Running). StandsOrGone o Over) (sym at) (over r.search done))
+
   pub nothing_there : search_at h who k ≡ None → NoneIsCompletedAt h who k
   nothing_there none s is = let clash : Some is.running ≡ None = sym is.there ∙ none in cc
 

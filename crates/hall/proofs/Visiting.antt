@@ -1,6 +1,5 @@
 -- Steps that one search makes in a row are steps of the hall.
-use Rattle.std.proofs.Common.{◌≡◌, ◌∙◌, ◌≤◌, ℕ, List, [], subst, sym, refl, ap, Option, Some, Result, Ok, Err, inl, inr, true, arith}
-use Rattle.std.specs.Result.{IsErr}
+use Rattle.std.proofs.Common.{◌≡◌, ◌∙◌, ◌≤◌, ℕ, List, [], subst, sym, refl, ap, Option, Some, Bool, inl, inr, true, false, arith}
 use Rattle.search.specs.declared.stages.Stage.{Stage}
 use Rattle.search.specs.Stage.{Delivers, IsQuiet}
 use Rattle.search.specs.Search.{SearchState, IsSoundStage}
@@ -15,36 +14,24 @@ use Rattle.hall.proofs.Carrying.{Moves, moved, none_quiet}
 use Rattle.hall.proofs.laws.HallSound.{stepped_sound}
 
 -- with nothing left to do a visit was whole
-nothing_left : {E : Type 0} (most : ℕ) (quiet : Type 0) (result : Result (Unit {0}) E) → quiet → IsWhole most 0 quiet result
-nothing_left most quiet (Ok done) left = inr left
-nothing_left most quiet (Err lacked) left = refl
+nothing_left : (most : ℕ) (quiet : Type 0) (memory : Bool) → quiet → IsWhole most 0 quiet memory
+nothing_left most quiet true left = inr left
+nothing_left most quiet false left = refl
 
-whole_by : {E : Type 0} (most n : ℕ) (P Q : Type 0) (result : Result (Unit {0}) E) → (P → Q) → IsWhole most n P result → IsWhole most n Q result
-whole_by most n P Q (Ok done) by (inl all) = inl all
-whole_by most n P Q (Ok done) by (inr left) = inr (by left)
-whole_by most n P Q (Err lacked) by whole = whole
+whole_by : (most n : ℕ) (P Q : Type 0) (memory : Bool) → (P → Q) → IsWhole most n P memory → IsWhole most n Q memory
+whole_by most n P Q true by (inl all) = inl all
+whole_by most n P Q true by (inr left) = inr (by left)
+whole_by most n P Q false by whole = whole
 
 -- nobody did anything, where nothing of the search is left to do
-pub no_visit : {E : Type 0} (who : List ℕ) (k most : ℕ) (h : HallState) (result : Result (Unit {0}) E) → SearchIsQuiet h who k → IsVisited who k most h result h []
-no_visit who k most h result quiet =
-    let within : 0 ≤ most = omega arith in (0, within, IsWorkedOn.nothing, nothing_left most (SearchIsQuiet h who k) result quiet)
+pub no_visit : (who : List ℕ) (k most : ℕ) (h : HallState) (memory : Bool) → SearchIsQuiet h who k → IsVisited who k most h memory h []
+no_visit who k most h memory quiet =
+    let within : 0 ≤ most = omega arith in (0, within, IsWorkedOn.nothing, nothing_left most (SearchIsQuiet h who k) memory quiet)
 
-module _ {E : Type 0} (who : List ℕ) (k most : ℕ) (old : HallState) (result : Result (Unit {0}) E) (new : HallState) (taken : List TakenLetter)
-    (visited : IsVisited who k most old result new taken) where
-  -- a visit that ended well was whole
-  pub visited_well : (F : Type 0) → result ≡ Ok tt → IsVisited {E = F} who k most old (Ok tt) new taken
-  visited_well F well = let (n, within, works, whole) = visited in (n, within, works, by result well n whole)
-    where
-      by : (r : Result (Unit {0}) E) → r ≡ Ok tt → (n : ℕ) → IsWhole most n (SearchIsQuiet new who k) r → IsWhole {E = F} most n (SearchIsQuiet new who k) (Ok tt)
-      by (Ok done) is n whole = whole
-      by (Err lacked) is n whole = cc
-
-  -- where memory lacked there was none
-  pub visited_nothing : {F : Type 0} (why : E) (told : Result (Unit {0}) F) → result ≡ Err why → IsErr told → IsVisited who k most old told new taken
-  visited_nothing why (Err lacked) lacks is =
-      let (n, within, works, whole) = visited in
-      (n, within, works, subst (IsWhole most n (SearchIsQuiet new who k)) lacks whole)
-  visited_nothing why (Ok done) lacks is = cc
+-- a visit is told of by whether there was memory for it
+pub visited_as : (who : List ℕ) (k most : ℕ) (old : HallState) (memory told : Bool) (new : HallState) (taken : List TakenLetter) → memory ≡ told →
+    IsVisited who k most old memory new taken → IsVisited who k most old told new taken
+visited_as who k most old memory told new taken same visited = subst (λ (b : Bool). IsVisited who k most old b new taken) same visited
 
 -- a search that delivered a signal runs soundly
 delivered_sound : (old new : Stage) → Delivers old new 0 true → IsSoundStage new
@@ -95,21 +82,21 @@ worked_sound who k old n letters new sound (IsWorkedOn.signal {n = m} {taken = b
 worked_sound who k old n letters new sound (IsWorkedOn.letter {n = m} {taken = before} {job} {middle} works (answer, steps, is)) =
     stepped_sound middle new (Take who k 0) answer (worked_sound who k old m before middle sound works) steps
 
-module _ {E : Type 0} (h : HallState) (who : List ℕ) (k most : ℕ) (letters : List TakenLetter) (result : Result (Unit {0}) E) (new : HallState)
-    (moves : Moves h who k (letters ≡ []) (λ s u. Visits who k most s result u letters) new) where
-  pub visits_as : IsVisited who k most h result new letters
+module _ (h : HallState) (who : List ℕ) (k most : ℕ) (letters : List TakenLetter) (memory : Bool) (new : HallState)
+    (moves : Moves h who k (letters ≡ []) (λ s u. Visits who k most s memory u letters) new) where
+  pub visits_as : IsVisited who k most h memory new letters
   visits_as =
-      moved h who k new (letters ≡ []) (λ s u. Visits who k most s result u letters) (IsVisited who k most h result new letters) moves
+      moved h who k new (letters ≡ []) (λ s u. Visits who k most s memory u letters) (IsVisited who k most h memory new letters) moves
       (λ none same stays.
-      subst (λ (g : HallState). IsVisited who k most h result g letters) (sym stays)
-      (subst (IsVisited who k most h result h) (sym same) (no_visit who k most h result (none_quiet h who k none))))
+      subst (λ (g : HallState). IsVisited who k most h memory g letters) (sym stays)
+      (subst (IsVisited who k most h memory h) (sym same) (no_visit who k most h memory (none_quiet h who k none))))
       (λ r s at visits becomes.
       let (n, within, works, whole) = visits in (
         n,
         within,
         subst (IsWorkedOn who k h n letters) (sym becomes)
             (subst (λ (g : HallState). IsWorkedOn who k g n letters (hall h who k r at s)) (put_back h who k r at) (worked_on h who k r at r.search n letters s works)),
-        whole_by most n (IsQuiet s.stage) (SearchIsQuiet new who k) result
+        whole_by most n (IsQuiet s.stage) (SearchIsQuiet new who k) memory
             (λ quiet q found_now.
             let now : Some (running h who k r at s) ≡ Some q = sym (found h who k r at s) ∙ ap (λ (g : HallState). search_at g who k) (sym becomes) ∙ found_now in
             let same : running h who k r at s ≡ q = cc in

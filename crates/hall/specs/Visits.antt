@@ -1,6 +1,6 @@
 -- What somebody who works for a hall does to one search in a row.
 use Rattle.std.specs.Prelude.{◌≡◌, ◌⊎◌, ◌↔◌, ◌≤◌, ◌+◌, ◌++◌, [], ◌∷◌, ℕ, Bool, true, false, IsTrue, if◌then◌else◌, List}
-use Rattle.std.specs.Prelude.{Option, None, Some, Result}
+use Rattle.std.specs.Prelude.{Option, None, Some}
 use Rattle.search.specs.Search.{SearchState, IsCompleted}
 use Rattle.search.specs.Need.{right_hint}
 use Rattle.search.specs.Stage.{IsQuiet}
@@ -10,7 +10,10 @@ use Rattle.hall.specs.declared.calls.steps.Step.{Step}
 use Rattle.hall.specs.declared.calls.steps.Step.TheVariants.{Take, GiveBack, Finish, Signal}
 use Rattle.hall.specs.declared.calls.steps.Stepped.{Stepped}
 use Rattle.hall.specs.declared.calls.steps.Stepped.TheVariants.{Took, Nothing, Signalled, Done, Gone}
+use Rattle.hall.specs.declared.standings.Standing.{Standing}
+use Rattle.hall.specs.declared.standings.Standing.TheVariants.{Moves, Rests, Over}
 use Rattle.hall.specs.Hall.{HallState, Running, search_at, IsStepped}
+use Rattle.hall.specs.Kept.{IsUnsettled}
 
 -- the job is the letter that was taken of that search, with what the search reads
 pub record IsJobOf (h : HallState) (who : List ℕ) (number : ℕ) (answer : Stepped) (job : TakenLetter) : Type 0 where
@@ -55,10 +58,30 @@ pub data IsWorkedOn (who : List ℕ) (number : ℕ) (old : HallState) : ℕ → 
   letter : {n : ℕ} {taken : List TakenLetter} {job : TakenLetter} {middle new : HallState} → IsWorkedOn who number old n taken middle →
       IsTaken middle who number 0 (Some job) new → IsWorkedOn who number old (n + 1) (taken ++ job ∷ []) new
 
--- at most so many such steps are made, fewer only where nothing of the search is left to do; none where memory lacks
-abbrev pub IsVisited : {E : Type 0} → List ℕ → ℕ → ℕ → HallState → Result (Unit {0}) E → HallState → List TakenLetter → Type 0
-IsVisited who number most old result new taken =
-    (n : ℕ) × (n ≤ most) × IsWorkedOn who number old n taken new × IsWhole most n (SearchIsQuiet new who number) result
+-- at most so many such steps are made, fewer only where nothing of the search is left to do; none without memory
+abbrev pub IsVisited : List ℕ → ℕ → ℕ → HallState → Bool → HallState → List TakenLetter → Type 0
+IsVisited who number most old memory new taken =
+    (n : ℕ) × (n ≤ most) × IsWorkedOn who number old n taken new × IsWhole most n (SearchIsQuiet new who number) memory
+
+-- how the search stands
+abbrev pub Stands : SearchState → Standing → Type 0
+Stands s Over = IsUnsettled s → ⊥
+Stands s Rests = IsUnsettled s × IsQuiet s.stage
+Stands s Moves = IsUnsettled s × (IsQuiet s.stage → ⊥)
+
+-- the same, where a search that isn't there is over
+abbrev pub StandsOrGone : Option Running → Standing → Type 0
+StandsOrGone None standing = standing ≡ Over
+StandsOrGone (Some r) standing = Stands r.search standing
+
+-- how the tenant's search of that number stands
+abbrev pub StandsAt : HallState → List ℕ → ℕ → Standing → Type 0
+StandsAt h who number standing = StandsOrGone (search_at h who number) standing
+
+-- the same of the search that is named, where one is
+abbrev pub StandsNamed : HallState → Option (List ℕ × ℕ) → Standing → Type 0
+StandsNamed h None standing = standing ≡ Over
+StandsNamed h (Some name) standing = StandsAt h name.0 name.1 standing
 
 -- the letter is finished with its right hint, and this tells whether the hall answered that it is done; or it is given back
 abbrev pub IsHandedIn : Bool → HallState → TakenLetter → Bool → HallState → Type 0

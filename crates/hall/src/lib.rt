@@ -17,6 +17,7 @@ mod registry;
 mod run_laws;
 mod running;
 mod seats;
+mod standings;
 mod tenants;
 
 pub use calls::{Answer, Event, Reply, Request, Step, Stepped};
@@ -31,3 +32,4 @@ pub use run_laws::{
     scripts_are_isolated, two_worlds,
 };
 pub use search::{Batch, Query};
+pub use standings::{HandedIn, Standing};

@@ -2,12 +2,13 @@
 ghost use Rattle.std.specs.Prelude.{◌≡◌, ◌≤◌, ◌↔◌, None, IfSome, OnOk, MatchOption};
 ghost use Rattle.std.specs.List.{AllByRecursion};
 ghost use Rattle.{search.specs.Search.IsSoundStage, hall.specs.Hall.step_name, hall.specs.Hall.step_search};
-ghost use Rattle.hall.specs.Visits.{SearchIsQuiet, NothingToDo, CanBeMade};
+ghost use Rattle.hall.specs.Visits.{SearchIsQuiet, NothingToDo, CanBeMade, Stands};
 ghost use Rattle.hall.specs.Kept.{IsUnsettled, Lists, KeepsBut};
 
 use crate::calls::Step;
 use crate::opened::next_step;
 use crate::registry::Hall;
+use crate::standings::Standing;
 use indexmap::{IndexMap, IndexSet};
 use names::Entity;
 use search::{Search, Status};
@@ -44,14 +45,21 @@ pub(crate) fn leave(busy: &mut Busy, who: Entity, number: u64)
     }
 }
 
-/// Takes the tenant's search of the number out where it has settled.
-pub(crate) fn settle(busy: &mut Busy, who: Entity, number: u64, search: &Search)
+/// Takes the tenant's search of the number out where it has settled, and tells how it stands.
+pub(crate) fn settle(busy: &mut Busy, who: Entity, number: u64, search: &Search) -> Standing
     ensures kept { KeepsBut (λ name k. (name ≡ who) × (k ≡ number) × (IsUnsettled search.now → ⊥)) busy.old busy.new }
     ensures gone { (IsUnsettled search.now → ⊥) → Lists busy.new who number → ⊥ }
     ensures sound { IsSoundStage search.now.stage }
+    ensures stands { Stands search.now result }
 {
     if search.status() != Status::Working {
         leave(busy, who, number);
+        return Standing::Over;
+    }
+    if search.is_quiet() {
+        Standing::Rests
+    } else {
+        Standing::Moves
     }
 }
 

@@ -11,6 +11,7 @@ use crate::jobs::Job;
 use crate::lists::{Rows, Sights};
 use crate::opened::{drive, make, proof_of, told_of, unmoved};
 use crate::picking::{Busy, leave, settle};
+use crate::standings::{HandedIn, Standing};
 use crate::tenants::Tenants;
 use indexmap::IndexMap;
 use names::Entity;
@@ -61,10 +62,10 @@ impl Drop for Hall {
 
 impl Hall {
     ghost use Rattle.hall.specs.declared.calls.steps.Step.TheVariants as step;
-    ghost use Rattle.std.specs.Prelude.{◌≤◌, MatchOption};
+    ghost use Rattle.std.specs.Prelude.{◌≤◌, MatchOption, is_ok};
     ghost use Rattle.{std.specs.Arc.arc_value, hall.specs.Run.waits};
     ghost use Rattle.search.specs.Batches.{IsEmpty, IsLookedUp, AreOf};
-    ghost use Rattle.hall.specs.Visits.{IsTaken, IsVisited, AreHandedIn, SearchIsQuiet, IsCompletedAt, NoneIsCompletedAt};
+    ghost use Rattle.hall.specs.Visits.{IsTaken, IsVisited, StandsAt, StandsNamed, AreHandedIn, SearchIsQuiet, IsCompletedAt, NoneIsCompletedAt};
 
     /// The hall of these tenants, where nothing was done yet.
     pub fn make(alloc: Global, roster: Vec<(Entity, Limits)>) -> Result<Hall, Fault>
@@ -210,67 +211,76 @@ impl Hall {
 
     /// Makes up to so many steps of the tenant's search of the number, one after another: delivers the oldest signal, or
     /// else takes the first letter that waits, as long as there is either. The search is looked up once. The batch has the
-    /// letters then. Where there is no memory to share what the search reads, nothing is done.
+    /// letters then, and the answer is how the search stands. Where there is no memory to share what it reads, nothing is done.
     pub fn visit(
         &mut self,
         who: Entity,
         number: u64,
         most: usize,
         batch: &mut Batch,
-    ) -> Result<(), Fault>
+    ) -> Result<Standing, Fault>
         requires empty { IsEmpty batch.old }
         requires space { most ≤ batch.old.room }
-        ensures visited { IsVisited who number most self.old result self.new batch.new.letters }
+        ensures visited { IsVisited who number most self.old (is_ok result) self.new batch.new.letters }
+        ensures stands { IfOk result (StandsAt self.new who number) }
         ensures only_memory { IfErr result (λ f. f ≡ Fault.Memory) }
         ensures bound { length batch.new.letters ≤ most }
         ensures looked { batch.new.looked ≡ 0 }
         ensures room { batch.new.room ≡ batch.old.room }
     {
         let Ok(opened) = self.tenants.opened_mut(who, number) else {
-            return Ok(());
+            return Ok(Standing::Over);
         };
         let Carried::Own(search) = &mut opened.carried else {
-            return Ok(());
+            return Ok(Standing::Over);
         };
         search.visit(who, number, most, batch)?;
-        settle(&mut self.busy, who, number, search);
-        Ok(())
+        Ok(settle(&mut self.busy, who, number, search))
     }
 
     /// Finishes the letters of the batch in the order in which they were taken, each with its right hint, and answers how
-    /// many are done. Or gives all of them back. Their search is looked up once.
-    pub fn hand_in(&mut self, batch: &mut Batch, back: bool) -> u64
+    /// many are done and how their search stands. Or gives all of them back. Their search is looked up once.
+    pub fn hand_in(&mut self, batch: &mut Batch, back: bool) -> HandedIn
         requires { IsLookedUp batch.old }
-        ensures handed_in { AreHandedIn back self.old batch.old.letters result self.new }
-        ensures most { result ≤ length batch.old.letters }
+        ensures handed_in { AreHandedIn back self.old batch.old.letters result.finished self.new }
+        ensures stands { StandsNamed self.new batch.old.of result.standing }
+        ensures most { result.finished ≤ length batch.old.letters }
         ensures empty { IsEmpty batch.new }
         ensures room { batch.new.room ≡ batch.old.room }
     {
-        let finished = match batch.search() {
+        let handed_in = match batch.search() {
             Some((who, number)) => self.hand_in_to(who, number, batch, back),
-            None => 0,
+            None => HandedIn {
+                finished: 0,
+                standing: Standing::Over,
+            },
         };
         batch.let_go();
-        finished
+        handed_in
     }
 
     /// Hands the letters in to the tenant's search of the number, which they are of.
-    fn hand_in_to(&mut self, who: Entity, number: u64, batch: &Batch, back: bool) -> u64
+    fn hand_in_to(&mut self, who: Entity, number: u64, batch: &Batch, back: bool) -> HandedIn
         requires looked_up { IsLookedUp batch.now }
         requires of { batch.now.of ≡ Some (who, number) }
         requires letters { AreOf (Some (who, number)) batch.now.letters }
-        ensures handed_in { AreHandedIn back self.old batch.now.letters result self.new }
-        ensures most { result ≤ length batch.now.letters }
+        ensures handed_in { AreHandedIn back self.old batch.now.letters result.finished self.new }
+        ensures stands { StandsAt self.new who number result.standing }
+        ensures most { result.finished ≤ length batch.now.letters }
     {
+        let nothing = HandedIn {
+            finished: 0,
+            standing: Standing::Over,
+        };
         let Ok(opened) = self.tenants.opened_mut(who, number) else {
-            return 0;
+            return nothing;
         };
         let Carried::Own(search) = &mut opened.carried else {
-            return 0;
+            return nothing;
         };
         let finished = search.hand_in(batch, back);
-        settle(&mut self.busy, who, number, search);
-        finished
+        let standing = settle(&mut self.busy, who, number, search);
+        HandedIn { finished, standing }
     }
 
     /// Finishes the letter of the job with what was looked up.

@@ -1,8 +1,7 @@
 -- What a search is worked on leaves the journal as it was; when a worker has nothing to do.
 use Rattle.std.specs.Prelude.{IfSome}
 use Rattle.std.specs.Bool.{then_some}
-use Rattle.std.proofs.Common.{◌≡◌, ◌∙◌, ◌↔◌, ◌⊎◌, inl, inr, ℕ, Bool, true, false, not, IsTrue, is_some, Option, None, Some, List, Result, refl, subst, sym}
-use Rattle.hall.specs.declared.faults.Fault.{Fault}
+use Rattle.std.proofs.Common.{◌≡◌, ◌∙◌, ◌↔◌, ◌⊎◌, inl, inr, ℕ, Bool, true, false, not, IsTrue, is_some, Option, None, Some, List, refl, subst, sym}
 use Rattle.hall.specs.declared.calls.steps.Step.TheVariants.{Take, GiveBack, Finish, Signal}
 use Rattle.hall.specs.declared.calls.steps.Stepped.TheVariants.{Signalled}
 use Rattle.hall.specs.Hall.{HallState}
@@ -23,9 +22,9 @@ worked_journal who k old n taken new (IsWorkedOn.signal {n = m} {taken = before}
 worked_journal who k old n taken new (IsWorkedOn.letter {n = m} {taken = before} {job} {middle} works (answer, steps, is)) =
     stepped_journal middle new (Take who k 0) answer steps ∙ worked_journal who k old m before middle works
 
-pub visited_journal : (who : List ℕ) (k most : ℕ) (old : HallState) (result : Result (Unit {0}) Fault) (new : HallState) (taken : List TakenLetter) →
-    IsVisited who k most old result new taken → new.journal ≡ old.journal
-visited_journal who k most old result new taken (n, within, works, whole) = worked_journal who k old n taken new works
+pub visited_journal : (who : List ℕ) (k most : ℕ) (old : HallState) (memory : Bool) (new : HallState) (taken : List TakenLetter) →
+    IsVisited who k most old memory new taken → new.journal ≡ old.journal
+visited_journal who k most old memory new taken (n, within, works, whole) = worked_journal who k old n taken new works
 
 -- nothing was picked
 pub none_picked : {X : Type 0} (o : Option X) (none : Bool) → is_some o ≡ not none → IsTrue none ↔ (o ≡ None)
@@ -49,10 +48,10 @@ stopped_there r busy (inr idle) = decide r.stopped refl
     decide false is = absurd (busy (record { goes_on = is; nothing = idle }))
 
 -- a search that was picked is visited in the same room
-pub visits_there : {who : List ℕ} {number : ℕ} {there at : RoomState} {told : Result (Unit {0}) Fault} {new : HallState} {taken : List TakenLetter} →
-    there ≡ at → IsKept there → (SearchIsQuiet there.hall who number → ⊥) → IsVisited who number BATCH at.hall told new taken →
-    (r : RoomState) × (after : HallState) × IsKept r × VisitsOne r.hall told after taken
-visits_there {who} {number} {there} {at} {told} {new} same kept left visited = (
+pub visits_there : {who : List ℕ} {number : ℕ} {there at : RoomState} {memory : Bool} {new : HallState} {taken : List TakenLetter} →
+    there ≡ at → IsKept there → (SearchIsQuiet there.hall who number → ⊥) → IsVisited who number BATCH at.hall memory new taken →
+    (r : RoomState) × (after : HallState) × IsKept r × VisitsOne r.hall memory after taken
+visits_there {who} {number} {there} {at} {memory} {new} same kept left visited = (
   at,
   new,
   subst IsKept same kept,

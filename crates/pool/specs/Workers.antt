@@ -1,10 +1,8 @@
 -- What workers did.
 use Rattle.std.specs.Prelude.{◌≡◌, ◌+◌, ◌-◌, ◌^◌, ℕ, List, [], All, length, min, Option, None, Some, unwrap_or, is_none, if◌then◌else◌}
-use Rattle.std.specs.Prelude.{true, Result, Ok, Err}
+use Rattle.std.specs.Prelude.{Bool, true, false}
 use Rattle.std.specs.List.{sum_by, list_any}
 use Rattle.search.specs.Batches.{TakenLetter}
-use Rattle.hall.specs.declared.faults.Fault.{Fault}
-use Rattle.hall.specs.declared.faults.Fault.TheVariants.{Memory}
 use Rattle.hall.specs.Hall.{HallState}
 use Rattle.hall.specs.Visits.{SearchIsQuiet, IsVisited, AreHandedIn}
 use Rattle.pool.specs.declared.visits.TheConstants.{BATCH}
@@ -12,17 +10,17 @@ use Rattle.pool.specs.declared.visits.Found.{Found}
 use Rattle.pool.specs.declared.visits.Found.TheVariants.{Work, Stopped, NoMemory}
 use Rattle.pool.specs.Rooms.{RoomState, IsKept}
 
--- a search of which something is left is visited, by which these letters are taken
-pub record VisitsOne (old : HallState) (told : Result (Unit {0}) Fault) (new : HallState) (taken : List TakenLetter) : Type 0 where
+-- a search of which something is left is visited, if there is memory for that, by which these letters are taken
+pub record VisitsOne (old : HallState) (memory : Bool) (new : HallState) (taken : List TakenLetter) : Type 0 where
   pub who : List ℕ
   pub number : ℕ
   pub left : SearchIsQuiet old who number → ⊥
-  pub visited : IsVisited who number BATCH old told new taken
+  pub visited : IsVisited who number BATCH old memory new taken
 
 -- what a worker that had the lock found there, and took
 abbrev pub IsFoundAt : RoomState → HallState → Found → List TakenLetter → Type 0
-IsFoundAt at after Work taken = VisitsOne at.hall (Ok tt) after taken
-IsFoundAt at after NoMemory taken = VisitsOne at.hall (Err Memory) after taken
+IsFoundAt at after Work taken = VisitsOne at.hall true after taken
+IsFoundAt at after NoMemory taken = VisitsOne at.hall false after taken
 IsFoundAt at after Stopped taken = (at.stopped ≡ true) × (taken ≡ [])
 
 -- the same in some room, as nobody knows who came before

@@ -1,16 +1,17 @@
-ghost use Rattle.std.specs.Prelude.{◌≡◌, ◌↔◌, ◌+◌, ◌≤◌, [], length, map, vec_len, IfOk, IfErr, OnOk, OnErr, Contains};
+ghost use Rattle.std.specs.Prelude.{◌≡◌, ◌↔◌, ◌+◌, ◌≤◌, [], length, map, vec_len, IfOk, IfErr, IfSome, IfNone, OnOk, OnErr, Contains};
 ghost use Rattle.std.specs.List.{IsDistinct};
 ghost use Rattle.std.specs.Sync.Mutex.{mutex_guard_value};
 ghost use Rattle.names.specs.Name.{is_same};
 ghost use Rattle.hall.specs.declared.calls.requests.Request.TheVariants as request;
 ghost use Rattle.hall.specs.declared.calls.replies.Reply.TheVariants as reply;
+ghost use Rattle.hall.specs.Visits.{SearchIsQuiet};
 ghost use Rattle.search.specs.Batches.{IsEmpty, IsLookedUp};
 ghost use Rattle.pool.specs.Laws.{CountsAreSeen, NumbersAreCounted, VaultsAreOwn, SightsAreOwn, VerdictsAreOwn};
 ghost use Rattle.pool.specs.Passes.{shares_of};
 ghost use Rattle.pool.specs.Rooms.{IsKept};
 ghost use Rattle.pool.specs.Refusals.{IsPassRefusal};
 ghost use Rattle.pool.specs.Served.{IsAnswered, IsPolled, IsPolledAt, IsWaited, IsAdmitted, IsGathered, MoreAreOut};
-ghost use Rattle.pool.specs.Workers.{IsFound, IsHandIn};
+ghost use Rattle.pool.specs.Workers.{IsFound, IsHandIn, WasStopped};
 
 use crate::bells::Bells;
 use crate::faults::{DeskFault, Told};
@@ -18,7 +19,7 @@ use crate::passes::Pass;
 use crate::rooms::{PARTS, Room, read_off, verdict_on};
 use crate::verdicts::{Gathered, Ticket, Verdict};
 use crate::visits::{BATCH, Found};
-use hall::{Batch, Fault, Hall, Proof, Query, Reply, Request, Rows, Sights};
+use hall::{Batch, Fault, Hall, Proof, Query, Reply, Request, Rows, Sights, Standing};
 use names::Entity;
 use quotas::Limits;
 use std::alloc::Global;
@@ -293,20 +294,43 @@ impl<L: Ledger> Desk<L> {
         ensures looked { batch.new.looked ≡ 0 }
         ensures space { batch.new.room ≡ batch.old.room }
     {
-        let room = self.enter(rt);
-        let mut room = self.work.wait_while(rt, room, |room| room.is_idle(turn));
-        let Some((who, number)) = room.pick(turn) else {
+        let Some((mut room, who, number)) = self.pick(rt, turn) else {
             return Found::Stopped;
         };
         let made = room.visit(who, number, batch);
-        let is_idle = room.is_idle(turn);
-        self.release(room, Some((who, number)));
-        if !is_idle {
+        let is_left = matches!(made, Ok(Standing::Moves)) || !room.is_idle(turn);
+        drop(room);
+        if is_left {
             self.work.notify_one();
         }
-        match made {
-            Ok(()) => Found::Work,
-            Err(_) => Found::NoMemory,
+        let Ok(standing) = made else {
+            return Found::NoMemory;
+        };
+        self.ring(who, number, standing);
+        Found::Work
+    }
+
+    /// The lock, once a worker has something to do, and the search that it goes on with. None once the desk is stopped.
+    fn pick<R: Wait>(&self, rt: &R, turn: u64) -> Option<(MutexGuard<'_, Room<L>>, Entity, u64)>
+        ensures kept { IfSome result (λ at. IsKept (mutex_guard_value at.0)) }
+        ensures left { IfSome result (λ at. SearchIsQuiet (mutex_guard_value at.0).hall at.1 at.2 → ⊥) }
+        ensures none { IfNone result WasStopped }
+    {
+        let room = self.enter(rt);
+        if let Some((who, number)) = room.pick(turn) {
+            return Some((room, who, number));
+        }
+        let room = self.work.wait_while(rt, room, |room| room.is_idle(turn));
+        let Some((who, number)) = room.pick(turn) else {
+            return None;
+        };
+        Some((room, who, number))
+    }
+
+    /// Wakes the callers who wait for the search, where it is over.
+    fn ring(&self, who: Entity, number: u64, standing: Standing) {
+        if let Standing::Over = standing {
+            self.over.of(&who, number).notify_all();
         }
     }
 
@@ -318,14 +342,14 @@ impl<L: Ledger> Desk<L> {
         ensures empty { IsEmpty batch.new }
         ensures space { batch.new.room ≡ batch.old.room }
     {
-        let of = batch.search();
-        if of.is_none() {
+        let Some((who, number)) = batch.search() else {
             return 0;
-        }
+        };
         let mut room = self.enter(rt);
-        let finished = room.hand_in(batch);
-        self.release(room, of);
-        finished
+        let handed_in = room.hand_in(batch);
+        drop(room);
+        self.ring(who, number, handed_in.standing);
+        handed_in.finished
     }
 }
 

@@ -1,9 +1,9 @@
 //! What a worker does when it has the lock: the steps of one search in a row, and what it hands in.
-ghost use Rattle.std.specs.Prelude.{◌≡◌, ◌≤◌, ◌↔◌, ◌⊎◌, true, None, IsTrue, IfSome, length};
+ghost use Rattle.std.specs.Prelude.{◌≡◌, ◌≤◌, ◌↔◌, ◌⊎◌, true, None, IsTrue, IfSome, IfOk, is_ok, length};
 ghost use Rattle.search.specs.Batches.{IsEmpty, IsLookedUp};
 
 use crate::rooms::Room;
-use hall::{Batch, Fault};
+use hall::{Batch, Fault, HandedIn, Standing};
 use names::Entity;
 use std::sync::ledger::Ledger;
 
@@ -23,7 +23,7 @@ pub(crate) enum Found {
 
 impl<L: Ledger> Room<L> {
     ghost use Rattle.pool.specs.Rooms.{IsIdle, IsKept};
-    ghost use Rattle.hall.specs.Visits.{SearchIsQuiet, NothingToDo, IsVisited, AreHandedIn};
+    ghost use Rattle.hall.specs.Visits.{SearchIsQuiet, NothingToDo, IsVisited, StandsAt, StandsNamed, AreHandedIn};
 
     /// The search that a worker goes on with, by whose turn it is.
     pub(crate) fn pick(&self, turn: u64) -> Option<(Entity, u64)>
@@ -45,12 +45,19 @@ impl<L: Ledger> Room<L> {
         !self.stopped && self.pick(turn).is_none()
     }
 
-    /// One visit of a worker: up to so many steps of the search, signals first, then letters that it takes.
-    pub(crate) fn visit(&mut self, who: Entity, number: u64, batch: &mut Batch) -> Result<(), Fault>
+    /// One visit of a worker: up to so many steps of the search, signals first, then letters that it takes. Answers how the
+    /// search stands then.
+    pub(crate) fn visit(
+        &mut self,
+        who: Entity,
+        number: u64,
+        batch: &mut Batch,
+    ) -> Result<Standing, Fault>
         requires left { SearchIsQuiet self.old.hall who number → ⊥ }
         requires empty { IsEmpty batch.old }
         requires space { BATCH ≤ batch.old.room }
-        ensures visited { IsVisited who number BATCH self.old.hall result self.new.hall batch.new.letters }
+        ensures visited { IsVisited who number BATCH self.old.hall (is_ok result) self.new.hall batch.new.letters }
+        ensures stands { IfOk result (StandsAt self.new.hall who number) }
         ensures room { self.new ≡ record self.old { hall = self.new.hall } }
         ensures looked { batch.new.looked ≡ 0 }
         ensures space { batch.new.room ≡ batch.old.room }
@@ -58,12 +65,14 @@ impl<L: Ledger> Room<L> {
         self.hall.visit(who, number, BATCH, batch)
     }
 
-    /// Hands in all that a worker holds, and answers how many letters are finished. After a stop they are given back.
-    pub(crate) fn hand_in(&mut self, batch: &mut Batch) -> u64
+    /// Hands in all that a worker holds, and answers how many letters are finished and how their search stands. After a stop
+    /// they are given back.
+    pub(crate) fn hand_in(&mut self, batch: &mut Batch) -> HandedIn
         requires { IsLookedUp batch.old }
-        ensures handed_in { AreHandedIn self.old.stopped self.old.hall batch.old.letters result self.new.hall }
+        ensures handed_in { AreHandedIn self.old.stopped self.old.hall batch.old.letters result.finished self.new.hall }
+        ensures stands { StandsNamed self.new.hall batch.old.of result.standing }
         ensures room { self.new ≡ record self.old { hall = self.new.hall } }
-        ensures most { result ≤ length batch.old.letters }
+        ensures most { result.finished ≤ length batch.old.letters }
         ensures empty { IsEmpty batch.new }
         ensures space { batch.new.room ≡ batch.old.room }
     {

@@ -1,5 +1,5 @@
 -- What each step of a drive does, and what a drive leaves.
-use Rattle.std.proofs.Common.{ℕ, ◌<◌, ◌≤◌, ◌==◌, ◌≡◌, ◌∙◌, inl, inr, refl, sym, subst, ap, true, List, [], ◌∷◌, ◌++◌, Some, None, length, slice_get, arith}
+use Rattle.std.proofs.Common.{ℕ, ◌<◌, ◌≤◌, ◌==◌, ◌≡◌, ◌∙◌, inl, inr, refl, sym, subst, ap, Bool, true, false, List, [], ◌∷◌, ◌++◌, Some, None, length, slice_get, arith}
 use Rattle.std.proofs.lemmas.Bool.{cases_Bool}
 use Rattle.std.proofs.lemmas.Map.Views.{exact_unsigned_eq}
 use Rattle.credential_text.specs.declared.exprs.Expr.{Expr}
@@ -14,7 +14,7 @@ use Rattle.search.specs.declared.outcomes.Finished.TheVariants as finished
 use Rattle.search.specs.declared.stages.Stage.{Stage}
 use Rattle.search.specs.declared.stages.Stage.TheVariants as stage
 use Rattle.search.specs.Need.{need_of, right_hint}
-use Rattle.search.specs.Stage.{waiting_in, signals_in, held_in, letter_in, IsQuiet, NoneHeld, HoldsAsBefore}
+use Rattle.search.specs.Stage.{waiting_in, signals_in, held_in, letter_in, Delivers, IsQuiet, NoneHeld, HoldsAsBefore}
 use Rattle.search.specs.Search.{SearchState, SameQuestion, Settles, settled_of}
 use Rattle.search.specs.Finish.{Needs, Takes, TakesHeld, Received, Receives, Finishes}
 use Rattle.search.specs.Driven.{DriveStep, a_signal, a_letter, Makes, MakesEach, IsDriven}
@@ -183,36 +183,28 @@ no_element : {X : Type 0} (xs : List X) → length xs ≤ 0 → xs ≡ []
 no_element [] none = refl
 no_element (x ∷ xs) none = absurd (omega arith)
 
-pub nothing_first : (old new : Stage) → length (signals_in old) ≤ 0 → new ≡ old → slice_get (waiting_in new) 0 ≡ None → IsQuiet old
-nothing_first old new few same none =
-    (no_first (waiting_in old) (subst (λ (x : Stage). slice_get (waiting_in x) 0 ≡ None) same none), no_element (signals_in old) few)
+pub nothing_first : (st : Stage) → length (signals_in st) ≤ 0 → slice_get (waiting_in st) 0 ≡ None → IsQuiet st
+nothing_first st few none = (no_first (waiting_in st) none, no_element (signals_in st) few)
 
--- a search whose parts are all the same is the same
-pub same_search : (s t : SearchState) → t.stage ≡ s.stage → t.graph ≡ s.graph → t.monitors ≡ s.monitors → SameQuestion s t → t ≡ s
-same_search s t st g ms q = λ i. record {
-  query = q.query i;
-  work = q.work i;
-  snapshot = q.snapshot i;
-  graph = g i;
-  monitors = ms i;
-  stage = st i;
-}
+-- where there is a signal, the first one is delivered
+pub first_goes : (old new : Stage) (delivered : Bool) → 0 < length (signals_in old) → Delivers old new 0 delivered → Delivers old new 0 true
+first_goes old new true some delivers = delivers
+first_goes old new false some delivers = absurd (omega (arith, some, delivers.0))
 
 -- the first letter is taken and received
-pub finishes_first : (s same held t : SearchState) (number : ℕ) (h : Held (Load (List ℕ))) (told : Finished) → length (signals_in s.stage) ≤ 0 → same ≡ s →
-    TakesHeld same held 0 number h → Settles same held → Receives held t number (letter_in h) told → Settles held t → (x : DriveStep) × Makes s x t
-finishes_first s same held t number h told few is takes takes_settles receives finish_settles =
-    let takes' = subst (λ (x : SearchState). TakesHeld x held 0 number h) is takes in
-    let need : Need = need_of takes'.expr h.load in
-    let after = takes'.takes.after in
-    let node = subst (λ (x : SearchState). IsNode x.graph h.to takes'.expr) (sym after) takes'.node in
-    let finishes = finishes_rightly held t number (right_hint held.snapshot.vaults need) (letter_in h) (rightly_needed held number h takes'.expr node takes'.holds) told receives in (
+pub finishes_first : (s held t : SearchState) (number : ℕ) (h : Held (Load (List ℕ))) (told : Finished) → length (signals_in s.stage) ≤ 0 →
+    TakesHeld s held 0 number h → Settles s held → Receives held t number (letter_in h) told → Settles held t → (x : DriveStep) × Makes s x t
+finishes_first s held t number h told few takes takes_settles receives finish_settles =
+    let need : Need = need_of takes.expr h.load in
+    let after = takes.takes.after in
+    let node = subst (λ (x : SearchState). IsNode x.graph h.to takes.expr) (sym after) takes.node in
+    let finishes = finishes_rightly held t number (right_hint held.snapshot.vaults need) (letter_in h) (rightly_needed held number h takes.expr node takes.holds) told receives in (
       a_letter number need told,
       record {
         held = held;
         no_signal = no_element (signals_in s.stage) few;
-        takes = takes'.takes;
-        takes_settles = subst (λ (x : SearchState). Settles x held) is takes_settles;
+        takes = takes.takes;
+        takes_settles = takes_settles;
         finishes = subst (λ (x : SearchState). Finishes held t number (right_hint x.snapshot.vaults need) told) after finishes;
         finish_settles = finish_settles;
       },

@@ -1,14 +1,16 @@
 -- The waiting letter at a place is taken, if there is one.
-use Rattle.std.proofs.Common.{ℕ, ◌≡◌, inl, refl, sym, subst, ap, true, List, [], Option, Some, None, get_or, slice_get}
+use Rattle.std.proofs.Common.{ℕ, ◌≡◌, ◌∙◌, ◌<◌, length, inl, refl, sym, subst, ap, true, List, [], Option, Some, None, get_or, slice_get}
 use Rattle.std.specs.Option.{MatchOption}
-use Rattle.std.proofs.lemmas.Option.{slice_get-get_or}
+use Rattle.std.proofs.lemmas.Option.{same_Some, slice_get-get_or, slice_get_within}
 use Rattle.credential_text.specs.declared.exprs.Expr.{Expr}
 use Rattle.credential_text.specs.declared.exprs.Expr.TheVariants.{Ent}
-use Rattle.cred_graph.specs.GraphState.{IsNode}
+use Rattle.cred_graph.specs.GraphState.{GraphState, IsNode}
 use Rattle.scholten_core.specs.declared.letters.Letter.{Letter}
 use Rattle.search.specs.declared.letters.Load.{Load}
 use Rattle.search.specs.declared.letters.Held.{Held}
 use Rattle.search.specs.declared.stages.Stage.{Stage}
+use Rattle.search.specs.declared.queries.Need.{Need}
+use Rattle.search.specs.Numbered.{held_at, load_at}
 use Rattle.search.specs.Need.{need_of}
 use Rattle.search.specs.Stage.{waiting_in, Holds}
 use Rattle.search.specs.Search.{SearchState, IsKept, Settles, settled_of}
@@ -72,3 +74,18 @@ module _ (s : SearchState) (st : Stage) (place : ℕ) (kept : IsKept s) where
 pub taken_or_not : (s : SearchState) (st : Stage) (place : ℕ) (r : Option (ℕ × Held (Load (List ℕ)))) → IsKept s → MatchOption r ((slice_get (waiting_in s.stage) place ≡ None) × (st ≡ s.stage)) (λ x. Holds s.stage st place x.0 x.1) → TakenOrNot s st place r
 taken_or_not s st place None kept (none, same) = none_taken s st place kept none same
 taken_or_not s st place (Some (number, h)) kept holds = some_taken s st place kept number h holds
+
+-- what the letter in hand needs is what its receiver's expression says
+pub takes_needing : (s t : SearchState) (place number : ℕ) (k : Held (Load ℕ)) (need : Need) → TakesHeld s t place number (held_at s.graph.nodes k) →
+    (e : Expr) × IsNode t.graph k.to e × (need ≡ need_of e (load_at t.graph.nodes k.load)) → Takes s t place number need
+takes_needing s t place number k need took (e, at, needs) =
+    let same : t.graph ≡ s.graph = ap (λ (x : SearchState). x.graph) took.takes.after in
+    let at' : IsNode s.graph k.to e = subst (λ (g : GraphState). IsNode g k.to e) same at in
+    let one : e ≡ took.expr = same_Some e took.expr (sym at' ∙ took.node) in
+    let is : need ≡ need_of took.expr (load_at s.graph.nodes k.load) = needs ∙ ap (λ (g : GraphState). need_of e (load_at g.nodes k.load)) same ∙ ap (λ (x : Expr). need_of x (load_at s.graph.nodes k.load)) one in
+    subst (λ (n : Need). Takes s t place number n) (sym is) took.takes
+
+-- its receiver is a node still
+pub taken_there : (s t : SearchState) (place number : ℕ) (k : Held (Load ℕ)) → TakesHeld s t place number (held_at s.graph.nodes k) → k.to < length t.graph.nodes
+taken_there s t place number k took =
+    subst (λ (x : SearchState). k.to < length x.graph.nodes) (sym took.takes.after) (slice_get_within s.graph.nodes k.to took.expr took.node)

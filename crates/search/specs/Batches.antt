@@ -1,6 +1,6 @@
 -- Letters of one search that are taken in a row, looked up, and handed in together.
 use Rattle.std.specs.Prelude.{ℕ, ◌+◌, ◌≤◌, Bool, true, false, IsTrue, List, [], ◌∷◌, ◌++◌, ◌≡◌, ◌⊎◌, ◌↔◌, length, map, slice_get}
-use Rattle.std.specs.Prelude.{Option, Some, None, Result, Ok, Err, if◌then◌else◌, All}
+use Rattle.std.specs.Prelude.{Option, Some, None, if◌then◌else◌, All}
 use Rattle.std.specs.List.{AllWithin}
 use Rattle.std.specs.Arc.{arc_value}
 use Rattle.scholten_core.specs.declared.letters.Letter.{Letter}
@@ -92,14 +92,14 @@ pub data WorksOn (who : List ℕ) (k : ℕ) (s : SearchState) : ℕ → List Tak
 abbrev pub WorksUpTo : List ℕ → ℕ → ℕ → SearchState → SearchState → List TakenLetter → Type 0
 WorksUpTo who k most s t taken = (n : ℕ) × (n ≤ most) × WorksOn who k s n taken t × ((n ≡ most) ⊎ IsQuiet t.stage)
 
--- so many steps are all that may be made, or nothing was left to do; where memory lacked there is none
-abbrev pub IsWhole : {E : Type 0} → ℕ → ℕ → Type 0 → Result (Unit {0}) E → Type 0
-IsWhole most n nothing_left (Ok done) = (n ≡ most) ⊎ nothing_left
-IsWhole most n nothing_left (Err lacked) = n ≡ 0
+-- so many steps are all that may be made, or nothing was left to do; without memory there is none
+abbrev pub IsWhole : ℕ → ℕ → Type 0 → Bool → Type 0
+IsWhole most n nothing_left true = (n ≡ most) ⊎ nothing_left
+IsWhole most n nothing_left false = n ≡ 0
 
--- at most so many steps were made, fewer only where nothing is left to do; none where memory lacked
-abbrev pub Visits : {E : Type 0} → List ℕ → ℕ → ℕ → SearchState → Result (Unit {0}) E → SearchState → List TakenLetter → Type 0
-Visits who k most s result t taken = (n : ℕ) × (n ≤ most) × WorksOn who k s n taken t × IsWhole most n (IsQuiet t.stage) result
+-- at most so many steps were made, fewer only where nothing is left to do; none without memory
+abbrev pub Visits : List ℕ → ℕ → ℕ → SearchState → Bool → SearchState → List TakenLetter → Type 0
+Visits who k most s memory t taken = (n : ℕ) × (n ≤ most) × WorksOn who k s n taken t × IsWhole most n (IsQuiet t.stage) memory
 
 -- the held letter of a number waits again, where it is held
 abbrev pub PutsBack : SearchState → ℕ → Bool → SearchState → Type 0

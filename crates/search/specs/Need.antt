@@ -1,5 +1,6 @@
 -- What a letter needs to be finished, and the hint that this asks for.
 use Rattle.std.specs.Prelude.{List, ◌≡◌, Option, Some, None}
+use Rattle.names.specs.declared.roles.Role.{Role}
 use Rattle.credential_text.specs.declared.exprs.Expr.{Expr}
 use Rattle.credential_text.specs.declared.exprs.Expr.TheVariants.{Rol}
 use Rattle.vaults.specs.Journal.{Vault}
@@ -15,6 +16,11 @@ use Rattle.search.specs.declared.queries.Hint.TheVariants as hint
 abbrev pub rows_for : Expr → Need
 rows_for (Rol r) = need.Rows r
 rows_for _ = need.Nothing
+
+-- where a role is named, its rows are needed
+abbrev pub need_for : Option Role → Need
+need_for (Some role) = need.Rows role
+need_for None = need.Nothing
 
 -- rows are needed by a letter that asks a role, and by no other
 abbrev pub need_of : Expr → Said → Need

@@ -1,6 +1,7 @@
 //! Letters of one search that are taken in a row, looked up elsewhere, and handed in together.
 ghost use Rattle.std.specs.Prelude.{◌≡◌, ◌+◌, ◌++◌, ◌∷◌, ◌<◌, ◌≤◌, List, ℕ, [], length, map, vec_len, vec_capacity};
-ghost use Rattle.std.specs.Prelude.{None, MatchOption, IfOk};
+ghost use Rattle.std.specs.Prelude.{None, option_copied, MatchOption, IfOk, is_ok};
+ghost use Rattle.search.specs.Need.{need_for};
 ghost use Rattle.std.specs.List.{AllWithin};
 ghost use Rattle.std.specs.Arc.{arc_value};
 ghost use Rattle.search.specs.Batches.{IsLookedUpIn, taken_of, Visits, WorksUpTo, MakesStep, HandsInAs, HandsInEach};
@@ -8,7 +9,7 @@ ghost use Rattle.search.specs.Batches.{IsLookedUpIn, taken_of, Visits, WorksUpTo
 use crate::outcomes::Finished;
 use crate::queries::{Hint, Need};
 use crate::searches::Search;
-use names::Entity;
+use names::{Entity, Role};
 use snapshots::Snapshot;
 use std::alloc::{AllocError, Global};
 use std::marker::Model;
@@ -20,6 +21,22 @@ pub(crate) struct HeldLetter {
     letter: u64,
     need: Need,
     hint: Hint,
+}
+
+impl HeldLetter {
+    ghost use Rattle.std.specs.Prelude.{◌≡◌};
+    ghost use Rattle.search.specs.Need.{right_hint};
+
+    /// Looks up what the letter needs.
+    #[inline(always)]
+    fn look_up(&mut self, snapshot: &Snapshot)
+        ensures { self.new ≡ record self.old { hint = right_hint snapshot.now.vaults self.old.need } }
+    {
+        match &self.need {
+            Need::Rows(role) => self.hint = Hint::Rows(snapshot.find(role)),
+            Need::Nothing => self.hint = Hint::Nothing,
+        }
+    }
 }
 
 /// A search as its keeper names it, and what it reads.
@@ -96,7 +113,7 @@ impl Batch {
     {
         let Some(of) = &self.of else { unreachable!() };
         let held_letter = &mut self.held_letters[self.looked];
-        held_letter.hint = held_letter.need.look_up(&of.snapshot);
+        held_letter.look_up(&of.snapshot);
         self.looked += 1;
     }
 
@@ -138,7 +155,7 @@ impl Search {
     ) -> Result<(), AllocError>
         requires empty { IsEmpty batch.old }
         requires space { most ≤ batch.old.room }
-        ensures visited { Visits who number most self.old result self.new batch.new.letters }
+        ensures visited { Visits who number most self.old (is_ok result) self.new batch.new.letters }
         ensures bound { length batch.new.letters ≤ most }
         ensures looked { batch.new.looked ≡ 0 }
         ensures room { batch.new.room ≡ batch.old.room }
@@ -199,34 +216,35 @@ fn make_step(search: &mut Search, of: &NamedSearch, held_letters: &mut Vec<HeldL
     ensures bound { vec_len held_letters.new ≤ vec_len held_letters.old + 1 }
     ensures capacity { vec_capacity held_letters.new ≡ vec_capacity held_letters.old }
 {
-    if search.signal(0) {
+    if search.signals() > 0 {
+        search.signal(0);
         return true;
     }
-    let Some((letter, need)) = search.take_letter(0) else {
+    let Some((letter, held)) = search.take_held(0) else {
         return false;
     };
     search.kept();
-    note(held_letters, letter, &need);
+    note(held_letters, letter, search.role_needed(&held));
     true
 }
 
-// Puts the letter behind the others. A role is copied where it is needed alone.
+// Puts the letter behind the others, which needs the rows of this role, or none.
 #[inline(always)]
-fn note(held_letters: &mut Vec<HeldLetter>, letter: u64, need: &Need)
+fn note(held_letters: &mut Vec<HeldLetter>, letter: u64, role: Option<&Role>)
     requires space { vec_len held_letters.old < vec_capacity held_letters.old }
     ensures items { held_letters.new.items
-        ≡ held_letters.old.items ++ record { letter = letter; need = need.now; hint = Hint.Nothing } ∷ [] }
+        ≡ held_letters.old.items ++ record { letter = letter; need = need_for (option_copied role.entry); hint = Hint.Nothing } ∷ [] }
     ensures len { vec_len held_letters.new ≡ vec_len held_letters.old + 1 }
     ensures capacity { vec_capacity held_letters.new ≡ vec_capacity held_letters.old }
 {
     let hint = Hint::Nothing;
-    match *need {
-        Need::Rows(role) => held_letters.push_reserved(HeldLetter {
+    match role {
+        Some(role) => held_letters.push_reserved(HeldLetter {
             letter,
-            need: Need::Rows(role),
+            need: Need::Rows(*role),
             hint,
         }),
-        Need::Nothing => held_letters.push_reserved(HeldLetter {
+        None => held_letters.push_reserved(HeldLetter {
             letter,
             need: Need::Nothing,
             hint,
@@ -267,7 +285,7 @@ fn hand_in(search: &mut Search, of: &NamedSearch, held_letter: &HeldLetter, back
         search.kept();
         return false;
     }
-    let finished = search.finish(held_letter.letter, held_letter.hint);
+    let finished = search.finish_by(held_letter.letter, &held_letter.hint);
     search.kept();
     finished == Finished::Done
 }

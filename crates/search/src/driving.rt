@@ -12,7 +12,8 @@ impl Search {
         requires { IsQuiet self.old.stage → ⊥ }
         ensures { (step : DriveStep) × Makes self.old step self.new }
     {
-        if self.signal(0) {
+        if self.signals() > 0 {
+            self.signal(0);
             return;
         }
         let Some((letter, held)) = self.take_held(0) else {

@@ -1,39 +1,43 @@
 //! What a letter needs to be finished, and whether a hint is right.
-ghost use Rattle.std.specs.Prelude.{◌≡◌, ◌<◌, ◌↔◌, length, IsTrue};
+ghost use Rattle.std.specs.Prelude.{◌≡◌, ◌<◌, ◌↔◌, length, option_copied, IsTrue};
 ghost use Rattle.credential_text.specs.declared.exprs.Expr.{Expr};
 ghost use Rattle.cred_graph.specs.GraphState.{IsNode};
 ghost use Rattle.snapshots.specs.Snapshot.{IsOrdered};
-ghost use Rattle.search.specs.Need.{rows_for, need_of, right_hint};
+ghost use Rattle.search.specs.Need.{rows_for, need_for, need_of, right_hint};
 ghost use Rattle.search.specs.Numbered.{load_at};
 
 use crate::letters::{Held, Load};
-use crate::queries::{Hint, Need};
+use crate::queries::Hint;
 use crate::rows_checks::is_span_of;
 use cred_graph::Graph;
 use credential_text::Expr;
+use names::Role;
 use snapshots::Snapshot;
 
-fn rows_needed(expr: &Expr) -> Need
-    ensures { result ≡ rows_for expr.now }
+// The role that the expression is, if it is one.
+fn role_of(expr: &Expr) -> Option<&Role>
+    ensures { need_for (option_copied result) ≡ rows_for expr.now }
 {
     match expr {
-        Expr::Rol(role) => Need::Rows(*role),
-        Expr::Ent(_entity) => Need::Nothing,
-        Expr::Link(_base, _name) => Need::Nothing,
-        Expr::Meet(_parts) => Need::Nothing,
+        Expr::Rol(role) => Some(role),
+        Expr::Ent(_entity) => None,
+        Expr::Link(_base, _name) => None,
+        Expr::Meet(_parts) => None,
     }
 }
 
-// Rows are needed by a letter that asks a role, and by no other.
-pub(crate) fn needed(graph: &Graph, held: &Held<Load<u32>>) -> Need
+// The role whose rows are needed: a letter that asks a role needs its rows, and no other letter needs any.
+#[inline(always)]
+pub(crate) fn role_needed<'a>(graph: &'a Graph, held: &Held<Load<u32>>) -> Option<&'a Role>
     requires { held.now.to < length graph.now.nodes }
-    ensures { (e : Expr) × IsNode graph.now held.now.to e × (result ≡ need_of e (load_at graph.now.nodes held.now.load)) }
+    ensures { (e : Expr) × IsNode graph.now held.now.to e
+        × (need_for (option_copied result) ≡ need_of e (load_at graph.now.nodes held.now.load)) }
 {
     let expr = graph.expr(held.to);
     match held.load {
-        Load::Start => rows_needed(expr),
-        Load::Ask(_port) => rows_needed(expr),
-        Load::Tell(_port, _who) => Need::Nothing,
+        Load::Start => role_of(expr),
+        Load::Ask(_port) => role_of(expr),
+        Load::Tell(_port, _who) => None,
     }
 }
 

@@ -1,5 +1,5 @@
 //! How a node opens, at its first Ask: an entity is its own solution, any other expression asks.
-ghost use Rattle.std.specs.Prelude.{◌≡◌, ◌+◌, ◌<◌, ◌≤◌, length, OnOk};
+ghost use Rattle.std.specs.Prelude.{◌≡◌, ◌+◌, ◌<◌, ◌≤◌, length, option_copied, OnOk};
 ghost use Rattle.names.specs.declared.roles.Role.{Role};
 ghost use Rattle.credential_text.specs.declared.exprs.Expr.{Expr};
 ghost use Rattle.snapshots.specs.Span.{role_rows, span_of};
@@ -77,10 +77,10 @@ pub(crate) fn open(
     found: &mut Findings,
     snapshot: &Snapshot,
     node: u64,
-    looked_up: Option<Span>,
+    looked_up: Option<&Span>,
 ) -> Result<(), AllocError>
     requires node { node < length found.old.graph.nodes }
-    requires span { (e : Expr) → IsNode found.old.graph node e → IsSpanFor snapshot.now.vaults e looked_up }
+    requires span { (e : Expr) → IsNode found.old.graph node e → IsSpanFor snapshot.now.vaults e (option_copied looked_up) }
     ensures { OnOk result ((e : Expr) → IsNode found.old.graph node e
         → Opens (own_rows snapshot.now.vaults e) found.old found.new node e) }
 {
@@ -91,7 +91,7 @@ pub(crate) fn open(
         }
         Expr::Rol(role) => {
             let span = match looked_up {
-                Some(span) => span,
+                Some(span) => *span,
                 None => snapshot.find(role),
             };
             ask_rows(alloc, found, snapshot, span)

@@ -35,8 +35,18 @@ pub enum Need {
 }
 
 impl Need {
-    ghost use Rattle.std.specs.Prelude.{◌≡◌};
-    ghost use Rattle.search.specs.Need.{right_hint};
+    ghost use Rattle.std.specs.Prelude.{◌≡◌, option_copied};
+    ghost use Rattle.search.specs.Need.{need_for, right_hint};
+
+    /// The rows of the role, where there is one.
+    pub(crate) fn of(role: Option<&Role>) -> Need
+        ensures { result ≡ need_for (option_copied role.entry) }
+    {
+        match role {
+            Some(role) => Need::Rows(*role),
+            None => Need::Nothing,
+        }
+    }
 
     /// The hint that it asks for.
     pub fn look_up(&self, snapshot: &Snapshot) -> Hint
@@ -58,14 +68,14 @@ pub enum Hint {
 }
 
 impl Hint {
-    ghost use Rattle.std.specs.Prelude.{◌≡◌};
+    ghost use Rattle.std.specs.Prelude.{◌≡◌, option_copied};
     ghost use Rattle.search.specs.Need.{span_in};
 
-    pub(crate) fn span(&self) -> Option<Span>
-        ensures { result ≡ span_in self.now }
+    pub(crate) fn span(&self) -> Option<&Span>
+        ensures { option_copied result ≡ span_in self.now }
     {
         match self {
-            Hint::Rows(span) => Some(*span),
+            Hint::Rows(span) => Some(span),
             Hint::Nothing => None,
         }
     }

@@ -1,5 +1,5 @@
 //! How a node receives a letter: what is found, and the letters that it sends.
-ghost use Rattle.std.specs.Prelude.{◌≡◌, ◌<◌, ◌↔◌, ℕ, List, [], length, IsTrue, OnOk};
+ghost use Rattle.std.specs.Prelude.{◌≡◌, ◌<◌, ◌↔◌, ℕ, List, [], length, option_copied, IsTrue, OnOk};
 ghost use Rattle.names.specs.declared.roles.Role.{Role};
 ghost use Rattle.credential_text.specs.declared.exprs.Expr.{Expr};
 ghost use Rattle.vaults.specs.Journal.{credentials};
@@ -48,12 +48,12 @@ fn asked(
     node: u64,
     asker: u64,
     port: Port<u32>,
-    looked_up: Option<Span>,
+    looked_up: Option<&Span>,
 ) -> Result<(), AllocError>
     requires node { node < length found.old.graph.nodes }
     requires asker { asker < length found.old.graph.nodes }
     requires port { IsPort found.old.graph.nodes port }
-    requires span { (e : Expr) → IsNode found.old.graph node e → IsSpanFor snapshot.now.vaults e looked_up }
+    requires span { (e : Expr) → IsNode found.old.graph node e → IsSpanFor snapshot.now.vaults e (option_copied looked_up) }
     ensures { OnOk result (AnswersAsk snapshot.now.vaults found.old found.new node asker (port_at found.old.graph.nodes port)) }
 {
     if is_open(&found.graph, node) {
@@ -69,14 +69,14 @@ pub(crate) fn receive(
     found: &mut Findings,
     snapshot: &Snapshot,
     held: &Held<Load<u32>>,
-    looked_up: Option<Span>,
+    looked_up: Option<&Span>,
 ) -> Result<(), AllocError>
     requires none { found.old.outs ≡ [] }
     requires load { IsLoad found.old.graph.nodes held.now.load }
     requires awaits { (role : Role) × (rest : List Sent)
         × Awaits (credentials snapshot.now.vaults) role found.old.graph found.old.monitors rest
         held.now.from held.now.to (load_at found.old.graph.nodes held.now.load) }
-    requires span { (e : Expr) → IsNode found.old.graph held.now.to e → IsSpanFor snapshot.now.vaults e looked_up }
+    requires span { (e : Expr) → IsNode found.old.graph held.now.to e → IsSpanFor snapshot.now.vaults e (option_copied looked_up) }
     ensures { OnOk result (Answers snapshot.now.vaults (progress found.old.graph found.old.monitors []) found.new
         held.now.from held.now.to (load_at found.old.graph.nodes held.now.load)) }
 {

@@ -1,4 +1,4 @@
-ghost use Rattle.std.specs.Prelude.{◌≡◌, ◌<◌, ◌≤◌, ◌↔◌, ℕ, List, true, false, [], None, Some, length, slice_get};
+ghost use Rattle.std.specs.Prelude.{◌≡◌, ◌<◌, ◌≤◌, ◌↔◌, ℕ, List, true, false, [], None, Some, length, option_copied, slice_get};
 ghost use Rattle.std.specs.Prelude.{IsTrue, IfOk, IfSome, OnErr, MatchOption};
 ghost use Rattle.std.specs.Arc.{arc_value};
 ghost use Rattle.names.specs.declared.roles.Role.{Role};
@@ -12,12 +12,12 @@ ghost use Rattle.search.specs.Net.{Said};
 ghost use Rattle.search.specs.Steady.{OwesRules, IsJustified};
 ghost use Rattle.search.specs.Ending.{MaySettle, Nothing, Members};
 ghost use Rattle.search.specs.Found.{IsAnswered, status_of, found, come_to};
-ghost use Rattle.search.specs.Numbered.{IsLoad, IsStage, held_at, stage_at};
+ghost use Rattle.search.specs.Numbered.{IsLoad, IsStage, held_at, load_at, stage_at};
 ghost use Rattle.search.specs.Search.{IsSoundStage};
 ghost use Rattle.search.specs.Stage.{Sends, IsQuiet, NoneHeld};
 
 use crate::findings::Findings;
-use crate::hints::{hint_is_right, needed};
+use crate::hints::{hint_is_right, role_needed};
 use crate::letters::{Held, Load};
 use crate::members::solutions_in_order;
 use crate::outcomes::{Finished, Status};
@@ -27,7 +27,7 @@ use crate::stages::{
     NumberedStage, Stage, deliver, held_letter, hold, nothing_moves, send, wait_again,
 };
 use cred_graph::{Graph, Port};
-use names::Entity;
+use names::{Entity, Role};
 use scholten_core::Diffusion;
 use snapshots::{Snapshot, Span};
 use std::alloc::{AllocError, Global};
@@ -92,7 +92,7 @@ impl Search {
     ghost use Rattle.search.specs.Search.{SearchState, IsNew, IsOutstanding, IsCompleted, rows_of, asked_role, net_of};
     ghost use Rattle.search.specs.Search.{SameQuestion, Settles, settled_of};
     ghost use Rattle.search.specs.Stage.{HoldsLetter, letter_in, waiting_in, signals_in, held_in, stage_marked, Delivers};
-    ghost use Rattle.search.specs.Need.{IsSpanFor};
+    ghost use Rattle.search.specs.Need.{IsSpanFor, need_for, need_of};
     ghost use Rattle.search.specs.Finish.{Takes, TakesHeld, Receives, Finishes};
 
     /// A search over the snapshot that may send so many letters, at least one. One letter, to the asked role, waits.
@@ -171,10 +171,20 @@ impl Search {
             (λ r. Takes self.old self.new place r.0 r.1) }
         ensures settles { Settles self.old self.new }
     {
-        let Some((number, held)) = hold(&mut self.stage, place) else {
+        let Some((number, held)) = self.take_held(place) else {
             return None;
         };
-        Some((number, needed(self.found.graph(), &held)))
+        Some((number, Need::of(self.role_needed(&held))))
+    }
+
+    // The role whose rows the letter in hand needs, if it needs any.
+    #[inline(always)]
+    pub(crate) fn role_needed(&self, held: &Held<Load<u32>>) -> Option<&Role>
+        requires { held.now.to < length self.now.graph.nodes }
+        ensures { (e : Expr) × IsNode self.now.graph held.now.to e
+            × (need_for (option_copied result) ≡ need_of e (load_at self.now.graph.nodes held.now.load)) }
+    {
+        role_needed(self.found.graph(), held)
     }
 
     /// Takes the waiting letter at that place, in order of sending. Want of memory changes nothing.
@@ -212,10 +222,19 @@ impl Search {
         ensures finishes { Finishes self.old self.new letter hint result }
         ensures settles { Settles self.old self.new }
     {
+        self.finish_by(letter, &hint)
+    }
+
+    // The same with what somebody else keeps.
+    #[inline(always)]
+    pub(crate) fn finish_by(&mut self, letter: u64, hint: &Hint) -> Finished
+        ensures finishes { Finishes self.old self.new letter hint.now result }
+        ensures settles { Settles self.old self.new }
+    {
         let Some(held) = held_letter(&self.stage, letter) else {
             return Finished::NotHeld;
         };
-        if !hint_is_right(self.found.graph(), &self.snapshot, &held, &hint) {
+        if !hint_is_right(self.found.graph(), &self.snapshot, &held, hint) {
             wait_again(&mut self.stage, letter);
             return Finished::BadHint;
         }
@@ -240,11 +259,11 @@ impl Search {
         &mut self,
         letter: u64,
         held: &Held<Load<u32>>,
-        looked_up: Option<Span>,
+        looked_up: Option<&Span>,
     ) -> Finished
         requires held { HoldsLetter self.old.stage letter (held_at self.old.graph.nodes held.now) }
         requires load { IsLoad self.old.graph.nodes held.now.load }
-        requires span { (e : Expr) → IsNode self.old.graph held.now.to e → IsSpanFor self.old.snapshot.vaults e looked_up }
+        requires span { (e : Expr) → IsNode self.old.graph held.now.to e → IsSpanFor self.old.snapshot.vaults e (option_copied looked_up) }
         ensures receives { Receives self.old self.new letter (letter_in (held_at self.old.graph.nodes held.now)) result }
         ensures settles { Settles self.old self.new }
     {

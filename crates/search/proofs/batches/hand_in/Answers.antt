@@ -22,13 +22,13 @@ returns c =
     let of = c.args.of.now in
     let s = c.args.search.now in
     let e = c.args.held_letter.now in
-    let t = c.finish-finished.new.self in
-    let told = c.finish-finished.result in
-    let finishes = subst (λ (h : Hint). Finishes s t e.letter h told) c.requires c.finish-finished.ensures.finishes in
+    let t = c.finish_by-finished.new.self in
+    let told = c.finish_by-finished.result in
+    let finishes = subst (λ (h : Hint). Finishes s t e.letter h told) c.requires c.finish_by-finished.ensures.finishes in
     subst (λ (b : Bool). HandsInAs of.who of.number b s (taken_of of e) c.eq.result t) (sym c.if-back.false) (
       (told, finishes, search rules),
       refl,
       refl,
-      c.finish-finished.ensures.settles,
+      c.finish_by-finished.ensures.settles,
       c.kept-2.ensures.sound,
     )

@@ -1,48 +1,52 @@
-use Rattle.std.proofs.Common.{◌≡◌, ◌∙◌, ◌∷◌, [], map, ap, sym, subst, refl, inl, inr}
+use Rattle.std.proofs.Common.{◌≡◌, ◌∙◌, ◌∷◌, [], arith, map, ap, sym, subst, refl, inl, inr, option_copied}
 use Rattle.std.proofs.lemmas.List.{map-append}
 use Rattle.search.specs.declared.batches.HeldLetter.{HeldLetter}
 use Rattle.search.specs.declared.queries.Hint.TheVariants.{Nothing}
+use Rattle.search.specs.Need.{need_for}
 use Rattle.search.specs.Stage.{IsQuiet}
 use Rattle.search.specs.Search.{SearchState}
-use Rattle.search.specs.Batches.{TakesAs, taken_of}
-use Rattle.search.proofs.Driven.{same_search, nothing_first}
+use Rattle.search.specs.Batches.{taken_of}
+use Rattle.search.proofs.Driven.{first_goes, nothing_first}
+use Rattle.search.proofs.Taking.{takes_needing, taken_there}
 use Rattle.search.proofs.batches.make_step.Goals as goal
 
-pub returns-then-signal-clause-made : goal.returns-then-signal-clause-made
-returns-then-signal-clause-made c = inl (
+pub returns-then-signals-gt0-clause-made : goal.returns-then-signals-gt0-clause-made
+returns-then-signals-gt0-clause-made c = inl (
   record {
-    delivered = c.if-signal.ensures.delivered;
-    graph = c.if-signal.ensures.findings.0;
-    monitors = c.if-signal.ensures.findings.1;
-    question = c.if-signal.ensures.question;
-    settles = c.if-signal.ensures.settles;
+    delivered = first_goes c.args.search.now.stage c.signal.new.self.stage c.signal.result (omega (arith, c.if-signals-gt0.true, c.signals.ensures)) c.signal.ensures.delivered;
+    graph = c.signal.ensures.findings.0;
+    monitors = c.signal.ensures.findings.1;
+    question = c.signal.ensures.question;
+    settles = c.signal.ensures.settles;
   },
   refl,
 )
 
 pub returns-in_default-clause-made : goal.returns-in_default-clause-made
 returns-in_default-clause-made c =
-    let delivered = c.if-signal.ensures.delivered in
-    let found = c.if-signal.ensures.findings in
-    let taken = c.in_default.ensures.taken in
-    let same : c.take_letter.new.self ≡ c.args.search.now = taken.1 ∙ same_search c.args.search.now c.signal.new.self delivered.1 found.0 found.1 c.if-signal.ensures.question in (
-      same,
+    let none = c.in_default.ensures.taken in (
+      none.1,
       refl,
-      subst (λ (s : SearchState). IsQuiet s.stage) (sym same) (nothing_first c.args.search.now.stage c.signal.new.self.stage delivered.0 delivered.1 taken.0),
+      subst (λ (s : SearchState). IsQuiet s.stage) (sym none.1) (nothing_first c.args.search.now.stage (omega (arith, c.if-signals-gt0.false, c.signals.ensures)) none.0),
     )
+
+pub role_needed-requires : goal.role_needed-requires
+role_needed-requires c = taken_there c.args.search.now c.take_held.new.self 0 c.in-Some.letter c.in-Some.held c.in-Some.ensures.taken
 
 pub returns-clause-made : goal.returns-clause-made
 returns-clause-made c =
-    let delivered = c.if-signal.ensures.delivered in
-    let found = c.if-signal.ensures.findings in
-    let stays : c.signal.new.self ≡ c.args.search.now = same_search c.args.search.now c.signal.new.self delivered.1 found.0 found.1 c.if-signal.ensures.question in
     let of = c.args.of.now in
-    let one : HeldLetter = record { letter = c.in-Some.letter; need = c.in-Some.need; hint = Nothing } in
+    let need = need_for (option_copied c.role_needed.result) in
+    let one : HeldLetter = record { letter = c.in-Some.letter; need = need; hint = Nothing } in
     inr (
       taken_of of one,
       (
-          subst (λ (s : SearchState). TakesAs of.who of.number 0 s (taken_of of one) c.take_letter.new.self) stays
-          (c.in-Some.ensures.taken, refl, refl, c.requires.reads ∙ sym c.if-signal.ensures.question.snapshot, c.in-Some.ensures.settles, c.kept.ensures.sound)
-          ),
+        takes_needing c.args.search.now c.take_held.new.self 0 c.in-Some.letter c.in-Some.held need c.in-Some.ensures.taken c.role_needed.ensures,
+        refl,
+        refl,
+        c.requires.reads,
+        c.in-Some.ensures.settles,
+        c.kept.ensures.sound,
+      ),
       ap (map (taken_of of)) c.note.ensures.items ∙ map-append (taken_of of) c.args.held_letters.now.items (one ∷ []),
     )

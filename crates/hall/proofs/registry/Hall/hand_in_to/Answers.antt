@@ -6,8 +6,8 @@ use Rattle.hall.specs.Visits.{AreHandedIn}
 use Rattle.hall.specs.Kept.{IsIndexed}
 use Rattle.hall.proofs.HandingIn.{stay_each, one_gone, one_stays, hands_as, handed_in_sound}
 use Rattle.hall.proofs.Polled.{none_there}
-use Rattle.hall.proofs.Reached.{hall_of, given, not_given, sound_there, left, there, indexed_there}
-use Rattle.hall.proofs.Stays.{lent, own}
+use Rattle.hall.proofs.Reached.{hall_of, given, not_given, sound_there, left, there, indexed_there, stands_there}
+use Rattle.hall.proofs.Stays.{lent, own, gone_over, completed_over}
 use Rattle.hall.proofs.Unsettled.{unsettled_before_hands}
 use Rattle.hall.proofs.registry.Hall.hand_in_to.Goals as goal
 use Rattle.hall.proofs.registry.Hall.hand_in_to.Goals.{After-hand_in-finished}
@@ -21,6 +21,8 @@ returns-in_default c =
           (stay_each c.args.back h c.args.who c.args.number
           (one_gone c.args.back h c.args.who c.args.number (none_there h c.args.who c.args.number c.in_default.field-0 c.in_default.ensures.nowhere))
           [] c.args.batch.now.letters AreHandedIn.nothing c.requires.letters);
+      stands = gone_over h c.args.who c.args.number (none_there h c.args.who c.args.number c.in_default.field-0 c.in_default.ensures.nowhere) _
+          (ap (hall_of c.self.inside.book) (not_given c.in_default.is c.opened_mut.follows.holds-at-none));
       most = omega arith;
     }
 
@@ -43,6 +45,8 @@ returns-in_default-carried c =
           (one_stays c.args.back h c.args.who c.args.number r at (lent c.opened.inside.carried c.opened.invariant c.in_default-carried.not-Own)
           (sound_there _ _ _ r at c.self.invariant.sound))
           [] c.args.batch.now.letters AreHandedIn.nothing c.requires.letters);
+      stands = completed_over h c.args.who c.args.number r at (lent c.opened.inside.carried c.opened.invariant c.in_default-carried.not-Own) _
+          (left _ _ _ r at _ r.search (c.opened_mut.follows.holds r (given c.in-Ok.is) c.self.inside.book) refl);
       most = omega arith;
     }
 
@@ -69,10 +73,16 @@ pub invariant_of-self-2 : goal.invariant_of-self-2
 invariant_of-self-2 c =
     let d = (goal.at.invariant_of-self-2 c).After-hand_in-finished in
     indexed_there _ _ _ (goes d) (goes_there d) _ c.hand_in-finished.new.self (c.opened_mut.follows.holds (went d) (given c.in-Ok.is) c.self.inside.book)
-    c.self.inside.busy c.settle.new.busy
+    c.self.inside.busy c.settle-standing.new.busy
     (unsettled_before_hands c.args.who c.args.number c.args.back c.in-Own.search c.args.batch.now.letters c.hand_in-finished.result c.hand_in-finished.new.self
-    (c.hand_in-finished.ensures.handed_in c.args.who c.args.number c.requires.of)) c.settle.ensures.kept c.self.invariant
+    (c.hand_in-finished.ensures.handed_in c.args.who c.args.number c.requires.of)) c.settle-standing.ensures.kept c.self.invariant
     (handed_in_sound c.args.back _ c.args.batch.now.letters c.hand_in-finished.result _ c.self.invariant.sound (handed d))
 
 pub returns : goal.returns
-returns c = rw (← c.self.view_is) record { handed_in = handed (goal.at.returns c).After-hand_in-finished; most = c.hand_in-finished.ensures.most }
+returns c =
+    let d = (goal.at.returns c).After-hand_in-finished in
+    rw (← c.self.view_is) record {
+      handed_in = handed d;
+      stands = stands_there _ _ _ (goes d) (goes_there d) _ c.hand_in-finished.new.self (c.opened_mut.follows.holds (went d) (given c.in-Ok.is) c.self.inside.book) c.settle-standing.result c.settle-standing.ensures.stands;
+      most = c.hand_in-finished.ensures.most;
+    }

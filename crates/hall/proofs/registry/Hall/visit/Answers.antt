@@ -1,26 +1,26 @@
-use Rattle.std.proofs.Common.{◌≡◌, ◌∙◌, ℕ, List, [], length, arith, Some, Ok, Err, ap, sym, subst, refl, inr}
+use Rattle.std.proofs.Common.{◌≡◌, ◌∙◌, ℕ, true, false, List, [], length, arith, Some, Err, ap, sym, subst, refl, inr}
 use Rattle.std.proofs.lemmas.Result.{err_from_is_err_and}
 use Rattle.search.specs.Batches.{TakenLetter, Visits}
 use Rattle.search.specs.Carried.{carried_search}
-use Rattle.hall.specs.declared.faults.Fault.{Fault}
+use Rattle.std.specs.Result.{is_ok}
 use Rattle.hall.specs.Hall.{Running, HallState, search_at}
 use Rattle.hall.specs.Visits.{IsVisited, SearchIsQuiet}
 use Rattle.hall.specs.Kept.{IsUnsettled, KeepsBut, IsIndexed}
 use Rattle.hall.proofs.Carrying.{Moves, none_quiet}
 use Rattle.hall.proofs.Polled.{none_there}
-use Rattle.hall.proofs.Reached.{hall_of, given, not_given, left, there, indexed_there}
-use Rattle.hall.proofs.Stays.{lent, own, quiet_there}
+use Rattle.hall.proofs.Reached.{hall_of, given, not_given, left, there, indexed_there, stands_there}
+use Rattle.hall.proofs.Stays.{lent, own, quiet_there, gone_over, completed_over}
 use Rattle.hall.proofs.Unsettled.{unsettled_before_work}
-use Rattle.hall.proofs.Visiting.{no_visit, visits_as, visits_soundly, visited_well, visited_nothing}
+use Rattle.hall.proofs.Visiting.{no_visit, visits_as, visits_soundly, visited_as}
 use Rattle.hall.proofs.registry.Hall.visit.Goals as goal
 use Rattle.hall.proofs.registry.Hall.visit.Goals.{After-branch-visit}
 
 -- where nothing of it is left to do, no letter is taken, and the hall stays
 nothing_taken : (who : List ℕ) (k most : ℕ) (h new : HallState) (letters : List TakenLetter) → letters ≡ [] → SearchIsQuiet h who k → new ≡ h →
-    IsVisited {E = Fault} who k most h (Ok tt) new letters
+    IsVisited who k most h true new letters
 nothing_taken who k most h new letters none quiet same =
-    subst (λ (g : HallState). IsVisited {E = Fault} who k most h (Ok tt) g letters) (sym same)
-    (subst (IsVisited {E = Fault} who k most h (Ok tt) h) (sym none) (no_visit {E = Fault} who k most h (Ok tt) quiet))
+    subst (λ (g : HallState). IsVisited who k most h true g letters) (sym same)
+    (subst (IsVisited who k most h true h) (sym none) (no_visit who k most h true quiet))
 
 pub returns-in_default : goal.returns-in_default
 returns-in_default c =
@@ -28,6 +28,8 @@ returns-in_default c =
     rw (← c.self.view_is) record {
       visited = nothing_taken c.args.who c.args.number c.args.most h _ c.args.batch.now.letters c.requires.empty.0
           (none_quiet h c.args.who c.args.number (none_there h c.args.who c.args.number c.in_default.field-0 c.in_default.ensures.nowhere))
+          (ap (hall_of c.self.inside.book) (not_given c.in_default.is c.opened_mut.follows.holds-at-none));
+      stands = gone_over h c.args.who c.args.number (none_there h c.args.who c.args.number c.in_default.field-0 c.in_default.ensures.nowhere) _
           (ap (hall_of c.self.inside.book) (not_given c.in_default.is c.opened_mut.follows.holds-at-none));
       only_memory = tt;
       bound = let none : length c.args.batch.now.letters ≡ 0 = ap length c.requires.empty.0 in omega (arith, none);
@@ -50,6 +52,8 @@ returns-in_default-carried c =
       visited = nothing_taken c.args.who c.args.number c.args.most (hall_of c.self.inside.book c.self.inside.tenants) _ c.args.batch.now.letters c.requires.empty.0
           (quiet_there (hall_of c.self.inside.book c.self.inside.tenants) c.args.who c.args.number r at (lent c.opened.inside.carried c.opened.invariant c.in_default-carried.not-Own))
           (left _ _ _ r at _ r.search (c.opened_mut.follows.holds r (given c.in-Ok.is) c.self.inside.book) refl);
+      stands = completed_over (hall_of c.self.inside.book c.self.inside.tenants) c.args.who c.args.number r at (lent c.opened.inside.carried c.opened.invariant c.in_default-carried.not-Own) _
+          (left _ _ _ r at _ r.search (c.opened_mut.follows.holds r (given c.in-Ok.is) c.self.inside.book) refl);
       only_memory = tt;
       bound = let none : length c.args.batch.now.letters ≡ 0 = ap length c.requires.empty.0 in omega (arith, none);
       looked = c.requires.empty.1;
@@ -67,10 +71,10 @@ goes_there : (c : After-branch-visit) → search_at (hall_of c.self.inside.book 
 goes_there c = c.in-Ok.ensures.here ∙ ap Some (sym c.opened.view_is) ∙ own c.opened.inside.opened_at c.in-Own.is
 
 moves : (c : After-branch-visit) → Moves (hall_of c.self.inside.book c.self.inside.tenants) c.args.who c.args.number (c.visit.new.batch.letters ≡ [])
-    (λ s t. Visits c.args.who c.args.number c.args.most s c.visit.result t c.visit.new.batch.letters) (hall_of c.self.inside.book (c.opened_mut.follows.lender (went c)))
+    (λ s t. Visits c.args.who c.args.number c.args.most s (is_ok c.visit.result) t c.visit.new.batch.letters) (hall_of c.self.inside.book (c.opened_mut.follows.lender (went c)))
 moves c =
     there _ _ _ (goes c) (goes_there c) _ c.visit.new.self (c.opened_mut.follows.holds (went c) (given c.in-Ok.is) c.self.inside.book) (c.visit.new.batch.letters ≡ [])
-    (λ s t. Visits c.args.who c.args.number c.args.most s c.visit.result t c.visit.new.batch.letters) c.visit.ensures.visited
+    (λ s t. Visits c.args.who c.args.number c.args.most s (is_ok c.visit.result) t c.visit.new.batch.letters) c.visit.ensures.visited
 
 -- a search that settled is left out of the index
 indexed : (c : After-branch-visit) (kept : _) →
@@ -80,12 +84,12 @@ indexed c kept keeps =
     indexed_there _ _ _ (goes c) (goes_there c) _ c.visit.new.self (c.opened_mut.follows.holds (went c) (given c.in-Ok.is) c.self.inside.book) c.self.inside.busy kept
     (let (n, within, works, whole) = c.visit.ensures.visited in unsettled_before_work c.args.who c.args.number c.in-Own.search n c.visit.new.batch.letters c.visit.new.self works)
     keeps c.self.invariant
-    (visits_soundly _ c.args.who c.args.number c.args.most c.visit.new.batch.letters c.visit.result _ (moves c) c.self.invariant.sound)
+    (visits_soundly _ c.args.who c.args.number c.args.most c.visit.new.batch.letters (is_ok c.visit.result) _ (moves c) c.self.invariant.sound)
 
 -- the visit that is made
-made : (c : After-branch-visit) → IsVisited c.args.who c.args.number c.args.most (hall_of c.self.inside.book c.self.inside.tenants) c.visit.result
+made : (c : After-branch-visit) → IsVisited c.args.who c.args.number c.args.most (hall_of c.self.inside.book c.self.inside.tenants) (is_ok c.visit.result)
     (hall_of c.self.inside.book (c.opened_mut.follows.lender (went c))) c.visit.new.batch.letters
-made c = visits_as _ c.args.who c.args.number c.args.most c.visit.new.batch.letters c.visit.result _ (moves c)
+made c = visits_as _ c.args.who c.args.number c.args.most c.visit.new.batch.letters (is_ok c.visit.result) _ (moves c)
 
 pub invariant_of-self-in_err-visit : goal.invariant_of-self-in_err-visit
 invariant_of-self-in_err-visit c = indexed c.before.before c.self.inside.busy (λ name k listed. inr listed)
@@ -94,7 +98,8 @@ pub returns-in_err-visit : goal.returns-in_err-visit
 returns-in_err-visit c =
     let p = err_from_is_err_and c.from_residual.result c.from_residual.ensures.1 in
     rw (p.1, ← c.self.view_is) record {
-      visited = visited_nothing c.args.who c.args.number c.args.most _ c.visit.result _ c.visit.new.batch.letters (made c.before.before) _ (Err p.0) c.in_err-visit.was refl;
+      visited = visited_as c.args.who c.args.number c.args.most _ _ false _ c.visit.new.batch.letters (ap is_ok c.in_err-visit.was) (made c.before.before);
+      stands = tt;
       only_memory = p.2;
       bound = c.visit.ensures.bound;
       looked = c.visit.ensures.looked;
@@ -106,8 +111,10 @@ invariant_of-self-2 c = indexed c.before.before.before.before c.settle.new.busy 
 
 pub returns : goal.returns
 returns c =
+    let d = c.before.before.before.before in
     rw (← c.self.view_is) record {
-      visited = visited_well c.args.who c.args.number c.args.most _ c.visit.result _ c.visit.new.batch.letters (made c.before.before.before.before) Fault c.in_ok-visit.was;
+      visited = visited_as c.args.who c.args.number c.args.most _ _ true _ c.visit.new.batch.letters (ap is_ok c.in_ok-visit.was) (made d);
+      stands = stands_there _ _ _ (goes d) (goes_there d) _ c.visit.new.self (c.opened_mut.follows.holds (went d) (given c.in-Ok.is) c.self.inside.book) c.settle.result c.settle.ensures.stands;
       only_memory = tt;
       bound = c.visit.ensures.bound;
       looked = c.visit.ensures.looked;

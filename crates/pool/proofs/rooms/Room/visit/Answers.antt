@@ -1,4 +1,5 @@
 use Rattle.std.proofs.Common.{◌∙◌, ap, length, sym, subst}
+use Rattle.std.specs.Result.{is_ok}
 use Rattle.hall.specs.Hall.{HallState}
 use Rattle.hall.specs.Visits.{IsVisited}
 use Rattle.pool.specs.Rooms.{RoomState}
@@ -9,7 +10,7 @@ use Rattle.pool.proofs.rooms.Room.visit.Goals as goal
 pub invariant_of-self : goal.invariant_of-self
 invariant_of-self g c = (
   c.self.invariant.0
-      ∙ ap length (sym (visited_journal c.args.who c.args.number BATCH c.self.inside.hall c.visit.result c.visit.new.self c.visit.new.batch.letters c.visit.ensures.visited)),
+      ∙ ap length (sym (visited_journal c.args.who c.args.number BATCH c.self.inside.hall (is_ok c.visit.result) c.visit.new.self c.visit.new.batch.letters c.visit.ensures.visited)),
   c.self.invariant.1,
   c.self.invariant.2,
   c.self.invariant.3,
@@ -18,8 +19,9 @@ invariant_of-self g c = (
 
 pub returns : goal.returns
 returns g c = record {
-  visited = subst (λ (h : HallState). IsVisited c.args.who c.args.number BATCH h c.visit.result c.visit.new.self c.visit.new.batch.letters) (ap (λ (r : RoomState). r.hall) c.self.view_is)
+  visited = subst (λ (h : HallState). IsVisited c.args.who c.args.number BATCH h (is_ok c.visit.result) c.visit.new.self c.visit.new.batch.letters) (ap (λ (r : RoomState). r.hall) c.self.view_is)
       c.visit.ensures.visited;
+  stands = c.visit.ensures.stands;
   room = ap (λ (r : RoomState). record r { hall = c.visit.new.self }) c.self.view_is;
   looked = c.visit.ensures.looked;
   space = c.visit.ensures.room;

@@ -1,5 +1,6 @@
-use Rattle.std.proofs.Common.{◌≡◌, ◌∙◌, ◌<◌, ◌+◌, ap, Option, length, sym, subst, vec_capacity}
+use Rattle.std.proofs.Common.{◌≡◌, ◌<◌, ◌+◌, ap, Option, length, sym, subst, vec_capacity}
 use Rattle.search.specs.declared.batches.NamedSearch.{NamedSearch}
+use Rattle.search.specs.declared.queries.Hint.{Hint}
 use Rattle.search.specs.Batches.{BatchState, IsBatch}
 use Rattle.search.specs.Need.{right_hint}
 use Rattle.snapshots.specs.Snapshot.{SnapshotState}
@@ -12,19 +13,23 @@ returns c =
     let n = c.self.inside.looked in
     let room = vec_capacity c.self.inside.held_letters in
     let e = c.index_mut-held_letter.result.now in
+    let hint : Hint = right_hint c.deref.result.now.vaults e.need in
     let within : n < length es = within_held c.self.inside.of c.in-Some.of es n c.in-Some.is (subst (λ (b : BatchState). b.looked < length b.letters) (sym c.self.view_is) c.requires) in
-    let changed = with_hint c.in-Some.of es n room e c.look_up-held_letter.result c.index_mut-held_letter.ensures.value within in
-    subst (λ (b : BatchState). batch c.self.inside.of changed (n + 1) room ≡ record b { looked = b.looked + 1 }) c.self.view_is
+    let changed = with_hint c.in-Some.of es n room e hint c.index_mut-held_letter.ensures.value within in
+    rw (c.look_up.ensures)
+    (subst (λ (b : BatchState). batch c.self.inside.of changed (n + 1) room ≡ record b { looked = b.looked + 1 }) c.self.view_is
     (subst (λ (o : Option NamedSearch). batch o changed (n + 1) room ≡ record (batch o es n room) { looked = n + 1 }) (sym c.in-Some.is)
-    (looked_up_batch c.in-Some.of es n room e c.look_up-held_letter.result c.index_mut-held_letter.ensures.value within))
+    (looked_up_batch c.in-Some.of es n room e hint c.index_mut-held_letter.ensures.value within)))
 
 pub invariant_of-self : goal.invariant_of-self
 invariant_of-self c =
     let es = c.self.inside.held_letters.items in
     let n = c.self.inside.looked in
+    let room = vec_capacity c.self.inside.held_letters in
     let e = c.index_mut-held_letter.result.now in
-    let hint = c.look_up-held_letter.result in
+    let hint : Hint = right_hint c.deref.result.now.vaults e.need in
     let within : n < length es = within_held c.self.inside.of c.in-Some.of es n c.in-Some.is (subst (λ (b : BatchState). b.looked < length b.letters) (sym c.self.view_is) c.requires) in
-    let right = c.look_up-held_letter.ensures ∙ ap (λ (s : SnapshotState). right_hint s.vaults e.need) c.deref.ensures in
-    subst (λ (o : Option NamedSearch). IsBatch o (with_hint c.in-Some.of es n (vec_capacity c.self.inside.held_letters) e hint c.index_mut-held_letter.ensures.value within) (n + 1)) (sym c.in-Some.is)
-    (looked_up_more c.in-Some.of es n (vec_capacity c.self.inside.held_letters) e hint c.index_mut-held_letter.ensures.value within right (subst (λ (o : Option NamedSearch). IsBatch o es n) c.in-Some.is c.self.invariant))
+    let right = ap (λ (s : SnapshotState). right_hint s.vaults e.need) c.deref.ensures in
+    rw (c.look_up.ensures)
+    (subst (λ (o : Option NamedSearch). IsBatch o (with_hint c.in-Some.of es n room e hint c.index_mut-held_letter.ensures.value within) (n + 1)) (sym c.in-Some.is)
+    (looked_up_more c.in-Some.of es n room e hint c.index_mut-held_letter.ensures.value within right (subst (λ (o : Option NamedSearch). IsBatch o es n) c.in-Some.is c.self.invariant)))

@@ -1,5 +1,5 @@
 -- A held letter is finished with a hint that is right for it, and waits again with another.
-use Rattle.std.proofs.Common.{◌∙◌, ◌≡◌, ◌↔◌, ◌<◌, length, IsTrue, Option, false, sym, ap, subst}
+use Rattle.std.proofs.Common.{option_copied, ◌∙◌, ◌≡◌, ◌↔◌, ◌<◌, length, IsTrue, Option, false, sym, ap, subst}
 use Rattle.std.proofs.lemmas.Bool.{false≢true}
 use Rattle.credential_text.specs.declared.exprs.Expr.{Expr}
 use Rattle.cred_graph.specs.GraphState.{GraphState, IsNode}
@@ -17,13 +17,13 @@ use Rattle.search.proofs.Searching.{held_awaits, marked_stage_kept}
 use Rattle.search.proofs.Answered.{held_outstanding}
 use Rattle.search.proofs.Ended.{same_question, settles}
 use Rattle.search.proofs.Finishing.{held_letter_is, finishes_rightly, rightly, span_for, wrongly}
-use Rattle.search.proofs.searches.Search.finish.Goals as goal
-use Rattle.search.proofs.searches.Search.finish.Goals.{After-hint_is_right}
+use Rattle.search.proofs.searches.Search.finish_by.Goals as goal
+use Rattle.search.proofs.searches.Search.finish_by.Goals.{After-hint_is_right}
 
 -- the hint is right just where it is so of what the search has found
-right_here : (c : After-hint_is_right) → IsTrue c.hint_is_right.result ↔ ((e : Expr) → IsNode c.self.inside.found.graph c.in-Some.held.to e → c.args.hint ≡ right_hint c.deref.result.now.vaults (need_of e (load_at c.self.inside.found.graph.nodes c.in-Some.held.load)))
+right_here : (c : After-hint_is_right) → IsTrue c.hint_is_right.result ↔ ((e : Expr) → IsNode c.self.inside.found.graph c.in-Some.held.to e → c.args.hint.now ≡ right_hint c.deref.result.now.vaults (need_of e (load_at c.self.inside.found.graph.nodes c.in-Some.held.load)))
 right_here c =
-    subst (λ (g : GraphState). IsTrue c.hint_is_right.result ↔ ((e : Expr) → IsNode g c.in-Some.held.to e → c.args.hint ≡ right_hint c.deref.result.now.vaults (need_of e (load_at g.nodes c.in-Some.held.load)))) c.graph.ensures c.hint_is_right.ensures.right
+    subst (λ (g : GraphState). IsTrue c.hint_is_right.result ↔ ((e : Expr) → IsNode g c.in-Some.held.to e → c.args.hint.now ≡ right_hint c.deref.result.now.vaults (need_of e (load_at g.nodes c.in-Some.held.load)))) c.graph.ensures c.hint_is_right.ensures.right
 
 pub hint_is_right-requires : goal.hint_is_right-requires
 hint_is_right-requires c =
@@ -39,8 +39,8 @@ invariant_of-self c = (
 pub returns-then-not-hint_is_right-clause-finishes : goal.returns-then-not-hint_is_right-clause-finishes
 returns-then-not-hint_is_right-clause-finishes c =
     let s = the_view c.self.inside in
-    subst (λ (x : SearchState). Finishes x (record s { stage = (stage_at c.self.inside.found.graph.nodes c.wait_again.new.stage) }) c.args.letter c.args.hint finished.BadHint) c.self.view_is
-    (wrongly s c.args.letter c.args.hint (held_at c.self.inside.found.graph.nodes c.in-Some.held) c.deref.result.now (stage_at c.self.inside.found.graph.nodes c.wait_again.new.stage) c.deref.ensures (c.in-Some.ensures.held c.self.inside.found.graph.nodes)
+    subst (λ (x : SearchState). Finishes x (record s { stage = (stage_at c.self.inside.found.graph.nodes c.wait_again.new.stage) }) c.args.letter c.args.hint.now finished.BadHint) c.self.view_is
+    (wrongly s c.args.letter c.args.hint.now (held_at c.self.inside.found.graph.nodes c.in-Some.held) c.deref.result.now (stage_at c.self.inside.found.graph.nodes c.wait_again.new.stage) c.deref.ensures (c.in-Some.ensures.held c.self.inside.found.graph.nodes)
     (node_in (held_awaits s c.self.invariant.0.rules c.args.letter (held_at c.self.inside.found.graph.nodes c.in-Some.held) (c.in-Some.ensures.held c.self.inside.found.graph.nodes)))
     (λ right. false≢true (sym c.if-not-hint_is_right.true ∙ (right_here (goal.at.returns-then-not-hint_is_right-clause-finishes c).After-hint_is_right).1 right)) (c.wait_again.ensures.waits c.self.inside.found.graph.nodes))
 
@@ -49,17 +49,17 @@ receive_held-requires-clause-held c = subst (λ (x : SearchState). HoldsLetter x
 
 pub receive_held-requires-clause-span : goal.receive_held-requires-clause-span
 receive_held-requires-clause-span c =
-    subst (λ (x : SearchState). (e : Expr) → IsNode x.graph c.in-Some.held.to e → IsSpanFor x.snapshot.vaults e c.span.result) c.self.view_is
+    subst (λ (x : SearchState). (e : Expr) → IsNode x.graph c.in-Some.held.to e → IsSpanFor x.snapshot.vaults e (option_copied c.span.result)) c.self.view_is
     (λ e at. subst (λ (o : Option Span). IsSpanFor (the_view c.self.inside).snapshot.vaults e o) (sym c.span.ensures)
-    (span_for (the_view c.self.inside).snapshot.vaults e (load_at c.self.inside.found.graph.nodes c.in-Some.held.load) c.args.hint
+    (span_for (the_view c.self.inside).snapshot.vaults e (load_at c.self.inside.found.graph.nodes c.in-Some.held.load) c.args.hint.now
     ((right_here (goal.at.receive_held-requires-clause-span c).After-hint_is_right).0 c.if-not-hint_is_right.false e at ∙ ap (λ (v : SnapshotState). right_hint v.vaults (need_of e (load_at c.self.inside.found.graph.nodes c.in-Some.held.load))) c.deref.ensures)))
 
 pub returns-clause-finishes : goal.returns-clause-finishes
 returns-clause-finishes c =
     let s = the_view c.self.inside in
-    let right = rightly s c.args.letter c.args.hint (held_at c.self.inside.found.graph.nodes c.in-Some.held) c.deref.result.now c.deref.ensures (c.in-Some.ensures.held c.self.inside.found.graph.nodes) ((right_here (goal.at.returns-clause-finishes c).After-hint_is_right).0 c.if-not-hint_is_right.false) in
-    finishes_rightly c.args.self.now c.receive_held.new.self c.args.letter c.args.hint (letter_in (held_at c.args.self.now.graph.nodes c.in-Some.held))
-    (subst (λ (x : SearchState). IsRightly x c.args.letter c.args.hint (letter_in (held_at x.graph.nodes c.in-Some.held))) c.self.view_is right) c.receive_held.result c.receive_held.ensures.receives
+    let right = rightly s c.args.letter c.args.hint.now (held_at c.self.inside.found.graph.nodes c.in-Some.held) c.deref.result.now c.deref.ensures (c.in-Some.ensures.held c.self.inside.found.graph.nodes) ((right_here (goal.at.returns-clause-finishes c).After-hint_is_right).0 c.if-not-hint_is_right.false) in
+    finishes_rightly c.args.self.now c.receive_held.new.self c.args.letter c.args.hint.now (letter_in (held_at c.args.self.now.graph.nodes c.in-Some.held))
+    (subst (λ (x : SearchState). IsRightly x c.args.letter c.args.hint.now (letter_in (held_at x.graph.nodes c.in-Some.held))) c.self.view_is right) c.receive_held.result c.receive_held.ensures.receives
 
 pub returns-then-not-hint_is_right-clause-settles : goal.returns-then-not-hint_is_right-clause-settles
 returns-then-not-hint_is_right-clause-settles c =
