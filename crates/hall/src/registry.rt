@@ -65,7 +65,8 @@ impl Hall {
     ghost use Rattle.std.specs.Prelude.{◌≤◌, MatchOption, is_ok};
     ghost use Rattle.{std.specs.Arc.arc_value, hall.specs.Run.waits};
     ghost use Rattle.search.specs.Batches.{IsEmpty, IsLookedUp, AreOf};
-    ghost use Rattle.hall.specs.Visits.{IsTaken, IsVisited, StandsAt, StandsNamed, AreHandedIn, SearchIsQuiet, IsCompletedAt, NoneIsCompletedAt};
+    ghost use Rattle.hall.specs.Visits.{IsTaken, IsVisited, StandsAt, StandsNamed, AreHandedIn, SearchIsQuiet};
+    ghost use Rattle.hall.specs.Visits.{IsCompletedAt, NoneIsCompletedAt};
 
     /// The hall of these tenants, where nothing was done yet.
     pub fn make(alloc: Global, roster: Vec<(Entity, Limits)>) -> Result<Hall, Fault>
