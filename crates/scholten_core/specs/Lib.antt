@@ -3,6 +3,7 @@ pub mod Computation
 pub mod Kept
 pub mod LetterTable
 pub mod Named
+pub mod Numbers
 pub mod Settled
 pub mod Sound
 pub mod Step

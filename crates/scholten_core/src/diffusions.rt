@@ -86,6 +86,7 @@ impl<P: Drop> Diffusion<P> {
     }
 
     /// The letter of that number, where it waits or is held.
+    #[inline(always)]
     pub fn letter(&self, number: u64) -> Option<&Letter<P>>
         ensures letter { option_copied result ≡ letter_of self.now number }
         ensures by_number { StandByNumber self.now }
@@ -155,6 +156,7 @@ impl<P: Drop> Diffusion<P> {
     {
         self.letters.reserve(outs.len())?;
         self.signals.reserve(1)?;
+        self.letters.turn_to(number);
         let letter = self.letters.get(number).unwrap();
         let (from, to) = (letter.from, letter.to);
         let by = receive(&mut self.nodes, from, to, outs.len() as u64)?;
@@ -179,10 +181,19 @@ impl<P: Drop> Diffusion<P> {
         ensures { self.new ≡ self.old }
     {
         if self.is_complete() {
-            self.letters.give_back();
-            self.signals.shrink_to_fit();
-            self.nodes.shrink_to_fit();
+            self.shrink();
         }
+    }
+
+    // Gives back the memory that nothing takes.
+    #[cold]
+    #[inline(never)]
+    fn shrink(&mut self)
+        ensures { self.new ≡ self.old }
+    {
+        self.letters.give_back();
+        self.signals.shrink_to_fit();
+        self.nodes.shrink_to_fit();
     }
 
     /// Whether nothing is outstanding.

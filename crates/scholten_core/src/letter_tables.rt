@@ -5,16 +5,20 @@ ghost use Rattle.indexmap.specs.IndexMap.{index_map_len};
 ghost use Rattle.scholten_core.specs.LetterTable.{count, does_wait, is_of, last_hole, WaitsAt};
 
 use crate::letters::Letter;
+use crate::numbers::NumberHasher;
 use crate::parents::Parent;
 use crate::slots::Slot;
 use indexmap::IndexMap;
 use std::alloc::{AllocError, Global};
 use std::collections::VecDeque;
+use std::hash::BuildHasherDefault;
 use std::marker::Model;
+
+type Numbered<P> = IndexMap<u64, Slot<P>, BuildHasherDefault<NumberHasher>>;
 
 /// The letters that wait or are held, by number, in order of number. A letter that is finished leaves a hole, so that
 /// the others keep their places. Holes at the end are popped when the last letter is finished; all of them are dropped
-/// where room lacks and they are at least an eighth of the entries.
+/// where room lacks and they are at least an eighth of the entries, or half where these are few.
 #[derive(Drop)]
 pub(crate) struct LetterTable<P> {
     // How many letters were ever sent, the number of the last one.
@@ -25,12 +29,18 @@ pub(crate) struct LetterTable<P> {
     first: usize,
     // From this place on none waits.
     last: usize,
-    // Where the letter stands, or stood, that was taken last.
+    // Where the letter stands, or stood, that was taken or turned to last.
     hand: usize,
-    letters: IndexMap<u64, Slot<P>>,
+    letters: Numbered<P>,
 }
 
-fn ends_in_hole<P>(letters: &IndexMap<u64, Slot<P>>) -> bool
+/// Room for so many letters is made at once.
+const FIRST_ROOM: usize = 32;
+
+/// A table of fewer entries drops its holes where they are half of them: to move letters costs more there than the bytes.
+const FEW: usize = 128;
+
+fn ends_in_hole<P>(letters: &Numbered<P>) -> bool
     ensures { result ≡ last_hole (slice_get letters.now.entries (index_map_len letters.now - 1)) }
 {
     match letters.last() {
@@ -39,7 +49,8 @@ fn ends_in_hole<P>(letters: &IndexMap<u64, Slot<P>>) -> bool
     }
 }
 
-fn stands_at<P>(letters: &IndexMap<u64, Slot<P>>, at: usize, number: u64) -> bool
+#[inline(always)]
+fn stands_at<P>(letters: &Numbered<P>, at: usize, number: u64) -> bool
     ensures { result ≡ is_of number (slice_get letters.now.entries at) }
 {
     match letters.get_index(at) {
@@ -50,7 +61,7 @@ fn stands_at<P>(letters: &IndexMap<u64, Slot<P>>, at: usize, number: u64) -> boo
 
 // Where the number's entry stands. Most often it is the letter at hand.
 #[inline(always)]
-fn place_of<P>(letters: &IndexMap<u64, Slot<P>>, hand: usize, number: u64) -> Option<usize>
+fn place_of<P>(letters: &Numbered<P>, hand: usize, number: u64) -> Option<usize>
     ensures found { is_some result ≡ is_some (lookup (nat_eq number) letters.now.entries) }
     ensures place { IfSome result (λ at. slice_get (keys_of letters.now.entries) at ≡ Some number) }
     ensures within { IfSome result (λ at. at < index_map_len letters.now) }
@@ -63,7 +74,8 @@ fn place_of<P>(letters: &IndexMap<u64, Slot<P>>, hand: usize, number: u64) -> Op
 }
 
 // The same, with one place tried before the table's index: where it stands if no number lacks between it and the one at hand.
-fn place_near<P>(letters: &IndexMap<u64, Slot<P>>, hand: usize, number: u64) -> Option<usize>
+#[inline(never)]
+fn place_near<P>(letters: &Numbered<P>, hand: usize, number: u64) -> Option<usize>
     ensures found { is_some result ≡ is_some (lookup (nat_eq number) letters.now.entries) }
     ensures place { IfSome result (λ at. slice_get (keys_of letters.now.entries) at ≡ Some number) }
     ensures within { IfSome result (λ at. at < index_map_len letters.now) }
@@ -78,7 +90,7 @@ fn place_near<P>(letters: &IndexMap<u64, Slot<P>>, hand: usize, number: u64) -> 
 }
 
 // Where the waiting letter at that place stands, sought from a place on before which none waits.
-fn seek_on<P>(letters: &IndexMap<u64, Slot<P>>, first: usize, place: u64) -> usize
+fn seek_on<P>(letters: &Numbered<P>, first: usize, place: u64) -> usize
     requires none { count does_wait (take first letters.now.entries) ≡ 0 }
     requires there { place < count does_wait letters.now.entries }
     ensures { WaitsAt letters.now.entries place result }
@@ -97,7 +109,7 @@ fn seek_on<P>(letters: &IndexMap<u64, Slot<P>>, first: usize, place: u64) -> usi
 }
 
 // Where the waiting letter that so many others follow stands, sought from a place back from which on none waits.
-fn seek_back<P>(letters: &IndexMap<u64, Slot<P>>, last: usize, follow: u64) -> usize
+fn seek_back<P>(letters: &Numbered<P>, last: usize, follow: u64) -> usize
     requires within { last ≤ index_map_len letters.now }
     requires there { follow < count does_wait (take last letters.now.entries) }
     ensures { WaitsAt letters.now.entries (count does_wait (take last letters.now.entries) - follow - 1) result }
@@ -116,13 +128,7 @@ fn seek_back<P>(letters: &IndexMap<u64, Slot<P>>, last: usize, follow: u64) -> u
 }
 
 // Where the waiting letter at that place stands, which so many others follow, sought from the nearer end.
-fn seek<P>(
-    letters: &IndexMap<u64, Slot<P>>,
-    first: usize,
-    last: usize,
-    place: u64,
-    follow: u64,
-) -> usize
+fn seek<P>(letters: &Numbered<P>, first: usize, last: usize, place: u64, follow: u64) -> usize
     requires none { count does_wait (take first letters.now.entries) ≡ 0 }
     requires all { count does_wait (take last letters.now.entries) ≡ count does_wait letters.now.entries }
     requires within { last ≤ index_map_len letters.now }
@@ -158,7 +164,7 @@ impl<P: Drop> LetterTable<P> {
     ghost use Rattle.scholten_core.specs.Computation.{IsHeldIn, same_parent, waiting_in};
     ghost use Rattle.scholten_core.specs.Step.{mark, numbered};
 
-    /// No letter, with room for one.
+    /// No letter, with room for the first ones.
     pub(crate) fn new(alloc: Global) -> Result<Self, AllocError>
         ensures sent { IfOk result (λ t. t.sent ≡ 0) }
         ensures letters { IfOk result (λ t. t.letters ≡ []) }
@@ -171,7 +177,11 @@ impl<P: Drop> LetterTable<P> {
             first: 0,
             last: 0,
             hand: 0,
-            letters: IndexMap::with_capacity(alloc, 1)?,
+            letters: IndexMap::with_capacity_and_hasher(
+                alloc,
+                FIRST_ROOM,
+                BuildHasherDefault::new(),
+            )?,
         })
     }
 
@@ -193,6 +203,16 @@ impl<P: Drop> LetterTable<P> {
     {
         let at = place_of(&self.letters, self.hand, number)?;
         self.letters[at].letter()
+    }
+
+    /// Turns to the letter of that number, so that it is at hand.
+    #[inline(always)]
+    pub(crate) fn turn_to(&mut self, number: u64)
+        ensures { self.new ≡ self.old }
+    {
+        if let Some(at) = place_of(&self.letters, self.hand, number) {
+            self.hand = at;
+        }
     }
 
     /// Takes the waiting letter at that place, in order of number, and answers its number.
@@ -227,8 +247,8 @@ impl<P: Drop> LetterTable<P> {
         self.last = self.last.max(at + 1);
     }
 
-    /// Makes room for so many letters more. Where it lacks and at least an eighth of the entries are holes, these are dropped
-    /// before the table grows. So some seven letters at most are moved for each hole that is dropped.
+    /// Makes room for so many letters more. Where it lacks and enough of the entries are holes, these are dropped before the
+    /// table grows. So some seven letters at most are moved for each hole that is dropped.
     pub(crate) fn reserve(&mut self, count: usize) -> Result<(), AllocError>
         ensures room { OnOk result (count ≤ self.new.room) }
         ensures letters { self.new.letters ≡ self.old.letters }
@@ -248,10 +268,11 @@ impl<P: Drop> LetterTable<P> {
         self.letters.shrink_to_fit();
     }
 
-    // Whether room lacks for so many letters more, and at least an eighth of the entries are holes.
+    // Whether room lacks for so many letters more, and at least an eighth of the entries are holes, or half of a few.
     fn should_drop_holes(&self, count: usize) -> bool {
         let len = self.letters.len();
-        self.letters.capacity() - len < count && self.holes >= len / 8
+        let share = if len < FEW { 2 } else { 8 };
+        self.letters.capacity() - len < count && self.holes >= len / share
     }
 
     /// Sends letters that wait, where there is room for them.

@@ -10,6 +10,7 @@ mod diffusions;
 mod engagement;
 mod letter_tables;
 mod letters;
+mod numbers;
 mod parents;
 mod signals;
 mod slots;
