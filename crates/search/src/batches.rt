@@ -32,10 +32,7 @@ impl HeldLetter {
     fn look_up(&mut self, snapshot: &Snapshot)
         ensures { self.new ≡ record self.old { hint = right_hint snapshot.now.vaults self.old.need } }
     {
-        match &self.need {
-            Need::Rows(role) => self.hint = Hint::Rows(snapshot.find(role)),
-            Need::Nothing => self.hint = Hint::Nothing,
-        }
+        self.hint = self.need.look_up(snapshot);
     }
 }
 

@@ -1,11 +1,11 @@
-ghost use Rattle.std.specs.Prelude.{◌≡◌, ◌<◌, ◌≤◌, ◌↔◌, ℕ, List, true, false, [], None, Some, length, option_copied, slice_get};
+ghost use Rattle.std.specs.Prelude.{◌≡◌, ◌<◌, ◌≤◌, ◌↔◌, List, true, false, None, Some, length, option_copied, slice_get};
 ghost use Rattle.std.specs.Prelude.{IsTrue, IfOk, IfSome, OnErr, MatchOption};
 ghost use Rattle.std.specs.Arc.{arc_value};
 ghost use Rattle.names.specs.declared.roles.Role.{Role};
 ghost use Rattle.credential_text.specs.declared.exprs.Expr.{Expr};
 ghost use Rattle.rt0_rules.specs.Membership.{AreMembers};
 ghost use Rattle.rt0_rules.specs.FixedPoint.{IsExact};
-ghost use Rattle.cred_graph.specs.GraphState.{GraphState, IsNode, Known};
+ghost use Rattle.cred_graph.specs.GraphState.{IsNode, Known};
 ghost use Rattle.scholten_core.specs.declared.letters.Letter.{Letter};
 ghost use Rattle.scholten_core.specs.Computation.{Computation, IsHeld};
 ghost use Rattle.search.specs.Net.{Said};
@@ -235,7 +235,7 @@ impl Search {
             return Finished::NotHeld;
         };
         if !hint_is_right(self.found.graph(), &self.snapshot, &held, hint) {
-            wait_again(&mut self.stage, letter);
+            self.put_back(letter);
             return Finished::BadHint;
         }
         self.receive_held(letter, &held, hint.span())

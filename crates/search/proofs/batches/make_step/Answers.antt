@@ -1,4 +1,4 @@
-use Rattle.std.proofs.Common.{◌≡◌, ◌∙◌, ◌∷◌, [], arith, map, ap, sym, subst, refl, inl, inr, option_copied}
+use Rattle.std.proofs.Common.{◌∙◌, ◌∷◌, [], arith, map, ap, sym, subst, refl, inl, inr, option_copied}
 use Rattle.std.proofs.lemmas.List.{map-append}
 use Rattle.search.specs.declared.batches.HeldLetter.{HeldLetter}
 use Rattle.search.specs.declared.queries.Hint.TheVariants.{Nothing}

@@ -1,21 +1,20 @@
 -- A held letter is finished with a hint that is right for it, and waits again with another.
-use Rattle.std.proofs.Common.{option_copied, ◌∙◌, ◌≡◌, ◌↔◌, ◌<◌, length, IsTrue, Option, false, sym, ap, subst}
-use Rattle.std.proofs.lemmas.Bool.{false≢true}
+use Rattle.std.proofs.Common.{refl, Some, option_copied, ◌∙◌, ◌≡◌, ◌↔◌, ◌<◌, length, IsTrue, Option, false, sym, ap, subst}
+use Rattle.std.proofs.lemmas.Bool.{false≢true, true_from_ne_false}
+use Rattle.std.proofs.lemmas.Option.{none-some}
 use Rattle.credential_text.specs.declared.exprs.Expr.{Expr}
 use Rattle.cred_graph.specs.GraphState.{GraphState, IsNode}
 use Rattle.snapshots.specs.declared.spans.Span.{Span}
 use Rattle.snapshots.specs.Snapshot.{SnapshotState}
 use Rattle.search.specs.declared.outcomes.Finished.TheVariants as finished
-use Rattle.search.specs.Stage.{HoldsLetter, letter_in}
+use Rattle.search.specs.Stage.{HoldsLetter, held_in, letter_in, stage_marked}
 use Rattle.search.specs.Search.{SearchState}
-use Rattle.search.specs.Numbered.{IsLoad, held_at, load_at, stage_at}
+use Rattle.search.specs.Numbered.{IsLoad, held_at, load_at}
 use Rattle.search.specs.Need.{IsSpanFor, need_of, right_hint}
 use Rattle.search.specs.Finish.{IsRightly, Finishes}
 use Rattle.search.specs.contracts.searches.Search.{the_view}
 use Rattle.search.proofs.Arms.{node_in}
-use Rattle.search.proofs.Searching.{held_awaits, marked_stage_kept}
-use Rattle.search.proofs.Answered.{held_outstanding}
-use Rattle.search.proofs.Ended.{same_question, settles}
+use Rattle.search.proofs.Searching.{held_awaits}
 use Rattle.search.proofs.Finishing.{held_letter_is, finishes_rightly, rightly, span_for, wrongly}
 use Rattle.search.proofs.searches.Search.finish_by.Goals as goal
 use Rattle.search.proofs.searches.Search.finish_by.Goals.{After-hint_is_right}
@@ -30,19 +29,17 @@ hint_is_right-requires c =
     subst (λ (g : GraphState). c.in-Some.held.to < length g.nodes) (sym c.graph.ensures)
     (node_in (held_awaits (the_view c.self.inside) c.self.invariant.0.rules c.args.letter (held_at c.self.inside.found.graph.nodes c.in-Some.held) (c.in-Some.ensures.held c.self.inside.found.graph.nodes)))
 
-pub invariant_of-self : goal.invariant_of-self
-invariant_of-self c = (
-  marked_stage_kept (the_view c.self.inside) (stage_at c.self.inside.found.graph.nodes c.wait_again.new.stage) c.args.letter false c.self.invariant.0 (c.wait_again.ensures.waits c.self.inside.found.graph.nodes),
-  c.wait_again.ensures.loads c.self.inside.found.graph.nodes c.self.invariant.1,
-)
-
 pub returns-then-not-hint_is_right-clause-finishes : goal.returns-then-not-hint_is_right-clause-finishes
 returns-then-not-hint_is_right-clause-finishes c =
     let s = the_view c.self.inside in
-    subst (λ (x : SearchState). Finishes x (record s { stage = (stage_at c.self.inside.found.graph.nodes c.wait_again.new.stage) }) c.args.letter c.args.hint.now finished.BadHint) c.self.view_is
-    (wrongly s c.args.letter c.args.hint.now (held_at c.self.inside.found.graph.nodes c.in-Some.held) c.deref.result.now (stage_at c.self.inside.found.graph.nodes c.wait_again.new.stage) c.deref.ensures (c.in-Some.ensures.held c.self.inside.found.graph.nodes)
-    (node_in (held_awaits s c.self.invariant.0.rules c.args.letter (held_at c.self.inside.found.graph.nodes c.in-Some.held) (c.in-Some.ensures.held c.self.inside.found.graph.nodes)))
-    (λ right. false≢true (sym c.if-not-hint_is_right.true ∙ (right_here (goal.at.returns-then-not-hint_is_right-clause-finishes c).After-hint_is_right).1 right)) (c.wait_again.ensures.waits c.self.inside.found.graph.nodes))
+    let held = c.in-Some.ensures.held c.self.inside.found.graph.nodes in
+    let there = subst (λ (x : SearchState). held_in x.stage c.args.letter ≡ Some (letter_in (held_at c.self.inside.found.graph.nodes c.in-Some.held))) c.self.view_is (held_letter_is s.stage c.args.letter (held_at c.self.inside.found.graph.nodes c.in-Some.held) held) in
+    let waits = c.put_back.ensures.waits (true_from_ne_false c.put_back.result (λ no. none-some _ (sym (c.put_back.ensures.held no) ∙ there))) in
+    subst (λ (x : SearchState). Finishes c.args.self.now x c.args.letter c.args.hint.now finished.BadHint) (sym waits.1)
+    (subst (λ (x : SearchState). Finishes x (record x { stage = stage_marked c.args.letter false x.stage }) c.args.letter c.args.hint.now finished.BadHint) c.self.view_is
+    (wrongly s c.args.letter c.args.hint.now (held_at c.self.inside.found.graph.nodes c.in-Some.held) c.deref.result.now (stage_marked c.args.letter false s.stage) c.deref.ensures held
+    (node_in (held_awaits s c.self.invariant.0.rules c.args.letter (held_at c.self.inside.found.graph.nodes c.in-Some.held) held))
+    (λ right. false≢true (sym c.if-not-hint_is_right.true ∙ (right_here (goal.at.returns-then-not-hint_is_right-clause-finishes c).After-hint_is_right).1 right)) refl))
 
 pub receive_held-requires-clause-held : goal.receive_held-requires-clause-held
 receive_held-requires-clause-held c = subst (λ (x : SearchState). HoldsLetter x.stage c.args.letter (held_at x.graph.nodes c.in-Some.held)) c.self.view_is (c.in-Some.ensures.held c.self.inside.found.graph.nodes)
@@ -60,18 +57,6 @@ returns-clause-finishes c =
     let right = rightly s c.args.letter c.args.hint.now (held_at c.self.inside.found.graph.nodes c.in-Some.held) c.deref.result.now c.deref.ensures (c.in-Some.ensures.held c.self.inside.found.graph.nodes) ((right_here (goal.at.returns-clause-finishes c).After-hint_is_right).0 c.if-not-hint_is_right.false) in
     finishes_rightly c.args.self.now c.receive_held.new.self c.args.letter c.args.hint.now (letter_in (held_at c.args.self.now.graph.nodes c.in-Some.held))
     (subst (λ (x : SearchState). IsRightly x c.args.letter c.args.hint.now (letter_in (held_at x.graph.nodes c.in-Some.held))) c.self.view_is right) c.receive_held.result c.receive_held.ensures.receives
-
-pub returns-then-not-hint_is_right-clause-settles : goal.returns-then-not-hint_is_right-clause-settles
-returns-then-not-hint_is_right-clause-settles c =
-    let s = the_view c.self.inside in
-    settles c.self.view_is (same_question s s.graph s.monitors (stage_at c.self.inside.found.graph.nodes c.wait_again.new.stage))
-    (marked_stage_kept s (stage_at c.self.inside.found.graph.nodes c.wait_again.new.stage) c.args.letter false c.self.invariant.0 (c.wait_again.ensures.waits c.self.inside.found.graph.nodes))
-    (held_outstanding s.stage c.args.letter (letter_in (held_at c.self.inside.found.graph.nodes c.in-Some.held)) (held_letter_is s.stage c.args.letter (held_at c.self.inside.found.graph.nodes c.in-Some.held) (c.in-Some.ensures.held c.self.inside.found.graph.nodes)))
-
-pub wait_again-requires : goal.wait_again-requires
-wait_again-requires c =
-    let held = c.in-Some.ensures.held c.self.inside.found.graph.nodes in
-    (c.self.inside.found.graph.nodes, held.running, held.runs, held.held)
 
 pub receive_held-requires-clause-load : goal.receive_held-requires-clause-load
 receive_held-requires-clause-load c =
