@@ -14,7 +14,6 @@ use Rattle.search.proofs.Stays.{waits_none, signals_none}
 use Rattle.hall.specs.declared.faults.Fault.{Fault}
 use Rattle.hall.specs.declared.calls.answers.Answer.{Answer}
 use Rattle.hall.specs.Hall.{HallState, Running, search_at}
-use Rattle.hall.specs.declared.standings.Standing.{Standing}
 use Rattle.hall.specs.declared.standings.Standing.TheVariants.{Over}
 use Rattle.hall.specs.Visits.{SearchIsQuiet, StandsOrGone, StandsAt, NoneIsCompletedAt}
 use Rattle.hall.specs.Kept.{IsUnsettled, IsToldOf, DrivesTo, TakesJob}

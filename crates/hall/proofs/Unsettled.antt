@@ -12,9 +12,6 @@ use Rattle.indexmap.specs.IndexMap as table
 use Rattle.indexmap.specs.IndexSet.{IndexSet, contains}
 use Rattle.indexmap.specs.IndexSet as set
 use Rattle.search.specs.declared.queries.Query.{Query}
-use Rattle.search.specs.declared.outcomes.Status.TheVariants.{Working}
-use Rattle.search.specs.Ending.{Settled, Nothing, Yes, No, Members, Spent, Broken}
-use Rattle.search.specs.Found.{status_of}
 use Rattle.search.specs.Search.{SearchState, Settles, settled_of}
 use Rattle.search.specs.Driven.{IsDriven}
 use Rattle.search.specs.Batches.{TakenLetter, WorksOn, HandsInEach}
@@ -57,15 +54,6 @@ pub unsettled_before_taken : {E : Type 0} (who : List ℕ) (k place : ℕ) (s : 
 unsettled_before_taken who k place s (Ok None) t (none, same, sound) unsettled = subst IsUnsettled same unsettled
 unsettled_before_taken who k place s (Ok (Some job)) t takes unsettled = unsettled_before s t takes.4 unsettled
 unsettled_before_taken who k place s (Err f) t same unsettled = subst IsUnsettled same unsettled
-
--- a search that works has come to nothing yet
-pub works_unsettled : (s : Settled) → status_of s ≡ Working → s ≡ Nothing
-works_unsettled Nothing is = refl
-works_unsettled Yes is = cc
-works_unsettled No is = cc
-works_unsettled (Members names) is = cc
-works_unsettled Spent is = cc
-works_unsettled Broken is = cc
 
 module _ {Z : Type 0} (numbers : IndexSet ℕ Z) where
   -- a number that is put in beside others

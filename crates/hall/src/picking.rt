@@ -52,11 +52,21 @@ pub(crate) fn settle(busy: &mut Busy, who: Entity, number: u64, search: &Search)
     ensures sound { IsSoundStage search.now.stage }
     ensures stands { Stands search.now result }
 {
-    if search.status() != Status::Working {
+    let standing = standing_of(search);
+    if let Standing::Over = standing {
         leave(busy, who, number);
-        return Standing::Over;
     }
-    if search.is_quiet() {
+    standing
+}
+
+/// How the search stands.
+fn standing_of(search: &Search) -> Standing
+    ensures sound { IsSoundStage search.now.stage }
+    ensures stands { Stands search.now result }
+{
+    if search.status() != Status::Working {
+        Standing::Over
+    } else if search.is_quiet() {
         Standing::Rests
     } else {
         Standing::Moves

@@ -1,4 +1,4 @@
-ghost use Rattle.std.specs.Prelude.{◌≡◌, ◌↔◌, ◌+◌, ◌≤◌, [], length, map, vec_len, IfOk, IfErr, IfSome, IfNone, OnOk, OnErr, Contains};
+ghost use Rattle.std.specs.Prelude.{◌≡◌, ◌↔◌, ◌+◌, ◌≤◌, length, map, vec_len, IfOk, IfErr, IfSome, IfNone, OnOk, OnErr, Contains};
 ghost use Rattle.std.specs.List.{IsDistinct};
 ghost use Rattle.std.specs.Sync.Mutex.{mutex_guard_value};
 ghost use Rattle.names.specs.Name.{is_same};
@@ -134,7 +134,10 @@ impl<L: Ledger> Desk<L> {
         }
         let ended = ended_by(pass.tenant(), &request);
         let answered = room.serve(pass, request);
-        self.release(room, ended);
+        drop(room);
+        if let Some((who, number)) = ended {
+            self.ring(who, number, Standing::Over);
+        }
         if matches!(answered, Ok(Reply::Opened(_))) {
             self.work.notify_one();
         }
@@ -272,18 +275,6 @@ impl<L: Ledger> Desk<L> {
         self.enter(rt).stop();
         self.over.ring_all();
         self.work.notify_all();
-    }
-
-    /// Gives the lock back, and wakes the callers who wait for this search where it has come to its end, or is there no longer.
-    fn release(&self, room: MutexGuard<'_, Room<L>>, of: Option<(Entity, u64)>) {
-        let Some((who, number)) = of else {
-            return;
-        };
-        let is_over = room.is_over(who, number, 0);
-        drop(room);
-        if is_over {
-            self.over.of(&who, number).notify_all();
-        }
     }
 
     /// For a worker: waits for something to do, does it, and answers what it found. Wakes one worker more if something is left.

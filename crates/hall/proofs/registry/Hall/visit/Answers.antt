@@ -1,4 +1,4 @@
-use Rattle.std.proofs.Common.{◌≡◌, ◌∙◌, ℕ, true, false, List, [], length, arith, Some, Err, ap, sym, subst, refl, inr}
+use Rattle.std.proofs.Common.{◌≡◌, ◌∙◌, ℕ, true, false, List, [], length, arith, Some, ap, sym, subst, refl, inr}
 use Rattle.std.proofs.lemmas.Result.{err_from_is_err_and}
 use Rattle.search.specs.Batches.{TakenLetter, Visits}
 use Rattle.search.specs.Carried.{carried_search}
