@@ -156,7 +156,6 @@ impl<P: Drop> Diffusion<P> {
     {
         self.letters.reserve(outs.len())?;
         self.signals.reserve(1)?;
-        self.letters.turn_to(number);
         let letter = self.letters.get(number).unwrap();
         let (from, to) = (letter.from, letter.to);
         let by = receive(&mut self.nodes, from, to, outs.len() as u64)?;

@@ -18,7 +18,7 @@ type Numbered<P> = IndexMap<u64, Slot<P>, BuildHasherDefault<NumberHasher>>;
 
 /// The letters that wait or are held, by number, in order of number. A letter that is finished leaves a hole, so that
 /// the others keep their places. Holes at the end are popped when the last letter is finished; all of them are dropped
-/// where room lacks and they are at least an eighth of the entries, or half where these are few.
+/// where room lacks and they are a good share of the entries.
 #[derive(Drop)]
 pub(crate) struct LetterTable<P> {
     // How many letters were ever sent, the number of the last one.
@@ -29,7 +29,7 @@ pub(crate) struct LetterTable<P> {
     first: usize,
     // From this place on none waits.
     last: usize,
-    // Where the letter stands, or stood, that was taken or turned to last.
+    // Where the letter stands, or stood, that was taken last.
     hand: usize,
     letters: Numbered<P>,
 }
@@ -37,8 +37,15 @@ pub(crate) struct LetterTable<P> {
 /// Room for so many letters is made at once.
 const FIRST_ROOM: usize = 32;
 
-/// A table of fewer entries drops its holes where they are half of them: to move letters costs more there than the bytes.
-const FEW: usize = 128;
+/// Which share of so many entries has to be holes before these are dropped: where entries are few, to move letters costs
+/// more than their bytes; where they are many, a letter under way takes no more bytes than among a thousand.
+fn share_of_holes(entries: usize) -> usize {
+    match entries {
+        0..128 => entries / 2,
+        128..4096 => entries / 8,
+        _ => entries / 4,
+    }
+}
 
 fn ends_in_hole<P>(letters: &Numbered<P>) -> bool
     ensures { result ≡ last_hole (slice_get letters.now.entries (index_map_len letters.now - 1)) }
@@ -74,7 +81,7 @@ fn place_of<P>(letters: &Numbered<P>, hand: usize, number: u64) -> Option<usize>
 }
 
 // The same, with one place tried before the table's index: where it stands if no number lacks between it and the one at hand.
-#[inline(never)]
+#[inline(always)]
 fn place_near<P>(letters: &Numbered<P>, hand: usize, number: u64) -> Option<usize>
     ensures found { is_some result ≡ is_some (lookup (nat_eq number) letters.now.entries) }
     ensures place { IfSome result (λ at. slice_get (keys_of letters.now.entries) at ≡ Some number) }
@@ -86,6 +93,17 @@ fn place_near<P>(letters: &Numbered<P>, hand: usize, number: u64) -> Option<usiz
             return Some(at);
         }
     }
+    place_in_index(letters, number)
+}
+
+// The same by the table's index.
+#[cold]
+#[inline(never)]
+fn place_in_index<P>(letters: &Numbered<P>, number: u64) -> Option<usize>
+    ensures found { is_some result ≡ is_some (lookup (nat_eq number) letters.now.entries) }
+    ensures place { IfSome result (λ at. slice_get (keys_of letters.now.entries) at ≡ Some number) }
+    ensures within { IfSome result (λ at. at < index_map_len letters.now) }
+{
     letters.get_index_of(&number)
 }
 
@@ -205,16 +223,6 @@ impl<P: Drop> LetterTable<P> {
         self.letters[at].letter()
     }
 
-    /// Turns to the letter of that number, so that it is at hand.
-    #[inline(always)]
-    pub(crate) fn turn_to(&mut self, number: u64)
-        ensures { self.new ≡ self.old }
-    {
-        if let Some(at) = place_of(&self.letters, self.hand, number) {
-            self.hand = at;
-        }
-    }
-
     /// Takes the waiting letter at that place, in order of number, and answers its number.
     pub(crate) fn take(&mut self, place: u64) -> u64
         requires { place < length (waiting_in self.old.letters) }
@@ -268,11 +276,10 @@ impl<P: Drop> LetterTable<P> {
         self.letters.shrink_to_fit();
     }
 
-    // Whether room lacks for so many letters more, and at least an eighth of the entries are holes, or half of a few.
+    // Whether room lacks for so many letters more, and enough of the entries are holes.
     fn should_drop_holes(&self, count: usize) -> bool {
         let len = self.letters.len();
-        let share = if len < FEW { 2 } else { 8 };
-        self.letters.capacity() - len < count && self.holes >= len / share
+        self.letters.capacity() - len < count && self.holes >= share_of_holes(len)
     }
 
     /// Sends letters that wait, where there is room for them.

@@ -1,5 +1,5 @@
 use Rattle.std.proofs.Common.{sym, ◌∙◌}
-use Rattle.scholten_core.proofs.Standing.{found_at, key_there, key_within, number_there}
+use Rattle.scholten_core.proofs.Standing.{found_at, key_within, number_there}
 use Rattle.scholten_core.proofs.letter_tables.place_near.Goals as goal
 
 pub returns-then-stands_at-clause-found : goal.returns-then-stands_at-clause-found
@@ -13,6 +13,3 @@ returns-then-stands_at-clause-place g c =
 pub returns-then-stands_at-clause-within : goal.returns-then-stands_at-clause-within
 returns-then-stands_at-clause-within g c =
     key_within c.args.number c.args.letters.now.entries _ (number_there c.args.number c.args.letters.now.entries _ (sym c.stands_at.ensures ∙ c.if-stands_at.true))
-
-pub returns-clause-place : goal.returns-clause-place
-returns-clause-place g c = rw c.get_index_of.ensures.index (key_there c.args.number c.args.letters.now.entries)

@@ -1,4 +1,4 @@
-use Rattle.std.proofs.Common.{◌≡◌, ℕ, ◌+◌, ◌++◌, ◌==◌, not, filter, option_to_list, refl, sym, ap, subst, ◌∙◌, arith}
+use Rattle.std.proofs.Common.{ℕ, ◌+◌, ◌++◌, ◌==◌, not, filter, option_to_list, refl, sym, ap, subst, ◌∙◌, arith}
 use Rattle.std.proofs.lemmas.Result.{err_from_is_err_and}
 use Rattle.std.specs.Map.{lookup}
 use Rattle.scholten_core.specs.declared.parents.Parent.TheVariants.{Node}
@@ -10,7 +10,7 @@ use Rattle.scholten_core.proofs.Finished.{IsFinishedIn, finished_fields}
 use Rattle.scholten_core.proofs.Steps.{deficit-le-outstanding}
 use Rattle.scholten_core.proofs.diffusions.Diffusion.finish_with.Given.{Over}
 use Rattle.scholten_core.proofs.diffusions.Diffusion.finish_with.Goals as goal
-use Rattle.scholten_core.proofs.diffusions.Diffusion.finish_with.Goals.{After-turn_to, After-send}
+use Rattle.scholten_core.proofs.diffusions.Diffusion.finish_with.Goals.{After-send}
 
 pub returns-in_err-reserve : goal.returns-in_err-reserve
 returns-in_err-reserve g c =
@@ -51,16 +51,9 @@ receive-requires g c =
     let room = rw (← c.self.view_is) at c.requires.room in
     omega (arith, room, keeps.counts to, deficit-le-outstanding (held_in c.self.inside.letters c.self.inside.signals.items c.self.inside.nodes.items) to, keeps.settled.one_each, c.len-2.ensures)
 
--- neither room nor turning to the letter changes what stands there
-letters_kept : (g : Over) (c : After-turn_to g) → c.turn_to.new.self.letters ≡ c.self.inside.letters.letters
-letters_kept g c = ap (λ t. t.letters) c.turn_to.ensures ∙ c.reserve.ensures.letters
-
-sent_kept : (g : Over) (c : After-turn_to g) → c.turn_to.new.self.sent ≡ c.self.inside.letters.sent
-sent_kept g c = ap (λ t. t.sent) c.turn_to.ensures ∙ c.reserve.ensures.sent
-
 pub invariant_of-self-in_err-by : goal.invariant_of-self-in_err-by
 invariant_of-self-in_err-by g c =
-    unchanged_kept c.self.inside.letters c.turn_to.new.self c.self.inside.signals.items c.reserve-2.new.self.items c.self.inside.environment c.self.inside.nodes.items c.receive.new.nodes.items (letters_kept g (goal.at.invariant_of-self-in_err-by g c).After-turn_to) (sent_kept g (goal.at.invariant_of-self-in_err-by g c).After-turn_to) c.reserve-2.ensures.items c.in_err-by.ensures.unchanged c.self.invariant
+    unchanged_kept c.self.inside.letters c.reserve.new.self c.self.inside.signals.items c.reserve-2.new.self.items c.self.inside.environment c.self.inside.nodes.items c.receive.new.nodes.items c.reserve.ensures.letters c.reserve.ensures.sent c.reserve-2.ensures.items c.in_err-by.ensures.unchanged c.self.invariant
 
 pub returns-in_err-by : goal.returns-in_err-by
 returns-in_err-by g c =
@@ -69,8 +62,8 @@ returns-in_err-by g c =
       finished = tt;
       emptied = tt;
       unchanged = (λ i. record {
-        sent = sent_kept g (goal.at.returns-in_err-by g c).After-turn_to i;
-        letters = letters_kept g (goal.at.returns-in_err-by g c).After-turn_to i;
+        sent = c.reserve.ensures.sent i;
+        letters = c.reserve.ensures.letters i;
         signals = c.reserve-2.ensures.items i;
         engaged = engagements (c.in_err-by.ensures.unchanged i);
       }) ∙ c.self.view_is;
@@ -83,14 +76,13 @@ done : (g : Over) (c : After-send g) → IsFinishedIn (held_in c.self.inside.let
 done g c =
     let l = c.unwrap-letter.result.now in
     let outs = c.args.outs.now.items in
-    let same = ap (λ t. t.letters) c.turn_to.ensures ∙ c.reserve.ensures.letters in
     let got = sym (rw c.unwrap-letter.ensures at c.get.ensures) in
-    let found = sym (ap (lookup (λ n. n == c.args.number)) same) ∙ got in
+    let found = sym (ap (lookup (λ n. n == c.args.number)) c.reserve.ensures.letters) ∙ got in
     let to = Node l.to in
     let many = c.args.outs.now.ok.0 in
     let receives = subst (λ (n : ℕ). Receives c.self.inside.nodes.items c.receive.new.nodes.items l.from l.to n c.in_ok-by.by) (c.len-2.ensures ∙ many) c.in_ok-by.ensures.received in
-    let left = c.finish.ensures.letters ∙ ap (filter (λ x. not (x.0 == c.args.number))) same in
-    let sent = c.finish.ensures.sent ∙ ap (λ t. t.sent) c.turn_to.ensures ∙ c.reserve.ensures.sent in
+    let left = c.finish.ensures.letters ∙ ap (filter (λ x. not (x.0 == c.args.number))) c.reserve.ensures.letters in
+    let sent = c.finish.ensures.sent ∙ c.reserve.ensures.sent in
     let letters = c.send.ensures.letters ∙ (λ i. left i ++ numbered to (sent i + 1) outs) in
     finished_fields c.self.inside.letters c.self.inside.signals.items c.self.inside.environment c.self.inside.nodes.items c.self.invariant c.args.number l found outs c.receive.new.nodes.items c.in_ok-by.by receives c.send.new.self letters (c.send.ensures.sent ∙ (λ i. sent i + many i)) c.put.new.signals.items (c.put.ensures ∙ ap (λ s. s ++ option_to_list c.in_ok-by.by) c.reserve-2.ensures.items)
 
