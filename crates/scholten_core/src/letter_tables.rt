@@ -34,7 +34,7 @@ pub(crate) struct LetterTable<P> {
     letters: Numbered<P>,
 }
 
-/// Room for so many letters is made at once.
+/// Room for so many letters is made at first.
 const FIRST_ROOM: usize = 32;
 
 /// Which share of so many entries has to be holes before these are dropped: where entries are few, to move letters costs
