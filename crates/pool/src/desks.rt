@@ -277,7 +277,7 @@ impl<L: Ledger> Desk<L> {
         self.work.notify_all();
     }
 
-    /// For a worker: waits for something to do, does it, and answers what it found. Wakes one worker more if something is left.
+    /// For a worker: waits for something to do, does it, and answers what it found. Wakes one worker more if one sleeps and something is left.
     pub(crate) fn visit<R: Wait>(&self, rt: &R, turn: u64, batch: &mut Batch) -> Found
         requires empty { IsEmpty batch.old }
         requires space { BATCH ≤ batch.old.room }
@@ -289,7 +289,8 @@ impl<L: Ledger> Desk<L> {
             return Found::Stopped;
         };
         let made = room.visit(who, number, batch);
-        let is_left = matches!(made, Ok(Standing::Moves)) || !room.is_idle(turn);
+        let is_left = room.has_sleepers()
+            && (matches!(made, Ok(Standing::Moves)) || !room.is_idle(turn));
         drop(room);
         if is_left {
             self.work.notify_one();
@@ -307,11 +308,13 @@ impl<L: Ledger> Desk<L> {
         ensures left { IfSome result (λ at. SearchIsQuiet (mutex_guard_value at.0).hall at.1 at.2 → ⊥) }
         ensures none { IfNone result WasStopped }
     {
-        let room = self.enter(rt);
+        let mut room = self.enter(rt);
         if let Some((who, number)) = room.pick(turn) {
             return Some((room, who, number));
         }
-        let room = self.work.wait_while(rt, room, |room| room.is_idle(turn));
+        room.falls_asleep();
+        let mut room = self.work.wait_while(rt, room, |room| room.is_idle(turn));
+        room.wakes_up();
         let Some((who, number)) = room.pick(turn) else {
             return None;
         };

@@ -25,7 +25,8 @@ pub const PARTS: u64 = (1 << 32) + 1;
 /// How many passes may be out at once.
 const MOST_OUT: u64 = 1 << 32;
 
-/// The hall, the ledger of accepted changes, and what stands of it with no pass that is out.
+/// The hall, the ledger of accepted changes, and what stands of it with no pass that is out. And how many workers wait for
+/// something to do, so that nobody is woken where none sleeps; contracts don't see that.
 #[derive(Drop)]
 pub(crate) struct Room<L: Ledger> {
     pub(crate) hall: Hall,
@@ -34,6 +35,7 @@ pub(crate) struct Room<L: Ledger> {
     out: u64,
     left: u64,
     pub(crate) stopped: bool,
+    asleep: u64,
 }
 
 impl<L: Ledger> Model for Room<L> {
@@ -75,6 +77,7 @@ impl<L: Ledger> Room<L> {
             out: 0,
             left: 0,
             stopped: false,
+            asleep: 0,
         }
     }
 
@@ -212,6 +215,25 @@ impl<L: Ledger> Room<L> {
             length: self.hall.journal_len(),
             left,
         })
+    }
+
+    /// A worker sleeps from now on, until there is something to do.
+    pub(crate) fn falls_asleep(&mut self)
+        ensures { self.new ≡ self.old }
+    {
+        self.asleep = self.asleep.wrapping_add(1);
+    }
+
+    /// A worker is awake again.
+    pub(crate) fn wakes_up(&mut self)
+        ensures { self.new ≡ self.old }
+    {
+        self.asleep = self.asleep.wrapping_sub(1);
+    }
+
+    /// Whether a worker sleeps.
+    pub(crate) fn has_sleepers(&self) -> bool {
+        self.asleep != 0
     }
 
     /// No worker goes on from now on, and no caller waits.
