@@ -34,8 +34,8 @@ pub(crate) struct LetterTable<P> {
     letters: Numbered<P>,
 }
 
-/// Room for so many letters is made at first.
-const FIRST_ROOM: usize = 32;
+/// Room for so many letters is made at first, as many as four groups of a map's index take.
+const FIRST_ROOM: usize = 36;
 
 /// Which share of so many entries has to be holes before these are dropped: where entries are few, to move letters costs
 /// more than their bytes; where they are many, a letter under way takes no more bytes than among a thousand.
