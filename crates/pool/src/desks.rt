@@ -277,7 +277,8 @@ impl<L: Ledger> Desk<L> {
         self.work.notify_all();
     }
 
-    /// For a worker: waits for something to do, does it, and answers what it found. Wakes one worker more if one sleeps and something is left.
+    /// For a worker: waits for something to do, does it, and answers what it found. Wakes one worker more if one sleeps and
+    /// something is left.
     pub(crate) fn visit<R: Wait>(&self, rt: &R, turn: u64, batch: &mut Batch) -> Found
         requires empty { IsEmpty batch.old }
         requires space { BATCH ≤ batch.old.room }
