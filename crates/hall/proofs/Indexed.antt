@@ -1,14 +1,19 @@
 -- Finite maps as tables of entries hold them: what the calls of a table do to the map that it stands for.
-use Rattle.std.proofs.Common.{◌≡◌, ◌∙◌, Bool, true, false, cond, ◌+◌, List, [], ◌∷◌, length, Option, Some, None, is_some, sym, ap, refl, subst, arith}
+use Rattle.std.proofs.Common.{◌≡◌, ◌∙◌, ℕ, Bool, true, false, cond, ◌+◌, List, [], ◌∷◌, length, slice_get, Option, Some, None, MatchOption, is_some, option_map, sym, ap, refl, subst, arith}
 use Rattle.std.specs.declared.cmp.Ordering.{Ordering}
 use Rattle.std.specs.Ordering.{eq_by_cmp}
+use Rattle.std.specs.Cmp.{eq_by_cmp_equiv}
 use Rattle.std.specs.FinMap.{get, insert, remove, len, from_entries, find, get-from_entries, get-insert, get-remove, len-empty, len-insert}
 use Rattle.std.specs.List.{AllByRecursion, IsDistinct}
 use Rattle.std.specs.Map.{keys_of, lookup}
 use Rattle.std.proofs.lemmas.Map.Keys.{IsDistinct-head, IsDistinct-tail}
-use Rattle.indexmap.specs.IndexMap.{IndexMap, Updates, WritesThrough}
-use Rattle.indexmap.specs.IndexMap as table
+use Rattle.std.proofs.lemmas.Map.Entries.{lookup_from_place}
+use Rattle.std.proofs.lemmas.Option.{same_Some, none-some, slice_get-map}
+use Rattle.std.specs.Cmp.{IsEquivalence}
+use Rattle.indexmap.specs.IndexMap.{IndexMap, Updates, IsUnique, values, with_value_at}
+use Rattle.indexmap.proofs.CallerLemmas.{updates-with_value_at}
 use Rattle.vaults.proofs.Elements.{IsExactOrder, same_from_tied, tied_both_ways}
+use Rattle.hall.specs.Kept.{IsPlaceOf}
 use Rattle.hall.proofs.Maps.{same_answers}
 
 -- what a table calls equal, its order ties
@@ -42,10 +47,35 @@ module _ {K : Type 0} {R : K → K → Ordering} (o : IsExactOrder R) (eq : K �
         (λ q. looked_up n.entries q ∙ updates.0 q ∙ (λ i. cond (turned k q i) None (sym (looked_up m.entries q) i))
         ∙ sym (get-remove o.total (from_entries m.entries) k q))
 
-    -- a value that is written through a loan of an entry is inserted
-    pub written : (v w : X) → table.get eq m k ≡ Some v → WritesThrough eq (eq k) m w n →
-        from_entries {R = R} n.entries ≡ insert (from_entries m.entries) k w
-    written v w there writes = inserted w (writes.3 (ap is_some there))
+  laws : IsEquivalence eq
+  laws =
+      let ties = eq_by_cmp_equiv o.total in
+      record {
+        refl = λ x. sym (agree x x) ∙ ties.refl x;
+        symm = λ x y. turned x y ∙ agree y x;
+        congr = λ x y z same. sym (agree x z) ∙ ties.congr x y z (agree x y ∙ same) ∙ agree y z;
+      }
+
+  -- an entry at a key's place
+  module _ {X S : Type 0} (m : IndexMap K X S) (k : K) (at : ℕ) (v : X) (unique : IsUnique eq m)
+      (place : IsPlaceOf (eq k) m.entries at) (value : slice_get (values m) at ≡ Some v) where
+    stands : slice_get m.entries at ≡ Some (k, v)
+    stands = by (slice_get m.entries at) refl place
+      where
+        by : (f : Option (K × X)) → slice_get m.entries at ≡ f → MatchOption f (lookup (eq k) m.entries ≡ None) (λ e. eq k e.0 ≡ true) → slice_get m.entries at ≡ Some (k, v)
+        by None is none = absurd (none-some _ (sym (slice_get-map (λ (x : K × X). x.1) m.entries at ∙ ap (option_map (λ (x : K × X). x.1)) is) ∙ value))
+        by (Some e) is same =
+            let key : k ≡ e.0 = same_from_tied o k e.0 (agree k e.0 ∙ same) in
+            let held : e.1 ≡ v = same_Some _ _ (sym (slice_get-map (λ (x : K × X). x.1) m.entries at ∙ ap (option_map (λ (x : K × X). x.1)) is) ∙ value) in
+            is ∙ (λ i. Some (sym key i, held i))
+
+    -- is what the map has for the key
+    pub found_there : lookup (eq k) m.entries ≡ Some v
+    found_there = lookup_from_place laws m.entries at k v unique stands
+
+    -- and a value that is written there is inserted
+    pub written_there : (w : X) → from_entries {R = R} (with_value_at m at w).entries ≡ insert (from_entries m.entries) k w
+    written_there w = inserted m (with_value_at m at w) k w (updates-with_value_at m at w laws unique k v stands)
 
   -- what holds of each entry holds of what a key has
   pub all_found : {X : Type 0} (P : K × X → Type 0) (es : List (K × X)) → AllByRecursion P es → (k : K) (v : X) →

@@ -1,4 +1,5 @@
 pub mod Altering
+pub mod AtHand
 pub mod Carrying
 pub mod Completed
 pub mod Distinct

@@ -1,5 +1,6 @@
 -- What the calls of a hall do to one of its searches.
-use Rattle.std.specs.Prelude.{◌≡◌, ◌==◌, ◌⊎◌, ℕ, true, List, [], slice_get, Option, None, Some, Result, Ok, Err}
+use Rattle.std.specs.Prelude.{◌≡◌, ◌==◌, ◌⊎◌, ℕ, Bool, true, List, [], slice_get, Option, None, Some, MatchOption, Result, Ok, Err}
+use Rattle.std.specs.Map.{lookup}
 use Rattle.std.specs.FinMap.{get}
 use Rattle.indexmap.specs.IndexMap.{IndexMap, get as numbers_of}
 use Rattle.indexmap.specs.IndexSet.{IndexSet, contains}
@@ -83,3 +84,7 @@ ListsUnsettled index h =
 pub record IsIndexed {S Z : Type 0} (index : Index S Z) (h : HallState) : Type 0 where
   pub sound : IsSound h
   pub listed : ListsUnsettled index h
+
+-- the key that passes the test stands at this place of the entries; or none passes, and none stands there
+abbrev pub IsPlaceOf : {K V : Type 0} → (K → Bool) → List (K × V) → ℕ → Type 0
+IsPlaceOf test es at = MatchOption (slice_get es at) (lookup test es ≡ None) (λ e. test e.0 ≡ true)

@@ -9,6 +9,7 @@
 
 mod calls;
 mod faults;
+mod hands;
 mod jobs;
 mod lists;
 mod opened;

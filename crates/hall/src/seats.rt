@@ -25,6 +25,8 @@ pub(crate) struct Seat {
     limits: Limits,
     opens: u64,
     pub(crate) searches: IndexMap<u64, Opened>,
+    // Where the search stands that was lent last.
+    pub(crate) hand: usize,
 }
 
 // By hand, so that who holds one drops it by one call, whose proof stands here.
@@ -34,6 +36,7 @@ impl Drop for Seat {
             limits: _,
             opens: _,
             searches: _searches,
+            hand: _,
         } = self;
     }
 }
@@ -61,6 +64,7 @@ impl Seat {
             limits,
             opens: 0,
             searches: IndexMap::new(alloc),
+            hand: 0,
         }
     }
 

@@ -4,6 +4,7 @@ ghost use Rattle.std.specs.{FinMap.get, FinMap.from_entries, List.IsDistinct, Bo
 ghost use Rattle.{names.specs.Name.is_same, hall.specs.Hall.new_tenant, hall.specs.Hall.search_of, hall.specs.Kept.IsNowhere};
 
 use crate::faults::Fault;
+use crate::hands::place_of;
 use crate::opened::Opened;
 use crate::seats::Seat;
 use indexmap::IndexMap;
@@ -16,6 +17,8 @@ use std::marker::Model;
 #[derive(Drop)]
 pub(crate) struct Tenants {
     seats: IndexMap<Entity, Seat>,
+    // Where the seat stands that was lent last.
+    hand: usize,
 }
 
 impl Model for Tenants {
@@ -44,7 +47,7 @@ impl Tenants {
         for (name, limits) in roster {
             seats.insert(*name, Seat::new(alloc, *limits))?;
         }
-        Ok(Tenants { seats })
+        Ok(Tenants { seats, hand: 0 })
     }
 
     /// The tenant's seat. Where there is none the refusal is 62.
@@ -52,19 +55,23 @@ impl Tenants {
         ensures here { IfOk result (λ seat. get self.now who ≡ Some seat.now) }
         ensures nobody { IfErr result (λ f. (f ≡ Fault.NoTenant) × (get self.now who ≡ None)) }
     {
-        match self.seats.get(&who) {
-            Some(seat) => Ok(seat),
+        let place = place_of(&self.seats, self.hand, &who);
+        match self.seats.get_index(place) {
+            Some((_name, seat)) => Ok(seat),
             None => Err(Fault::NoTenant),
         }
     }
 
     /// The tenant's seat, to change.
+    #[inline(always)]
     pub(crate) fn seat_mut(&mut self, who: Entity) -> Result<&mut Seat, Fault>
         ensures* lends { sem 𝓛 (LendsSeat self.entry who result) }
         ensures here { IfOk result (λ seat. get self.old who ≡ Some seat.now) }
         ensures nobody { IfErr result (λ f. (f ≡ Fault.NoTenant) × (get self.old who ≡ None)) }
     {
-        match self.seats.get_mut(&who) {
+        let place = place_of(&self.seats, self.hand, &who);
+        self.hand = place;
+        match self.seats.get_index_mut(place) {
             Some(seat) => Ok(seat),
             None => Err(Fault::NoTenant),
         }
@@ -77,7 +84,9 @@ impl Tenants {
         ensures nowhere { IfErr result (IsNowhere number (get self.old who)) }
     {
         let seat = self.seat_mut(who)?;
-        match seat.searches.get_mut(&number) {
+        let place = place_of(&seat.searches, seat.hand, &number);
+        seat.hand = place;
+        match seat.searches.get_index_mut(place) {
             Some(opened) => Ok(opened),
             None => Err(Fault::NoSuchSearch),
         }

@@ -18,8 +18,8 @@ use crate::faults::{DeskFault, Told};
 use crate::passes::Pass;
 use crate::rooms::{PARTS, Room, read_off, verdict_on};
 use crate::verdicts::{Gathered, Ticket, Verdict};
-use crate::visits::{BATCH, Found};
-use hall::{Batch, Fault, Hall, Proof, Query, Reply, Request, Rows, Sights, Standing};
+use crate::visits::{BATCH, Found, Visited};
+use hall::{Batch, Fault, Hall, HandedIn, Proof, Query, Reply, Request, Rows, Sights, Standing};
 use names::Entity;
 use quotas::Limits;
 use std::alloc::Global;
@@ -135,12 +135,7 @@ impl<L: Ledger> Desk<L> {
         let ended = ended_by(pass.tenant(), &request);
         let answered = room.serve(pass, request);
         drop(room);
-        if let Some((who, number)) = ended {
-            self.ring(who, number, Standing::Over);
-        }
-        if matches!(answered, Ok(Reply::Opened(_))) {
-            self.work.notify_one();
-        }
+        self.tell(&answered, ended);
         answered
     }
 
@@ -277,19 +272,83 @@ impl<L: Ledger> Desk<L> {
         self.work.notify_all();
     }
 
-    /// For a worker: waits for something to do, does it, and answers what it found. Wakes one worker more if one sleeps and
-    /// something is left.
-    pub(crate) fn visit<R: Wait>(&self, rt: &R, turn: u64, batch: &mut Batch) -> Found
+    /// For a worker: hands in the letters that it holds, and makes steps by which it takes others. It goes on with the
+    /// search of its letters, if it may and something is left of that, or with the one that has its turn, once there is
+    /// something to do.
+    pub(crate) fn visit<R: Wait>(
+        &self,
+        rt: &R,
+        turn: u64,
+        may_go_on: bool,
+        batch: &mut Batch,
+    ) -> Visited
+        requires looked_up { IsLookedUp batch.old }
+        requires space { BATCH ≤ batch.old.room }
+        ensures handed_in { IsHandIn batch.old.letters result.finished }
+        ensures most { result.finished ≤ length batch.old.letters }
+        ensures found { IsFound result.found batch.new.letters }
+        ensures looked { batch.new.looked ≡ 0 }
+        ensures space { batch.new.room ≡ batch.old.room }
+    {
+        let mut room = self.enter(rt);
+        let Some((who, number)) = batch.search() else {
+            let found = self.take_turn(rt, room, turn, batch);
+            return Visited { finished: 0, found };
+        };
+        let HandedIn { finished, standing } = room.hand_in(batch);
+        self.ring(&who, number, standing);
+        let found = if may_go_on && matches!(standing, Standing::Moves) && !room.stopped {
+            self.make_steps(room, &who, number, turn, batch)
+        } else {
+            self.take_turn(rt, room, turn, batch)
+        };
+        Visited { finished, found }
+    }
+
+    /// Makes steps of the search that has its turn, once there is something to do.
+    fn take_turn<'a, R: Wait>(
+        &'a self,
+        rt: &R,
+        mut room: MutexGuard<'a, Room<L>>,
+        turn: u64,
+        batch: &mut Batch,
+    ) -> Found
         requires empty { IsEmpty batch.old }
         requires space { BATCH ≤ batch.old.room }
         ensures found { IsFound result batch.new.letters }
         ensures looked { batch.new.looked ≡ 0 }
         ensures space { batch.new.room ≡ batch.old.room }
     {
-        let Some((mut room, who, number)) = self.pick(rt, turn) else {
+        if let Some((who, number)) = room.pick(turn) {
+            return self.make_steps(room, &who, number, turn, batch);
+        }
+        room.falls_asleep();
+        let mut room = self.work.wait_while(rt, room, |room| room.is_idle(turn));
+        room.wakes_up();
+        let Some((who, number)) = room.pick(turn) else {
             return Found::Stopped;
         };
-        let made = room.visit(who, number, batch);
+        self.make_steps(room, &who, number, turn, batch)
+    }
+
+    /// Makes steps of the search, and gives the lock back. Wakes one worker more if one sleeps and something is left.
+    fn make_steps(
+        &self,
+        mut room: MutexGuard<'_, Room<L>>,
+        who: &Entity,
+        number: u64,
+        turn: u64,
+        batch: &mut Batch,
+    ) -> Found
+        requires left { SearchIsQuiet (mutex_guard_value room).hall who.now number → ⊥ }
+        requires empty { IsEmpty batch.old }
+        requires space { BATCH ≤ batch.old.room }
+        ensures found { IsFound result batch.new.letters }
+        ensures looked { batch.new.looked ≡ 0 }
+        ensures space { batch.new.room ≡ batch.old.room }
+    {
+        room.kept();
+        let made = room.visit(*who, number, batch);
         let is_left = room.has_sleepers()
             && (matches!(made, Ok(Standing::Moves)) || !room.is_idle(turn));
         drop(room);
@@ -303,48 +362,22 @@ impl<L: Ledger> Desk<L> {
         Found::Work
     }
 
-    /// The lock, once a worker has something to do, and the search that it goes on with. None once the desk is stopped.
-    fn pick<R: Wait>(&self, rt: &R, turn: u64) -> Option<(MutexGuard<'_, Room<L>>, Entity, u64)>
-        ensures kept { IfSome result (λ at. IsKept (mutex_guard_value at.0)) }
-        ensures left { IfSome result (λ at. SearchIsQuiet (mutex_guard_value at.0).hall at.1 at.2 → ⊥) }
-        ensures none { IfNone result WasStopped }
-    {
-        let mut room = self.enter(rt);
-        if let Some((who, number)) = room.pick(turn) {
-            return Some((room, who, number));
+    /// Wakes whom an answer concerns: who waits for the search that it ended, or a worker for one that it opened.
+    fn tell(&self, answered: &Told<Reply>, ended: Option<(Entity, u64)>) {
+        let Ok(reply) = answered else { return };
+        if let Some((who, number)) = ended {
+            self.ring(&who, number, Standing::Over);
         }
-        room.falls_asleep();
-        let mut room = self.work.wait_while(rt, room, |room| room.is_idle(turn));
-        room.wakes_up();
-        let Some((who, number)) = room.pick(turn) else {
-            return None;
-        };
-        Some((room, who, number))
+        if let Reply::Opened(_) = reply {
+            self.work.notify_one();
+        }
     }
 
     /// Wakes the callers who wait for the search, where it is over.
-    fn ring(&self, who: Entity, number: u64, standing: Standing) {
+    fn ring(&self, who: &Entity, number: u64, standing: Standing) {
         if let Standing::Over = standing {
-            self.over.of(&who, number).notify_all();
+            self.over.of(who, number).notify_all();
         }
-    }
-
-    /// For a worker: hands in all that it holds, letters of one search, and answers how many of them are finished.
-    pub(crate) fn hand_in<R: Wait>(&self, rt: &R, batch: &mut Batch) -> u64
-        requires { IsLookedUp batch.old }
-        ensures handed_in { IsHandIn batch.old.letters result }
-        ensures most { result ≤ length batch.old.letters }
-        ensures empty { IsEmpty batch.new }
-        ensures space { batch.new.room ≡ batch.old.room }
-    {
-        let Some((who, number)) = batch.search() else {
-            return 0;
-        };
-        let mut room = self.enter(rt);
-        let handed_in = room.hand_in(batch);
-        drop(room);
-        self.ring(who, number, handed_in.standing);
-        handed_in.finished
     }
 }
 

@@ -21,6 +21,15 @@ pub(crate) enum Found {
     NoMemory,
 }
 
+/// What came of a worker's visit.
+#[derive(Clone, Copy)]
+pub(crate) struct Visited {
+    /// How many of the letters that it handed in are finished.
+    pub(crate) finished: u64,
+    /// What it found then.
+    pub(crate) found: Found,
+}
+
 impl<L: Ledger> Room<L> {
     ghost use Rattle.pool.specs.Rooms.{IsIdle, IsKept};
     ghost use Rattle.hall.specs.Visits.{SearchIsQuiet, NothingToDo, IsVisited, StandsAt, StandsNamed, AreHandedIn};

@@ -71,10 +71,11 @@ fn work<L: Ledger, G: Gate, R: Wait>(rt: &R, desk: &Desk<L>, gate: &G, mut turn:
     let mut line = None;
     'work: for _ in rt.forever() {
         let before = finished;
-        for _ in 0..IN_A_ROW {
-            found = desk.visit(rt, turn, &mut batch);
+        for visit in 0..IN_A_ROW {
             look_up_all(gate, &mut batch);
-            finished = finished.saturating_add(desk.hand_in(rt, &mut batch));
+            let visited = desk.visit(rt, turn, visit > 0, &mut batch);
+            finished = finished.saturating_add(visited.finished);
+            found = visited.found;
             if found != Found::Work {
                 break 'work;
             }

@@ -9,7 +9,7 @@ use Rattle.std.proofs.lemmas.Map.Views.{exact_unsigned_eq}
 use Rattle.indexmap.specs.IndexMap.{set_value_at}
 use Rattle.scholten_core.specs.declared.letters.Letter.{Letter}
 use Rattle.scholten_core.specs.Computation.{IsHeldIn}
-use Rattle.scholten_core.specs.LetterTable.{is_of, standing}
+use Rattle.scholten_core.specs.LetterTable.{IsPlaceOf, is_of, standing}
 use Rattle.scholten_core.specs.Sound.{IsNumbered}
 use Rattle.scholten_core.proofs.Counts.{entry_of}
 use Rattle.scholten_core.proofs.Engaged.{one_or_other}
@@ -77,17 +77,6 @@ module _ {X : Type 0} where
   pub key_within : (k : ℕ) (ls : List (ℕ × X)) (i : ℕ) → slice_get (keys_of ls) i ≡ Some k → i < length ls
   key_within k ls i at = omega (arith, slice_get_within (keys_of ls) i k at, length-keys_of ls)
 
-  -- where a number stands it is found
-  pub found_at : (k : ℕ) (ls : List (ℕ × X)) (i : ℕ) → slice_get (keys_of ls) i ≡ Some k → is_some (lookup (nat_eq k) ls) ≡ true
-  found_at k [] i at = absurd (none-some _ at)
-  found_at k (l ∷ ls) zero at =
-      ap (λ b. is_some (cond b (Some l.1) (lookup (nat_eq k) ls))) (ap (nat_eq k) (same_Some _ _ at) ∙ flipped k k ∙ eq-eqb k k refl)
-  found_at k (l ∷ ls) (suc i) at =
-      elim (nat_eq k l.0) as (λ b. is_some (cond b (Some l.1) (lookup (nat_eq k) ls)) ≡ true) [
-        | true ↦ refl
-        | false ↦ found_at k ls i at
-      ]
-
 module _ {P : Type 0} where
   pub standing-append : (xs ys : List (ℕ × Option (Letter P))) → standing (xs ++ ys) ≡ standing xs ++ standing ys
   standing-append [] ys = refl
@@ -128,10 +117,8 @@ module _ {P : Type 0} where
       sym (lookup-standing k 0 es sent rising ∙ ap letter_in (lookup_at 0 es sent i k v rising there))
 
   -- no letter has a number that isn't found
-  pub letter_absent : (sent k : ℕ) (es : List (ℕ × Option (Letter P))) → IsNumbered 0 es sent → is_some (lookup (nat_eq k) es) ≡ false → None ≡ lookup (λ n. n == k) (standing es)
-  letter_absent sent k es rising absent =
-      let none : lookup (nat_eq k) es ≡ None = elim (lookup (nat_eq k) es) as (λ o. is_some o ≡ false → o ≡ None) [ None ↦ λ _. refl | Some v ↦ λ e. absurd (true≢false e) ] absent in
-      sym (lookup-standing k 0 es sent rising ∙ ap letter_in (sym (lookup-keys k es) ∙ none))
+  pub letter_absent : (sent k : ℕ) (es : List (ℕ × Option (Letter P))) → IsNumbered 0 es sent → lookup (nat_eq k) es ≡ None → None ≡ lookup (λ n. n == k) (standing es)
+  letter_absent sent k es rising none = sym (lookup-standing k 0 es sent rising ∙ ap letter_in (sym (lookup-keys k es) ∙ none))
 
   -- to write a letter at its place is to change the letter of its number
   pub standing-change : (f : Letter P → Letter P) (low : ℕ) (es : List (ℕ × Option (Letter P))) (high i k : ℕ) (l : Letter P) → IsNumbered low es high → slice_get es i ≡ Some (k, Some l) → standing (set_value_at es i (Some (f l))) ≡ map (changed k f) (standing es)
@@ -178,6 +165,12 @@ module _ {P : Type 0} where
   number_there k (e ∷ es) zero is = ap Some (exact_unsigned_eq e.0 k is)
   number_there k (e ∷ es) (suc i) is = number_there k es i is
 
+  -- what a map's index says of a number's place
+  pub place_found : (es : List (ℕ × Option (Letter P))) (k : ℕ) (place : Option ℕ) → is_some place ≡ is_some (lookup (nat_eq k) es) → IfSome place (λ at. slice_get (keys_of es) at ≡ Some k) → IsPlaceOf es k place
+  place_found es k None found there =
+      elim (lookup (nat_eq k) es) as (λ o. false ≡ is_some o → o ≡ None) [ None ↦ λ _. refl | Some v ↦ λ e. absurd (true≢false (sym e)) ] found
+  place_found es k (Some at) found there = there
+
   -- the held letter of a number stands where the number is found
   module _ (sent : ℕ) (es : List (ℕ × Option (Letter P))) (rising : IsNumbered 0 es sent) (k i m : ℕ) (v : Option (Letter P)) (is_held : IsHeldIn (standing es) k) (found : slice_get (keys_of es) i ≡ Some k) (at : slice_get es i ≡ Some (m, v)) where
     slot_is : slice_get es i ≡ Some (k, v)
@@ -199,10 +192,8 @@ module _ {P : Type 0} where
     slot_value = ap (λ (e : ℕ × Option (Letter P)). e.1) (same_Some _ _ (sym slot_is ∙ holds_at.there))
 
   -- so the number is found
-  pub number_found : (sent : ℕ) (es : List (ℕ × Option (Letter P))) → IsNumbered 0 es sent → (k : ℕ) → IsHeldIn (standing es) k → is_some (lookup (nat_eq k) es) ≡ true
-  number_found sent es rising k held =
-      let looked = lookup-standing k 0 es sent rising ∙ ap letter_in (sym (lookup-keys k es)) in
-      elim (lookup (nat_eq k) es) as (λ o. IsSomeAnd (letter_in o) (λ l. IsTrue l.held) → is_some o ≡ true) [
-        | None ↦ λ isnt. absurd isnt
-        | Some o ↦ λ _. refl
-      ] (subst (λ (o : Option (Letter P)). IsSomeAnd o (λ l. IsTrue l.held)) looked held)
+  pub number_found : (sent : ℕ) (es : List (ℕ × Option (Letter P))) → IsNumbered 0 es sent → (k : ℕ) → IsHeldIn (standing es) k → (place : Option ℕ) → IsPlaceOf es k place → is_some place ≡ true
+  number_found sent es rising k held (Some at) there = refl
+  number_found sent es rising k held None none =
+      let absent : lookup (λ n. n == k) (standing es) ≡ None = sym (letter_absent sent k es rising none) in
+      absurd (subst (λ (o : Option (Letter P)). IsSomeAnd o (λ l. IsTrue l.held)) absent held)

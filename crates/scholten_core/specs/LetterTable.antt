@@ -1,6 +1,7 @@
 -- What the table of letters is seen as, and what its fields keep
 use Rattle.std.specs.Prelude.{◌≡◌, ℕ, ◌+◌, ◌≤◌, ◌==◌, Bool, true, false, not, List, [], ◌∷◌, Option, None, Some}
-use Rattle.std.specs.Prelude.{length, take, is_some, slice_get, IsSomeAnd, IsTrue}
+use Rattle.std.specs.Prelude.{length, take, is_some, nat_eq, slice_get, IsSomeAnd, IsTrue}
+use Rattle.std.specs.Map.{keys_of, lookup}
 use Rattle.scholten_core.specs.declared.parents.Parent.{Parent}
 use Rattle.scholten_core.specs.declared.parents.Parent.TheVariants.{Neutral}
 use Rattle.scholten_core.specs.declared.letters.Letter.{Letter}
@@ -36,6 +37,11 @@ module _ {P : Type 0} where
   abbrev pub is_of : ℕ → Option (ℕ × Option (Letter P)) → Bool
   is_of number None = false
   is_of number (Some e) = e.0 == number
+
+  -- the number's entry stands at this place, or it has none
+  abbrev pub IsPlaceOf : List (ℕ × Option (Letter P)) → ℕ → Option ℕ → Type 0
+  IsPlaceOf es number None = lookup (nat_eq number) es ≡ None
+  IsPlaceOf es number (Some at) = slice_get (keys_of es) at ≡ Some number
 
   abbrev pub last_hole : Option (ℕ × Option (Letter P)) → Bool
   last_hole None = false

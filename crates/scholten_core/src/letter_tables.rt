@@ -1,8 +1,7 @@
 //! The table of the letters that wait or are held.
-ghost use Rattle.std.specs.Prelude.{◌≡◌, ◌+◌, ◌-◌, ◌<◌, ◌≤◌, Some, IfSome, is_some, nat_eq, slice_get, take};
-ghost use Rattle.std.specs.Map.{keys_of, lookup};
+ghost use Rattle.std.specs.Prelude.{◌≡◌, ◌+◌, ◌-◌, ◌<◌, ◌≤◌, slice_get, take};
 ghost use Rattle.indexmap.specs.IndexMap.{index_map_len};
-ghost use Rattle.scholten_core.specs.LetterTable.{count, does_wait, is_of, last_hole, WaitsAt};
+ghost use Rattle.scholten_core.specs.LetterTable.{count, does_wait, is_of, last_hole, IsPlaceOf, WaitsAt};
 
 use crate::letters::Letter;
 use crate::numbers::NumberHasher;
@@ -29,7 +28,8 @@ pub(crate) struct LetterTable<P> {
     first: usize,
     // From this place on none waits.
     last: usize,
-    // Where the letter stands, or stood, that was taken last.
+    // Where the letter stands, or stood, that was taken last, or behind the one that was finished last: who holds many
+    // finishes them in a row.
     hand: usize,
     letters: Numbered<P>,
 }
@@ -37,9 +37,9 @@ pub(crate) struct LetterTable<P> {
 /// Room for so many letters is made at first, as many as four groups of a map's index take.
 const FIRST_ROOM: usize = 36;
 
-/// Which share of so many entries has to be holes before these are dropped: where entries are few, to move letters costs
+/// How many of so many entries have to be holes before these are dropped: where entries are few, to move letters costs
 /// more than their bytes; where they are many, a letter under way takes no more bytes than among a thousand.
-fn share_of_holes(entries: usize) -> usize {
+fn holes_to_drop(entries: usize) -> usize {
     match entries {
         0..128 => entries / 2,
         128..4096 => entries / 8,
@@ -69,9 +69,7 @@ fn stands_at<P>(letters: &Numbered<P>, at: usize, number: u64) -> bool
 // Where the number's entry stands. Most often it is the letter at hand.
 #[inline(always)]
 fn place_of<P>(letters: &Numbered<P>, hand: usize, number: u64) -> Option<usize>
-    ensures found { is_some result ≡ is_some (lookup (nat_eq number) letters.now.entries) }
-    ensures place { IfSome result (λ at. slice_get (keys_of letters.now.entries) at ≡ Some number) }
-    ensures within { IfSome result (λ at. at < index_map_len letters.now) }
+    ensures { IsPlaceOf letters.now.entries number result }
 {
     if stands_at(letters, hand, number) {
         Some(hand)
@@ -83,9 +81,7 @@ fn place_of<P>(letters: &Numbered<P>, hand: usize, number: u64) -> Option<usize>
 // The same, with one place tried before the table's index: where it stands if no number lacks between it and the one at hand.
 #[inline(always)]
 fn place_near<P>(letters: &Numbered<P>, hand: usize, number: u64) -> Option<usize>
-    ensures found { is_some result ≡ is_some (lookup (nat_eq number) letters.now.entries) }
-    ensures place { IfSome result (λ at. slice_get (keys_of letters.now.entries) at ≡ Some number) }
-    ensures within { IfSome result (λ at. at < index_map_len letters.now) }
+    ensures { IsPlaceOf letters.now.entries number result }
 {
     if let Some((near, _)) = letters.get_index(hand) {
         let at = hand.wrapping_add(number.wrapping_sub(*near) as usize);
@@ -100,9 +96,7 @@ fn place_near<P>(letters: &Numbered<P>, hand: usize, number: u64) -> Option<usiz
 #[cold]
 #[inline(never)]
 fn place_in_index<P>(letters: &Numbered<P>, number: u64) -> Option<usize>
-    ensures found { is_some result ≡ is_some (lookup (nat_eq number) letters.now.entries) }
-    ensures place { IfSome result (λ at. slice_get (keys_of letters.now.entries) at ≡ Some number) }
-    ensures within { IfSome result (λ at. at < index_map_len letters.now) }
+    ensures { IsPlaceOf letters.now.entries number result }
 {
     letters.get_index_of(&number)
 }
@@ -279,7 +273,7 @@ impl<P: Drop> LetterTable<P> {
     // Whether room lacks for so many letters more, and enough of the entries are holes.
     fn should_drop_holes(&self, count: usize) -> bool {
         let len = self.letters.len();
-        self.letters.capacity() - len < count && self.holes >= share_of_holes(len)
+        self.letters.capacity() - len < count && self.holes >= holes_to_drop(len)
     }
 
     /// Sends letters that wait, where there is room for them.
@@ -329,7 +323,9 @@ impl<P: Drop> LetterTable<P> {
         let (_, slot) = self.letters.pair_mut(at);
         slot.empty();
         self.holes += 1;
-        if at + 1 == self.letters.len() {
+        let behind = at + 1;
+        self.hand = behind;
+        if behind == self.letters.len() {
             self.pop_holes();
         }
     }

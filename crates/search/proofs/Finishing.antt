@@ -151,9 +151,9 @@ module _ (s : SearchState) (number : ℕ) (h : Held (Load (List ℕ))) (held : H
     }
 
 -- a hint that isn't right for the need of the letter
-pub wrongly : (s : SearchState) (number : ℕ) (hint : Hint) (h : Held (Load (List ℕ))) (view : SnapshotState) (st : Stage) → view ≡ s.snapshot → HoldsLetter s.stage number h → h.to < length s.graph.nodes →
-    (((e : Expr) → IsNode s.graph h.to e → hint ≡ right_hint view.vaults (need_of e h.load)) → ⊥) → st ≡ stage_marked number false s.stage → Finishes s (record s { stage = st }) number hint finished.BadHint
-wrongly s number hint h view st same held node_in wrong is =
+pub wrongly : (s : SearchState) (number : ℕ) (hint : Hint) (h : Held (Load (List ℕ))) (view : SnapshotState) → view ≡ s.snapshot → HoldsLetter s.stage number h → h.to < length s.graph.nodes →
+    (((e : Expr) → IsNode s.graph h.to e → hint ≡ right_hint view.vaults (need_of e h.load)) → ⊥) → Finishes s (record s { stage = stage_marked number false s.stage }) number hint finished.BadHint
+wrongly s number hint h view same held node_in wrong =
     let e : Expr = get_or s.graph.nodes h.to (Ent []) in
     let at : IsNode s.graph h.to e = slice_get-get_or s.graph.nodes h.to (Ent []) node_in in (
       letter_in h,
@@ -161,5 +161,5 @@ wrongly s number hint h view st same held node_in wrong is =
       held_letter_is s.stage number h held,
       (e, at, refl),
       λ right. wrong (λ f there. subst (λ (x : Expr). hint ≡ right_hint view.vaults (need_of x h.load)) (one_expr s.graph h.to e f at there) (subst (λ (v : SnapshotState). hint ≡ right_hint v.vaults (need_of e h.load)) (sym same) right)),
-      ap (λ (x : Stage). record s { stage = x }) is,
+      refl,
     )

@@ -32,7 +32,7 @@ impl HeldLetter {
     fn look_up(&mut self, snapshot: &Snapshot)
         ensures { self.new ≡ record self.old { hint = right_hint snapshot.now.vaults self.old.need } }
     {
-        self.hint = self.need.look_up(snapshot);
+        self.need.look_up_into(snapshot, &mut self.hint);
     }
 }
 

@@ -1,12 +1,12 @@
-use Rattle.std.proofs.Common.{◌∙◌, ap, refl, sym, subst, Some, Option}
-use Rattle.std.specs.FinMap.{insert}
+use Rattle.std.proofs.Common.{◌∙◌, ◌==◌, ap, refl, sym, subst, Some, Option}
 use Rattle.std.proofs.lemmas.Bool.{false≢true}
 use Rattle.vaults.proofs.Orders.{names_exact}
 use Rattle.hall.specs.declared.faults.Fault.TheVariants.{NoSuchSearch}
 use Rattle.hall.specs.Hall.{Tenant, search_of}
 use Rattle.hall.specs.Kept.{IsNowhere}
+use Rattle.hall.proofs.AtHand.{none_passes}
 use Rattle.hall.proofs.Maps.{insert_again}
-use Rattle.hall.proofs.Seated.{tenant_of, search_found, search_written}
+use Rattle.hall.proofs.Seated.{tenant_of, search_found, search_there, search_written}
 use Rattle.hall.proofs.tenants.Tenants.opened_mut.Goals as goal
 
 pub returns-in-Some : goal.returns-in-Some
@@ -15,13 +15,15 @@ returns-in-Some c =
       (
         refl,
         (λ w ok journal.
-            search_written c.seat.inside.searches c.args.number c.args.self.now c.args.who c.seat.inside.limits c.seat.inside.opens here
-            (c.get_mut.follows.lender w) c.in-Some.opened.now w (sym c.in-Some.ensures.value) (c.get_mut.follows.holds w) journal),
+            search_written c.seat.inside.searches c.args.number c.place_of-place.result c.in-Some.opened.now c.get_index_mut.ensures.unique c.place_of-place.ensures
+            (sym c.in-Some.ensures.value) c.args.self.now c.args.who c.seat.inside.limits c.seat.inside.opens here w journal),
         tt,
       ),
       record {
         lends = tt;
-        here = ap (search_of c.args.number) here ∙ search_found c.seat.inside.searches c.args.number ∙ sym c.in-Some.ensures.value;
+        here = ap (search_of c.args.number) here
+            ∙ search_there c.seat.inside.searches c.args.number c.place_of-place.result c.in-Some.opened.now c.get_index_mut.ensures.unique c.place_of-place.ensures
+            (sym c.in-Some.ensures.value);
         nowhere = tt;
       },
     )
@@ -32,13 +34,13 @@ returns-in-None c =
       (
         refl,
         (λ w no journal. absurd (false≢true no)),
-        ap (λ s. insert c.args.self.now c.args.who (tenant_of c.seat.inside.limits c.seat.inside.opens s)) c.get_mut.follows.holds-at-none
-            ∙ insert_again names_exact c.args.self.now c.args.who (tenant_of c.seat.inside.limits c.seat.inside.opens c.seat.inside.searches) here,
+        insert_again names_exact c.args.self.now c.args.who (tenant_of c.seat.inside.limits c.seat.inside.opens c.seat.inside.searches) here,
       ),
       record {
         lends = tt;
         here = tt;
         nowhere = subst (λ (o : Option Tenant). IsNowhere c.args.number o NoSuchSearch) (sym here)
-            (refl, search_found c.seat.inside.searches c.args.number ∙ sym c.in-None.ensures.value);
+            (refl, search_found c.seat.inside.searches c.args.number
+            ∙ none_passes (λ n. c.args.number == n) c.seat.inside.searches.entries c.place_of-place.result c.place_of-place.ensures (sym c.in-None.ensures.value));
       },
     )

@@ -9,8 +9,5 @@ returns-in-Some g c =
     lent_answered _ c.args.pass.now _ c.args.request c.in-Some.search.value c.read_off.result c.in-Some.ensures.lent
     (subst (λ (s : SearchState). IsReadAs s c.args.request c.read_off.result) c.deref.ensures c.read_off.ensures)
 
-pub returns-then-matches : goal.returns-then-matches
-returns-then-matches g c = served_later _ _ c.args.pass.now _ _ c.args.request c.serve-answered.result (c.lent.ensures.pass c.in_default.is) c.serve-answered.ensures
-
-pub returns-else-matches : goal.returns-else-matches
-returns-else-matches g c = served_later _ _ c.args.pass.now _ _ c.args.request c.serve-answered.result (c.lent.ensures.pass c.in_default.is) c.serve-answered.ensures
+pub returns : goal.returns
+returns g c = served_later _ _ c.args.pass.now _ _ c.args.request c.serve-answered.result (c.lent.ensures.pass c.in_default.is) c.serve-answered.ensures

@@ -1,7 +1,7 @@
 use Rattle.std.proofs.Common.{◌≡◌, ◌+◌, ◌==◌, not, filter, ap, ◌∙◌, arith}
 use Rattle.indexmap.specs.IndexMap.{set_value_at}
 use Rattle.scholten_core.specs.LetterTable.{IsTable, standing}
-use Rattle.scholten_core.proofs.Standing.{HoldsAt, holds_at, length-numbered_le, number_found, standing-hole}
+use Rattle.scholten_core.proofs.Standing.{HoldsAt, holds_at, key_within, length-numbered_le, number_found, standing-hole}
 use Rattle.scholten_core.proofs.Tables.{holes-le-sent, left_hole}
 use Rattle.scholten_core.proofs.letter_tables.LetterTable.finish.Given.{Over}
 use Rattle.scholten_core.proofs.letter_tables.LetterTable.finish.Goals as goal
@@ -10,22 +10,22 @@ use Rattle.scholten_core.proofs.letter_tables.LetterTable.finish.Goals.{After-em
 pub unwrap-at-requires : goal.unwrap-at-requires
 unwrap-at-requires g c =
     let held = rw (← c.self.view_is) at c.requires in
-    c.place_of.ensures.found ∙ number_found c.self.inside.sent c.self.inside.letters.entries c.self.invariant.numbers c.args.number held
+    number_found c.self.inside.sent c.self.inside.letters.entries c.self.invariant.numbers c.args.number held c.place_of.result c.place_of.ensures
 
 -- the held letter of the number
 slot : (g : Over) (c : After-empty g) → HoldsAt c.self.inside.letters.entries c.args.number c.unwrap-at.result
 slot g c =
     let held = rw (← c.self.view_is) at c.requires in
-    holds_at c.self.inside.sent c.self.inside.letters.entries c.self.invariant.numbers c.args.number c.unwrap-at.result c.pair_mut-slot.result.0.now c.pair_mut-slot.result.1.now held (rw c.unwrap-at.ensures at c.place_of.ensures.place) c.pair_mut-slot.ensures.value
+    holds_at c.self.inside.sent c.self.inside.letters.entries c.self.invariant.numbers c.args.number c.unwrap-at.result c.pair_mut-slot.result.0.now c.pair_mut-slot.result.1.now held (rw c.unwrap-at.ensures at c.place_of.ensures) c.pair_mut-slot.ensures.value
 
 pub overflow_add-self : goal.overflow_add-self
 overflow_add-self g c =
     let one = slot g (goal.at.overflow_add-self g c).After-empty in
     omega (arith, holes-le-sent _ _ _ _ _ _ (left_hole _ _ _ _ _ _ c.self.invariant c.unwrap-at.result c.args.number one.letter one.there one.held), c.self.ranges)
 
-pub overflow_add-at : goal.overflow_add-at
-overflow_add-at g c =
-    let within = rw c.unwrap-at.ensures at c.place_of.ensures.within in
+pub overflow_add-behind : goal.overflow_add-behind
+overflow_add-behind g c =
+    let within = key_within c.args.number c.self.inside.letters.entries c.unwrap-at.result (rw c.unwrap-at.ensures at c.place_of.ensures) in
     omega (arith, within, length-numbered_le 0 c.self.inside.letters.entries c.self.inside.sent c.self.invariant.numbers, c.self.ranges)
 
 -- the table with the hole
@@ -43,13 +43,13 @@ gone g c =
 pub invariant_of-self : goal.invariant_of-self
 invariant_of-self g c = holed g (goal.at.invariant_of-self g c).After-empty
 
-pub invariant_of-self-else-at-len : goal.invariant_of-self-else-at-len
-invariant_of-self-else-at-len g c = holed g (goal.at.invariant_of-self-else-at-len g c).After-empty
+pub invariant_of-self-else-behind-len : goal.invariant_of-self-else-behind-len
+invariant_of-self-else-behind-len g c = holed g (goal.at.invariant_of-self-else-behind-len g c).After-empty
 
-pub returns-then-at-len-clause-letters : goal.returns-then-at-len-clause-letters
-returns-then-at-len-clause-letters g c =
-    rw (← c.self.view_is) (c.pop_holes.ensures.letters ∙ gone g (goal.at.returns-then-at-len-clause-letters g c).After-empty)
+pub returns-then-behind-len-clause-letters : goal.returns-then-behind-len-clause-letters
+returns-then-behind-len-clause-letters g c =
+    rw (← c.self.view_is) (c.pop_holes.ensures.letters ∙ gone g (goal.at.returns-then-behind-len-clause-letters g c).After-empty)
 
-pub returns-else-at-len-clause-letters : goal.returns-else-at-len-clause-letters
-returns-else-at-len-clause-letters g c =
-    rw (← c.self.view_is) (gone g (goal.at.returns-else-at-len-clause-letters g c).After-empty)
+pub returns-else-behind-len-clause-letters : goal.returns-else-behind-len-clause-letters
+returns-else-behind-len-clause-letters g c =
+    rw (← c.self.view_is) (gone g (goal.at.returns-else-behind-len-clause-letters g c).After-empty)

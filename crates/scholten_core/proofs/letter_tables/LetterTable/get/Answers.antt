@@ -1,11 +1,11 @@
-use Rattle.std.proofs.Common.{option_copied, ap, sym, ◌∙◌}
+use Rattle.std.proofs.Common.{option_copied, ap, ◌∙◌}
 use Rattle.scholten_core.proofs.Standing.{letter_absent, letter_there}
 use Rattle.scholten_core.proofs.letter_tables.LetterTable.get.Goals as goal
 
 pub returns-in_err-at : goal.returns-in_err-at
 returns-in_err-at g c =
-    rw (← c.self.view_is) (ap option_copied c.from_residual.ensures ∙ letter_absent c.self.inside.sent c.args.number c.self.inside.letters.entries c.self.invariant.numbers (sym c.in_err-at.ensures.found))
+    rw (← c.self.view_is) (ap option_copied c.from_residual.ensures ∙ letter_absent c.self.inside.sent c.args.number c.self.inside.letters.entries c.self.invariant.numbers c.in_err-at.ensures)
 
 pub returns : goal.returns
 returns g c =
-    rw (← c.self.view_is) (c.letter.ensures ∙ letter_there c.self.inside.sent c.args.number c.in_ok-at.at c.self.inside.letters.entries c.index.result.now c.self.invariant.numbers c.in_ok-at.ensures.place c.index.ensures)
+    rw (← c.self.view_is) (c.letter.ensures ∙ letter_there c.self.inside.sent c.args.number c.in_ok-at.at c.self.inside.letters.entries c.index.result.now c.self.invariant.numbers c.in_ok-at.ensures c.index.ensures)

@@ -3,7 +3,7 @@ use Rattle.scholten_core.specs.declared.letters.Letter.{Letter}
 use Rattle.scholten_core.specs.LetterTable.{standing}
 use Rattle.scholten_core.specs.Step.{mark}
 use Rattle.indexmap.specs.IndexMap.{set_value_at}
-use Rattle.scholten_core.proofs.Standing.{HoldsAt, holds_at, length-numbered_le, number_found, slot_value, standing-change}
+use Rattle.scholten_core.proofs.Standing.{HoldsAt, holds_at, key_within, length-numbered_le, number_found, slot_value, standing-change}
 use Rattle.scholten_core.proofs.Tables.{put_back, waits-le-sent}
 use Rattle.scholten_core.proofs.letter_tables.LetterTable.put_back.Given.{Over}
 use Rattle.scholten_core.proofs.letter_tables.LetterTable.put_back.Goals as goal
@@ -12,25 +12,25 @@ use Rattle.scholten_core.proofs.letter_tables.LetterTable.put_back.Goals.{After-
 pub unwrap-at-requires : goal.unwrap-at-requires
 unwrap-at-requires g c =
     let held = rw (← c.self.view_is) at c.requires in
-    c.place_of.ensures.found ∙ number_found c.self.inside.sent c.self.inside.letters.entries c.self.invariant.numbers c.args.number held
+    number_found c.self.inside.sent c.self.inside.letters.entries c.self.invariant.numbers c.args.number held c.place_of.result c.place_of.ensures
 
 pub overflow_add-at : goal.overflow_add-at
 overflow_add-at g c =
-    let within = rw c.unwrap-at.ensures at c.place_of.ensures.within in
+    let within = key_within c.args.number c.self.inside.letters.entries c.unwrap-at.result (rw c.unwrap-at.ensures at c.place_of.ensures) in
     omega (arith, within, length-numbered_le 0 c.self.inside.letters.entries c.self.inside.sent c.self.invariant.numbers, c.self.ranges)
 
 -- the held letter of the number
 slot : (g : Over) (c : After-hold g) → HoldsAt c.self.inside.letters.entries c.args.number c.unwrap-at.result
 slot g c =
     let held = rw (← c.self.view_is) at c.requires in
-    holds_at c.self.inside.sent c.self.inside.letters.entries c.self.invariant.numbers c.args.number c.unwrap-at.result c.pair_mut-slot.result.0.now c.pair_mut-slot.result.1.now held (rw c.unwrap-at.ensures at c.place_of.ensures.place) c.pair_mut-slot.ensures.value
+    holds_at c.self.inside.sent c.self.inside.letters.entries c.self.invariant.numbers c.args.number c.unwrap-at.result c.pair_mut-slot.result.0.now c.pair_mut-slot.result.1.now held (rw c.unwrap-at.ensures at c.place_of.ensures) c.pair_mut-slot.ensures.value
 
 -- what is written there
 written : (g : Over) (c : After-hold g) → c.hold.new.self ≡ Some (record (slot g c).letter { held = false })
 unfolding slot
 written g c =
     let held = rw (← c.self.view_is) at c.requires in
-    c.hold.ensures ∙ ap (option_map (λ (l : Letter _). record l { held = false })) (slot_value c.self.inside.sent c.self.inside.letters.entries c.self.invariant.numbers c.args.number c.unwrap-at.result c.pair_mut-slot.result.0.now c.pair_mut-slot.result.1.now held (rw c.unwrap-at.ensures at c.place_of.ensures.place) c.pair_mut-slot.ensures.value)
+    c.hold.ensures ∙ ap (option_map (λ (l : Letter _). record l { held = false })) (slot_value c.self.inside.sent c.self.inside.letters.entries c.self.invariant.numbers c.args.number c.unwrap-at.result c.pair_mut-slot.result.0.now c.pair_mut-slot.result.1.now held (rw c.unwrap-at.ensures at c.place_of.ensures) c.pair_mut-slot.ensures.value)
 
 pub overflow_add-self : goal.overflow_add-self
 overflow_add-self g c =

@@ -1,5 +1,5 @@
 -- A held letter is finished with a hint that is right for it, and waits again with another.
-use Rattle.std.proofs.Common.{refl, Some, option_copied, ◌∙◌, ◌≡◌, ◌↔◌, ◌<◌, length, IsTrue, Option, false, sym, ap, subst}
+use Rattle.std.proofs.Common.{Some, option_copied, ◌∙◌, ◌≡◌, ◌↔◌, ◌<◌, length, IsTrue, Option, false, sym, ap, subst}
 use Rattle.std.proofs.lemmas.Bool.{false≢true, true_from_ne_false}
 use Rattle.std.proofs.lemmas.Option.{none-some}
 use Rattle.credential_text.specs.declared.exprs.Expr.{Expr}
@@ -37,9 +37,9 @@ returns-then-not-hint_is_right-clause-finishes c =
     let waits = c.put_back.ensures.waits (true_from_ne_false c.put_back.result (λ no. none-some _ (sym (c.put_back.ensures.held no) ∙ there))) in
     subst (λ (x : SearchState). Finishes c.args.self.now x c.args.letter c.args.hint.now finished.BadHint) (sym waits.1)
     (subst (λ (x : SearchState). Finishes x (record x { stage = stage_marked c.args.letter false x.stage }) c.args.letter c.args.hint.now finished.BadHint) c.self.view_is
-    (wrongly s c.args.letter c.args.hint.now (held_at c.self.inside.found.graph.nodes c.in-Some.held) c.deref.result.now (stage_marked c.args.letter false s.stage) c.deref.ensures held
+    (wrongly s c.args.letter c.args.hint.now (held_at c.self.inside.found.graph.nodes c.in-Some.held) c.deref.result.now c.deref.ensures held
     (node_in (held_awaits s c.self.invariant.0.rules c.args.letter (held_at c.self.inside.found.graph.nodes c.in-Some.held) held))
-    (λ right. false≢true (sym c.if-not-hint_is_right.true ∙ (right_here (goal.at.returns-then-not-hint_is_right-clause-finishes c).After-hint_is_right).1 right)) refl))
+    (λ right. false≢true (sym c.if-not-hint_is_right.true ∙ (right_here (goal.at.returns-then-not-hint_is_right-clause-finishes c).After-hint_is_right).1 right))))
 
 pub receive_held-requires-clause-held : goal.receive_held-requires-clause-held
 receive_held-requires-clause-held c = subst (λ (x : SearchState). HoldsLetter x.stage c.args.letter (held_at x.graph.nodes c.in-Some.held)) c.self.view_is (c.in-Some.ensures.held c.self.inside.found.graph.nodes)
