@@ -39,8 +39,10 @@ returns-in-None c =
       record {
         lends = tt;
         here = tt;
-        nowhere = subst (λ (o : Option Tenant). IsNowhere c.args.number o NoSuchSearch) (sym here)
-            (refl, search_found c.seat.inside.searches c.args.number
-            ∙ none_passes (λ n. c.args.number == n) c.seat.inside.searches.entries c.place_of-place.result c.place_of-place.ensures (sym c.in-None.ensures.value));
+        nowhere = subst (λ (o : Option Tenant). IsNowhere c.args.number o NoSuchSearch) (sym here) (
+          refl,
+          search_found c.seat.inside.searches c.args.number
+              ∙ none_passes (λ n. c.args.number == n) c.seat.inside.searches.entries c.place_of-place.result c.place_of-place.ensures (sym c.in-None.ensures.value),
+        );
       },
     )

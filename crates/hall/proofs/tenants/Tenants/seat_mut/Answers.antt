@@ -30,7 +30,7 @@ returns-in-None c = (
     nobody = (
       refl,
       seat_found c.self.inside.seats c.args.self.now c.self.view_is c.args.who
-      ∙ none_passes (is_same c.args.who) c.self.inside.seats.entries c.place_of-place.result c.place_of-place.ensures (sym c.in-None.ensures.value),
+          ∙ none_passes (is_same c.args.who) c.self.inside.seats.entries c.place_of-place.result c.place_of-place.ensures (sym c.in-None.ensures.value),
     );
   },
 )
