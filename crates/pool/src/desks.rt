@@ -305,6 +305,22 @@ impl<L: Ledger> Desk<L> {
         Visited { finished, found }
     }
 
+    /// For a worker that will wait for something else: hands in the letters that it holds, and answers how many of them are
+    /// finished.
+    pub(crate) fn hand_in<R: Wait>(&self, rt: &R, batch: &mut Batch) -> u64
+        requires { IsLookedUp batch.old }
+        ensures handed_in { IsHandIn batch.old.letters result }
+        ensures looked { batch.new.looked ≡ 0 }
+        ensures space { batch.new.room ≡ batch.old.room }
+    {
+        let Some((who, number)) = batch.search() else {
+            return 0;
+        };
+        let HandedIn { finished, standing } = self.enter(rt).hand_in(batch);
+        self.ring(&who, number, standing);
+        finished
+    }
+
     /// Makes steps of the search that has its turn, once there is something to do.
     fn take_turn<'a, R: Wait>(
         &'a self,
