@@ -49,18 +49,21 @@ stopped_there r busy (inr idle) = decide r.stopped refl
 
 -- a search that was picked is visited in the same room
 pub visits_there : {who : List ℕ} {number : ℕ} {there at : RoomState} {memory : Bool} {new : HallState} {taken : List TakenLetter} →
-    there ≡ at → IsKept there → (SearchIsQuiet there.hall who number → ⊥) → IsVisited who number BATCH at.hall memory new taken →
-    (r : RoomState) × (after : HallState) × IsKept r × VisitsOne r.hall memory after taken
-visits_there {who} {number} {there} {at} {memory} {new} same kept left visited = (
+    there ≡ at → IsKept there → there.stopped ≡ false → (SearchIsQuiet there.hall who number → ⊥) → IsVisited who number BATCH at.hall memory new taken →
+    (r : RoomState) × (after : HallState) × IsKept r × ((r.stopped ≡ false) × VisitsOne r.hall memory after taken)
+visits_there {who} {number} {there} {at} {memory} {new} same kept goes_on left visited = (
   at,
   new,
   subst IsKept same kept,
-  record {
-    who = who;
-    number = number;
-    left = subst (λ (r : RoomState). SearchIsQuiet r.hall who number → ⊥) same left;
-    visited = visited;
-  },
+  (
+    subst (λ (r : RoomState). r.stopped ≡ false) same goes_on,
+    record {
+      who = who;
+      number = number;
+      left = subst (λ (r : RoomState). SearchIsQuiet r.hall who number → ⊥) same left;
+      visited = visited;
+    },
+  ),
 )
 
 -- a visit that neither found work nor lacked memory found that the desk was stopped

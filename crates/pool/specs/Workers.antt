@@ -17,10 +17,10 @@ pub record VisitsOne (old : HallState) (memory : Bool) (new : HallState) (taken 
   pub left : SearchIsQuiet old who number → ⊥
   pub visited : IsVisited who number BATCH old memory new taken
 
--- what a worker that had the lock found there, and took
+-- what a worker that had the lock found there, and took: it works only where the desk goes on
 abbrev pub IsFoundAt : RoomState → HallState → Found → List TakenLetter → Type 0
-IsFoundAt at after Work taken = VisitsOne at.hall true after taken
-IsFoundAt at after NoMemory taken = VisitsOne at.hall false after taken
+IsFoundAt at after Work taken = (at.stopped ≡ false) × VisitsOne at.hall true after taken
+IsFoundAt at after NoMemory taken = (at.stopped ≡ false) × VisitsOne at.hall false after taken
 IsFoundAt at after Stopped taken = (at.stopped ≡ true) × (taken ≡ [])
 
 -- the same in some room, as nobody knows who came before

@@ -1,4 +1,4 @@
-ghost use Rattle.std.specs.Prelude.{◌≡◌, ◌↔◌, ◌+◌, ◌≤◌, length, map, vec_len, IfOk, IfErr, IfSome, IfNone, OnOk, OnErr, Contains};
+ghost use Rattle.std.specs.Prelude.{◌≡◌, ◌↔◌, ◌+◌, ◌≤◌, false, length, map, vec_len, IfOk, IfErr, IfSome, IfNone, OnOk, OnErr, Contains};
 ghost use Rattle.std.specs.List.{IsDistinct};
 ghost use Rattle.std.specs.Sync.Mutex.{mutex_guard_value};
 ghost use Rattle.names.specs.Name.{is_same};
@@ -356,6 +356,7 @@ impl<L: Ledger> Desk<L> {
         turn: u64,
         batch: &mut Batch,
     ) -> Found
+        requires goes_on { (mutex_guard_value room).stopped ≡ false }
         requires left { SearchIsQuiet (mutex_guard_value room).hall who.now number → ⊥ }
         requires empty { IsEmpty batch.old }
         requires space { BATCH ≤ batch.old.room }

@@ -1,5 +1,5 @@
 //! What a worker does when it has the lock: the steps of one search in a row, and what it hands in.
-ghost use Rattle.std.specs.Prelude.{◌≡◌, ◌≤◌, ◌↔◌, ◌⊎◌, true, None, IsTrue, IfSome, IfOk, is_ok, length};
+ghost use Rattle.std.specs.Prelude.{◌≡◌, ◌≤◌, ◌↔◌, ◌⊎◌, false, true, None, IsTrue, IfSome, IfOk, is_ok, length};
 ghost use Rattle.search.specs.Batches.{IsEmpty, IsLookedUp};
 
 use crate::rooms::Room;
@@ -37,6 +37,7 @@ impl<L: Ledger> Room<L> {
     /// The search that a worker goes on with, by whose turn it is.
     pub(crate) fn pick(&self, turn: u64) -> Option<(Entity, u64)>
         ensures kept { IsKept self.now }
+        ensures goes_on { IfSome result (λ at. self.now.stopped ≡ false) }
         ensures left { IfSome result (λ at. SearchIsQuiet self.now.hall at.0 at.1 → ⊥) }
         ensures none { (result ≡ None) ↔ ((self.now.stopped ≡ true) ⊎ NothingToDo self.now.hall) }
     {
