@@ -1,5 +1,6 @@
 pub mod Passes
 pub mod Rooms
+pub mod Notices
 pub mod Refusals
 pub mod Verdicts
 pub mod Served

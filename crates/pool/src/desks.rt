@@ -43,7 +43,7 @@ pub struct Desk<L: Ledger> {
     /// Where workers wait for something to do.
     pub(crate) work: Condvar,
     /// Held by the worker that finishes many letters in each row of visits, where no gate may wait.
-    pub(crate) line: Mutex<()>,
+    line: Mutex<()>,
 }
 
 impl<L: Ledger> Model for Desk<L> {
@@ -132,11 +132,15 @@ impl<L: Ledger> Desk<L> {
             drop(room);
             return read_off(self.alloc, &search, &request);
         }
-        let ended = ended_by(pass.tenant(), &request);
-        let answered = room.serve(pass, request);
+        let served = room.serve(pass, request);
         drop(room);
-        self.tell(&answered, ended);
-        answered
+        match served {
+            Ok((reply, notice)) => {
+                notice.ring(&self.over, &self.work);
+                Ok(reply)
+            }
+            Err(fault) => Err(fault),
+        }
     }
 
     /// Makes a change, and answers how many changes of the tenant were accepted. Refused as `serve` is.
@@ -267,9 +271,8 @@ impl<L: Ledger> Desk<L> {
 
     /// Lets the workers end once they have given back what they hold, and ends each wait.
     pub fn stop<R: Wait>(&self, rt: &R) {
-        self.enter(rt).stop();
-        self.over.ring_all();
-        self.work.notify_all();
+        let notice = self.enter(rt).stop();
+        notice.ring(&self.over, &self.work);
     }
 
     /// For a worker: hands in the letters that it holds, and makes steps by which it takes others. It goes on with the
@@ -295,8 +298,8 @@ impl<L: Ledger> Desk<L> {
             let found = self.take_turn(rt, room, turn, batch);
             return Visited { finished: 0, found };
         };
-        let HandedIn { finished, standing } = room.hand_in(batch);
-        self.ring(&who, number, standing);
+        let (HandedIn { finished, standing }, notice) = room.hand_in(batch);
+        notice.ring(&self.over, &self.work);
         let found = if may_go_on && matches!(standing, Standing::Moves) && !room.stopped {
             self.make_steps(room, &who, number, turn, batch)
         } else {
@@ -310,15 +313,26 @@ impl<L: Ledger> Desk<L> {
     pub(crate) fn hand_in<R: Wait>(&self, rt: &R, batch: &mut Batch) -> u64
         requires { IsLookedUp batch.old }
         ensures handed_in { IsHandIn batch.old.letters result }
-        ensures looked { batch.new.looked ≡ 0 }
+        ensures empty { IsEmpty batch.new }
         ensures space { batch.new.room ≡ batch.old.room }
     {
-        let Some((who, number)) = batch.search() else {
+        let Some(_search) = batch.search() else {
             return 0;
         };
-        let HandedIn { finished, standing } = self.enter(rt).hand_in(batch);
-        self.ring(&who, number, standing);
-        finished
+        let (handed_in, notice) = self.enter(rt).hand_in(batch);
+        notice.ring(&self.over, &self.work);
+        handed_in.finished
+    }
+
+    /// For a worker that finishes many letters, where no gate may wait: it goes on alone once the one that has the line gives
+    /// it up. It holds no letter, since that one may need it. It wakes a worker first, since what was handed in may be all that
+    /// there is to do, and the one that has the line may sleep for want of that.
+    pub(crate) fn stand_in_line<R: Wait>(&self, rt: &R, batch: &Batch) -> MutexGuard<'_, ()>
+        requires { IsEmpty batch.now }
+    {
+        let _none = batch;
+        self.work.notify_one();
+        self.line.lock(rt)
     }
 
     /// Makes steps of the search that has its turn, once there is something to do.
@@ -367,42 +381,18 @@ impl<L: Ledger> Desk<L> {
         room.kept();
         let made = room.visit(*who, number, batch);
         let is_left = room.has_sleepers()
-            && (matches!(made, Ok(Standing::Moves)) || !room.is_idle(turn));
+            && (matches!(made, Ok((Standing::Moves, _))) || !room.is_idle(turn));
         drop(room);
         if is_left {
             self.work.notify_one();
         }
-        let Ok(standing) = made else {
-            return Found::NoMemory;
-        };
-        self.ring(who, number, standing);
-        Found::Work
-    }
-
-    /// Wakes whom an answer concerns: who waits for the search that it ended, or a worker for one that it opened.
-    fn tell(&self, answered: &Told<Reply>, ended: Option<(Entity, u64)>) {
-        let Ok(reply) = answered else { return };
-        if let Some((who, number)) = ended {
-            self.ring(&who, number, Standing::Over);
+        match made {
+            Ok((_standing, notice)) => {
+                notice.ring(&self.over, &self.work);
+                Found::Work
+            }
+            Err(_fault) => Found::NoMemory,
         }
-        if let Reply::Opened(_) = reply {
-            self.work.notify_one();
-        }
-    }
-
-    /// Wakes the callers who wait for the search, where it is over.
-    fn ring(&self, who: &Entity, number: u64, standing: Standing) {
-        if let Standing::Over = standing {
-            self.over.of(who, number).notify_all();
-        }
-    }
-}
-
-/// The search that the tenant's request ends, where it ends one.
-fn ended_by(who: Entity, request: &Request) -> Option<(Entity, u64)> {
-    match *request {
-        Request::Close(number) => Some((who, number)),
-        _ => None,
     }
 }
 

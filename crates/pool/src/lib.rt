@@ -3,7 +3,8 @@
 //!
 //! Each call of `Desk` says that some sound hall was found which served just this request of the pass's tenant
 //! (`specs/Served.antt`). A pass remembers the longest journal that it has seen, and each accepted change that was told counts
-//! once in a ledger (`specs/Passes.antt`). Who wakes whom is shown by tests, since no clause speaks of it.
+//! once in a ledger (`specs/Passes.antt`). Whom a call or a visit has to wake is told by a `Notice` (`specs/Notices.antt`), which nobody
+//! can drop. That who is woken goes on is shown by tests, since no clause speaks of it.
 #![tactic(auto)]
 
 mod bells;
@@ -11,6 +12,7 @@ mod bells;
 mod desk_tests;
 mod desks;
 mod faults;
+mod notices;
 mod passes;
 mod rooms;
 #[cfg(test)]

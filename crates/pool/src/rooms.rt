@@ -5,10 +5,12 @@ ghost use Rattle.search.specs.Search.{settled_of};
 ghost use Rattle.hall.specs.Answers.{answer_of};
 ghost use Rattle.pool.specs.Passes.{IsSeenAt, shares_of};
 ghost use Rattle.pool.specs.Rooms.{IsKept};
+ghost use Rattle.pool.specs.Notices.{request_concern};
 ghost use Rattle.pool.specs.Served.{IsAnsweredAt, IsLentAt, IsReadAs, IsPolledAt, IsVerdictOn, GoesOnWaiting};
 ghost use Rattle.pool.specs.Verdicts.{IsTrueWhereCompleted, rows_read};
 
 use crate::faults::{DeskFault, Told};
+use crate::notices::{Concern, Notice};
 use crate::passes::Pass;
 use crate::verdicts::{Gathered, Verdict};
 use hall::{Fault, Hall, Reply, Request, proof_of, told_of};
@@ -122,14 +124,18 @@ impl<L: Ledger> Room<L> {
         Ok(())
     }
 
-    /// Serves the request of the pass's tenant. Where the hall accepts a change, the pass is told of one change more.
-    pub(crate) fn serve(&mut self, pass: &mut Pass<L>, request: Request) -> Told<Reply>
-        ensures { IsAnsweredAt (λ r. r) self.old self.new pass.old pass.new request result }
+    /// Serves the request of the pass's tenant, and tells whom that concerns. Where the hall accepts a change, the pass is told
+    /// of one change more.
+    pub(crate) fn serve(&mut self, pass: &mut Pass<L>, request: Request) -> Told<(Reply, Notice)>
+        ensures answered { IsAnsweredAt (λ r. r.0) self.old self.new pass.old pass.new request result }
+        ensures notice { IfOk result (λ r. r.1 ≡ request_concern pass.old.tenant request) }
     {
         self.show(pass)?;
-        let reply = self.hall.ask(pass.tenant(), request)?;
+        let who = pass.tenant();
+        let concern = Concern::of_request(who, &request);
+        let reply = self.hall.ask(who, request)?;
         pass.hear(&mut self.book, &reply, self.hall.journal_len());
-        Ok(reply)
+        Ok((reply, Notice::of(concern)))
     }
 
     /// Where the request reads a completed search of the pass's tenant, that search: it doesn't change any more, so the reply
@@ -236,11 +242,13 @@ impl<L: Ledger> Room<L> {
         self.asleep != 0
     }
 
-    /// No worker goes on from now on, and no caller waits.
-    pub(crate) fn stop(&mut self)
-        ensures { self.new ≡ record self.old { stopped = true } }
+    /// No worker goes on from now on, and no caller waits, which concerns everybody.
+    pub(crate) fn stop(&mut self) -> Notice
+        ensures stopped { self.new ≡ record self.old { stopped = true } }
+        ensures notice { result ≡ Concern.Everybody }
     {
         self.stopped = true;
+        Notice::of(Concern::Everybody)
     }
 }
 

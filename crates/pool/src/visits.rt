@@ -1,7 +1,8 @@
 //! What a worker does when it has the lock: the steps of one search in a row, and what it hands in.
-ghost use Rattle.std.specs.Prelude.{◌≡◌, ◌≤◌, ◌↔◌, ◌⊎◌, false, true, None, IsTrue, IfSome, IfOk, is_ok, length};
+ghost use Rattle.std.specs.Prelude.{◌≡◌, ◌≤◌, ◌↔◌, ◌⊎◌, false, true, None, Some, IsTrue, IfSome, IfOk, is_ok, length};
 ghost use Rattle.search.specs.Batches.{IsEmpty, IsLookedUp};
 
+use crate::notices::{Concern, Notice};
 use crate::rooms::Room;
 use hall::{Batch, Fault, HandedIn, Standing};
 use names::Entity;
@@ -32,6 +33,7 @@ pub(crate) struct Visited {
 
 impl<L: Ledger> Room<L> {
     ghost use Rattle.pool.specs.Rooms.{IsIdle, IsKept};
+    ghost use Rattle.pool.specs.Notices.{concern_of};
     ghost use Rattle.hall.specs.Visits.{SearchIsQuiet, NothingToDo, IsVisited, StandsAt, StandsNamed, AreHandedIn};
 
     /// The search that a worker goes on with, by whose turn it is.
@@ -56,36 +58,43 @@ impl<L: Ledger> Room<L> {
     }
 
     /// One visit of a worker: up to so many steps of the search, signals first, then letters that it takes. Answers how the
-    /// search stands then.
+    /// search stands then, and whom that concerns.
     pub(crate) fn visit(
         &mut self,
         who: Entity,
         number: u64,
         batch: &mut Batch,
-    ) -> Result<Standing, Fault>
+    ) -> Result<(Standing, Notice), Fault>
         requires left { SearchIsQuiet self.old.hall who number → ⊥ }
         requires empty { IsEmpty batch.old }
         requires space { BATCH ≤ batch.old.room }
         ensures visited { IsVisited who number BATCH self.old.hall (is_ok result) self.new.hall batch.new.letters }
-        ensures stands { IfOk result (StandsAt self.new.hall who number) }
+        ensures stands { IfOk result (λ r. StandsAt self.new.hall who number r.0) }
+        ensures notice { IfOk result (λ r. r.1 ≡ concern_of (Some (who, number)) r.0) }
         ensures room { self.new ≡ record self.old { hall = self.new.hall } }
         ensures looked { batch.new.looked ≡ 0 }
         ensures space { batch.new.room ≡ batch.old.room }
     {
-        self.hall.visit(who, number, BATCH, batch)
+        let standing = self.hall.visit(who, number, BATCH, batch)?;
+        let concern = Concern::of_work(Some((who, number)), standing);
+        Ok((standing, Notice::of(concern)))
     }
 
-    /// Hands in all that a worker holds, and answers how many letters are finished and how their search stands. After a stop
-    /// they are given back.
-    pub(crate) fn hand_in(&mut self, batch: &mut Batch) -> HandedIn
+    /// Hands in all that a worker holds, and answers how many letters are finished, how their search stands, and whom that
+    /// concerns. After a stop they are given back.
+    pub(crate) fn hand_in(&mut self, batch: &mut Batch) -> (HandedIn, Notice)
         requires { IsLookedUp batch.old }
-        ensures handed_in { AreHandedIn self.old.stopped self.old.hall batch.old.letters result.finished self.new.hall }
-        ensures stands { StandsNamed self.new.hall batch.old.of result.standing }
+        ensures handed_in { AreHandedIn self.old.stopped self.old.hall batch.old.letters result.0.finished self.new.hall }
+        ensures stands { StandsNamed self.new.hall batch.old.of result.0.standing }
+        ensures notice { result.1 ≡ concern_of batch.old.of result.0.standing }
         ensures room { self.new ≡ record self.old { hall = self.new.hall } }
-        ensures most { result.finished ≤ length batch.old.letters }
+        ensures most { result.0.finished ≤ length batch.old.letters }
         ensures empty { IsEmpty batch.new }
         ensures space { batch.new.room ≡ batch.old.room }
     {
-        self.hall.hand_in(batch, self.stopped)
+        let search = batch.search();
+        let handed_in = self.hall.hand_in(batch, self.stopped);
+        let concern = Concern::of_work(search, handed_in.standing);
+        (handed_in, Notice::of(concern))
     }
 }

@@ -84,12 +84,9 @@ fn work<L: Ledger, G: Gate, R: Wait>(rt: &R, desk: &Desk<L>, gate: &G, mut turn:
         if finished.saturating_sub(before) < BATCH as u64 {
             line = None;
         } else if line.is_none() && !G::MAY_WAIT {
-            // The one that has the line may need what this one holds. And what is handed in may make work, for which it
-            // may be asleep.
             look_up_all(gate, &mut batch);
             finished = finished.saturating_add(desk.hand_in(rt, &mut batch));
-            desk.work.notify_one();
-            line = Some(desk.line.lock(rt));
+            line = Some(desk.stand_in_line(rt, &batch));
         }
     }
     desk.work.notify_one();

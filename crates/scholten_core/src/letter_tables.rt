@@ -256,6 +256,9 @@ impl<P: Drop> LetterTable<P> {
         ensures letters { self.new.letters ≡ self.old.letters }
         ensures sent { self.new.sent ≡ self.old.sent }
     {
+        if count == 0 {
+            return Ok(());
+        }
         if self.should_drop_holes(count) {
             self.drop_holes();
         }

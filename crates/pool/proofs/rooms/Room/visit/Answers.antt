@@ -1,4 +1,4 @@
-use Rattle.std.proofs.Common.{◌∙◌, ap, length, sym, subst}
+use Rattle.std.proofs.Common.{◌∙◌, ap, length, sym, subst, true}
 use Rattle.std.specs.Result.{is_ok}
 use Rattle.hall.specs.Hall.{HallState}
 use Rattle.hall.specs.Visits.{IsVisited}
@@ -7,8 +7,8 @@ use Rattle.pool.specs.declared.visits.TheConstants.{BATCH}
 use Rattle.pool.proofs.Visiting.{visited_journal}
 use Rattle.pool.proofs.rooms.Room.visit.Goals as goal
 
-pub invariant_of-self : goal.invariant_of-self
-invariant_of-self g c = (
+pub invariant_of-self-2 : goal.invariant_of-self-2
+invariant_of-self-2 g c = (
   c.self.invariant.0
       ∙ ap length (sym (visited_journal c.args.who c.args.number BATCH c.self.inside.hall (is_ok c.visit.result) c.visit.new.self c.visit.new.batch.letters c.visit.ensures.visited)),
   c.self.invariant.1,
@@ -19,9 +19,10 @@ invariant_of-self g c = (
 
 pub returns : goal.returns
 returns g c = record {
-  visited = subst (λ (h : HallState). IsVisited c.args.who c.args.number BATCH h (is_ok c.visit.result) c.visit.new.self c.visit.new.batch.letters) (ap (λ (r : RoomState). r.hall) c.self.view_is)
-      c.visit.ensures.visited;
-  stands = c.visit.ensures.stands;
+  visited = subst (λ (h : HallState). IsVisited c.args.who c.args.number BATCH h true c.visit.new.self c.visit.new.batch.letters) (ap (λ (r : RoomState). r.hall) c.self.view_is)
+      c.in_ok-standing.ensures.visited;
+  stands = c.in_ok-standing.ensures.stands;
+  notice = c.of.ensures ∙ c.of_work-concern.ensures;
   room = ap (λ (r : RoomState). record r { hall = c.visit.new.self }) c.self.view_is;
   looked = c.visit.ensures.looked;
   space = c.visit.ensures.room;
