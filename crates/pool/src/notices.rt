@@ -22,6 +22,7 @@ pub(crate) enum Concern {
 
 impl Concern {
     /// Whom work on the search of that name concerns, which stands so now.
+    #[inline(always)]
     pub(crate) fn of_work(search: Option<(Entity, u64)>, standing: Standing) -> Concern
         ensures { result ≡ concern_of search standing }
     {
@@ -59,6 +60,7 @@ impl Model for Notice {
 
 impl Notice {
     /// Of something that concerns these.
+    #[inline(always)]
     pub(crate) fn of(concern: Concern) -> Notice
         ensures { result ≡ concern }
     {
@@ -66,6 +68,7 @@ impl Notice {
     }
 
     /// Wakes whom it concerns.
+    #[inline(always)]
     pub(crate) fn ring(self, bells: &Bells, workers: &Condvar) {
         let Notice { concern } = self;
         match concern {

@@ -59,6 +59,7 @@ impl<L: Ledger> Room<L> {
 
     /// One visit of a worker: up to so many steps of the search, signals first, then letters that it takes. Answers how the
     /// search stands then, and whom that concerns.
+    #[inline(always)]
     pub(crate) fn visit(
         &mut self,
         who: Entity,
@@ -82,6 +83,7 @@ impl<L: Ledger> Room<L> {
 
     /// Hands in all that a worker holds, and answers how many letters are finished, how their search stands, and whom that
     /// concerns. After a stop they are given back.
+    #[inline(always)]
     pub(crate) fn hand_in(&mut self, batch: &mut Batch) -> (HandedIn, Notice)
         requires { IsLookedUp batch.old }
         ensures handed_in { AreHandedIn self.old.stopped self.old.hall batch.old.letters result.0.finished self.new.hall }
