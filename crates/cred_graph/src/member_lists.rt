@@ -5,10 +5,10 @@ use smallvec::SmallVec;
 use std::alloc::{AllocError, Global};
 use std::marker::Model;
 
-/// The numbers of each node's solutions, in order of adding. Four stand in a list itself.
+/// The numbers of each node's solutions, in order of adding. Eight stand in a list itself.
 #[derive(Drop)]
 pub struct MemberLists {
-    lists: Vec<SmallVec<u32, 4>>,
+    lists: Vec<SmallVec<u32, 8>>,
 }
 
 impl Model for MemberLists {
@@ -67,7 +67,7 @@ impl MemberLists {
 }
 
 /// Makes lists up to the one of this number.
-fn reach(lists: &mut Vec<SmallVec<u32, 4>>, n: usize) -> Result<(), AllocError>
+fn reach(lists: &mut Vec<SmallVec<u32, 8>>, n: usize) -> Result<(), AllocError>
     ensures same { AreSame (map (λ v. v.items) lists.old.items) (map (λ v. v.items) lists.new.items) }
     ensures reached { OnOk result (n < length lists.new.items) }
 {
@@ -79,7 +79,7 @@ fn reach(lists: &mut Vec<SmallVec<u32, 4>>, n: usize) -> Result<(), AllocError>
 }
 
 /// Adds an entity at the end of those of the node.
-fn push_at(lists: &mut Vec<SmallVec<u32, 4>>, n: usize, who: u32) -> Result<(), AllocError>
+fn push_at(lists: &mut Vec<SmallVec<u32, 8>>, n: usize, who: u32) -> Result<(), AllocError>
     requires { n < length lists.old.items }
     ensures added { OnOk result (map (λ v. v.items) lists.new.items ≡
         slice_set (map (λ v. v.items) lists.old.items) n (list_at (map (λ v. v.items) lists.old.items) n ++ who ∷ [])) }

@@ -36,6 +36,9 @@ pub struct Solved {
     pub who: u32,
 }
 
+/// Room for so many solutions is made with the first one, as many as sixteen groups of a map's index take.
+const FIRST_ROOM: usize = 144;
+
 /// A table of fewer solutions grows fourfold, so that it is moved and indexed anew less often.
 const SMALL: usize = 4096;
 
@@ -129,7 +132,7 @@ impl Solutions {
     {
         let count = self.reasons.len();
         if count == self.reasons.capacity() {
-            (3 * count.min(SMALL)).max(1)
+            (3 * count.min(SMALL)).max(FIRST_ROOM)
         } else {
             1
         }

@@ -124,7 +124,7 @@ impl Hall {
     pub fn open(&mut self, who: Entity, query: Query) -> Result<u64, Fault>
         ensures served { IsServed self.old who (request.Seek query) (told_as reply.Opened result) self.new }
     {
-        let seat = self.tenants.seat_mut(who)?;
+        let seat = self.tenants.seat_mut(&who)?;
         seat.open(self.alloc, &mut self.book, &mut self.busy, who, query)
     }
 
@@ -150,7 +150,7 @@ impl Hall {
     pub fn end(&mut self, who: Entity, number: u64) -> Result<(), Fault>
         ensures served { IsServed self.old who (request.Close number) (told_as (λ u. reply.Closed) result) self.new }
     {
-        let seat = self.tenants.seat_mut(who)?;
+        let seat = self.tenants.seat_mut(&who)?;
         leave(&mut self.busy, who, number);
         seat.end(number)
     }
@@ -179,7 +179,7 @@ impl Hall {
         ensures { IsStepped self.old step result self.new }
     {
         let (who, number) = step.search();
-        let Ok(opened) = self.tenants.opened_mut(who, number) else {
+        let Ok(opened) = self.tenants.opened_mut(&who, number) else {
             return Stepped::Gone;
         };
         let Carried::Own(search) = &mut opened.carried else {
@@ -196,7 +196,7 @@ impl Hall {
         ensures only_memory { IfErr result (λ f. f ≡ Fault.Memory) }
         ensures unchanged { OnErr result (self.new ≡ self.old) }
     {
-        let Ok(opened) = self.tenants.opened_mut(who, number) else {
+        let Ok(opened) = self.tenants.opened_mut(&who, number) else {
             return Ok(None);
         };
         let Carried::Own(search) = &mut opened.carried else {
@@ -229,7 +229,7 @@ impl Hall {
         ensures looked { batch.new.looked ≡ 0 }
         ensures room { batch.new.room ≡ batch.old.room }
     {
-        let Ok(opened) = self.tenants.opened_mut(who, number) else {
+        let Ok(opened) = self.tenants.opened_mut(&who, number) else {
             return Ok(Standing::Over);
         };
         let Carried::Own(search) = &mut opened.carried else {
@@ -273,7 +273,7 @@ impl Hall {
             finished: 0,
             standing: Standing::Over,
         };
-        let Ok(opened) = self.tenants.opened_mut(who, number) else {
+        let Ok(opened) = self.tenants.opened_mut(&who, number) else {
             return nothing;
         };
         let Carried::Own(search) = &mut opened.carried else {
@@ -306,7 +306,7 @@ impl Hall {
         ensures driven { CarriesOut self.old who (waits number) (told_as reply.Answered result) self.new }
         ensures quiet { SearchIsQuiet self.new who number }
     {
-        let opened = self.tenants.opened_mut(who, number)?;
+        let opened = self.tenants.opened_mut(&who, number)?;
         let told = drive(&mut opened.carried);
         settle(&mut self.busy, who, number, opened.carried.search());
         told
@@ -329,7 +329,7 @@ impl Hall {
             (λ shared. IsCompletedAt self.old who number (arc_value shared))) }
         ensures same { self.new ≡ self.old }
     {
-        let Ok(opened) = self.tenants.opened_mut(who, number) else {
+        let Ok(opened) = self.tenants.opened_mut(&who, number) else {
             return Ok(None);
         };
         if !opened.carried.search().is_completed() {

@@ -64,12 +64,12 @@ impl Tenants {
 
     /// The tenant's seat, to change.
     #[inline(always)]
-    pub(crate) fn seat_mut(&mut self, who: Entity) -> Result<&mut Seat, Fault>
-        ensures* lends { sem 𝓛 (LendsSeat self.entry who result) }
-        ensures here { IfOk result (λ seat. get self.old who ≡ Some seat.now) }
-        ensures nobody { IfErr result (λ f. (f ≡ Fault.NoTenant) × (get self.old who ≡ None)) }
+    pub(crate) fn seat_mut(&mut self, who: &Entity) -> Result<&mut Seat, Fault>
+        ensures* lends { sem 𝓛 (LendsSeat self.entry who.now result) }
+        ensures here { IfOk result (λ seat. get self.old who.now ≡ Some seat.now) }
+        ensures nobody { IfErr result (λ f. (f ≡ Fault.NoTenant) × (get self.old who.now ≡ None)) }
     {
-        let place = place_of(&self.seats, self.hand, &who);
+        let place = place_of(&self.seats, self.hand, who);
         self.hand = place;
         match self.seats.get_index_mut(place) {
             Some(seat) => Ok(seat),
@@ -78,10 +78,10 @@ impl Tenants {
     }
 
     /// The tenant's search of the number, to go on with. The order of refusals: 62, 51.
-    pub(crate) fn opened_mut(&mut self, who: Entity, number: u64) -> Result<&mut Opened, Fault>
-        ensures* lends { sem 𝓛 (LendsSearch self.entry who number result) }
-        ensures here { IfOk result (λ opened. search_of number (get self.old who) ≡ Some opened.now) }
-        ensures nowhere { IfErr result (IsNowhere number (get self.old who)) }
+    pub(crate) fn opened_mut(&mut self, who: &Entity, number: u64) -> Result<&mut Opened, Fault>
+        ensures* lends { sem 𝓛 (LendsSearch self.entry who.now number result) }
+        ensures here { IfOk result (λ opened. search_of number (get self.old who.now) ≡ Some opened.now) }
+        ensures nowhere { IfErr result (IsNowhere number (get self.old who.now)) }
     {
         let seat = self.seat_mut(who)?;
         let place = place_of(&seat.searches, seat.hand, &number);

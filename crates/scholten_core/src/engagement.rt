@@ -25,6 +25,9 @@ pub(crate) fn engaged_at(nodes: &Vec<Option<Engagement>>, node: u64) -> Option<E
     }
 }
 
+/// Room for so many nodes at least is made where it lacks.
+const FEW: usize = 32;
+
 // Makes a place for a node. A number for which no list of nodes can be had is want of memory.
 fn make_place(nodes: &mut Vec<Option<Engagement>>, node: u64) -> Result<(), AllocError>
     ensures place { OnOk result (node < vec_len nodes.new) }
@@ -38,6 +41,9 @@ fn make_place(nodes: &mut Vec<Option<Engagement>>, node: u64) -> Result<(), Allo
     let Some(count) = place.checked_add(1) else {
         return Err(AllocError);
     };
+    if count > nodes.capacity() {
+        nodes.reserve((count - nodes.len()).max(FEW))?;
+    }
     nodes.resize(count, None)
 }
 

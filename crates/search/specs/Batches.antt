@@ -88,10 +88,6 @@ pub data WorksOn (who : List ℕ) (k : ℕ) (s : SearchState) : ℕ → List Tak
   letter : {n : ℕ} {taken : List TakenLetter} {job : TakenLetter} {middle t : SearchState} → WorksOn who k s n taken middle →
       TakesAs who k 0 middle job t → WorksOn who k s (n + 1) (taken ++ job ∷ []) t
 
--- so many steps were made at most, fewer only where nothing is left to do
-abbrev pub WorksUpTo : List ℕ → ℕ → ℕ → SearchState → SearchState → List TakenLetter → Type 0
-WorksUpTo who k most s t taken = (n : ℕ) × (n ≤ most) × WorksOn who k s n taken t × ((n ≡ most) ⊎ IsQuiet t.stage)
-
 -- so many steps are all that may be made, or nothing was left to do; without memory there is none
 abbrev pub IsWhole : ℕ → ℕ → Type 0 → Bool → Type 0
 IsWhole most n nothing_left true = (n ≡ most) ⊎ nothing_left

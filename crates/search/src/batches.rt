@@ -1,10 +1,10 @@
 //! Letters of one search that are taken in a row, looked up elsewhere, and handed in together.
 ghost use Rattle.std.specs.Prelude.{◌≡◌, ◌+◌, ◌++◌, ◌∷◌, ◌<◌, ◌≤◌, List, ℕ, [], length, map, vec_len, vec_capacity};
-ghost use Rattle.std.specs.Prelude.{None, option_copied, MatchOption, IfOk, is_ok};
+ghost use Rattle.std.specs.Prelude.{true, None, option_copied, MatchOption, IfOk, is_ok};
 ghost use Rattle.search.specs.Need.{need_for};
 ghost use Rattle.std.specs.List.{AllWithin};
 ghost use Rattle.std.specs.Arc.{arc_value};
-ghost use Rattle.search.specs.Batches.{IsLookedUpIn, taken_of, Visits, WorksUpTo, MakesStep, HandsInAs, HandsInEach};
+ghost use Rattle.search.specs.Batches.{IsLookedUpIn, taken_of, Visits, MakesStep, HandsInAs, HandsInEach};
 
 use crate::outcomes::Finished;
 use crate::queries::{Hint, Need};
@@ -190,7 +190,7 @@ fn take_each(search: &mut Search, of: &NamedSearch, most: usize, held_letters: &
     requires reads { arc_value of.now.snapshot ≡ search.old.snapshot }
     requires empty { held_letters.old.items ≡ [] }
     requires space { most ≤ vec_capacity held_letters.old }
-    ensures visited { WorksUpTo of.now.who of.now.number most search.old search.new
+    ensures visited { Visits of.now.who of.now.number most search.old true search.new
         (map (taken_of of.now) held_letters.new.items) }
     ensures bound { vec_len held_letters.new ≤ most }
     ensures capacity { vec_capacity held_letters.new ≡ vec_capacity held_letters.old }

@@ -1,4 +1,6 @@
 //! How a search is carried on by itself, with what its own snapshot says.
+ghost use Rattle.std.specs.Prelude.{◌≡◌, false, true};
+
 use crate::searches::Search;
 
 impl Search {
@@ -6,20 +8,21 @@ impl Search {
     ghost use Rattle.search.specs.Stage.{IsQuiet, NoneHeld, HoldsAsBefore};
     ghost use Rattle.search.specs.Driven.{DriveStep, Makes, IsDriven};
 
-    // Makes the next step: the oldest signal, else the first waiting letter.
+    // Makes the next step, the oldest signal, else the first waiting letter, and tells whether there was one to make.
     #[inline(always)]
-    fn make_step(&mut self)
-        requires { IsQuiet self.old.stage → ⊥ }
-        ensures { (step : DriveStep) × Makes self.old step self.new }
+    fn make_step(&mut self) -> bool
+        ensures made { result ≡ true → (step : DriveStep) × Makes self.old step self.new }
+        ensures none { result ≡ false → IsQuiet self.old.stage × (self.new ≡ self.old) }
     {
         if self.signals() > 0 {
             self.signal(0);
-            return;
+            return true;
         }
         let Some((letter, held)) = self.take_held(0) else {
-            unreachable!()
+            return false;
         };
         let _finished = self.receive_held(letter, &held, None);
+        true
     }
 
     /// Carries the search on until nothing more of it can be: the oldest signal goes first, then the first waiting
@@ -33,8 +36,7 @@ impl Search {
         ensures question { SameQuestion self.old self.new }
         ensures settles { Settles self.old self.new }
     {
-        while !self.is_quiet() {
-            self.make_step();
-        }
+        while self.make_step() {}
+        let _settled = self.is_quiet();
     }
 }

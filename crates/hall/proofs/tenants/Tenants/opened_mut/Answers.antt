@@ -16,7 +16,7 @@ returns-in-Some c =
         refl,
         (λ w ok journal.
             search_written c.seat.inside.searches c.args.number c.place_of-place.result c.in-Some.opened.now c.get_index_mut.ensures.unique c.place_of-place.ensures
-            (sym c.in-Some.ensures.value) c.args.self.now c.args.who c.seat.inside.limits c.seat.inside.opens here w journal),
+            (sym c.in-Some.ensures.value) c.args.self.now c.args.who.now c.seat.inside.limits c.seat.inside.opens here w journal),
         tt,
       ),
       record {
@@ -34,7 +34,7 @@ returns-in-None c =
       (
         refl,
         (λ w no journal. absurd (false≢true no)),
-        insert_again names_exact c.args.self.now c.args.who (tenant_of c.seat.inside.limits c.seat.inside.opens c.seat.inside.searches) here,
+        insert_again names_exact c.args.self.now c.args.who.now (tenant_of c.seat.inside.limits c.seat.inside.opens c.seat.inside.searches) here,
       ),
       record {
         lends = tt;

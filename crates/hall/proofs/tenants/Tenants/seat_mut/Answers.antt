@@ -10,12 +10,12 @@ returns-in-Some c =
       λ i. inl (
         c.in-Some.seat.ghost_name,
         λ w.
-            seat_written s c.args.self.now c.self.view_is c.args.who c.place_of-place.result c.in-Some.seat.now c.get_index_mut.ensures.unique c.place_of-place.ensures
+            seat_written s c.args.self.now c.self.view_is c.args.who.now c.place_of-place.result c.in-Some.seat.now c.get_index_mut.ensures.unique c.place_of-place.ensures
             (sym c.in-Some.ensures.value) w i,
       ),
       record {
         lends = tt;
-        here = seat_there s c.args.self.now c.self.view_is c.args.who c.place_of-place.result c.in-Some.seat.now c.get_index_mut.ensures.unique c.place_of-place.ensures
+        here = seat_there s c.args.self.now c.self.view_is c.args.who.now c.place_of-place.result c.in-Some.seat.now c.get_index_mut.ensures.unique c.place_of-place.ensures
             (sym c.in-Some.ensures.value);
         nobody = tt;
       },
@@ -29,8 +29,8 @@ returns-in-None c = (
     here = tt;
     nobody = (
       refl,
-      seat_found c.self.inside.seats c.args.self.now c.self.view_is c.args.who
-          ∙ none_passes (is_same c.args.who) c.self.inside.seats.entries c.place_of-place.result c.place_of-place.ensures (sym c.in-None.ensures.value),
+      seat_found c.self.inside.seats c.args.self.now c.self.view_is c.args.who.now
+          ∙ none_passes (is_same c.args.who.now) c.self.inside.seats.entries c.place_of-place.result c.place_of-place.ensures (sym c.in-None.ensures.value),
     );
   },
 )

@@ -9,13 +9,13 @@ use Rattle.search.specs.Search.{SearchState}
 use Rattle.search.proofs.Driven.{first_goes, nothing_first, finishes_first}
 use Rattle.search.proofs.searches.Search.make_step.Goals as goal
 
-pub unreachable-requires : goal.unreachable-requires
-unreachable-requires c =
-    c.requires (nothing_first c.args.self.now.stage (omega (arith, c.if-signals-gt0.false, c.signals.ensures)) c.in_default.ensures.taken.0)
+pub returns-in_default-clause-none : goal.returns-in_default-clause-none
+returns-in_default-clause-none c =
+    λ _. (nothing_first c.args.self.now.stage (omega (arith, c.if-signals-gt0.false, c.signals.ensures)) c.in_default.ensures.taken.0, c.in_default.ensures.taken.1)
 
-pub returns : goal.returns
-returns c =
-    finishes_first c.args.self.now c.take_held.new.self c.receive_held-finished.new.self c.in-Some.letter (held_at c.args.self.now.graph.nodes c.in-Some.held) c.receive_held-finished.result
+pub returns-clause-made : goal.returns-clause-made
+returns-clause-made c =
+    λ _. finishes_first c.args.self.now c.take_held.new.self c.receive_held-finished.new.self c.in-Some.letter (held_at c.args.self.now.graph.nodes c.in-Some.held) c.receive_held-finished.result
     (omega (arith, c.if-signals-gt0.false, c.signals.ensures))
     c.in-Some.ensures.taken c.in-Some.ensures.settles (subst (λ (g : GraphState). Receives c.take_held.new.self c.receive_held-finished.new.self c.in-Some.letter (letter_in (held_at g.nodes c.in-Some.held)) c.receive_held-finished.result) (ap (λ (x : SearchState). x.graph) c.in-Some.ensures.taken.takes.after) c.receive_held-finished.ensures.receives) c.receive_held-finished.ensures.settles
 
@@ -23,8 +23,8 @@ pub receive_held-finished-requires-clause-held : goal.receive_held-finished-requ
 receive_held-finished-requires-clause-held c =
     subst (λ (g : GraphState). HoldsLetter c.take_held.new.self.stage c.in-Some.letter (held_at g.nodes c.in-Some.held)) (sym (ap (λ (x : SearchState). x.graph) c.in-Some.ensures.taken.takes.after)) c.in-Some.ensures.taken.holds
 
-pub returns-then-signals-gt0 : goal.returns-then-signals-gt0
-returns-then-signals-gt0 c = (
+pub returns-then-signals-gt0-clause-made : goal.returns-then-signals-gt0-clause-made
+returns-then-signals-gt0-clause-made c = λ _. (
   a_signal,
   record {
     delivered = first_goes c.args.self.now.stage c.signal.new.self.stage c.signal.result (omega (arith, c.if-signals-gt0.true, c.signals.ensures)) c.signal.ensures.delivered;

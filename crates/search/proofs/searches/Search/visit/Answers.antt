@@ -1,10 +1,10 @@
-use Rattle.std.proofs.Common.{arith, ap, ◌≡◌, ◌≤◌, ◌∙◌, ◌∷◌, [], List, None, Option, rules, Some, length, map, vec_len, refl, sym, subst, vec_capacity}
+use Rattle.std.proofs.Common.{arith, ap, true, ◌≡◌, ◌≤◌, ◌∙◌, ◌∷◌, [], List, None, Option, rules, Some, length, map, vec_len, refl, sym, subst, vec_capacity}
 use Rattle.std.proofs.lemmas.Result.{err_from_is_err_and}
 use Rattle.std.proofs.lemmas.Bool.{eqb-true}
 use Rattle.std.proofs.lemmas.List.{length-map}
 use Rattle.search.specs.declared.batches.HeldLetter.{HeldLetter}
 use Rattle.search.specs.declared.batches.NamedSearch.{NamedSearch}
-use Rattle.search.specs.Batches.{BatchState, TakenLetter, WorksOn, WorksUpTo, letters_of, taken_of}
+use Rattle.search.specs.Batches.{BatchState, TakenLetter, Visits, WorksOn, letters_of, taken_of}
 use Rattle.search.proofs.Batched.{batch, none_in}
 use Rattle.search.proofs.searches.Search.visit.Goals.{Joined-batch}
 use Rattle.search.proofs.searches.Search.visit.Goals as goal
@@ -28,7 +28,7 @@ is_batch c = search rules
 
 pub returns-then-not-is_empty-clause-visited : goal.returns-then-not-is_empty-clause-visited
 returns-then-not-is_empty-clause-visited c =
-    subst (λ (b : BatchState). WorksUpTo c.args.who c.args.number c.args.most c.args.self.now c.take_each.new.search b.letters) (sym (is_batch c)) c.take_each.ensures.visited
+    subst (λ (b : BatchState). Visits c.args.who c.args.number c.args.most c.args.self.now true c.take_each.new.search b.letters) (sym (is_batch c)) c.take_each.ensures.visited
 
 pub returns-then-not-is_empty-clause-looked : goal.returns-then-not-is_empty-clause-looked
 returns-then-not-is_empty-clause-looked c = ap (λ (b : BatchState). b.looked) (is_batch c) ∙ ap (λ (b : BatchState). b.looked) c.batch.view_is ∙ c.requires.empty.1
@@ -48,7 +48,7 @@ pub returns-else-not-is_empty-clause-visited : goal.returns-else-not-is_empty-cl
 returns-else-not-is_empty-clause-visited c =
     let held = c.take_each.new.held_letters in
     let none : length held.items ≡ 0 = omega (arith, eqb-true (vec_len held) 0 (sym c.if-not-is_empty.ensures), held.ok.0) in
-    subst (λ (ls : List TakenLetter). WorksUpTo c.args.who c.args.number c.args.most c.args.self.now c.take_each.new.search ls)
+    subst (λ (ls : List TakenLetter). Visits c.args.who c.args.number c.args.most c.args.self.now true c.take_each.new.search ls)
     (sym (none_are c.batch.inside.of (record { who = c.args.who; number = c.args.number; snapshot = c.in_ok-clone.field-0 }) held.items none)) c.take_each.ensures.visited
 
 pub returns-else-not-is_empty-clause-looked : goal.returns-else-not-is_empty-clause-looked
