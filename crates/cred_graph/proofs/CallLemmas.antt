@@ -8,14 +8,10 @@ use Rattle.cred_graph.specs.declared.ports.KeptPort.{KeptPort}
 use Rattle.cred_graph.specs.declared.solutions.Solution.{Solution}
 use Rattle.cred_graph.specs.declared.solutions.Solved.{Solved}
 use Rattle.cred_graph.specs.declared.solutions.Reason.{Reason}
-use Rattle.cred_graph.specs.GraphState.{GraphState, IsSolution, Listens}
-use Rattle.cred_graph.specs.Reason.{Fits}
-use Rattle.cred_graph.specs.Graph.{IsGraph, ListenerGiven, SolutionGiven}
+use Rattle.cred_graph.specs.Graph.{GraphState, IsSolution, Listens, Fits, IsGraph, ListenerGiven, SolutionGiven}
 use Rattle.cred_graph.specs.Numbers.{IsEntity, IsReason, entity_at, reason_at}
 use Rattle.cred_graph.specs.NodeLists.{list_at, AreSame}
-use Rattle.cred_graph.specs.Kept.{HearsOf, IsKept, Joins, kept_as, listening_as}
-use Rattle.cred_graph.specs.Solved.{HasKey, Solves, solution_as}
-use Rattle.cred_graph.specs.Stored.{graph_as, IsStored}
+use Rattle.cred_graph.specs.Stored.{HearsOf, IsKept, Joins, kept_as, listening_as, HasKey, Solves, solution_as, graph_as, IsStored}
 use Rattle.cred_graph.proofs.Lists.{Contains-at_place, behind_map, pushed_there}
 use Rattle.cred_graph.proofs.StoredLemmas.{listed_at-lists_from, joined_view, stored-joined, listener_view, listens_stored, stored_listens, stored-listener, solution_view, solution_stored, stored_solution, stored-solution}
 

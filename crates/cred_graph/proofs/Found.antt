@@ -2,9 +2,7 @@
 use Rattle.std.proofs.Common.{ℕ, ◌≡◌, List, Some, slice_get}
 use Rattle.cred_graph.specs.declared.solutions.Solution.{Solution}
 use Rattle.cred_graph.specs.declared.solutions.Reason.{Reason}
-use Rattle.cred_graph.specs.GraphState.{GraphState, HasSolution, before}
-use Rattle.cred_graph.specs.Reason.{Fits}
-use Rattle.cred_graph.specs.Graph.{IsGraph}
+use Rattle.cred_graph.specs.Graph.{GraphState, HasSolution, before, Fits, IsGraph}
 use Rattle.cred_graph.proofs.Lists.{Contains-at_place}
 
 pub solution_at_place : (solutions : List Solution) (place n : ℕ) (who : List ℕ) (why : Reason ℕ (List ℕ)) → slice_get solutions place ≡ Some (record { node = n; who = who; reason = why }) → HasSolution solutions n who

@@ -12,10 +12,8 @@ use Rattle.cred_graph.specs.declared.listeners.Listening.{Listening}
 use Rattle.cred_graph.specs.declared.solutions.Solution.{Solution}
 use Rattle.cred_graph.specs.declared.solutions.Reason.{Reason}
 use Rattle.cred_graph.specs.declared.solutions.Reason.TheVariants as reason
-use Rattle.cred_graph.specs.GraphState.{GraphState, IsNode, Listens, IsSolution, Known, listed_with, before}
+use Rattle.cred_graph.specs.Graph.{GraphState, IsNode, Listens, IsSolution, Known, listed_with, before, Fits, IsGraph}
 use Rattle.cred_graph.specs.NodeLists.{list_at}
-use Rattle.cred_graph.specs.Reason.{Fits}
-use Rattle.cred_graph.specs.Graph.{IsGraph}
 use Rattle.cred_graph.proofs.Lists.{Contains-at_place, slice_get_stays, slice_get_push_cases}
 
 -- nodes and solutions stay

@@ -12,7 +12,7 @@ use Rattle.cred_graph.specs.declared.ports.KeptPort.{KeptPort}
 use Rattle.cred_graph.specs.declared.ports.KeptPort.TheVariants as kept
 use Rattle.cred_graph.specs.NodeLists.{IsOnce, list_at}
 use Rattle.cred_graph.specs.Numbers.{entity_at}
-use Rattle.cred_graph.specs.Kept.{kept_as, IsKept, Joins, listening_as}
+use Rattle.cred_graph.specs.Stored.{kept_as, IsKept, Joins, listening_as}
 use Rattle.cred_graph.proofs.Growth.{one_place}
 use Rattle.cred_graph.proofs.Lists.{Contains-at_place, place_of_Contains, slice_get_stays, behind_map, seen_at}
 use Rattle.cred_graph.proofs.NumberLemmas.{entity_is, entity_stays}

@@ -13,7 +13,7 @@ use Rattle.cred_graph.specs.declared.listeners.FarListening.{FarListening}
 use Rattle.cred_graph.specs.contracts.listeners.KeptListeningPartialEq.TheImpl as kept
 use Rattle.cred_graph.specs.contracts.listeners.FarListeningPartialEq.TheImpl as far
 use Rattle.cred_graph.specs.NodeLists.{list_at, AreSame, AddsAt}
-use Rattle.cred_graph.specs.Kept.{AreFar}
+use Rattle.cred_graph.specs.Stored.{AreFar}
 use Rattle.cred_graph.proofs.Keys.{kept_decided, far_decided}
 use Rattle.cred_graph.proofs.Tables.{any_exact, insert_key-absent}
 

@@ -7,12 +7,10 @@ use Rattle.cred_graph.specs.declared.listeners.KeptListening.{KeptListening}
 use Rattle.cred_graph.specs.declared.solutions.Solution.{Solution}
 use Rattle.cred_graph.specs.declared.solutions.Reason.{Reason}
 use Rattle.cred_graph.specs.declared.solutions.Solved.{Solved}
-use Rattle.cred_graph.specs.GraphState.{GraphState, IsSolution, listeners_of, members_of, before}
+use Rattle.cred_graph.specs.Graph.{GraphState, IsSolution, listeners_of, members_of, before}
 use Rattle.cred_graph.specs.Numbers.{IsEntity, entity_at, reason_at}
 use Rattle.cred_graph.specs.NodeLists.{list_at}
-use Rattle.cred_graph.specs.Kept.{IsKept, listening_as}
-use Rattle.cred_graph.specs.Solved.{HasKey, members_by, solution_as}
-use Rattle.cred_graph.specs.Stored.{graph_as, IsStored}
+use Rattle.cred_graph.specs.Stored.{IsKept, listening_as, HasKey, members_by, solution_as, graph_as, IsStored}
 use Rattle.cred_graph.proofs.Lists.{Contains-at_place, place_of_Contains, behind_map, seen_at, filter_mapped, filtered_from, map-map}
 use Rattle.cred_graph.proofs.NumberLemmas.{entity_is}
 use Rattle.cred_graph.proofs.StoredLemmas.{listed_at-lists_from, solution_stored}

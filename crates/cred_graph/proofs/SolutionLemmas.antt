@@ -9,7 +9,7 @@ use Rattle.cred_graph.specs.declared.solutions.Solved.{Solved}
 use Rattle.cred_graph.specs.declared.solutions.Reason.{Reason}
 use Rattle.cred_graph.specs.contracts.solutions.SolvedPartialEq.TheImpl as solved
 use Rattle.cred_graph.specs.NodeLists.{list_at, AddsAt}
-use Rattle.cred_graph.specs.Solved.{HasKey, members_by, AreMembers}
+use Rattle.cred_graph.specs.Stored.{HasKey, members_by, AreMembers}
 use Rattle.cred_graph.proofs.Keys.{solved_decided}
 use Rattle.cred_graph.proofs.Lists.{Contains-at_place, place_of_Contains}
 use Rattle.cred_graph.proofs.Tables.{lookup_key_is, lookup_key_none, insert_entry-absent}

@@ -9,9 +9,7 @@ use Rattle.credential_text.specs.Expr.{part_expr, HasPartsInRange}
 use Rattle.cred_graph.specs.declared.solutions.Solution.{Solution}
 use Rattle.cred_graph.specs.declared.solutions.Reason.{Reason}
 use Rattle.cred_graph.specs.declared.solutions.Reason.TheVariants as reason
-use Rattle.cred_graph.specs.GraphState.{GraphState, IsNode, IsSolution, Known, before}
-use Rattle.cred_graph.specs.Reason.{Fits}
-use Rattle.cred_graph.specs.Graph.{IsGraph}
+use Rattle.cred_graph.specs.Graph.{GraphState, IsNode, IsSolution, Known, before, Fits, IsGraph}
 use Rattle.cred_graph.specs.Numbers.{HasNumbers}
 use Rattle.cred_graph.proofs.Lists.{Contains-at_place, place_of_Contains}
 

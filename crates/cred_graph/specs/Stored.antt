@@ -1,15 +1,80 @@
--- What the tables of a graph keep.
-use Rattle.std.specs.Prelude.{ℕ, List, [], ◌≡◌, ◌≤◌, Some, Contains, length, map, slice_get}
+-- What the tables of a graph keep
+use Rattle.std.specs.Prelude.{ℕ, zero, suc, List, [], ◌∷◌, ◌++◌, ◌≡◌, ◌<◌, ◌↔◌, ◌⊎◌, Bool, true, false, Some, Contains, drop, length, map}
+use Rattle.std.specs.Prelude.{slice_get, ◌==◌, filter, ◌≤◌}
 use Rattle.credential_text.specs.declared.exprs.Expr.{Expr}
+use Rattle.credential_text.specs.declared.exprs.Expr.TheVariants.{Ent}
+use Rattle.cred_graph.specs.declared.listeners.Port.{Port}
+use Rattle.cred_graph.specs.declared.listeners.Port.TheVariants as port
+use Rattle.cred_graph.specs.declared.listeners.Listening.{Listening}
 use Rattle.cred_graph.specs.declared.listeners.KeptListening.{KeptListening}
-use Rattle.cred_graph.specs.declared.solutions.Solved.{Solved}
+use Rattle.cred_graph.specs.declared.listeners.FarListening.{FarListening}
+use Rattle.cred_graph.specs.declared.ports.KeptPort.{KeptPort}
+use Rattle.cred_graph.specs.declared.ports.KeptPort.TheVariants as kept
+use Rattle.cred_graph.specs.Numbers.{entity_at, reason_at, IsEntity, IsReason}
+use Rattle.cred_graph.specs.NodeLists.{list_at, AddsAt, AreSame, IsOnce}
 use Rattle.cred_graph.specs.declared.solutions.Reason.{Reason}
-use Rattle.cred_graph.specs.GraphState.{GraphState}
-use Rattle.cred_graph.specs.Graph.{IsGraph}
-use Rattle.cred_graph.specs.Numbers.{IsEntity, IsReason}
-use Rattle.cred_graph.specs.NodeLists.{IsOnce, list_at}
-use Rattle.cred_graph.specs.Kept.{IsKept, lists_from}
-use Rattle.cred_graph.specs.Solved.{solution_as}
+use Rattle.cred_graph.specs.declared.solutions.Solution.{Solution}
+use Rattle.cred_graph.specs.declared.solutions.Solved.{Solved}
+use Rattle.cred_graph.specs.Graph.{GraphState, IsGraph}
+
+-- the port that this one stands for
+abbrev pub kept_as : List Expr → List (List ℕ) → KeptPort → Port (List ℕ)
+kept_as nodes strangers kept.Body = port.Body
+kept_as nodes strangers kept.Base = port.Base
+kept_as nodes strangers (kept.Via k) = port.Via (entity_at nodes k)
+kept_as nodes strangers (kept.Stranger j) = port.Via (list_at strangers j)
+kept_as nodes strangers (kept.Part i) = port.Part i
+
+-- its number is that of an entity that is no stranger, or of a stranger
+abbrev pub IsKept : List Expr → List (List ℕ) → KeptPort → Type 0
+IsKept nodes strangers (kept.Via k) = (who : List ℕ) × (slice_get nodes k ≡ Some (Ent who)) × (Contains strangers who → ⊥)
+IsKept nodes strangers (kept.Stranger j) = j < length strangers
+IsKept nodes strangers _ = Unit {0}
+
+-- the strangers stay, and may be joined by one more, who has no node
+abbrev pub Joins : List Expr → List (List ℕ) → List (List ℕ) → Type 0
+Joins nodes old new = (new ≡ old) ⊎ ((who : List ℕ) × (Contains nodes (Ent who) → ⊥) × (Contains old who → ⊥) × (new ≡ old ++ who ∷ []))
+
+-- the listener that this one stands for
+abbrev pub listening_as : List Expr → List (List ℕ) → KeptListening → Listening
+listening_as nodes strangers l = record { asker = l.asker; port = kept_as nodes strangers l.port }
+
+-- the listeners of k nodes from the node n on
+abbrev pub lists_from : List Expr → List (List ℕ) → ℕ → ℕ → List (List KeptListening) → List (List Listening)
+lists_from nodes strangers n zero lists = []
+lists_from nodes strangers n (suc k) lists =
+    map (listening_as nodes strangers) (list_at lists n) ∷ lists_from nodes strangers (suc n) k lists
+
+-- a table has the listeners of each node beyond the first 8
+abbrev pub AreFar : List (List KeptListening) → List FarListening → Type 0
+AreFar lists rows =
+    (n : ℕ) (l : KeptListening) → Contains rows (record { asked = n; listening = l }) ↔ Contains (drop 8 (list_at lists n)) l
+
+-- the list of this number has the listener now, and b says whether it is new
+abbrev pub HearsOf : List (List KeptListening) → List (List KeptListening) → ℕ → KeptListening → Bool → Type 0
+HearsOf old new n l true = (Contains (list_at old n) l → ⊥) × AddsAt old new n l
+HearsOf old new n l false = Contains (list_at old n) l × AreSame old new
+
+-- the solution that an entry of the table stands for
+abbrev pub solution_as : List Expr → Solved × Reason ℕ ℕ → Solution
+solution_as nodes e = record { node = e.0.node; who = entity_at nodes e.0.who; reason = reason_at nodes e.1 }
+
+-- the table has an entry of this key
+abbrev pub HasKey : List (Solved × Reason ℕ ℕ) → Solved → Type 0
+HasKey entries key = (r : Reason ℕ ℕ) × Contains entries (key, r)
+
+-- the entities that have an entry at the node, in order
+abbrev pub members_by : ℕ → List (Solved × Reason ℕ ℕ) → List ℕ
+members_by n entries = map (λ e. e.0.who) (filter (λ e. e.0.node == n) entries)
+
+-- each node has the list of these
+abbrev pub AreMembers : List (Solved × Reason ℕ ℕ) → List (List ℕ) → Type 0
+AreMembers entries lists = (n : ℕ) → list_at lists n ≡ members_by n entries
+
+-- the table has an entry of this key now, and b says whether it is new: an entry that is there keeps its reason
+abbrev pub Solves : List (Solved × Reason ℕ ℕ) → List (Solved × Reason ℕ ℕ) → Solved → Reason ℕ ℕ → Bool → Type 0
+Solves old new key r true = (HasKey old key → ⊥) × (new ≡ old ++ (key, r) ∷ [])
+Solves old new key r false = HasKey old key × (new ≡ old)
 
 -- the graph that the tables stand for
 abbrev pub graph_as : List Expr → List (List ℕ) → List (List KeptListening) → List (Solved × Reason ℕ ℕ) → GraphState

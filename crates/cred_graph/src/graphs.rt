@@ -23,7 +23,7 @@ pub struct Graph {
 }
 
 impl Model for Graph {
-    ghost use Rattle.cred_graph.specs.GraphState.{GraphState};
+    ghost use Rattle.cred_graph.specs.Graph.{GraphState};
     ghost use Rattle.cred_graph.specs.Stored.{graph_as, IsStored};
 
     ghost Value = { GraphState };
@@ -45,8 +45,7 @@ impl Drop for Graph {
 }
 
 impl Graph {
-    ghost use Rattle.cred_graph.specs.GraphState.{empty_graph, IsNode, Listens, IsSolution, listeners_of, members_of, before};
-    ghost use Rattle.cred_graph.specs.Reason.{Fits};
+    ghost use Rattle.cred_graph.specs.Graph.{empty_graph, IsNode, Listens, IsSolution, listeners_of, members_of, before, Fits};
     ghost use Rattle.cred_graph.specs.Graph.{IsGraph, NodeGiven, ListenerGiven, SolutionGiven};
     ghost use Rattle.cred_graph.specs.declared.listeners.Listening.{Listening};
     ghost use Rattle.cred_graph.specs.Numbers.{IsEntity, IsPort, IsNamed, IsReason, entity_at, port_at, reason_at};

@@ -55,7 +55,7 @@ pub struct Listeners {
 impl Model for Listeners {
     ghost use Rattle.std.specs.Prelude.{List};
     ghost use Rattle.cred_graph.specs.declared.listeners.KeptListening.{KeptListening};
-    ghost use Rattle.cred_graph.specs.Kept.{AreFar};
+    ghost use Rattle.cred_graph.specs.Stored.{AreFar};
 
     ghost Value = { List (List KeptListening) };
 
@@ -76,7 +76,7 @@ impl Drop for Listeners {
 
 impl Listeners {
     ghost use Rattle.cred_graph.specs.NodeLists.{list_at, AreSame};
-    ghost use Rattle.cred_graph.specs.Kept.{HearsOf};
+    ghost use Rattle.cred_graph.specs.Stored.{HearsOf};
 
     /// No listener of any node.
     pub fn new(alloc: Global) -> Self

@@ -1,6 +1,6 @@
 ghost use Rattle.std.specs.Prelude.{◌≡◌, IfOk, OnErr};
 ghost use Rattle.cred_graph.specs.Numbers.{port_at, IsPort, IsNamed};
-ghost use Rattle.cred_graph.specs.Kept.{kept_as, IsKept, Joins};
+ghost use Rattle.cred_graph.specs.Stored.{kept_as, IsKept, Joins};
 
 use crate::interned::Interned;
 use crate::listeners::Port;

@@ -53,7 +53,7 @@ impl Model for Solutions {
     ghost use Rattle.std.specs.Prelude.{ℕ, List};
     ghost use Rattle.cred_graph.specs.declared.solutions.Solved.{Solved};
     ghost use Rattle.cred_graph.specs.declared.solutions.Reason.{Reason};
-    ghost use Rattle.cred_graph.specs.Solved.{AreMembers};
+    ghost use Rattle.cred_graph.specs.Stored.{AreMembers};
 
     ghost Value = { List (Solved × Reason ℕ ℕ) };
 
@@ -73,7 +73,7 @@ impl Drop for Solutions {
 }
 
 impl Solutions {
-    ghost use Rattle.cred_graph.specs.Solved.{HasKey, Solves, members_by};
+    ghost use Rattle.cred_graph.specs.Stored.{HasKey, Solves, members_by};
 
     /// No solution of any node.
     pub fn new(alloc: Global) -> Self

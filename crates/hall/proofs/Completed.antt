@@ -1,8 +1,7 @@
 -- A search has an answer exactly where it is completed.
 use Rattle.std.proofs.Common.{◌↔◌, refl}
 use Rattle.search.specs.Ending.{Settled, Nothing, Yes, No, Members, Spent, Broken}
-use Rattle.search.specs.Found.{IsAnswered, status_of}
-use Rattle.search.specs.Search.{SearchState, IsCompleted, settled_of}
+use Rattle.search.specs.Search.{IsAnswered, status_of, SearchState, IsCompleted, settled_of}
 use Rattle.search.proofs.Answered.{answers_as}
 use Rattle.hall.specs.Answers.{IsAnswer}
 

@@ -4,7 +4,7 @@ use Rattle.std.proofs.lemmas.List.{append-nil, append_assoc}
 use Rattle.std.proofs.lemmas.List.Elements.{All-head, All-tail}
 use Rattle.search.specs.declared.outcomes.Finished.{Finished}
 use Rattle.search.specs.declared.outcomes.Finished.TheVariants as finished
-use Rattle.search.specs.Need.{right_hint}
+use Rattle.search.specs.Finish.{right_hint}
 use Rattle.search.specs.Search.{SearchState, IsCompleted, IsSoundStage}
 use Rattle.search.specs.Batches.{TakenLetter, AreOf, HandsInAs, HandsInEach}
 use Rattle.search.proofs.Stays.{held_none}

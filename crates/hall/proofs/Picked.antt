@@ -7,15 +7,14 @@ use Rattle.indexmap.specs.IndexSet.{IndexSet}
 use Rattle.names.specs.Name.{is_same}
 use Rattle.names.proofs.SameNames.{is_same_tied}
 use Rattle.vaults.proofs.Orders.{names_exact}
-use Rattle.cred_graph.specs.GraphState.{GraphState}
+use Rattle.cred_graph.specs.Graph.{GraphState}
 use Rattle.scholten_core.specs.Computation.{outstanding}
 use Rattle.search.specs.declared.queries.Need.{Need}
 use Rattle.search.specs.declared.queries.Query.{Query}
 use Rattle.search.specs.declared.stages.Stage.{Stage}
 use Rattle.search.specs.declared.stages.Stage.TheVariants as stage
 use Rattle.search.specs.Ending.{Nothing}
-use Rattle.search.specs.Found.{found, come_to}
-use Rattle.search.specs.Search.{SearchState, settled_of}
+use Rattle.search.specs.Search.{found, come_to, SearchState, settled_of}
 use Rattle.search.specs.Stage.{waiting_in, signals_in, IsQuiet}
 use Rattle.hall.specs.declared.calls.steps.Step.{Step}
 use Rattle.hall.specs.declared.calls.steps.Step.TheVariants as step

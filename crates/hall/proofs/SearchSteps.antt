@@ -13,8 +13,7 @@ use Rattle.search.specs.declared.letters.Load.{Load}
 use Rattle.search.specs.declared.letters.Load.TheVariants as load
 use Rattle.search.specs.declared.stages.Stage.{Stage}
 use Rattle.search.specs.Ending.{Settled, Nothing, MaySettle, asked_role}
-use Rattle.search.specs.Found.{found}
-use Rattle.search.specs.Search.{SearchState, SameQuestion, settled_of}
+use Rattle.search.specs.Search.{found, SearchState, SameQuestion, settled_of}
 use Rattle.search.specs.Finish.{Finishes}
 use Rattle.search.specs.Stage.{if_held, NoneHeld}
 use Rattle.scholten_core.specs.declared.parents.Parent.TheVariants.{Environment}

@@ -5,10 +5,9 @@ use Rattle.search.specs.declared.carried.Carried.{Carried}
 use Rattle.search.specs.declared.carried.Carried.TheVariants.{Own, Lent, Moving}
 use Rattle.search.specs.declared.stages.Stage.{Stage}
 use Rattle.search.specs.declared.stages.Stage.TheVariants as stage
-use Rattle.search.specs.Search.{SearchState, IsCompleted, IsOutstanding, IsSoundStage, settled_of}
+use Rattle.search.specs.Search.{SearchState, IsCompleted, IsOutstanding, IsSoundStage, settled_of, IsAnswered, status_of, come_to}
 use Rattle.search.specs.Stage.{IsQuiet}
 use Rattle.search.specs.Ending.{Settled}
-use Rattle.search.specs.Found.{IsAnswered, status_of, come_to}
 use Rattle.search.proofs.Answered.{answers_as}
 use Rattle.search.proofs.Stays.{waits_none, signals_none}
 use Rattle.hall.specs.declared.faults.Fault.{Fault}

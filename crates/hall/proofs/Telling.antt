@@ -3,7 +3,7 @@ use Rattle.std.proofs.Common.{◌≡◌, ◌==◌, Bool, true, false, cond, refl
 use Rattle.std.specs.List.{list_any}
 use Rattle.std.proofs.lemmas.Bool.Decides.{Decides-eqb}
 use Rattle.names.specs.Name.{is_same}
-use Rattle.cred_graph.specs.GraphState.{GraphState, members_of}
+use Rattle.cred_graph.specs.Graph.{GraphState, members_of}
 use Rattle.scholten_core.specs.Computation.{outstanding}
 use Rattle.search.specs.declared.outcomes.Status.TheVariants as status
 use Rattle.search.specs.declared.queries.Query.{Query}
@@ -11,8 +11,7 @@ use Rattle.search.specs.declared.queries.Query.TheVariants.{Ask, Who}
 use Rattle.search.specs.declared.stages.Stage.{Stage}
 use Rattle.search.specs.declared.stages.Stage.TheVariants as stage
 use Rattle.search.specs.Ending.{Nothing, Yes, No}
-use Rattle.search.specs.Found.{status_of, found, come_to}
-use Rattle.search.specs.Search.{SearchState, settled_of, IsCompleted, IsOutstanding}
+use Rattle.search.specs.Search.{status_of, found, come_to, SearchState, settled_of, IsCompleted, IsOutstanding}
 use Rattle.hall.specs.declared.calls.answers.Answer.TheVariants as answer
 use Rattle.hall.specs.Answers.{answer_of}
 

@@ -3,7 +3,7 @@ use Rattle.std.proofs.Common.{◌≡◌, ◌∙◌, ◌≤◌, ℕ, List, [], su
 use Rattle.search.specs.declared.stages.Stage.{Stage}
 use Rattle.search.specs.Stage.{Delivers, IsQuiet}
 use Rattle.search.specs.Search.{SearchState, IsSoundStage}
-use Rattle.search.specs.Driven.{SignalsFirst}
+use Rattle.search.specs.Finish.{SignalsFirst}
 use Rattle.hall.specs.declared.calls.steps.Step.TheVariants.{Take, Signal}
 use Rattle.hall.specs.declared.calls.steps.Stepped.TheVariants as stepped
 use Rattle.hall.specs.Hall.{Running, HallState, search_at, with_search, StepsAt, IsStepped, IsSound}

@@ -9,7 +9,7 @@ use Rattle.vaults.specs.Journal.{entries_of, view, marked_view, credentials}
 use Rattle.search.specs.declared.queries.Query.{Query}
 use Rattle.search.specs.Ending.{Nothing, MaySettle}
 use Rattle.search.specs.Search.{SearchState, IsSoundStage, settled_of}
-use Rattle.search.specs.Driven.{IsDriven}
+use Rattle.search.specs.Finish.{IsDriven}
 use Rattle.search.specs.Stage.{NoneHeld, IsQuiet}
 use Rattle.hall.specs.declared.faults.Fault.{Fault}
 use Rattle.hall.specs.declared.faults.Fault.TheVariants.{NoTenant}

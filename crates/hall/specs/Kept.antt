@@ -8,7 +8,7 @@ use Rattle.names.specs.Name.{is_same}
 use Rattle.search.specs.Ending.{Settled, Nothing, Members}
 use Rattle.search.specs.Search.{SearchState, IsOutstanding, IsSoundStage, settled_of}
 use Rattle.search.specs.Stage.{waiting_in, signals_in, IsQuiet, NoneHeld}
-use Rattle.search.specs.Driven.{IsDriven}
+use Rattle.search.specs.Finish.{IsDriven}
 use Rattle.search.specs.Batches.{TakenLetter, TakesAs}
 use Rattle.hall.specs.declared.faults.Fault.{Fault}
 use Rattle.hall.specs.declared.faults.Fault.TheVariants.{NoTenant, NoSuchSearch, Memory}

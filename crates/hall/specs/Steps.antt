@@ -10,7 +10,7 @@ use Rattle.search.specs.declared.queries.Need.{Need}
 use Rattle.search.specs.declared.outcomes.Finished.{Finished}
 use Rattle.search.specs.declared.outcomes.Finished.TheVariants as finished
 use Rattle.search.specs.declared.stages.Stage.TheVariants as stage
-pub use Rattle.search.specs.Found.{found}
+pub use Rattle.search.specs.Search.{found}
 use Rattle.search.specs.Ending.{asked_role}
 unfoldable pub use Rattle.search.specs.Search.{settled_of}
 use Rattle.search.specs.Search.{SearchState, SameQuestion, Settles, IsSoundStage}

@@ -1,8 +1,7 @@
 -- What somebody who works for a hall does to one search in a row.
-use Rattle.std.specs.Prelude.{◌≡◌, ◌⊎◌, ◌↔◌, ◌≤◌, ◌+◌, ◌++◌, [], ◌∷◌, ℕ, Bool, true, false, IsTrue, if◌then◌else◌, List}
-use Rattle.std.specs.Prelude.{Option, None, Some}
+use Rattle.std.specs.Prelude.{◌≡◌, ◌⊎◌, ◌↔◌, ◌≤◌, ◌+◌, ◌++◌, [], ◌∷◌, ℕ, Bool, true, false, IsTrue, if◌then◌else◌, List, Option, None, Some}
 use Rattle.search.specs.Search.{SearchState, IsCompleted}
-use Rattle.search.specs.Need.{right_hint}
+use Rattle.search.specs.Finish.{right_hint}
 use Rattle.search.specs.Stage.{IsQuiet}
 pub use Rattle.search.specs.Batches.{TakenLetter}
 use Rattle.search.specs.Batches.{IsWhole}

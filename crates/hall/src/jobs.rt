@@ -1,5 +1,5 @@
 ghost use Rattle.std.specs.Prelude.{◌≡◌};
-ghost use Rattle.search.specs.Need.{right_hint};
+ghost use Rattle.search.specs.Finish.{right_hint};
 
 use names::Entity;
 use search::{Hint, Task};

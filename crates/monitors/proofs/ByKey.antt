@@ -5,9 +5,8 @@ use Rattle.std.specs.Map.{keys_of, lookup}
 use Rattle.std.proofs.lemmas.List.Elements.{Contains-get_or, Contains-append_left, Contains-append_right, Contains-append_cases, Contains-push_cases}
 use Rattle.indexmap.specs.IndexMap.{insert_entry}
 use Rattle.monitors.specs.declared.tellers.Tellers.{Tellers}
-use Rattle.monitors.specs.MeetMonitor.{HearsPart}
-use Rattle.monitors.specs.Tellers.{is_among, is_teller, AreTellers}
-use Rattle.monitors.specs.KeyedMeet.{MeetLines, TellsApart, named, HearsByName, IsUntold, IsTable}
+use Rattle.monitors.specs.MeetMonitor.{HearsPart, is_among, is_teller, AreTellers}
+use Rattle.monitors.specs.MeetMonitor.{MeetLines, TellsApart, named, HearsByName, IsUntold, IsTable}
 use Rattle.monitors.proofs.NamedLemmas.{named_lookup, named_insert}
 use Rattle.monitors.proofs.TableLemmas.{seen, told_already, never_told, AddsTeller, still_tellers, tells_last}
 

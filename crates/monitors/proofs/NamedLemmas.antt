@@ -10,8 +10,7 @@ use Rattle.std.proofs.lemmas.List.Elements.{Contains-get_or, Contains-append_rig
 use Rattle.indexmap.specs.IndexMap.{insert_entry, set_value_at}
 use Rattle.monitors.specs.declared.tellers.Tellers.{Tellers}
 use Rattle.monitors.specs.Keys.{same_name}
-use Rattle.monitors.specs.Tellers.{tellers_at}
-use Rattle.monitors.specs.KeyedMeet.{TellsApart, named}
+use Rattle.monitors.specs.MeetMonitor.{tellers_at, TellsApart, named}
 
 -- to write a line at its place is to insert it
 pub written_line : {K X : Type 0} (eq : K → K → Bool) → IsEquivalence eq → (es : List (K × X)) (i : ℕ) (k : K) (x y : X) → IsDistinct eq (keys_of es) → slice_get es i ≡ Some (k, x) → set_value_at es i y ≡ insert_entry eq es k y

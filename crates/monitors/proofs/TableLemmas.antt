@@ -12,9 +12,8 @@ use Rattle.std.proofs.lemmas.Grind.{get_or-set_at}
 use Rattle.std.proofs.lemmas.List.{get_or-set_other}
 use Rattle.std.proofs.lemmas.List.Folds.{list_any-append}
 use Rattle.monitors.specs.declared.tellers.Tellers.{Tellers}
-use Rattle.monitors.specs.MeetMonitor.{told_order, MeetTold, HasTold, with_tell, HearsPart}
-use Rattle.monitors.specs.KeyedMeet.{IsTable}
-use Rattle.monitors.specs.Tellers.{pairs_from, pairs_of, tellers_at, is_among, is_teller, AreTellers}
+use Rattle.monitors.specs.MeetMonitor.{told_order, MeetTold, HasTold, with_tell, HearsPart, IsTable}
+use Rattle.monitors.specs.MeetMonitor.{pairs_from, pairs_of, tellers_at, is_among, is_teller, AreTellers}
 use Rattle.monitors.proofs.CountLemmas.{all_told}
 use Rattle.indexmap.specs.IndexMap.{insert_entry}
 use Rattle.monitors.specs.Keys.{same_name}

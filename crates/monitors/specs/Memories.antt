@@ -6,7 +6,7 @@ use Rattle.monitors.specs.declared.link_monitors.LinkMemory.TheVariants as link
 use Rattle.monitors.specs.declared.keyed_meets.MeetMemory.{MeetMemory}
 use Rattle.monitors.specs.declared.keyed_meets.MeetMemory.TheVariants as meet
 use Rattle.monitors.specs.LinkMonitor.{LinkToldBy}
-use Rattle.monitors.specs.KeyedMeet.{MeetLines}
+use Rattle.monitors.specs.MeetMonitor.{MeetLines}
 
 module _ {K : Type 0} where
   abbrev pub sets_told : LinkSets K → LinkToldBy K

@@ -21,7 +21,7 @@ pub struct KeyedMeet<K: Key> {
 }
 
 impl<K: Key> Model for KeyedMeet<K> {
-    ghost use Rattle.monitors.specs.KeyedMeet.{MeetLines};
+    ghost use Rattle.monitors.specs.MeetMonitor.{MeetLines};
     ghost use Rattle.monitors.specs.Memories.{meet_told, IsMeetMemory};
 
     ghost Value = { MeetLines K };
@@ -42,7 +42,7 @@ impl<K: Key> Drop for KeyedMeet<K> {
 }
 
 impl<K: Key> KeyedMeet<K> {
-    ghost use Rattle.monitors.specs.KeyedMeet.{HearsByName, IsUntold, HasKeysOf};
+    ghost use Rattle.monitors.specs.MeetMonitor.{HearsByName, IsUntold, HasKeysOf};
 
     /// What an intersection of so many parts was told, of which none told anything yet.
     pub fn make(alloc: Global, parts: u8) -> Self

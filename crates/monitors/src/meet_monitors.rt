@@ -14,8 +14,7 @@ pub struct MeetMonitor {
 }
 
 impl Model for MeetMonitor {
-    ghost use Rattle.monitors.specs.MeetMonitor.{MeetTold, meet_code};
-    ghost use Rattle.monitors.specs.KeyedMeet.{told_by};
+    ghost use Rattle.monitors.specs.MeetMonitor.{MeetTold, meet_code, told_by};
 
     ghost Value = { MeetTold };
 

@@ -1,8 +1,7 @@
-ghost use Rattle.std.specs.Prelude.{◌≡◌, ◌<◌, ◌≤◌, ℕ, false, [], Some, slice_get, slice_index_or};
-ghost use Rattle.std.specs.Prelude.{IfOk, IfSome, OnOk, OnErr, MatchOption};
+ghost use Rattle.std.specs.Prelude.{◌≡◌, ◌<◌, ◌≤◌, ℕ, false, [], Some, slice_get, slice_index_or, IfOk, IfSome, OnOk, OnErr, MatchOption};
 ghost use Rattle.indexmap.specs.IndexMap.{get, insert_entry};
 ghost use Rattle.monitors.specs.declared.tellers.Tellers.{Tellers};
-ghost use Rattle.monitors.specs.Tellers.{is_among};
+ghost use Rattle.monitors.specs.MeetMonitor.{is_among};
 
 use crate::keys::Key;
 use crate::tellers::Tellers;
@@ -18,7 +17,7 @@ pub struct MeetTable<K: Key> {
 }
 
 impl<K: Key> Model for MeetTable<K> {
-    ghost use Rattle.monitors.specs.KeyedMeet.{MeetLines, IsTable};
+    ghost use Rattle.monitors.specs.MeetMonitor.{MeetLines, IsTable};
 
     ghost Value = { MeetLines K };
 
@@ -28,7 +27,7 @@ impl<K: Key> Model for MeetTable<K> {
 }
 
 impl<K: Key> MeetTable<K> {
-    ghost use Rattle.monitors.specs.KeyedMeet.{HearsByName, IsUntold, HasKeysOf};
+    ghost use Rattle.monitors.specs.MeetMonitor.{HearsByName, IsUntold, HasKeysOf};
 
     /// So many parts, of which none told anything yet.
     pub fn make(alloc: Global, parts: u8) -> Self

@@ -5,7 +5,7 @@ use Rattle.std.proofs.Common.{◌≡◌, ◌∙◌, ◌↔◌, ◌⊎◌, inl, i
 use Rattle.hall.specs.declared.calls.steps.Step.TheVariants.{Take, GiveBack, Finish, Signal}
 use Rattle.hall.specs.declared.calls.steps.Stepped.TheVariants.{Signalled}
 use Rattle.hall.specs.Hall.{HallState}
-use Rattle.search.specs.Need.{right_hint}
+use Rattle.search.specs.Finish.{right_hint}
 use Rattle.search.specs.Batches.{TakenLetter}
 use Rattle.hall.specs.Visits.{SearchIsQuiet, NothingToDo, IsWorkedOn, IsVisited, IsHandedIn, AreHandedIn}
 use Rattle.pool.specs.Rooms.{RoomState, IsIdle, IsKept}

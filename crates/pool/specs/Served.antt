@@ -1,9 +1,8 @@
 -- What a call by a pass came to, in the room that it found under the lock.
 use Rattle.std.specs.Prelude.{◌≡◌, ◌⊎◌, ◌<◌, ◌≤◌, ℕ, List, true, false, length, Result, Ok, Err, IfOk, IsSomeAnd}
 use Rattle.std.specs.Arc.{arc_value}
-use Rattle.search.specs.Found.{status_of}
+use Rattle.search.specs.Search.{status_of, SearchState, settled_of}
 use Rattle.search.specs.declared.outcomes.Status.TheVariants as status
-use Rattle.search.specs.Search.{SearchState, settled_of}
 use Rattle.hall.specs.declared.faults.Fault.{Fault}
 use Rattle.hall.specs.declared.faults.Fault.TheVariants.{Memory}
 use Rattle.hall.specs.declared.calls.answers.Answer.{Answer}

@@ -10,7 +10,7 @@ use Rattle.credential_text.specs.Expr.{part_expr}
 use Rattle.cred_graph.specs.declared.solutions.Reason.{Reason}
 use Rattle.cred_graph.specs.declared.solutions.Reason.TheVariants as reason
 use Rattle.cred_graph.specs.declared.solutions.Solution.{Solution}
-use Rattle.cred_graph.specs.GraphState.{GraphState, IsNode}
+use Rattle.cred_graph.specs.Graph.{GraphState, IsNode}
 use Rattle.cred_graph.proofs.Lists.{Contains-at_place, place_of_Contains, slice_get_push_cases}
 use Rattle.indexmap.specs.IndexSet.{insert_key}
 use Rattle.indexmap.proofs.SetLemmas.{AllZip-push}

@@ -7,9 +7,7 @@ use Rattle.credential_text.specs.declared.exprs.Expr.TheVariants.{Rol}
 use Rattle.credential_text.specs.Expr.{part_expr}
 use Rattle.cred_graph.specs.declared.solutions.Reason.{Reason}
 use Rattle.cred_graph.specs.declared.solutions.Reason.TheVariants as reason
-use Rattle.cred_graph.specs.GraphState.{GraphState, IsNode, HasSolution, Known, before}
-use Rattle.cred_graph.specs.Reason.{Fits}
-use Rattle.cred_graph.specs.Graph.{IsGraph}
+use Rattle.cred_graph.specs.Graph.{GraphState, IsNode, HasSolution, Known, before, Fits, IsGraph}
 use Rattle.cred_graph.proofs.Lists.{Contains-at_place, place_of_Contains}
 use Rattle.proof_trees.specs.declared.findings.Finding.{Finding}
 use Rattle.proof_trees.specs.Finding.{Stands, IsPremiseOf, IsPremise}

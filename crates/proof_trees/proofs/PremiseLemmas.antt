@@ -5,8 +5,7 @@ use Rattle.credential_text.specs.declared.intersections.Part.{Part}
 use Rattle.credential_text.specs.declared.exprs.Expr.TheVariants.{Rol, Link, Meet}
 use Rattle.credential_text.specs.Expr.{part_expr}
 use Rattle.cred_graph.specs.declared.solutions.Reason.TheVariants as reason
-use Rattle.cred_graph.specs.GraphState.{GraphState, IsNode, Known}
-use Rattle.cred_graph.specs.Reason.{Fits}
+use Rattle.cred_graph.specs.Graph.{GraphState, IsNode, Known, Fits}
 use Rattle.proof_trees.specs.declared.findings.Finding.{Finding}
 use Rattle.proof_trees.specs.Draft.{DraftState, IsMissing, IsMissingPart, IsMissingPremise}
 

@@ -4,13 +4,13 @@ use Rattle.credential_text.specs.declared.exprs.Expr.TheVariants.{Rol}
 use Rattle.rt0_rules.specs.Asks.{asked_role as asked_itself}
 use Rattle.rt0_rules.specs.FixedPoint.{IsExact}
 use Rattle.cred_graph.proofs.Lists.{Contains-at_place}
-use Rattle.cred_graph.specs.GraphState.{IsSolution, IsNode, Known}
+use Rattle.cred_graph.specs.Graph.{IsSolution, IsNode, Known}
 use Rattle.scholten_core.specs.Computation.{Computation}
 use Rattle.search.specs.declared.letters.Load.{Load}
 use Rattle.search.specs.declared.stages.Stage.{Stage}
 use Rattle.search.specs.declared.stages.Stage.TheVariants as stage
 use Rattle.search.specs.Search.{SearchState, IsCompleted, rows_of, asked_role}
-use Rattle.search.specs.Steady.{IsJustified}
+use Rattle.search.specs.Net.{IsJustified}
 use Rattle.proof_trees.specs.declared.findings.Finding.{Finding}
 use Rattle.proof_trees.specs.Finding.{Stands, AreByRows}
 use Rattle.proof_trees.specs.Fault.{IsNoMember, IsAsked}

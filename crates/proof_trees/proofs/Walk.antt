@@ -1,6 +1,6 @@
 -- The solutions that a walk over the reasons still needs, each a premise of the one before it.
 use Rattle.std.proofs.Common.{ℕ, ◌+◌, ◌-◌, ◌*◌, ◌≡◌, ◌⊎◌, List, [], ◌∷◌, ◌++◌, Some, Contains, length, slice_get}
-use Rattle.cred_graph.specs.GraphState.{GraphState}
+use Rattle.cred_graph.specs.Graph.{GraphState}
 use Rattle.proof_trees.specs.declared.findings.Finding.{Finding}
 use Rattle.proof_trees.specs.declared.steps.Step.{Step}
 use Rattle.proof_trees.specs.Lean.{IsCitedLater}

@@ -5,7 +5,7 @@ use Rattle.std.proofs.lemmas.List.Elements.{Contains-push, Contains-push_cases, 
 use Rattle.std.proofs.lemmas.Option.{same_Some, slice_get_within}
 use Rattle.credential_text.specs.declared.exprs.Expr.{Expr}
 use Rattle.rt0_rules.proofs.Elements.{Contains-none, Contains-first, Contains-later, Contains-cons_cases}
-use Rattle.cred_graph.specs.GraphState.{GraphState, IsNode}
+use Rattle.cred_graph.specs.Graph.{GraphState, IsNode}
 use Rattle.cred_graph.proofs.Lists.{place_of_Contains, slice_get_stays, slice_get_push_cases, slice_get_pushed}
 use Rattle.search.proofs.Grow.{zip_right}
 use Rattle.proof_trees.specs.declared.findings.Finding.{Finding}

@@ -11,8 +11,7 @@ use Rattle.rt0_rules.specs.Work.{AreDistinct}
 use Rattle.cred_graph.specs.declared.solutions.Reason.{Reason}
 use Rattle.cred_graph.specs.declared.solutions.Reason.TheVariants as reason
 use Rattle.cred_graph.specs.declared.solutions.Solution.{Solution}
-use Rattle.cred_graph.specs.GraphState.{GraphState, IsNode}
-use Rattle.cred_graph.specs.Graph.{IsGraph}
+use Rattle.cred_graph.specs.Graph.{GraphState, IsNode, IsGraph}
 use Rattle.proof_trees.specs.declared.findings.Finding.{Finding}
 use Rattle.proof_trees.specs.declared.steps.Step.{Step}
 use Rattle.proof_trees.specs.declared.steps.Rule.{Rule}

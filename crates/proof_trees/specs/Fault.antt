@@ -2,7 +2,7 @@
 use Rattle.std.specs.Prelude.{ℕ, ◌≡◌, List}
 use Rattle.credential_text.specs.declared.exprs.Expr.TheVariants.{Rol}
 use Rattle.rt0_rules.specs.Membership.{IsMember}
-use Rattle.cred_graph.specs.GraphState.{IsNode}
+use Rattle.cred_graph.specs.Graph.{IsNode}
 use Rattle.search.specs.Search.{SearchState, IsCompleted, asked_role, rows_of}
 use Rattle.proof_trees.specs.declared.faults.ProofFault.{ProofFault}
 use Rattle.proof_trees.specs.declared.faults.ProofFault.TheVariants.{NotDone, NoProof, Memory}

@@ -9,7 +9,7 @@ use Rattle.credential_text.specs.Expr.{part_expr}
 use Rattle.cred_graph.specs.declared.solutions.Reason.{Reason}
 use Rattle.cred_graph.specs.declared.solutions.Reason.TheVariants as reason
 use Rattle.cred_graph.specs.declared.solutions.Solution.{Solution}
-use Rattle.cred_graph.specs.GraphState.{GraphState, IsNode}
+use Rattle.cred_graph.specs.Graph.{GraphState, IsNode}
 use Rattle.search.specs.Net.{ByRow}
 use Rattle.proof_trees.specs.declared.findings.Finding.{Finding}
 

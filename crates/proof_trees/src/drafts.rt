@@ -1,5 +1,5 @@
 ghost use Rattle.std.specs.Prelude.{◌≡◌, [], IfOk, IfErr, OnOk, Contains, MatchResult};
-ghost use Rattle.cred_graph.specs.GraphState.{IsNode, IsSolution, Known};
+ghost use Rattle.cred_graph.specs.Graph.{IsNode, IsSolution, Known};
 ghost use Rattle.proof_trees.specs.Proof.{Claims};
 ghost use Rattle.proof_trees.specs.Finding.{Stands};
 

@@ -1,5 +1,5 @@
 ghost use Rattle.std.specs.Prelude.{◌≡◌, MatchOption};
-ghost use Rattle.cred_graph.specs.GraphState.{IsSolution};
+ghost use Rattle.cred_graph.specs.Graph.{IsSolution};
 ghost use Rattle.proof_trees.specs.Finding.{Stands};
 
 use cred_graph::{Graph, Solution};

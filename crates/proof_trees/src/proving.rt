@@ -3,10 +3,9 @@ ghost use Rattle.credential_text.specs.declared.credentials.Credential.{Credenti
 ghost use Rattle.credential_text.specs.declared.exprs.Expr.{Expr};
 ghost use Rattle.credential_text.specs.declared.exprs.Expr.TheVariants.{Rol};
 ghost use Rattle.rt0_rules.specs.FixedPoint.{IsExact};
-ghost use Rattle.cred_graph.specs.GraphState.{IsNode, Known};
-ghost use Rattle.cred_graph.specs.Graph.{IsGraph};
+ghost use Rattle.cred_graph.specs.Graph.{IsNode, Known, IsGraph};
 ghost use Rattle.search.specs.Search.{IsCompleted, asked_role, rows_of};
-ghost use Rattle.search.specs.Steady.{IsJustified};
+ghost use Rattle.search.specs.Net.{IsJustified};
 ghost use Rattle.proof_trees.specs.Proof.{AreByRules, Concludes, IsProof};
 ghost use Rattle.proof_trees.specs.Lean.{IsLean};
 ghost use Rattle.proof_trees.specs.Finding.{Stands, AreByRows};

@@ -2,8 +2,7 @@
 ghost use Rattle.std.specs.Prelude.{◌≡◌, ◌≤◌, All, IfOk, IfErr, length, take};
 ghost use Rattle.credential_text.specs.Expr.{part_expr};
 ghost use Rattle.cred_graph.specs.declared.solutions.Reason.TheVariants as reason;
-ghost use Rattle.cred_graph.specs.GraphState.{Known};
-ghost use Rattle.cred_graph.specs.Reason.{Fits};
+ghost use Rattle.cred_graph.specs.Graph.{Known, Fits};
 ghost use Rattle.proof_trees.specs.Proof.{ClaimsEach};
 ghost use Rattle.proof_trees.specs.Draft.{IsDraft, IsMissingPart, IsMissingPremise, IsByReason};
 

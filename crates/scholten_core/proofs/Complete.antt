@@ -9,9 +9,7 @@ use Rattle.scholten_core.specs.declared.parents.Parent.TheVariants.{Neutral, Env
 use Rattle.scholten_core.specs.declared.letters.Letter.{Letter}
 use Rattle.scholten_core.specs.Computation.{Computation, StandByNumber, deficit, same_parent, outstanding}
 use Rattle.scholten_core.specs.Step.{started}
-use Rattle.scholten_core.specs.Sound.{IsSound}
-use Rattle.scholten_core.specs.Settled.{IsSettledBut}
-use Rattle.scholten_core.specs.Tree.{bare}
+use Rattle.scholten_core.specs.Sound.{IsSound, IsSettledBut, bare}
 use Rattle.scholten_core.proofs.Engaged.{count-empty}
 use Rattle.scholten_core.proofs.Lists.{Contains_from_lookup, lookup_from_Contains}
 use Rattle.scholten_core.proofs.Same.{hit-self}

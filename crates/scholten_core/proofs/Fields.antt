@@ -10,10 +10,9 @@ use Rattle.scholten_core.specs.declared.parents.Parent.TheVariants.{Neutral, Env
 use Rattle.scholten_core.specs.declared.letters.Letter.{Letter}
 use Rattle.scholten_core.specs.declared.engagement.Engagement.{Engagement}
 use Rattle.scholten_core.specs.Computation.{deficit, same_parent, waiting_in}
-use Rattle.scholten_core.specs.Step.{mark, marked, started}
+use Rattle.scholten_core.specs.Step.{mark, marked, started, TakesLetter}
 use Rattle.scholten_core.specs.Kept.{IsKept, engaged_from, engagement_of, engagements, held_in, kept, parent_kept}
 use Rattle.scholten_core.specs.LetterTable.{LetterTableState}
-use Rattle.scholten_core.specs.Call.{TakesLetter}
 use Rattle.scholten_core.proofs.Complete.{settled_started, sound}
 use Rattle.scholten_core.proofs.Engaged.{alike, count-empty, get-insert_other, get-insert_same}
 use Rattle.scholten_core.proofs.Lists.{lookup-changed, lookup_from_filter}

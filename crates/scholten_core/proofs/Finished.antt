@@ -10,10 +10,9 @@ use Rattle.scholten_core.specs.declared.parents.Parent.TheVariants.{Neutral, Env
 use Rattle.scholten_core.specs.declared.letters.Letter.{Letter}
 use Rattle.scholten_core.specs.declared.engagement.Engagement.{Engagement}
 use Rattle.scholten_core.specs.Computation.{Computation, deficit, is_engaged, outstanding}
-use Rattle.scholten_core.specs.Step.{answers, finished_as, finishes, numbered, receives, sends, settles, settles_under}
+use Rattle.scholten_core.specs.Step.{answers, finished_as, finishes, numbered, receives, sends, settles, settles_under, FinishesLetter}
 use Rattle.scholten_core.specs.Kept.{IsKept, Receives, deficit_kept, engagement_of, engagements, held_in, kept, parent_kept}
 use Rattle.scholten_core.specs.LetterTable.{LetterTableState}
-use Rattle.scholten_core.specs.Call.{FinishesLetter}
 use Rattle.scholten_core.proofs.Engaged.{get-insert_same, get-insert_other, one_or_other, remove-insert}
 use Rattle.scholten_core.proofs.Fields.{engagements_are, get-engagements}
 use Rattle.scholten_core.proofs.Paid.{count_of}

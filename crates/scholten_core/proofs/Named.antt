@@ -15,8 +15,8 @@ use Rattle.scholten_core.specs.declared.letters.Letter.{Letter}
 use Rattle.scholten_core.specs.Computation.{Computation, IsHeld, StandByNumber, deficit, is_engaged, letter_of, outstanding, same_parent, waiting}
 use Rattle.scholten_core.specs.Step.{answers, finished, finished_as, finishes, letters_after, mark, marked, numbered, receives, sends, settles, settles_under, signalled, signalled_as}
 use Rattle.scholten_core.specs.Sound.{IsNumbered, IsSound}
-use Rattle.scholten_core.specs.Call.{DeliversSignal, FinishesLetter, TakesLetter}
-use Rattle.scholten_core.specs.Named.{entry_with, letter_with, named_with, outs_with}
+use Rattle.scholten_core.specs.Step.{DeliversSignal, FinishesLetter, TakesLetter}
+use Rattle.scholten_core.specs.Computation.{entry_with, letter_with, named_with, outs_with}
 use Rattle.scholten_core.proofs.Lists.{Contains_from_lookup, lookup_from_Contains}
 
 -- a filter and a map may change places

@@ -13,9 +13,8 @@ use Rattle.scholten_core.specs.declared.parents.Parent.TheVariants.{Neutral, Env
 use Rattle.scholten_core.specs.declared.letters.Letter.{Letter}
 use Rattle.scholten_core.specs.Computation.{Computation, deficit, is_engaged, same_parent, letter_of, outstanding}
 use Rattle.scholten_core.specs.Step.{marked, numbered, receives, sends, settles, settles_under}
-use Rattle.scholten_core.specs.Settled.{IsSettledBut}
+use Rattle.scholten_core.specs.Sound.{IsSettledBut, grown, is_active}
 use Rattle.scholten_core.specs.Kept.{hit}
-use Rattle.scholten_core.specs.Tree.{grown, is_active}
 use Rattle.scholten_core.proofs.Engaged.{count-insert, count-remove, count-le-len, get-insert_same, get-insert_other, get-remove_same, get-remove_other, len-insert_new, len-remove_old, one_or_other}
 use Rattle.scholten_core.proofs.Lists.{changed, length-filter_number, numbered-append, numbered-changed, numbered-filter, sum_by-filter_number, sum_by-map_same, sum_by-remove_at}
 use Rattle.scholten_core.proofs.Same.{hit-self, hit-other, same_parent-other, same_parent-self, same_true}

@@ -8,7 +8,7 @@ use Rattle.scholten_core.specs.declared.parents.Parent.{Parent}
 use Rattle.scholten_core.specs.declared.parents.Parent.TheVariants.{Neutral, Environment, Node}
 use Rattle.scholten_core.specs.Computation.{followed, same_parent}
 use Rattle.scholten_core.specs.Kept.{hit}
-use Rattle.scholten_core.specs.Tree.{IsTree, bare, grown, is_active}
+use Rattle.scholten_core.specs.Sound.{IsTree, bare, grown, is_active}
 use Rattle.scholten_core.proofs.Engaged.{one_or_other, get-insert_same, get-insert_other, get-remove_other, remove-insert, remove-insert_other, len-insert_new, count-insert, count-empty}
 use Rattle.scholten_core.proofs.Same.{hit-self, hit-other}
 

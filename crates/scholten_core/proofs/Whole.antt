@@ -6,7 +6,7 @@ use Rattle.scholten_core.specs.declared.parents.Parent.TheVariants.{Neutral, Nod
 use Rattle.scholten_core.specs.declared.letters.Letter.{Letter}
 use Rattle.scholten_core.specs.Computation.{Computation, deficit, same_parent, letter_of, outstanding}
 use Rattle.scholten_core.specs.Step.{finishes, numbered, receives, sends, settles}
-use Rattle.scholten_core.specs.Settled.{IsSettledBut}
+use Rattle.scholten_core.specs.Sound.{IsSettledBut}
 use Rattle.scholten_core.specs.Kept.{hit}
 use Rattle.scholten_core.proofs.Steps.{delivered, deficit-delivered, deficit-sends, outstanding-delivered, outstanding-sends, received, settled-settles, settled_delivered, settled_sends}
 

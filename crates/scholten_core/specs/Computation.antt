@@ -1,6 +1,6 @@
--- A diffusing computation, and what of it is outstanding (Dijkstra and Scholten, 1980)
-use Rattle.std.specs.Prelude.{◌≡◌, ◌↔◌, ℕ, zero, suc, ◌+◌, ◌==◌, Bool, true, false, not, List, Option, Some, length}
-use Rattle.std.specs.Prelude.{filter, count_by, unwrap_or, Contains, IsSomeAnd, IsTrue}
+-- A diffusing computation, what of it is outstanding (Dijkstra and Scholten, 1980), and the same in other words
+use Rattle.std.specs.Prelude.{◌≡◌, ◌↔◌, ℕ, zero, suc, ◌+◌, ◌==◌, Bool, true, false, not, List, Option, Some, length, filter, count_by}
+use Rattle.std.specs.Prelude.{unwrap_or, Contains, IsSomeAnd, IsTrue, map}
 use Rattle.std.specs.Map.{lookup}
 use Rattle.std.specs.Ordering.{nat_cmp}
 use Rattle.std.specs.FinMap as fin
@@ -74,3 +74,20 @@ followed m zero p = p
 followed m (suc k) Neutral = Neutral
 followed m (suc k) Environment = Environment
 followed m (suc k) (Node n) = followed m k (unwrap_or (fin.get m n) Neutral)
+
+module _ {P Q : Type 0} (f : P → Q) where
+  -- the letter, with what it says in other words
+  abbrev pub letter_with : Letter P → Letter Q
+  letter_with l = record { from = l.from; to = l.to; held = l.held; load = f l.load }
+
+  -- the same of a letter with its number
+  abbrev pub entry_with : ℕ × Letter P → ℕ × Letter Q
+  entry_with e = (e.0, letter_with e.1)
+
+  -- the letters that one sends, in other words
+  abbrev pub outs_with : List (ℕ × P) → List (ℕ × Q)
+  outs_with outs = map (λ o. (o.0, f o.1)) outs
+
+  -- the computation, with what its letters say in other words
+  abbrev pub named_with : Computation P → Computation Q
+  named_with d = record { sent = d.sent; letters = map entry_with d.letters; signals = d.signals; engaged = d.engaged }

@@ -9,7 +9,7 @@ use Rattle.scholten_core.specs.declared.parents.Parent.TheVariants.{Neutral, Env
 use Rattle.scholten_core.specs.declared.engagement.Engagement.{Engagement}
 use Rattle.scholten_core.specs.Computation.{Computation, deficit, same_parent}
 use Rattle.scholten_core.specs.LetterTable.{LetterTableState}
-use Rattle.scholten_core.specs.Settled.{IsSettledBut}
+use Rattle.scholten_core.specs.Sound.{IsSettledBut}
 
 -- the engagement of a node: nobody engaged one whose place is empty, nor one past the end
 abbrev pub engagement_of : List (Option Engagement) → ℕ → Option Engagement

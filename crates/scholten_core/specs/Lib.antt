@@ -1,10 +1,5 @@
-pub mod Call
-pub mod Computation
+pub mod Step
 pub mod Kept
 pub mod LetterTable
-pub mod Named
-pub mod Numbers
-pub mod Settled
+pub mod Computation
 pub mod Sound
-pub mod Step
-pub mod Tree

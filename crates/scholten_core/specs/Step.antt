@@ -1,11 +1,12 @@
--- The steps of a diffusing computation
-use Rattle.std.specs.Prelude.{ℕ, ◌+◌, ◌==◌, Bool, false, not, List, [], ◌∷◌, ◌++◌, Option, None, Some, length, filter}
-use Rattle.std.specs.Prelude.{map, remove, slice_get, if◌then◌else◌}
+-- The steps of a diffusing computation, and what the calls that make them do
+use Rattle.std.specs.Prelude.{ℕ, ◌+◌, ◌==◌, Bool, false, not, List, [], ◌∷◌, ◌++◌, Option, None, Some, length, filter, map, remove}
+use Rattle.std.specs.Prelude.{slice_get, if◌then◌else◌, ◌≡◌, true}
 use Rattle.std.specs.FinMap as fin
 use Rattle.scholten_core.specs.declared.parents.Parent.{Parent}
 use Rattle.scholten_core.specs.declared.parents.Parent.TheVariants.{Environment, Node}
 use Rattle.scholten_core.specs.declared.letters.Letter.{Letter}
-use Rattle.scholten_core.specs.Computation.{Computation, deficit, is_engaged, letter_of}
+use Rattle.scholten_core.specs.Computation.{Computation, deficit, is_engaged, letter_of, IsHeld, outstanding, waiting}
+use Rattle.scholten_core.specs.Sound.{IsSound}
 
 module _ {P : Type 0} where
   -- letters from one sender, numbered from number on, each waiting
@@ -86,3 +87,27 @@ module _ {P : Type 0} where
   -- the signal at a place is delivered
   abbrev pub signalled : Computation P → ℕ → Computation P
   signalled d place = signalled_as d place (slice_get d.signals place)
+
+-- the letter that waited at a place has that number, and is held from then on
+pub record TakesLetter {P : Type 0} (old : Computation P) (place number : ℕ) (new : Computation P) : Type 0 where
+  pub letter : Letter P
+  pub waited : slice_get (waiting old) place ≡ Some (number, letter)
+  pub marked : new ≡ marked old number true
+  pub taken : letter_of new number ≡ Some (record letter { held = true })
+  pub held : IsHeld new number
+  pub sound : IsSound new
+
+-- the letter of a number is finished: its receiver gets it and sends these letters
+pub record FinishesLetter {P : Type 0} (old : Computation P) (number : ℕ) (outs : List (ℕ × P)) (new : Computation P) : Type 0 where
+  pub finished : new ≡ finished old number outs
+  pub letters : new.letters ≡ letters_after old number outs
+  pub sent : new.sent ≡ old.sent + length outs
+  pub more : outstanding new ≡ outstanding old + length outs
+
+-- the signal at a place is delivered
+pub record DeliversSignal {P : Type 0} (old : Computation P) (place : ℕ) (new : Computation P) : Type 0 where
+  pub signalled : new ≡ signalled old place
+  pub letters : new.letters ≡ old.letters
+  pub sent : new.sent ≡ old.sent
+  pub less : outstanding new + 1 ≡ outstanding old
+  pub sound : IsSound new

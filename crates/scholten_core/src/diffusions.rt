@@ -48,13 +48,11 @@ impl<P: Drop> Drop for Diffusion<P> {
 }
 
 impl<P: Drop> Diffusion<P> {
-    ghost use Rattle.std.specs.Prelude.{◌≡◌, ◌+◌, ◌^◌, ◌<◌, ◌↔◌, false, [], length, vec_len, option_copied};
-    ghost use Rattle.std.specs.Prelude.{IfOk, OnOk, OnErr, IsTrue};
+    ghost use Rattle.std.specs.Prelude.{◌≡◌, ◌+◌, ◌^◌, ◌<◌, ◌↔◌, false, [], length, vec_len, option_copied, IfOk, OnOk, OnErr, IsTrue};
     ghost use Rattle.std.specs.VecDeque.{deque_len};
     ghost use Rattle.scholten_core.specs.Computation.{IsHeld, StandByNumber, letter_of, waiting as waiting_of};
     ghost use Rattle.scholten_core.specs.Computation.{deficit as deficit_of, parent_of, outstanding};
-    ghost use Rattle.scholten_core.specs.Step.{started, marked};
-    ghost use Rattle.scholten_core.specs.Call.{TakesLetter, FinishesLetter, DeliversSignal};
+    ghost use Rattle.scholten_core.specs.Step.{started, marked, TakesLetter, FinishesLetter, DeliversSignal};
     ghost use Rattle.scholten_core.specs.Sound.{IsSound};
 
     /// The environment sends the first letter, to the root.

@@ -1,5 +1,5 @@
 //! How the table of letters hashes their numbers.
-ghost use Rattle.scholten_core.specs.Numbers.{read_number, spread};
+ghost use Rattle.scholten_core.specs.LetterTable.{read_number, spread};
 
 use std::hash::Hasher;
 

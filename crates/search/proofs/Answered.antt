@@ -8,7 +8,7 @@ use Rattle.names.specs.Name.{is_same, name_order}
 use Rattle.names.proofs.SameNames.{is_same_tied}
 use Rattle.vaults.proofs.Elements.{has, has_iff}
 use Rattle.vaults.proofs.Orders.{names_exact}
-use Rattle.cred_graph.specs.GraphState.{GraphState, IsSolution, members_of}
+use Rattle.cred_graph.specs.Graph.{GraphState, IsSolution, members_of}
 use Rattle.scholten_core.specs.declared.letters.Letter.{Letter}
 use Rattle.scholten_core.specs.Computation.{outstanding}
 use Rattle.search.specs.declared.letters.Load.{Load}
@@ -19,9 +19,8 @@ use Rattle.search.specs.declared.outcomes.Status.TheVariants as status
 use Rattle.search.specs.declared.stages.Stage.{Stage}
 use Rattle.search.specs.declared.stages.Stage.TheVariants as stage
 use Rattle.search.specs.Ending.{Nothing, Yes, No}
-use Rattle.search.specs.Found.{IsAnswered, status_of, found, come_to}
+use Rattle.search.specs.Search.{IsAnswered, status_of, found, come_to, SearchState, IsOutstanding, IsCompleted, settled_of}
 use Rattle.search.specs.Stage.{waiting_in, held_in, if_held, Delivers}
-use Rattle.search.specs.Search.{SearchState, IsOutstanding, IsCompleted, settled_of}
 use Rattle.search.proofs.Solve.{solution_of_member, member_of_solution}
 
 -- a name is among the members where the test finds it

@@ -6,7 +6,7 @@ use Rattle.credential_text.specs.declared.credentials.Credential.{Credential}
 use Rattle.credential_text.specs.declared.exprs.Expr.{Expr}
 use Rattle.vaults.specs.Journal.{Vault}
 use Rattle.cred_graph.specs.declared.listeners.Port.{Port}
-use Rattle.cred_graph.specs.GraphState.{GraphState, IsNode}
+use Rattle.cred_graph.specs.Graph.{GraphState, IsNode}
 use Rattle.scholten_core.specs.declared.parents.Parent.{Parent}
 use Rattle.scholten_core.specs.declared.parents.Parent.TheVariants.{Neutral, Environment, Node}
 use Rattle.search.specs.declared.letters.Load.{Load}

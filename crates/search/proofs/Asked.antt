@@ -8,14 +8,14 @@ use Rattle.rt0_rules.specs.Letters.{NodeAsk}
 use Rattle.rt0_rules.proofs.Elements.{Contains-none, Contains-first, Contains-later, Contains-cons_cases}
 use Rattle.cred_graph.specs.declared.listeners.Port.{Port}
 use Rattle.cred_graph.specs.declared.listeners.Port.TheVariants as port
-use Rattle.cred_graph.specs.GraphState.{GraphState}
+use Rattle.cred_graph.specs.Graph.{GraphState}
 use Rattle.cred_graph.proofs.Lists.{slice_get_stays, slice_get_pushed}
 use Rattle.scholten_core.specs.declared.parents.Parent.TheVariants.{Node}
 use Rattle.search.specs.declared.letters.Load.{Load}
 use Rattle.search.specs.declared.letters.Load.TheVariants as load
 use Rattle.search.specs.Net.{sent_by, why_of}
 use Rattle.search.specs.Answers.{Progress, AsksFor, AsksEach}
-use Rattle.search.specs.Counted.{heard, asks_in}
+use Rattle.search.specs.Search.{heard, asks_in}
 use Rattle.search.proofs.CountedGraph.{heard_pushed, asks_in-append}
 
 -- the ask that goes from the node to that of the expression, on the port

@@ -11,7 +11,7 @@ use Rattle.search.specs.declared.batches.NamedSearch.{NamedSearch}
 use Rattle.search.specs.declared.queries.Hint.{Hint}
 use Rattle.scholten_core.specs.declared.letters.Letter.{Letter}
 use Rattle.std.specs.Arc.{arc_value}
-use Rattle.search.specs.Need.{right_hint}
+use Rattle.search.specs.Finish.{right_hint}
 use Rattle.search.specs.Net.{Said}
 use Rattle.search.specs.Stage.{held_in, stage_marked}
 use Rattle.search.specs.Search.{SearchState}

@@ -11,20 +11,17 @@ use Rattle.rt0_rules.proofs.Distinct.{mapped, filtered, kept_by}
 use Rattle.rt0_rules.proofs.Unknown.{Contains-map}
 use Rattle.vaults.specs.Journal.{Vault, credentials}
 use Rattle.snapshots.specs.Snapshot.{IsOrdered}
-use Rattle.cred_graph.specs.GraphState.{GraphState}
+use Rattle.cred_graph.specs.Graph.{GraphState}
 use Rattle.scholten_core.specs.declared.parents.Parent.TheVariants.{Environment, Node}
 use Rattle.scholten_core.specs.declared.letters.Letter.{Letter}
 use Rattle.scholten_core.specs.Computation.{Computation, StandByNumber, letter_of}
-use Rattle.scholten_core.specs.Step.{marked, numbered, answers}
-use Rattle.scholten_core.specs.Call.{FinishesLetter, DeliversSignal}
+use Rattle.scholten_core.specs.Step.{marked, numbered, answers, FinishesLetter, DeliversSignal}
 use Rattle.search.specs.declared.letters.Load.{Load}
 use Rattle.search.specs.declared.letters.Load.TheVariants as load
 use Rattle.search.specs.declared.findings.Monitor.{Monitor}
-use Rattle.search.specs.Net.{Sent, IsPendingStart, plain, sent_of, sent_by}
-use Rattle.search.specs.Steady.{IsSteady}
+use Rattle.search.specs.Net.{Sent, IsPendingStart, plain, sent_of, sent_by, IsSteady}
 use Rattle.search.specs.Answers.{Progress, progress, net_at, Awaits}
-use Rattle.search.specs.Counted.{IsCounted}
-use Rattle.search.specs.Search.{StartsAlone, KeptBy, IsTallied, net_of}
+use Rattle.search.specs.Search.{IsCounted, StartsAlone, KeptBy, IsTallied, net_of}
 use Rattle.search.proofs.Settled.{TakesOut, settled}
 use Rattle.search.proofs.Receive.{Receipt}
 

@@ -10,10 +10,10 @@ use Rattle.std.proofs.lemmas.Grind.{flat_map-append}
 use Rattle.rt0_rules.specs.Letters.{NodeAsk}
 use Rattle.cred_graph.specs.declared.listeners.Listening.{Listening}
 use Rattle.cred_graph.specs.declared.solutions.Solution.{Solution}
-use Rattle.cred_graph.specs.GraphState.{GraphState, listed_with, members_of}
+use Rattle.cred_graph.specs.Graph.{GraphState, listed_with, members_of}
 use Rattle.cred_graph.specs.NodeLists.{list_at}
 use Rattle.search.specs.Net.{Sent}
-use Rattle.search.specs.Counted.{heard_of, heard_from, ask_from, asks_in}
+use Rattle.search.specs.Search.{heard_of, heard_from, ask_from, asks_in}
 
 -- a list of asks with one more among them
 pub record IsInserted (old new : List NodeAsk) (a : NodeAsk) : Type 0 where

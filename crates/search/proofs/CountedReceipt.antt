@@ -8,13 +8,13 @@ use Rattle.rt0_rules.specs.Letters.{NodeAsk}
 use Rattle.rt0_rules.proofs.Elements.{Contains-none, Contains-first, Contains-cons_cases}
 use Rattle.cred_graph.specs.declared.listeners.Port.{Port}
 use Rattle.cred_graph.specs.declared.listeners.Listening.{Listening}
-use Rattle.cred_graph.specs.GraphState.{GraphState, members_of}
+use Rattle.cred_graph.specs.Graph.{GraphState, members_of}
 use Rattle.scholten_core.specs.declared.parents.Parent.TheVariants.{Node}
 use Rattle.search.specs.declared.letters.Load.{Load}
 use Rattle.search.specs.declared.letters.Load.TheVariants as load
 use Rattle.search.specs.Net.{Sent, sent_by, why_of}
 use Rattle.search.specs.Answers.{Progress, HearsAsk, known_tells}
-use Rattle.search.specs.Counted.{heard_of, heard_from, heard, ask_from, asks_in, IsCountedBy}
+use Rattle.search.specs.Search.{heard_of, heard_from, heard, ask_from, asks_in, IsCountedBy}
 use Rattle.search.proofs.Counting.{counted_heard}
 use Rattle.search.proofs.CountedGraph.{IsInserted, heard_with, heard_has, asks_in-append}
 use Rattle.search.proofs.Asked.{sent_more}

@@ -16,7 +16,7 @@ use Rattle.rt0_rules.proofs.Distinct.{IsMapped, mapped, AreDistinct-map}
 use Rattle.cred_graph.specs.declared.listeners.Port.{Port}
 use Rattle.cred_graph.specs.declared.listeners.Port.TheVariants as port
 use Rattle.cred_graph.specs.declared.solutions.Reason.TheVariants as reason
-use Rattle.cred_graph.specs.GraphState.{members_of}
+use Rattle.cred_graph.specs.Graph.{members_of}
 use Rattle.monitors.specs.LinkMonitor.{LinkTold, HearsBase}
 use Rattle.scholten_core.specs.declared.parents.Parent.TheVariants.{Environment, Node}
 use Rattle.search.specs.declared.letters.Load.{Load}
@@ -24,7 +24,7 @@ use Rattle.search.specs.declared.letters.Load.TheVariants as load
 use Rattle.search.specs.declared.findings.Monitor.TheVariants as monitor
 use Rattle.search.specs.Net.{Sent, sent_by, why_of}
 use Rattle.search.specs.Answers.{Progress, AsksEach, HearsAsk, Opens, TellsBase, TellsPart, TakesIn, part_asks}
-use Rattle.search.specs.Counted.{heard, asks_in, IsCountedBy}
+use Rattle.search.specs.Search.{heard, asks_in, IsCountedBy}
 use Rattle.search.proofs.Counting.{counted_stays}
 use Rattle.search.proofs.Asked.{AskedFor, asked_each, own_ask}
 use Rattle.search.proofs.Counted.{IsCountedAt, same_count, counted_at_asked, counted_at_solved}

@@ -9,7 +9,7 @@ use Rattle.rt0_rules.specs.Letters.{NodeAsk}
 use Rattle.rt0_rules.proofs.Elements.{Contains-none, Contains-first, Contains-later, Contains-cons_cases}
 use Rattle.rt0_rules.proofs.Distinct.{AreDistinct-append}
 use Rattle.rt0_rules.proofs.LetterSteps.{letters_asked, letters_solved}
-use Rattle.search.specs.Counted.{IsCountedBy}
+use Rattle.search.specs.Search.{IsCountedBy}
 
 -- an element of a list with one taken to another place is one of the list
 pub Contains-moved : {X : Type 0} (xs ys zs : List X) (x y : X) → Contains (xs ++ (y ∷ (ys ++ zs))) x → Contains (xs ++ (ys ++ (y ∷ zs))) x

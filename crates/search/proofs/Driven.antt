@@ -3,7 +3,7 @@ use Rattle.std.proofs.Common.{ℕ, ◌<◌, ◌≤◌, ◌==◌, ◌≡◌, ◌�
 use Rattle.std.proofs.lemmas.Bool.{cases_Bool}
 use Rattle.std.proofs.lemmas.Map.Views.{exact_unsigned_eq}
 use Rattle.credential_text.specs.declared.exprs.Expr.{Expr}
-use Rattle.cred_graph.specs.GraphState.{IsNode}
+use Rattle.cred_graph.specs.Graph.{IsNode}
 use Rattle.scholten_core.specs.declared.letters.Letter.{Letter}
 use Rattle.scholten_core.specs.Computation.{Computation}
 use Rattle.search.specs.declared.letters.Load.{Load}
@@ -13,11 +13,10 @@ use Rattle.search.specs.declared.outcomes.Finished.{Finished}
 use Rattle.search.specs.declared.outcomes.Finished.TheVariants as finished
 use Rattle.search.specs.declared.stages.Stage.{Stage}
 use Rattle.search.specs.declared.stages.Stage.TheVariants as stage
-use Rattle.search.specs.Need.{need_of, right_hint}
+use Rattle.search.specs.Finish.{need_of, right_hint, Needs, Takes, TakesHeld, Received, Receives, Finishes}
 use Rattle.search.specs.Stage.{waiting_in, signals_in, held_in, letter_in, Delivers, IsQuiet, NoneHeld, HoldsAsBefore}
 use Rattle.search.specs.Search.{SearchState, SameQuestion, Settles, settled_of}
-use Rattle.search.specs.Finish.{Needs, Takes, TakesHeld, Received, Receives, Finishes}
-use Rattle.search.specs.Driven.{DriveStep, a_signal, a_letter, Makes, MakesEach, IsDriven}
+use Rattle.search.specs.Finish.{DriveStep, a_signal, a_letter, Makes, MakesEach, IsDriven}
 use Rattle.search.proofs.Grow.{one_expr}
 use Rattle.search.proofs.Ended.{settles_on}
 use Rattle.search.proofs.Finishing.{finishes_rightly, rightly_needed}

@@ -14,7 +14,7 @@ use Rattle.vaults.specs.Journal.{credentials}
 use Rattle.vaults.proofs.Elements.{has_iff, has-in_order, sorted-in_order}
 use Rattle.vaults.proofs.Orders.{names_exact}
 use Rattle.snapshots.specs.Snapshot.{SnapshotState}
-use Rattle.cred_graph.specs.GraphState.{GraphState, members_of}
+use Rattle.cred_graph.specs.Graph.{GraphState, members_of}
 use Rattle.scholten_core.specs.Computation.{Computation, outstanding}
 use Rattle.search.specs.declared.letters.Load.{Load}
 use Rattle.search.specs.declared.findings.Monitor.{Monitor}
@@ -23,7 +23,7 @@ use Rattle.search.specs.declared.queries.Query.TheVariants as query
 use Rattle.search.specs.declared.stages.Stage.{Stage}
 use Rattle.search.specs.declared.stages.Stage.TheVariants as stage
 use Rattle.search.specs.Ending.{Settled, IsTruth, IsEnding, MaySettle, Nothing, Members, answers, spends, breaks}
-use Rattle.search.specs.Found.{found, come_to}
+use Rattle.search.specs.Search.{found, come_to}
 use Rattle.search.specs.Stage.{Delivers}
 use Rattle.search.specs.Search.{SearchState, SameQuestion, Settles, KeptBy, IsKept, IsOutstanding, IsCompleted, settled_of, rows_of, asked_role}
 use Rattle.search.proofs.Searching.{delivered_kept, no_letters, member_found, found_member, completed_members}

@@ -4,13 +4,13 @@ use Rattle.names.specs.declared.roles.Role.{Role}
 use Rattle.rt0_rules.specs.Work.{WorkExceeds}
 use Rattle.vaults.specs.Journal.{Vault}
 use Rattle.snapshots.specs.Snapshot.{SnapshotState, IsOrdered}
-use Rattle.cred_graph.specs.GraphState.{GraphState, IsNode}
+use Rattle.cred_graph.specs.Graph.{GraphState, IsNode}
 use Rattle.credential_text.specs.declared.exprs.Expr.{Expr}
 use Rattle.credential_text.specs.declared.exprs.Expr.TheVariants.{Ent, Rol, Link, Meet}
 use Rattle.std.proofs.lemmas.Option.{slice_get-get_or}
 use Rattle.scholten_core.specs.declared.letters.Letter.{Letter}
 use Rattle.scholten_core.specs.Computation.{Computation}
-use Rattle.scholten_core.specs.Call.{FinishesLetter}
+use Rattle.scholten_core.specs.Step.{FinishesLetter}
 use Rattle.search.specs.declared.letters.Load.{Load}
 use Rattle.search.specs.declared.letters.Load.TheVariants as load
 use Rattle.search.specs.declared.letters.Held.{Held}
@@ -22,10 +22,9 @@ use Rattle.search.specs.declared.stages.Stage.{Stage}
 use Rattle.search.specs.declared.stages.Stage.TheVariants as stage
 use Rattle.search.specs.Net.{sent_of}
 use Rattle.search.specs.Answers.{progress, Answers}
-use Rattle.search.specs.Need.{IsSpanFor, need_of, right_hint, rows_for, span_in}
+use Rattle.search.specs.Finish.{IsSpanFor, need_of, right_hint, rows_for, span_in, IsRightly, Receives, Finishes}
 use Rattle.search.specs.Stage.{HoldsLetter, letter_in, held_in, if_held, stage_marked, Sends}
 use Rattle.search.specs.Search.{SearchState, KeptBy, IsTallied, IsKept, asked_role, rows_of}
-use Rattle.search.specs.Finish.{IsRightly, Receives, Finishes}
 use Rattle.search.proofs.Grow.{one_expr}
 use Rattle.search.proofs.Receive.{receipt}
 use Rattle.search.proofs.Closing.{done_kept}

@@ -14,15 +14,13 @@ use Rattle.cred_graph.specs.declared.listeners.Listening.{Listening}
 use Rattle.cred_graph.specs.declared.solutions.Reason.{Reason}
 use Rattle.cred_graph.specs.declared.solutions.Reason.TheVariants as reason
 use Rattle.cred_graph.specs.declared.solutions.Solution.{Solution}
-use Rattle.cred_graph.specs.GraphState.{GraphState, IsNode, IsSolution, Known, Listens}
-use Rattle.cred_graph.specs.Graph.{IsGraph}
+use Rattle.cred_graph.specs.Graph.{GraphState, IsNode, IsSolution, Known, Listens, IsGraph}
 use Rattle.scholten_core.specs.declared.parents.Parent.{Parent}
 use Rattle.scholten_core.specs.declared.parents.Parent.TheVariants.{Neutral, Environment, Node}
 use Rattle.search.specs.declared.letters.Load.{Load}
 use Rattle.search.specs.declared.letters.Load.TheVariants as load
 use Rattle.search.specs.Net.{Net, Sent, HasListener, IsPendingStart, IsPendingTell, IsBaseTold, IsPartTold, IsOpen, IsAsked, IsTaken}
-use Rattle.search.specs.Net.{AskFits, LetterFits, ByRow, SolutionFits, PartFits, OpenedPaid}
-use Rattle.search.specs.Steady.{MonitorFits, MonitorsFit, IsRight, IsPaid}
+use Rattle.search.specs.Net.{AskFits, LetterFits, ByRow, SolutionFits, PartFits, OpenedPaid, MonitorFits, MonitorsFit, IsRight, IsPaid}
 
 -- what was found and sent is there still, and no letter of the environment came
 pub record Grows (old new : Net) : Type 0 where

@@ -15,8 +15,7 @@ use Rattle.cred_graph.specs.Numbers.{IsEntity, entity_at}
 use Rattle.cred_graph.proofs.Lists.{Contains-at_place}
 use Rattle.cred_graph.proofs.NumberLemmas.{entity_is}
 use Rattle.monitors.specs.LinkMonitor.{LinkTold, LinkToldBy, HearsBase}
-use Rattle.monitors.specs.MeetMonitor.{MeetTold}
-use Rattle.monitors.specs.KeyedMeet.{MeetLines, TellsApart, told_by, HearsByName, HasKeysOf}
+use Rattle.monitors.specs.MeetMonitor.{MeetTold, MeetLines, TellsApart, told_by, HearsByName, HasKeysOf}
 use Rattle.search.specs.declared.findings.Monitor.{Monitor}
 use Rattle.search.specs.declared.findings.Monitor.TheVariants as monitor
 use Rattle.search.specs.declared.findings.NumberedMonitor.{NumberedMonitor}

@@ -6,9 +6,8 @@ use Rattle.scholten_core.specs.declared.parents.Parent.{Parent}
 use Rattle.scholten_core.specs.declared.parents.Parent.TheVariants.{Node}
 use Rattle.scholten_core.specs.declared.letters.Letter.{Letter}
 use Rattle.scholten_core.specs.Computation.{Computation, StandByNumber, letter_of, outstanding}
-use Rattle.scholten_core.specs.Step.{numbered, answers}
+use Rattle.scholten_core.specs.Step.{numbered, answers, TakesLetter, FinishesLetter, DeliversSignal}
 use Rattle.scholten_core.specs.Sound.{IsNumbered}
-use Rattle.scholten_core.specs.Call.{TakesLetter, FinishesLetter, DeliversSignal}
 use Rattle.scholten_core.proofs.Lists.{lookup_from_filter, filter_passes}
 use Rattle.search.specs.declared.letters.Load.{Load}
 use Rattle.search.specs.declared.stages.Stage.{Stage}

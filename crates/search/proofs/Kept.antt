@@ -14,7 +14,7 @@ use Rattle.rt0_rules.specs.Asks.{Demanded}
 use Rattle.rt0_rules.proofs.Elements.{Contains-none}
 use Rattle.rt0_rules.proofs.Distinct.{mapped}
 use Rattle.cred_graph.specs.declared.listeners.Listening.{Listening}
-use Rattle.cred_graph.specs.GraphState.{GraphState, Listens}
+use Rattle.cred_graph.specs.Graph.{GraphState, Listens}
 use Rattle.cred_graph.proofs.Lists.{slice_get_stays, slice_get_push_cases}
 use Rattle.cred_graph.proofs.Growth.{with_node, graph_with_node, listed_at-pushed}
 use Rattle.monitors.specs.LinkMonitor.{LinkTold}
@@ -24,8 +24,7 @@ use Rattle.search.specs.declared.letters.Load.{Load}
 use Rattle.search.specs.declared.letters.Load.TheVariants as load
 use Rattle.search.specs.declared.findings.Monitor.{Monitor}
 use Rattle.search.specs.declared.findings.Monitor.TheVariants as monitor
-use Rattle.search.specs.Net.{Net, Sent, sent_by, IsBaseTold, IsPartTold, LetterFits}
-use Rattle.search.specs.Steady.{MonitorFits, IsSteady}
+use Rattle.search.specs.Net.{Net, Sent, sent_by, IsBaseTold, IsPartTold, LetterFits, MonitorFits, IsSteady}
 use Rattle.search.specs.Answers.{new_monitor}
 use Rattle.search.proofs.Grow.{Grows, AddsRightly, AddsPaid, grown_right, grown_paid}
 

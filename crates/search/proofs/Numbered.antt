@@ -15,23 +15,19 @@ use Rattle.cred_graph.specs.declared.solutions.Reason.{Reason}
 use Rattle.cred_graph.specs.declared.solutions.Reason.TheVariants as reason
 use Rattle.scholten_core.specs.declared.parents.Parent.{Parent}
 use Rattle.scholten_core.specs.declared.parents.Parent.TheVariants.{Neutral, Environment, Node}
-use Rattle.cred_graph.specs.GraphState.{GraphState, listed_with}
-use Rattle.cred_graph.specs.NodeLists.{list_at}
-use Rattle.cred_graph.specs.Graph.{IsGraph, NodeGiven, ListenerGiven, SolutionGiven}
+use Rattle.cred_graph.specs.Graph.{GraphState, listed_with, IsGraph, NodeGiven, ListenerGiven, SolutionGiven}
+use Rattle.cred_graph.specs.NodeLists.{list_at, IsOnce}
 use Rattle.cred_graph.specs.declared.solutions.Solution.{Solution}
 use Rattle.std.specs.FinSet as set
 use Rattle.std.specs.Map.{keys_of}
 use Rattle.monitors.specs.declared.tellers.Tellers.{Tellers}
-use Rattle.monitors.specs.Tellers.{pairs_of}
-use Rattle.monitors.specs.KeyedMeet.{named}
-use Rattle.cred_graph.specs.NodeLists.{IsOnce}
+use Rattle.monitors.specs.MeetMonitor.{pairs_of, named}
 use Rattle.cred_graph.specs.Numbers.{IsEntity, IsNamed, IsPort, entity_at, port_at, reason_at}
 use Rattle.cred_graph.proofs.Growth.{listed_at-pushed, listed_with_cases}
 use Rattle.cred_graph.proofs.NumberLemmas.{entity_goes_on, entity_stays, named_goes_on, port_goes_on, port_named, port_stays}
 use Rattle.scholten_core.specs.declared.letters.Letter.{Letter}
-use Rattle.scholten_core.specs.Computation.{Computation, IsHeld, outstanding, waiting}
+use Rattle.scholten_core.specs.Computation.{Computation, IsHeld, outstanding, waiting, entry_with, named_with}
 use Rattle.scholten_core.specs.Step.{started}
-use Rattle.scholten_core.specs.Named.{entry_with, named_with}
 use Rattle.scholten_core.proofs.Named.{held-unnamed, map_alike, named_alike, outstanding-named, waiting-named, waits-named}
 use Rattle.search.specs.Stage.{signals_in, waiting_in, IsQuiet, NoneHeld}
 use Rattle.search.specs.Search.{IsOutstanding}

@@ -13,10 +13,10 @@ use Rattle.rt0_rules.specs.FixedPoint.{Follows, by_leaf, by_credential, by_link,
 use Rattle.rt0_rules.proofs.Elements.{Contains-first, Contains-later}
 use Rattle.cred_graph.specs.declared.listeners.Port.{Port}
 use Rattle.cred_graph.specs.declared.listeners.Port.TheVariants as port
-use Rattle.cred_graph.specs.GraphState.{IsNode, IsSolution, Known}
+use Rattle.cred_graph.specs.Graph.{IsNode, IsSolution, Known}
 use Rattle.search.specs.declared.letters.Load.TheVariants as load
 use Rattle.search.specs.Net.{Net, why_of, IsPartTold, IsOpen, IsAsked, IsTaken, ListensFor, IsOpenExpr, IsPendingBetween}
-use Rattle.search.specs.Steady.{IsRight, IsPaid, OwesRules}
+use Rattle.search.specs.Net.{IsRight, IsPaid, OwesRules}
 use Rattle.search.proofs.Grow.{one_expr}
 
 module _ (rows : List Credential) (asked : Role) (net : Net) (right : IsRight rows asked net) (paid : IsPaid rows net) where

@@ -10,16 +10,14 @@ use Rattle.credential_text.specs.declared.exprs.Expr.TheVariants.{Ent, Rol, Link
 use Rattle.vaults.specs.Journal.{Vault, credentials}
 use Rattle.snapshots.specs.Snapshot.{IsOrdered}
 use Rattle.cred_graph.specs.declared.listeners.Port.{Port}
-use Rattle.cred_graph.specs.GraphState.{GraphState, IsNode, listeners_of}
+use Rattle.cred_graph.specs.Graph.{GraphState, IsNode, listeners_of}
 use Rattle.scholten_core.specs.declared.parents.Parent.{Parent}
 use Rattle.scholten_core.specs.declared.parents.Parent.TheVariants.{Neutral, Environment, Node}
 use Rattle.search.specs.declared.letters.Load.{Load}
 use Rattle.search.specs.declared.letters.Load.TheVariants as load
 use Rattle.search.specs.declared.findings.Monitor.{Monitor}
-use Rattle.search.specs.Net.{Net, Sent, LetterFits, OpenedPaid}
-use Rattle.search.specs.Steady.{IsRight, IsSteady}
-use Rattle.search.specs.Answers.{Awaits}
-use Rattle.search.specs.Answers.{Progress, progress, net_at, HearsAsk, TakesIn, Opens, IsOpenAt, own_rows, AnswersAsk, Answers}
+use Rattle.search.specs.Net.{Net, Sent, LetterFits, OpenedPaid, IsRight, IsSteady}
+use Rattle.search.specs.Answers.{Awaits, Progress, progress, net_at, HearsAsk, TakesIn, Opens, IsOpenAt, own_rows, AnswersAsk, Answers}
 use Rattle.search.proofs.Grow.{Grows, one_expr, ask_fits_stays}
 use Rattle.search.proofs.Steps.{RowsFor, grows_on, opens, hears}
 use Rattle.search.proofs.Taken.{IsTold, takes_in}

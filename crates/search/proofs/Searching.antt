@@ -14,8 +14,7 @@ use Rattle.rt0_rules.proofs.Distinct.{filtered}
 use Rattle.rt0_rules.proofs.Unknown.{Contains-map}
 use Rattle.cred_graph.proofs.Lists.{Contains-at_place}
 use Rattle.cred_graph.specs.declared.listeners.Port.{Port}
-use Rattle.cred_graph.specs.GraphState.{GraphState, IsNode, IsSolution, Known, Listens, members_of}
-use Rattle.cred_graph.specs.Graph.{IsGraph}
+use Rattle.cred_graph.specs.Graph.{GraphState, IsNode, IsSolution, Known, Listens, members_of, IsGraph}
 use Rattle.scholten_core.specs.declared.parents.Parent.TheVariants.{Environment}
 use Rattle.scholten_core.specs.declared.letters.Letter.{Letter}
 use Rattle.rt0_rules.specs.Work.{WorkExceeds}
@@ -28,12 +27,10 @@ use Rattle.search.specs.declared.findings.Monitor.{Monitor}
 use Rattle.search.specs.declared.findings.Monitor.TheVariants as monitor
 use Rattle.search.specs.declared.stages.Stage.{Stage}
 use Rattle.search.specs.declared.stages.Stage.TheVariants as stage
-use Rattle.search.specs.Net.{Net, Sent, plain, sent_of, IsPendingBetween, IsOpen, LetterFits}
-use Rattle.search.specs.Steady.{IsRight, IsPaid, IsJustified, OwesRules}
+use Rattle.search.specs.Net.{Net, Sent, plain, sent_of, IsPendingBetween, IsOpen, LetterFits, IsRight, IsPaid, IsJustified, OwesRules}
 use Rattle.search.specs.Answers.{Awaits}
 use Rattle.search.specs.Stage.{HoldsLetter, Holds, letter_in, stage_marked, waiting_in, Delivers}
-use Rattle.search.specs.Counted.{MayAsk}
-use Rattle.search.specs.Search.{SearchState, KeptBy, IsTallied, IsKept, IsCompleted, asked_role, rows_of, net_of}
+use Rattle.search.specs.Search.{MayAsk, SearchState, KeptBy, IsTallied, IsKept, IsCompleted, asked_role, rows_of, net_of}
 use Rattle.search.proofs.Owed.{owes_rules}
 use Rattle.search.proofs.Solve.{solution_of_member, member_of_solution}
 use Rattle.search.proofs.Closing.{awaits_letter, marked_kept, signalled_kept, marked_tallied, signalled_tallied}

@@ -6,14 +6,13 @@ use Rattle.credential_text.specs.declared.exprs.Expr.{Expr}
 use Rattle.credential_text.specs.declared.exprs.Expr.TheVariants.{Ent, Rol, Link, Meet}
 use Rattle.cred_graph.specs.declared.listeners.Port.{Port}
 use Rattle.cred_graph.specs.declared.listeners.Port.TheVariants as port
-use Rattle.cred_graph.specs.GraphState.{GraphState, IsNode}
+use Rattle.cred_graph.specs.Graph.{GraphState, IsNode}
 use Rattle.scholten_core.specs.declared.parents.Parent.{Parent}
 use Rattle.scholten_core.specs.declared.parents.Parent.TheVariants.{Neutral, Environment, Node}
 use Rattle.search.specs.declared.letters.Load.{Load}
 use Rattle.search.specs.declared.letters.Load.TheVariants as load
 use Rattle.search.specs.declared.findings.Monitor.{Monitor}
-use Rattle.search.specs.Net.{Net, Sent, HasListener, IsPendingStart, IsOpen, IsAsked, IsTaken, OpenedPaid}
-use Rattle.search.specs.Steady.{IsPaid, IsSteady}
+use Rattle.search.specs.Net.{Net, Sent, HasListener, IsPendingStart, IsOpen, IsAsked, IsTaken, OpenedPaid, IsPaid, IsSteady}
 
 -- the letter was received: the environment's opened the asked role, an Ask is heard, a Tell is taken in
 abbrev pub IsReceived : List Credential → Net → Parent → ℕ → Load (List ℕ) → Type 0

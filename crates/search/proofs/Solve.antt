@@ -12,16 +12,14 @@ use Rattle.cred_graph.specs.declared.listeners.Port.{Port}
 use Rattle.cred_graph.specs.declared.listeners.Listening.{Listening}
 use Rattle.cred_graph.specs.declared.solutions.Reason.{Reason}
 use Rattle.cred_graph.specs.declared.solutions.Solution.{Solution}
-use Rattle.cred_graph.specs.GraphState.{GraphState, IsNode, IsSolution, Listens, listeners_of, members_of}
+use Rattle.cred_graph.specs.Graph.{GraphState, IsNode, IsSolution, Listens, listeners_of, members_of, Fits}
 use Rattle.cred_graph.specs.NodeLists.{list_at}
-use Rattle.cred_graph.specs.Reason.{Fits}
 use Rattle.cred_graph.proofs.Growth.{with_solution, with_listener, graph_with_solution, graph_with_listener, listed_with_cases}
 use Rattle.scholten_core.specs.declared.parents.Parent.TheVariants.{Node}
 use Rattle.search.specs.declared.letters.Load.{Load}
 use Rattle.search.specs.declared.letters.Load.TheVariants as load
 use Rattle.search.specs.declared.findings.Monitor.{Monitor}
-use Rattle.search.specs.Net.{Net, Sent, sent_by, HasListener, LetterFits, SolutionFits, AskFits, OpenedPaid}
-use Rattle.search.specs.Steady.{IsSteady}
+use Rattle.search.specs.Net.{Net, Sent, sent_by, HasListener, LetterFits, SolutionFits, AskFits, OpenedPaid, IsSteady}
 use Rattle.search.specs.Answers.{new_tells, known_tells}
 use Rattle.search.proofs.Grow.{Grows, solution_fits_stays, ask_fits_stays, opened_stays}
 use Rattle.search.proofs.Kept.{steady_grown, pending_on, pending_new, pending_cases, start_before}

@@ -18,16 +18,14 @@ use Rattle.cred_graph.specs.declared.listeners.Port.TheVariants as port
 use Rattle.cred_graph.specs.declared.solutions.Reason.{Reason}
 use Rattle.cred_graph.specs.declared.solutions.Reason.TheVariants as reason
 use Rattle.cred_graph.specs.declared.solutions.Solution.{Solution}
-use Rattle.cred_graph.specs.GraphState.{GraphState, IsNode, IsSolution, Known, Listens}
-use Rattle.cred_graph.specs.Reason.{Fits}
+use Rattle.cred_graph.specs.Graph.{GraphState, IsNode, IsSolution, Known, Listens, Fits}
 use Rattle.cred_graph.proofs.Lists.{slice_get_pushed}
 use Rattle.cred_graph.proofs.Growth.{with_node, with_listener}
 use Rattle.scholten_core.specs.declared.parents.Parent.TheVariants.{Node}
 use Rattle.search.specs.declared.letters.Load.{Load}
 use Rattle.search.specs.declared.letters.Load.TheVariants as load
 use Rattle.search.specs.declared.findings.Monitor.{Monitor}
-use Rattle.search.specs.Net.{Net, Sent, sent_by, why_of, HasListener, IsAsked, AskFits, LetterFits, SolutionFits, OpenedPaid}
-use Rattle.search.specs.Steady.{IsSteady}
+use Rattle.search.specs.Net.{Net, Sent, sent_by, why_of, HasListener, IsAsked, AskFits, LetterFits, SolutionFits, OpenedPaid, IsSteady}
 use Rattle.search.specs.Answers.{Progress, progress, net_at, new_monitor, AsksFor, AsksEach, Solves, HearsAsk, part_asks, Opens, new_tells, known_tells}
 use Rattle.search.proofs.Grow.{Grows, known_stays, asks_more, asked_stays}
 use Rattle.search.proofs.Kept.{node_grows, node_steady, letters_grow, letters_steady, pending_new}

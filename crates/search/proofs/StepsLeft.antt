@@ -5,8 +5,7 @@ use Rattle.scholten_core.specs.declared.parents.Parent.{Parent}
 use Rattle.scholten_core.specs.declared.parents.Parent.TheVariants.{Node}
 use Rattle.scholten_core.specs.declared.letters.Letter.{Letter}
 use Rattle.scholten_core.specs.Computation.{Computation, letter_of, outstanding}
-use Rattle.scholten_core.specs.Step.{numbered, answers, mark}
-use Rattle.scholten_core.specs.Call.{FinishesLetter, DeliversSignal}
+use Rattle.scholten_core.specs.Step.{numbered, answers, mark, FinishesLetter, DeliversSignal}
 use Rattle.search.specs.declared.letters.Load.{Load}
 use Rattle.search.specs.declared.stages.Stage.{Stage}
 use Rattle.search.specs.declared.stages.Stage.TheVariants as stage

@@ -14,8 +14,7 @@ use Rattle.rt0_rules.specs.Asks.{Why, for_body, for_base, for_via, for_part, Ask
 use Rattle.cred_graph.specs.declared.listeners.Port.{Port}
 use Rattle.cred_graph.specs.declared.listeners.Port.TheVariants as port
 use Rattle.cred_graph.specs.declared.solutions.Reason.TheVariants as reason
-use Rattle.cred_graph.specs.GraphState.{GraphState, IsNode, IsSolution, Known}
-use Rattle.cred_graph.specs.Reason.{Fits}
+use Rattle.cred_graph.specs.Graph.{GraphState, IsNode, IsSolution, Known, Fits}
 use Rattle.cred_graph.proofs.Lists.{slice_get_stays}
 use Rattle.monitors.specs.LinkMonitor.{LinkTold, HearsBase}
 use Rattle.monitors.specs.MeetMonitor.{MeetTold, HasTold, AllTold, with_tell}
@@ -23,8 +22,7 @@ use Rattle.search.specs.declared.letters.Load.{Load}
 use Rattle.search.specs.declared.letters.Load.TheVariants as load
 use Rattle.search.specs.declared.findings.Monitor.{Monitor}
 use Rattle.search.specs.declared.findings.Monitor.TheVariants as monitor
-use Rattle.search.specs.Net.{Net, Sent, sent_by, IsAsked, IsTaken, AskFits, SolutionFits, PartFits}
-use Rattle.search.specs.Steady.{MonitorFits, IsSteady}
+use Rattle.search.specs.Net.{Net, Sent, sent_by, IsAsked, IsTaken, AskFits, SolutionFits, PartFits, MonitorFits, IsSteady}
 use Rattle.search.specs.Answers.{Progress, progress, net_at, new_monitor, AsksFor, TellsBase, TellsPart, TakesIn, TellsLast, MayTakeIn}
 use Rattle.search.proofs.Grow.{zip_right, one_expr, part_fits_stays}
 use Rattle.search.proofs.Told.{tell_cases, base_grows, base_taken, base_steady, part_grows, part_taken, part_steady}

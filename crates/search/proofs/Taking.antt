@@ -4,17 +4,16 @@ use Rattle.std.specs.Option.{MatchOption}
 use Rattle.std.proofs.lemmas.Option.{same_Some, slice_get-get_or, slice_get_within}
 use Rattle.credential_text.specs.declared.exprs.Expr.{Expr}
 use Rattle.credential_text.specs.declared.exprs.Expr.TheVariants.{Ent}
-use Rattle.cred_graph.specs.GraphState.{GraphState, IsNode}
+use Rattle.cred_graph.specs.Graph.{GraphState, IsNode}
 use Rattle.scholten_core.specs.declared.letters.Letter.{Letter}
 use Rattle.search.specs.declared.letters.Load.{Load}
 use Rattle.search.specs.declared.letters.Held.{Held}
 use Rattle.search.specs.declared.stages.Stage.{Stage}
 use Rattle.search.specs.declared.queries.Need.{Need}
 use Rattle.search.specs.Numbered.{held_at, load_at}
-use Rattle.search.specs.Need.{need_of}
+use Rattle.search.specs.Finish.{need_of, Takes, TakesHeld}
 use Rattle.search.specs.Stage.{waiting_in, Holds}
 use Rattle.search.specs.Search.{SearchState, IsKept, Settles, settled_of}
-use Rattle.search.specs.Finish.{Takes, TakesHeld}
 use Rattle.search.proofs.Searching.{taken_to, marked_stage_kept}
 use Rattle.search.proofs.Answered.{waits_outstanding}
 use Rattle.search.proofs.Ended.{same_question, settles}

@@ -14,7 +14,7 @@ use Rattle.snapshots.specs.Snapshot.{IsOrdered}
 use Rattle.cred_graph.specs.declared.listeners.Port.{Port}
 use Rattle.cred_graph.specs.declared.listeners.Port.TheVariants as port
 use Rattle.cred_graph.specs.declared.listeners.Listening.{Listening}
-use Rattle.cred_graph.specs.GraphState.{GraphState, IsNode, Listens, members_of}
+use Rattle.cred_graph.specs.Graph.{GraphState, IsNode, Listens, members_of}
 use Rattle.monitors.specs.LinkMonitor.{LinkTold}
 use Rattle.scholten_core.specs.declared.parents.Parent.{Parent}
 use Rattle.scholten_core.specs.declared.parents.Parent.TheVariants.{Neutral, Environment, Node}
@@ -22,11 +22,9 @@ use Rattle.search.specs.declared.letters.Load.{Load}
 use Rattle.search.specs.declared.letters.Load.TheVariants as load
 use Rattle.search.specs.declared.findings.Monitor.{Monitor}
 use Rattle.search.specs.declared.findings.Monitor.TheVariants as monitor
-use Rattle.search.specs.Net.{Net, Sent, HasListener, IsPendingStart, IsBaseTold, IsOpen, IsTaken}
-use Rattle.search.specs.Steady.{IsSteady}
-use Rattle.search.specs.Answers.{Awaits}
-use Rattle.search.specs.Answers.{Progress, progress, net_at, HearsAsk, TakesIn, Opens, IsOpenAt, own_rows, AnswersAsk, Answers}
-use Rattle.search.specs.Counted.{MayAskFor, MayAsk, heard, asks_in, IsCountedBy, IsCounted}
+use Rattle.search.specs.Net.{Net, Sent, HasListener, IsPendingStart, IsBaseTold, IsOpen, IsTaken, IsSteady}
+use Rattle.search.specs.Answers.{Awaits, Progress, progress, net_at, HearsAsk, TakesIn, Opens, IsOpenAt, own_rows, AnswersAsk, Answers}
+use Rattle.search.specs.Search.{MayAskFor, MayAsk, heard, asks_in, IsCountedBy, IsCounted}
 use Rattle.search.proofs.Grow.{Grows}
 use Rattle.search.proofs.Rows.{AreRowsOfOne, role_rows_once}
 use Rattle.search.proofs.Steps.{opens}

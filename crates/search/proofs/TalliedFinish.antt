@@ -8,20 +8,19 @@ use Rattle.names.specs.declared.roles.Role.{Role}
 use Rattle.rt0_rules.specs.Work.{WorkExceeds}
 use Rattle.vaults.specs.Journal.{Vault, credentials}
 use Rattle.snapshots.specs.Snapshot.{IsOrdered}
-use Rattle.cred_graph.specs.GraphState.{GraphState}
+use Rattle.cred_graph.specs.Graph.{GraphState}
 use Rattle.scholten_core.specs.declared.parents.Parent.TheVariants.{Environment}
 use Rattle.scholten_core.specs.declared.letters.Letter.{Letter}
 use Rattle.scholten_core.specs.Computation.{Computation, StandByNumber, letter_of}
 use Rattle.scholten_core.specs.Sound.{IsNumbered}
-use Rattle.scholten_core.specs.Call.{FinishesLetter}
+use Rattle.scholten_core.specs.Step.{FinishesLetter}
 use Rattle.scholten_core.proofs.Lists.{filter_past}
 use Rattle.search.specs.declared.letters.Load.{Load}
 use Rattle.search.specs.declared.letters.Load.TheVariants as load
 use Rattle.search.specs.declared.findings.Monitor.{Monitor}
 use Rattle.search.specs.Net.{Sent, IsPendingStart, plain, sent_of, sent_by}
-use Rattle.search.specs.Counted.{IsCounted}
+use Rattle.search.specs.Search.{IsCounted, KeptBy, IsTallied, net_of}
 use Rattle.search.specs.Answers.{Progress, progress, net_at, Answers, Awaits}
-use Rattle.search.specs.Search.{KeptBy, IsTallied, net_of}
 use Rattle.search.proofs.Receive.{receipt}
 use Rattle.search.proofs.Closing.{awaits_letter, left, started_before, steady_after, after_is}
 use Rattle.search.proofs.Tallied.{receipt_counted}

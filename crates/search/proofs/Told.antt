@@ -14,14 +14,13 @@ use Rattle.credential_text.specs.declared.intersections.Part.{Part}
 use Rattle.credential_text.specs.declared.exprs.Expr.{Expr}
 use Rattle.credential_text.specs.declared.exprs.Expr.TheVariants.{Ent, Rol, Link, Meet}
 use Rattle.cred_graph.specs.declared.listeners.Port.TheVariants as port
-use Rattle.cred_graph.specs.GraphState.{GraphState, IsNode, IsSolution}
+use Rattle.cred_graph.specs.Graph.{GraphState, IsNode, IsSolution}
 use Rattle.monitors.specs.LinkMonitor.{LinkTold}
 use Rattle.monitors.specs.MeetMonitor.{MeetTold, HasTold, AllTold, with_tell, told_order}
 use Rattle.monitors.proofs.ToldOrder.{told_order_total, told_order_tied}
 use Rattle.search.specs.declared.findings.Monitor.{Monitor}
 use Rattle.search.specs.declared.findings.Monitor.TheVariants as monitor
-use Rattle.search.specs.Net.{Net, Sent, IsBaseTold, IsPartTold, IsAsked, PartFits}
-use Rattle.search.specs.Steady.{MonitorFits, MonitorsFit, IsSteady}
+use Rattle.search.specs.Net.{Net, Sent, IsBaseTold, IsPartTold, IsAsked, PartFits, MonitorFits, MonitorsFit, IsSteady}
 use Rattle.search.proofs.Grow.{Grows, part_fits_stays, asked_stays, zip_left, one_expr}
 use Rattle.search.proofs.Kept.{steady_grown}
 

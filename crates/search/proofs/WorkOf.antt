@@ -17,16 +17,15 @@ use Rattle.rt0_rules.proofs.FixedPoint.{asks_kept, all_heard, exact}
 use Rattle.rt0_rules.proofs.Letters.{letters_exceed, letters_are_work}
 use Rattle.cred_graph.specs.declared.listeners.Listening.{Listening}
 use Rattle.cred_graph.specs.declared.solutions.Solution.{Solution}
-use Rattle.cred_graph.specs.GraphState.{GraphState, IsNode, IsSolution, Known, members_of}
+use Rattle.cred_graph.specs.Graph.{GraphState, IsNode, IsSolution, Known, members_of}
 use Rattle.cred_graph.specs.NodeLists.{list_at}
 use Rattle.cred_graph.proofs.Lists.{place_of_Contains}
 use Rattle.scholten_core.specs.declared.parents.Parent.{Parent}
 use Rattle.scholten_core.specs.declared.parents.Parent.TheVariants.{Neutral, Environment, Node}
 use Rattle.search.specs.declared.letters.Load.{Load}
 use Rattle.search.specs.declared.letters.Load.TheVariants as load
-use Rattle.search.specs.Net.{Net, Sent, LetterFits, SolutionFits, IsPendingStart, IsPendingBetween, why_of}
-use Rattle.search.specs.Steady.{IsRight, IsSteady, OwesRules}
-use Rattle.search.specs.Counted.{heard_of, heard_from, heard, ask_from, asks_in, IsCountedBy, IsCounted}
+use Rattle.search.specs.Net.{Net, Sent, LetterFits, SolutionFits, IsPendingStart, IsPendingBetween, why_of, IsRight, IsSteady, OwesRules}
+use Rattle.search.specs.Search.{heard_of, heard_from, heard, ask_from, asks_in, IsCountedBy, IsCounted}
 use Rattle.search.proofs.CountedGraph.{heard_has}
 use Rattle.search.proofs.Owed.{owes_rules}
 use Rattle.search.proofs.Solve.{member_of_solution}

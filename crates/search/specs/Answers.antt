@@ -12,8 +12,7 @@ use Rattle.cred_graph.specs.declared.listeners.Port.{Port}
 use Rattle.cred_graph.specs.declared.listeners.Port.TheVariants as port
 use Rattle.cred_graph.specs.declared.solutions.Reason.{Reason}
 use Rattle.cred_graph.specs.declared.solutions.Reason.TheVariants as reason
-use Rattle.cred_graph.specs.Reason.{Fits}
-use Rattle.cred_graph.specs.GraphState.{GraphState, IsNode, IsSolution, Listens, listed_with, listeners_of, members_of}
+use Rattle.cred_graph.specs.Graph.{Fits, GraphState, IsNode, IsSolution, Listens, listed_with, listeners_of, members_of}
 use Rattle.monitors.specs.LinkMonitor.{LinkTold, HearsBase}
 use Rattle.monitors.specs.MeetMonitor.{MeetTold, HearsPart, AllTold, with_tell}
 use Rattle.scholten_core.specs.declared.parents.Parent.{Parent}
@@ -23,8 +22,7 @@ use Rattle.snapshots.specs.Span.{role_rows}
 use Rattle.search.specs.declared.letters.Load.TheVariants as load
 use Rattle.search.specs.declared.findings.Monitor.{Monitor}
 use Rattle.search.specs.declared.findings.Monitor.TheVariants as monitor
-use Rattle.search.specs.Net.{Said, Net, Sent, sent_by}
-use Rattle.search.specs.Steady.{IsSteady}
+use Rattle.search.specs.Net.{Said, Net, Sent, sent_by, IsSteady}
 
 -- what was found while a node answers a letter, and what it sends
 pub record Progress : Type 0 where

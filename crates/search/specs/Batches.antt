@@ -11,11 +11,9 @@ use Rattle.search.specs.declared.batches.NamedSearch.{NamedSearch}
 use Rattle.search.specs.declared.queries.Need.{Need}
 use Rattle.search.specs.declared.outcomes.Finished.{Finished}
 use Rattle.search.specs.declared.outcomes.Finished.TheVariants.{Done}
-use Rattle.search.specs.Need.{right_hint}
+use Rattle.search.specs.Finish.{right_hint, Takes, Finishes, SignalsFirst}
 use Rattle.search.specs.Stage.{IsQuiet, held_in, stage_marked}
 use Rattle.search.specs.Search.{SearchState, Settles, IsSoundStage}
-use Rattle.search.specs.Finish.{Takes, Finishes}
-use Rattle.search.specs.Driven.{SignalsFirst}
 
 -- a letter that was taken: whose, of which search, what it needs, and what it is to be looked up in
 pub record TakenLetter : Type 0 where

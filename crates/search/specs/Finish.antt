@@ -1,21 +1,59 @@
--- What the calls of a search do to it.
-use Rattle.std.specs.Prelude.{ℕ, ◌+◌, ◌<◌, ◌≤◌, true, false, List, [], ◌≡◌, Some, None, length, slice_get}
+-- What a letter needs, what the calls of a search do to it, and how it is carried on by itself
+use Rattle.std.specs.Prelude.{List, ◌≡◌, Option, Some, None, ℕ, ◌+◌, ◌<◌, ◌≤◌, true, false, [], length, slice_get, ◌∷◌}
+use Rattle.names.specs.declared.roles.Role.{Role}
 use Rattle.credential_text.specs.declared.exprs.Expr.{Expr}
-use Rattle.cred_graph.specs.GraphState.{IsNode}
+use Rattle.credential_text.specs.declared.exprs.Expr.TheVariants.{Rol}
+use Rattle.vaults.specs.Journal.{Vault}
+use Rattle.snapshots.specs.declared.spans.Span.{Span}
+use Rattle.snapshots.specs.Span.{span_of}
+use Rattle.cred_graph.specs.Graph.{IsNode}
 use Rattle.scholten_core.specs.declared.letters.Letter.{Letter}
 use Rattle.scholten_core.specs.Computation.{Computation}
-use Rattle.scholten_core.specs.Call.{FinishesLetter}
+use Rattle.scholten_core.specs.Step.{FinishesLetter}
 use Rattle.search.specs.Net.{Said}
-use Rattle.search.specs.declared.letters.Held.{Held}
+use Rattle.search.specs.declared.letters.Load.TheVariants as load
 use Rattle.search.specs.declared.queries.Need.{Need}
+use Rattle.search.specs.declared.queries.Need.TheVariants as need
 use Rattle.search.specs.declared.queries.Hint.{Hint}
+use Rattle.search.specs.declared.queries.Hint.TheVariants as hint
+use Rattle.search.specs.declared.letters.Held.{Held}
 use Rattle.search.specs.declared.outcomes.Finished.{Finished}
 use Rattle.search.specs.declared.outcomes.Finished.TheVariants as finished
 use Rattle.search.specs.declared.stages.Stage.TheVariants as stage
 use Rattle.search.specs.Answers.{Progress, progress, Answers}
-use Rattle.search.specs.Need.{need_of, right_hint}
-use Rattle.search.specs.Stage.{HoldsLetter, waiting_in, held_in, stage_marked}
-use Rattle.search.specs.Search.{SearchState, SameQuestion}
+use Rattle.search.specs.Stage.{HoldsLetter, waiting_in, held_in, stage_marked, signals_in, Delivers}
+use Rattle.search.specs.Search.{SearchState, SameQuestion, Settles}
+
+abbrev pub rows_for : Expr → Need
+rows_for (Rol r) = need.Rows r
+rows_for _ = need.Nothing
+
+-- where a role is named, its rows are needed
+abbrev pub need_for : Option Role → Need
+need_for (Some role) = need.Rows role
+need_for None = need.Nothing
+
+-- rows are needed by a letter that asks a role, and by no other
+abbrev pub need_of : Expr → Said → Need
+need_of e load.Start = rows_for e
+need_of e (load.Ask p) = rows_for e
+need_of e (load.Tell p who) = need.Nothing
+
+-- the hint that a need asks for
+abbrev pub right_hint : List Vault → Need → Hint
+right_hint view (need.Rows role) = hint.Rows (span_of view role)
+right_hint view need.Nothing = hint.Nothing
+
+-- where the rows stand that a hint says
+abbrev pub span_in : Hint → Option Span
+span_in (hint.Rows span) = Some span
+span_in hint.Nothing = None
+
+-- where a span was looked up for a role, it is that of its rows
+abbrev pub IsSpanFor : List Vault → Expr → Option Span → Type 0
+IsSpanFor view e None = Unit {0}
+IsSpanFor view (Rol r) (Some span) = span ≡ span_of view r
+IsSpanFor view _ (Some span) = Unit {0}
 
 -- the letter needs this to be finished
 abbrev pub Needs : SearchState → Letter Said → Need → Type 0
@@ -75,3 +113,39 @@ Finishes s t number hint finished.BadHint =
     (l : Letter Said) × (need : Need) × (held_in s.stage number ≡ Some l) × Needs s l need × (hint ≡ right_hint s.snapshot.vaults need → ⊥)
     × (t ≡ record s { stage = stage_marked number false s.stage })
 Finishes s t number hint told = (l : Letter Said) × IsRightly s number hint l × Receives s t number l told
+
+-- the oldest signal is delivered; or the letter of a number is taken, which needs this, and its finish goes so
+pub data DriveStep : Type 0 where
+  a_signal : DriveStep
+  a_letter : ℕ → Need → Finished → DriveStep
+
+-- the oldest signal is delivered
+pub record SignalsFirst (s t : SearchState) : Type 0 where
+  pub delivered : Delivers s.stage t.stage 0 true
+  pub graph : t.graph ≡ s.graph
+  pub monitors : t.monitors ≡ s.monitors
+  pub question : SameQuestion s t
+  pub settles : Settles s t
+
+-- with no signal under way, the first waiting letter is taken, and finished with the hint that it needs
+pub record FinishesFirst (s t : SearchState) (number : ℕ) (need : Need) (told : Finished) : Type 0 where
+  pub held : SearchState
+  pub no_signal : signals_in s.stage ≡ []
+  pub takes : Takes s held 0 number need
+  pub takes_settles : Settles s held
+  pub finishes : Finishes held t number (right_hint s.snapshot.vaults need) told
+  pub finish_settles : Settles held t
+
+-- the search makes a step
+abbrev pub Makes : SearchState → DriveStep → SearchState → Type 0
+Makes s a_signal t = SignalsFirst s t
+Makes s (a_letter number need told) t = FinishesFirst s t number need told
+
+-- the search makes these steps in turn
+abbrev pub MakesEach : SearchState → List DriveStep → SearchState → Type 0
+MakesEach s [] t = t ≡ s
+MakesEach s (x ∷ xs) t = (mid : SearchState) × Makes s x mid × MakesEach mid xs t
+
+-- the search was carried on by steps of its own
+abbrev pub IsDriven : SearchState → SearchState → Type 0
+IsDriven s t = (steps : List DriveStep) × MakesEach s steps t

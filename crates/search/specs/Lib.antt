@@ -1,14 +1,9 @@
 pub mod Net
-pub mod Steady
 pub mod Answers
 pub mod Stage
 pub mod Search
-pub mod Need
-pub mod Finish
 pub mod Ending
-pub mod Found
-pub mod Counted
-pub mod Driven
+pub mod Finish
 pub mod Numbered
 pub mod Carried
 pub mod Batches

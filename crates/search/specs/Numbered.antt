@@ -3,13 +3,13 @@ use Rattle.std.specs.Prelude.{ℕ, List, All, map}
 use Rattle.std.specs.Map.{keys_of}
 use Rattle.credential_text.specs.declared.exprs.Expr.{Expr}
 use Rattle.cred_graph.specs.declared.listeners.Listening.{Listening}
-use Rattle.cred_graph.specs.GraphState.{GraphState, Listens}
+use Rattle.cred_graph.specs.Graph.{GraphState, Listens}
 use Rattle.cred_graph.specs.Numbers.{IsEntity, IsNamed, IsPort, entity_at, port_at}
 use Rattle.cred_graph.specs.NodeLists.{IsOnce}
 use Rattle.monitors.specs.LinkMonitor.{LinkTold, LinkToldBy}
-use Rattle.monitors.specs.KeyedMeet.{told_by}
+use Rattle.monitors.specs.MeetMonitor.{told_by}
 use Rattle.scholten_core.specs.declared.letters.Letter.{Letter}
-use Rattle.scholten_core.specs.Named.{named_with, outs_with}
+use Rattle.scholten_core.specs.Computation.{named_with, outs_with}
 use Rattle.search.specs.declared.letters.Load.{Load}
 use Rattle.search.specs.declared.letters.Load.TheVariants as load
 use Rattle.search.specs.declared.letters.Held.{Held}

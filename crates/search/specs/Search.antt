@@ -1,29 +1,103 @@
--- A search, by its parts, and what it keeps while it runs.
-use Rattle.std.specs.Prelude.{ℕ, ◌≤◌, List, [], ◌∷◌, ◌≡◌, Contains, length}
+-- A search, by its parts: what it has come to, how many letters it has sent, and what it keeps while it runs
+use Rattle.std.specs.Prelude.{◌==◌, if◌then◌else◌, ℕ, suc, List, [], ◌∷◌, ◌++◌, ◌≡◌, Contains, map, ◌≤◌, length}
+use Rattle.std.specs.List.{list_any, flat_map}
+use Rattle.names.specs.Name.{is_same, name_order}
 use Rattle.names.specs.declared.roles.Role.{Role}
 use Rattle.credential_text.specs.declared.credentials.Credential.{Credential}
 use Rattle.credential_text.specs.declared.exprs.Expr.TheVariants.{Rol}
-use Rattle.rt0_rules.specs.Work.{WorkExceeds}
+use Rattle.rt0_rules.specs.Asks.{Why, for_via}
+use Rattle.rt0_rules.specs.Work.{AreDistinct, WorkExceeds}
+use Rattle.rt0_rules.specs.Letters.{NodeAsk, letters_sent}
+use Rattle.vaults.specs.InOrder.{in_order}
 use Rattle.vaults.specs.Journal.{credentials}
 use Rattle.snapshots.specs.Snapshot.{SnapshotState}
-use Rattle.cred_graph.specs.GraphState.{GraphState}
-use Rattle.scholten_core.specs.declared.parents.Parent.TheVariants.{Environment}
+use Rattle.cred_graph.specs.Graph.{GraphState, members_of}
+use Rattle.cred_graph.specs.declared.listeners.Listening.{Listening}
+use Rattle.scholten_core.specs.Computation.{outstanding, Computation}
+use Rattle.scholten_core.specs.declared.parents.Parent.{Parent}
+use Rattle.scholten_core.specs.declared.parents.Parent.TheVariants.{Node, Environment}
 use Rattle.scholten_core.specs.declared.letters.Letter.{Letter}
-use Rattle.scholten_core.specs.Computation.{Computation, outstanding}
 use Rattle.scholten_core.specs.Sound.{IsSound}
 use Rattle.scholten_core.specs.Step.{started}
-use Rattle.search.specs.declared.letters.Load.TheVariants as load
-use Rattle.search.specs.declared.findings.Monitor.{Monitor}
-use Rattle.search.specs.declared.findings.Monitor.TheVariants as monitor
 use Rattle.search.specs.declared.queries.Query.{Query}
+use Rattle.search.specs.declared.queries.Query.TheVariants.{Ask, Who}
+use Rattle.search.specs.declared.outcomes.Status.{Status}
+use Rattle.search.specs.declared.outcomes.Status.TheVariants as status
 use Rattle.search.specs.declared.stages.Stage.{Stage}
 use Rattle.search.specs.declared.stages.Stage.TheVariants as stage
-use Rattle.search.specs.Ending.{Settled, MaySettle}
-use Rattle.search.specs.Found.{come_to}
+use Rattle.search.specs.Ending.{Settled, Nothing, Yes, No, Members, Spent, Broken, MaySettle}
+use Rattle.search.specs.declared.letters.Load.TheVariants as load
+use Rattle.search.specs.Net.{Said, Net, Sent, IsBaseTold, IsOpen, why_of, IsPendingStart, sent_of, IsSteady}
+use Rattle.search.specs.declared.findings.Monitor.{Monitor}
+use Rattle.search.specs.declared.findings.Monitor.TheVariants as monitor
 pub use Rattle.search.specs.Ending.{asked_role}
-use Rattle.search.specs.Net.{Said, Net, IsPendingStart, sent_of}
-use Rattle.search.specs.Steady.{IsSteady}
-use Rattle.search.specs.Counted.{IsCounted}
+
+-- the status of what a search has come to
+abbrev pub status_of : Settled → Status
+status_of Nothing = status.Working
+status_of Yes = status.Yes
+status_of No = status.No
+status_of (Members names) = status.Members
+status_of Spent = status.Spent
+status_of Broken = status.Broken
+
+-- a status that answers the query
+abbrev pub IsAnswered : Status → Type 0
+IsAnswered status.Yes = Unit {0}
+IsAnswered status.No = Unit {0}
+IsAnswered status.Members = Unit {0}
+IsAnswered _ = ⊥
+
+-- the answer of a completed search, by what it found of the asked role's node
+abbrev pub found : GraphState → Query → Settled
+found g (Ask role who) = if list_any (is_same who) (members_of g 0) then Yes else No
+found g (Who role) = Members (in_order name_order (members_of g 0))
+
+-- what a search has come to, by where it stands: nothing while anything is outstanding
+abbrev pub come_to : Stage → GraphState → Query → Settled
+come_to (stage.Running c) g query = if outstanding c == 0 then found g query else Nothing
+come_to stage.Spent g query = Spent
+come_to stage.Broken g query = Broken
+
+-- what a listener of the node asked
+abbrev pub heard_of : ℕ → Listening → NodeAsk
+heard_of n l = record { asker = l.asker; why = why_of l.port; asked = n }
+
+-- the asks that the nodes from n on heard
+abbrev pub heard_from : ℕ → List (List Listening) → List NodeAsk
+heard_from n [] = []
+heard_from n (ls ∷ lists) = map (heard_of n) ls ++ heard_from (suc n) lists
+
+abbrev pub heard : GraphState → List NodeAsk
+heard g = heard_from 0 g.listeners
+
+-- what a letter of a node asks
+abbrev pub ask_from : Parent → ℕ → Said → List NodeAsk
+ask_from (Node m) n (load.Ask p) = record { asker = m; why = why_of p; asked = n } ∷ []
+ask_from _ n _ = []
+
+-- the asks among the letters
+abbrev pub asks_in : List Sent → List NodeAsk
+asks_in letters = flat_map (λ x. ask_from x.from x.to x.load) letters
+
+-- an open node may ask for itself, and a linked role for the members of its base that it was told
+abbrev pub MayAskFor : Net → ℕ → Why → Type 0
+MayAskFor net m (for_via b) = IsBaseTold net m b
+MayAskFor net m _ = IsOpen net m
+
+abbrev pub MayAsk : Net → NodeAsk → Type 0
+MayAsk net a = MayAskFor net a.asker a.why
+
+-- each ask stands once, by one that may ask it, and so many letters were sent as that and what was found make
+pub record IsCountedBy (may_ask : NodeAsk → Type 0) (members : ℕ → List (List ℕ)) (listeners pending : List NodeAsk)
+    (sent : ℕ) : Type 0 where
+  pub distinct : AreDistinct (listeners ++ pending)
+  pub askers : (a : NodeAsk) → Contains (listeners ++ pending) a → may_ask a
+  pub total : sent ≡ letters_sent members listeners pending
+
+-- the same of a search
+abbrev pub IsCounted : Net → ℕ → Type 0
+IsCounted net sent = IsCountedBy (MayAsk net) (members_of net.graph) (heard net.graph) (asks_in net.pending) sent
 
 pub record SearchState : Type 0 where
   pub query : Query

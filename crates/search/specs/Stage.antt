@@ -4,8 +4,7 @@ use Rattle.scholten_core.specs.declared.parents.Parent.{Parent}
 use Rattle.scholten_core.specs.declared.letters.Letter.{Letter}
 use Rattle.scholten_core.specs.Computation.{Computation, IsHeld, StandByNumber, letter_of, waiting}
 use Rattle.scholten_core.specs.Sound.{IsNumbered}
-use Rattle.scholten_core.specs.Call.{FinishesLetter, DeliversSignal}
-use Rattle.scholten_core.specs.Step.{marked}
+use Rattle.scholten_core.specs.Step.{FinishesLetter, DeliversSignal, marked}
 use Rattle.search.specs.Net.{Said}
 use Rattle.search.specs.declared.letters.Held.{Held}
 use Rattle.search.specs.declared.outcomes.Finished.{Finished}

@@ -1,7 +1,7 @@
 //! Letters of one search that are taken in a row, looked up elsewhere, and handed in together.
 ghost use Rattle.std.specs.Prelude.{◌≡◌, ◌+◌, ◌++◌, ◌∷◌, ◌<◌, ◌≤◌, List, ℕ, [], length, map, vec_len, vec_capacity};
 ghost use Rattle.std.specs.Prelude.{true, None, option_copied, MatchOption, IfOk, is_ok};
-ghost use Rattle.search.specs.Need.{need_for};
+ghost use Rattle.search.specs.Finish.{need_for};
 ghost use Rattle.std.specs.List.{AllWithin};
 ghost use Rattle.std.specs.Arc.{arc_value};
 ghost use Rattle.search.specs.Batches.{IsLookedUpIn, taken_of, Visits, MakesStep, HandsInAs, HandsInEach};
@@ -25,7 +25,7 @@ pub(crate) struct HeldLetter {
 
 impl HeldLetter {
     ghost use Rattle.std.specs.Prelude.{◌≡◌};
-    ghost use Rattle.search.specs.Need.{right_hint};
+    ghost use Rattle.search.specs.Finish.{right_hint};
 
     /// Looks up what the letter needs.
     #[inline(always)]

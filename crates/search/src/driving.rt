@@ -6,7 +6,7 @@ use crate::searches::Search;
 impl Search {
     ghost use Rattle.search.specs.Search.{IsOutstanding, SameQuestion, Settles};
     ghost use Rattle.search.specs.Stage.{IsQuiet, NoneHeld, HoldsAsBefore};
-    ghost use Rattle.search.specs.Driven.{DriveStep, Makes, IsDriven};
+    ghost use Rattle.search.specs.Finish.{DriveStep, Makes, IsDriven};
 
     // Makes the next step, the oldest signal, else the first waiting letter, and tells whether there was one to make.
     #[inline(always)]

@@ -1,9 +1,9 @@
 //! What a letter needs to be finished, and whether a hint is right.
 ghost use Rattle.std.specs.Prelude.{◌≡◌, ◌<◌, ◌↔◌, length, option_copied, IsTrue};
 ghost use Rattle.credential_text.specs.declared.exprs.Expr.{Expr};
-ghost use Rattle.cred_graph.specs.GraphState.{IsNode};
+ghost use Rattle.cred_graph.specs.Graph.{IsNode};
 ghost use Rattle.snapshots.specs.Snapshot.{IsOrdered};
-ghost use Rattle.search.specs.Need.{rows_for, need_for, need_of, right_hint};
+ghost use Rattle.search.specs.Finish.{rows_for, need_for, need_of, right_hint};
 ghost use Rattle.search.specs.Numbered.{load_at};
 
 use crate::letters::{Held, Load};

@@ -3,7 +3,7 @@ ghost use Rattle.std.specs.Prelude.{◌≡◌, ◌<◌, ◌↔◌, ℕ, List, If
 ghost use Rattle.std.specs.List.Sorted.{IsStrictlySortedBy};
 ghost use Rattle.names.specs.Name.{name_order};
 ghost use Rattle.rt0_rules.specs.Work.{AreDistinct};
-ghost use Rattle.cred_graph.specs.GraphState.{members_of};
+ghost use Rattle.cred_graph.specs.Graph.{members_of};
 
 use cred_graph::Graph;
 use names::Entity;

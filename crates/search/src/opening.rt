@@ -3,9 +3,9 @@ ghost use Rattle.std.specs.Prelude.{◌≡◌, ◌+◌, ◌<◌, ◌≤◌, leng
 ghost use Rattle.names.specs.declared.roles.Role.{Role};
 ghost use Rattle.credential_text.specs.declared.exprs.Expr.{Expr};
 ghost use Rattle.snapshots.specs.Span.{role_rows, span_of};
-ghost use Rattle.cred_graph.specs.GraphState.{IsNode};
+ghost use Rattle.cred_graph.specs.Graph.{IsNode};
 ghost use Rattle.search.specs.Answers.{AsksEach, row_asks, part_asks, own_rows, Opens};
-ghost use Rattle.search.specs.Need.{IsSpanFor};
+ghost use Rattle.search.specs.Finish.{IsSpanFor};
 
 use crate::asking::ask;
 use crate::findings::Findings;

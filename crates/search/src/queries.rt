@@ -36,7 +36,7 @@ pub enum Need {
 
 impl Need {
     ghost use Rattle.std.specs.Prelude.{◌≡◌, option_copied};
-    ghost use Rattle.search.specs.Need.{need_for, right_hint};
+    ghost use Rattle.search.specs.Finish.{need_for, right_hint};
 
     /// The rows of the role, where there is one.
     pub(crate) fn of(role: Option<&Role>) -> Need
@@ -79,7 +79,7 @@ pub enum Hint {
 
 impl Hint {
     ghost use Rattle.std.specs.Prelude.{◌≡◌, option_copied};
-    ghost use Rattle.search.specs.Need.{span_in};
+    ghost use Rattle.search.specs.Finish.{span_in};
 
     pub(crate) fn span(&self) -> Option<&Span>
         ensures { option_copied result ≡ span_in self.now }

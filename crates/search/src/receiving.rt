@@ -3,11 +3,11 @@ ghost use Rattle.std.specs.Prelude.{◌≡◌, ◌<◌, ◌↔◌, ℕ, List, []
 ghost use Rattle.names.specs.declared.roles.Role.{Role};
 ghost use Rattle.credential_text.specs.declared.exprs.Expr.{Expr};
 ghost use Rattle.vaults.specs.Journal.{credentials};
-ghost use Rattle.cred_graph.specs.GraphState.{IsNode};
+ghost use Rattle.cred_graph.specs.Graph.{IsNode};
 ghost use Rattle.search.specs.Net.{Sent};
 ghost use Rattle.cred_graph.specs.Numbers.{IsPort, port_at};
 ghost use Rattle.search.specs.Answers.{progress, IsOpenAt, AnswersAsk, Answers, Awaits};
-ghost use Rattle.search.specs.Need.{IsSpanFor};
+ghost use Rattle.search.specs.Finish.{IsSpanFor};
 ghost use Rattle.search.specs.Numbered.{IsLoad, load_at};
 
 use crate::findings::Findings;

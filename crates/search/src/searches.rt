@@ -5,15 +5,13 @@ ghost use Rattle.names.specs.declared.roles.Role.{Role};
 ghost use Rattle.credential_text.specs.declared.exprs.Expr.{Expr};
 ghost use Rattle.rt0_rules.specs.Membership.{AreMembers};
 ghost use Rattle.rt0_rules.specs.FixedPoint.{IsExact};
-ghost use Rattle.cred_graph.specs.GraphState.{IsNode, Known};
+ghost use Rattle.cred_graph.specs.Graph.{IsNode, Known};
 ghost use Rattle.scholten_core.specs.declared.letters.Letter.{Letter};
 ghost use Rattle.scholten_core.specs.Computation.{Computation, IsHeld};
-ghost use Rattle.search.specs.Net.{Said};
-ghost use Rattle.search.specs.Steady.{OwesRules, IsJustified};
+ghost use Rattle.search.specs.Net.{Said, OwesRules, IsJustified};
 ghost use Rattle.search.specs.Ending.{MaySettle, Nothing, Members};
-ghost use Rattle.search.specs.Found.{IsAnswered, status_of, found, come_to};
+ghost use Rattle.search.specs.Search.{IsAnswered, status_of, found, come_to, IsSoundStage};
 ghost use Rattle.search.specs.Numbered.{IsLoad, IsStage, held_at, load_at, stage_at};
-ghost use Rattle.search.specs.Search.{IsSoundStage};
 ghost use Rattle.search.specs.Stage.{Sends, IsQuiet, NoneHeld};
 
 use crate::findings::Findings;
@@ -92,8 +90,7 @@ impl Search {
     ghost use Rattle.search.specs.Search.{SearchState, IsNew, IsOutstanding, IsCompleted, rows_of, asked_role, net_of};
     ghost use Rattle.search.specs.Search.{SameQuestion, Settles, settled_of};
     ghost use Rattle.search.specs.Stage.{HoldsLetter, letter_in, waiting_in, signals_in, held_in, stage_marked, Delivers};
-    ghost use Rattle.search.specs.Need.{IsSpanFor, need_for, need_of};
-    ghost use Rattle.search.specs.Finish.{Takes, TakesHeld, Receives, Finishes};
+    ghost use Rattle.search.specs.Finish.{IsSpanFor, need_for, need_of, Takes, TakesHeld, Receives, Finishes};
 
     /// A search over the snapshot that may send so many letters, at least one. One letter, to the asked role, waits.
     pub fn open(

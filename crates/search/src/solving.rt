@@ -1,7 +1,7 @@
 //! How a node finds a solution: every listener is told of a new one.
 ghost use Rattle.std.specs.Prelude.{◌≡◌, ◌<◌, ◌++◌, length, OnOk};
 ghost use Rattle.cred_graph.specs.Numbers.{IsEntity, IsReason, entity_at, reason_at};
-ghost use Rattle.cred_graph.specs.Reason.{Fits};
+ghost use Rattle.cred_graph.specs.Graph.{Fits};
 ghost use Rattle.search.specs.Answers.{Solves, new_tells};
 
 use crate::findings::Findings;

@@ -2,13 +2,12 @@
 ghost use Rattle.std.specs.Prelude.{◌≡◌, ◌<◌, ℕ, List, Some, length, slice_get, slice_set, IfOk, OnOk};
 ghost use Rattle.names.specs.declared.roles.Role.{Role};
 ghost use Rattle.credential_text.specs.declared.exprs.Expr.TheVariants as exprs;
-ghost use Rattle.cred_graph.specs.GraphState.{GraphState, IsNode};
+ghost use Rattle.cred_graph.specs.Graph.{GraphState, IsNode};
 ghost use Rattle.cred_graph.specs.Numbers.{IsEntity, IsPort, entity_at, port_at};
 ghost use Rattle.monitors.specs.LinkMonitor.{LinkTold, LinkToldBy};
-ghost use Rattle.monitors.specs.MeetMonitor.{MeetTold};
+ghost use Rattle.monitors.specs.MeetMonitor.{MeetTold, MeetLines};
 ghost use Rattle.credential_text.specs.declared.exprs.Expr.{Expr};
 ghost use Rattle.cred_graph.specs.NodeLists.{IsOnce};
-ghost use Rattle.monitors.specs.KeyedMeet.{MeetLines};
 ghost use Rattle.search.specs.Numbered.{AreMonitors, monitors_at};
 ghost use Rattle.search.specs.declared.findings.Monitor.TheVariants as Monitor;
 ghost use Rattle.search.specs.Answers.{BaseHeard, PartHeard, TellsLast, TellsBase, TellsPart, MayTakeIn, TakesIn};

@@ -5,7 +5,7 @@ use Rattle.snapshots.specs.Snapshot.{SnapshotState}
 use Rattle.search.specs.declared.queries.Query.{Query}
 use Rattle.search.specs.Ending.{Settled, MaySettle}
 use Rattle.search.specs.Search.{SearchState, SameQuestion, settled_of}
-use Rattle.search.specs.Driven.{DriveStep, a_signal, a_letter, Makes, MakesEach, IsDriven}
+use Rattle.search.specs.Finish.{DriveStep, a_signal, a_letter, Makes, MakesEach, IsDriven}
 use Rattle.hall.proofs.Truths.{settles_twice}
 use Rattle.hall.proofs.SearchSteps.{SearchGoesOn, staged, finish_keeps}
 

@@ -1,6 +1,6 @@
 ghost use Rattle.std.specs.Prelude.{◌<◌, ◌≡◌, ◌∷◌, [], length, IfOk, IfSome};
 ghost use Rattle.credential_text.specs.Expr.{part_expr};
-ghost use Rattle.cred_graph.specs.GraphState.{IsNode};
+ghost use Rattle.cred_graph.specs.Graph.{IsNode};
 
 use super::mix;
 use cred_graph::{Graph, Port, Reason};

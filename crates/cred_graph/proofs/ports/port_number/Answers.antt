@@ -2,7 +2,7 @@ use Rattle.std.proofs.Common.{◌∙◌, ap, sym, subst, [], Contains}
 use Rattle.std.proofs.lemmas.Option.{get_or_from_slice_get}
 use Rattle.credential_text.specs.declared.exprs.Expr.TheVariants.{Ent}
 use Rattle.cred_graph.specs.declared.listeners.Port.TheVariants as port
-use Rattle.cred_graph.specs.Kept.{kept_as, IsKept}
+use Rattle.cred_graph.specs.Stored.{kept_as, IsKept}
 use Rattle.cred_graph.specs.Numbers.{IsNamed}
 use Rattle.cred_graph.proofs.NumberLemmas.{entity_is}
 use Rattle.cred_graph.proofs.ports.port_number.Goals as goal

@@ -2,7 +2,7 @@ use Rattle.std.proofs.Common.{◌≡◌, ap, sym, subst, subst₂}
 use Rattle.search.specs.Carried.{carried_search}
 use Rattle.search.specs.Search.{SearchState, IsOutstanding, IsSoundStage, settled_of}
 use Rattle.search.specs.Stage.{IsQuiet, NoneHeld}
-use Rattle.search.specs.Driven.{IsDriven}
+use Rattle.search.specs.Finish.{IsDriven}
 use Rattle.hall.specs.Kept.{IsToldOf, DrivesTo}
 use Rattle.hall.proofs.Stays.{lent, stays_driven}
 use Rattle.hall.proofs.opened.drive.Goals as goal

@@ -1,7 +1,7 @@
 use Rattle.std.proofs.Common.{◌≡◌, MatchOption, subst}
-use Rattle.cred_graph.specs.GraphState.{GraphState, IsSolution}
+use Rattle.cred_graph.specs.Graph.{GraphState, IsSolution}
 use Rattle.search.specs.Search.{rows_of, asked_role}
-use Rattle.search.specs.Steady.{IsJustified}
+use Rattle.search.specs.Net.{IsJustified}
 use Rattle.proof_trees.specs.Finding.{Stands}
 use Rattle.proof_trees.proofs.ProvingLemmas.{if_completed, asked_found}
 use Rattle.proof_trees.proofs.proving.asked_finding.Goals as goal

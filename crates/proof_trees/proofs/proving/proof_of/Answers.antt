@@ -1,6 +1,6 @@
 use Rattle.std.proofs.Common.{sym, subst}
 use Rattle.credential_text.specs.declared.exprs.Expr.TheVariants.{Rol}
-use Rattle.cred_graph.specs.GraphState.{GraphState, IsNode}
+use Rattle.cred_graph.specs.Graph.{GraphState, IsNode}
 use Rattle.search.specs.Search.{rows_of, asked_role}
 use Rattle.proof_trees.specs.Proof.{Concludes}
 use Rattle.proof_trees.specs.Finding.{AreByRows}

@@ -1,7 +1,7 @@
 use Rattle.std.proofs.Common.{subst}
 use Rattle.std.proofs.lemmas.Result.{err_from_is_err_and, IfOk-from_err}
 use Rattle.credential_text.specs.declared.exprs.Expr.TheVariants.{Rol, Link}
-use Rattle.cred_graph.specs.GraphState.{IsNode, Known}
+use Rattle.cred_graph.specs.Graph.{IsNode, Known}
 use Rattle.proof_trees.proofs.PremiseLemmas.{base_missing, role_missing, missing_err, via_known}
 use Rattle.proof_trees.proofs.rules.link_rule.Goals as goal
 use Rattle.proof_trees.proofs.rules.link_rule.Goals.{In-Link}

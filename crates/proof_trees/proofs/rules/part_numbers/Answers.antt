@@ -3,7 +3,7 @@ use Rattle.std.specs.List.{AllZip}
 use Rattle.std.proofs.lemmas.List.{take-set}
 use Rattle.credential_text.specs.declared.intersections.Part.{Part}
 use Rattle.credential_text.specs.Expr.{part_expr}
-use Rattle.cred_graph.specs.GraphState.{Known}
+use Rattle.cred_graph.specs.Graph.{Known}
 use Rattle.proof_trees.specs.declared.steps.Step.{Step}
 use Rattle.proof_trees.specs.Proof.{Claims}
 use Rattle.proof_trees.proofs.Zipped.{zip_more}

@@ -2,7 +2,7 @@ use Rattle.std.proofs.Common.{◌≡◌, ◌∙◌, sym, subst, All, List}
 use Rattle.std.proofs.lemmas.Result.{err_from_is_err_and, IfOk-from_err}
 use Rattle.credential_text.specs.declared.intersections.Part.{Part}
 use Rattle.credential_text.specs.Expr.{part_expr}
-use Rattle.cred_graph.specs.GraphState.{IsNode, Known}
+use Rattle.cred_graph.specs.Graph.{IsNode, Known}
 use Rattle.proof_trees.specs.Draft.{IsMissingPart}
 use Rattle.proof_trees.proofs.PremiseLemmas.{part_missing, missing_err}
 use Rattle.proof_trees.proofs.rules.parts_rule.Goals as goal

@@ -2,7 +2,7 @@ use Rattle.std.proofs.Common.{◌∙◌, ◌∷◌, [], arith, map, ap, sym, sub
 use Rattle.std.proofs.lemmas.List.{map-append}
 use Rattle.search.specs.declared.batches.HeldLetter.{HeldLetter}
 use Rattle.search.specs.declared.queries.Hint.TheVariants.{Nothing}
-use Rattle.search.specs.Need.{need_for}
+use Rattle.search.specs.Finish.{need_for}
 use Rattle.search.specs.Stage.{IsQuiet}
 use Rattle.search.specs.Search.{SearchState}
 use Rattle.search.specs.Batches.{taken_of}

@@ -1,6 +1,6 @@
 -- The asker was told of one more solution.
 use Rattle.std.proofs.Common.{ℕ, ◌<◌, ◌∙◌, List, length, subst, sym}
-use Rattle.cred_graph.specs.GraphState.{GraphState, members_of}
+use Rattle.cred_graph.specs.Graph.{GraphState, members_of}
 use Rattle.cred_graph.specs.Numbers.{IsEntity, IsPort, entity_at, port_at}
 use Rattle.search.specs.declared.letters.Load.TheVariants as load
 use Rattle.search.specs.Answers.{Progress}

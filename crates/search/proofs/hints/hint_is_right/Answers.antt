@@ -3,11 +3,11 @@ use Rattle.std.proofs.Common.{ℕ, ◌≡◌, ◌∙◌, ◌↔◌, sym, subst, 
 use Rattle.std.proofs.lemmas.Option.{same_Some}
 use Rattle.credential_text.specs.declared.exprs.Expr.{Expr}
 use Rattle.vaults.specs.Journal.{Vault}
-use Rattle.cred_graph.specs.GraphState.{GraphState, IsNode}
+use Rattle.cred_graph.specs.Graph.{GraphState, IsNode}
 use Rattle.search.specs.declared.letters.Load.{Load}
 use Rattle.search.specs.declared.letters.Load.TheVariants as load
 use Rattle.search.specs.declared.queries.Hint.{Hint}
-use Rattle.search.specs.Need.{need_of, right_hint}
+use Rattle.search.specs.Finish.{need_of, right_hint}
 use Rattle.search.specs.Numbered.{load_at}
 use Rattle.search.proofs.hints.hint_is_right.Goals as goal
 

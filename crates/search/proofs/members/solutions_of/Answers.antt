@@ -1,7 +1,7 @@
 use Rattle.std.proofs.Common.{◌≡◌, ◌∙◌, ap, sym, subst, List, ◌∷◌, [], ◌++◌, arith, ℕ}
 use Rattle.std.proofs.lemmas.List.{take_all}
 use Rattle.rt0_rules.specs.Work.{AreDistinct}
-use Rattle.cred_graph.specs.GraphState.{members_of}
+use Rattle.cred_graph.specs.Graph.{members_of}
 use Rattle.search.proofs.Listing.{one_more}
 use Rattle.search.proofs.WorkOf.{members_apart}
 use Rattle.search.proofs.members.solutions_of.Goals as goal

@@ -1,5 +1,5 @@
 use Rattle.std.proofs.Common.{◌≡◌, take}
-use Rattle.cred_graph.specs.GraphState.{members_of}
+use Rattle.cred_graph.specs.Graph.{members_of}
 use Rattle.search.proofs.members.solutions_of.Given as goal
 
 abbrev pub invariant-loop-place : goal.invariant-loop-place

@@ -4,7 +4,7 @@ use Rattle.cred_graph.specs.declared.solutions.Solution.{Solution}
 use Rattle.cred_graph.proofs.Lists.{Contains-at_place}
 use Rattle.search.specs.declared.queries.Query.{Query}
 use Rattle.search.specs.declared.outcomes.Status.TheVariants as status
-use Rattle.search.specs.Found.{status_of, found}
+use Rattle.search.specs.Search.{status_of, found}
 use Rattle.search.proofs.Answered.{found_yes, found_no}
 use Rattle.search.proofs.searches.answer.Goals as goal
 

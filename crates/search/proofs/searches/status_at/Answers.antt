@@ -8,9 +8,8 @@ use Rattle.scholten_core.proofs.Named.{outstanding-named, sound-named}
 use Rattle.search.specs.declared.outcomes.Status.TheVariants.{Working}
 use Rattle.search.specs.declared.stages.Stage.{Stage}
 use Rattle.search.specs.Ending.{Nothing}
-use Rattle.search.specs.Found.{come_to, found, status_of}
+use Rattle.search.specs.Search.{come_to, found, status_of, IsSoundStage}
 use Rattle.search.specs.Numbered.{load_at}
-use Rattle.search.specs.Search.{IsSoundStage}
 use Rattle.search.proofs.Numbered.{shown, shows}
 use Rattle.search.proofs.searches.status_at.Goals as goal
 

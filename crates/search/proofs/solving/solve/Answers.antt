@@ -2,9 +2,8 @@
 use Rattle.std.proofs.Common.{sym, subst}
 use Rattle.std.proofs.lemmas.Result.{on_ok_weaker}
 use Rattle.cred_graph.specs.declared.solutions.Solution.{Solution}
-use Rattle.cred_graph.specs.Graph.{SolutionGiven}
+use Rattle.cred_graph.specs.Graph.{SolutionGiven, Fits}
 use Rattle.cred_graph.specs.Numbers.{entity_at, reason_at}
-use Rattle.cred_graph.specs.Reason.{Fits}
 use Rattle.search.specs.Answers.{Progress}
 use Rattle.search.proofs.Numbered.{numbered_solved, solves_old, solves_new}
 use Rattle.search.proofs.solving.solve.Goals as goal

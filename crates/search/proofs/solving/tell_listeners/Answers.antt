@@ -1,7 +1,7 @@
 -- One more listener was told.
 use Rattle.std.proofs.Common.{◌<◌, ◌∙◌, length, subst, sym}
 use Rattle.cred_graph.specs.declared.listeners.Listening.{Listening}
-use Rattle.cred_graph.specs.GraphState.{GraphState, listeners_of}
+use Rattle.cred_graph.specs.Graph.{GraphState, listeners_of}
 use Rattle.cred_graph.specs.Numbers.{IsEntity, IsPort, entity_at, port_at}
 use Rattle.cred_graph.proofs.Lists.{Contains-at_place}
 use Rattle.search.specs.declared.letters.Load.TheVariants as load

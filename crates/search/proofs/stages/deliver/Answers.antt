@@ -1,9 +1,8 @@
 -- The signal at the place is delivered.
 use Rattle.std.proofs.Common.{ℕ, List, ◌<◌, refl, sym, subst}
 use Rattle.credential_text.specs.declared.exprs.Expr.{Expr}
-use Rattle.scholten_core.specs.Computation.{Computation}
-use Rattle.scholten_core.specs.Call.{DeliversSignal}
-use Rattle.scholten_core.specs.Named.{named_with}
+use Rattle.scholten_core.specs.Computation.{Computation, named_with}
+use Rattle.scholten_core.specs.Step.{DeliversSignal}
 use Rattle.scholten_core.proofs.Named.{delivers-named}
 use Rattle.search.specs.declared.letters.Load.{Load}
 use Rattle.search.specs.Numbered.{load_at}

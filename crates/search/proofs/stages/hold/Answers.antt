@@ -2,8 +2,7 @@
 use Rattle.std.proofs.Common.{◌∙◌, List, ap, sym, subst, true, ℕ}
 use Rattle.std.specs.Option.{option_map}
 use Rattle.credential_text.specs.declared.exprs.Expr.{Expr}
-use Rattle.scholten_core.specs.Computation.{Computation}
-use Rattle.scholten_core.specs.Named.{letter_with, named_with}
+use Rattle.scholten_core.specs.Computation.{Computation, letter_with, named_with}
 use Rattle.scholten_core.proofs.Named.{by_number-named, letter_of-named, letter_says, marked_say, takes-named}
 use Rattle.search.specs.declared.letters.Load.{Load}
 use Rattle.search.specs.Numbered.{AreLetters, IsLoad, load_at, stage_at}

@@ -1,8 +1,7 @@
 -- The letters sent with these are compared with the work limit.
 use Rattle.std.proofs.Common.{List, ◌≤◌, ◌≡◌, ◌∙◌, refl, sym, subst, length, arith, ℕ}
 use Rattle.credential_text.specs.declared.exprs.Expr.{Expr}
-use Rattle.scholten_core.specs.Computation.{Computation}
-use Rattle.scholten_core.specs.Named.{named_with}
+use Rattle.scholten_core.specs.Computation.{Computation, named_with}
 use Rattle.scholten_core.proofs.Named.{finishes_say, finishing-named}
 use Rattle.search.specs.declared.letters.Load.{Load}
 use Rattle.search.specs.declared.stages.NumberedStage.{NumberedStage}

@@ -1,8 +1,7 @@
 -- The letter waits, in whatever words.
 use Rattle.std.proofs.Common.{◌∙◌, List, ap, sym, subst, false, ℕ}
 use Rattle.credential_text.specs.declared.exprs.Expr.{Expr}
-use Rattle.scholten_core.specs.Computation.{Computation}
-use Rattle.scholten_core.specs.Named.{named_with}
+use Rattle.scholten_core.specs.Computation.{Computation, named_with}
 use Rattle.scholten_core.proofs.Named.{marked-named, marked_say}
 use Rattle.search.specs.declared.letters.Load.{Load}
 use Rattle.search.specs.declared.stages.Stage.TheVariants as stage

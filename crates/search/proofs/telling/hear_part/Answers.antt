@@ -5,7 +5,7 @@ use Rattle.std.proofs.lemmas.Result.{IfOk-weaker}
 use Rattle.credential_text.specs.declared.exprs.Expr.{Expr}
 use Rattle.cred_graph.specs.NodeLists.{IsOnce}
 use Rattle.cred_graph.specs.Numbers.{IsEntity, entity_at}
-use Rattle.monitors.specs.KeyedMeet.{HearsByName}
+use Rattle.monitors.specs.MeetMonitor.{HearsByName}
 use Rattle.search.specs.declared.findings.NumberedMonitor.TheVariants as numbered_monitor
 use Rattle.search.specs.Answers.{PartHeard}
 use Rattle.search.specs.Numbered.{AreMonitors, monitors_at}

@@ -4,7 +4,7 @@ use Rattle.std.proofs.lemmas.Option.{slice_get_within}
 use Rattle.cred_graph.specs.declared.listeners.Port.TheVariants as port
 use Rattle.cred_graph.specs.declared.solutions.Reason.TheVariants as reason
 use Rattle.cred_graph.specs.Numbers.{IsPort, entity_at, port_at}
-use Rattle.cred_graph.specs.Reason.{Fits}
+use Rattle.cred_graph.specs.Graph.{Fits}
 use Rattle.search.specs.Answers.{MayTakeIn, Progress, TakesIn}
 use Rattle.search.proofs.telling.take_in.Goals as goal
 

@@ -5,7 +5,7 @@ use Rattle.names.specs.declared.roles.Role.{Role}
 use Rattle.credential_text.specs.declared.exprs.Expr.{Expr}
 use Rattle.credential_text.specs.declared.exprs.Expr.TheVariants.{Link, Rol}
 use Rattle.cred_graph.specs.declared.listeners.Port.TheVariants as port
-use Rattle.cred_graph.specs.GraphState.{IsNode}
+use Rattle.cred_graph.specs.Graph.{IsNode}
 use Rattle.cred_graph.specs.Numbers.{IsEntity, entity_at}
 use Rattle.monitors.specs.LinkMonitor.{LinkTold}
 use Rattle.search.specs.declared.findings.Monitor.TheVariants as monitor

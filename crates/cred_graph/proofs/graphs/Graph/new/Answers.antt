@@ -4,8 +4,7 @@ use Rattle.credential_text.specs.declared.exprs.Expr.{Expr}
 use Rattle.cred_graph.specs.declared.listeners.KeptListening.{KeptListening}
 use Rattle.cred_graph.specs.declared.solutions.Reason.{Reason}
 use Rattle.cred_graph.specs.declared.solutions.Solved.{Solved}
-use Rattle.cred_graph.specs.Graph.{IsGraph}
-use Rattle.cred_graph.specs.GraphState.{empty_graph}
+use Rattle.cred_graph.specs.Graph.{IsGraph, empty_graph}
 use Rattle.cred_graph.specs.Stored.{graph_as, IsStored}
 use Rattle.cred_graph.proofs.graphs.Graph.new.Goals as goal
 

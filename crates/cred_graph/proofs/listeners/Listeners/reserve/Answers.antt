@@ -1,6 +1,6 @@
 use Rattle.std.proofs.Common.{List, sym, subst}
 use Rattle.cred_graph.specs.declared.listeners.KeptListening.{KeptListening}
-use Rattle.cred_graph.specs.Kept.{AreFar}
+use Rattle.cred_graph.specs.Stored.{AreFar}
 use Rattle.cred_graph.proofs.listeners.Listeners.reserve.Goals as goal
 
 pub invariant_of-self : goal.invariant_of-self

@@ -1,5 +1,5 @@
 use Rattle.std.proofs.Common.{refl, subst, sym}
-use Rattle.cred_graph.specs.Solved.{AreMembers}
+use Rattle.cred_graph.specs.Stored.{AreMembers}
 use Rattle.cred_graph.proofs.Lists.{Contains-at_place, on_err}
 use Rattle.cred_graph.proofs.SolutionLemmas.{entry_added, members_added}
 use Rattle.cred_graph.proofs.solutions.Solutions.add.Goals as goal

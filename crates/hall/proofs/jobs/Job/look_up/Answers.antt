@@ -1,5 +1,5 @@
 use Rattle.std.proofs.Common.{◌∙◌, ap}
-use Rattle.search.specs.Need.{right_hint}
+use Rattle.search.specs.Finish.{right_hint}
 use Rattle.hall.specs.Visits.{TakenLetter}
 use Rattle.hall.proofs.jobs.Job.look_up.Goals as goal
 

@@ -1,8 +1,7 @@
 -- What the table hears is heard. Who was told nothing wasn't told this.
 use Rattle.std.proofs.Common.{rules, ◌≡◌, ◌∙◌, [], ap, sym, subst, true≢false}
 use Rattle.std.specs.FinSet as set
-use Rattle.monitors.specs.MeetMonitor.{told_order}
-use Rattle.monitors.specs.KeyedMeet.{MeetLines, IsUntold}
+use Rattle.monitors.specs.MeetMonitor.{told_order, MeetLines, IsUntold}
 use Rattle.monitors.specs.Memories.{meet_told}
 use Rattle.monitors.proofs.keyed_meets.KeyedMeet.part_told.Goals as goal
 

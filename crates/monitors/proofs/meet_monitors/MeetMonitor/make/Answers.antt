@@ -1,5 +1,5 @@
 use Rattle.std.proofs.Common.{ℕ, List, ap}
-use Rattle.monitors.specs.KeyedMeet.{told_by}
+use Rattle.monitors.specs.MeetMonitor.{told_by}
 use Rattle.monitors.proofs.meet_monitors.MeetMonitor.make.Goals as goal
 
 pub make-requires-clause-low : goal.make-requires-clause-low

@@ -1,8 +1,7 @@
 -- Each name stands for itself.
 use Rattle.std.proofs.Common.{ℕ, Bool, List, ◌∙◌, ap}
 use Rattle.std.proofs.lemmas.Result.{IfOk-weaker, on_err_weaker}
-use Rattle.monitors.specs.MeetMonitor.{MeetTold, HasTold, HearsPart}
-use Rattle.monitors.specs.KeyedMeet.{told_by, HearsByName}
+use Rattle.monitors.specs.MeetMonitor.{MeetTold, HasTold, HearsPart, told_by, HearsByName}
 use Rattle.monitors.proofs.TableLemmas.{told_now}
 use Rattle.monitors.proofs.meet_monitors.MeetMonitor.part_told.Goals as goal
 

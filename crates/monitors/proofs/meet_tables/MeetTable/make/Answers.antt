@@ -1,5 +1,5 @@
 use Rattle.std.proofs.Common.{sym, subst}
-use Rattle.monitors.specs.KeyedMeet.{IsTable}
+use Rattle.monitors.specs.MeetMonitor.{IsTable}
 use Rattle.monitors.proofs.TableLemmas.{empty_table}
 use Rattle.monitors.proofs.meet_tables.MeetTable.make.Goals as goal
 

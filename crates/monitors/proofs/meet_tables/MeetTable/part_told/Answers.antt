@@ -3,7 +3,7 @@ use Rattle.std.proofs.Common.{rules, ◌≡◌, [], ◌∷◌, Option, None, Som
 use Rattle.std.specs.Map.{keys_of}
 use Rattle.std.proofs.lemmas.List.Elements.{Contains-append_right}
 use Rattle.monitors.specs.declared.tellers.Tellers.{Tellers}
-use Rattle.monitors.specs.KeyedMeet.{MeetLines, HearsByName}
+use Rattle.monitors.specs.MeetMonitor.{MeetLines, HearsByName}
 use Rattle.monitors.proofs.ByKey.{heard_already, heard_new, never_heard, still_known, table_still}
 use Rattle.monitors.proofs.KeyLemmas.{on_err}
 use Rattle.monitors.proofs.meet_tables.MeetTable.part_told.Goals as goal

@@ -1,5 +1,5 @@
 use Rattle.std.proofs.Common.{sym, subst, Result, Ok, Err, OnOk}
-use Rattle.cred_graph.specs.GraphState.{IsNode}
+use Rattle.cred_graph.specs.Graph.{IsNode}
 use Rattle.proof_trees.proofs.DraftLemmas.{stepped_is}
 use Rattle.proof_trees.proofs.drafts.Draft.add.Goals as goal
 

@@ -1,5 +1,5 @@
 use Rattle.std.proofs.Common.{◌≡◌, Some, sym, subst, slice_get}
-use Rattle.cred_graph.specs.GraphState.{IsNode}
+use Rattle.cred_graph.specs.Graph.{IsNode}
 use Rattle.proof_trees.specs.Draft.{DraftState}
 use Rattle.proof_trees.specs.Proof.{Claims}
 use Rattle.proof_trees.proofs.Numbered.{at_position}

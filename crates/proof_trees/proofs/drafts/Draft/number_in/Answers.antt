@@ -1,6 +1,6 @@
 use Rattle.std.proofs.Common.{sym, subst}
 use Rattle.std.proofs.lemmas.Result.{IfOk-weaker, IfErr-weaker}
-use Rattle.cred_graph.specs.GraphState.{IsNode, IsSolution}
+use Rattle.cred_graph.specs.Graph.{IsNode, IsSolution}
 use Rattle.proof_trees.proofs.drafts.Draft.number_in.Goals as goal
 
 pub number-requires-clause-solution : goal.number-requires-clause-solution

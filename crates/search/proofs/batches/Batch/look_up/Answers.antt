@@ -2,7 +2,7 @@ use Rattle.std.proofs.Common.{◌≡◌, ◌<◌, ◌+◌, ap, Option, length, s
 use Rattle.search.specs.declared.batches.NamedSearch.{NamedSearch}
 use Rattle.search.specs.declared.queries.Hint.{Hint}
 use Rattle.search.specs.Batches.{BatchState, IsBatch}
-use Rattle.search.specs.Need.{right_hint}
+use Rattle.search.specs.Finish.{right_hint}
 use Rattle.snapshots.specs.Snapshot.{SnapshotState}
 use Rattle.search.proofs.Batched.{batch, with_hint, looked_up_batch, looked_up_more, within_held}
 use Rattle.search.proofs.batches.Batch.look_up.Goals as goal

@@ -3,8 +3,7 @@ use Rattle.std.proofs.lemmas.List.Elements.{All-nil, All-push}
 use Rattle.credential_text.specs.declared.exprs.Expr.{Expr}
 use Rattle.credential_text.specs.declared.exprs.Expr.TheVariants.{Rol}
 use Rattle.cred_graph.specs.declared.listeners.Listening.{Listening}
-use Rattle.cred_graph.specs.Graph.{NodeGiven}
-use Rattle.cred_graph.specs.GraphState.{GraphState, Listens, empty_graph}
+use Rattle.cred_graph.specs.Graph.{NodeGiven, GraphState, Listens, empty_graph}
 use Rattle.cred_graph.specs.NodeLists.{list_at}
 use Rattle.search.specs.declared.findings.NumberedMonitor.TheVariants.{Plain}
 use Rattle.search.specs.declared.letters.Load.{Load}

@@ -1,6 +1,6 @@
 use Rattle.std.proofs.Common.{◌∙◌, ap, sym}
 use Rattle.search.specs.declared.queries.Hint.TheVariants.{Rows}
-use Rattle.search.specs.Need.{right_hint}
+use Rattle.search.specs.Finish.{right_hint}
 use Rattle.search.proofs.queries.Need.look_up_into.Goals as goal
 
 pub returns-in-Rows : goal.returns-in-Rows

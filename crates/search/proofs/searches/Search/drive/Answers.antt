@@ -2,7 +2,7 @@
 use Rattle.std.proofs.Common.{◌≡◌, sym, subst}
 use Rattle.search.specs.Stage.{IsQuiet}
 use Rattle.search.specs.Search.{SearchState}
-use Rattle.search.specs.Driven.{IsDriven}
+use Rattle.search.specs.Finish.{IsDriven}
 use Rattle.search.proofs.Driven.{driven_more, driven_holds, driven_question, driven_settles, makes_left, none_held_on}
 use Rattle.search.proofs.searches.Search.drive.Goals as goal
 use Rattle.search.proofs.searches.Search.drive.Goals.{After-is_quiet-settled}

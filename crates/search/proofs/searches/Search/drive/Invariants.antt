@@ -1,5 +1,5 @@
 -- What was made so far are steps of a drive, and fewer are left after each.
-use Rattle.search.specs.Driven.{IsDriven}
+use Rattle.search.specs.Finish.{IsDriven}
 use Rattle.search.proofs.StepsLeft.{steps_left}
 use Rattle.search.proofs.searches.Search.drive.Given as goal
 

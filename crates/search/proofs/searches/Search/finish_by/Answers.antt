@@ -3,15 +3,14 @@ use Rattle.std.proofs.Common.{Some, option_copied, ◌∙◌, ◌≡◌, ◌↔�
 use Rattle.std.proofs.lemmas.Bool.{false≢true, true_from_ne_false}
 use Rattle.std.proofs.lemmas.Option.{none-some}
 use Rattle.credential_text.specs.declared.exprs.Expr.{Expr}
-use Rattle.cred_graph.specs.GraphState.{GraphState, IsNode}
+use Rattle.cred_graph.specs.Graph.{GraphState, IsNode}
 use Rattle.snapshots.specs.declared.spans.Span.{Span}
 use Rattle.snapshots.specs.Snapshot.{SnapshotState}
 use Rattle.search.specs.declared.outcomes.Finished.TheVariants as finished
 use Rattle.search.specs.Stage.{HoldsLetter, held_in, letter_in, stage_marked}
 use Rattle.search.specs.Search.{SearchState}
 use Rattle.search.specs.Numbered.{IsLoad, held_at, load_at}
-use Rattle.search.specs.Need.{IsSpanFor, need_of, right_hint}
-use Rattle.search.specs.Finish.{IsRightly, Finishes}
+use Rattle.search.specs.Finish.{IsSpanFor, need_of, right_hint, IsRightly, Finishes}
 use Rattle.search.specs.contracts.searches.Search.{the_view}
 use Rattle.search.proofs.Arms.{node_in}
 use Rattle.search.proofs.Searching.{held_awaits}

@@ -2,7 +2,7 @@ use Rattle.std.proofs.Common.{◌≡◌, ◌⊎◌, inl, inr, subst}
 use Rattle.std.proofs.lemmas.Bool.{false≢true}
 use Rattle.search.specs.declared.outcomes.Status.{Status}
 use Rattle.search.specs.declared.outcomes.Status.TheVariants.{Working, Spent, Broken}
-use Rattle.search.specs.Found.{IsAnswered}
+use Rattle.search.specs.Search.{IsAnswered}
 use Rattle.search.proofs.searches.Search.is_completed.Goals as goal
 
 unanswered : (s : Status) → (s ≡ Working) ⊎ ((s ≡ Spent) ⊎ (s ≡ Broken)) → IsAnswered s → ⊥

@@ -1,9 +1,8 @@
 -- A search that isn't quiet has a first signal or a first letter.
 use Rattle.std.proofs.Common.{ap, arith, sym, subst}
-use Rattle.cred_graph.specs.GraphState.{GraphState}
+use Rattle.cred_graph.specs.Graph.{GraphState}
 use Rattle.search.specs.Stage.{HoldsLetter, letter_in}
-use Rattle.search.specs.Driven.{a_signal}
-use Rattle.search.specs.Finish.{Receives}
+use Rattle.search.specs.Finish.{a_signal, Receives}
 use Rattle.search.specs.Numbered.{held_at}
 use Rattle.search.specs.Search.{SearchState}
 use Rattle.search.proofs.Driven.{first_goes, nothing_first, finishes_first}

@@ -7,7 +7,7 @@ use Rattle.names.specs.Name.{name_order}
 use Rattle.names.specs.declared.roles.Role.{Role}
 use Rattle.rt0_rules.specs.Membership.{AreMembers}
 use Rattle.rt0_rules.proofs.Listed.{both_if_ok}
-use Rattle.cred_graph.specs.GraphState.{GraphState, members_of}
+use Rattle.cred_graph.specs.Graph.{GraphState, members_of}
 use Rattle.search.specs.declared.queries.Query.TheVariants as query
 use Rattle.search.specs.Ending.{Members}
 use Rattle.search.specs.Search.{SearchState, IsCompleted, rows_of, asked_role, settled_of}

@@ -1,8 +1,7 @@
 -- A new search keeps what it has to.
 use Rattle.std.proofs.Common.{◌∙◌, ap, refl, sym, subst, ℕ}
 use Rattle.std.specs.Arc.{arc_value}
-use Rattle.scholten_core.specs.Computation.{Computation}
-use Rattle.scholten_core.specs.Named.{named_with}
+use Rattle.scholten_core.specs.Computation.{Computation, named_with}
 use Rattle.search.specs.declared.letters.Load.{Load}
 use Rattle.search.specs.declared.stages.Stage.TheVariants as stage
 use Rattle.search.specs.Answers.{Progress}

@@ -1,9 +1,8 @@
 -- What the search keeps gives the truth of what it has come to.
 use Rattle.std.proofs.Common.{◌≡◌, refl, subst}
-use Rattle.cred_graph.specs.GraphState.{GraphState}
-use Rattle.search.specs.Found.{come_to, status_of}
+use Rattle.cred_graph.specs.Graph.{GraphState}
+use Rattle.search.specs.Search.{come_to, status_of, SearchState, IsKept, IsSoundStage, rows_of, asked_role}
 use Rattle.search.specs.Numbered.{stage_at}
-use Rattle.search.specs.Search.{SearchState, IsKept, IsSoundStage, rows_of, asked_role}
 use Rattle.search.proofs.Searching.{status_exact, rules_owed}
 use Rattle.search.proofs.Answered.{status_is, works_as, answers_as}
 use Rattle.search.proofs.Ended.{ends}

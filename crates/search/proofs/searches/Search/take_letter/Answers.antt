@@ -1,8 +1,7 @@
 -- A letter that waits goes to a node, and says the same where it is held.
 use Rattle.std.proofs.Common.{option_copied, sym, subst}
 use Rattle.search.specs.declared.queries.Need.{Need}
-use Rattle.search.specs.Need.{need_for}
-use Rattle.search.specs.Finish.{Takes}
+use Rattle.search.specs.Finish.{need_for, Takes}
 use Rattle.search.proofs.Taking.{takes_needing, taken_there}
 use Rattle.search.proofs.searches.Search.take_letter.Goals as goal
 
