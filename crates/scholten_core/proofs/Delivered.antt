@@ -7,13 +7,13 @@ use Rattle.scholten_core.specs.declared.parents.Parent.{Parent}
 use Rattle.scholten_core.specs.declared.parents.Parent.TheVariants.{Neutral, Environment, Node}
 use Rattle.scholten_core.specs.declared.engagement.Engagement.{Engagement}
 use Rattle.scholten_core.specs.Computation.{Computation, deficit, same_parent, outstanding}
-use Rattle.scholten_core.specs.Step.{settles, settles_under, signalled_as, DeliversSignal}
+use Rattle.scholten_core.specs.Step.{settles, DeliversSignal}
 use Rattle.scholten_core.specs.Kept.{Delivers, IsKept, engagements, engager, held_in, kept, parent_kept}
 use Rattle.scholten_core.specs.LetterTable.{LetterTableState}
 use Rattle.scholten_core.proofs.Engaged.{get-remove_same, get-remove_other, one_or_other}
 use Rattle.scholten_core.proofs.Fields.{engagements_are, get-engagements}
 use Rattle.scholten_core.proofs.Complete.{sound}
-use Rattle.scholten_core.proofs.Steps.{deficit-delivered, delivered}
+use Rattle.scholten_core.proofs.Steps.{deficit-delivered, delivered, settles_under}
 use Rattle.scholten_core.proofs.Whole.{is_delivered}
 
 pub stays_none : (b : Bool) (by kept_by : Option Parent) → by ≡ None → (if b && is_some by then None else kept_by) ≡ kept_by
@@ -108,7 +108,9 @@ module _ {P : Type 0} (table : LetterTableState P) (signals : List Parent) (owed
       let after = is_delivered before place to at keeps.settled in
       record {
         step = record {
-          signalled = is ∙ sym (ap (signalled_as before place) at);
+          to = to;
+          found = at;
+          signalled = is;
           letters = refl;
           sent = refl;
           less = ap (λ d. outstanding d + 1) is ∙ after.amount;

@@ -10,14 +10,14 @@ use Rattle.scholten_core.specs.declared.parents.Parent.TheVariants.{Neutral, Env
 use Rattle.scholten_core.specs.declared.letters.Letter.{Letter}
 use Rattle.scholten_core.specs.declared.engagement.Engagement.{Engagement}
 use Rattle.scholten_core.specs.Computation.{Computation, deficit, is_engaged, outstanding}
-use Rattle.scholten_core.specs.Step.{answers, finished_as, finishes, numbered, receives, sends, settles, settles_under, FinishesLetter}
+use Rattle.scholten_core.specs.Step.{finishes, numbered, receives, sends, settles, FinishesLetter}
 use Rattle.scholten_core.specs.Kept.{IsKept, Receives, deficit_kept, engagement_of, engagements, held_in, kept, parent_kept}
 use Rattle.scholten_core.specs.LetterTable.{LetterTableState}
 use Rattle.scholten_core.proofs.Engaged.{get-insert_same, get-insert_other, one_or_other, remove-insert}
 use Rattle.scholten_core.proofs.Fields.{engagements_are, get-engagements}
 use Rattle.scholten_core.proofs.Paid.{count_of}
 use Rattle.scholten_core.proofs.Same.{same_parent-self}
-use Rattle.scholten_core.proofs.Steps.{IsReceived, acknowledged, deficit-sends, engages, received, rest}
+use Rattle.scholten_core.proofs.Steps.{IsReceived, acknowledged, deficit-sends, engages, received, rest, settles_under}
 use Rattle.scholten_core.proofs.Whole.{is_finished}
 
 module _ {P : Type 0} (e : Computation P) (n : ℕ) where
@@ -164,8 +164,10 @@ module _ {P : Type 0} (table : LetterTableState P) (signals : List Parent) (owed
       let done = is_finished before number l outs keeps.settled found in
       record {
         step = record {
-          finished = is ∙ ap (λ o. finished_as before number o outs) (sym found);
-          letters = letters_are ∙ ap (λ o. rest before number l ++ answers (table.sent + 1) o outs) (sym found);
+          letter = l;
+          found = found;
+          finished = is;
+          letters = letters_are;
           sent = sent_is;
           more = ap outstanding is ∙ done.amount;
         };

@@ -13,11 +13,12 @@ use Rattle.scholten_core.specs.declared.parents.Parent.{Parent}
 use Rattle.scholten_core.specs.declared.parents.Parent.TheVariants.{Neutral, Environment, Node}
 use Rattle.scholten_core.specs.declared.letters.Letter.{Letter}
 use Rattle.scholten_core.specs.Computation.{Computation, IsHeld, StandByNumber, deficit, is_engaged, letter_of, outstanding, same_parent, waiting}
-use Rattle.scholten_core.specs.Step.{answers, finished, finished_as, finishes, letters_after, mark, marked, numbered, receives, sends, settles, settles_under, signalled, signalled_as}
+use Rattle.scholten_core.specs.Step.{finishes, mark, marked, numbered, receives, sends, settles}
 use Rattle.scholten_core.specs.Sound.{IsNumbered, IsSound}
 use Rattle.scholten_core.specs.Step.{DeliversSignal, FinishesLetter, TakesLetter}
 use Rattle.scholten_core.specs.Computation.{entry_with, letter_with, named_with, outs_with}
 use Rattle.scholten_core.proofs.Lists.{Contains_from_lookup, lookup_from_Contains}
+use Rattle.scholten_core.proofs.Steps.{settles_under}
 
 -- a filter and a map may change places
 filter-map : {X Y : Type 0} (g : X → Y) (p : Y → Bool) (xs : List X) → filter p (map g xs) ≡ map g (filter (λ x. p (g x)) xs)
@@ -155,32 +156,6 @@ module _ {P Q : Type 0} (f : P → Q) where
       settles-named (sends (receives d number l) (Node l.to) outs) (Node l.to)
       ∙ ap (λ e. settles e (Node l.to)) (sends-named (receives d number l) (Node l.to) outs ∙ ap (λ e. sends e (Node l.to) (outs_with f outs)) (receives-named d number l))
 
-  finished_as-named : (d : Computation P) (number : ℕ) (o : Option (Letter P)) (outs : List (ℕ × P)) → named_with f (finished_as d number o outs) ≡ finished_as (named_with f d) number (option_map (letter_with f) o) (outs_with f outs)
-  finished_as-named d number None outs = refl
-  finished_as-named d number (Some l) outs = finishes-named d number l outs
-
-  pub finished-named : (d : Computation P) (number : ℕ) (outs : List (ℕ × P)) → named_with f (finished d number outs) ≡ finished (named_with f d) number (outs_with f outs)
-  finished-named d number outs =
-      finished_as-named d number (letter_of d number) outs ∙ ap (λ o. finished_as (named_with f d) number o (outs_with f outs)) (sym (letter_of-named d number))
-
-  answers-named : (number : ℕ) (o : Option (Letter P)) (outs : List (ℕ × P)) → map (entry_with f) (answers number o outs) ≡ answers number (option_map (letter_with f) o) (outs_with f outs)
-  answers-named number None outs = refl
-  answers-named number (Some l) outs = numbered-named (Node l.to) number outs
-
-  letters_after-named : (d : Computation P) (number : ℕ) (outs : List (ℕ × P)) → map (entry_with f) (letters_after d number outs) ≡ letters_after (named_with f d) number (outs_with f outs)
-  letters_after-named d number outs =
-      map-append (entry_with f) (filter (λ l. not (l.0 == number)) d.letters) (answers (d.sent + 1) (letter_of d number) outs)
-      ∙ ap (λ ls. ls ++ map (entry_with f) (answers (d.sent + 1) (letter_of d number) outs)) (rest-named number d.letters)
-      ∙ ap (λ ls. filter (λ l. not (l.0 == number)) (map (entry_with f) d.letters) ++ ls)
-      (answers-named (d.sent + 1) (letter_of d number) outs ∙ ap (λ o. answers (d.sent + 1) o (outs_with f outs)) (sym (letter_of-named d number)))
-
-  signalled_as-named : (d : Computation P) (place : ℕ) (to : Option Parent) → named_with f (signalled_as d place to) ≡ signalled_as (named_with f d) place to
-  signalled_as-named d place None = refl
-  signalled_as-named d place (Some to) = settles-named (record d { signals = remove d.signals place }) to
-
-  pub signalled-named : (d : Computation P) (place : ℕ) → named_with f (signalled d place) ≡ signalled (named_with f d) place
-  signalled-named d place = signalled_as-named d place (slice_get d.signals place)
-
   -- the calls do the same
   pub takes-named : (d e : Computation P) (place number : ℕ) → TakesLetter d place number e → TakesLetter (named_with f d) place number (named_with f e)
   takes-named d e place number takes = record {
@@ -195,16 +170,24 @@ module _ {P Q : Type 0} (f : P → Q) where
   pub finishing-named : (d e : Computation P) (number : ℕ) (outs : List (ℕ × P)) → FinishesLetter d number outs e → FinishesLetter (named_with f d) number (outs_with f outs) (named_with f e)
   finishing-named d e number outs done =
       let count = length-map {B = ℕ × Q} outs (λ o. (o.0, f o.1)) in
+      let sent = numbered (Node done.letter.to) (d.sent + 1) outs in
       record {
-        finished = ap (named_with f) done.finished ∙ finished-named d number outs;
-        letters = ap (map (entry_with f)) done.letters ∙ letters_after-named d number outs;
+        letter = letter_with f done.letter;
+        found = letter_of-named d number ∙ ap (option_map (letter_with f)) done.found;
+        finished = ap (named_with f) done.finished ∙ finishes-named d number done.letter outs;
+        letters = ap (map (entry_with f)) done.letters
+            ∙ map-append (entry_with f) (filter (λ l. not (l.0 == number)) d.letters) sent
+            ∙ ap (λ ls. ls ++ map (entry_with f) sent) (rest-named number d.letters)
+            ∙ ap (λ ls. filter (λ l. not (l.0 == number)) (map (entry_with f) d.letters) ++ ls) (numbered-named (Node done.letter.to) (d.sent + 1) outs);
         sent = omega (arith, done.sent, count);
         more = omega (arith, done.more, count, outstanding-named d, outstanding-named e);
       }
 
   pub delivers-named : (d e : Computation P) (place : ℕ) → DeliversSignal d place e → DeliversSignal (named_with f d) place (named_with f e)
   delivers-named d e place delivers = record {
-    signalled = ap (named_with f) delivers.signalled ∙ signalled-named d place;
+    to = delivers.to;
+    found = delivers.found;
+    signalled = ap (named_with f) delivers.signalled ∙ settles-named (record d { signals = remove d.signals place }) delivers.to;
     letters = ap (map (entry_with f)) delivers.letters;
     sent = delivers.sent;
     less = omega (arith, delivers.less, outstanding-named d, outstanding-named e);
@@ -255,14 +238,10 @@ module _ {P : Type 0} (R : P → Type 0) where
   numbered_say from number (o ∷ outs) all =
       All-cons (λ l. R l.1.load) (number, record { from = from; to = o.0; held = false; load = o.1 }) (numbered from (number + 1) outs) (All-head (λ o. R o.1) o outs all) (numbered_say from (number + 1) outs (All-tail (λ o. R o.1) o outs all))
 
-  answers_say : (number : ℕ) (o : Option (Letter P)) (outs : List (ℕ × P)) → All (λ o. R o.1) outs → Say (answers number o outs)
-  answers_say number None outs all = All-nil (λ l. R l.1.load)
-  answers_say number (Some l) outs all = numbered_say (Node l.to) number outs all
-
   pub finishes_say : (d e : Computation P) (number : ℕ) (outs : List (ℕ × P)) → FinishesLetter d number outs e → Say d.letters → All (λ o. R o.1) outs → Say e.letters
   finishes_say d e number outs done all more =
-      subst Say (sym done.letters) (All-append (λ l. R l.1.load) (filter (λ l. not (l.0 == number)) d.letters) (answers (d.sent + 1) (letter_of d number) outs)
-      (rest_say (λ l. not (l.0 == number)) d.letters all) (answers_say (d.sent + 1) (letter_of d number) outs more))
+      subst Say (sym done.letters) (All-append (λ l. R l.1.load) (filter (λ l. not (l.0 == number)) d.letters) (numbered (Node done.letter.to) (d.sent + 1) outs)
+      (rest_say (λ l. not (l.0 == number)) d.letters all) (numbered_say (Node done.letter.to) (d.sent + 1) outs more))
 
   -- the letter of a number says so too
   pub letter_says : (d : Computation P) (number : ℕ) (l : Letter P) → Say d.letters → letter_of d number ≡ Some l → R l.load

@@ -1,6 +1,7 @@
 -- What each part of a step does to what one is owed, and to what is outstanding
-use Rattle.std.proofs.Common.{◌≡◌, ℕ, ◌+◌, ◌<◌, ◌≤◌, ◌==◌, Bool, true, false, cond, not, List, [], ◌∷◌, ◌++◌, Option, Some, None, filter, length, remove, count_by, is_some, refl, sym, ap, ◌∙◌, subst, arith, length-append}
+use Rattle.std.proofs.Common.{◌≡◌, ℕ, ◌+◌, ◌<◌, ◌≤◌, ◌==◌, if◌then◌else◌, Bool, true, false, cond, not, List, [], ◌∷◌, ◌++◌, Option, Some, None, filter, length, remove, count_by, is_some, option_map, refl, sym, ap, ◌∙◌, subst, arith, length-append}
 use Rattle.std.specs.List.{slice_get}
+use Rattle.std.specs.Option.{unwrap_or}
 use Rattle.std.proofs.lemmas.Bool.{eqb-false, false_from_ne_true}
 use Rattle.std.specs.FinMap as fin
 use Rattle.std.proofs.lemmas.Option.{slice_get_within}
@@ -12,7 +13,7 @@ use Rattle.scholten_core.specs.declared.parents.Parent.{Parent}
 use Rattle.scholten_core.specs.declared.parents.Parent.TheVariants.{Neutral, Environment, Node}
 use Rattle.scholten_core.specs.declared.letters.Letter.{Letter}
 use Rattle.scholten_core.specs.Computation.{Computation, deficit, is_engaged, same_parent, letter_of, outstanding}
-use Rattle.scholten_core.specs.Step.{marked, numbered, receives, sends, settles, settles_under}
+use Rattle.scholten_core.specs.Step.{marked, numbered, receives, sends, settles}
 use Rattle.scholten_core.specs.Sound.{IsSettledBut, grown, is_active}
 use Rattle.scholten_core.specs.Kept.{hit}
 use Rattle.scholten_core.proofs.Engaged.{count-insert, count-remove, count-le-len, get-insert_same, get-insert_other, get-remove_same, get-remove_other, len-insert_new, len-remove_old, one_or_other}
@@ -236,6 +237,11 @@ module _ {P : Type 0} (d : Computation P) (n : ℕ) (by : Parent) (settled : IsS
       one_each = omega (arith, owed-let_go.amount, settled.one_each);
     };
   }
+
+-- a node settles, where that one engaged it
+abbrev pub settles_under : {P : Type 0} → Computation P → ℕ → Option Parent → Computation P
+settles_under d n by =
+    unwrap_or (option_map (λ p. if deficit d (Node n) == 0 then record d { signals = d.signals ++ p ∷ []; engaged = fin.remove d.engaged n } else d) by) d
 
 -- whoever may have come to be owed nothing settles
 module _ {P : Type 0} (d : Computation P) where

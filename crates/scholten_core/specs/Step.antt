@@ -1,6 +1,6 @@
 -- The steps of a diffusing computation, and what the calls that make them do
-use Rattle.std.specs.Prelude.{ℕ, ◌+◌, ◌==◌, Bool, false, not, List, [], ◌∷◌, ◌++◌, Option, None, Some, length, filter, map, remove}
-use Rattle.std.specs.Prelude.{slice_get, if◌then◌else◌, ◌≡◌, true}
+use Rattle.std.specs.Prelude.{ℕ, ◌+◌, ◌==◌, Bool, false, not, List, [], ◌∷◌, ◌++◌, Some, length, filter, map, remove}
+use Rattle.std.specs.Prelude.{slice_get, if◌then◌else◌, ◌≡◌, true, option_map, unwrap_or}
 use Rattle.std.specs.FinMap as fin
 use Rattle.scholten_core.specs.declared.parents.Parent.{Parent}
 use Rattle.scholten_core.specs.declared.parents.Parent.TheVariants.{Environment, Node}
@@ -33,17 +33,11 @@ module _ {P : Type 0} where
   marked d number held = record d { letters = map (mark number held) d.letters }
 
   -- an engaged node that is owed nothing becomes neutral, and a signal to the one that engaged it
-  -- goes under way
-  abbrev pub settles_under : Computation P → ℕ → Option Parent → Computation P
-  settles_under d n None = d
-  settles_under d n (Some by) =
-      if deficit d (Node n) == 0
-      then record d { signals = d.signals ++ by ∷ []; engaged = fin.remove d.engaged n }
-      else d
-
-  -- the same of anyone: nobody and the environment have nobody to signal
+  -- goes under way; nobody and the environment have nobody to signal
   abbrev pub settles : Computation P → Parent → Computation P
-  settles d (Node n) = settles_under d n (fin.get d.engaged n)
+  settles d (Node n) =
+      let goes : Parent → Computation P = λ by. record d { signals = d.signals ++ by ∷ []; engaged = fin.remove d.engaged n } in
+      unwrap_or (option_map (λ by. if deficit d (Node n) == 0 then goes by else d) (fin.get d.engaged n)) d
   settles d _ = d
 
   -- a letter is received: it engages a neutral node, and otherwise a signal to its sender goes
@@ -60,34 +54,6 @@ module _ {P : Type 0} where
   abbrev pub finishes : Computation P → ℕ → Letter P → List (ℕ × P) → Computation P
   finishes d number l outs = settles (sends (receives d number l) (Node l.to) outs) (Node l.to)
 
-  -- the same where the letter is there, and nothing where it isn't
-  abbrev pub finished_as : Computation P → ℕ → Option (Letter P) → List (ℕ × P) → Computation P
-  finished_as d number None outs = d
-  finished_as d number (Some l) outs = finishes d number l outs
-
-  -- the letter of a number is finished
-  abbrev pub finished : Computation P → ℕ → List (ℕ × P) → Computation P
-  finished d number outs = finished_as d number (letter_of d number) outs
-
-  -- the letters that the receiver of a letter sends, numbered from number on
-  abbrev pub answers : ℕ → Option (Letter P) → List (ℕ × P) → List (ℕ × Letter P)
-  answers number None outs = []
-  answers number (Some l) outs = numbered (Node l.to) number outs
-
-  -- the letters after one is finished: it is gone, and those that its receiver sends stand at the end
-  abbrev pub letters_after : Computation P → ℕ → List (ℕ × P) → List (ℕ × Letter P)
-  letters_after d number outs =
-      filter (λ l. not (l.0 == number)) d.letters ++ answers (d.sent + 1) (letter_of d number) outs
-
-  -- a signal to one is delivered from a place: its receiver becomes neutral if it is then owed nothing
-  abbrev pub signalled_as : Computation P → ℕ → Option Parent → Computation P
-  signalled_as d place None = d
-  signalled_as d place (Some to) = settles (record d { signals = remove d.signals place }) to
-
-  -- the signal at a place is delivered
-  abbrev pub signalled : Computation P → ℕ → Computation P
-  signalled d place = signalled_as d place (slice_get d.signals place)
-
 -- the letter that waited at a place has that number, and is held from then on
 pub record TakesLetter {P : Type 0} (old : Computation P) (place number : ℕ) (new : Computation P) : Type 0 where
   pub letter : Letter P
@@ -99,14 +65,18 @@ pub record TakesLetter {P : Type 0} (old : Computation P) (place number : ℕ) (
 
 -- the letter of a number is finished: its receiver gets it and sends these letters
 pub record FinishesLetter {P : Type 0} (old : Computation P) (number : ℕ) (outs : List (ℕ × P)) (new : Computation P) : Type 0 where
-  pub finished : new ≡ finished old number outs
-  pub letters : new.letters ≡ letters_after old number outs
+  pub letter : Letter P
+  pub found : letter_of old number ≡ Some letter
+  pub finished : new ≡ finishes old number letter outs
+  pub letters : new.letters ≡ filter (λ l. not (l.0 == number)) old.letters ++ numbered (Node letter.to) (old.sent + 1) outs
   pub sent : new.sent ≡ old.sent + length outs
   pub more : outstanding new ≡ outstanding old + length outs
 
 -- the signal at a place is delivered
 pub record DeliversSignal {P : Type 0} (old : Computation P) (place : ℕ) (new : Computation P) : Type 0 where
-  pub signalled : new ≡ signalled old place
+  pub to : Parent
+  pub found : slice_get old.signals place ≡ Some to
+  pub signalled : new ≡ settles (record old { signals = remove old.signals place }) to
   pub letters : new.letters ≡ old.letters
   pub sent : new.sent ≡ old.sent
   pub less : outstanding new + 1 ≡ outstanding old

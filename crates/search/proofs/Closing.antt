@@ -15,7 +15,7 @@ use Rattle.cred_graph.specs.Graph.{GraphState}
 use Rattle.scholten_core.specs.declared.parents.Parent.TheVariants.{Environment, Node}
 use Rattle.scholten_core.specs.declared.letters.Letter.{Letter}
 use Rattle.scholten_core.specs.Computation.{Computation, StandByNumber, letter_of}
-use Rattle.scholten_core.specs.Step.{marked, numbered, answers, FinishesLetter, DeliversSignal}
+use Rattle.scholten_core.specs.Step.{marked, numbered, FinishesLetter, DeliversSignal}
 use Rattle.search.specs.declared.letters.Load.{Load}
 use Rattle.search.specs.declared.letters.Load.TheVariants as load
 use Rattle.search.specs.declared.findings.Monitor.{Monitor}
@@ -146,7 +146,7 @@ module _ (view : List Vault) (asked : Role) (work : ℕ) (g : GraphState) (ms : 
 
     module _ (d : Computation (Load (List ℕ))) (finishes : FinishesLetter c number t.outs d) where
       letters_are : d.letters ≡ left ++ numbered (Node l.to) (c.sent + 1) t.outs
-      letters_are = finishes.letters ∙ ap (λ o. left ++ answers (c.sent + 1) o t.outs) is
+      letters_are = finishes.letters ∙ ap (λ (x : Letter (Load (List ℕ))). left ++ numbered (Node x.to) (c.sent + 1) t.outs) (same_Some _ _ (sym finishes.found ∙ is))
 
       pub after_is : sent_of d.letters ≡ sent_of left ++ sent_by l.to t.outs
       after_is =

@@ -6,7 +6,7 @@ use Rattle.scholten_core.specs.declared.parents.Parent.{Parent}
 use Rattle.scholten_core.specs.declared.parents.Parent.TheVariants.{Node}
 use Rattle.scholten_core.specs.declared.letters.Letter.{Letter}
 use Rattle.scholten_core.specs.Computation.{Computation, StandByNumber, letter_of, outstanding}
-use Rattle.scholten_core.specs.Step.{numbered, answers, TakesLetter, FinishesLetter, DeliversSignal}
+use Rattle.scholten_core.specs.Step.{numbered, TakesLetter, FinishesLetter, DeliversSignal}
 use Rattle.scholten_core.specs.Sound.{IsNumbered}
 use Rattle.scholten_core.proofs.Lists.{lookup_from_filter, filter_passes}
 use Rattle.search.specs.declared.letters.Load.{Load}
@@ -49,10 +49,6 @@ numbered_wait n k from (o ∷ outs) =
       | false ↦ numbered_wait n (k + 1) from outs
     ]
 
-answers_wait : (n k : ℕ) (l : Option (Letter (Load (List ℕ)))) (outs : List (ℕ × Load (List ℕ))) → if_held (lookup (λ m. m == n) (answers k l outs)) ≡ None
-answers_wait n k None outs = refl
-answers_wait n k (Some l) outs = numbered_wait n k (Node l.to) outs
-
 -- where more letters wait, the held ones are the same
 held-append : (n : ℕ) (ls more : List (ℕ × Letter (Load (List ℕ)))) → if_held (lookup (λ m. m == n) more) ≡ None → if_held (lookup (λ m. m == n) (ls ++ more)) ≡ if_held (lookup (λ m. m == n) ls)
 held-append n [] more none = none
@@ -66,7 +62,7 @@ module _ (c d : Computation (Load (List ℕ))) (number : ℕ) (outs : List (ℕ 
   after_finish : (n : ℕ) → if_held (letter_of d n) ≡ if_held (lookup (λ m. m == n) (filter (λ l. not (l.0 == number)) c.letters))
   after_finish n =
       ap (λ (ls : List (ℕ × Letter (Load (List ℕ)))). if_held (lookup (λ m. m == n) ls)) finishes.letters
-      ∙ held-append n (filter (λ l. not (l.0 == number)) c.letters) (answers (c.sent + 1) (letter_of c number) outs) (answers_wait n (c.sent + 1) (letter_of c number) outs)
+      ∙ held-append n (filter (λ l. not (l.0 == number)) c.letters) (numbered (Node finishes.letter.to) (c.sent + 1) outs) (numbered_wait n (c.sent + 1) (Node finishes.letter.to) outs)
 
   -- the finished letter is no longer held
   pub finished_gone : held_in (stage.Running d) number ≡ None

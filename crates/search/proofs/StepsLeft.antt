@@ -5,7 +5,7 @@ use Rattle.scholten_core.specs.declared.parents.Parent.{Parent}
 use Rattle.scholten_core.specs.declared.parents.Parent.TheVariants.{Node}
 use Rattle.scholten_core.specs.declared.letters.Letter.{Letter}
 use Rattle.scholten_core.specs.Computation.{Computation, letter_of, outstanding}
-use Rattle.scholten_core.specs.Step.{numbered, answers, mark, FinishesLetter, DeliversSignal}
+use Rattle.scholten_core.specs.Step.{numbered, mark, FinishesLetter, DeliversSignal}
 use Rattle.search.specs.declared.letters.Load.{Load}
 use Rattle.search.specs.declared.stages.Stage.{Stage}
 use Rattle.search.specs.declared.stages.Stage.TheVariants as stage
@@ -39,19 +39,15 @@ length-numbered : (from : Parent) (k : ℕ) (outs : List (ℕ × Load (List ℕ)
 length-numbered from k [] = refl
 length-numbered from k (o ∷ outs) = omega (arith, length-numbered from (k + 1) outs)
 
-length-answers : (k : ℕ) (o : Option (Letter (Load (List ℕ)))) (outs : List (ℕ × Load (List ℕ))) → length (answers k o outs) ≤ length outs
-length-answers k None outs = omega arith
-length-answers k (Some l) outs = omega (arith, length-numbered (Node l.to) k outs)
-
 -- a finished letter is a step
 pub finished_left : (work : ℕ) (c d : Computation (Load (List ℕ))) (number : ℕ) (outs : List (ℕ × Load (List ℕ))) (l : Letter (Load (List ℕ))) → FinishesLetter c number outs d →
     held_in (stage.Running c) number ≡ Some l → c.sent + length outs ≤ work → steps_left work (stage.Running d) < steps_left work (stage.Running c)
 finished_left work c d number outs l finishes is within =
     let there = found (letter_of c number) l is in
     let rest = filter (λ (x : ℕ × Letter (Load (List ℕ))). not (x.0 == number)) c.letters in
-    let more = answers (c.sent + 1) (letter_of c number) outs in
+    let more = numbered (Node finishes.letter.to) (c.sent + 1) outs in
     let less : length rest + 1 ≤ length c.letters = rest_shorter number c.letters there.0 there.1 in
-    let few : length more ≤ length outs = length-answers (c.sent + 1) (letter_of c number) outs in
+    let few : length more ≡ length outs = length-numbered (Node finishes.letter.to) (c.sent + 1) outs in
     let all : length d.letters ≡ length rest + length more = ap length finishes.letters ∙ length-append rest more in
     omega (arith, finishes.sent, finishes.more)
 
