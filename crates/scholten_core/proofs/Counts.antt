@@ -1,13 +1,14 @@
 -- How many entries of the table pass a test
 use Rattle.std.proofs.Common.{◌≡◌, ℕ, zero, suc, ◌+◌, ◌-◌, ◌<◌, ◌≤◌, Bool, true, false, cond, not, List, [], ◌∷◌, ◌++◌, Option, Some, None, filter, length, take, nat_lt, is_some, option_map, option_to_list, IsSomeAnd, IsTrue, refl, sym, ap, ◌∙◌, subst, arith, add-one, length-append, true≢false}
 use Rattle.std.specs.List.{slice_get}
+use Rattle.std.specs.Option.{is_none, unwrap_or}
 use Rattle.std.proofs.lemmas.Option.{same_Some, none-some, slice_get_within}
 use Rattle.std.specs.Map.{values_of}
 use borrow.Author.Tests.{ltb-true, ltb-false}
 use Rattle.indexmap.specs.IndexMap.{set_value_at}
 use Rattle.scholten_core.specs.declared.letters.Letter.{Letter}
 use Rattle.scholten_core.specs.Computation.{waiting_in}
-use Rattle.scholten_core.specs.LetterTable.{WaitsAt, count, does_wait, is_hole, last_hole, one, standing}
+use Rattle.scholten_core.specs.LetterTable.{WaitsAt, count, does_wait, one, standing}
 
 pub one-le : (b : Bool) → one b ≤ 1
 one-le true = omega arith
@@ -102,7 +103,7 @@ module _ {P : Type 0} where
       ]
 
   -- a letter that waits is no hole
-  pub waits_full : (o : Option (Letter P)) → does_wait o ≡ true → one (is_hole o) ≡ 0
+  pub waits_full : (o : Option (Letter P)) → does_wait o ≡ true → one (is_none o) ≡ 0
   waits_full None waits = absurd (true≢false (sym waits))
   waits_full (Some l) waits = refl
 
@@ -117,7 +118,7 @@ module _ {P : Type 0} where
   waits-full ((k, None) ∷ es) = omega (arith, waits-full es)
   waits-full ((k, Some l) ∷ es) = ap (λ n. one (not l.held) + n) (waits-full es)
 
-  pub holes-full : (es : List (ℕ × Option (Letter P))) → count is_hole (filter (λ e. is_some e.1) es) ≡ 0
+  pub holes-full : (es : List (ℕ × Option (Letter P))) → count is_none (filter (λ e. is_some e.1) es) ≡ 0
   holes-full [] = refl
   holes-full ((k, None) ∷ es) = holes-full es
   holes-full ((k, Some l) ∷ es) = omega (arith, holes-full es)
@@ -170,14 +171,14 @@ module _ {P : Type 0} where
   count-back es i j v is at = ap (λ n. count does_wait (take n es)) is ∙ count-next es j v at
 
   -- the last entry, where it is a hole
-  pub popped_hole : (es front : List (ℕ × Option (Letter P))) (r : Option (ℕ × Option (Letter P))) → es ≡ front ++ option_to_list r → (0 < length es → is_some r ≡ true) → last_hole (slice_get es (length es - 1)) ≡ true → (k : ℕ) × (es ≡ front ++ (k, None) ∷ [])
+  pub popped_hole : (es front : List (ℕ × Option (Letter P))) (r : Option (ℕ × Option (Letter P))) → es ≡ front ++ option_to_list r → (0 < length es → is_some r ≡ true) → unwrap_or (option_map (λ (e : ℕ × Option (Letter P)). is_none e.1) (slice_get es (length es - 1))) false ≡ true → (k : ℕ) × (es ≡ front ++ (k, None) ∷ [])
   popped_hole [] front None is some hole = absurd (true≢false (sym hole))
   popped_hole (x ∷ xs) front None is some hole = absurd (true≢false (sym (some (omega arith))))
   popped_hole es front (Some (k, None)) is some hole = (k, is)
   popped_hole es front (Some (k, Some l)) is some hole =
       let size : length es - 1 ≡ length front = omega (arith, ap length is, length-append front ((k, Some l) ∷ [])) in
       let read : slice_get es (length es - 1) ≡ Some (k, Some l) = (λ i. slice_get (is i) (size i)) ∙ slice_get_seam front (k, Some l) in
-      absurd (true≢false (sym hole ∙ ap last_hole read))
+      absurd (true≢false (sym hole ∙ ap (λ (o : Option (ℕ × Option (Letter P))). unwrap_or (option_map (λ (e : ℕ × Option (Letter P)). is_none e.1) o) false) read))
 
   -- the letter that waits at an index
   pub record WaitingLetter (es : List (ℕ × Option (Letter P))) (at k : ℕ) (v : Option (Letter P)) : Type 0 where

@@ -1,6 +1,7 @@
 -- The letters that stand in the table, whose numbers rise
 use Rattle.std.proofs.Common.{◌≡◌, ℕ, zero, suc, ◌+◌, ◌<◌, ◌≤◌, ◌==◌, true, false, cond, not, List, [], ◌∷◌, ◌++◌, Option, Some, None, map, option_map, filter, length, is_some, IsSomeAnd, IsTrue, subst, refl, sym, ap, ◌∙◌, arith, eq-eqb, ne_eqb, nat_eq, true≢false, IfSome}
 use Rattle.std.specs.List.{slice_get, position}
+use Rattle.std.specs.Option.{unwrap_or}
 use Rattle.std.specs.Map.{lookup, keys_of, values_of}
 use Rattle.std.proofs.lemmas.Option.{same_Some, none-some, slice_get-get_or, slice_get_within}
 use Rattle.std.proofs.lemmas.List.Quantifiers.{position-Some}
@@ -9,7 +10,7 @@ use Rattle.std.proofs.lemmas.Map.Views.{exact_unsigned_eq}
 use Rattle.indexmap.specs.IndexMap.{set_value_at}
 use Rattle.scholten_core.specs.declared.letters.Letter.{Letter}
 use Rattle.scholten_core.specs.Computation.{IsHeldIn}
-use Rattle.scholten_core.specs.LetterTable.{IsPlaceOf, is_of, standing}
+use Rattle.scholten_core.specs.LetterTable.{IsPlaceOf, standing}
 use Rattle.scholten_core.specs.Sound.{IsNumbered}
 use Rattle.scholten_core.proofs.Counts.{entry_of}
 use Rattle.scholten_core.proofs.Engaged.{one_or_other}
@@ -160,7 +161,7 @@ module _ {P : Type 0} where
     pub held : letter.held ≡ true
 
   -- the number of the entry at a place stands there among the numbers
-  pub number_there : (k : ℕ) (es : List (ℕ × Option (Letter P))) (i : ℕ) → is_of k (slice_get es i) ≡ true → slice_get (keys_of es) i ≡ Some k
+  pub number_there : (k : ℕ) (es : List (ℕ × Option (Letter P))) (i : ℕ) → unwrap_or (option_map (λ (e : ℕ × Option (Letter P)). e.0 == k) (slice_get es i)) false ≡ true → slice_get (keys_of es) i ≡ Some k
   number_there k [] i is = absurd (true≢false (sym is))
   number_there k (e ∷ es) zero is = ap Some (exact_unsigned_eq e.0 k is)
   number_there k (e ∷ es) (suc i) is = number_there k es i is

@@ -1,13 +1,14 @@
 -- What the calls of the table keep
 use Rattle.std.proofs.Common.{◌≡◌, ℕ, suc, ◌+◌, ◌-◌, ◌<◌, ◌≤◌, true, false, not, List, [], ◌∷◌, ◌++◌, ◌⊎◌, inl, inr, Option, Some, None, filter, length, max, min, take, is_some, refl, sym, ap, ◌∙◌, subst, arith, add-one, length-append}
 use Rattle.std.specs.List.{slice_get}
+use Rattle.std.specs.Option.{is_none}
 use Rattle.std.proofs.lemmas.List.{append-nil, take-append-le, take_all}
 use Rattle.std.proofs.lemmas.Option.{slice_get_within}
 use Rattle.indexmap.specs.IndexMap.{set_value_at}
 use Rattle.indexmap.specs.Layout.{length-set_value_at}
 use Rattle.scholten_core.specs.declared.letters.Letter.{Letter}
 use Rattle.scholten_core.specs.Sound.{IsNumbered}
-use Rattle.scholten_core.specs.LetterTable.{IsTable, count, does_wait, is_hole, one, standing}
+use Rattle.scholten_core.specs.LetterTable.{IsTable, count, does_wait, one, standing}
 use Rattle.scholten_core.proofs.Counts.{count-append, count-le-length, count-set, count-take, count-take-le, count-take-pop, count-take-same, count-take-set, count-take-suc, either_way, holes-full, take-set_value, waits-full, waits_full}
 use Rattle.scholten_core.proofs.Lists.{numbered-append, numbered-filter}
 use Rattle.scholten_core.proofs.Standing.{length-numbered_le, numbered-front, numbered-set_value, standing-append}
@@ -18,7 +19,7 @@ module _ {P : Type 0} (sent waits holes first last : ℕ) (es : List (ℕ × Opt
       omega (arith, is.waiting, count-le-length does_wait es, length-numbered_le 0 es sent is.numbers)
 
   pub holes-le-length : holes ≤ length es
-  holes-le-length = omega (arith, is.gone, count-le-length is_hole es)
+  holes-le-length = omega (arith, is.gone, count-le-length is_none es)
 
   pub holes-le-sent : holes ≤ sent
   holes-le-sent = omega (arith, holes-le-length, length-numbered_le 0 es sent is.numbers)
@@ -34,7 +35,7 @@ module _ {P : Type 0} (sent waits holes first last : ℕ) (es : List (ℕ × Opt
       record {
         numbers = numbered-append 0 es sent added (sent + 1) is.numbers (omega arith, omega arith);
         waiting = omega (arith, is.waiting, count-append does_wait es added, counts);
-        gone = omega (arith, is.gone, count-append is_hole es added, full);
+        gone = omega (arith, is.gone, count-append is_none es added, full);
         before = ap (count does_wait) (take-append-le first es added is.within_first) ∙ is.before;
         all = ap (count does_wait) all ∙ omega (arith, is.waiting, count-append does_wait es added, counts);
         within_first = omega (arith, is.within_first, length-append es added);
@@ -69,7 +70,7 @@ module _ {P : Type 0} (sent waits holes first last : ℕ) (es : List (ℕ × Opt
         record {
           numbers = numbered-set_value 0 es sent at now is.numbers;
           waiting = omega (arith, is.waiting, counted, before);
-          gone = omega (arith, is.gone, count-set is_hole es at k (Some l) now there);
+          gone = omega (arith, is.gone, count-set is_none es at k (Some l) now there);
           before = elim low_is [
             | inl same ↦ ap (λ n. count does_wait (take n (set_value_at es at now))) same ∙ first_stays
             | inr moved ↦ ap (λ n. count does_wait (take n (set_value_at es at now))) moved.0 ∙ past ∙ place_is ∙ moved.1
@@ -128,7 +129,7 @@ module _ {P : Type 0} (sent waits holes first last : ℕ) (es : List (ℕ × Opt
         record {
           numbers = numbered-set_value 0 es sent at now is.numbers;
           waiting = omega (arith, is.waiting, counted, counts);
-          gone = omega (arith, is.gone, count-set is_hole es at k (Some l) now there);
+          gone = omega (arith, is.gone, count-set is_none es at k (Some l) now there);
           before = omega (arith, stays, is.before, count-take-le does_wait low first es (omega arith));
           all = omega (arith, moves, counts, is.all, is.waiting, count-take-le does_wait last high es (omega arith), count-take does_wait high es);
           within_first = omega (arith, is.within_first, size);
@@ -143,7 +144,7 @@ module _ {P : Type 0} (sent waits holes first last : ℕ) (es : List (ℕ × Opt
         record {
           numbers = numbered-set_value 0 es sent at None is.numbers;
           waiting = omega (arith, is.waiting, count-set does_wait es at k (Some l) None there, counts);
-          gone = omega (arith, is.gone, count-set is_hole es at k (Some l) None there);
+          gone = omega (arith, is.gone, count-set is_none es at k (Some l) None there);
           before = count-take-same does_wait first es at k (Some l) None there counts ∙ is.before;
           all = count-take-same does_wait last es at k (Some l) None there counts ∙ is.all;
           within_first = omega (arith, is.within_first, size);
@@ -163,8 +164,8 @@ module _ {P : Type 0} (es front : List (ℕ × Option (Letter P))) (k : ℕ) (is
   pub waits-popped : count does_wait es ≡ count does_wait front
   waits-popped = omega (arith, ap (count does_wait) is, count-append does_wait front ((k, None) ∷ []))
 
-  pub holes-popped : count is_hole es ≡ count is_hole front + 1
-  holes-popped = omega (arith, ap (count is_hole) is, count-append is_hole front ((k, None) ∷ []))
+  pub holes-popped : count is_none es ≡ count is_none front + 1
+  holes-popped = omega (arith, ap (count is_none) is, count-append is_none front ((k, None) ∷ []))
 
   pub take-popped : (n : ℕ) → count does_wait (take n front) ≡ count does_wait (take n es)
   take-popped n =

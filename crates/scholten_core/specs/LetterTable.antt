@@ -1,6 +1,6 @@
 -- What the table of letters is seen as, what its fields keep, and how it hashes numbers
-use Rattle.std.specs.Prelude.{ℕ, ◌*◌, ◌/◌, ◌%◌, ◌^◌, List, length, if◌then◌else◌, nat_eq, bit_xor, ◌≡◌, ◌+◌, ◌≤◌, ◌==◌, Bool, true, false}
-use Rattle.std.specs.Prelude.{not, [], ◌∷◌, Option, None, Some, take, is_some, slice_get, IsSomeAnd, IsTrue}
+use Rattle.std.specs.Prelude.{ℕ, ◌*◌, ◌/◌, ◌%◌, ◌^◌, List, length, if◌then◌else◌, nat_eq, bit_xor, ◌≡◌, ◌+◌, ◌≤◌, Bool, true, false}
+use Rattle.std.specs.Prelude.{not, [], ◌∷◌, Option, None, Some, take, is_none, slice_get, IsSomeAnd, IsTrue}
 use Rattle.std.specs.Int.{w64, from_le_bytes}
 use Rattle.std.specs.Map.{keys_of, lookup}
 use Rattle.scholten_core.specs.declared.parents.Parent.{Parent}
@@ -39,22 +39,10 @@ module _ {P : Type 0} where
   does_wait None = false
   does_wait (Some l) = not l.held
 
-  abbrev pub is_hole : Option (Letter P) → Bool
-  is_hole o = not (is_some o)
-
-  -- whether an entry is that number's
-  abbrev pub is_of : ℕ → Option (ℕ × Option (Letter P)) → Bool
-  is_of number None = false
-  is_of number (Some e) = e.0 == number
-
   -- the number's entry stands at this place, or it has none
   abbrev pub IsPlaceOf : List (ℕ × Option (Letter P)) → ℕ → Option ℕ → Type 0
   IsPlaceOf es number None = lookup (nat_eq number) es ≡ None
   IsPlaceOf es number (Some at) = slice_get (keys_of es) at ≡ Some number
-
-  abbrev pub last_hole : Option (ℕ × Option (Letter P)) → Bool
-  last_hole None = false
-  last_hole (Some e) = is_hole e.1
 
 -- one for what holds
 abbrev pub one : Bool → ℕ
@@ -77,7 +65,7 @@ module _ {P : Type 0} where
   pub record IsTable (sent waits holes first last : ℕ) (es : List (ℕ × Option (Letter P))) : Type 0 where
     pub numbers : IsNumbered 0 es sent
     pub waiting : waits ≡ count does_wait es
-    pub gone : holes ≡ count is_hole es
+    pub gone : holes ≡ count is_none es
     pub before : count does_wait (take first es) ≡ 0
     pub all : count does_wait (take last es) ≡ waits
     pub within_first : first ≤ length es

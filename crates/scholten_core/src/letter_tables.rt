@@ -1,7 +1,7 @@
 //! The table of the letters that wait or are held.
-ghost use Rattle.std.specs.Prelude.{◌≡◌, ◌+◌, ◌-◌, ◌<◌, ◌≤◌, slice_get, take};
+ghost use Rattle.std.specs.Prelude.{◌≡◌, ◌+◌, ◌-◌, ◌<◌, ◌≤◌, ◌==◌, false, is_none, option_map, slice_get, take, unwrap_or};
 ghost use Rattle.indexmap.specs.IndexMap.{index_map_len};
-ghost use Rattle.scholten_core.specs.LetterTable.{count, does_wait, is_of, last_hole, IsPlaceOf, WaitsAt};
+ghost use Rattle.scholten_core.specs.LetterTable.{count, does_wait, IsPlaceOf, WaitsAt};
 
 use crate::letters::Letter;
 use crate::numbers::NumberHasher;
@@ -48,7 +48,7 @@ fn holes_to_drop(entries: usize) -> usize {
 }
 
 fn ends_in_hole<P>(letters: &Numbered<P>) -> bool
-    ensures { result ≡ last_hole (slice_get letters.now.entries (index_map_len letters.now - 1)) }
+    ensures { result ≡ unwrap_or (option_map (λ e. is_none e.1) (slice_get letters.now.entries (index_map_len letters.now - 1))) false }
 {
     match letters.last() {
         Some((_, slot)) => slot.is_hole(),
@@ -58,7 +58,7 @@ fn ends_in_hole<P>(letters: &Numbered<P>) -> bool
 
 #[inline(always)]
 fn stands_at<P>(letters: &Numbered<P>, at: usize, number: u64) -> bool
-    ensures { result ≡ is_of number (slice_get letters.now.entries at) }
+    ensures { result ≡ unwrap_or (option_map (λ e. e.0 == number) (slice_get letters.now.entries at)) false }
 {
     match letters.get_index(at) {
         Some((found, _)) => *found == number,

@@ -1,7 +1,7 @@
 //! A place in the table of letters.
-ghost use Rattle.std.specs.Prelude.{◌≡◌, false, None, Some, option_copied, option_map};
+ghost use Rattle.std.specs.Prelude.{◌≡◌, false, is_none, None, Some, option_copied, option_map};
 ghost use Rattle.scholten_core.specs.Computation.{same_parent};
-ghost use Rattle.scholten_core.specs.LetterTable.{does_wait, is_hole};
+ghost use Rattle.scholten_core.specs.LetterTable.{does_wait};
 
 use crate::letters::Letter;
 use crate::parents::Parent;
@@ -59,7 +59,7 @@ impl<P> Slot<P> {
     }
 
     pub(crate) fn is_hole(&self) -> bool
-        ensures { result ≡ is_hole self.now }
+        ensures { result ≡ is_none self.now }
     {
         match self.letter.from {
             Parent::Neutral => true,

@@ -1,7 +1,8 @@
 use Rattle.std.proofs.Common.{◌≡◌, ◌≤◌, length, take}
+use Rattle.std.specs.Option.{is_none}
 use Rattle.indexmap.specs.IndexMap.{spare}
 use Rattle.scholten_core.specs.Sound.{IsNumbered}
-use Rattle.scholten_core.specs.LetterTable.{count, does_wait, is_hole, standing}
+use Rattle.scholten_core.specs.LetterTable.{count, does_wait, standing}
 use Rattle.scholten_core.proofs.letter_tables.LetterTable.pop_holes.Given as goal
 
 -- the letters stay, and the counts beside them
@@ -12,7 +13,7 @@ invariant-loop-self g l = record {
   room : l.fn.self.room ≤ spare l.self-inside.letters;
   numbers : IsNumbered 0 l.self-inside.letters.entries l.self-inside.sent;
   waiting : l.self-inside.waits ≡ count does_wait l.self-inside.letters.entries;
-  gone : l.self-inside.holes ≡ count is_hole l.self-inside.letters.entries;
+  gone : l.self-inside.holes ≡ count is_none l.self-inside.letters.entries;
   before : count does_wait (take l.self-inside.first l.self-inside.letters.entries) ≡ 0;
   all : count does_wait (take l.self-inside.last l.self-inside.letters.entries) ≡ l.self-inside.waits;
 }
