@@ -25,13 +25,9 @@ empty_graph = record { nodes = []; listeners = []; solutions = [] }
 abbrev pub IsNode : GraphState → ℕ → Expr → Type 0
 IsNode g n e = slice_get g.nodes n ≡ Some e
 
--- the list has the entity as a solution of the node, for some reason
-abbrev pub HasSolution : List Solution → ℕ → List ℕ → Type 0
-HasSolution solutions n who = (reason : Reason ℕ (List ℕ)) × Contains solutions (record { node = n; who = who; reason = reason })
-
--- the entity is a solution of the node
+-- the entity is a solution of the node, for some reason
 abbrev pub IsSolution : GraphState → ℕ → List ℕ → Type 0
-IsSolution g n who = HasSolution g.solutions n who
+IsSolution g n who = (reason : Reason ℕ (List ℕ)) × Contains g.solutions (record { node = n; who = who; reason = reason })
 
 -- the entity is a solution of the node of the expression
 abbrev pub Known : GraphState → List ℕ → Expr → Type 0

@@ -19,17 +19,6 @@ entity_of _ = []
 abbrev pub entity_at : List Expr → ℕ → List ℕ
 entity_at nodes k = entity_of (slice_get nodes k)
 
--- the member of a base that a port names is such a one, where it names any
-abbrev pub PortOf : {E : Type 0} → (E → Type 0) → Port E → Type 0
-PortOf P (port.Via b) = P b
-PortOf P _ = Unit {0}
-
--- the node of a body, and the member of a base, that a reason names are such ones
-abbrev pub ReasonOf : {N E : Type 0} → (N → Type 0) → (E → Type 0) → Reason N E → Type 0
-ReasonOf P Q (reason.Body m) = P m
-ReasonOf P Q (reason.Via b) = Q b
-ReasonOf P Q _ = Unit {0}
-
 -- the port and the reason, with the entity that they have by number
 abbrev pub port_at : List Expr → Port ℕ → Port (List ℕ)
 port_at nodes port.Body = port.Body
@@ -45,14 +34,19 @@ reason_at nodes reason.Parts = reason.Parts
 
 -- the number in it is an entity's
 abbrev pub IsPort : List Expr → Port ℕ → Type 0
-IsPort nodes p = PortOf (IsEntity nodes) p
+IsPort nodes (port.Via k) = IsEntity nodes k
+IsPort nodes _ = Unit {0}
 
 abbrev pub IsReason : List Expr → Reason ℕ ℕ → Type 0
-IsReason nodes r = ReasonOf (λ _. Unit {0}) (IsEntity nodes) r
+IsReason nodes (reason.Via k) = IsEntity nodes k
+IsReason nodes _ = Unit {0}
 
 -- each name in it has a number
 abbrev pub IsNamed : List Expr → Port (List ℕ) → Type 0
-IsNamed nodes p = PortOf (λ b. Contains nodes (Ent b)) p
+IsNamed nodes (port.Via b) = Contains nodes (Ent b)
+IsNamed nodes _ = Unit {0}
 
 abbrev pub HasNumbers : List Expr → Reason ℕ (List ℕ) → Type 0
-HasNumbers nodes r = ReasonOf (λ m. m < length nodes) (λ b. Contains nodes (Ent b)) r
+HasNumbers nodes (reason.Body m) = m < length nodes
+HasNumbers nodes (reason.Via b) = Contains nodes (Ent b)
+HasNumbers nodes _ = Unit {0}

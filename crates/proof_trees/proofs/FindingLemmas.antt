@@ -7,14 +7,14 @@ use Rattle.credential_text.specs.declared.exprs.Expr.TheVariants.{Rol}
 use Rattle.credential_text.specs.Expr.{part_expr}
 use Rattle.cred_graph.specs.declared.solutions.Reason.{Reason}
 use Rattle.cred_graph.specs.declared.solutions.Reason.TheVariants as reason
-use Rattle.cred_graph.specs.Graph.{GraphState, IsNode, HasSolution, Known, before, Fits, IsGraph}
+use Rattle.cred_graph.specs.Graph.{GraphState, IsNode, IsSolution, Known, before, Fits, IsGraph}
 use Rattle.cred_graph.proofs.Lists.{Contains-at_place, place_of_Contains}
 use Rattle.proof_trees.specs.declared.findings.Finding.{Finding}
 use Rattle.proof_trees.specs.Finding.{Stands, IsPremiseOf, IsPremise}
 use Rattle.proof_trees.proofs.Taken.{from_front}
 
 module _ (g : GraphState) (k : ℕ) where
-  solution_later : (n : ℕ) (who : List ℕ) → HasSolution (take k g.solutions) n who → HasSolution g.solutions n who
+  solution_later : (n : ℕ) (who : List ℕ) → IsSolution (before k g) n who → IsSolution g n who
   solution_later n who (why, among) =
       let at = place_of_Contains (take k g.solutions) (record { node = n; who = who; reason = why }) among in
       (why, Contains-at_place g.solutions at.0 _ (from_front g.solutions k at.0 _ at.1).1)
