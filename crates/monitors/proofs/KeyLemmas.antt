@@ -6,7 +6,12 @@ use Rattle.std.specs.Map.{lookup_key}
 use Rattle.std.proofs.lemmas.Option.{same_Some}
 use Rattle.std.proofs.lemmas.Map.Views.{list_any-from_Contains, Contains-from_any}
 use Rattle.indexmap.specs.IndexSet.{insert_key}
+use Rattle.monitors.specs.declared.link_monitors.LinkSets.{LinkSets}
 use Rattle.monitors.specs.LinkMonitor.{LinkToldBy, HearsBase, HearsVia}
+
+-- what the sets hold
+abbrev pub sets_told : {K : Type 0} → LinkSets K → LinkToldBy K
+sets_told sets = record { bases = sets.bases.keys; members = sets.members.keys }
 
 -- what holds holds where a call failed
 pub on_err : {T E P : Type 0} (r : Result T E) → P → OnErr r P

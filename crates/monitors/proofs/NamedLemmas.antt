@@ -1,5 +1,5 @@
 -- Lines by key and the same by name: a key is found where its name is, and inserted there.
-use Rattle.std.proofs.Common.{◌≡◌, ℕ, zero, suc, Bool, true, false, cond, List, [], ◌∷◌, Some, None, refl, sym, ap, ◌∙◌, nat_eq, if◌then◌else◌, slice_get, true≢false, arith}
+use Rattle.std.proofs.Common.{◌≡◌, ℕ, zero, suc, Bool, true, false, cond, List, [], ◌∷◌, Option, Some, None, refl, sym, ap, ◌∙◌, nat_eq, if◌then◌else◌, slice_get, true≢false, arith}
 use Rattle.std.specs.Cmp.{IsEquivalence}
 use Rattle.std.specs.Cmp.Lexicographic.{pointwise}
 use Rattle.std.specs.List.{IsDistinct, AllByRecursion}
@@ -10,7 +10,11 @@ use Rattle.std.proofs.lemmas.List.Elements.{Contains-get_or, Contains-append_rig
 use Rattle.indexmap.specs.IndexMap.{insert_entry, set_value_at}
 use Rattle.monitors.specs.declared.tellers.Tellers.{Tellers}
 use Rattle.monitors.specs.Keys.{same_name}
-use Rattle.monitors.specs.MeetMonitor.{tellers_at, TellsApart, named}
+use Rattle.monitors.specs.MeetMonitor.{TellsApart, named}
+
+-- the entity's line in the table
+abbrev pub tellers_at : List (List ℕ × Tellers) → List ℕ → Option Tellers
+tellers_at entries who = lookup (pointwise nat_eq who) entries
 
 -- to write a line at its place is to insert it
 pub written_line : {K X : Type 0} (eq : K → K → Bool) → IsEquivalence eq → (es : List (K × X)) (i : ℕ) (k : K) (x y : X) → IsDistinct eq (keys_of es) → slice_get es i ≡ Some (k, x) → set_value_at es i y ≡ insert_entry eq es k y

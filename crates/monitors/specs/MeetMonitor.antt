@@ -21,13 +21,10 @@ pub record MeetTold : Type 0 where
   pub told : set.FinSet told_order
 
 -- a monitor is stored as its number of parts and the set of what they told
-abbrev stored : MeetTold → ℕ × set.FinSet told_order
-stored m = (m.parts, m.told)
-
 abbrev pub meet_code : Coded MeetTold
 meet_code =
     let told_code : Coded (set.FinSet told_order) = set.code (coded× coded_ℕ (coded_list coded_ℕ)) in
-    code_by (ℕ × set.FinSet told_order) (coded× coded_ℕ told_code) stored (λ p. record { parts = p.0; told = p.1 }) (λ _. refl)
+    code_by (ℕ × set.FinSet told_order) (coded× coded_ℕ told_code) (λ m. (m.parts, m.told)) (λ p. record { parts = p.0; told = p.1 }) (λ _. refl)
 
 -- the part has told the entity
 abbrev pub HasTold : MeetTold → ℕ → List ℕ → Type 0
@@ -56,10 +53,6 @@ abbrev pub pairs_of : List (List ℕ × Tellers) → List (ℕ × List ℕ)
 pairs_of [] = []
 pairs_of (e ∷ es) = pairs_from 0 e.1.told e.0 ++ pairs_of es
 
--- the entity's line in the table
-abbrev pub tellers_at : List (List ℕ × Tellers) → List ℕ → Option Tellers
-tellers_at entries who = lookup (pointwise nat_eq who) entries
-
 -- whether the part is among the tellers, where there are any
 abbrev pub is_among : ℕ → Option Tellers → Bool
 is_among part None = false
@@ -67,7 +60,7 @@ is_among part (Some tellers) = slice_index_or tellers.told part false
 
 -- whether the part told the entity
 abbrev pub is_teller : List (List ℕ × Tellers) → ℕ → List ℕ → Bool
-is_teller entries part who = is_among part (tellers_at entries who)
+is_teller entries part who = is_among part (lookup (pointwise nat_eq who) entries)
 
 -- there are 8 parts at most, each entity stands once, and only these parts told it
 pub record AreTellers (parts : ℕ) (entries : List (List ℕ × Tellers)) : Type 0 where

@@ -1,7 +1,6 @@
 -- What monitors keep, and what that is seen as.
 use Rattle.std.specs.Prelude.{[], ◌≤◌}
 use Rattle.monitors.specs.declared.link_monitors.LinkMemory.{LinkMemory}
-use Rattle.monitors.specs.declared.link_monitors.LinkSets.{LinkSets}
 use Rattle.monitors.specs.declared.link_monitors.LinkMemory.TheVariants as link
 use Rattle.monitors.specs.declared.keyed_meets.MeetMemory.{MeetMemory}
 use Rattle.monitors.specs.declared.keyed_meets.MeetMemory.TheVariants as meet
@@ -9,13 +8,10 @@ use Rattle.monitors.specs.LinkMonitor.{LinkToldBy}
 use Rattle.monitors.specs.MeetMonitor.{MeetLines}
 
 module _ {K : Type 0} where
-  abbrev pub sets_told : LinkSets K → LinkToldBy K
-  sets_told sets = record { bases = sets.bases.keys; members = sets.members.keys }
-
   -- what a linked role was told
   abbrev pub link_told : LinkMemory K → LinkToldBy K
   link_told link.Untold = record { bases = []; members = [] }
-  link_told (link.Told sets) = sets_told sets.value
+  link_told (link.Told sets) = record { bases = sets.value.bases.keys; members = sets.value.members.keys }
 
   -- what an intersection was told
   abbrev pub meet_told : MeetMemory K → MeetLines K

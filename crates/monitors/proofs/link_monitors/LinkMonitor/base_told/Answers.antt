@@ -1,8 +1,8 @@
 use Rattle.std.proofs.Common.{subst, sym, ap, ◌∙◌, Contains}
 use Rattle.indexmap.proofs.CallerLemmas.{Contains-insert_key}
 use Rattle.monitors.specs.LinkMonitor.{LinkToldBy, HearsBase}
-use Rattle.monitors.specs.Memories.{sets_told, link_told}
-use Rattle.monitors.proofs.KeyLemmas.{hears_base}
+use Rattle.monitors.specs.Memories.{link_told}
+use Rattle.monitors.proofs.KeyLemmas.{sets_told, hears_base}
 use Rattle.monitors.proofs.link_monitors.LinkMonitor.base_told.Goals as goal
 
 pub returns-in_ok-insert-in-Told-clause-ok : goal.returns-in_ok-insert-in-Told-clause-ok

@@ -1,8 +1,8 @@
 use Rattle.std.proofs.Common.{subst, sym, ap, ◌∙◌, Contains}
 use Rattle.indexmap.proofs.CallerLemmas.{Contains-insert_key}
 use Rattle.monitors.specs.LinkMonitor.{LinkToldBy, HearsVia}
-use Rattle.monitors.specs.Memories.{sets_told, link_told}
-use Rattle.monitors.proofs.KeyLemmas.{on_err, is_new, hears_via}
+use Rattle.monitors.specs.Memories.{link_told}
+use Rattle.monitors.proofs.KeyLemmas.{sets_told, on_err, is_new, hears_via}
 use Rattle.monitors.proofs.link_monitors.LinkMonitor.via_told.Goals as goal
 
 pub returns-clause-ok : goal.returns-clause-ok
