@@ -1,5 +1,5 @@
 -- What each step of a drive does, and what a drive leaves.
-use Rattle.std.proofs.Common.{ℕ, ◌<◌, ◌≤◌, ◌==◌, ◌≡◌, ◌∙◌, inl, inr, refl, sym, subst, ap, Bool, true, false, List, [], ◌∷◌, ◌++◌, Some, None, length, slice_get, arith}
+use Rattle.std.proofs.Common.{ℕ, ◌<◌, ◌≤◌, ◌==◌, ◌≡◌, ◌∙◌, ◌⊎◌, inl, inr, refl, sym, subst, ap, Bool, true, false, List, [], ◌∷◌, ◌++◌, Some, None, length, slice_get, arith}
 use Rattle.std.proofs.lemmas.Bool.{cases_Bool}
 use Rattle.std.proofs.lemmas.Map.Views.{exact_unsigned_eq}
 use Rattle.credential_text.specs.declared.exprs.Expr.{Expr}
@@ -16,7 +16,7 @@ use Rattle.search.specs.declared.stages.Stage.TheVariants as stage
 use Rattle.search.specs.Finish.{need_of, right_hint, Needs, Takes, TakesHeld, Received, Receives, Finishes}
 use Rattle.search.specs.Stage.{waiting_in, signals_in, held_in, letter_in, Delivers, IsQuiet, NoneHeld, HoldsAsBefore}
 use Rattle.search.specs.Search.{SearchState, SameQuestion, Settles, settled_of}
-use Rattle.search.specs.Finish.{DriveStep, a_signal, a_letter, Makes, MakesEach, IsDriven}
+use Rattle.search.specs.Finish.{SignalsFirst, FinishesFirst, IsDriven}
 use Rattle.search.proofs.Grow.{one_expr}
 use Rattle.search.proofs.Ended.{settles_on}
 use Rattle.search.proofs.Finishing.{finishes_rightly, rightly_needed}
@@ -95,78 +95,72 @@ waiting_runs (stage.Running c) x at = (c, refl)
 waiting_runs stage.Spent x at = cc
 waiting_runs stage.Broken x at = cc
 
--- a search that makes a step runs
-makes_runs : (s : SearchState) (x : DriveStep) (t : SearchState) → Makes s x t → (c : Computation (Load (List ℕ))) × (s.stage ≡ stage.Running c)
-makes_runs s a_signal t made = (made.delivered.0, made.delivered.2)
-makes_runs s (a_letter number need told) t made = waiting_runs s.stage (number, made.takes.letter) made.takes.waited
+-- a step of a drive
+abbrev pub Made : SearchState → SearchState → Type 0
+Made s t = SignalsFirst s t ⊎ ((number : ℕ) × (need : Need) × (told : Finished) × FinishesFirst s t number need told)
 
-makes_question : (s : SearchState) (x : DriveStep) (t : SearchState) → Makes s x t → SameQuestion s t
-makes_question s a_signal t made = made.question
-makes_question s (a_letter number need told) t made =
+-- a search that makes a step runs
+made_runs : (s t : SearchState) → Made s t → (c : Computation (Load (List ℕ))) × (s.stage ≡ stage.Running c)
+made_runs s t (inl made) = (made.delivered.0, made.delivered.2)
+made_runs s t (inr (number, need, told, made)) = waiting_runs s.stage (number, made.takes.letter) made.takes.waited
+
+made_question : (s t : SearchState) → Made s t → SameQuestion s t
+made_question s t (inl made) = made.question
+made_question s t (inr (number, need, told, made)) =
     question_on s made.held t (taken_question s made.held t number need made.takes)
     (receipt_question s made.held t number need made.takes (receipt_of s made.held t number need made.takes told made.finishes))
 
-makes_holds : (s : SearchState) (x : DriveStep) (t : SearchState) → Makes s x t → HoldsAsBefore s.stage t.stage
-makes_holds s a_signal t made c now n =
+made_holds : (s t : SearchState) → Made s t → HoldsAsBefore s.stage t.stage
+made_holds s t (inl made) c now n =
     let d = made.delivered in signalled_holds s.stage t.stage d.0 d.1 0 n d.2 d.3 d.5
-makes_holds s (a_letter number need told) t made c now n =
+made_holds s t (inr (number, need, told, made)) c now n =
     receipt_holds s made.held t number need made.takes (receipt_of s made.held t number need made.takes told made.finishes) c now n
 
 -- fewer steps are left after each
-pub makes_left : (s : SearchState) (x : DriveStep) (t : SearchState) → Makes s x t → steps_left t.work t.stage < steps_left s.work s.stage
-makes_left s a_signal t made =
+pub made_left : (s t : SearchState) → Made s t → steps_left t.work t.stage < steps_left s.work s.stage
+made_left s t (inl made) =
     let d = made.delivered in
     let less = signalled_left s.work d.0 d.1 0 d.5 in
     let after = ap (λ n. steps_left n t.stage) made.question.work ∙ ap (steps_left s.work) d.3 in
     let before = ap (steps_left s.work) d.2 in
     omega (arith, less, after, before)
-makes_left s (a_letter number need told) t made =
+made_left s t (inr (number, need, told, made)) =
     receipt_left s made.held t number need made.takes (receipt_of s made.held t number need made.takes told made.finishes)
 
-each_runs : (xs : List DriveStep) (s t : SearchState) → MakesEach s xs t → (c : Computation (Load (List ℕ))) → t.stage ≡ stage.Running c → (b : Computation (Load (List ℕ))) × (s.stage ≡ stage.Running b)
-each_runs [] s t same c now = (c, ap (λ (x : SearchState). x.stage) (sym same) ∙ now)
-each_runs (x ∷ xs) s t (mid, one, rest) c now = makes_runs s x mid one
-
--- one step more
-each_more : (xs : List DriveStep) (x : DriveStep) (s m t : SearchState) → MakesEach s xs m → Makes m x t → MakesEach s (xs ++ x ∷ []) t
-each_more [] x s m t same one = (t, subst (λ (z : SearchState). Makes z x t) same one, refl)
-each_more (y ∷ ys) x s m t (mid, first, rest) one = (mid, first, each_more ys x mid m t rest one)
-
-pub driven_more : (s m t : SearchState) → IsDriven s m → (x : DriveStep) × Makes m x t → IsDriven s t
-driven_more s m t driven one = (driven.0 ++ one.0 ∷ [], each_more driven.0 one.0 s m t driven.1 one.1)
-
-each_holds : (xs : List DriveStep) (s t : SearchState) → MakesEach s xs t → HoldsAsBefore s.stage t.stage
-each_holds [] s t same c now n = ap (λ (x : SearchState). held_in x.stage n) same
-each_holds (x ∷ xs) s t (mid, one, rest) c now n =
-    let runs = each_runs xs mid t rest c now in
-    each_holds xs mid t rest c now n ∙ makes_holds s x mid one runs.0 runs.1 n
-
-each_question : (xs : List DriveStep) (s t : SearchState) → MakesEach s xs t → SameQuestion s t
-each_question [] s t same = record {
-  query = ap (λ (x : SearchState). x.query) same;
-  work = ap (λ (x : SearchState). x.work) same;
-  snapshot = ap (λ (x : SearchState). x.snapshot) same;
-}
-each_question (x ∷ xs) s t (mid, one, rest) = question_on s mid t (makes_question s x mid one) (each_question xs mid t rest)
-
-makes_settles : (s : SearchState) (x : DriveStep) (t : SearchState) → Makes s x t → Settles s t
-makes_settles s a_signal t made = made.settles
-makes_settles s (a_letter number need told) t made =
+made_settles : (s t : SearchState) → Made s t → Settles s t
+made_settles s t (inl made) = made.settles
+made_settles s t (inr (number, need, told, made)) =
     settles_on s made.held t (taken_question s made.held t number need made.takes) made.takes_settles made.finish_settles
 
-each_settles : (xs : List DriveStep) (s t : SearchState) → MakesEach s xs t → Settles s t
-each_settles [] s t same = inl (ap settled_of same)
-each_settles (x ∷ xs) s t (mid, one, rest) = settles_on s mid t (makes_question s x mid one) (makes_settles s x mid one) (each_settles xs mid t rest)
+-- one step more
+pub driven_more : (s m t : SearchState) → IsDriven s m → Made m t → IsDriven s t
+driven_more s m t driven (inl made) = IsDriven.signal driven made
+driven_more s m t driven (inr (number, need, told, made)) = IsDriven.letter driven made
+
+holds_more : (s m t : SearchState) → HoldsAsBefore s.stage m.stage → Made m t → HoldsAsBefore s.stage t.stage
+holds_more s m t before made c now n =
+    let runs = made_runs m t made in made_holds m t made c now n ∙ before runs.0 runs.1 n
 
 -- a drive leaves held letters where they are
 pub driven_holds : (s t : SearchState) → IsDriven s t → HoldsAsBefore s.stage t.stage
-driven_holds s t driven = each_holds driven.0 s t driven.1
-
-pub driven_settles : (s t : SearchState) → IsDriven s t → Settles s t
-driven_settles s t driven = each_settles driven.0 s t driven.1
+driven_holds s t IsDriven.rests = λ c now n. refl
+driven_holds s t (IsDriven.signal {middle} before made) = holds_more s middle t (driven_holds s middle before) (inl made)
+driven_holds s t (IsDriven.letter {middle} {number} {need} {told} before made) =
+    holds_more s middle t (driven_holds s middle before) (inr (number, need, told, made))
 
 pub driven_question : (s t : SearchState) → IsDriven s t → SameQuestion s t
-driven_question s t driven = each_question driven.0 s t driven.1
+driven_question s t IsDriven.rests = record { query = refl; work = refl; snapshot = refl }
+driven_question s t (IsDriven.signal {middle} before made) =
+    question_on s middle t (driven_question s middle before) (made_question middle t (inl made))
+driven_question s t (IsDriven.letter {middle} {number} {need} {told} before made) =
+    question_on s middle t (driven_question s middle before) (made_question middle t (inr (number, need, told, made)))
+
+pub driven_settles : (s t : SearchState) → IsDriven s t → Settles s t
+driven_settles s t IsDriven.rests = inl refl
+driven_settles s t (IsDriven.signal {middle} before made) =
+    settles_on s middle t (driven_question s middle before) (driven_settles s middle before) (made_settles middle t (inl made))
+driven_settles s t (IsDriven.letter {middle} {number} {need} {told} before made) =
+    settles_on s middle t (driven_question s middle before) (driven_settles s middle before) (made_settles middle t (inr (number, need, told, made)))
 
 pub none_held_on : (old new : Stage) → HoldsAsBefore old new → NoneHeld old → NoneHeld new
 none_held_on old (stage.Running c) holds none n = holds c refl n ∙ none n
@@ -192,13 +186,16 @@ first_goes old new false some delivers = absurd (omega (arith, some, delivers.0)
 
 -- the first letter is taken and received
 pub finishes_first : (s held t : SearchState) (number : ℕ) (h : Held (Load (List ℕ))) (told : Finished) → length (signals_in s.stage) ≤ 0 →
-    TakesHeld s held 0 number h → Settles s held → Receives held t number (letter_in h) told → Settles held t → (x : DriveStep) × Makes s x t
+    TakesHeld s held 0 number h → Settles s held → Receives held t number (letter_in h) told → Settles held t → Made s t
 finishes_first s held t number h told few takes takes_settles receives finish_settles =
     let need : Need = need_of takes.expr h.load in
     let after = takes.takes.after in
     let node = subst (λ (x : SearchState). IsNode x.graph h.to takes.expr) (sym after) takes.node in
-    let finishes = finishes_rightly held t number (right_hint held.snapshot.vaults need) (letter_in h) (rightly_needed held number h takes.expr node takes.holds) told receives in (
-      a_letter number need told,
+    let finishes = finishes_rightly held t number (right_hint held.snapshot.vaults need) (letter_in h) (rightly_needed held number h takes.expr node takes.holds) told receives in
+    inr (
+      number,
+      need,
+      told,
       record {
         held = held;
         no_signal = no_element (signals_in s.stage) few;

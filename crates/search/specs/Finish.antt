@@ -1,5 +1,5 @@
 -- What a letter needs, what the calls of a search do to it, and how it is carried on by itself
-use Rattle.std.specs.Prelude.{List, ◌≡◌, Option, Some, None, ℕ, ◌+◌, ◌<◌, ◌≤◌, true, false, [], length, slice_get, ◌∷◌}
+use Rattle.std.specs.Prelude.{List, ◌≡◌, Option, Some, None, ℕ, ◌+◌, ◌<◌, ◌≤◌, true, false, [], length, slice_get}
 use Rattle.names.specs.declared.roles.Role.{Role}
 use Rattle.credential_text.specs.declared.exprs.Expr.{Expr}
 use Rattle.credential_text.specs.declared.exprs.Expr.TheVariants.{Rol}
@@ -114,11 +114,6 @@ Finishes s t number hint finished.BadHint =
     × (t ≡ record s { stage = stage_marked number false s.stage })
 Finishes s t number hint told = (l : Letter Said) × IsRightly s number hint l × Receives s t number l told
 
--- the oldest signal is delivered; or the letter of a number is taken, which needs this, and its finish goes so
-pub data DriveStep : Type 0 where
-  a_signal : DriveStep
-  a_letter : ℕ → Need → Finished → DriveStep
-
 -- the oldest signal is delivered
 pub record SignalsFirst (s t : SearchState) : Type 0 where
   pub delivered : Delivers s.stage t.stage 0 true
@@ -136,16 +131,9 @@ pub record FinishesFirst (s t : SearchState) (number : ℕ) (need : Need) (told 
   pub finishes : Finishes held t number (right_hint s.snapshot.vaults need) told
   pub finish_settles : Settles held t
 
--- the search makes a step
-abbrev pub Makes : SearchState → DriveStep → SearchState → Type 0
-Makes s a_signal t = SignalsFirst s t
-Makes s (a_letter number need told) t = FinishesFirst s t number need told
-
--- the search makes these steps in turn
-abbrev pub MakesEach : SearchState → List DriveStep → SearchState → Type 0
-MakesEach s [] t = t ≡ s
-MakesEach s (x ∷ xs) t = (mid : SearchState) × Makes s x mid × MakesEach mid xs t
-
 -- the search was carried on by steps of its own
-abbrev pub IsDriven : SearchState → SearchState → Type 0
-IsDriven s t = (steps : List DriveStep) × MakesEach s steps t
+pub data IsDriven (s : SearchState) : SearchState → Type 0 where
+  rests : IsDriven s s
+  signal : {middle t : SearchState} → IsDriven s middle → SignalsFirst middle t → IsDriven s t
+  letter : {middle t : SearchState} {number : ℕ} {need : Need} {told : Finished} → IsDriven s middle →
+      FinishesFirst middle t number need told → IsDriven s t

@@ -1,17 +1,20 @@
 //! How a search is carried on by itself, with what its own snapshot says.
-ghost use Rattle.std.specs.Prelude.{◌≡◌, false, true};
+ghost use Rattle.std.specs.Prelude.{◌≡◌, ◌⊎◌, ℕ, false, true};
 
 use crate::searches::Search;
 
 impl Search {
     ghost use Rattle.search.specs.Search.{IsOutstanding, SameQuestion, Settles};
     ghost use Rattle.search.specs.Stage.{IsQuiet, NoneHeld, HoldsAsBefore};
-    ghost use Rattle.search.specs.Finish.{DriveStep, Makes, IsDriven};
+    ghost use Rattle.search.specs.Finish.{SignalsFirst, FinishesFirst, IsDriven};
+    ghost use Rattle.search.specs.declared.queries.Need.{Need};
+    ghost use Rattle.search.specs.declared.outcomes.Finished.{Finished};
 
     // Makes the next step, the oldest signal, else the first waiting letter, and tells whether there was one to make.
     #[inline(always)]
     fn make_step(&mut self) -> bool
-        ensures made { result ≡ true → (step : DriveStep) × Makes self.old step self.new }
+        ensures made { result ≡ true → SignalsFirst self.old self.new
+            ⊎ ((number : ℕ) × (need : Need) × (told : Finished) × FinishesFirst self.old self.new number need told) }
         ensures none { result ≡ false → IsQuiet self.old.stage × (self.new ≡ self.old) }
     {
         if self.signals() > 0 {

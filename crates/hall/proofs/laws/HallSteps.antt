@@ -5,7 +5,7 @@ use Rattle.snapshots.specs.Snapshot.{SnapshotState}
 use Rattle.search.specs.declared.queries.Query.{Query}
 use Rattle.search.specs.Ending.{Settled, MaySettle}
 use Rattle.search.specs.Search.{SearchState, SameQuestion, settled_of}
-use Rattle.search.specs.Finish.{DriveStep, a_signal, a_letter, Makes, MakesEach, IsDriven}
+use Rattle.search.specs.Finish.{IsDriven}
 use Rattle.hall.proofs.Truths.{settles_twice}
 use Rattle.hall.proofs.SearchSteps.{SearchGoesOn, staged, finish_keeps}
 
@@ -32,18 +32,13 @@ goes_twice s t u first second = record {
       (settles_from s t (settled_of t) (settled_of u) first.question second.settles);
 }
 
-made_on : (s t : SearchState) (made : DriveStep) → Makes s made t → SearchGoesOn s t
-made_on s t a_signal first = record { question = first.question; settles = first.settles }
-made_on s t (a_letter number need told) first =
-    goes_twice s first.held t
-    (record { question = staged s first.held _ first.takes.after; settles = first.takes_settles })
-    (record { question = finish_keeps first.held t number _ told first.finishes; settles = first.finish_settles })
-
-makes_on : (steps : List DriveStep) (s t : SearchState) → MakesEach s steps t → SearchGoesOn s t
-makes_on [] s t is = subst (SearchGoesOn s) (sym is) (goes_nowhere s)
-makes_on (made ∷ steps) s t (middle, first, rest) =
-    goes_twice s middle t (made_on s middle made first) (makes_on steps middle t rest)
-
 -- a search that carries itself on goes on
 pub drives_on : (s t : SearchState) → IsDriven s t → SearchGoesOn s t
-drives_on s t (steps, makes) = makes_on steps s t makes
+drives_on s t IsDriven.rests = goes_nowhere s
+drives_on s t (IsDriven.signal {middle} before first) =
+    goes_twice s middle t (drives_on s middle before) (record { question = first.question; settles = first.settles })
+drives_on s t (IsDriven.letter {middle} {number} {need} {told} before first) =
+    goes_twice s middle t (drives_on s middle before)
+    (goes_twice middle first.held t
+    (record { question = staged middle first.held _ first.takes.after; settles = first.takes_settles })
+    (record { question = finish_keeps first.held t number _ told first.finishes; settles = first.finish_settles }))

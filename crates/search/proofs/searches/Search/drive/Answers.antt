@@ -3,13 +3,16 @@ use Rattle.std.proofs.Common.{◌≡◌, sym, subst}
 use Rattle.search.specs.Stage.{IsQuiet}
 use Rattle.search.specs.Search.{SearchState}
 use Rattle.search.specs.Finish.{IsDriven}
-use Rattle.search.proofs.Driven.{driven_more, driven_holds, driven_question, driven_settles, makes_left, none_held_on}
+use Rattle.search.proofs.Driven.{driven_more, driven_holds, driven_question, driven_settles, made_left, none_held_on}
 use Rattle.search.proofs.searches.Search.drive.Goals as goal
 use Rattle.search.proofs.searches.Search.drive.Goals.{After-is_quiet-settled}
 
+pub loop-init : goal.loop-init
+loop-init c = IsDriven.rests
+
 pub loop-smaller : goal.loop-smaller
 loop-smaller c =
-    let made = c.make_step.ensures.made c.loop-test.true in makes_left c.loop.self made.0 c.make_step.new.self made.1
+    made_left c.loop.self c.make_step.new.self (c.make_step.ensures.made c.loop-test.true)
 
 pub loop-preserved : goal.loop-preserved
 loop-preserved c = driven_more c.args.self.now c.loop.self c.make_step.new.self c.loop.invariant (c.make_step.ensures.made c.loop-test.true)

@@ -1,8 +1,8 @@
 -- A search that isn't quiet has a first signal or a first letter.
-use Rattle.std.proofs.Common.{ap, arith, sym, subst}
+use Rattle.std.proofs.Common.{ap, arith, inl, sym, subst}
 use Rattle.cred_graph.specs.Graph.{GraphState}
 use Rattle.search.specs.Stage.{HoldsLetter, letter_in}
-use Rattle.search.specs.Finish.{a_signal, Receives}
+use Rattle.search.specs.Finish.{Receives}
 use Rattle.search.specs.Numbered.{held_at}
 use Rattle.search.specs.Search.{SearchState}
 use Rattle.search.proofs.Driven.{first_goes, nothing_first, finishes_first}
@@ -23,13 +23,11 @@ receive_held-finished-requires-clause-held c =
     subst (λ (g : GraphState). HoldsLetter c.take_held.new.self.stage c.in-Some.letter (held_at g.nodes c.in-Some.held)) (sym (ap (λ (x : SearchState). x.graph) c.in-Some.ensures.taken.takes.after)) c.in-Some.ensures.taken.holds
 
 pub returns-then-signals-gt0-clause-made : goal.returns-then-signals-gt0-clause-made
-returns-then-signals-gt0-clause-made c = λ _. (
-  a_signal,
-  record {
-    delivered = first_goes c.args.self.now.stage c.signal.new.self.stage c.signal.result (omega (arith, c.if-signals-gt0.true, c.signals.ensures)) c.signal.ensures.delivered;
-    graph = c.signal.ensures.findings.0;
-    monitors = c.signal.ensures.findings.1;
-    question = c.signal.ensures.question;
-    settles = c.signal.ensures.settles;
-  },
-)
+returns-then-signals-gt0-clause-made c =
+    λ _. inl (record {
+      delivered = first_goes c.args.self.now.stage c.signal.new.self.stage c.signal.result (omega (arith, c.if-signals-gt0.true, c.signals.ensures)) c.signal.ensures.delivered;
+      graph = c.signal.ensures.findings.0;
+      monitors = c.signal.ensures.findings.1;
+      question = c.signal.ensures.question;
+      settles = c.signal.ensures.settles;
+    })
