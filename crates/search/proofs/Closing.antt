@@ -19,11 +19,15 @@ use Rattle.scholten_core.specs.Step.{marked, numbered, FinishesLetter, DeliversS
 use Rattle.search.specs.declared.letters.Load.{Load}
 use Rattle.search.specs.declared.letters.Load.TheVariants as load
 use Rattle.search.specs.declared.findings.Monitor.{Monitor}
-use Rattle.search.specs.Net.{Sent, IsPendingStart, plain, sent_of, sent_by, IsSteady}
+use Rattle.search.specs.Net.{Sent, IsPendingStart, sent_of, sent_by, IsSteady}
 use Rattle.search.specs.Answers.{Progress, progress, net_at, Awaits}
-use Rattle.search.specs.Search.{IsCounted, StartsAlone, KeptBy, IsTallied, net_of}
+use Rattle.search.specs.Search.{IsCounted, KeptBy, IsTallied, net_of}
 use Rattle.search.proofs.Settled.{TakesOut, settled}
 use Rattle.search.proofs.Receive.{Receipt}
+
+-- a letter without its number
+abbrev pub plain : Letter (Load (List ℕ)) → Sent
+plain l = record { from = l.from; to = l.to; load = l.load }
 
 -- what a node sends is numbered as it is sent
 sent_numbered : (to : ℕ) (k : ℕ) (outs : List (ℕ × Load (List ℕ))) → sent_of (numbered (Node to) k outs) ≡ sent_by to outs
@@ -55,9 +59,9 @@ sent_length [] = refl
 sent_length (x ∷ letters) = ap suc (sent_length letters)
 
 -- where the environment's letter is there, it is the letter of any number
-start_is : (c : Computation (Load (List ℕ))) (number : ℕ) (l : Letter (Load (List ℕ))) (n : ℕ) → StartsAlone c.letters → Contains c.letters (number, l) → Contains (sent_of c.letters) (start_to n) → plain l ≡ start_to n
+start_is : (c : Computation (Load (List ℕ))) (number : ℕ) (l : Letter (Load (List ℕ))) (n : ℕ) → (Contains (sent_of c.letters) (start_to n) → length c.letters ≡ 1) → Contains c.letters (number, l) → Contains (sent_of c.letters) (start_to n) → plain l ≡ start_to n
 start_is c number l n starts there start =
-    one_of (sent_of c.letters) (plain l) (start_to n) (sent_length c.letters ∙ starts n start) (sent_there c number l there) start
+    one_of (sent_of c.letters) (plain l) (start_to n) (sent_length c.letters ∙ starts start) (sent_there c number l there) start
 
 pub awaits_letter : {rows : List Credential} {asked : Role} {work : ℕ} {g : GraphState} {ms : List Monitor} {c : Computation (Load (List ℕ))} → KeptBy rows asked work g ms c → StandByNumber c →
     (number : ℕ) (l : Letter (Load (List ℕ))) → letter_of c number ≡ Some l → Awaits rows asked g ms (sent_of c.letters) l.from l.to l.load
@@ -65,7 +69,7 @@ awaits_letter {rows} {asked} {work} {g} {ms} {c} kept by number l is =
     let there = there_of c number l by is in
     record {
       there = sent_there c number l there;
-      alone = λ other n start. other (ap (λ (x : Sent). x.load) (start_is c number l n kept.starts there start));
+      alone = λ other n start. other (ap (λ (x : Sent). x.load) (start_is c number l n (λ among. kept.starts (n, among)) there start));
       steady = subst (λ (pending : List Sent). IsSteady rows asked (record { graph = g; monitors = ms; pending = pending })) (sym (append-nil (sent_of c.letters))) kept.steady;
     }
 
@@ -91,7 +95,7 @@ module _ (view : List Vault) (asked : Role) (work : ℕ) (g : GraphState) (ms : 
   left_no_start n among =
       let from = mapped (λ (x : ℕ × Letter (Load (List ℕ))). plain x.1) left (start_to n) among in
       let kept_one = filtered other c.letters from.from from.among in
-      let one : length c.letters ≡ 1 = kept.starts n (left_was (start_to n) among) in
+      let one : length c.letters ≡ 1 = kept.starts (n, left_was (start_to n) among) in
       let same : ◌≡◌ {A = ℕ × Letter (Load (List ℕ))} from.from (number, l) = one_of c.letters from.from (number, l) one kept_one.0 there in
       let is_number : (from.from.0 == number) ≡ true = eq-eqb from.from.0 number (ap (λ (x : ℕ × Letter (Load (List ℕ))). x.0) same) in
       false≢true (sym (ap not is_number) ∙ kept_one.1)
@@ -156,7 +160,7 @@ module _ (view : List Vault) (asked : Role) (work : ℕ) (g : GraphState) (ms : 
       pub done_kept : c.sent + length t.outs ≤ work → KeptBy (credentials view) asked work t.graph t.monitors d
       done_kept within = record {
         steady = subst (λ (pending : List Sent). IsSteady (credentials view) asked (record { graph = t.graph; monitors = t.monitors; pending = pending })) (sym after_is) steady_after;
-        starts = λ n among. absurd (started_before (n, subst (λ (xs : List Sent). Contains xs (start_to n)) after_is among));
+        starts = λ start. absurd (started_before (start.0, subst (λ (xs : List Sent). Contains xs (start_to start.0)) after_is start.1));
         within = subst (λ (k : ℕ). k ≤ work) (sym finishes.sent) within;
       }
 
@@ -179,7 +183,7 @@ pub kept_as : {rows : List Credential} {asked : Role} {work : ℕ} {g : GraphSta
     sent_of d.letters ≡ sent_of c.letters → length d.letters ≡ length c.letters → d.sent ≡ c.sent → KeptBy rows asked work g ms d
 kept_as {rows} {asked} {work} {g} {ms} {c} {d} kept sent count number = record {
   steady = subst (λ (pending : List Sent). IsSteady rows asked (record { graph = g; monitors = ms; pending = pending })) (sym sent) kept.steady;
-  starts = λ n among. count ∙ kept.starts n (subst (λ (xs : List Sent). Contains xs (start_to n)) sent among);
+  starts = λ start. count ∙ kept.starts (start.0, subst (λ (xs : List Sent). Contains xs (start_to start.0)) sent start.1);
   within = subst (λ (k : ℕ). k ≤ work) (sym number) kept.within;
 }
 

@@ -19,7 +19,7 @@ use Rattle.scholten_core.specs.declared.parents.Parent.{Parent}
 use Rattle.scholten_core.specs.declared.parents.Parent.TheVariants.{Neutral, Environment, Node}
 use Rattle.search.specs.declared.letters.Load.{Load}
 use Rattle.search.specs.declared.letters.Load.TheVariants as load
-use Rattle.search.specs.Net.{Net, Sent, HasListener, IsPendingStart, IsPendingTell, IsBaseTold, IsPartTold, IsOpen, IsAsked, IsTaken}
+use Rattle.search.specs.Net.{Net, Sent, HasListener, IsPendingStart, IsBaseTold, IsPartTold, IsOpen, IsAsked, IsTaken}
 use Rattle.search.specs.Net.{AskFits, LetterFits, ByRow, SolutionFits, PartFits, OpenedPaid, MonitorFits, MonitorsFit, IsRight, IsPaid}
 
 -- what was found and sent is there still, and no letter of the environment came
@@ -171,7 +171,7 @@ pub record AddsPaid (rows : List Credential) (old new : Net) : Type 0 where
   pub via : (m : ℕ) (b : List ℕ) → IsBaseTold new m b → IsBaseTold old m b ⊎ ((r : Role) (t : List ℕ) → IsNode new.graph m (Link r t) →
       IsAsked new m (port.Via b) (Rol (record { owner = b; name = t })))
   pub told : (n m : ℕ) (p : Port (List ℕ)) (who : List ℕ) → HasListener new n m p → IsSolution new.graph n who →
-      (HasListener old n m p × IsSolution old.graph n who) ⊎ (IsPendingTell new n m p who ⊎ IsTaken new m p who)
+      (HasListener old n m p × IsSolution old.graph n who) ⊎ (Contains new.pending (record { from = Node n; to = m; load = load.Tell p who }) ⊎ IsTaken new m p who)
   pub met : (m : ℕ) (parts : List Part) (who : List ℕ) → IsNode new.graph m (Meet parts) → ((i : ℕ) → i < length parts → IsPartTold new m i who) →
       ((i : ℕ) → i < length parts → IsPartTold old m i who) ⊎ IsSolution new.graph m who
 

@@ -21,7 +21,11 @@ use Rattle.search.specs.declared.findings.Monitor.TheVariants as monitor
 use Rattle.search.specs.declared.findings.NumberedMonitor.{NumberedMonitor}
 use Rattle.search.specs.declared.findings.NumberedMonitor.TheVariants as numbered_monitor
 use Rattle.search.specs.Answers.{BaseHeard, PartHeard}
-use Rattle.search.specs.Numbered.{AreMonitors, IsMonitor, link_at, monitor_at, monitors_at}
+use Rattle.search.specs.Numbered.{AreMonitors, IsMonitor, monitor_at, monitors_at}
+
+-- what a linked role was told, by name
+abbrev link_at : List Expr → LinkToldBy ℕ → LinkTold
+link_at nodes x = record { bases = map (entity_at nodes) x.bases; members = map (entity_at nodes) x.members }
 
 -- a monitor that was read where one stands is the one there
 pub read_there : (ms : List NumberedMonitor) (node : ℕ) (k m read : NumberedMonitor) → slice_get ms node ≡ Some k → m ≡ get_or ms node m → m ≡ read → slice_get ms node ≡ Some read

@@ -45,7 +45,11 @@ use Rattle.search.specs.declared.findings.NumberedMonitor.{NumberedMonitor}
 use Rattle.search.specs.declared.findings.NumberedMonitor.TheVariants as numbered_monitor
 use Rattle.search.specs.Answers.{Progress, Answers, AsksFor, AsksEach, HearsAsk, Opens, Solves, TakesIn, own_rows, known_tells, new_monitor, new_tells, row_asks, part_asks}
 use Rattle.search.proofs.Loops.{sent_next}
-use Rattle.search.specs.Numbered.{AreLetters, AreLoads, AreMonitors, AreNumbered, IsLoad, IsMonitor, IsStage, monitor_at, monitors_at, held_at, load_at, outs_at, progress_at, stage_at}
+use Rattle.search.specs.Numbered.{AreLoads, AreMonitors, AreNumbered, IsLoad, IsMonitor, IsStage, monitor_at, monitors_at, held_at, load_at, outs_at, progress_at, stage_at}
+
+-- the numbers in these letters are entities'
+abbrev pub AreLetters : List Expr → List (ℕ × Letter (Load ℕ)) → Type 0
+AreLetters nodes letters = All (λ l. IsLoad nodes l.1.load) letters
 
 module _ (nodes more : List Expr) where
   pub load_goes_on : (l : Load ℕ) → IsLoad nodes l → IsLoad (nodes ++ more) l

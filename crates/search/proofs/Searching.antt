@@ -27,14 +27,15 @@ use Rattle.search.specs.declared.findings.Monitor.{Monitor}
 use Rattle.search.specs.declared.findings.Monitor.TheVariants as monitor
 use Rattle.search.specs.declared.stages.Stage.{Stage}
 use Rattle.search.specs.declared.stages.Stage.TheVariants as stage
-use Rattle.search.specs.Net.{Net, Sent, plain, sent_of, IsPendingBetween, IsOpen, LetterFits, IsRight, IsPaid, IsJustified, OwesRules}
+use Rattle.search.specs.Net.{Net, Sent, sent_of, IsPendingBetween, IsOpen, LetterFits, IsRight, IsPaid, IsJustified, OwesRules}
 use Rattle.search.specs.Answers.{Awaits}
 use Rattle.search.specs.Stage.{HoldsLetter, Holds, letter_in, stage_marked, waiting_in, Delivers}
-use Rattle.search.specs.Search.{MayAsk, SearchState, KeptBy, IsTallied, IsKept, IsCompleted, asked_role, rows_of, net_of}
+use Rattle.search.specs.Search.{SearchState, KeptBy, IsTallied, IsKept, IsCompleted, asked_role, rows_of, net_of}
 use Rattle.search.proofs.Owed.{owes_rules}
 use Rattle.search.proofs.Solve.{solution_of_member, member_of_solution}
-use Rattle.search.proofs.Closing.{awaits_letter, marked_kept, signalled_kept, marked_tallied, signalled_tallied}
+use Rattle.search.proofs.Closing.{plain, awaits_letter, marked_kept, signalled_kept, marked_tallied, signalled_tallied}
 use Rattle.search.proofs.WorkOf.{opened_counted}
+use Rattle.search.proofs.Tallied.{MayAsk}
 use Rattle.search.proofs.Receive.{receiver_in}
 use Rattle.search.proofs.Holding.{same_running}
 
@@ -101,7 +102,7 @@ module _ (rows : List Credential) (role : Role) where
   pub first_kept : (work : ℕ) → 0 < work → IsGraph (first_graph role) → KeptBy rows role work (first_graph role) (monitor.Plain ∷ []) (started 0 load.Start)
   first_kept work some graph = record {
     steady = record { right = first_right graph; paid = first_paid graph };
-    starts = λ n among. refl;
+    starts = λ start. refl;
     within = omega arith;
   }
 

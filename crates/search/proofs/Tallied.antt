@@ -24,7 +24,7 @@ use Rattle.search.specs.declared.findings.Monitor.{Monitor}
 use Rattle.search.specs.declared.findings.Monitor.TheVariants as monitor
 use Rattle.search.specs.Net.{Net, Sent, HasListener, IsPendingStart, IsBaseTold, IsOpen, IsTaken, IsSteady}
 use Rattle.search.specs.Answers.{Awaits, Progress, progress, net_at, HearsAsk, TakesIn, Opens, IsOpenAt, own_rows, AnswersAsk, Answers}
-use Rattle.search.specs.Search.{MayAskFor, MayAsk, heard, asks_in, IsCountedBy, IsCounted}
+use Rattle.search.specs.Search.{MayAskFor, heard, asks_in, IsCountedBy, IsCounted}
 use Rattle.search.proofs.Grow.{Grows}
 use Rattle.search.proofs.Rows.{AreRowsOfOne, role_rows_once}
 use Rattle.search.proofs.Steps.{opens}
@@ -32,6 +32,10 @@ use Rattle.search.proofs.Receive.{own_rows_are, awaited_fits, receiver_in, Recei
 use Rattle.search.proofs.Counting.{counted_stays}
 use Rattle.search.proofs.CountedGraph.{heard_has}
 use Rattle.search.proofs.CountedSteps.{IsOwn, AsksOnceTold, counted_by_start, counted_by_first_ask, counted_by_ask, counted_by_tell}
+
+-- one may ask this
+abbrev pub MayAsk : Net → NodeAsk → Type 0
+MayAsk net a = MayAskFor net a.asker a.why
 
 -- a node that asks for itself is open, and an open one may
 own_opens : (net : Net) (m : ℕ) (why : Why) → IsOwn why → MayAskFor net m why → IsOpen net m

@@ -18,11 +18,11 @@ use Rattle.scholten_core.proofs.Lists.{filter_past}
 use Rattle.search.specs.declared.letters.Load.{Load}
 use Rattle.search.specs.declared.letters.Load.TheVariants as load
 use Rattle.search.specs.declared.findings.Monitor.{Monitor}
-use Rattle.search.specs.Net.{Sent, IsPendingStart, plain, sent_of, sent_by}
+use Rattle.search.specs.Net.{Sent, IsPendingStart, sent_of, sent_by}
 use Rattle.search.specs.Search.{IsCounted, KeptBy, IsTallied, net_of}
 use Rattle.search.specs.Answers.{Progress, progress, net_at, Answers, Awaits}
 use Rattle.search.proofs.Receive.{receipt}
-use Rattle.search.proofs.Closing.{awaits_letter, left, started_before, steady_after, after_is}
+use Rattle.search.proofs.Closing.{plain, awaits_letter, left, started_before, steady_after, after_is}
 use Rattle.search.proofs.Tallied.{receipt_counted}
 use Rattle.search.proofs.WorkOf.{sent_exceeds}
 

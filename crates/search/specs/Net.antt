@@ -42,12 +42,9 @@ pub record Net : Type 0 where
   pub monitors : List Monitor
   pub pending : List Sent
 
--- a letter of a diffusing computation, whether it is held or waits
-abbrev pub plain : Letter Said → Sent
-plain l = record { from = l.from; to = l.to; load = l.load }
-
+-- the letters of a diffusing computation, whether held or waiting
 abbrev pub sent_of : List (ℕ × Letter Said) → List Sent
-sent_of letters = map (λ l. plain l.1) letters
+sent_of letters = map (λ l. record { from = l.1.from; to = l.1.to; load = l.1.load }) letters
 
 -- what a node sends in one receipt
 abbrev pub sent_by : ℕ → List (ℕ × Said) → List Sent
@@ -68,12 +65,6 @@ HasListener net n m p = Listens net.graph n (record { asker = m; port = p })
 abbrev pub IsPendingStart : Net → Type 0
 IsPendingStart net = (n : ℕ) × Contains net.pending (record { from = Environment; to = n; load = load.Start })
 
-abbrev pub IsPendingAsk : Net → ℕ → ℕ → Port (List ℕ) → Type 0
-IsPendingAsk net m n p = Contains net.pending (record { from = Node m; to = n; load = load.Ask p })
-
-abbrev pub IsPendingTell : Net → ℕ → ℕ → Port (List ℕ) → List ℕ → Type 0
-IsPendingTell net n m p who = Contains net.pending (record { from = Node n; to = m; load = load.Tell p who })
-
 -- the linked role at m was told this member of its base
 abbrev pub IsBaseTold : Net → ℕ → List ℕ → Type 0
 IsBaseTold net m b = (x : LinkTold) × (slice_get net.monitors m ≡ Some (monitor.Link x)) × Contains x.bases b
@@ -88,7 +79,9 @@ IsOpen net n = ((m : ℕ) × (p : Port (List ℕ)) × HasListener net n m p) ⊎
 
 -- m listens to the node of the expression, or its Ask is under way
 abbrev pub IsAsked : Net → ℕ → Port (List ℕ) → Expr → Type 0
-IsAsked net m p f = (n : ℕ) × IsNode net.graph n f × (HasListener net n m p ⊎ IsPendingAsk net m n p)
+IsAsked net m p f =
+    (n : ℕ) × IsNode net.graph n f
+    × (HasListener net n m p ⊎ Contains net.pending (record { from = Node m; to = n; load = load.Ask p }))
 
 -- m has taken in what it was told on this port
 abbrev pub IsTaken : Net → ℕ → Port (List ℕ) → List ℕ → Type 0
@@ -190,7 +183,7 @@ pub record IsPaid (rows : List Credential) (net : Net) : Type 0 where
       IsAsked net m (port.Via b) (Rol (record { owner = b; name = t }))
   -- a listener has taken in each solution, or its Tell is under way
   pub told : (n m : ℕ) (p : Port (List ℕ)) (who : List ℕ) → HasListener net n m p → IsSolution net.graph n who →
-      IsPendingTell net n m p who ⊎ IsTaken net m p who
+      Contains net.pending (record { from = Node n; to = m; load = load.Tell p who }) ⊎ IsTaken net m p who
   -- who was told by each part of an intersection is its solution
   pub met : (m : ℕ) (parts : List Part) (who : List ℕ) → IsNode net.graph m (Meet parts) →
       ((i : ℕ) → i < length parts → IsPartTold net m i who) → IsSolution net.graph m who

@@ -6,9 +6,7 @@ use Rattle.cred_graph.specs.declared.listeners.Listening.{Listening}
 use Rattle.cred_graph.specs.Graph.{GraphState, Listens}
 use Rattle.cred_graph.specs.Numbers.{IsEntity, IsNamed, IsPort, entity_at, port_at}
 use Rattle.cred_graph.specs.NodeLists.{IsOnce}
-use Rattle.monitors.specs.LinkMonitor.{LinkTold, LinkToldBy}
 use Rattle.monitors.specs.MeetMonitor.{told_by}
-use Rattle.scholten_core.specs.declared.letters.Letter.{Letter}
 use Rattle.scholten_core.specs.Computation.{named_with, outs_with}
 use Rattle.search.specs.declared.letters.Load.{Load}
 use Rattle.search.specs.declared.letters.Load.TheVariants as load
@@ -53,22 +51,16 @@ stage_at nodes (numbered_stage.Running c) = stage.Running (named_with (load_at n
 stage_at nodes numbered_stage.Spent = stage.Spent
 stage_at nodes numbered_stage.Broken = stage.Broken
 
-abbrev pub AreLetters : List Expr → List (ℕ × Letter (Load ℕ)) → Type 0
-AreLetters nodes letters = All (λ l. IsLoad nodes l.1.load) letters
-
 -- the numbers in its letters are entities'
 abbrev pub IsStage : List Expr → NumberedStage → Type 0
-IsStage nodes (numbered_stage.Running c) = AreLetters nodes c.letters
+IsStage nodes (numbered_stage.Running c) = All (λ l. IsLoad nodes l.1.load) c.letters
 IsStage nodes _ = Unit {0}
-
--- what a linked role was told
-abbrev pub link_at : List Expr → LinkToldBy ℕ → LinkTold
-link_at nodes x = record { bases = map (entity_at nodes) x.bases; members = map (entity_at nodes) x.members }
 
 -- what a node remembers
 abbrev pub monitor_at : List Expr → NumberedMonitor → Monitor
 monitor_at nodes numbered_monitor.Plain = monitor.Plain
-monitor_at nodes (numbered_monitor.Link x) = monitor.Link (link_at nodes x)
+monitor_at nodes (numbered_monitor.Link x) =
+    monitor.Link (record { bases = map (entity_at nodes) x.bases; members = map (entity_at nodes) x.members })
 monitor_at nodes (numbered_monitor.Meet x) = monitor.Meet (told_by (entity_at nodes) x)
 
 abbrev pub monitors_at : List Expr → List NumberedMonitor → List Monitor

@@ -85,9 +85,6 @@ abbrev pub MayAskFor : Net → ℕ → Why → Type 0
 MayAskFor net m (for_via b) = IsBaseTold net m b
 MayAskFor net m _ = IsOpen net m
 
-abbrev pub MayAsk : Net → NodeAsk → Type 0
-MayAsk net a = MayAskFor net a.asker a.why
-
 -- each ask stands once, by one that may ask it, and so many letters were sent as that and what was found make
 pub record IsCountedBy (may_ask : NodeAsk → Type 0) (members : ℕ → List (List ℕ)) (listeners pending : List NodeAsk)
     (sent : ℕ) : Type 0 where
@@ -97,7 +94,8 @@ pub record IsCountedBy (may_ask : NodeAsk → Type 0) (members : ℕ → List (L
 
 -- the same of a search
 abbrev pub IsCounted : Net → ℕ → Type 0
-IsCounted net sent = IsCountedBy (MayAsk net) (members_of net.graph) (heard net.graph) (asks_in net.pending) sent
+IsCounted net sent =
+    IsCountedBy (λ a. MayAskFor net a.asker a.why) (members_of net.graph) (heard net.graph) (asks_in net.pending) sent
 
 pub record SearchState : Type 0 where
   pub query : Query
@@ -139,19 +137,16 @@ pub record IsNew (s : SearchState) (query : Query) (work : ℕ) (snapshot : Snap
   pub monitors_is : s.monitors ≡ monitor.Plain ∷ []
   pub stage_is : s.stage ≡ stage.Running (started 0 load.Start)
 
--- while the environment's letter is there it is the only one
-abbrev pub StartsAlone : List (ℕ × Letter Said) → Type 0
-StartsAlone letters = (n : ℕ) → Contains (sent_of letters) (record { from = Environment; to = n; load = load.Start }) → length letters ≡ 1
-
--- what a running search keeps: each rule is applied or owed, and no more letters were sent than it may send
-pub record KeptBy (rows : List Credential) (asked : Role) (work : ℕ) (g : GraphState) (ms : List Monitor)
-    (c : Computation Said) : Type 0 where
-  pub steady : IsSteady rows asked (record { graph = g; monitors = ms; pending = sent_of c.letters })
-  pub starts : StartsAlone c.letters
-  pub within : c.sent ≤ work
-
 abbrev pub net_of : GraphState → List Monitor → Computation Said → Net
 net_of g ms c = record { graph = g; monitors = ms; pending = sent_of c.letters }
+
+-- what a running search keeps: each rule is applied or owed, while the environment's letter is there it is the only one,
+-- and no more letters were sent than it may send
+pub record KeptBy (rows : List Credential) (asked : Role) (work : ℕ) (g : GraphState) (ms : List Monitor)
+    (c : Computation Said) : Type 0 where
+  pub steady : IsSteady rows asked (net_of g ms c)
+  pub starts : IsPendingStart (net_of g ms c) → length c.letters ≡ 1
+  pub within : c.sent ≤ work
 
 -- its letters are counted by what was asked and found, and while the environment's letter is there it was the only one
 pub record IsTallied (g : GraphState) (ms : List Monitor) (c : Computation Said) : Type 0 where

@@ -5,9 +5,9 @@ use Rattle.credential_text.specs.declared.exprs.Expr.{Expr}
 use Rattle.scholten_core.specs.Computation.{Computation, letter_with, named_with}
 use Rattle.scholten_core.proofs.Named.{by_number-named, letter_of-named, letter_says, marked_say, takes-named}
 use Rattle.search.specs.declared.letters.Load.{Load}
-use Rattle.search.specs.Numbered.{AreLetters, IsLoad, load_at, stage_at}
+use Rattle.search.specs.Numbered.{IsLoad, load_at, stage_at}
 use Rattle.search.proofs.InHand.{holds_taken}
-use Rattle.search.proofs.Numbered.{shown, shows, loads_shown, past_waiting}
+use Rattle.search.proofs.Numbered.{AreLetters, shown, shows, loads_shown, past_waiting}
 use Rattle.search.proofs.stages.hold.Goals as goal
 
 pub returns-then-place-waiting-clause-held : goal.returns-then-place-waiting-clause-held

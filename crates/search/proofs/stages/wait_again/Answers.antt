@@ -6,8 +6,8 @@ use Rattle.scholten_core.proofs.Named.{marked-named, marked_say}
 use Rattle.search.specs.declared.letters.Load.{Load}
 use Rattle.search.specs.declared.stages.Stage.TheVariants as stage
 use Rattle.search.specs.Stage.{stage_marked}
-use Rattle.search.specs.Numbered.{AreLetters, IsLoad, load_at}
-use Rattle.search.proofs.Numbered.{held_shown, loads_shown, shows}
+use Rattle.search.specs.Numbered.{IsLoad, load_at}
+use Rattle.search.proofs.Numbered.{AreLetters, held_shown, loads_shown, shows}
 use Rattle.search.proofs.stages.wait_again.Goals as goal
 
 pub put_back-requires : goal.put_back-requires

@@ -5,9 +5,9 @@ use Rattle.scholten_core.specs.Computation.{Computation, named_with}
 use Rattle.search.specs.declared.letters.Load.{Load}
 use Rattle.search.specs.declared.stages.Stage.TheVariants as stage
 use Rattle.search.specs.Answers.{Progress}
-use Rattle.search.specs.Numbered.{AreLetters, load_at}
+use Rattle.search.specs.Numbered.{load_at}
 use Rattle.search.proofs.Searching.{first_graph, opened_kept}
-use Rattle.search.proofs.Numbered.{start_says}
+use Rattle.search.proofs.Numbered.{AreLetters, start_says}
 use Rattle.search.proofs.searches.Search.open.Goals as goal
 
 pub invariant_of-result : goal.invariant_of-result
