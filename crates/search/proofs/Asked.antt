@@ -1,5 +1,5 @@
 -- The asks that a node sends where expressions are asked in turn.
-use Rattle.std.proofs.Common.{ℕ, ◌≡◌, ◌∙◌, inl, inr, sym, subst, ap, refl, List, [], ◌∷◌, ◌++◌, Some, length, slice_get, arith}
+use Rattle.std.proofs.Common.{ℕ, ◌≡◌, ◌∙◌, inl, inr, sym, subst, ap, refl, List, [], ◌∷◌, ◌++◌, Some, length, slice_get, arith, true, false}
 use Rattle.std.specs.List.{Contains, AllZip}
 use Rattle.std.proofs.lemmas.Option.{same_Some}
 use Rattle.std.proofs.lemmas.List.{append-nil, length-append, append_assoc, map-append}
@@ -71,7 +71,7 @@ pub record AskedFor (n : ℕ) (s t : Progress) (ws : List (Expr × Port (List �
   pub are : AllZip (IsAskFor t.graph.nodes n) ws asks
 
 asked_one : (n : ℕ) (s t : Progress) (e : Expr) (p : Port (List ℕ)) → AsksFor s t e p → AskedFor n s t ((e, p) ∷ [])
-asked_one n s t e p (to, outs, inl (node, graph, monitors)) = record {
+asked_one n s t e p (to, false, (node, graph), outs, monitors) = record {
   asks = record { asker = n; why = why_of p; asked = to } ∷ [];
   letters = (to, load.Ask p) ∷ [];
   more = [];
@@ -83,7 +83,7 @@ asked_one n s t e p (to, outs, inl (node, graph, monitors)) = record {
   heard_same = ap heard graph;
   are = (record { asker = refl; why = refl; asked = subst (λ (g : GraphState). slice_get g.nodes to ≡ Some e) (sym graph) node }, tt);
 }
-asked_one n s t e p (to, outs, inr (absent, range, is, graph, monitors)) = record {
+asked_one n s t e p (to, true, (absent, range, is, graph), outs, monitors) = record {
   asks = record { asker = n; why = why_of p; asked = to } ∷ [];
   letters = (to, load.Ask p) ∷ [];
   more = e ∷ [];

@@ -1,5 +1,5 @@
 -- A search's letters stay counted where a node opens, hears an Ask and takes in what it was told.
-use Rattle.std.proofs.Common.{ℕ, ◌+◌, ◌≡◌, ◌==◌, ◌∙◌, ◌⊎◌, inl, inr, sym, subst, ap, refl, List, [], ◌∷◌, ◌++◌, length, map, arith}
+use Rattle.std.proofs.Common.{ℕ, ◌+◌, ◌≡◌, ◌==◌, ◌∙◌, ◌⊎◌, inl, inr, sym, subst, ap, refl, List, [], ◌∷◌, ◌++◌, length, map, arith, true, false}
 use Rattle.std.specs.List.{Contains, filter}
 use Rattle.std.proofs.lemmas.List.{append-nil, length-append, length-map, append_assoc}
 use Rattle.credential_text.specs.declared.exprs.Expr.{Expr}
@@ -67,9 +67,9 @@ module _ (rest : List Sent) (n sent : ℕ) {may_ask : NodeAsk → Type 0} (s t :
 
   -- the node finds a solution
   pub counted_at_solved : (who : List ℕ) (why : Reason ℕ (List ℕ)) → Solves s t n who why → IsCountedAt rest n sent may_ask t
-  counted_at_solved who why (monitors, inl (is, graph, outs)) =
+  counted_at_solved who why (false, (is, graph), monitors, outs) =
       same_count (ap members_of (sym graph)) (ap heard (sym graph)) (ap (λ l. asks_in (rest ++ sent_by n l)) (sym outs)) (ap (λ (l : List (ℕ × Load (List ℕ))). sent + length l) (sym outs)) counted
-  counted_at_solved who why (monitors, inr (isn't, graph, outs)) =
+  counted_at_solved who why (true, (isn't, graph), monitors, outs) =
       let tells : List (ℕ × Load (List ℕ)) = new_tells s.graph n who in
       let told : length (filter (λ a. a.asked == n) (heard s.graph)) ≡ length (listeners_of s.graph n) =
       subst (λ k. length (filter (λ a. a.asked == k) (heard s.graph)) ≡ length (listeners_of s.graph n)) (omega arith) (heard_by 0 n s.graph.listeners) in

@@ -1,5 +1,5 @@
 -- A search's letters stay counted by the receipt of a letter.
-use Rattle.std.proofs.Common.{ℕ, ◌+◌, ◌<◌, ◌≡◌, ◌∙◌, inl, inr, sym, subst, ap, refl, List, [], ◌∷◌, ◌++◌, length, arith}
+use Rattle.std.proofs.Common.{ℕ, ◌+◌, ◌<◌, ◌≡◌, ◌∙◌, inl, inr, sym, subst, ap, refl, List, [], ◌∷◌, ◌++◌, length, arith, true, false}
 use Rattle.std.specs.List.{Contains}
 use Rattle.std.proofs.lemmas.List.{append-nil, length-append, length-map, append_assoc}
 use Rattle.std.proofs.lemmas.List.Elements.{Contains-append_right}
@@ -55,14 +55,14 @@ module _ (before after : List Sent) (m n : ℕ) (p : Port (List ℕ)) (sent : �
 
   pub counted_at_heard : {may_ask : NodeAsk → Type 0} → n < length s.graph.listeners → IsCountedAt (before ++ (the_letter ∷ after)) n sent may_ask s → HearsAsk s t n m p →
       IsCountedAt (before ++ after) n sent may_ask t
-  counted_at_heard {may_ask} within counted (monitors, inl (listens, graph, outs)) =
+  counted_at_heard {may_ask} within counted (false, (listens, graph), monitors, outs) =
       let heard_before : Contains (heard s.graph) the_ask =
       subst (λ j. Contains (heard s.graph) (heard_of j (record { asker = m; port = p }))) (omega arith) (heard_has 0 n s.graph.listeners (record { asker = m; port = p }) listens) in
       let under_way : Contains (asks_in ((before ++ (the_letter ∷ after)) ++ sent_by n s.outs)) the_ask =
       subst (λ l. Contains l the_ask) (sym asks_with)
       (Contains-append_right (asks_in before) (the_ask ∷ (asks_in after ++ asks_in (sent_by n s.outs))) the_ask (Contains-first the_ask (asks_in after ++ asks_in (sent_by n s.outs)))) in
       absurd (apart (heard s.graph) (asks_in ((before ++ (the_letter ∷ after)) ++ sent_by n s.outs)) the_ask counted.distinct heard_before under_way)
-  counted_at_heard {may_ask} within counted (monitors, inr (listens_not, graph, outs)) =
+  counted_at_heard {may_ask} within counted (true, (listens_not, graph), monitors, outs) =
       let l : Listening = record { asker = m; port = p } in
       let more : IsInserted (heard s.graph) (heard_from 0 t.graph.listeners) (heard_of (0 + n) l) =
       subst (λ (g : GraphState). IsInserted (heard s.graph) (heard_from 0 g.listeners) (heard_of (0 + n) l)) (sym graph) (heard_with 0 n s.graph.listeners l within) in

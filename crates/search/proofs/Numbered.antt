@@ -139,17 +139,20 @@ then_more : (a b c : List Expr) → HasMore a b → HasMore b c → HasMore a c
 then_more a b c (x, ab) (y, bc) = (x ++ y, bc ∙ ap (λ l. l ++ y) ab ∙ append_assoc a x y)
 
 ask_more : (s t : Progress) (e : Expr) (p : Port (List ℕ)) → AsksFor s t e p → HasMore s.graph.nodes t.graph.nodes
-ask_more s t e p (to, outs, inl (node, graph, monitors)) = same_nodes s t (ap (λ (g : GraphState). g.nodes) graph)
-ask_more s t e p (to, outs, inr (absent, range, is, graph, monitors)) = (e ∷ [], ap (λ (g : GraphState). g.nodes) graph)
+ask_more s t e p (to, false, (node, graph), outs, monitors) = same_nodes s t (ap (λ (g : GraphState). g.nodes) graph)
+ask_more s t e p (to, true, (absent, range, is, graph), outs, monitors) = (e ∷ [], ap (λ (g : GraphState). g.nodes) graph)
 
 asks_more : (ws : List (Expr × Port (List ℕ))) (s t : Progress) → AsksEach s ws t → HasMore s.graph.nodes t.graph.nodes
 asks_more [] s t same = same_nodes s t (ap (λ (u : Progress). u.graph.nodes) same)
 asks_more (w ∷ ws) s t (mid, first, later) =
     then_more s.graph.nodes mid.graph.nodes t.graph.nodes (ask_more s mid w.0 w.1 first) (asks_more ws mid t later)
 
+solves_more : (s t : Progress) (n : ℕ) (who : List ℕ) (why : Reason ℕ (List ℕ)) → Solves s t n who why → HasMore s.graph.nodes t.graph.nodes
+solves_more s t n who why (false, (there, graph), monitors, outs) = same_nodes s t (ap (λ (g : GraphState). g.nodes) graph)
+solves_more s t n who why (true, (absent, graph), monitors, outs) = same_nodes s t (ap (λ (g : GraphState). g.nodes) graph)
+
 pub opens_more : (rows : List Credential) (s t : Progress) (n : ℕ) (e : Expr) → Opens rows s t n e → HasMore s.graph.nodes t.graph.nodes
-opens_more rows s t n (Ent d) (monitors, inl had) = same_nodes s t (ap (λ (g : GraphState). g.nodes) had.1)
-opens_more rows s t n (Ent d) (monitors, inr new) = same_nodes s t (ap (λ (g : GraphState). g.nodes) new.1)
+opens_more rows s t n (Ent d) solves = solves_more s t n d reason.Leaf solves
 opens_more rows s t n (Rol r) step = asks_more (row_asks rows) s t step
 opens_more rows s t n (Link r name) step = asks_more ((Rol r, port.Base) ∷ []) s t step
 opens_more rows s t n (Meet parts) step = asks_more (part_asks 0 parts) s t step
@@ -165,8 +168,10 @@ pub asks_old : (s t : Progress) (g h : GraphState) (ms : List NumberedMonitor) (
 asks_old s t g h ms outs e n p is (node, same) done =
     subst (λ (x : Progress). AsksFor x t e (port_at x.graph.nodes p)) is (
       n,
+      false,
+      (node, ap (λ (x : Progress). x.graph) done ∙ same),
       ap (λ (x : Progress). x.outs) done ∙ ap (λ (k : GraphState). outs_at k.nodes outs ++ (n, load.Ask (port_at k.nodes p)) ∷ []) same,
-      inl (node, ap (λ (x : Progress). x.graph) done ∙ same, ap (λ (x : Progress). x.monitors) done ∙ ap (λ (k : GraphState). monitors_at k.nodes ms) same),
+      ap (λ (x : Progress). x.monitors) done ∙ ap (λ (k : GraphState). monitors_at k.nodes ms) same,
     )
 
 -- the new node is asked, where the letters before it and the other monitors stay what they are
@@ -175,15 +180,11 @@ pub asks_new : (s t : Progress) (g h : GraphState) (ms ms' : List NumberedMonito
 asks_new s t g h ms ms' m outs e n p is are port (absent, range, at, with) pushed new done =
     subst (λ (x : Progress). AsksFor x t e (port_at x.graph.nodes p)) is (
       n,
+      true,
+      (absent, range, at, ap (λ (x : Progress). x.graph) done ∙ with),
       ap (λ (x : Progress). x.outs) done ∙ ap (λ (k : GraphState). outs_at k.nodes outs ++ (n, load.Ask (port_at k.nodes p)) ∷ []) with ∙ (λ i. outs_stay g.nodes (e ∷ []) outs are.loads i ++ (n, load.Ask (port_stays g.nodes (e ∷ []) p port i)) ∷ []),
-      inr (
-        absent,
-        range,
-        at,
-        ap (λ (x : Progress). x.graph) done ∙ with,
-        ap (λ (x : Progress). x.monitors) done ∙ ap (monitors_at h.nodes) pushed ∙ map-append (monitor_at h.nodes) ms (m ∷ [])
-            ∙ (λ i. (ap (λ (k : GraphState). monitors_at k.nodes ms) with ∙ monitors_stay g.nodes (e ∷ []) ms are.monitors) i ++ new i ∷ []),
-      ),
+      ap (λ (x : Progress). x.monitors) done ∙ ap (monitors_at h.nodes) pushed ∙ map-append (monitor_at h.nodes) ms (m ∷ [])
+          ∙ (λ i. (ap (λ (k : GraphState). monitors_at k.nodes ms) with ∙ monitors_stay g.nodes (e ∷ []) ms are.monitors) i ++ new i ∷ []),
     )
 
 pub port_given : (g h : GraphState) (e : Expr) (n : ℕ) (b : Bool) (p : Port ℕ) → NodeGiven g h e n b → IsPort g.nodes p → IsPort h.nodes p
@@ -229,27 +230,31 @@ numbered_solved g h s true ms outs (new, with) are =
 module _ (s : Progress) (g h : GraphState) (ms : List NumberedMonitor) (outs : List (ℕ × Load ℕ)) (is : progress_at g ms outs ≡ s) where
   pub hears_old : (n m : ℕ) (p : Port ℕ) → ListenerGiven g h n (record { asker = m; port = port_at g.nodes p }) false → HearsAsk s (progress_at h ms outs) n m (port_at s.graph.nodes p)
   hears_old n m p (listens, same) =
-      subst (λ (x : Progress). HearsAsk x (progress_at h ms outs) n m (port_at x.graph.nodes p)) is (ap (λ (k : GraphState). monitors_at k.nodes ms) same, inl (listens, same, ap (λ (k : GraphState). outs_at k.nodes outs) same))
+      subst (λ (x : Progress). HearsAsk x (progress_at h ms outs) n m (port_at x.graph.nodes p)) is (false, (listens, same), ap (λ (k : GraphState). monitors_at k.nodes ms) same, ap (λ (k : GraphState). outs_at k.nodes outs) same)
 
   pub hears_new : (t : Progress) (n m : ℕ) (p : Port ℕ) → ListenerGiven g h n (record { asker = m; port = port_at g.nodes p }) true →
       t ≡ record (progress_at h ms outs) { outs = outs_at h.nodes outs ++ known_tells h n m (port_at h.nodes p) } → HearsAsk s t n m (port_at s.graph.nodes p)
   hears_new t n m p (new, with) done =
       subst (λ (x : Progress). HearsAsk x t n m (port_at x.graph.nodes p)) is (
+        true,
+        (new, ap (λ (x : Progress). x.graph) done ∙ with),
         ap (λ (x : Progress). x.monitors) done ∙ ap (λ (k : GraphState). monitors_at k.nodes ms) with,
-        inr (new, ap (λ (x : Progress). x.graph) done ∙ with, ap (λ (x : Progress). x.outs) done ∙ ap (λ (k : GraphState). outs_at k.nodes outs ++ known_tells k n m (port_at k.nodes p)) with),
+        ap (λ (x : Progress). x.outs) done ∙ ap (λ (k : GraphState). outs_at k.nodes outs ++ known_tells k n m (port_at k.nodes p)) with,
       )
 
   pub solves_old : (n k : ℕ) (r : Reason ℕ ℕ) → SolutionGiven g h (record { node = n; who = entity_at g.nodes k; reason = reason_at g.nodes r }) false →
       Solves s (progress_at h ms outs) n (entity_at s.graph.nodes k) (reason_at s.graph.nodes r)
   solves_old n k r (has, same) =
-      subst (λ (x : Progress). Solves x (progress_at h ms outs) n (entity_at x.graph.nodes k) (reason_at x.graph.nodes r)) is (ap (λ (k : GraphState). monitors_at k.nodes ms) same, inl (has, same, ap (λ (y : GraphState). outs_at y.nodes outs) same))
+      subst (λ (x : Progress). Solves x (progress_at h ms outs) n (entity_at x.graph.nodes k) (reason_at x.graph.nodes r)) is (false, (has, same), ap (λ (k : GraphState). monitors_at k.nodes ms) same, ap (λ (y : GraphState). outs_at y.nodes outs) same)
 
   pub solves_new : (t : Progress) (n k : ℕ) (r : Reason ℕ ℕ) → SolutionGiven g h (record { node = n; who = entity_at g.nodes k; reason = reason_at g.nodes r }) true →
       t ≡ record (progress_at h ms outs) { outs = outs_at h.nodes outs ++ new_tells h n (entity_at h.nodes k) } → Solves s t n (entity_at s.graph.nodes k) (reason_at s.graph.nodes r)
   solves_new t n k r (new, with) done =
       subst (λ (x : Progress). Solves x t n (entity_at x.graph.nodes k) (reason_at x.graph.nodes r)) is (
+        true,
+        (new, ap (λ (x : Progress). x.graph) done ∙ with),
         ap (λ (x : Progress). x.monitors) done ∙ ap (λ (k : GraphState). monitors_at k.nodes ms) with,
-        inr (new, ap (λ (x : Progress). x.graph) done ∙ with, ap (λ (x : Progress). x.outs) done ∙ ap (λ (y : GraphState). outs_at y.nodes outs ++ new_tells y n (entity_at y.nodes k)) with),
+        ap (λ (x : Progress). x.outs) done ∙ ap (λ (y : GraphState). outs_at y.nodes outs ++ new_tells y n (entity_at y.nodes k)) with,
       )
 
 -- a port stays what it is where nodes are added
@@ -320,13 +325,9 @@ pub taken_holds : (nodes : List Expr) (P : Type 0) (Q : ℕ → Held (Load (List
 taken_holds nodes P Q None holds = holds
 taken_holds nodes P Q (Some r) holds = holds
 
-solves_more : (s t : Progress) (n : ℕ) (who : List ℕ) (why : Reason ℕ (List ℕ)) → Solves s t n who why → HasMore s.graph.nodes t.graph.nodes
-solves_more s t n who why (monitors, inl had) = same_nodes s t (ap (λ (g : GraphState). g.nodes) had.1)
-solves_more s t n who why (monitors, inr new) = same_nodes s t (ap (λ (g : GraphState). g.nodes) new.1)
-
 hears_more : (s t : Progress) (n m : ℕ) (p : Port (List ℕ)) → HearsAsk s t n m p → HasMore s.graph.nodes t.graph.nodes
-hears_more s t n m p (monitors, inl had) = same_nodes s t (ap (λ (g : GraphState). g.nodes) had.1)
-hears_more s t n m p (monitors, inr new) = same_nodes s t (ap (λ (g : GraphState). g.nodes) new.1)
+hears_more s t n m p (false, (there, graph), monitors, outs) = same_nodes s t (ap (λ (g : GraphState). g.nodes) graph)
+hears_more s t n m p (true, (absent, graph), monitors, outs) = same_nodes s t (ap (λ (g : GraphState). g.nodes) graph)
 
 takes_more : (s t : Progress) (n m : ℕ) (p : Port (List ℕ)) (who : List ℕ) → TakesIn s t n m p who → HasMore s.graph.nodes t.graph.nodes
 takes_more s t n m port.Body who solves = solves_more s t n who (reason.Body m) solves

@@ -1,5 +1,5 @@
 -- The steps by which a node answers a letter keep a search steady.
-use Rattle.std.proofs.Common.{ℕ, zero, suc, ◌+◌, ◌<◌, ◌↔◌, ◌≡◌, ◌∙◌, inl, inr, refl, sym, subst, ap, List, [], ◌∷◌, ◌++◌, Some, Contains, length, map, slice_get, arith}
+use Rattle.std.proofs.Common.{ℕ, zero, suc, ◌+◌, ◌<◌, ◌↔◌, ◌≡◌, ◌∙◌, inl, inr, refl, sym, subst, ap, List, [], ◌∷◌, ◌++◌, Some, Contains, length, map, slice_get, arith, true, false}
 use Rattle.std.proofs.lemmas.Option.{slice_get_within, same_Some}
 use Rattle.std.proofs.lemmas.List.Elements.{Contains-push}
 use Rattle.names.specs.declared.roles.Role.{Role}
@@ -169,9 +169,9 @@ module _ (rows : List Credential) (asked : Role) (rest : List Sent) (node : ℕ)
       record { moves = moves_on s mid t added later.moves; asked_now = later.asked_now }
 
   pub asks_for : (s t : Progress) (e : Expr) (p : Port (List ℕ)) (d : Expr) → AsksFor s t e p → IsSteady rows asked (net_at s rest node) → IsNode s.graph node d → Asks rows (Known s.graph) d (why_of p) e → Asked s t p e
-  asks_for s t e p d (to, outs, inl (at, graph, monitors)) steady asker asks =
+  asks_for s t e p d (to, false, (at, graph), outs, monitors) steady asker asks =
       asks_had s t e p to d steady asker asks at (progress_is t s.graph s.monitors (s.outs ++ (to, load.Ask p) ∷ []) graph monitors outs)
-  asks_for s t e p d (to, outs, inr (absent, range, place, graph, monitors)) steady asker asks =
+  asks_for s t e p d (to, true, (absent, range, place, graph), outs, monitors) steady asker asks =
       asks_new s t e p d steady asker asks absent range
       (progress_is t (with_node s.graph e) (s.monitors ++ new_monitor e ∷ []) (s.outs ++ (length s.graph.nodes, load.Ask p) ∷ []) graph monitors (outs ∙ ap (λ (k : ℕ). s.outs ++ (k, load.Ask p) ∷ []) place))
 
@@ -203,10 +203,10 @@ module _ (rows : List Credential) (asked : Role) (rest : List Sent) (node : ℕ)
 
   pub solves : (s t : Progress) (who : List ℕ) (why : Reason ℕ (List ℕ)) → Solves s t node who why → IsSteady rows asked (net_at s rest node) → Fits s.graph node who why →
       SolutionFits rows s.graph (record { node = node; who = who; reason = why }) → Solved s t who
-  solves s t who why (monitors, inl (there, graph, outs)) steady fits right =
+  solves s t who why (false, (there, graph), monitors, outs) steady fits right =
       let same = progress_is t s.graph s.monitors s.outs graph monitors outs in
       record { moves = stays s t steady same; solution = subst (λ (g : GraphState). IsSolution g node who) (sym graph) there }
-  solves s t who why (monitors, inr (absent, graph, outs)) steady fits right =
+  solves s t who why (true, (absent, graph), monitors, outs) steady fits right =
       let sol : Solution = record { node = node; who = who; reason = why } in
       let after : Progress = progress (record s.graph { solutions = s.graph.solutions ++ sol ∷ [] }) s.monitors (s.outs ++ new_tells s.graph node who) in
       let same : t ≡ after = progress_is t after.graph after.monitors after.outs graph monitors outs in
@@ -225,12 +225,12 @@ module _ (rows : List Credential) (asked : Role) (rest : List Sent) (node : ℕ)
 
   pub hears : (s t : Progress) (m : ℕ) (p : Port (List ℕ)) → HearsAsk s t node m p → IsSteady rows asked (net_at s rest node) → AskFits rows (net_at s rest node) m p node →
       ((e : Expr) → IsNode s.graph node e → OpenedPaid rows (net_at s rest node) node e) → Heard s t m p
-  hears s t m p (monitors, inl (there, graph, outs)) steady fits opened =
+  hears s t m p (false, (there, graph), monitors, outs) steady fits opened =
       record {
         moves = stays s t steady (progress_is t s.graph s.monitors s.outs graph monitors outs);
         listener = subst (λ (g : GraphState). Listens g node (record { asker = m; port = p })) (sym graph) there;
       }
-  hears s t m p (monitors, inr (absent, graph, outs)) steady fits opened =
+  hears s t m p (true, (absent, graph), monitors, outs) steady fits opened =
       let after : Progress = progress (with_listener s.graph node (record { asker = m; port = p })) s.monitors (s.outs ++ known_tells s.graph node m p) in
       let same : t ≡ after = progress_is t after.graph after.monitors after.outs graph monitors outs in
       let node_in : node < length s.graph.nodes = slice_get_within s.graph.nodes node fits.1 fits.3 in

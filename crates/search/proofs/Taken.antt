@@ -1,5 +1,5 @@
 -- A search stays steady where a node takes in what it was told.
-use Rattle.std.proofs.Common.{ℕ, zero, suc, ◌<◌, ◌≤◌, ◌≡◌, ◌∙◌, inl, inr, refl, sym, subst, ap, true, false, List, [], ◌∷◌, ◌++◌, Some, Contains, length, set, get_or, slice_get, arith}
+use Rattle.std.proofs.Common.{ℕ, zero, suc, ◌<◌, ◌≤◌, ◌≡◌, ◌∙◌, inl, inr, refl, sym, subst, ap, true, false, List, [], ◌∷◌, ◌++◌, Some, Contains, length, set, get_or, slice_get, arith, if◌then◌else◌}
 use Rattle.std.specs.FinSet as fin
 use Rattle.std.proofs.lemmas.Bool.{cases_Bool, false≢true}
 use Rattle.std.proofs.lemmas.Option.{same_Some, slice_get_within, slice_get-get_or}
@@ -14,7 +14,7 @@ use Rattle.rt0_rules.specs.Asks.{Why, for_body, for_base, for_via, for_part, Ask
 use Rattle.cred_graph.specs.declared.listeners.Port.{Port}
 use Rattle.cred_graph.specs.declared.listeners.Port.TheVariants as port
 use Rattle.cred_graph.specs.declared.solutions.Reason.TheVariants as reason
-use Rattle.cred_graph.specs.Graph.{GraphState, IsNode, IsSolution, Known, Fits}
+use Rattle.cred_graph.specs.Graph.{GraphState, IsNode, IsSolution, Known, Fits, NodeGiven}
 use Rattle.cred_graph.proofs.Lists.{slice_get_stays}
 use Rattle.monitors.specs.LinkMonitor.{LinkTold, HearsBase}
 use Rattle.monitors.specs.MeetMonitor.{MeetTold, HasTold, AllTold, with_tell}
@@ -227,25 +227,25 @@ module _ (rows : List Credential) (asked : Role) (rest : List Sent) (node m : �
 
   told_base_new : (base : List ℕ) (t : Progress) (r : Role) (name : List ℕ) (ms : List Monitor) (x : LinkTold) → IsTold port.Base base → IsNode s.graph node (Link r name) → slice_get s.monitors node ≡ Some (monitor.Link x) →
       ms ≡ set s.monitors node (monitor.Link (record x { bases = x.bases ++ base ∷ [] })) → AsksFor (record s { monitors = ms }) t (Rol (record { owner = base; name = name })) (port.Via base) → TakenIn t port.Base base
-  told_base_new base t r name ms x told at mat ms_is (to, outs, cases) =
+  told_base_new base t r name ms x told at mat ms_is (to, new, given, outs, monitors) =
       let e : Expr = Rol (record { owner = base; name = name }) in
       let y : Monitor = monitor.Link (record x { bases = x.bases ++ base ∷ [] }) in
       let out : List (ℕ × Load (List ℕ)) = (to, load.Ask (port.Via base)) ∷ [] in
       let is = base_told base told in
       let same_role : is.role ≡ r = same_base is.role r is.name name (one_expr s.graph node (Link is.role is.name) (Link r name) is.at at) in
       let asks : Asks rows (Known s.graph) (Link r name) (for_via base) e = asks_via name base (subst (λ (q : Role). Known s.graph base (Rol q)) same_role is.member) in
-      elim cases [
-        | inl had ↦
+      elim new as (λ b. NodeGiven s.graph t.graph e to b → t.monitors ≡ (if b then ms ++ new_monitor e ∷ [] else ms) → TakenIn t port.Base base) [
+        | false ↦ λ had stay.
             let u : Progress = progress s.graph s.monitors (s.outs ++ out) in
-            base_after base r name x u t at (asks_for rows asked rest node s u e (port.Via base) (Link r name) (to, refl, inl (had.0, refl, refl)) steady at asks) mat
-            (progress_is t s.graph (set s.monitors node y) (s.outs ++ out) had.1 (had.2 ∙ ms_is) outs)
-        | inr new ↦
+            base_after base r name x u t at (asks_for rows asked rest node s u e (port.Via base) (Link r name) (to, false, (had.0, refl), refl, refl) steady at asks) mat
+            (progress_is t s.graph (set s.monitors node y) (s.outs ++ out) had.1 (stay ∙ ms_is) outs)
+        | true ↦ λ added more.
             let g : GraphState = record s.graph { nodes = s.graph.nodes ++ e ∷ []; listeners = s.graph.listeners ++ [] ∷ [] } in
             let u : Progress = progress g (s.monitors ++ new_monitor e ∷ []) (s.outs ++ out) in
-            base_after base r name x u t at (asks_for rows asked rest node s u e (port.Via base) (Link r name) (to, refl, inr (new.0, new.1, new.2, refl, refl)) steady at asks)
+            base_after base r name x u t at (asks_for rows asked rest node s u e (port.Via base) (Link r name) (to, true, (added.0, added.1, added.2, refl), refl, refl) steady at asks)
             (slice_get_stays s.monitors (new_monitor e ∷ []) node (monitor.Link x) mat)
-            (progress_is t g (set (s.monitors ++ new_monitor e ∷ []) node y) (s.outs ++ out) new.3 (new.4 ∙ ap (λ (ns : List Monitor). ns ++ new_monitor e ∷ []) ms_is ∙ sym (set_push s.monitors node (monitor.Link x) y (new_monitor e) mat)) outs)
-      ]
+            (progress_is t g (set (s.monitors ++ new_monitor e ∷ []) node y) (s.outs ++ out) added.3 (more ∙ ap (λ (ns : List Monitor). ns ++ new_monitor e ∷ []) ms_is ∙ sym (set_push s.monitors node (monitor.Link x) y (new_monitor e) mat)) outs)
+      ] given monitors
 
   pub takes_base : (base : List ℕ) (t : Progress) → IsTold port.Base base → TellsBase s t node base → TakenIn t port.Base base
   takes_base base t told (r, name, at, (new, ms, heard, inl (repeat, same))) =
@@ -281,13 +281,13 @@ module _ (rows : List Credential) (asked : Role) (rest : List Sent) (node m : �
       let known = all_known i who fits.parts x fits fits.node heard.2 (parts_count fits.parts x fits.node heard.2) all in
       let several = (steady.right.graph.parts_in_range node (Meet fits.parts) fits.node).0 in
       let u : Progress = progress t.graph s.monitors t.outs in
-      let done = solves rows asked rest node s u who reason.Parts (refl, solved.1) steady (last_fits i who told x heard.2 all) (record {
+      let done = solves rows asked rest node s u who reason.Parts (solved.0, solved.1, refl, solved.3) steady (last_fits i who told x heard.2 all) (record {
         expr = Meet fits.parts;
         node = fits.node;
         derives = meets rows who fits.parts several (λ k q place. derived who (part_expr q) (known k q place));
         by_row = tt;
       }) in
-      part_after i who x u t done.moves refl fits heard.2 (λ _. done.solution) (progress_is t t.graph (set s.monitors node (monitor.Meet (with_tell x i who))) t.outs refl (solved.0 ∙ ms_is) refl)
+      part_after i who x u t done.moves refl fits heard.2 (λ _. done.solution) (progress_is t t.graph (set s.monitors node (monitor.Meet (with_tell x i who))) t.outs refl (solved.2 ∙ ms_is) refl)
   takes_part i who t told (is_last, ms, heard, inl (later, same)) =
       let x = heard.0 in
       let y_is = heard.3.0 in

@@ -1,18 +1,18 @@
 -- How a node answers a letter: what it finds, and what it sends; and when it may.
 use Rattle.std.specs.Prelude.{ℕ, ◌+◌, ◌<◌, Bool, true, false, List, [], ◌∷◌, ◌++◌, ◌≡◌, ◌⊎◌, Some}
-use Rattle.std.specs.Prelude.{Contains, length, map, slice_get, slice_set}
+use Rattle.std.specs.Prelude.{Contains, if◌then◌else◌, length, map, slice_get, slice_set}
 use Rattle.std.specs.FinSet as set
 use Rattle.names.specs.declared.roles.Role.{Role}
 use Rattle.credential_text.specs.declared.credentials.Credential.{Credential}
 use Rattle.credential_text.specs.declared.intersections.Part.{Part}
 use Rattle.credential_text.specs.declared.exprs.Expr.{Expr}
 use Rattle.credential_text.specs.declared.exprs.Expr.TheVariants.{Ent, Rol, Link, Meet}
-use Rattle.credential_text.specs.Expr.{part_expr, HasPartsInRange}
+use Rattle.credential_text.specs.Expr.{part_expr}
 use Rattle.cred_graph.specs.declared.listeners.Port.{Port}
 use Rattle.cred_graph.specs.declared.listeners.Port.TheVariants as port
 use Rattle.cred_graph.specs.declared.solutions.Reason.{Reason}
 use Rattle.cred_graph.specs.declared.solutions.Reason.TheVariants as reason
-use Rattle.cred_graph.specs.Graph.{Fits, GraphState, IsNode, IsSolution, Listens, listed_with, listeners_of, members_of}
+use Rattle.cred_graph.specs.Graph.{Fits, GraphState, IsNode, ListenerGiven, NodeGiven, SolutionGiven, listeners_of, members_of}
 use Rattle.monitors.specs.LinkMonitor.{LinkTold, HearsBase}
 use Rattle.monitors.specs.MeetMonitor.{MeetTold, HearsPart, AllTold, with_tell}
 use Rattle.scholten_core.specs.declared.parents.Parent.{Parent}
@@ -46,11 +46,8 @@ new_monitor _ = monitor.Plain
 -- an Ask goes to the node of the expression, which is added with its monitor where there is none
 abbrev pub AsksFor : Progress → Progress → Expr → Port (List ℕ) → Type 0
 AsksFor s t e p =
-    (to : ℕ) × (t.outs ≡ s.outs ++ (to, load.Ask p) ∷ [])
-    × ((IsNode s.graph to e × (t.graph ≡ s.graph) × (t.monitors ≡ s.monitors))
-    ⊎ ((Contains s.graph.nodes e → ⊥) × HasPartsInRange e × (to ≡ length s.graph.nodes)
-    × (t.graph ≡ record s.graph { nodes = s.graph.nodes ++ e ∷ []; listeners = s.graph.listeners ++ [] ∷ [] })
-    × (t.monitors ≡ s.monitors ++ new_monitor e ∷ [])))
+    (to : ℕ) × (new : Bool) × NodeGiven s.graph t.graph e to new × (t.outs ≡ s.outs ++ (to, load.Ask p) ∷ [])
+    × (t.monitors ≡ (if new then s.monitors ++ new_monitor e ∷ [] else s.monitors))
 
 -- these expressions are asked in turn
 abbrev pub AsksEach : Progress → List (Expr × Port (List ℕ)) → Progress → Type 0
@@ -64,11 +61,8 @@ new_tells g n who = map (λ l. (l.asker, load.Tell l.port who)) (listeners_of g 
 -- the entity is a solution of the node now; where it is new, every listener is told
 abbrev pub Solves : Progress → Progress → ℕ → List ℕ → Reason ℕ (List ℕ) → Type 0
 Solves s t n who why =
-    (t.monitors ≡ s.monitors)
-    × ((IsSolution s.graph n who × (t.graph ≡ s.graph) × (t.outs ≡ s.outs))
-    ⊎ ((IsSolution s.graph n who → ⊥)
-    × (t.graph ≡ record s.graph { solutions = s.graph.solutions ++ record { node = n; who = who; reason = why } ∷ [] })
-    × (t.outs ≡ s.outs ++ new_tells s.graph n who)))
+    (new : Bool) × SolutionGiven s.graph t.graph (record { node = n; who = who; reason = why }) new × (t.monitors ≡ s.monitors)
+    × (t.outs ≡ (if new then s.outs ++ new_tells s.graph n who else s.outs))
 
 -- a Tell to the asker for each solution that the node has
 abbrev pub known_tells : GraphState → ℕ → ℕ → Port (List ℕ) → List (ℕ × Said)
@@ -77,11 +71,8 @@ known_tells g n m p = map (λ who. (m, load.Tell p who)) (members_of g n)
 -- the node m listens to the node n now; where that is new, it is told each solution that the node has
 abbrev pub HearsAsk : Progress → Progress → ℕ → ℕ → Port (List ℕ) → Type 0
 HearsAsk s t n m p =
-    (t.monitors ≡ s.monitors)
-    × ((Listens s.graph n (record { asker = m; port = p }) × (t.graph ≡ s.graph) × (t.outs ≡ s.outs))
-    ⊎ ((Listens s.graph n (record { asker = m; port = p }) → ⊥)
-    × (t.graph ≡ record s.graph { listeners = listed_with s.graph.listeners n (record { asker = m; port = p }) })
-    × (t.outs ≡ s.outs ++ known_tells s.graph n m p)))
+    (new : Bool) × ListenerGiven s.graph t.graph n (record { asker = m; port = p }) new × (t.monitors ≡ s.monitors)
+    × (t.outs ≡ (if new then s.outs ++ known_tells s.graph n m p else s.outs))
 
 -- the monitor of a linked role hears a member of its base, and the answer says whether that is new
 abbrev pub BaseHeard : List Monitor → List Monitor → ℕ → List ℕ → Bool → Type 0
