@@ -3,16 +3,17 @@ use Rattle.std.proofs.Common.{◌≡◌, ℕ, zero, suc, ◌+◌, ◌-◌, ◌<�
 use Rattle.std.specs.List.{slice_get}
 use Rattle.std.specs.Option.{is_none, unwrap_or}
 use Rattle.std.proofs.lemmas.Option.{same_Some, none-some, slice_get_within}
+use Rattle.std.proofs.lemmas.List.Sums.{sum_by-cons, sum_by-append, sum_by-take-le, count_by-le-length}
 use Rattle.std.specs.Map.{values_of}
 use borrow.Author.Tests.{ltb-true, ltb-false}
 use Rattle.indexmap.specs.IndexMap.{set_value_at}
 use Rattle.scholten_core.specs.declared.letters.Letter.{Letter}
 use Rattle.scholten_core.specs.Computation.{waiting_in}
-use Rattle.scholten_core.specs.LetterTable.{WaitsAt, count, does_wait, one, standing}
+use Rattle.scholten_core.specs.LetterTable.{WaitsAt, count, does_wait, standing}
 
-pub one-le : (b : Bool) → one b ≤ 1
-one-le true = omega arith
-one-le false = omega arith
+-- one for what holds
+abbrev pub one : Bool → ℕ
+one b = cond b 1 0
 
 -- one of two is no more than the other
 pub either_way : (m n : ℕ) {C : Type 0} → (m ≤ n → C) → (n < m → C) → C
@@ -20,48 +21,50 @@ either_way m n {C} less more =
     elim (nat_lt n m) as (λ b. (nat_lt n m) ≡ b → C) [ true ↦ λ e. more (ltb-true n m e) | false ↦ λ e. less (ltb-false n m e) ] refl
 
 module _ {P : Type 0} (test : Option (Letter P) → Bool) where
+  abbrev passed : ℕ × Option (Letter P) → ℕ
+  passed e = one (test e.1)
+
+  pub counted : (e : ℕ × Option (Letter P)) (es : List (ℕ × Option (Letter P))) → count test (e ∷ es) ≡ one (test e.1) + count test es
+  counted e es = sum_by-cons passed e es
+
   pub count-append : (xs ys : List (ℕ × Option (Letter P))) → count test (xs ++ ys) ≡ count test xs + count test ys
-  count-append [] ys = omega arith
-  count-append (x ∷ xs) ys = omega (arith, count-append xs ys)
+  count-append xs ys = sum_by-append passed xs ys
 
   pub count-le-length : (es : List (ℕ × Option (Letter P))) → count test es ≤ length es
-  count-le-length [] = omega arith
-  count-le-length (e ∷ es) = omega (arith, count-le-length es, one-le (test e.1))
+  count-le-length es = count_by-le-length (λ (e : ℕ × Option (Letter P)). test e.1) es
 
   pub count-take : (n : ℕ) (es : List (ℕ × Option (Letter P))) → count test (take n es) ≤ count test es
-  count-take zero es = omega arith
-  count-take (suc n) [] = omega arith
-  count-take (suc n) (e ∷ es) = omega (arith, count-take n es)
+  count-take n es = sum_by-take-le passed es n
 
   pub count-take-le : (m n : ℕ) (es : List (ℕ × Option (Letter P))) → m ≤ n → count test (take m es) ≤ count test (take n es)
   count-take-le zero n es less = omega arith
   count-take-le (suc m) zero es less = absurd (omega arith)
   count-take-le (suc m) (suc n) [] less = omega arith
-  count-take-le (suc m) (suc n) (e ∷ es) less = omega (arith, count-take-le m n es (omega arith))
+  count-take-le (suc m) (suc n) (e ∷ es) less = omega (arith, count-take-le m n es (omega arith), counted e (take m es), counted e (take n es))
 
   pub count-take-suc : (i : ℕ) (es : List (ℕ × Option (Letter P))) (e : ℕ × Option (Letter P)) → slice_get es i ≡ Some e → count test (take (suc i) es) ≡ count test (take i es) + one (test e.1)
   count-take-suc i [] e at = absurd (none-some _ at)
   count-take-suc zero (x ∷ xs) e at =
       let same : one (test x.1) ≡ one (test e.1) = ap (λ (y : ℕ × Option (Letter P)). one (test y.1)) (same_Some _ _ at) in
-      omega (arith, same)
-  count-take-suc (suc i) (x ∷ xs) e at = omega (arith, count-take-suc i xs e at)
+      omega (arith, same, counted x [])
+  count-take-suc (suc i) (x ∷ xs) e at = omega (arith, count-take-suc i xs e at, counted x (take (suc i) xs), counted x (take i xs))
 
   -- what a write changes
   pub count-set : (es : List (ℕ × Option (Letter P))) (i k : ℕ) (old new : Option (Letter P)) → slice_get es i ≡ Some (k, old) → count test (set_value_at es i new) + one (test old) ≡ count test es + one (test new)
   count-set [] i k old new at = absurd (none-some _ at)
   count-set (e ∷ es) zero k old new at =
       let same : one (test e.1) ≡ one (test old) = ap (λ (y : ℕ × Option (Letter P)). one (test y.1)) (same_Some _ _ at) in
-      omega (arith, same)
-  count-set (e ∷ es) (suc i) k old new at = omega (arith, count-set es i k old new at)
+      omega (arith, same, counted (e.0, new) es, counted e es)
+  count-set (e ∷ es) (suc i) k old new at = omega (arith, count-set es i k old new at, counted e (set_value_at es i new), counted e es)
 
   pub count-take-set : (n : ℕ) (es : List (ℕ × Option (Letter P))) (i k : ℕ) (old new : Option (Letter P)) → i < n → slice_get es i ≡ Some (k, old) → count test (take n (set_value_at es i new)) + one (test old) ≡ count test (take n es) + one (test new)
   count-take-set zero es i k old new below at = absurd (omega arith)
   count-take-set (suc n) [] i k old new below at = absurd (none-some _ at)
   count-take-set (suc n) (e ∷ es) zero k old new below at =
       let same : one (test e.1) ≡ one (test old) = ap (λ (y : ℕ × Option (Letter P)). one (test y.1)) (same_Some _ _ at) in
-      omega (arith, same)
+      omega (arith, same, counted (e.0, new) (take n es), counted e (take n es))
   count-take-set (suc n) (e ∷ es) (suc i) k old new below at =
-      omega (arith, count-take-set n es i k old new (omega arith) at)
+      omega (arith, count-take-set n es i k old new (omega arith) at, counted e (take n (set_value_at es i new)), counted e (take n es))
 
   -- a write that changes no test changes no count
   pub count-take-same : (n : ℕ) (es : List (ℕ × Option (Letter P))) (i k : ℕ) (old new : Option (Letter P)) → slice_get es i ≡ Some (k, old) → one (test old) ≡ one (test new) → count test (take n (set_value_at es i new)) ≡ count test (take n es)
@@ -69,15 +72,15 @@ module _ {P : Type 0} (test : Option (Letter P) → Bool) where
   count-take-same (suc n) [] i k old new at same = refl
   count-take-same (suc n) (e ∷ es) zero k old new at same =
       let here : one (test e.1) ≡ one (test old) = ap (λ (y : ℕ × Option (Letter P)). one (test y.1)) (same_Some _ _ at) in
-      omega (arith, here, same)
+      omega (arith, here, same, counted (e.0, new) (take n es), counted e (take n es))
   count-take-same (suc n) (e ∷ es) (suc i) k old new at same =
-      omega (arith, count-take-same n es i k old new at same)
+      omega (arith, count-take-same n es i k old new at same, counted e (take n (set_value_at es i new)), counted e (take n es))
 
   -- an entry that passes no test adds nothing
   pub count-take-pop : (n : ℕ) (es : List (ℕ × Option (Letter P))) (e : ℕ × Option (Letter P)) → one (test e.1) ≡ 0 → count test (take n es) ≡ count test (take n (es ++ e ∷ []))
   count-take-pop zero es e nothing = refl
-  count-take-pop (suc n) [] e nothing = omega (arith, nothing, count-take n [])
-  count-take-pop (suc n) (x ∷ xs) e nothing = omega (arith, count-take-pop n xs e nothing)
+  count-take-pop (suc n) [] e nothing = omega (arith, nothing, count-take n [], counted e (take n []))
+  count-take-pop (suc n) (x ∷ xs) e nothing = omega (arith, count-take-pop n xs e nothing, counted x (take n xs), counted x (take n (xs ++ e ∷ [])))
 
 -- a write leaves the entries before it
 pub take-set_value : {K X : Type 0} (n i : ℕ) (es : List (K × X)) (w : X) → n ≤ i → take n (set_value_at es i w) ≡ take n es
@@ -95,12 +98,12 @@ module _ {P : Type 0} where
   -- so many letters wait
   pub length-waiting : (es : List (ℕ × Option (Letter P))) → length (waiting_in (standing es)) ≡ count does_wait es
   length-waiting [] = refl
-  length-waiting ((k, None) ∷ es) = omega (arith, length-waiting es)
+  length-waiting ((k, None) ∷ es) = omega (arith, length-waiting es, counted does_wait (k, None) es)
   length-waiting ((k, Some l) ∷ es) =
       elim (not l.held) as (λ b. length (cond b ((k, l) ∷ waiting_in (standing es)) (waiting_in (standing es))) ≡ one b + count does_wait es) [
         | true ↦ omega (arith, length-waiting es)
         | false ↦ omega (arith, length-waiting es)
-      ]
+      ] ∙ sym (counted does_wait (k, Some l) es)
 
   -- a letter that waits is no hole
   pub waits_full : (o : Option (Letter P)) → does_wait o ≡ true → one (is_none o) ≡ 0
@@ -115,13 +118,13 @@ module _ {P : Type 0} where
 
   pub waits-full : (es : List (ℕ × Option (Letter P))) → count does_wait (filter (λ e. is_some e.1) es) ≡ count does_wait es
   waits-full [] = refl
-  waits-full ((k, None) ∷ es) = omega (arith, waits-full es)
-  waits-full ((k, Some l) ∷ es) = ap (λ n. one (not l.held) + n) (waits-full es)
+  waits-full ((k, None) ∷ es) = omega (arith, waits-full es, counted does_wait (k, None) es)
+  waits-full ((k, Some l) ∷ es) = omega (arith, waits-full es, counted does_wait (k, Some l) (filter (λ (e : ℕ × Option (Letter P)). is_some e.1) es), counted does_wait (k, Some l) es)
 
   pub holes-full : (es : List (ℕ × Option (Letter P))) → count is_none (filter (λ e. is_some e.1) es) ≡ 0
   holes-full [] = refl
   holes-full ((k, None) ∷ es) = holes-full es
-  holes-full ((k, Some l) ∷ es) = omega (arith, holes-full es)
+  holes-full ((k, Some l) ∷ es) = omega (arith, holes-full es, counted is_none (k, Some l) (filter (λ (e : ℕ × Option (Letter P)). is_some e.1) es))
 
   -- the letter at a place among those that wait
   pub waiting-at : (i : ℕ) (es : List (ℕ × Option (Letter P))) (k : ℕ) (l : Letter P) → slice_get es i ≡ Some (k, Some l) → not l.held ≡ true → slice_get (waiting_in (standing es)) (count does_wait (take i es)) ≡ Some (k, l)
@@ -134,12 +137,13 @@ module _ {P : Type 0} where
       ap (λ b. slice_get (cond b ((m, x) ∷ rest) rest) 0) (ap (λ (y : Letter P). not y.held) x_is ∙ waits)
       ∙ ap Some (λ j. ((same j).0, x_is j))
   waiting-at (suc i) ((m, None) ∷ es) k l at waits =
-      let less : count does_wait (take (suc i) ((m, None) ∷ es)) ≡ count does_wait (take i es) = omega arith in
+      let less : count does_wait (take (suc i) ((m, None) ∷ es)) ≡ count does_wait (take i es) = omega (arith, counted does_wait (m, None) (take i es)) in
       ap (slice_get (waiting_in (standing es))) less ∙ waiting-at i es k l at waits
   waiting-at (suc i) ((m, Some x) ∷ es) k l at waits =
       let rest = waiting_in (standing es) in
       let before = count does_wait (take i es) in
-      elim (not x.held) as (λ b. slice_get (cond b ((m, x) ∷ rest) rest) (one b + before) ≡ Some (k, l)) [
+      ap (slice_get (waiting_in (standing ((m, Some x) ∷ es)))) (counted does_wait (m, Some x) (take i es))
+      ∙ elim (not x.held) as (λ b. slice_get (cond b ((m, x) ∷ rest) rest) (one b + before) ≡ Some (k, l)) [
         | true ↦ (let more : one true + before ≡ suc before = omega arith in
             ap (slice_get ((m, x) ∷ rest)) more ∙ waiting-at i es k l at waits)
         | false ↦ (let same : one false + before ≡ before = omega arith in

@@ -8,8 +8,8 @@ use Rattle.indexmap.specs.IndexMap.{set_value_at}
 use Rattle.indexmap.specs.Layout.{length-set_value_at}
 use Rattle.scholten_core.specs.declared.letters.Letter.{Letter}
 use Rattle.scholten_core.specs.Sound.{IsNumbered}
-use Rattle.scholten_core.specs.LetterTable.{IsTable, count, does_wait, one, standing}
-use Rattle.scholten_core.proofs.Counts.{count-append, count-le-length, count-set, count-take, count-take-le, count-take-pop, count-take-same, count-take-set, count-take-suc, either_way, holes-full, take-set_value, waits-full, waits_full}
+use Rattle.scholten_core.specs.LetterTable.{IsTable, count, does_wait, standing}
+use Rattle.scholten_core.proofs.Counts.{one, count-append, count-le-length, count-set, count-take, count-take-le, count-take-pop, count-take-same, count-take-set, count-take-suc, either_way, holes-full, take-set_value, waits-full, waits_full}
 use Rattle.scholten_core.proofs.Lists.{numbered-append, numbered-filter}
 use Rattle.scholten_core.proofs.Standing.{length-numbered_le, numbered-front, numbered-set_value, standing-append}
 

@@ -1,5 +1,5 @@
 -- What the table of letters is seen as, what its fields keep, and how it hashes numbers
-use Rattle.std.specs.Prelude.{ℕ, ◌*◌, ◌/◌, ◌%◌, ◌^◌, List, length, if◌then◌else◌, nat_eq, bit_xor, ◌≡◌, ◌+◌, ◌≤◌, Bool, true, false}
+use Rattle.std.specs.Prelude.{ℕ, ◌*◌, ◌/◌, ◌%◌, ◌^◌, List, length, if◌then◌else◌, nat_eq, bit_xor, ◌≡◌, ◌≤◌, Bool, false, count_by}
 use Rattle.std.specs.Prelude.{not, [], ◌∷◌, Option, None, Some, take, is_none, slice_get, IsSomeAnd, IsTrue}
 use Rattle.std.specs.Int.{w64, from_le_bytes}
 use Rattle.std.specs.Map.{keys_of, lookup}
@@ -44,16 +44,9 @@ module _ {P : Type 0} where
   IsPlaceOf es number None = lookup (nat_eq number) es ≡ None
   IsPlaceOf es number (Some at) = slice_get (keys_of es) at ≡ Some number
 
--- one for what holds
-abbrev pub one : Bool → ℕ
-one true = 1
-one false = 0
-
-module _ {P : Type 0} where
   -- how many entries pass a test
   abbrev pub count : (Option (Letter P) → Bool) → List (ℕ × Option (Letter P)) → ℕ
-  count test [] = 0
-  count test (e ∷ es) = one (test e.1) + count test es
+  count test es = count_by (λ e. test e.1) es
 
   -- a waiting letter stands at an index, and so many wait before it
   pub record WaitsAt (es : List (ℕ × Option (Letter P))) (place at : ℕ) : Type 0 where
