@@ -13,7 +13,7 @@ use Rattle.search.specs.declared.outcomes.Finished.{Finished}
 use Rattle.search.specs.declared.outcomes.Finished.TheVariants as finished
 use Rattle.search.specs.declared.stages.Stage.{Stage}
 use Rattle.search.specs.declared.stages.Stage.TheVariants as stage
-use Rattle.search.specs.Finish.{need_of, right_hint, Needs, Takes, TakesHeld, Received, Receives, Finishes}
+use Rattle.search.specs.Finish.{need_of, right_hint, Needs, Takes, TakesHeld, IsRightly, Received, Receives, Finishes}
 use Rattle.search.specs.Stage.{waiting_in, signals_in, held_in, letter_in, Delivers, IsQuiet, NoneHeld, HoldsAsBefore}
 use Rattle.search.specs.Search.{SearchState, SameQuestion, Settles, settled_of}
 use Rattle.search.specs.Finish.{SignalsFirst, FinishesFirst, IsDriven}
@@ -21,6 +21,7 @@ use Rattle.search.proofs.Grow.{one_expr}
 use Rattle.search.proofs.Ended.{settles_on}
 use Rattle.search.proofs.Finishing.{finishes_rightly, rightly_needed}
 use Rattle.search.proofs.InHand.{finished_gone, finished_other, marked_other, signalled_holds}
+use Rattle.search.proofs.Taking.{hand_needs}
 use Rattle.search.proofs.StepsLeft.{steps_left, marked_left, held_left, finished_left, signalled_left}
 
 -- the letter that was taken was received, or the search has ended with it
@@ -32,7 +33,7 @@ module _ (s held t : SearchState) (number : ℕ) (need : Need) (takes : Takes s 
   -- the letter that was taken needs what it was taken for
   same_need : (l : Letter (Load (List ℕ))) (other : Need) → held_in held.stage number ≡ Some l → Needs held l other → other ≡ need
   same_need l other is (f, there, so) =
-      let both : Some l ≡ Some (record takes.letter { held = true }) = sym is ∙ takes.held in
+      let both : Some l ≡ Some (record takes.letter { held = true }) = sym is ∙ takes.holds.held in
       let same : l ≡ record takes.letter { held = true } = cc in
       let e : Expr = takes.needs.0 in
       let at : IsNode s.graph l.to e = subst (λ (x : Letter (Load (List ℕ))). IsNode s.graph x.to e) (sym same) takes.needs.1 in
@@ -46,7 +47,7 @@ module _ (s held t : SearchState) (number : ℕ) (need : Need) (takes : Takes s 
       ends l rightly.held (λ c runs. let clash : stage.Spent ≡ stage.Running c = sym is ∙ runs in cc) (ap (steps_left t.work) is) same
   receipt_of finished.Broken (l, rightly, (is, same)) =
       ends l rightly.held (λ c runs. let clash : stage.Broken ≡ stage.Running c = sym is ∙ runs in cc) (ap (steps_left t.work) is) same
-  receipt_of finished.NotHeld (none, same) = let clash = sym none ∙ takes.held in cc
+  receipt_of finished.NotHeld (none, same) = let clash = sym none ∙ takes.holds.held in cc
   receipt_of finished.BadHint (l, other, is, needs, wrong, after) =
       absurd (wrong (ap (λ (x : SearchState). right_hint x.snapshot.vaults need) (sym takes.after) ∙ ap (right_hint held.snapshot.vaults) (sym (same_need l other is needs))))
 
@@ -58,7 +59,7 @@ module _ (s held t : SearchState) (number : ℕ) (need : Need) (takes : Takes s 
   }
 
   taken_left : steps_left held.work held.stage ≡ steps_left s.work s.stage
-  taken_left = ap (λ (x : SearchState). steps_left x.work x.stage) takes.after ∙ marked_left s.work number true s.stage
+  taken_left = ap (λ (x : SearchState). steps_left x.work x.stage) takes.after ∙ ap (steps_left s.work) takes.holds.marked ∙ marked_left s.work number true s.stage
 
   receipt_left : IsReceipt held t number → steps_left t.work t.stage < steps_left s.work s.stage
   receipt_left (goes_on l is received same) =
@@ -73,9 +74,9 @@ module _ (s held t : SearchState) (number : ℕ) (need : Need) (takes : Takes s 
   receipt_holds (goes_on l is received same) c now n =
       elim (cases_Bool (number == n)) [
         | inl one ↦ subst (λ m. held_in t.stage m ≡ held_in s.stage m) (exact_unsigned_eq number n one)
-            (ap (λ (x : Stage). held_in x number) received.runs ∙ finished_gone received.before received.after number received.outs received.finishes ∙ sym takes.free)
+            (ap (λ (x : Stage). held_in x number) received.runs ∙ finished_gone received.before received.after number received.outs received.finishes ∙ sym takes.holds.free)
         | inr other ↦ ap (λ (x : Stage). held_in x n) received.runs ∙ finished_other received.before received.after number received.outs received.finishes n other
-            ∙ ap (λ (x : Stage). held_in x n) (sym received.ran) ∙ ap (λ (x : SearchState). held_in x.stage n) takes.after ∙ marked_other number n true s.stage other
+            ∙ ap (λ (x : Stage). held_in x n) (sym received.ran) ∙ ap (λ (x : Stage). held_in x n) takes.holds.marked ∙ marked_other number n true s.stage other
       ]
   receipt_holds (ends l is stops none same) c now n = absurd (stops c now)
 
@@ -102,7 +103,7 @@ Made s t = SignalsFirst s t ⊎ ((number : ℕ) × (need : Need) × (told : Fini
 -- a search that makes a step runs
 made_runs : (s t : SearchState) → Made s t → (c : Computation (Load (List ℕ))) × (s.stage ≡ stage.Running c)
 made_runs s t (inl made) = (made.delivered.0, made.delivered.2)
-made_runs s t (inr (number, need, told, made)) = waiting_runs s.stage (number, made.takes.letter) made.takes.waited
+made_runs s t (inr (number, need, told, made)) = waiting_runs s.stage (number, made.takes.letter) made.takes.holds.waited
 
 made_question : (s t : SearchState) → Made s t → SameQuestion s t
 made_question s t (inl made) = made.question
@@ -188,10 +189,12 @@ first_goes old new false some delivers = absurd (omega (arith, some, delivers.0)
 pub finishes_first : (s held t : SearchState) (number : ℕ) (h : Held (Load (List ℕ))) (told : Finished) → length (signals_in s.stage) ≤ 0 →
     TakesHeld s held 0 number h → Settles s held → Receives held t number (letter_in h) told → Settles held t → Made s t
 finishes_first s held t number h told few takes takes_settles receives finish_settles =
-    let need : Need = need_of takes.expr h.load in
-    let after = takes.takes.after in
-    let node = subst (λ (x : SearchState). IsNode x.graph h.to takes.expr) (sym after) takes.node in
-    let finishes = finishes_rightly held t number (right_hint held.snapshot.vaults need) (letter_in h) (rightly_needed held number h takes.expr node takes.holds) told receives in
+    let need : Need = takes.0 in
+    let after = takes.1.after in
+    let (e, at, is_need) = hand_needs s held 0 number h takes in
+    let node = subst (λ (x : SearchState). IsNode x.graph h.to e) (sym after) at in
+    let right = subst (λ (n : Need). IsRightly held number (right_hint held.snapshot.vaults n) (letter_in h)) (sym is_need) (rightly_needed held number h e node takes.2) in
+    let finishes = finishes_rightly held t number (right_hint held.snapshot.vaults need) (letter_in h) right told receives in
     inr (
       number,
       need,
@@ -199,7 +202,7 @@ finishes_first s held t number h told few takes takes_settles receives finish_se
       record {
         held = held;
         no_signal = no_element (signals_in s.stage) few;
-        takes = takes.takes;
+        takes = takes.1;
         takes_settles = takes_settles;
         finishes = subst (λ (x : SearchState). Finishes held t number (right_hint x.snapshot.vaults need) told) after finishes;
         finish_settles = finish_settles;

@@ -12,7 +12,7 @@ use Rattle.scholten_core.proofs.Lists.{lookup_from_filter, filter_passes}
 use Rattle.search.specs.declared.letters.Load.{Load}
 use Rattle.search.specs.declared.stages.Stage.{Stage}
 use Rattle.search.specs.declared.stages.Stage.TheVariants as stage
-use Rattle.search.specs.Stage.{waiting_in, held_in, if_held, letter_in, stage_marked, Holds, IsQuiet, NoneHeld}
+use Rattle.search.specs.Stage.{waiting_in, held_in, if_held, stage_marked, Holds, HoldsLetter, IsQuiet, NoneHeld}
 use Rattle.search.specs.Search.{IsOutstanding}
 use Rattle.search.proofs.Holding.{holds_letter}
 use Rattle.search.proofs.ByNumber.{lookup-rest, lookup-rest_other, lookup-changed_other, numbered_before}
@@ -24,21 +24,21 @@ not_held l waits =
 
 -- a waiting letter is taken: it stands in the hands of who took it
 pub holds_taken : (old : Stage) (c d : Computation (Load (List ℕ))) (place number : ℕ) (l : Letter (Load (List ℕ))) → old ≡ stage.Running c → TakesLetter c place number d → Some l ≡ letter_of d number → StandByNumber d →
-    Holds old (stage.Running d) place number (record { from = l.from; to = l.to; load = l.load })
+    (x : Letter (Load (List ℕ))) × Holds old (stage.Running d) place number x × HoldsLetter (stage.Running d) number (record { from = l.from; to = l.to; load = l.load })
 holds_taken old c d place number l ran takes is by =
     let same : Some (record takes.letter { held = true }) ≡ Some l = sym takes.taken ∙ sym is in
     let l_is : record takes.letter { held = true } ≡ l = cc in
     let low = numbered_before number (λ (x : Letter (Load (List ℕ))). record x { held = true }) 0 c.letters d.sent (subst (λ (x : Computation (Load (List ℕ))). IsNumbered 0 x.letters d.sent) takes.marked takes.sound.numbers) in
-    let before : letter_of c number ≡ Some takes.letter = lookup_from_filter (λ (x : ℕ × Letter (Load (List ℕ))). not x.1.held) 0 c.letters d.sent place number takes.letter low takes.waited in
-    record {
-      letter = takes.letter;
-      waited = subst (λ (s : Stage). slice_get (waiting_in s) place ≡ Some (number, takes.letter)) (sym ran) takes.waited;
-      taken = ap (λ (x : Letter (Load (List ℕ))). letter_in (record { from = x.from; to = x.to; load = x.load })) l_is;
-      marked = ap stage.Running takes.marked ∙ ap (stage_marked number true) (sym ran);
-      free = ap (λ (s : Stage). held_in s number) ran ∙ ap if_held before ∙ not_held takes.letter (filter_passes (λ (x : ℕ × Letter (Load (List ℕ))). not x.1.held) c.letters place (number, takes.letter) takes.waited);
-      held = ap if_held takes.taken;
-      holds = holds_letter (stage.Running d) d number l refl is (sym (ap (λ (x : Letter (Load (List ℕ))). x.held) l_is)) by takes.sound.numbers;
-    }
+    let before : letter_of c number ≡ Some takes.letter = lookup_from_filter (λ (x : ℕ × Letter (Load (List ℕ))). not x.1.held) 0 c.letters d.sent place number takes.letter low takes.waited in (
+      takes.letter,
+      record {
+        waited = subst (λ (s : Stage). slice_get (waiting_in s) place ≡ Some (number, takes.letter)) (sym ran) takes.waited;
+        marked = ap stage.Running takes.marked ∙ ap (stage_marked number true) (sym ran);
+        free = ap (λ (s : Stage). held_in s number) ran ∙ ap if_held before ∙ not_held takes.letter (filter_passes (λ (x : ℕ × Letter (Load (List ℕ))). not x.1.held) c.letters place (number, takes.letter) takes.waited);
+        held = ap if_held takes.taken;
+      },
+      holds_letter (stage.Running d) d number l refl is (sym (ap (λ (x : Letter (Load (List ℕ))). x.held) l_is)) by takes.sound.numbers,
+    )
 
 -- letters that are sent wait
 numbered_wait : (n k : ℕ) (from : Parent) (outs : List (ℕ × Load (List ℕ))) → if_held (lookup (λ m. m == n) (numbered from k outs)) ≡ None

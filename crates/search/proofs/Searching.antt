@@ -254,9 +254,8 @@ waiting_to s (stage.Running c) place number l kept runs at =
 waiting_to s stage.Spent place number l kept runs at = cc
 waiting_to s stage.Broken place number l kept runs at = cc
 
-pub taken_to : (s : SearchState) (st : Stage) (place number : ℕ) (h : Held (Load (List ℕ))) → KeepsRules s → Holds s.stage st place number h → h.to < length s.graph.nodes
-taken_to s st place number h kept holds =
-    subst (λ (n : ℕ). n < length s.graph.nodes) (ap (λ (l : Letter (Load (List ℕ))). l.to) holds.taken) (waiting_to s s.stage place number holds.letter kept refl holds.waited)
+pub taken_to : (s : SearchState) (st : Stage) (place number : ℕ) (l : Letter (Load (List ℕ))) → KeepsRules s → Holds s.stage st place number l → l.to < length s.graph.nodes
+taken_to s st place number l kept holds = waiting_to s s.stage place number l kept refl holds.waited
 
 -- a completed search has a node for its role, whose solutions are its members
 pub completed_root : (s : SearchState) (st : Stage) → s.stage ≡ st → KeepsRules s → IsCompleted st → 0 < length s.graph.nodes

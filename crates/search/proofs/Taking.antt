@@ -12,27 +12,30 @@ use Rattle.search.specs.declared.stages.Stage.{Stage}
 use Rattle.search.specs.declared.queries.Need.{Need}
 use Rattle.search.specs.Numbered.{held_at, load_at}
 use Rattle.search.specs.Finish.{need_of, Takes, TakesHeld}
-use Rattle.search.specs.Stage.{waiting_in, Holds}
+use Rattle.search.specs.Stage.{waiting_in, letter_in, Holds, HoldsLetter}
 use Rattle.search.specs.Search.{SearchState, IsKept, Settles, settled_of}
 use Rattle.search.proofs.Searching.{taken_to, marked_stage_kept}
 use Rattle.search.proofs.Answered.{waits_outstanding}
 use Rattle.search.proofs.Ended.{same_question, settles}
+use Rattle.search.proofs.Finishing.{held_letter_is}
 
--- what is needed of the letter in hand is needed of the letter that is taken
-pub takes : (s : SearchState) (st : Stage) (place number : ℕ) (h : Held (Load (List ℕ))) (e : Expr) →
-    Holds s.stage st place number h → IsNode s.graph h.to e →
-    Takes s (record s { stage = st }) place number (need_of e h.load)
-takes s st place number h e holds at =
-    let same_to : holds.letter.to ≡ h.to = ap (λ (l : Letter (Load (List ℕ))). l.to) holds.taken in
-    let same_load : holds.letter.load ≡ h.load = ap (λ (l : Letter (Load (List ℕ))). l.load) holds.taken in
-    record {
-      letter = holds.letter;
-      waited = holds.waited;
-      needs = (e, subst (λ (n : ℕ). IsNode s.graph n e) (sym same_to) at, ap (need_of e) (sym same_load));
-      after = ap (λ (x : Stage). record s { stage = x }) holds.marked;
-      free = holds.free;
-      held = holds.held;
-    }
+-- the waiting letter at a place is taken, and is in hand
+abbrev pub HoldsInHand : Stage → Stage → ℕ → ℕ → Held (Load (List ℕ)) → Type 0
+HoldsInHand old new place number h = (l : Letter (Load (List ℕ))) × Holds old new place number l × HoldsLetter new number h
+
+-- the letter in hand is the one that was taken
+same_letter : (old new : Stage) (place number : ℕ) (l : Letter (Load (List ℕ))) (h : Held (Load (List ℕ))) → Holds old new place number l → HoldsLetter new number h → record l { held = true } ≡ letter_in h
+same_letter old new place number l h holds in_hand =
+    same_Some (record l { held = true }) (letter_in h) (sym holds.held ∙ held_letter_is new number h in_hand)
+
+-- so it needs what its receiver's expression says
+pub hand_needs : (s t : SearchState) (place number : ℕ) (h : Held (Load (List ℕ))) (took : TakesHeld s t place number h) → (e : Expr) × IsNode s.graph h.to e × (took.0 ≡ need_of e h.load)
+hand_needs s t place number h (need, takes, in_hand) =
+    let same = same_letter s.stage t.stage place number takes.letter h takes.holds in_hand in (
+      takes.needs.0,
+      subst (λ (n : ℕ). IsNode s.graph n takes.needs.0) (ap (λ (l : Letter (Load (List ℕ))). l.to) same) takes.needs.1,
+      takes.needs.2 ∙ ap (need_of takes.needs.0) (ap (λ (l : Letter (Load (List ℕ))). l.load) same),
+    )
 
 -- there is no letter at the place, or it is taken
 abbrev pub MayTake : SearchState → SearchState → ℕ → Option (ℕ × Held (Load (List ℕ))) → Type 0
@@ -45,20 +48,15 @@ pub record TakenOrNot (s : SearchState) (st : Stage) (place : ℕ) (r : Option (
   pub settles : Settles s (record s { stage = st })
 
 module _ (s : SearchState) (st : Stage) (place : ℕ) (kept : IsKept s) where
-  some_taken : (number : ℕ) (h : Held (Load (List ℕ))) → Holds s.stage st place number h → TakenOrNot s st place (Some (number, h))
-  some_taken number h holds =
-      let e : Expr = get_or s.graph.nodes h.to (Ent []) in
-      let at : IsNode s.graph h.to e = slice_get-get_or s.graph.nodes h.to (Ent []) (taken_to s st place number h kept.rules holds) in
+  some_taken : (number : ℕ) (h : Held (Load (List ℕ))) → HoldsInHand s.stage st place number h → TakenOrNot s st place (Some (number, h))
+  some_taken number h (l, holds, in_hand) =
+      let e : Expr = get_or s.graph.nodes l.to (Ent []) in
+      let at : IsNode s.graph l.to e = slice_get-get_or s.graph.nodes l.to (Ent []) (taken_to s st place number l kept.rules holds) in
       let after = marked_stage_kept s st number true kept holds.marked in
       record {
-        taken = record {
-          expr = e;
-          node = at;
-          takes = takes s st place number h e holds at;
-          holds = holds.holds;
-        };
+        taken = (need_of e l.load, record { letter = l; holds = holds; needs = (e, at, refl); after = refl }, in_hand);
         kept = after;
-        settles = settles refl (same_question s s.graph s.monitors st) after (waits_outstanding s.stage place (number, holds.letter) holds.waited);
+        settles = settles refl (same_question s s.graph s.monitors st) after (waits_outstanding s.stage place (number, l) holds.waited);
       }
 
   none_taken : slice_get (waiting_in s.stage) place ≡ None → st ≡ s.stage → TakenOrNot s st place None
@@ -70,7 +68,7 @@ module _ (s : SearchState) (st : Stage) (place : ℕ) (kept : IsKept s) where
         settles = inl (ap settled_of is);
       }
 
-pub taken_or_not : (s : SearchState) (st : Stage) (place : ℕ) (r : Option (ℕ × Held (Load (List ℕ)))) → IsKept s → MatchOption r ((slice_get (waiting_in s.stage) place ≡ None) × (st ≡ s.stage)) (λ x. Holds s.stage st place x.0 x.1) → TakenOrNot s st place r
+pub taken_or_not : (s : SearchState) (st : Stage) (place : ℕ) (r : Option (ℕ × Held (Load (List ℕ)))) → IsKept s → MatchOption r ((slice_get (waiting_in s.stage) place ≡ None) × (st ≡ s.stage)) (λ x. HoldsInHand s.stage st place x.0 x.1) → TakenOrNot s st place r
 taken_or_not s st place None kept (none, same) = none_taken s st place kept none same
 taken_or_not s st place (Some (number, h)) kept holds = some_taken s st place kept number h holds
 
@@ -78,13 +76,15 @@ taken_or_not s st place (Some (number, h)) kept holds = some_taken s st place ke
 pub takes_needing : (s t : SearchState) (place number : ℕ) (k : Held (Load ℕ)) (need : Need) → TakesHeld s t place number (held_at s.graph.nodes k) →
     (e : Expr) × IsNode t.graph k.to e × (need ≡ need_of e (load_at t.graph.nodes k.load)) → Takes s t place number need
 takes_needing s t place number k need took (e, at, needs) =
-    let same : t.graph ≡ s.graph = ap (λ (x : SearchState). x.graph) took.takes.after in
+    let (f, node, is_need) = hand_needs s t place number (held_at s.graph.nodes k) took in
+    let same : t.graph ≡ s.graph = ap (λ (x : SearchState). x.graph) took.1.after in
     let at' : IsNode s.graph k.to e = subst (λ (g : GraphState). IsNode g k.to e) same at in
-    let one : e ≡ took.expr = same_Some e took.expr (sym at' ∙ took.node) in
-    let is : need ≡ need_of took.expr (load_at s.graph.nodes k.load) = needs ∙ ap (λ (g : GraphState). need_of e (load_at g.nodes k.load)) same ∙ ap (λ (x : Expr). need_of x (load_at s.graph.nodes k.load)) one in
-    subst (λ (n : Need). Takes s t place number n) (sym is) took.takes
+    let one : e ≡ f = same_Some e f (sym at' ∙ node) in
+    let is : need ≡ took.0 = needs ∙ ap (λ (g : GraphState). need_of e (load_at g.nodes k.load)) same ∙ ap (λ (x : Expr). need_of x (load_at s.graph.nodes k.load)) one ∙ sym is_need in
+    subst (λ (n : Need). Takes s t place number n) (sym is) took.1
 
 -- its receiver is a node still
 pub taken_there : (s t : SearchState) (place number : ℕ) (k : Held (Load ℕ)) → TakesHeld s t place number (held_at s.graph.nodes k) → k.to < length t.graph.nodes
 taken_there s t place number k took =
-    subst (λ (x : SearchState). k.to < length x.graph.nodes) (sym took.takes.after) (slice_get_within s.graph.nodes k.to took.expr took.node)
+    let (e, node, is_need) = hand_needs s t place number (held_at s.graph.nodes k) took in
+    subst (λ (x : SearchState). k.to < length x.graph.nodes) (sym took.1.after) (slice_get_within s.graph.nodes k.to e node)

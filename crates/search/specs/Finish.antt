@@ -1,5 +1,5 @@
 -- What a letter needs, what the calls of a search do to it, and how it is carried on by itself
-use Rattle.std.specs.Prelude.{List, ◌≡◌, Option, Some, None, ℕ, ◌+◌, ◌<◌, ◌≤◌, true, false, [], length, slice_get}
+use Rattle.std.specs.Prelude.{List, ◌≡◌, Option, Some, None, ℕ, ◌+◌, ◌<◌, ◌≤◌, true, false, [], length}
 use Rattle.names.specs.declared.roles.Role.{Role}
 use Rattle.credential_text.specs.declared.exprs.Expr.{Expr}
 use Rattle.credential_text.specs.declared.exprs.Expr.TheVariants.{Rol}
@@ -21,7 +21,7 @@ use Rattle.search.specs.declared.outcomes.Finished.{Finished}
 use Rattle.search.specs.declared.outcomes.Finished.TheVariants as finished
 use Rattle.search.specs.declared.stages.Stage.TheVariants as stage
 use Rattle.search.specs.Answers.{Progress, progress, Answers}
-use Rattle.search.specs.Stage.{HoldsLetter, waiting_in, held_in, stage_marked, signals_in, Delivers}
+use Rattle.search.specs.Stage.{HoldsLetter, Holds, held_in, stage_marked, signals_in, Delivers}
 use Rattle.search.specs.Search.{SearchState, SameQuestion, Settles}
 
 abbrev pub rows_for : Expr → Need
@@ -62,18 +62,13 @@ Needs s l need = (e : Expr) × IsNode s.graph l.to e × (need ≡ need_of e l.lo
 -- the waiting letter at a place has this number, is the held letter of it from now on, and needs this; nothing else changes
 pub record Takes (s t : SearchState) (place number : ℕ) (need : Need) : Type 0 where
   pub letter : Letter Said
-  pub waited : slice_get (waiting_in s.stage) place ≡ Some (number, letter)
+  pub holds : Holds s.stage t.stage place number letter
   pub needs : Needs s letter need
-  pub after : t ≡ record s { stage = stage_marked number true s.stage }
-  pub free : held_in s.stage number ≡ None
-  pub held : held_in t.stage number ≡ Some (record letter { held = true })
+  pub after : t ≡ record s { stage = t.stage }
 
--- the same of a letter in hand: its receiver is a node, whose expression says what it needs
-pub record TakesHeld (s t : SearchState) (place number : ℕ) (h : Held Said) : Type 0 where
-  pub expr : Expr
-  pub node : IsNode s.graph h.to expr
-  pub takes : Takes s t place number (need_of expr h.load)
-  pub holds : HoldsLetter t.stage number h
+-- the same, with the letter in hand
+abbrev pub TakesHeld : SearchState → SearchState → ℕ → ℕ → Held Said → Type 0
+TakesHeld s t place number h = (need : Need) × Takes s t place number need × HoldsLetter t.stage number h
 
 -- a letter was received: it is gone, and its receiver's answers wait
 pub record Received (s t : SearchState) (number : ℕ) (l : Letter Said) : Type 0 where

@@ -50,14 +50,11 @@ stage_marked number held (stage.Running c) = stage.Running (marked c number held
 stage_marked number held st = st
 
 -- the waiting letter at a place, which nobody held, is held from now on
-pub record Holds (old new : Stage) (place number : ℕ) (h : Held Said) : Type 0 where
-  pub letter : Letter Said
+pub record Holds (old new : Stage) (place number : ℕ) (letter : Letter Said) : Type 0 where
   pub waited : slice_get (waiting_in old) place ≡ Some (number, letter)
-  pub taken : record letter { held = true } ≡ letter_in h
   pub marked : new ≡ stage_marked number true old
   pub free : held_in old number ≡ None
   pub held : held_in new number ≡ Some (record letter { held = true })
-  pub holds : HoldsLetter new number h
 
 -- the held letter of a number is finished, and its receiver sends these, where the work limit allows it
 abbrev pub Sends : Stage → Stage → ℕ → ℕ → List (ℕ × Said) → Finished → Type 0

@@ -1,5 +1,6 @@
 //! Where a search stands, and the steps of its computation.
 ghost use Rattle.std.specs.Prelude.{◌≡◌, ◌≤◌, ◌↔◌, false, List, None, slice_get, IsTrue, IfSome, MatchOption};
+ghost use Rattle.scholten_core.specs.declared.letters.Letter.{Letter};
 ghost use Rattle.scholten_core.specs.Computation.{Computation, IsHeld};
 ghost use Rattle.search.specs.Net.{Said};
 ghost use Rattle.search.specs.Stage.{waiting_in, signals_in, held_in, HoldsLetter, Holds, stage_marked, Sends, Delivers};
@@ -59,7 +60,8 @@ pub(crate) fn held_letter(stage: &NumberedStage, number: u64) -> Option<Held<Loa
 pub(crate) fn hold(stage: &mut NumberedStage, place: u64) -> Option<(u64, Held<Load<u32>>)>
     ensures held { (nodes : List Expr) → MatchOption result
         ((slice_get (waiting_in (stage_at nodes stage.old)) place ≡ None) × (stage_at nodes stage.new ≡ stage_at nodes stage.old))
-        (λ r. Holds (stage_at nodes stage.old) (stage_at nodes stage.new) place r.0 (held_at nodes r.1)) }
+        (λ r. (l : Letter Said) × Holds (stage_at nodes stage.old) (stage_at nodes stage.new) place r.0 l
+        × HoldsLetter (stage_at nodes stage.new) r.0 (held_at nodes r.1)) }
     ensures load { (nodes : List Expr) → IsStage nodes stage.old → IfSome result (λ r. IsLoad nodes r.1.load) }
     ensures loads { (nodes : List Expr) → IsStage nodes stage.old → IsStage nodes stage.new }
 {

@@ -16,11 +16,11 @@ pub returns-clause-made : goal.returns-clause-made
 returns-clause-made c =
     λ _. finishes_first c.args.self.now c.take_held.new.self c.receive_held-finished.new.self c.in-Some.letter (held_at c.args.self.now.graph.nodes c.in-Some.held) c.receive_held-finished.result
     (omega (arith, c.if-signals-gt0.false, c.signals.ensures))
-    c.in-Some.ensures.taken c.in-Some.ensures.settles (subst (λ (g : GraphState). Receives c.take_held.new.self c.receive_held-finished.new.self c.in-Some.letter (letter_in (held_at g.nodes c.in-Some.held)) c.receive_held-finished.result) (ap (λ (x : SearchState). x.graph) c.in-Some.ensures.taken.takes.after) c.receive_held-finished.ensures.receives) c.receive_held-finished.ensures.settles
+    c.in-Some.ensures.taken c.in-Some.ensures.settles (subst (λ (g : GraphState). Receives c.take_held.new.self c.receive_held-finished.new.self c.in-Some.letter (letter_in (held_at g.nodes c.in-Some.held)) c.receive_held-finished.result) (ap (λ (x : SearchState). x.graph) c.in-Some.ensures.taken.1.after) c.receive_held-finished.ensures.receives) c.receive_held-finished.ensures.settles
 
 pub receive_held-finished-requires-clause-held : goal.receive_held-finished-requires-clause-held
 receive_held-finished-requires-clause-held c =
-    subst (λ (g : GraphState). HoldsLetter c.take_held.new.self.stage c.in-Some.letter (held_at g.nodes c.in-Some.held)) (sym (ap (λ (x : SearchState). x.graph) c.in-Some.ensures.taken.takes.after)) c.in-Some.ensures.taken.holds
+    subst (λ (g : GraphState). HoldsLetter c.take_held.new.self.stage c.in-Some.letter (held_at g.nodes c.in-Some.held)) (sym (ap (λ (x : SearchState). x.graph) c.in-Some.ensures.taken.1.after)) c.in-Some.ensures.taken.2
 
 pub returns-then-signals-gt0-clause-made : goal.returns-then-signals-gt0-clause-made
 returns-then-signals-gt0-clause-made c =

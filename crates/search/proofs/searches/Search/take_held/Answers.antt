@@ -4,13 +4,13 @@ use Rattle.std.specs.Option.{IfSome, MatchOption}
 use Rattle.credential_text.specs.declared.exprs.Expr.{Expr}
 use Rattle.search.specs.declared.letters.Load.{Load}
 use Rattle.search.specs.declared.letters.Held.{Held}
-use Rattle.search.specs.Stage.{Holds, waiting_in}
+use Rattle.search.specs.Stage.{waiting_in}
 use Rattle.search.specs.Finish.{TakesHeld}
 use Rattle.search.specs.Numbered.{IsLoad, held_at, stage_at}
 use Rattle.search.specs.Search.{SearchState, Settles}
 use Rattle.search.specs.contracts.searches.Search.{the_view}
 use Rattle.search.proofs.Numbered.{taken_as, taken_holds}
-use Rattle.search.proofs.Taking.{TakenOrNot, MayTake, taken_or_not}
+use Rattle.search.proofs.Taking.{HoldsInHand, TakenOrNot, MayTake, taken_or_not}
 use Rattle.search.proofs.searches.Search.take_held.Goals as goal
 use Rattle.search.proofs.searches.Search.take_held.Goals.{After-hold}
 
@@ -26,7 +26,7 @@ done c =
     let s = the_view c.self.inside in
     let st = stage_at nodes c.hold.new.stage in
     taken_or_not s st c.args.place (taken_as nodes c.hold.result) c.self.invariant.0
-    (taken_holds nodes ((slice_get (waiting_in s.stage) c.args.place ≡ None) × (st ≡ s.stage)) (λ (number : ℕ) (h : Held (Load (List ℕ))). Holds s.stage st c.args.place number h) c.hold.result (c.hold.ensures.held nodes))
+    (taken_holds nodes ((slice_get (waiting_in s.stage) c.args.place ≡ None) × (st ≡ s.stage)) (λ (number : ℕ) (h : Held (Load (List ℕ))). HoldsInHand s.stage st c.args.place number h) c.hold.result (c.hold.ensures.held nodes))
 
 pub invariant_of-self : goal.invariant_of-self
 invariant_of-self c =
