@@ -1,5 +1,6 @@
 -- A graph stays a graph where a node, a listener or a solution is added.
 use Rattle.std.proofs.Common.{ℕ, zero, suc, ◌<◌, ◌≤◌, ◌+◌, ◌≡◌, ◌∙◌, ◌⊎◌, refl, sym, ap, subst, inl, inr, List, [], ◌∷◌, ◌++◌, Some, Contains, length, slice_get, arith}
+use Rattle.std.specs.Prelude.{slice_set}
 use Rattle.std.proofs.lemmas.Bool.{cases_eq}
 use Rattle.std.proofs.lemmas.List.{take-append-le, length_push, length-set, get_or-set_same, get_or-set_other}
 use Rattle.std.proofs.lemmas.List.Elements.{All-weaker, Contains-push_cases}
@@ -12,7 +13,7 @@ use Rattle.cred_graph.specs.declared.listeners.Listening.{Listening}
 use Rattle.cred_graph.specs.declared.solutions.Solution.{Solution}
 use Rattle.cred_graph.specs.declared.solutions.Reason.{Reason}
 use Rattle.cred_graph.specs.declared.solutions.Reason.TheVariants as reason
-use Rattle.cred_graph.specs.Graph.{GraphState, IsNode, Listens, IsSolution, Known, listed_with, before, Fits, IsGraph}
+use Rattle.cred_graph.specs.Graph.{GraphState, IsNode, Listens, IsSolution, Known, before, Fits, IsGraph}
 use Rattle.cred_graph.specs.NodeLists.{list_at}
 use Rattle.cred_graph.proofs.Lists.{Contains-at_place, slice_get_stays, slice_get_push_cases}
 
@@ -39,6 +40,10 @@ grown_fits g h grows n who reason.Parts (parts, node, all) =
 
 abbrev pub with_node : GraphState → Expr → GraphState
 with_node g e = record g { nodes = g.nodes ++ e ∷ []; listeners = g.listeners ++ [] ∷ [] }
+
+-- the lists, with one more listener at the end of that of this number
+abbrev pub listed_with : List (List Listening) → ℕ → Listening → List (List Listening)
+listed_with lists n l = slice_set lists n (list_at lists n ++ l ∷ [])
 
 abbrev pub with_listener : GraphState → ℕ → Listening → GraphState
 with_listener g n l = record g { listeners = listed_with g.listeners n l }

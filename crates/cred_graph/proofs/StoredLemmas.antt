@@ -11,11 +11,11 @@ use Rattle.cred_graph.specs.declared.listeners.KeptListening.{KeptListening}
 use Rattle.cred_graph.specs.declared.solutions.Solution.{Solution}
 use Rattle.cred_graph.specs.declared.solutions.Reason.{Reason}
 use Rattle.cred_graph.specs.declared.solutions.Solved.{Solved}
-use Rattle.cred_graph.specs.Graph.{IsSolution, Listens, listed_with, Fits, IsGraph, NodeGiven}
+use Rattle.cred_graph.specs.Graph.{IsSolution, Listens, Fits, IsGraph, NodeGiven}
 use Rattle.cred_graph.specs.Numbers.{IsEntity, IsReason, entity_at, reason_at}
 use Rattle.cred_graph.specs.NodeLists.{list_at, AreSame, AddsAt}
 use Rattle.cred_graph.specs.Stored.{IsKept, Joins, listening_as, lists_from, HasKey, solution_as, graph_as, IsStored}
-use Rattle.cred_graph.proofs.Growth.{with_node, with_listener, with_solution, graph_with_node, graph_with_listener, graph_with_solution}
+use Rattle.cred_graph.proofs.Growth.{listed_with, with_node, with_listener, with_solution, graph_with_node, graph_with_listener, graph_with_solution}
 use Rattle.cred_graph.proofs.KeptLemmas.{kept_with_node, same_with_node, kept_joined, same_joined, once_joined, listens_kept, listens_as}
 use Rattle.cred_graph.proofs.Lists.{Contains-at_place, place_of_Contains, slice_get_push_cases, slice_get_pushed, map_same, behind_map, seen_at}
 use Rattle.cred_graph.proofs.NumberLemmas.{entity_goes_on, entity_stands, entity_stays, reason_goes_on, reason_stays}

@@ -33,10 +33,6 @@ IsSolution g n who = (reason : Reason ℕ (List ℕ)) × Contains g.solutions (r
 abbrev pub Known : GraphState → List ℕ → Expr → Type 0
 Known g who e = (n : ℕ) × IsNode g n e × IsSolution g n who
 
--- the lists, with one more listener at the end of that of this number
-abbrev pub listed_with : List (List Listening) → ℕ → Listening → List (List Listening)
-listed_with lists n l = slice_set lists n (list_at lists n ++ l ∷ [])
-
 -- the node's listeners, in order of adding
 abbrev pub listeners_of : GraphState → ℕ → List Listening
 listeners_of g n = list_at g.listeners n
@@ -82,7 +78,7 @@ NodeGiven g h e n false = IsNode g n e × (h ≡ g)
 
 -- the node n has the listener now, and b says whether it is new
 abbrev pub ListenerGiven : GraphState → GraphState → ℕ → Listening → Bool → Type 0
-ListenerGiven g h n l true = (Listens g n l → ⊥) × (h ≡ record g { listeners = listed_with g.listeners n l })
+ListenerGiven g h n l true = (Listens g n l → ⊥) × (h ≡ record g { listeners = slice_set g.listeners n (listeners_of g n ++ l ∷ []) })
 ListenerGiven g h n l false = Listens g n l × (h ≡ g)
 
 -- the entity is a solution of the node now, and b says whether it is new

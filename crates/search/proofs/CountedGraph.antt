@@ -5,12 +5,13 @@ use Rattle.std.proofs.lemmas.Bool.{cases_Bool, cases_eq, eq-eqb, eqb-true}
 use Rattle.std.proofs.lemmas.List.{length-append, length-map, append_assoc, map-append}
 use Rattle.std.proofs.lemmas.List.Elements.{filter-append, Contains-append_left, Contains-append_right}
 use Rattle.rt0_rules.proofs.Elements.{Contains-none}
+use Rattle.cred_graph.proofs.Growth.{listed_with}
 use Rattle.rt0_rules.proofs.Unknown.{Contains-map}
 use Rattle.std.proofs.lemmas.Grind.{flat_map-append}
 use Rattle.rt0_rules.specs.Letters.{NodeAsk}
 use Rattle.cred_graph.specs.declared.listeners.Listening.{Listening}
 use Rattle.cred_graph.specs.declared.solutions.Solution.{Solution}
-use Rattle.cred_graph.specs.Graph.{GraphState, listed_with, members_of}
+use Rattle.cred_graph.specs.Graph.{GraphState, members_of}
 use Rattle.cred_graph.specs.NodeLists.{list_at}
 use Rattle.search.specs.Net.{Sent}
 use Rattle.search.specs.Search.{heard_of, heard_from, ask_from, asks_in}

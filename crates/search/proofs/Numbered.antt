@@ -15,7 +15,7 @@ use Rattle.cred_graph.specs.declared.solutions.Reason.{Reason}
 use Rattle.cred_graph.specs.declared.solutions.Reason.TheVariants as reason
 use Rattle.scholten_core.specs.declared.parents.Parent.{Parent}
 use Rattle.scholten_core.specs.declared.parents.Parent.TheVariants.{Neutral, Environment, Node}
-use Rattle.cred_graph.specs.Graph.{GraphState, listed_with, IsGraph, NodeGiven, ListenerGiven, SolutionGiven}
+use Rattle.cred_graph.specs.Graph.{GraphState, IsGraph, NodeGiven, ListenerGiven, SolutionGiven}
 use Rattle.cred_graph.specs.NodeLists.{list_at, IsOnce}
 use Rattle.cred_graph.specs.declared.solutions.Solution.{Solution}
 use Rattle.std.specs.FinSet as set
@@ -23,7 +23,7 @@ use Rattle.std.specs.Map.{keys_of}
 use Rattle.monitors.specs.declared.tellers.Tellers.{Tellers}
 use Rattle.monitors.specs.MeetMonitor.{pairs_of, named}
 use Rattle.cred_graph.specs.Numbers.{IsEntity, IsNamed, IsPort, entity_at, port_at, reason_at}
-use Rattle.cred_graph.proofs.Growth.{listed_at-pushed, listed_with_cases}
+use Rattle.cred_graph.proofs.Growth.{listed_with, listed_at-pushed, listed_with_cases}
 use Rattle.cred_graph.proofs.NumberLemmas.{entity_goes_on, entity_stays, named_goes_on, port_goes_on, port_named, port_stays}
 use Rattle.scholten_core.specs.declared.letters.Letter.{Letter}
 use Rattle.scholten_core.specs.Computation.{Computation, IsHeld, outstanding, waiting, entry_with, named_with}
