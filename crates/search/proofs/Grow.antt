@@ -124,7 +124,7 @@ one_expr g n e f p q = same_Some e f (sym p ∙ q)
 pub open_node : {rows : List Credential} {asked : Role} {net : Net} → IsRight rows asked net → (n : ℕ) → IsOpen net n → (e : Expr) × IsNode net.graph n e
 open_node right n (inl (m, p, listens)) = let fits = right.listeners_fit n m p listens in (fits.1, fits.3)
 open_node {asked = asked} {net = net} right n (inr (root, gone)) =
-    (Rol asked, subst (λ k. IsNode net.graph k (Rol asked)) (sym root) right.root_node)
+    (Rol asked, subst (λ k. IsNode net.graph k (Rol asked)) (sym root) right.found.root_node)
 
 -- a node that was one has the expression that it had
 pub node_was : {old new : Net} → Grows old new → (n : ℕ) (e f : Expr) → IsNode old.graph n f → IsNode new.graph n e → IsNode old.graph n e
@@ -143,16 +143,18 @@ pub record AddsRightly (rows : List Credential) (asked : Role) (old new : Net) :
 
 pub grown_right : {rows : List Credential} {asked : Role} {old new : Net} → Grows old new → IsRight rows asked old → AddsRightly rows asked old new → IsRight rows asked new
 grown_right {rows = rows} {asked = asked} grows right adds = record {
-  graph = adds.graph;
+  found = record {
+    graph = adds.graph;
+    root_node = grows.nodes 0 (Rol asked) right.found.root_node;
+    solutions_fit = λ s stands. elim (adds.solutions s stands) [
+      | inl before ↦ solution_fits_stays grows s (right.found.solutions_fit s before)
+      | inr fresh ↦ fresh
+    ];
+  };
   fit = adds.fit;
-  root_node = grows.nodes 0 (Rol asked) right.root_node;
   demanded = λ n e node. elim (adds.nodes n e node) [ inl before ↦ right.demanded n e before | inr fresh ↦ fresh ];
   listeners_fit = λ n m p listens. elim (adds.listeners n m p listens) [
     | inl before ↦ ask_fits_stays grows m p n (right.listeners_fit n m p before)
-    | inr fresh ↦ fresh
-  ];
-  solutions_fit = λ s stands. elim (adds.solutions s stands) [
-    | inl before ↦ solution_fits_stays grows s (right.solutions_fit s before)
     | inr fresh ↦ fresh
   ];
   letters_fit = λ x stands. elim (adds.letters x stands) [

@@ -99,7 +99,7 @@ module _ (rows : List Credential) (asked : Role) (g : GraphState) (ms : List Mon
   pub node_steady : IsSteady rows asked old → (Contains g.nodes e → ⊥) → HasPartsInRange e → Demanded rows asked e → IsSteady rows asked new
   node_steady steady absent range demanded =
       steady_grown node_grows steady (record {
-        graph = graph_with_node g e steady.right.graph absent range;
+        graph = graph_with_node g e steady.right.found.graph absent range;
         fit = all_zipped_more MonitorFits g.nodes ms e (new_monitor e) steady.right.fit (new_monitor_fits e);
         nodes = λ n f node. elim (slice_get_push_cases g.nodes e n f node) [ inl before ↦ inl before | inr fresh ↦ inr (subst (Demanded rows asked) fresh.1 demanded) ];
         listeners = λ n m p listens. inl (listens_before n (record { asker = m; port = p }) listens);
@@ -173,7 +173,7 @@ module _ (rest : List Sent) (node : ℕ) (outs more : List (ℕ × Load (List �
         ((x : Sent) → Contains (sent_by node more) x → LetterFits rows loud x.from x.to x.load) → IsSteady rows asked loud
     letters_steady rows asked steady fits =
         steady_grown letters_grow steady (record {
-          graph = steady.right.graph;
+          graph = steady.right.found.graph;
           fit = steady.right.fit;
           nodes = λ n f at. inl at;
           listeners = λ n m p listens. inl listens;

@@ -29,7 +29,7 @@ module _ (rows : List Credential) (asked : Role) (net : Net) (right : IsRight ro
   told_owed : (m : ℕ) (e : Expr) (p : Port (List ℕ)) (f : Expr) (who : List ℕ) → IsNode net.graph m e → IsAsked net m p f → Known net.graph who f → IsTaken net m p who ⊎ IsPendingBetween net e f
   told_owed m e p f who node (n, at, inr pending) known = inr (m, n, node, at, (load.Ask p, inl pending))
   told_owed m e p f who node (n, at, inl listens) (k, place, found) =
-      let same : k ≡ n = right.graph.one_node k n f place at in
+      let same : k ≡ n = right.found.graph.one_node k n f place at in
       elim (paid.told n m p who listens (subst (λ (j : ℕ). IsSolution net.graph j who) same found)) [
         | inl pending ↦ inr (m, n, node, at, (load.Tell p who, inr pending))
         | inr taken ↦ inl taken
@@ -37,7 +37,7 @@ module _ (rows : List Credential) (asked : Role) (net : Net) (right : IsRight ro
 
   pub sound : (d : List ℕ) (e : Expr) → Known net.graph d e → Derives rows d e
   sound d e (n, node, (why, stands)) =
-      let fits = right.solutions_fit (record { node = n; who = d; reason = why }) stands in
+      let fits = right.found.solutions_fit (record { node = n; who = d; reason = why }) stands in
       subst (Derives rows d) (one_expr net.graph n fits.expr e fits.node node) fits.derives
 
   -- a linked role asks the role of each known member of its base
@@ -111,7 +111,7 @@ module _ (rows : List Credential) (asked : Role) (net : Net) (right : IsRight ro
   owes_rules = record {
     sound = sound;
     opened = λ e f why listens. (listens.1, listens.4, inl (listens.0, listens.2, listens.6));
-    root = elim paid.root [ inl opens ↦ inl (0, right.root_node, opens) | inr start ↦ inr start ];
+    root = elim paid.root [ inl opens ↦ inl (0, right.found.root_node, opens) | inr start ↦ inr start ];
     heard = heard;
     applied = applied;
   }

@@ -41,7 +41,7 @@ pub receiver_in : (rows : List Credential) (asked : Role) (net : Net) → IsRigh
 receiver_in rows asked net right Neutral to load.Start fits = absurd fits
 receiver_in rows asked net right Neutral to (load.Ask p) fits = absurd fits
 receiver_in rows asked net right Neutral to (load.Tell p who) fits = absurd fits
-receiver_in rows asked net right Environment to load.Start fits = subst (λ (n : ℕ). n < length net.graph.nodes) (sym fits) (slice_get_within net.graph.nodes 0 (Rol asked) right.root_node)
+receiver_in rows asked net right Environment to load.Start fits = subst (λ (n : ℕ). n < length net.graph.nodes) (sym fits) (slice_get_within net.graph.nodes 0 (Rol asked) right.found.root_node)
 receiver_in rows asked net right Environment to (load.Ask p) fits = absurd fits
 receiver_in rows asked net right Environment to (load.Tell p who) fits = absurd fits
 receiver_in rows asked net right (Node m) to load.Start fits = absurd fits
@@ -67,7 +67,7 @@ module _ (view : List Vault) (asked : Role) (rest : List Sent) (ordered : IsOrde
       ((e : Expr) → IsNode g to e → Opens (own_rows view e) (progress g ms []) t to e) → Receipt (progress g ms []) t Environment to load.Start
   opens_start g ms t to awaits answers =
       let root : to ≡ 0 = awaited_fits awaits in
-      let at : IsNode g to (Rol asked) = subst (λ (n : ℕ). IsNode g n (Rol asked)) (sym root) awaits.steady.right.root_node in
+      let at : IsNode g to (Rol asked) = subst (λ (n : ℕ). IsNode g n (Rol asked)) (sym root) awaits.steady.right.found.root_node in
       let done = opens (credentials view) asked rest to (own_rows view (Rol asked)) (progress g ms []) t (Rol asked) at (answers (Rol asked) at) (own_rows_are view (Rol asked) ordered) awaits.steady in
       record {
         grows = done.moves.grows;

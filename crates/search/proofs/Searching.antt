@@ -73,12 +73,10 @@ module _ (rows : List Credential) (role : Role) where
 
   first_right : IsGraph (first_graph role) → IsRight rows role first_net
   first_right graph = record {
-    graph = graph;
+    found = record { graph = graph; root_node = refl; solutions_fit = λ s among. absurd (Contains-none s among) };
     fit = (tt, tt);
-    root_node = refl;
     demanded = λ n e at. subst (Demanded rows role) (only_node n e at).1 asked_itself;
     listeners_fit = λ n m p among. absurd (no_listener n m p among);
-    solutions_fit = λ s among. absurd (Contains-none s among);
     letters_fit = λ x among. elim (Contains-cons_cases start [] x among) [
       | inl same ↦ subst (λ (y : Sent). LetterFits rows first_net y.from y.to y.load) same refl
       | inr none ↦ absurd (Contains-none x none)
@@ -155,11 +153,7 @@ module _ (rows : List Credential) (role : Role) (work : ℕ) (g : GraphState) (m
   rules_owed = owes_rules rows role (net_of g ms c) kept.steady.right kept.steady.paid
 
   pub justified : IsJustified rows role g
-  justified = record {
-    graph = kept.steady.right.graph;
-    root_node = kept.steady.right.root_node;
-    solutions_fit = kept.steady.right.solutions_fit;
-  }
+  justified = kept.steady.right.found
 
   pub no_letters : outstanding c ≡ 0 → sent_of c.letters ≡ []
   no_letters none = none_sent c.letters (omega arith)
@@ -181,10 +175,10 @@ module _ (rows : List Credential) (role : Role) (work : ℕ) (g : GraphState) (m
   pub member_found : (who : List ℕ) → outstanding c ≡ 0 → IsMember rows who role → IsSolution g 0 who
   member_found who none member =
       let known = (completed_exact none who (Rol role) asked_itself).1 member in
-      subst (λ (n : ℕ). IsSolution g n who) (kept.steady.right.graph.one_node known.0 0 (Rol role) known.1 kept.steady.right.root_node) known.2
+      subst (λ (n : ℕ). IsSolution g n who) (kept.steady.right.found.graph.one_node known.0 0 (Rol role) known.1 kept.steady.right.found.root_node) known.2
 
   pub found_member : (who : List ℕ) → outstanding c ≡ 0 → IsSolution g 0 who → IsMember rows who role
-  found_member who none found = (completed_exact none who (Rol role) asked_itself).0 (0, kept.steady.right.root_node, found)
+  found_member who none found = (completed_exact none who (Rol role) asked_itself).0 (0, kept.steady.right.found.root_node, found)
 
 pub status_exact : (s : SearchState) (st : Stage) → s.stage ≡ st → KeepsRules s → IsCompleted st → IsExact (rows_of s) (asked_role s.query) (Known s.graph)
 status_exact s (stage.Running c) runs kept completed = completed_exact (rows_of s) (asked_role s.query) s.work s.graph s.monitors c (kept c runs) completed
@@ -259,7 +253,7 @@ taken_to s st place number l kept holds = waiting_to s s.stage place number l ke
 
 -- a completed search has a node for its role, whose solutions are its members
 pub completed_root : (s : SearchState) (st : Stage) → s.stage ≡ st → KeepsRules s → IsCompleted st → 0 < length s.graph.nodes
-completed_root s (stage.Running c) runs kept completed = slice_get_within s.graph.nodes 0 (Rol (asked_role s.query)) (kept c runs).steady.right.root_node
+completed_root s (stage.Running c) runs kept completed = slice_get_within s.graph.nodes 0 (Rol (asked_role s.query)) (kept c runs).steady.right.found.root_node
 completed_root s stage.Spent runs kept completed = absurd completed
 completed_root s stage.Broken runs kept completed = absurd completed
 

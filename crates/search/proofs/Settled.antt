@@ -99,12 +99,10 @@ module _ (rows : List Credential) (asked : Role) (g : GraphState) (ms : List Mon
   pub settled : IsSteady rows asked old → IsSteady rows asked new
   settled steady = record {
     right = record {
-      graph = steady.right.graph;
+      found = steady.right.found;
       fit = steady.right.fit;
-      root_node = steady.right.root_node;
       demanded = steady.right.demanded;
       listeners_fit = steady.right.listeners_fit;
-      solutions_fit = steady.right.solutions_fit;
       letters_fit = λ y stands. steady.right.letters_fit y (takes.was y stands);
       parts_fit = λ m i who told. let fits = steady.right.parts_fit m i who told in
           record { parts = fits.parts; part = fits.part; node = fits.node; at = fits.at; known = fits.known };

@@ -81,7 +81,7 @@ module _ (rows : List Credential) (asked : Role) (g : GraphState) (ms : List Mon
     pub solve_steady : IsSteady rows asked old → (IsSolution g node who → ⊥) → Fits g node who why → SolutionFits rows g solution → IsSteady rows asked solved
     solve_steady steady absent fits right =
         steady_grown solve_grows steady (record {
-          graph = graph_with_solution g solution steady.right.graph absent fits;
+          graph = graph_with_solution g solution steady.right.found.graph absent fits;
           fit = steady.right.fit;
           nodes = λ n f at. inl at;
           listeners = λ n m p listens. inl listens;
@@ -171,7 +171,7 @@ module _ (rows : List Credential) (asked : Role) (g : GraphState) (ms : List Mon
           ((e : Expr) → IsNode g node e → OpenedPaid rows old node e) → IsSteady rows asked heard
       hear_steady steady absent node_in asker_in fits opened =
           steady_grown hear_grows steady (record {
-            graph = graph_with_listener g node listening steady.right.graph absent node_in asker_in;
+            graph = graph_with_listener g node listening steady.right.found.graph absent node_in asker_in;
             fit = steady.right.fit;
             nodes = λ n f at. inl at;
             listeners = λ n m q listens. elim (listens_cases n (record { asker = m; port = q }) listens) [

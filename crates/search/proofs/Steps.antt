@@ -235,7 +235,7 @@ module _ (rows : List Credential) (asked : Role) (rest : List Sent) (node : ℕ)
       let same : t ≡ after = progress_is t after.graph after.monitors after.outs graph monitors outs in
       let node_in : node < length s.graph.nodes = slice_get_within s.graph.nodes node fits.1 fits.3 in
       let asker_in : m < length s.graph.nodes = slice_get_within s.graph.nodes m fits.0 fits.2 in
-      let within : node < length s.graph.listeners = omega (arith, steady.right.graph.one_list_each) in
+      let within : node < length s.graph.listeners = omega (arith, steady.right.found.graph.one_list_each) in
       subst (λ (u : Progress). Heard s u m p) (sym same) (record {
         moves = record {
           grows = hear_grows rows asked s.graph s.monitors rest node s.outs m p within;

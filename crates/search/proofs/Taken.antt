@@ -279,7 +279,7 @@ module _ (rows : List Credential) (asked : Role) (rest : List Sent) (node m : â„
       let all : AllTold (with_tell x i who) who = subst (Î» (y : MeetTold). AllTold y who) y_is (heard.3.1.0 now).0 in
       let fits = part_told i who told in
       let known = all_known i who fits.parts x fits fits.node heard.2 (parts_count fits.parts x fits.node heard.2) all in
-      let several = (steady.right.graph.parts_in_range node (Meet fits.parts) fits.node).0 in
+      let several = (steady.right.found.graph.parts_in_range node (Meet fits.parts) fits.node).0 in
       let u : Progress = progress t.graph s.monitors t.outs in
       let done = solves rows asked rest node s u who reason.Parts (solved.0, solved.1, refl, solved.3) steady (last_fits i who told x heard.2 all) (record {
         expr = Meet fits.parts;

@@ -122,7 +122,7 @@ module _ (view : List Vault) (asked : Role) (ordered : IsOrdered view) (g : Grap
       sent ≡ 1 → Counted (with start) → ((e : Expr) → IsNode g to e → Opens (own_rows view e) s t to e) → IsCounted new (sent + length t.outs)
   start_counted awaits grows one counted answers =
       let root : to ≡ 0 = awaited_fits awaits in
-      let at : IsNode g to (Rol asked) = subst (λ (n : ℕ). IsNode g n (Rol asked)) (sym root) awaits.steady.right.root_node in
+      let at : IsNode g to (Rol asked) = subst (λ (n : ℕ). IsNode g n (Rol asked)) (sym root) awaits.steady.right.found.root_node in
       let rows = own_rows_once view (Rol asked) ordered in
       let old : Net = net_at s (with start) to in
       let begun = begun_with (with start) counted in
@@ -148,7 +148,7 @@ module _ (view : List Vault) (asked : Role) (ordered : IsOrdered view) (g : Grap
         AnswersAsk view s t to m p → IsCounted new (sent + length t.outs)
     ask_counted awaits receipt counted (mid, inl (opened, same), heard) =
         let at : to < length g.nodes = receiver_in (credentials view) asked (net_at s rest to) awaits.steady.right (Node m) to (load.Ask p) (awaited_fits awaits) in
-        let within : to < length g.listeners = omega (arith, awaits.steady.right.graph.one_list_each) in
+        let within : to < length g.listeners = omega (arith, awaits.steady.right.found.graph.one_list_each) in
         counted_by_ask before after to sent s t (stays rest receipt.grows) m p within refl (begun_with rest counted) (subst (λ (u : Progress). HearsAsk u t to m p) same heard)
     ask_counted awaits receipt counted (mid, inr (shut, opening), heard) =
         let fits = awaited_fits awaits in
@@ -165,7 +165,7 @@ module _ (view : List Vault) (asked : Role) (ordered : IsOrdered view) (g : Grap
         within : (u : Progress) (e : Expr) → IsNode u.graph to e → IsSteady (credentials view) asked (net_at u rest to) → to < length u.graph.listeners
         within u e at steady =
             let inside : to < length u.graph.nodes = slice_get_within u.graph.nodes to e at in
-            omega (arith, steady.right.graph.one_list_each)
+            omega (arith, steady.right.found.graph.one_list_each)
 
         closed : (IsOpenAt g to → ⊥) → IsOpen (net_at s rest to) to → ⊥
         closed shut (inl l) = shut (inr (omega (arith, l.2.1)))

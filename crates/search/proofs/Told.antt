@@ -136,7 +136,7 @@ module _ (rows : List Credential) (asked : Role) (g : GraphState) (ms : List Mon
   pub base_steady : IsSteady rows asked old → ((r : Role) (t : List ℕ) → IsNode g node (Link r t) → IsAsked old node (port.Via base) (Rol (record { owner = base; name = t }))) → IsSteady rows asked new
   base_steady steady asks =
       steady_grown base_grows steady (record {
-        graph = steady.right.graph;
+        graph = steady.right.found.graph;
         fit = zip_set MonitorFits g.nodes ms node (monitor.Link x) (monitor.Link told_link) steady.right.fit at (link_stays x told_link);
         nodes = λ n f is. inl is;
         listeners = λ n m p listens. inl listens;
@@ -285,7 +285,7 @@ module _ (rows : List Credential) (asked : Role) (g : GraphState) (ms : List Mon
   pub part_steady : IsSteady rows asked unheard → PartFits unheard node i who → (AllTold told_meet who → IsSolution g node who) → IsSteady rows asked heard
   part_steady steady fits solves =
       steady_grown part_grows steady (record {
-        graph = steady.right.graph;
+        graph = steady.right.found.graph;
         fit = zip_set MonitorFits g.nodes ms node (monitor.Meet x) (monitor.Meet told_meet) steady.right.fit at (meet_stays x told_meet refl);
         nodes = λ n f is. inl is;
         listeners = λ n m p listens. inl listens;

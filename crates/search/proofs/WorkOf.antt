@@ -93,7 +93,7 @@ member_is g n d has =
 module _ {rows : List Credential} {asked : Role} {net : Net} (right : IsRight rows asked net) where
   known_derives : (d : List ℕ) (r : Expr) → Known net.graph d r → Derives rows d r
   known_derives d r (n, node, (why, stands)) =
-      let fits : SolutionFits rows net.graph (record { node = n; who = d; reason = why }) = right.solutions_fit (record { node = n; who = d; reason = why }) stands in
+      let fits : SolutionFits rows net.graph (record { node = n; who = d; reason = why }) = right.found.solutions_fit (record { node = n; who = d; reason = why }) stands in
       let same : fits.expr ≡ r = cc in
       subst (Derives rows d) same fits.derives
 
@@ -121,13 +121,13 @@ module _ {rows : List Credential} {asked : Role} {net : Net} (right : IsRight ro
 
   pub work_right : {sent : ℕ} → IsCounted net sent → AreRight rows asked net.graph.nodes (members_of net.graph) (heard net.graph) (asks_in net.pending)
   work_right counted = record {
-    one_node = right.graph.one_node;
+    one_node = right.found.graph.one_node;
     asks_distinct = counted.distinct;
     asks_right = ask_right;
-    members_distinct = λ n. members_apart net.graph.solutions n right.graph.one_solution;
+    members_distinct = λ n. members_apart net.graph.solutions n right.found.graph.one_solution;
     members_right = λ n d has.
         let (s, stands, node, who) = member_is net.graph n d has in
-        let fits : SolutionFits rows net.graph s = right.solutions_fit s stands in
+        let fits : SolutionFits rows net.graph s = right.found.solutions_fit s stands in
         (fits.expr, subst (λ k. IsNode net.graph k fits.expr) node fits.node, subst (λ w. Derives rows w fits.expr) who fits.derives);
   }
 
@@ -161,7 +161,7 @@ module _ {rows : List Credential} {asked : Role} {net : Net} (steady : IsSteady 
         );
     members_known = λ n e d node demanded derives.
         let (k, at, solution) = (settled_exact d e demanded).1 derives in
-        let same : k ≡ n = steady.right.graph.one_node k n e at node in
+        let same : k ≡ n = steady.right.found.graph.one_node k n e at node in
         member_of_solution net.graph n d (subst (λ j. IsSolution net.graph j d) same solution);
   }
 

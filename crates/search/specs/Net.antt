@@ -154,23 +154,21 @@ MonitorFits _ _ = ⊥
 abbrev pub MonitorsFit : GraphState → List Monitor → Type 0
 MonitorsFit g monitors = AllZip MonitorFits g.nodes monitors
 
--- what is found and sent is right. No clause names what isn't there yet, so whatever is added keeps what stood
-pub record IsRight (rows : List Credential) (asked : Role) (net : Net) : Type 0 where
-  pub graph : IsGraph net.graph
-  pub fit : MonitorsFit net.graph net.monitors
-  pub root_node : IsNode net.graph 0 (Rol asked)
-  pub demanded : (n : ℕ) (e : Expr) → IsNode net.graph n e → Demanded rows asked e
-  pub listeners_fit : (n m : ℕ) (p : Port (List ℕ)) → HasListener net n m p → AskFits rows net m p n
-  pub solutions_fit : (s : Solution) → Contains net.graph.solutions s → SolutionFits rows net.graph s
-  pub letters_fit : (x : Sent) → Contains net.pending x → LetterFits rows net x.from x.to x.load
-  pub parts_fit : (m i : ℕ) (who : List ℕ) → IsPartTold net m i who → PartFits net m i who
-
 -- what was found is right: the asked role's node is the first, each solution is derivable and by a row where a body gave
 -- it, and its premises were found before it
 pub record IsJustified (rows : List Credential) (asked : Role) (g : GraphState) : Type 0 where
   pub graph : IsGraph g
   pub root_node : IsNode g 0 (Rol asked)
   pub solutions_fit : (s : Solution) → Contains g.solutions s → SolutionFits rows g s
+
+-- what is found and sent is right. No clause names what isn't there yet, so whatever is added keeps what stood
+pub record IsRight (rows : List Credential) (asked : Role) (net : Net) : Type 0 where
+  pub found : IsJustified rows asked net.graph
+  pub fit : MonitorsFit net.graph net.monitors
+  pub demanded : (n : ℕ) (e : Expr) → IsNode net.graph n e → Demanded rows asked e
+  pub listeners_fit : (n m : ℕ) (p : Port (List ℕ)) → HasListener net n m p → AskFits rows net m p n
+  pub letters_fit : (x : Sent) → Contains net.pending x → LetterFits rows net x.from x.to x.load
+  pub parts_fit : (m i : ℕ) (who : List ℕ) → IsPartTold net m i who → PartFits net m i who
 
 -- each rule is applied, or owed by a letter that is under way
 pub record IsPaid (rows : List Credential) (net : Net) : Type 0 where
