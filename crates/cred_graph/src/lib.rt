@@ -1,8 +1,8 @@
 //! The graph of one search: a node for each expression, who listens to which node, and who is a solution of which node
 //! and why.
 //!
-//! Contracts see a `Graph` as the lists of its nodes, listeners and solutions (`specs/GraphState.antt`); each call adds one element
-//! to one of them, or tells that it is there. A reason cites earlier solutions alone (`specs/Reason.antt`), so proofs that are
+//! Contracts see a `Graph` as the lists of its nodes, listeners and solutions (`specs/Graph.antt`); each call adds one element
+//! to one of them, or tells that it is there. A reason cites earlier solutions alone (`specs/Graph.antt`), so proofs that are
 //! read off the graph are well-founded. The calls by number spare the look-up of a name.
 #![tactic(auto)]
 

@@ -4,7 +4,7 @@
 //! `LinkMonitor` and `MeetMonitor` are seen as who told what (`specs/LinkMonitor.antt`, `specs/MeetMonitor.antt`). A call
 //! answers true exactly where something new follows from what it was told, and a repeat changes nothing. A search speaks of
 //! entities by number, and keeps `LinkMonitor<u32>` and `KeyedMeet<u32>`: what they hear is what the monitors by name hear,
-//! whatever names the numbers stand for, as long as no two of them stand for one name (`specs/KeyedMeet.antt`).
+//! whatever names the numbers stand for, as long as no two of them stand for one name (`specs/MeetMonitor.antt`).
 #![tactic(auto)]
 
 mod keyed_meets;

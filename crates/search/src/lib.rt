@@ -2,7 +2,7 @@
 //! signals end it. When nothing is outstanding, what was found is exactly what is derivable.
 //!
 //! A `Search` is seen as a `SearchState` (`specs/Search.antt`); what a receipt does is said row by row in
-//! `specs/Answers.antt`, what each finish does in `specs/Finish.antt`, and what a running search keeps in `specs/Steady.antt`. The
+//! `specs/Answers.antt`, what each finish does in `specs/Finish.antt`, and what a running search keeps in `specs/Net.antt`. The
 //! promise is that of `Search::status` (`specs/Ending.antt`): a completed search tells the truth of its query over its snapshot, and
 //! is spent exactly where the work exceeds its limit. That a search is broken only where memory lacked is no contract.
 #![tactic(auto)]
