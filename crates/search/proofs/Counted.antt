@@ -1,5 +1,5 @@
 -- A search's letters stay counted where a node opens, hears an Ask and takes in what it was told.
-use Rattle.std.proofs.Common.{ℕ, ◌+◌, ◌≡◌, ◌==◌, ◌∙◌, ◌⊎◌, inl, inr, sym, subst, ap, refl, List, [], ◌∷◌, ◌++◌, length, map, arith, true, false}
+use Rattle.std.proofs.Common.{ℕ, ◌+◌, ◌≡◌, ◌==◌, ◌∙◌, ◌⊎◌, sym, subst, ap, refl, List, [], ◌∷◌, ◌++◌, length, map, arith, true, false}
 use Rattle.std.specs.List.{Contains, filter}
 use Rattle.std.proofs.lemmas.List.{append-nil, length-append, length-map, append_assoc}
 use Rattle.credential_text.specs.declared.exprs.Expr.{Expr}

@@ -1,5 +1,5 @@
 -- What each step of a drive does, and what a drive leaves.
-use Rattle.std.proofs.Common.{ℕ, ◌<◌, ◌≤◌, ◌==◌, ◌≡◌, ◌∙◌, ◌⊎◌, inl, inr, refl, sym, subst, ap, Bool, true, false, List, [], ◌∷◌, ◌++◌, Some, None, length, slice_get, arith}
+use Rattle.std.proofs.Common.{ℕ, ◌<◌, ◌≤◌, ◌==◌, ◌≡◌, ◌∙◌, ◌⊎◌, inl, inr, refl, sym, subst, ap, Bool, true, false, List, [], ◌∷◌, Some, None, length, slice_get, arith}
 use Rattle.std.proofs.lemmas.Bool.{cases_Bool}
 use Rattle.std.proofs.lemmas.Map.Views.{exact_unsigned_eq}
 use Rattle.credential_text.specs.declared.exprs.Expr.{Expr}
@@ -15,7 +15,7 @@ use Rattle.search.specs.declared.stages.Stage.{Stage}
 use Rattle.search.specs.declared.stages.Stage.TheVariants as stage
 use Rattle.search.specs.Finish.{need_of, right_hint, Needs, Takes, TakesHeld, IsRightly, Received, Receives, Finishes}
 use Rattle.search.specs.Stage.{waiting_in, signals_in, held_in, letter_in, Delivers, IsQuiet, NoneHeld, HoldsAsBefore}
-use Rattle.search.specs.Search.{SearchState, SameQuestion, Settles, settled_of}
+use Rattle.search.specs.Search.{SearchState, SameQuestion, Settles}
 use Rattle.search.specs.Finish.{SignalsFirst, FinishesFirst, IsDriven}
 use Rattle.search.proofs.Grow.{one_expr}
 use Rattle.search.proofs.Ended.{settles_on}

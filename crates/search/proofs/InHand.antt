@@ -1,5 +1,5 @@
 -- Which letters are held after a step of the computation.
-use Rattle.std.proofs.Common.{ℕ, ◌+◌, ◌==◌, ◌≡◌, ◌∙◌, refl, sym, subst, ap, Bool, true, false, not, cond, List, [], ◌∷◌, ◌++◌, Some, None, Option, filter, slice_get}
+use Rattle.std.proofs.Common.{ℕ, ◌+◌, ◌==◌, ◌≡◌, ◌∙◌, refl, sym, subst, ap, Bool, true, false, not, cond, List, [], ◌∷◌, ◌++◌, Some, None, filter, slice_get}
 use Rattle.std.specs.Map.{lookup}
 use Rattle.std.proofs.lemmas.Bool.{eq-eqb, false≢true}
 use Rattle.scholten_core.specs.declared.parents.Parent.{Parent}

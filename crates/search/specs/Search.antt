@@ -15,8 +15,7 @@ use Rattle.cred_graph.specs.Graph.{GraphState, members_of}
 use Rattle.cred_graph.specs.declared.listeners.Listening.{Listening}
 use Rattle.scholten_core.specs.Computation.{outstanding, Computation}
 use Rattle.scholten_core.specs.declared.parents.Parent.{Parent}
-use Rattle.scholten_core.specs.declared.parents.Parent.TheVariants.{Node, Environment}
-use Rattle.scholten_core.specs.declared.letters.Letter.{Letter}
+use Rattle.scholten_core.specs.declared.parents.Parent.TheVariants.{Node}
 use Rattle.scholten_core.specs.Sound.{IsSound}
 use Rattle.scholten_core.specs.Step.{started}
 use Rattle.search.specs.declared.queries.Query.{Query}
