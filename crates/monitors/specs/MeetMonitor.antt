@@ -24,7 +24,8 @@ pub record MeetTold : Type 0 where
 abbrev pub meet_code : Coded MeetTold
 meet_code =
     let told_code : Coded (set.FinSet told_order) = set.code (coded× coded_ℕ (coded_list coded_ℕ)) in
-    code_by (ℕ × set.FinSet told_order) (coded× coded_ℕ told_code) (λ m. (m.parts, m.told)) (λ p. record { parts = p.0; told = p.1 }) (λ _. refl)
+    code_by (ℕ × set.FinSet told_order) (coded× coded_ℕ told_code)
+    (λ m. (m.parts, m.told)) (λ p. record { parts = p.0; told = p.1 }) (λ _. refl)
 
 -- the part has told the entity
 abbrev pub HasTold : MeetTold → ℕ → List ℕ → Type 0
