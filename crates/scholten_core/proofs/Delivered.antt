@@ -13,7 +13,7 @@ use Rattle.scholten_core.specs.LetterTable.{LetterTableState}
 use Rattle.scholten_core.proofs.Engaged.{get-remove_same, get-remove_other, one_or_other}
 use Rattle.scholten_core.proofs.Fields.{engagements_are, get-engagements}
 use Rattle.scholten_core.proofs.Complete.{sound}
-use Rattle.scholten_core.proofs.Steps.{deficit-delivered, delivered, settles_under}
+use Rattle.scholten_core.proofs.Steps.{deficit-delivered, delivered, settles_is, settles_under}
 use Rattle.scholten_core.proofs.Whole.{is_delivered}
 
 pub stays_none : (b : Bool) (by kept_by : Option Parent) → by ≡ None → (if b && is_some by then None else kept_by) ≡ kept_by
@@ -87,7 +87,7 @@ module _ {P : Type 0} (table : LetterTableState P) (signals : List Parent) (owed
   settles_one : (x : Parent) → to ≡ x → settles taken x ≡ held_in table (remove signals place ++ option_to_list by) nodes_after
   settles_one Neutral is = stays (answer Neutral is _ refl ∙ none_either _)
   settles_one Environment is = stays (answer Environment is _ refl ∙ none_either _)
-  settles_one (Node n) is = settles_node n is (fin.get (engagements nodes) n) refl
+  settles_one (Node n) is = settles_is taken n ∙ settles_node n is (fin.get (engagements nodes) n) refl
 
   signalled_is : settles taken to ≡ held_in table (remove signals place ++ option_to_list by) nodes_after
   signalled_is = settles_one to refl

@@ -17,7 +17,7 @@ use Rattle.scholten_core.proofs.Engaged.{get-insert_same, get-insert_other, one_
 use Rattle.scholten_core.proofs.Fields.{engagements_are, get-engagements}
 use Rattle.scholten_core.proofs.Paid.{count_of}
 use Rattle.scholten_core.proofs.Same.{same_parent-self}
-use Rattle.scholten_core.proofs.Steps.{IsReceived, acknowledged, deficit-sends, engages, received, rest, settles_under}
+use Rattle.scholten_core.proofs.Steps.{IsReceived, acknowledged, deficit-sends, engages, received, rest, settles_is, settles_under}
 use Rattle.scholten_core.proofs.Whole.{is_finished}
 
 module _ {P : Type 0} (e : Computation P) (n : ℕ) where
@@ -28,12 +28,12 @@ module _ {P : Type 0} (e : Computation P) (n : ℕ) where
 
   -- one that is owed something stays
   settles_stays : 0 < deficit e (Node n) → settles e (Node n) ≡ e
-  settles_stays owed = stays_under owed (fin.get e.engaged n)
+  settles_stays owed = settles_is e n ∙ stays_under owed (fin.get e.engaged n)
 
   -- an engaged node that is owed nothing goes
   settles_goes : (by : Parent) → fin.get e.engaged n ≡ Some by → deficit e (Node n) ≡ 0 → settles e (Node n) ≡ record e { signals = e.signals ++ by ∷ []; engaged = fin.remove e.engaged n }
   settles_goes by engaged nothing =
-      ap (settles_under e n) engaged
+      settles_is e n ∙ ap (settles_under e n) engaged
       ∙ ap (λ k. cond (k == 0) (record e { signals = e.signals ++ by ∷ []; engaged = fin.remove e.engaged n }) e) nothing
 
 -- what the fields hold once a letter is finished

@@ -18,7 +18,7 @@ use Rattle.scholten_core.specs.Sound.{IsNumbered, IsSound}
 use Rattle.scholten_core.specs.Step.{DeliversSignal, FinishesLetter, TakesLetter}
 use Rattle.scholten_core.specs.Computation.{entry_with, letter_with, named_with, outs_with}
 use Rattle.scholten_core.proofs.Lists.{Contains_from_lookup, lookup_from_Contains}
-use Rattle.scholten_core.proofs.Steps.{settles_under}
+use Rattle.scholten_core.proofs.Steps.{settles_is, settles_under}
 
 -- a filter and a map may change places
 filter-map : {X Y : Type 0} (g : X → Y) (p : Y → Bool) (xs : List X) → filter p (map g xs) ≡ map g (filter (λ x. p (g x)) xs)
@@ -131,7 +131,7 @@ module _ {P Q : Type 0} (f : P → Q) where
   settles-named : (d : Computation P) (p : Parent) → named_with f (settles d p) ≡ settles (named_with f d) p
   settles-named d Neutral = refl
   settles-named d Environment = refl
-  settles-named d (Node n) = settles_under-named d n (fin.get d.engaged n)
+  settles-named d (Node n) = ap (named_with f) (settles_is d n) ∙ settles_under-named d n (fin.get d.engaged n) ∙ sym (settles_is (named_with f d) n)
 
   -- the letters but that of a number
   rest-named : (number : ℕ) (ls : List (ℕ × Letter P)) → map (entry_with f) (filter (λ l. not (l.0 == number)) ls) ≡ filter (λ l. not (l.0 == number)) (map (entry_with f) ls)

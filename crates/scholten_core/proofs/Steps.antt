@@ -1,5 +1,5 @@
 -- What each part of a step does to what one is owed, and to what is outstanding
-use Rattle.std.proofs.Common.{◌≡◌, ℕ, ◌+◌, ◌<◌, ◌≤◌, ◌==◌, if◌then◌else◌, Bool, true, false, cond, not, List, [], ◌∷◌, ◌++◌, Option, Some, None, filter, length, remove, count_by, is_some, option_map, refl, sym, ap, ◌∙◌, subst, arith, length-append}
+use Rattle.std.proofs.Common.{◌≡◌, ℕ, ◌+◌, ◌<◌, ◌≤◌, ◌==◌, ◌&&◌, if◌then◌else◌, Bool, true, false, cond, not, List, [], ◌∷◌, ◌++◌, Option, Some, None, filter, length, remove, count_by, is_some, refl, sym, ap, ◌∙◌, subst, arith, length-append}
 use Rattle.std.specs.List.{slice_get}
 use Rattle.std.specs.Option.{unwrap_or}
 use Rattle.std.proofs.lemmas.Bool.{eqb-false, false_from_ne_true}
@@ -240,8 +240,17 @@ module _ {P : Type 0} (d : Computation P) (n : ℕ) (by : Parent) (settled : IsS
 
 -- a node settles, where that one engaged it
 abbrev pub settles_under : {P : Type 0} → Computation P → ℕ → Option Parent → Computation P
-settles_under d n by =
-    unwrap_or (option_map (λ p. if deficit d (Node n) == 0 then record d { signals = d.signals ++ p ∷ []; engaged = fin.remove d.engaged n } else d) by) d
+settles_under d n None = d
+settles_under d n (Some by) =
+    if deficit d (Node n) == 0 then record d { signals = d.signals ++ by ∷ []; engaged = fin.remove d.engaged n } else d
+
+module _ {P : Type 0} (d : Computation P) (n : ℕ) where
+  engaged_by : (o : Option Parent) → (if is_some o && (deficit d (Node n) == 0) then record d { signals = d.signals ++ unwrap_or o Neutral ∷ []; engaged = fin.remove d.engaged n } else d) ≡ settles_under d n o
+  engaged_by None = refl
+  engaged_by (Some by) = refl
+
+  pub settles_is : settles d (Node n) ≡ settles_under d n (fin.get d.engaged n)
+  settles_is = engaged_by (fin.get d.engaged n)
 
 -- whoever may have come to be owed nothing settles
 module _ {P : Type 0} (d : Computation P) where
@@ -271,4 +280,4 @@ module _ {P : Type 0} (d : Computation P) where
   settled-settles Neutral settled = unsettled d settled
   settled-settles Environment settled =
       all_busy Environment settled (λ n there. settled.busy n (λ e. cc) there)
-  settled-settles (Node n) settled = settled-settles_under n settled (fin.get d.engaged n) refl
+  settled-settles (Node n) settled = subst (IsSettled d) (sym (settles_is d n)) (settled-settles_under n settled (fin.get d.engaged n) refl)

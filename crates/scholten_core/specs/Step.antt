@@ -1,11 +1,11 @@
 -- The steps of a diffusing computation, and what the calls that make them do
 use Rattle.std.specs.Prelude.{ℕ, ◌+◌, ◌==◌, Bool, false, not, List, [], ◌∷◌, ◌++◌, Some, length, filter, map, remove}
-use Rattle.std.specs.Prelude.{slice_get, if◌then◌else◌, ◌≡◌, true, option_map, unwrap_or}
+use Rattle.std.specs.Prelude.{slice_get, if◌then◌else◌, ◌≡◌, ◌&&◌, true}
 use Rattle.std.specs.FinMap as fin
 use Rattle.scholten_core.specs.declared.parents.Parent.{Parent}
 use Rattle.scholten_core.specs.declared.parents.Parent.TheVariants.{Environment, Node}
 use Rattle.scholten_core.specs.declared.letters.Letter.{Letter}
-use Rattle.scholten_core.specs.Computation.{Computation, deficit, is_engaged, letter_of, IsHeld, outstanding, waiting}
+use Rattle.scholten_core.specs.Computation.{Computation, deficit, is_engaged, letter_of, parent_of, IsHeld, outstanding, waiting}
 use Rattle.scholten_core.specs.Sound.{IsSound}
 
 module _ {P : Type 0} where
@@ -36,8 +36,9 @@ module _ {P : Type 0} where
   -- goes under way; nobody and the environment have nobody to signal
   abbrev pub settles : Computation P → Parent → Computation P
   settles d (Node n) =
-      let goes : Parent → Computation P = λ by. record d { signals = d.signals ++ by ∷ []; engaged = fin.remove d.engaged n } in
-      unwrap_or (option_map (λ by. if deficit d (Node n) == 0 then goes by else d) (fin.get d.engaged n)) d
+      if is_engaged d n && (deficit d (Node n) == 0)
+      then record d { signals = d.signals ++ parent_of d n ∷ []; engaged = fin.remove d.engaged n }
+      else d
   settles d _ = d
 
   -- a letter is received: it engages a neutral node, and otherwise a signal to its sender goes

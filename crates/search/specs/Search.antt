@@ -31,6 +31,48 @@ use Rattle.search.specs.declared.findings.Monitor.{Monitor}
 use Rattle.search.specs.declared.findings.Monitor.TheVariants as monitor
 pub use Rattle.search.specs.Ending.{asked_role}
 
+pub record SearchState : Type 0 where
+  pub query : Query
+  pub work : ℕ
+  pub snapshot : SnapshotState
+  pub graph : GraphState
+  pub monitors : List Monitor
+  pub stage : Stage
+
+-- the credentials that the search reads
+abbrev pub rows_of : SearchState → List Credential
+rows_of s = credentials s.snapshot.vaults
+
+-- something of the search is outstanding
+abbrev pub IsOutstanding : Stage → Type 0
+IsOutstanding (stage.Running c) = outstanding c ≡ 0 → ⊥
+IsOutstanding _ = ⊥
+
+-- the search ran until nothing was outstanding
+abbrev pub IsCompleted : Stage → Type 0
+IsCompleted (stage.Running c) = outstanding c ≡ 0
+IsCompleted _ = ⊥
+
+-- where a search runs, its computation keeps the laws of a diffusing computation
+abbrev pub IsSoundStage : Stage → Type 0
+IsSoundStage (stage.Running c) = IsSound c
+IsSoundStage _ = Unit {0}
+
+-- the answer of a completed search, by what it found of the asked role's node
+abbrev pub found : GraphState → Query → Settled
+found g (Ask role who) = if list_any (is_same who) (members_of g 0) then Yes else No
+found g (Who role) = Members (in_order name_order (members_of g 0))
+
+-- what a search has come to, by where it stands: nothing while anything is outstanding
+abbrev pub come_to : Stage → GraphState → Query → Settled
+come_to (stage.Running c) g query = if outstanding c == 0 then found g query else Nothing
+come_to stage.Spent g query = Spent
+come_to stage.Broken g query = Broken
+
+-- what the search has come to
+unfoldable pub settled_of : SearchState → Settled
+settled_of s = come_to s.stage s.graph s.query
+
 -- the status of what a search has come to
 abbrev pub status_of : Settled → Status
 status_of Nothing = status.Working
@@ -47,16 +89,17 @@ IsAnswered status.No = Unit {0}
 IsAnswered status.Members = Unit {0}
 IsAnswered _ = ⊥
 
--- the answer of a completed search, by what it found of the asked role's node
-abbrev pub found : GraphState → Query → Settled
-found g (Ask role who) = if list_any (is_same who) (members_of g 0) then Yes else No
-found g (Who role) = Members (in_order name_order (members_of g 0))
+-- the letter to the asked role waits, and nothing else was done
+pub record IsNew (s : SearchState) (query : Query) (work : ℕ) (snapshot : SnapshotState) : Type 0 where
+  pub query_is : s.query ≡ query
+  pub work_is : s.work ≡ work
+  pub snapshot_is : s.snapshot ≡ snapshot
+  pub graph_is : s.graph ≡ record { nodes = Rol (asked_role query) ∷ []; listeners = [] ∷ []; solutions = [] }
+  pub monitors_is : s.monitors ≡ monitor.Plain ∷ []
+  pub stage_is : s.stage ≡ stage.Running (started 0 load.Start)
 
--- what a search has come to, by where it stands: nothing while anything is outstanding
-abbrev pub come_to : Stage → GraphState → Query → Settled
-come_to (stage.Running c) g query = if outstanding c == 0 then found g query else Nothing
-come_to stage.Spent g query = Spent
-come_to stage.Broken g query = Broken
+abbrev pub net_of : GraphState → List Monitor → Computation Said → Net
+net_of g ms c = record { graph = g; monitors = ms; pending = sent_of c.letters }
 
 -- what a listener of the node asked
 abbrev pub heard_of : ℕ → Listening → NodeAsk
@@ -95,49 +138,6 @@ pub record IsCountedBy (may_ask : NodeAsk → Type 0) (members : ℕ → List (L
 abbrev pub IsCounted : Net → ℕ → Type 0
 IsCounted net sent =
     IsCountedBy (λ a. MayAskFor net a.asker a.why) (members_of net.graph) (heard net.graph) (asks_in net.pending) sent
-
-pub record SearchState : Type 0 where
-  pub query : Query
-  pub work : ℕ
-  pub snapshot : SnapshotState
-  pub graph : GraphState
-  pub monitors : List Monitor
-  pub stage : Stage
-
--- the credentials that the search reads
-abbrev pub rows_of : SearchState → List Credential
-rows_of s = credentials s.snapshot.vaults
-
--- what the search has come to
-unfoldable pub settled_of : SearchState → Settled
-settled_of s = come_to s.stage s.graph s.query
-
--- something of the search is outstanding
-abbrev pub IsOutstanding : Stage → Type 0
-IsOutstanding (stage.Running c) = outstanding c ≡ 0 → ⊥
-IsOutstanding _ = ⊥
-
--- the search ran until nothing was outstanding
-abbrev pub IsCompleted : Stage → Type 0
-IsCompleted (stage.Running c) = outstanding c ≡ 0
-IsCompleted _ = ⊥
-
--- where a search runs, its computation keeps the laws of a diffusing computation
-abbrev pub IsSoundStage : Stage → Type 0
-IsSoundStage (stage.Running c) = IsSound c
-IsSoundStage _ = Unit {0}
-
--- the letter to the asked role waits, and nothing else was done
-pub record IsNew (s : SearchState) (query : Query) (work : ℕ) (snapshot : SnapshotState) : Type 0 where
-  pub query_is : s.query ≡ query
-  pub work_is : s.work ≡ work
-  pub snapshot_is : s.snapshot ≡ snapshot
-  pub graph_is : s.graph ≡ record { nodes = Rol (asked_role query) ∷ []; listeners = [] ∷ []; solutions = [] }
-  pub monitors_is : s.monitors ≡ monitor.Plain ∷ []
-  pub stage_is : s.stage ≡ stage.Running (started 0 load.Start)
-
-abbrev pub net_of : GraphState → List Monitor → Computation Said → Net
-net_of g ms c = record { graph = g; monitors = ms; pending = sent_of c.letters }
 
 -- what a running search keeps: each rule is applied or owed, while the environment's letter is there it is the only one,
 -- and no more letters were sent than it may send
