@@ -17,6 +17,8 @@ mod proving;
 mod rules;
 mod standing;
 mod steps;
+#[cfg(test)]
+mod tests_below;
 mod writing;
 
 pub use checking::check_proof;

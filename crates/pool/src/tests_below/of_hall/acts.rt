@@ -1,11 +1,11 @@
 //! Events as a table writes them, and what a table wants each to be answered.
-use crate::tests_below::{are_named, are_seen, is_spelled};
+use crate::tests_below::are_named;
 use credential_text::{CredFault, Credential, read_credential};
 use hall::{Answer, Event, Fault, Hall, Proof, Query, Reply, Request, Step, Stepped, write_proof};
 use names::{Entity, Role};
 use search::{Hint, Need};
 use std::alloc::Global;
-use vaults::Change;
+use vaults::{Change, Seen};
 
 /// What a tenant asks of a hall, or what is done for its search; a step names the number of the search first.
 pub(super) enum Act {
@@ -134,6 +134,11 @@ fn is_role(role: &Role, text: &str) -> bool {
     }
 }
 
+/// Whether the text spells this credential.
+fn is_spelled(alloc: Global, credential: &Credential, text: &[u8]) -> Result<bool, CredFault> {
+    Ok(credential.compare(&read_credential(alloc, text)?).is_eq())
+}
+
 /// Whether these are the credentials that the texts spell, in this order.
 fn are_spelled(alloc: Global, rows: &[Credential], wanted: &[&str]) -> Result<bool, CredFault> {
     for (row, text) in rows.iter().zip(wanted) {
@@ -142,6 +147,16 @@ fn are_spelled(alloc: Global, rows: &[Credential], wanted: &[&str]) -> Result<bo
         }
     }
     Ok(rows.len() == wanted.len())
+}
+
+/// Whether these are the names, in this order, and whether their vaults are public.
+fn are_seen(seen: &[Seen], names: &[(&[u8], bool)]) -> bool {
+    for (seen, (name, to_all)) in seen.iter().zip(names) {
+        if seen.name.bytes() != *name || seen.to_all != *to_all {
+            return false;
+        }
+    }
+    seen.len() == names.len()
 }
 
 /// Whether the proof is written in these lines.

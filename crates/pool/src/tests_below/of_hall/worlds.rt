@@ -1,17 +1,103 @@
-//! Halls of four tenants, with credentials and grants that rows of numbers make: what each tenant sees and is answered,
+//! Halls of four tenants, with credentials and grants that rows of numbers pick: what each tenant sees and is answered,
 //! compared with the plain program over the vaults that it may read.
+ghost use Rattle.std.specs.Prelude.{◌<◌};
+
 use super::acts::Told;
 use super::deeds::drives_to;
 use super::{four, four_tenants};
-use crate::tests_below::numbers::{below, credentials, role};
-use credential_text::Credential;
+use credential_text::{CredFault, Credential, read_credential};
 use hall::{Answer, Fault, Hall, Query};
-use names::{Entity, Role};
+use names::{Entity, NameFault, Role};
 use proof_trees::check_proof;
 use quotas::Limits;
 use rt0_rules::members_plain;
-use std::alloc::Global;
+use std::alloc::{AllocError, Global};
 use vaults::{Change, Seen};
+
+/// The next number of the row, below so many.
+fn below(state: &mut u64, bound: u64) -> u64
+    requires { 0 < bound }
+    ensures { result < bound }
+{
+    let low = *state % 2147483648;
+    *state = low * 1103515245 + 12345;
+    *state / 65536 % bound
+}
+
+/// Credentials of every form, for circles and for roles that stand on each other's in many ways.
+static CREDENTIALS: [&[u8]; 53] = [
+    b"A.r <- B",
+    b"A.r <- D",
+    b"A.r <- A",
+    b"A.r <- B.r",
+    b"A.r <- B.s",
+    b"A.r <- C.r",
+    b"A.r <- D.r",
+    b"A.r <- A.r",
+    b"A.r <- A.s",
+    b"A.r <- A.s.r",
+    b"A.r <- A.r.r",
+    b"A.r <- A.r.s",
+    b"A.r <- B.r & C.r",
+    b"A.r <- A.s.r & B.r",
+    b"A.r <- B.r & B.r",
+    b"A.r <- C & B.s & A.s.r",
+    b"A.s <- B",
+    b"A.s <- C",
+    b"A.s <- D.s",
+    b"A.s <- A.r.s",
+    b"A.s <- C.r & A.r",
+    b"B.r <- A",
+    b"B.r <- C",
+    b"B.r <- D",
+    b"B.r <- B",
+    b"B.r <- A.r",
+    b"B.r <- B.s",
+    b"B.r <- C.s",
+    b"B.r <- B.s.r",
+    b"B.r <- B.r.s",
+    b"B.r <- A.r & C.r",
+    b"B.r <- D & C.r",
+    b"B.s <- A",
+    b"B.s <- C",
+    b"B.s <- A.s",
+    b"B.s <- B.r.r",
+    b"B.s <- D.r & A",
+    b"C.r <- A",
+    b"C.r <- D",
+    b"C.r <- A.r",
+    b"C.r <- C.s.r",
+    b"C.r <- B.r & A.s",
+    b"C.s <- A",
+    b"C.s <- B",
+    b"C.s <- C.r.s",
+    b"D.r <- B",
+    b"D.r <- C",
+    b"D.r <- B.r",
+    b"D.r <- D.r.r",
+    b"D.r <- A.r & B.s",
+    b"D.s <- A",
+    b"D.s <- B.s",
+    b"D.s <- D.r.s",
+];
+
+/// One in five of the credentials.
+fn some_credentials(alloc: Global, numbers: &mut u64) -> Result<Vec<Credential>, CredFault> {
+    let mut some = Vec::new(alloc);
+    for text in &CREDENTIALS {
+        if below(numbers, 5) == 0 {
+            some.push(read_credential(alloc, text)?)
+                .map_err(AllocError::from)?;
+        }
+    }
+    Ok(some)
+}
+
+static ASKED: [&[u8]; 6] = [b"A.r", b"A.s", b"B.r", b"B.s", b"C.r", b"D.r"];
+
+fn asked_role(numbers: &mut u64) -> Result<Role, NameFault> {
+    Role::read(ASKED[below(numbers, 6) as usize])
+}
 
 /// A grant that a tenant may make, to one reader or to every tenant where none is named, and whether it stands.
 #[derive(Drop)]
@@ -268,11 +354,11 @@ fn is_right(alloc: Global, world: &World<'_>, numbers: &mut u64) -> Result<bool,
     answers_each(alloc, &mut hall, world, &mut grants, numbers)
 }
 
-/// The same of a world that other numbers make.
+/// The same of a world that other numbers pick.
 fn makes_right(alloc: Global, numbers: &mut u64, turns: &mut u64) -> Result<bool, Fault> {
     let tenants = four()?;
-    let credentials = credentials(alloc, numbers).or(Err(Fault::Memory))?;
-    match role(numbers) {
+    let credentials = some_credentials(alloc, numbers).or(Err(Fault::Memory))?;
+    match asked_role(numbers) {
         Ok(role) => is_right(
             alloc,
             &World {
