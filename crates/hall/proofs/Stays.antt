@@ -6,6 +6,7 @@ use Rattle.search.specs.declared.carried.Carried.TheVariants.{Own, Lent, Moving}
 use Rattle.search.specs.declared.stages.Stage.{Stage}
 use Rattle.search.specs.declared.stages.Stage.TheVariants as stage
 use Rattle.search.specs.Search.{SearchState, IsCompleted, IsOutstanding, IsSoundStage, settled_of, IsAnswered, status_of, come_to}
+use Rattle.search.specs.Finish.{IsDriven}
 use Rattle.search.specs.Stage.{IsQuiet}
 use Rattle.search.specs.Ending.{Settled}
 use Rattle.search.proofs.Answered.{answers_as}
@@ -77,7 +78,7 @@ module _ (h : HallState) (who : List ℕ) (k : ℕ) where
 -- what is told of it where it was to be driven
 pub stays_driven : (s : SearchState) → IsCompleted s.stage → (told : Result Answer Fault) → IsToldOf (settled_of s) told → IsSoundStage s.stage → DrivesTo s told s
 stays_driven s done told tells sound = record {
-  driven = ([], refl);
+  driven = IsDriven.rests;
   tells = tells;
   quiet = quiet s.stage done;
   settled = λ held. ended s.stage done;
