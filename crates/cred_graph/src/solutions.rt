@@ -1,4 +1,4 @@
-ghost use Rattle.std.specs.Prelude.{◌≡◌, ◌↔◌, [], Some, IsTrue, IfOk, OnErr, MatchOption, ◌<◌, ◌≤◌, length, slice_get};
+ghost use Rattle.std.specs.Prelude.{◌≡◌, [], Some, IfOk, OnErr, MatchOption, ◌<◌, ◌≤◌, length, slice_get};
 
 use crate::member_lists::MemberLists;
 use indexmap::IndexMap;
@@ -41,9 +41,6 @@ const FIRST_ROOM: usize = 144;
 
 /// A table of fewer solutions grows fourfold, so that it is moved and indexed anew less often.
 const SMALL: usize = 4096;
-
-/// So many solutions of a node are looked through one by one, as many as stand in its list itself.
-const NEAR: usize = 8;
 
 /// The solutions of all nodes with their reasons, in order of adding, and the entities of each node's. Entities are
 /// spoken of by number.
@@ -113,26 +110,13 @@ impl Solutions {
         }
     }
 
-    /// Whether the solution is there.
-    #[inline(always)]
-    fn has(&self, solved: &Solved) -> bool
-        ensures { IsTrue result ↔ HasKey self.now solved.now }
-    {
-        let members = self.members.of(solved.node);
-        if members.len() <= NEAR {
-            members.contains(&solved.who)
-        } else {
-            self.find(solved).is_some()
-        }
-    }
-
     /// Adds a solution, and answers whether that is new. The first reason stays.
     pub fn add(&mut self, solved: Solved, reason: Reason<u32, u32>) -> Result<bool, AllocError>
         ensures ok { IfOk result (λ new. Solves self.old self.new solved reason new) }
         ensures growth { OnErr result (HasKey self.old solved → ⊥) }
         ensures unchanged { OnErr result (self.new ≡ self.old) }
     {
-        if self.has(&solved) {
+        if let Some(_found) = self.find(&solved) {
             return Ok(false);
         }
         let room = self.room_for_one();
