@@ -1,5 +1,5 @@
 -- A completed search stays as it is, whatever is asked of it.
-use Rattle.std.proofs.Common.{◌≡◌, ◌∙◌, ℕ, List, [], Option, Some, None, Result, Ok, ap, sym, refl, slice_get, subst}
+use Rattle.std.proofs.Common.{◌≡◌, ◌∙◌, ℕ, List, Option, Some, None, Result, Ok, ap, sym, refl, slice_get, subst}
 use Rattle.search.specs.Carried.{IsCarried, carried_search}
 use Rattle.search.specs.declared.carried.Carried.{Carried}
 use Rattle.search.specs.declared.carried.Carried.TheVariants.{Own, Lent, Moving}

@@ -1,5 +1,5 @@
 -- A search goes on by a step of a hall, or by steps of its own.
-use Rattle.std.proofs.Common.{◌∙◌, ℕ, List, [], ◌∷◌, sym, refl, subst, subst₂, inl}
+use Rattle.std.proofs.Common.{◌∙◌, ℕ, refl, subst, subst₂, inl}
 use Rattle.vaults.specs.Journal.{credentials}
 use Rattle.snapshots.specs.Snapshot.{SnapshotState}
 use Rattle.search.specs.declared.queries.Query.{Query}
