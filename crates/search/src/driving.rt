@@ -40,6 +40,7 @@ impl Search {
         ensures settles { Settles self.old self.new }
     {
         while self.make_step() {}
+        // Computes nothing: its contract says that what rests with no letter held has settled.
         let _settled = self.is_quiet();
     }
 }
