@@ -74,7 +74,7 @@ impl Graph {
         self.solutions.reserve(nodes)
     }
 
-    /// Gives back the memory that nothing takes. It is a hint too: a graph is the same without it.
+    /// Gives back memory that nothing takes, where it is a good part. It is a hint too: a graph is the same without it.
     pub fn give_back(&mut self)
         ensures unchanged { self.new ≡ self.old }
     {

@@ -15,7 +15,9 @@ mod nodes;
 mod numbers;
 mod ports;
 mod reasons;
+mod rooms;
 mod solutions;
+mod solved_hashes;
 
 pub use graphs::Graph;
 pub use listeners::{Listening, Port};

@@ -2,6 +2,7 @@ ghost use Rattle.std.specs.Prelude.{◌≡◌, ◌<◌, ◌∷◌, [], ◌++◌,
 ghost use Rattle.cred_graph.specs.NodeLists.{list_at, AreSame};
 
 use crate::listeners::KeptListening;
+use crate::rooms::is_mostly_spare;
 use smallvec::SmallVec;
 use std::alloc::{AllocError, Global};
 use std::marker::Model;
@@ -41,11 +42,13 @@ impl ListenerLists {
         self.lists.reserve(more)
     }
 
-    /// Gives back the memory that nothing takes.
+    /// Gives back the memory that nothing takes, where that is more than half.
     pub fn give_back(&mut self)
         ensures { self.new ≡ self.old }
     {
-        self.lists.shrink_to_fit();
+        if is_mostly_spare(self.lists.len(), self.lists.capacity()) {
+            self.lists.shrink_to_fit();
+        }
     }
 
     /// The listeners of the node.

@@ -95,7 +95,7 @@ impl Listeners {
         self.lists.reserve(nodes)
     }
 
-    /// Gives back the memory that nothing takes.
+    /// Gives back memory that nothing takes.
     pub fn give_back(&mut self)
         ensures { self.new ≡ self.old }
     {

@@ -1,6 +1,7 @@
 ghost use Rattle.std.specs.Prelude.{◌≡◌, ◌<◌, ◌∷◌, [], ◌++◌, OnOk, OnErr, length, map, slice_set};
 ghost use Rattle.cred_graph.specs.NodeLists.{list_at, AreSame};
 
+use crate::rooms::is_mostly_spare;
 use smallvec::SmallVec;
 use std::alloc::{AllocError, Global};
 use std::marker::Model;
@@ -39,11 +40,13 @@ impl MemberLists {
         self.lists.reserve(more)
     }
 
-    /// Gives back the memory that nothing takes.
+    /// Gives back the memory that nothing takes, where that is more than half.
     pub fn give_back(&mut self)
         ensures { self.new ≡ self.old }
     {
-        self.lists.shrink_to_fit();
+        if is_mostly_spare(self.lists.len(), self.lists.capacity()) {
+            self.lists.shrink_to_fit();
+        }
     }
 
     /// The numbers of the node's solutions.

@@ -4,6 +4,7 @@ ghost use Rattle.credential_text.specs.declared.exprs.Expr.TheVariants as exprs;
 ghost use Rattle.credential_text.specs.Expr.{HasPartsInRange};
 
 use crate::numbers::short;
+use crate::rooms::is_mostly_spare;
 use credential_text::Expr;
 use indexmap::IndexSet;
 use names::Entity;
@@ -70,11 +71,13 @@ impl Nodes {
         self.exprs.reserve(count as usize)
     }
 
-    /// Gives back the memory that nothing takes.
+    /// Gives back the memory that nothing takes, where that is more than half.
     pub fn give_back(&mut self)
         ensures { self.new ≡ self.old }
     {
-        self.exprs.shrink_to_fit();
+        if is_mostly_spare(self.exprs.len(), self.exprs.capacity()) {
+            self.exprs.shrink_to_fit();
+        }
     }
 
     /// Adds a node for an expression that has none, and answers its number. A number that doesn't fit 32 bits is refused.

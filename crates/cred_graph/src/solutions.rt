@@ -1,9 +1,12 @@
 ghost use Rattle.std.specs.Prelude.{◌≡◌, [], Some, IfOk, OnErr, MatchOption, ◌<◌, ◌≤◌, length, slice_get};
 
 use crate::member_lists::MemberLists;
+use crate::rooms::is_mostly_spare;
+use crate::solved_hashes::SolvedHasher;
 use indexmap::IndexMap;
 use names::Entity;
 use std::alloc::{AllocError, Global};
+use std::hash::BuildHasherDefault;
 use std::marker::Model;
 
 /// Why an entity is a solution of a node. Nodes have numbers of the type `N`; the member of a base is an `Entity`, or the
@@ -45,7 +48,7 @@ const SMALL: usize = 4096;
 /// The solutions of all nodes with their reasons, in order of adding, and the entities of each node's. Entities are
 /// spoken of by number.
 pub struct Solutions {
-    reasons: IndexMap<Solved, Reason<u32, u32>>,
+    reasons: IndexMap<Solved, Reason<u32, u32>, BuildHasherDefault<SolvedHasher>>,
     members: MemberLists,
 }
 
@@ -80,7 +83,7 @@ impl Solutions {
         ensures { result ≡ [] }
     {
         Solutions {
-            reasons: IndexMap::new(alloc),
+            reasons: IndexMap::with_hasher(alloc, BuildHasherDefault::new()),
             members: MemberLists::new(alloc),
         }
     }
@@ -92,11 +95,13 @@ impl Solutions {
         self.members.reserve(nodes)
     }
 
-    /// Gives back the memory that nothing takes.
+    /// Gives back the memory that nothing takes, where that is more than half.
     pub fn give_back(&mut self)
         ensures { self.new ≡ self.old }
     {
-        self.reasons.shrink_to_fit();
+        if is_mostly_spare(self.reasons.len(), self.reasons.capacity()) {
+            self.reasons.shrink_to_fit();
+        }
         self.members.give_back();
     }
 

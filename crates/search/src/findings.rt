@@ -118,14 +118,17 @@ impl Findings {
         }
     }
 
-    // Gives back the memory that nothing takes.
+    // Gives back the memory that nothing takes. The list of monitors is moved for it only where less than half of its room
+    // is taken.
     #[cold]
     #[inline(never)]
     pub(crate) fn give_back(&mut self, alloc: Global)
         ensures { self.new ≡ record self.old { outs = [] } }
     {
         self.outs = VecDeque::new(alloc);
-        self.monitors.shrink_to_fit();
+        if self.monitors.len() < self.monitors.capacity() / 2 {
+            self.monitors.shrink_to_fit();
+        }
         self.graph.give_back();
     }
 }
