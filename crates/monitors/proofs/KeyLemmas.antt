@@ -1,17 +1,13 @@
--- What sets of keys hear, whose equality is exact, and what stands for it by name.
-use Rattle.std.proofs.Common.{◌≡◌, Bool, true, false, cond, Some, Result, Ok, Err, OnErr, List, [], ◌∷◌, ◌++◌, Contains, refl, sym, ap, subst, ◌∙◌, not, if◌then◌else◌, true≢false}
+-- What sets of keys hear, whose equality is exact.
+use Rattle.std.proofs.Common.{◌≡◌, Bool, true, false, cond, Some, Result, Ok, Err, OnErr, List, [], ◌∷◌, ◌++◌, ◌||◌, inl, inr, Contains, refl, sym, ap, subst, ◌∙◌, not, if◌then◌else◌, true≢false, append-nil, append_assoc, arith}
 use Rattle.std.specs.Cmp.{IsEquivalence}
 use Rattle.std.specs.List.{list_any}
 use Rattle.std.specs.Map.{lookup_key}
+use Rattle.std.proofs.lemmas.List.Elements.{Contains-append_left, Contains-append_right, Contains-append_cases, Contains-push}
 use Rattle.std.proofs.lemmas.Option.{same_Some}
 use Rattle.std.proofs.lemmas.Map.Views.{list_any-from_Contains, Contains-from_any}
 use Rattle.indexmap.specs.IndexSet.{insert_key}
-use Rattle.monitors.specs.declared.link_monitors.LinkSets.{LinkSets}
-use Rattle.monitors.specs.LinkMonitor.{LinkToldBy, HearsBase, HearsVia}
-
--- what the sets hold
-abbrev pub sets_told : {K : Type 0} → LinkSets K → LinkToldBy K
-sets_told sets = record { bases = sets.bases.keys; members = sets.members.keys }
+use Rattle.monitors.specs.LinkMonitor.{AddsKey}
 
 -- what holds holds where a call failed
 pub on_err : {T E P : Type 0} (r : Result T E) → P → OnErr r P
@@ -37,31 +33,46 @@ module _ {K : Type 0} (eq : K → K → Bool) (laws : IsEquivalence eq) (exact :
   is_old : (keys : List K) (key : K) → list_any (eq key) keys ≡ true → Contains keys key
   is_old keys key e = Contains-from_any exact key keys e
 
-  abbrev pub kept_or_added : List K → K → Bool → List K
-  kept_or_added keys key known = if known then keys else keys ++ key ∷ []
+  -- the same where the others are asked whether they are the same as the key
+  mirrored : (keys : List K) (key : K) → list_any (λ other. eq other key) keys ≡ list_any (eq key) keys
+  mirrored [] key = refl
+  mirrored (k ∷ keys) key = λ i. laws.symm k key i || mirrored keys key i
 
-  -- the key is one of these now, and the answer says whether it is new
-  abbrev IsPut : List K → List K → K → Bool → Type 0
-  IsPut keys after key true = (Contains keys key → ⊥) × (after ≡ keys ++ key ∷ [])
-  IsPut keys after key false = Contains keys key × (after ≡ keys)
+  -- a key that the first ones have is no new one
+  pub near_has : (near far : List K) (key : K) → list_any (λ other. eq other key) near ≡ true → AddsKey (λ keys. keys) (near ++ far) (near ++ far) key false
+  near_has near far key e =
+      (Contains-append_left near far key (is_old near key (sym (mirrored near key) ∙ e)), refl)
 
-  put : (keys after : List K) (key : K) (new : Bool) → new ≡ not (list_any (eq key) keys) → after ≡ insert_key eq keys key → IsPut keys after key new
-  put keys after key new answer inserted = by (list_any (eq key) keys) refl
+  -- a key that neither the first ones nor the others have
+  pub near_lacks : (near far : List K) (key : K) → list_any (λ other. eq other key) near ≡ false → (Contains far key → ⊥) → Contains (near ++ far) key → ⊥
+  near_lacks near far key e absent there =
+      elim (Contains-append_cases near far key there) [
+        | inl first ↦ is_new near key (sym (mirrored near key) ∙ e) first
+        | inr beyond ↦ absent beyond
+      ]
+
+  -- a key is added to the first ones, where there are no others
+  pub near_adds : (near grown far : List K) (key : K) → list_any (λ other. eq other key) near ≡ false → grown ≡ near ++ key ∷ [] → far ≡ [] → AddsKey (λ keys. keys) (near ++ far) (grown ++ far) key true
+  near_adds near grown far key e is none = (
+    near_lacks near far key e (subst (λ keys. Contains keys key → ⊥) (sym none) (λ there. absurd (omega (arith, there.1)))),
+    (λ i. is i ++ none i) ∙ append-nil (near ++ key ∷ []) ∙ ap (λ keys. keys ++ key ∷ []) (sym (append-nil near) ∙ ap (λ keys. near ++ keys) (sym none)),
+  )
+
+  -- a key that the first ones lack is added to the others
+  pub far_adds : (near far after : List K) (key : K) (new : Bool) → list_any (λ other. eq other key) near ≡ false → new ≡ not (list_any (eq key) far) → after ≡ insert_key eq far key → AddsKey (λ keys. keys) (near ++ far) (near ++ after) key new
+  far_adds near far after key new lacks answer inserted = by (list_any (eq key) far) refl
     where
-      by : (known : Bool) → list_any (eq key) keys ≡ known → IsPut keys after key new
-      by true e = subst (IsPut keys after key) (sym (answer ∙ ap not e)) (is_old keys key e, inserted ∙ ap (kept_or_added keys key) e)
-      by false e = subst (IsPut keys after key) (sym (answer ∙ ap not e)) (is_new keys key e, inserted ∙ ap (kept_or_added keys key) e)
+      by : (known : Bool) → list_any (eq key) far ≡ known → AddsKey (λ keys. keys) (near ++ far) (near ++ after) key new
+      by true e = subst (AddsKey (λ keys. keys) (near ++ far) (near ++ after) key) (sym (answer ∙ ap not e)) (
+        Contains-append_right near far key (is_old far key e),
+        ap (λ keys. near ++ keys) (inserted ∙ ap (λ known. if known then far else far ++ key ∷ []) e),
+      )
+      by false e = subst (AddsKey (λ keys. keys) (near ++ far) (near ++ after) key) (sym (answer ∙ ap not e)) (
+        near_lacks near far key lacks (is_new far key e),
+        ap (λ keys. near ++ keys) (inserted ∙ ap (λ known. if known then far else far ++ key ∷ []) e) ∙ sym (append_assoc near far (key ∷ [])),
+      )
 
-  pub hears_base : (old : LinkToldBy K) (base : K) (new : Bool) (bases : List K) → new ≡ not (list_any (eq base) old.bases) → bases ≡ insert_key eq old.bases base → HearsBase old (record old { bases = bases }) base new
-  hears_base old base new bases answer inserted = by new (put old.bases bases base new answer inserted)
-    where
-      by : (b : Bool) → IsPut old.bases bases base b → HearsBase old (record old { bases = bases }) base b
-      by true (absent, is) = (absent, ap (λ keys. record old { bases = keys }) is)
-      by false (there, is) = (there, ap (λ keys. record old { bases = keys }) is)
-
-  pub hears_via : (old : LinkToldBy K) (who : K) (new : Bool) (members : List K) → new ≡ not (list_any (eq who) old.members) → members ≡ insert_key eq old.members who → HearsVia old (record old { members = members }) who new
-  hears_via old who new members answer inserted = by new (put old.members members who new answer inserted)
-    where
-      by : (b : Bool) → IsPut old.members members who b → HearsVia old (record old { members = members }) who b
-      by true (absent, is) = (absent, ap (λ keys. record old { members = keys }) is)
-      by false (there, is) = (there, ap (λ keys. record old { members = keys }) is)
+-- the key is one of them now
+pub now_told : {K : Type 0} (keys after : List K) (key : K) (new : Bool) → AddsKey (λ keys. keys) keys after key new → Contains after key
+now_told keys after key true (absent, is) = subst (λ keys. Contains keys key) (sym is) (Contains-push keys key)
+now_told keys after key false (there, is) = subst (λ keys. Contains keys key) (sym is) there

@@ -11,12 +11,15 @@ abbrev pub LinkTold : Type 0
 LinkTold = LinkToldBy (List ℕ)
 
 module _ {K : Type 0} where
-  -- the base has this member now, and the answer says whether that is new: a repeat changes nothing
-  abbrev pub HearsBase : LinkToldBy K → LinkToldBy K → K → Bool → Type 0
-  HearsBase old new base true = (Contains old.bases base → ⊥) × (new ≡ record old { bases = old.bases ++ base ∷ [] })
-  HearsBase old new base false = Contains old.bases base × (new ≡ old)
+  -- what holds these keys has this one too now, at their end, and the answer says whether that is new: a repeat changes nothing
+  abbrev pub AddsKey : {S : Type 0} → (List K → S) → List K → S → K → Bool → Type 0
+  AddsKey holding keys new key true = (Contains keys key → ⊥) × (new ≡ holding (keys ++ key ∷ []))
+  AddsKey holding keys new key false = Contains keys key × (new ≡ holding keys)
 
-  -- the linked role has this member now, and the answer says whether that is new: a repeat changes nothing
+  -- the base has this member now
+  abbrev pub HearsBase : LinkToldBy K → LinkToldBy K → K → Bool → Type 0
+  HearsBase old = AddsKey (λ bases. record old { bases = bases }) old.bases
+
+  -- the linked role has this member now
   abbrev pub HearsVia : LinkToldBy K → LinkToldBy K → K → Bool → Type 0
-  HearsVia old new who true = (Contains old.members who → ⊥) × (new ≡ record old { members = old.members ++ who ∷ [] })
-  HearsVia old new who false = Contains old.members who × (new ≡ old)
+  HearsVia old = AddsKey (λ members. record old { members = members }) old.members

@@ -11,7 +11,7 @@ module _ {K : Type 0} where
   -- what a linked role was told
   abbrev pub link_told : LinkMemory K → LinkToldBy K
   link_told link.Untold = record { bases = []; members = [] }
-  link_told (link.Told sets) = record { bases = sets.value.bases.keys; members = sets.value.members.keys }
+  link_told (link.Told sets) = record { bases = sets.value.bases; members = sets.value.members }
 
   -- what an intersection was told
   abbrev pub meet_told : MeetMemory K → MeetLines K

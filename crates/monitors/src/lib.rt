@@ -7,6 +7,7 @@
 //! whatever names the numbers stand for, as long as no two of them stand for one name (`specs/MeetMonitor.antt`).
 #![tactic(auto)]
 
+mod key_sets;
 mod keyed_meets;
 mod keys;
 mod link_monitors;

@@ -1,7 +1,7 @@
 ghost use Rattle.std.specs.Prelude.{◌≡◌, [], IfOk, OnOk, OnErr, Contains};
 
+use crate::key_sets::KeySet;
 use crate::keys::Key;
-use indexmap::IndexSet;
 use names::Entity;
 use std::alloc::{AllocError, Global};
 use std::marker::Model;
@@ -9,8 +9,8 @@ use std::marker::Model;
 /// What a linked role was told, once it was told something: as sets in order of telling.
 #[derive(Drop)]
 struct LinkSets<K: Key> {
-    bases: IndexSet<K>,
-    members: IndexSet<K>,
+    bases: KeySet<K>,
+    members: KeySet<K>,
 }
 
 /// What a linked role keeps of what it was told: nothing, until it is told something.
@@ -68,11 +68,11 @@ impl<K: Key> LinkMonitor<K> {
         ensures unchanged { OnErr result (self.new ≡ self.old) }
     {
         match &mut self.memory {
-            LinkMemory::Told(sets) => Ok(sets.bases.insert(base)?),
+            LinkMemory::Told(sets) => sets.bases.insert(base),
             LinkMemory::Untold => {
                 let nothing = LinkSets {
-                    bases: IndexSet::new(self.alloc),
-                    members: IndexSet::new(self.alloc),
+                    bases: KeySet::new(self.alloc),
+                    members: KeySet::new(self.alloc),
                 };
                 let mut sets = Box::new(self.alloc, nothing)?;
                 let is_new = sets.bases.insert(base)?;
@@ -93,7 +93,7 @@ impl<K: Key> LinkMonitor<K> {
     {
         let _base = base;
         match &mut self.memory {
-            LinkMemory::Told(sets) => Ok(sets.members.insert(who)?),
+            LinkMemory::Told(sets) => sets.members.insert(who),
             LinkMemory::Untold => unreachable!(),
         }
     }
