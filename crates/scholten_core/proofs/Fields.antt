@@ -9,14 +9,14 @@ use Rattle.scholten_core.specs.declared.parents.Parent.{Parent}
 use Rattle.scholten_core.specs.declared.parents.Parent.TheVariants.{Neutral, Environment, Node}
 use Rattle.scholten_core.specs.declared.letters.Letter.{Letter}
 use Rattle.scholten_core.specs.declared.engagement.Engagement.{Engagement}
-use Rattle.scholten_core.specs.Computation.{deficit, same_parent, waiting_in}
+use Rattle.scholten_core.specs.Computation.{deficit, outstanding, same_parent, waiting_in}
 use Rattle.scholten_core.specs.Step.{mark, marked, started, TakesLetter}
 use Rattle.scholten_core.specs.Kept.{IsKept, engaged_from, engagement_of, engagements, held_in, kept, parent_kept}
 use Rattle.scholten_core.specs.LetterTable.{LetterTableState}
 use Rattle.scholten_core.proofs.Complete.{settled_started, sound}
 use Rattle.scholten_core.proofs.Engaged.{alike, count-empty, get-insert_other, get-insert_same}
 use Rattle.scholten_core.proofs.Lists.{lookup-changed, lookup_from_filter}
-use Rattle.scholten_core.proofs.Steps.{deficit-marked, settled_marked}
+use Rattle.scholten_core.proofs.Steps.{deficit-le-outstanding, deficit-marked, settled_marked}
 
 -- nobody engaged a node whose place comes before those looked at
 before : (k n : ℕ) (nodes : List (Option Engagement)) → n < k → fin.get (engaged_from k nodes) n ≡ None
@@ -101,3 +101,26 @@ unchanged_kept table after signals signals_after owed nodes same letters sent si
     same_counts Neutral = refl
     same_counts Environment = refl
     same_counts (Node n) = ap (λ es. unwrap_or (option_map (λ (e : Engagement). e.deficit) (engagement_of es n)) 0) entries
+
+-- where nothing is outstanding no node is engaged, so that no entry is kept for any
+module _ {P : Type 0} (table after : LetterTableState P) (signals signals_after : List Parent) (owed : ℕ) (nodes bare : List (Option Engagement)) (letters : after.letters ≡ table.letters) (sent : after.sent ≡ table.sent) (signals_are : signals_after ≡ signals) (empty : bare ≡ []) (none : outstanding (held_in table signals nodes) ≡ 0) where
+  nobody_engaged : engagements bare ≡ engagements nodes
+  nobody_engaged = ap engagements empty ∙ sym (fin.empty_of_len (engagements nodes) (omega (arith, none)))
+
+  pub emptied_is : held_in after signals_after bare ≡ held_in table signals nodes
+  emptied_is = λ i. record {
+    sent = sent i;
+    letters = letters i;
+    signals = signals_are i;
+    engaged = nobody_engaged i;
+  }
+
+  pub emptied_kept : IsKept (held_in table signals nodes) owed nodes → IsKept (held_in after signals_after bare) owed bare
+  emptied_kept keeps =
+      subst (λ d. IsKept d owed bare) (sym emptied_is) (record { settled = keeps.settled; counts = counts })
+    where
+      counts : (p : Parent) → kept owed bare p ≡ deficit (held_in table signals nodes) p
+      counts Neutral = keeps.counts Neutral
+      counts Environment = keeps.counts Environment
+      counts (Node n) =
+          omega (arith, none, deficit-le-outstanding (held_in table signals nodes) (Node n), ap (λ es. unwrap_or (option_map (λ (e : Engagement). e.deficit) (engagement_of es n)) 0) empty)

@@ -182,14 +182,16 @@ impl<P: Drop> Diffusion<P> {
         }
     }
 
-    // Gives back the memory that nothing takes.
+    // Gives back the memory that nothing takes, and the list of the nodes: none of them is engaged then.
     #[cold]
     #[inline(never)]
     fn shrink(&mut self)
+        requires { outstanding self.old ≡ 0 }
         ensures { self.new ≡ self.old }
     {
         self.letters.give_back();
         self.signals.shrink_to_fit();
+        self.nodes.clear();
         self.nodes.shrink_to_fit();
     }
 
