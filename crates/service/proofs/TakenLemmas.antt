@@ -1,43 +1,57 @@
--- Lemmas on taking a line's bytes one by one.
-use Rattle.std.proofs.Common.{◌≡◌, ◌≢◌, ℕ, List, [], ◌∷◌, ◌++◌, length, take, arith, refl, Option, None, Some, append_assoc, sym, ◌∙◌, ap}
-use Rattle.std.proofs.Common.{inl, inr, Result}
-use Rattle.std.specs.Io.KnownBytes.{Consumes, IsAtEnd}
-use Rattle.std.specs.Prelude.{IfSome}
-use Rattle.std.proofs.lemmas.List.Elements.{All-push}
-use Rattle.std.proofs.lemmas.List.{append-nil, take_all, take-append-le, length-take}
-use Rattle.std.proofs.lemmas.Bool.{cases_lt}
-use Rattle.std.specs.Io.Iter.{YieldsKnownByte}
+-- Lemmas on taking a line's bytes piece by piece.
+use Rattle.std.proofs.Common.{◌≡◌, ◌≤◌, ◌<◌, ℕ, List, [], ◌++◌, ◌-◌, length, take, min, get_or, arith, refl, Option, None, Some, sym, ◌∙◌, ap}
+use Rattle.std.proofs.Common.{inl, inr}
+use Rattle.std.specs.List.{before_first, position_or_len}
+use Rattle.std.specs.Io.KnownBytes.{IsAtEnd}
+use Rattle.std.specs.Prelude.{IfSome, ◌==◌}
+use Rattle.std.proofs.Math.Seq.{take-append-add}
+use Rattle.std.proofs.lemmas.List.{append-nil, nil_from_length, take_all, take-append-le, length-take, get_or-take}
+use Rattle.std.proofs.lemmas.List.Sums.{fails_before_first}
+use Rattle.std.proofs.lemmas.Bool.{cases_lt, eqb-false}
 use Rattle.service.specs.LineReader.{HasNoNewline}
 
--- what was taken, and then one byte more
-pub Consumes-more : (old mid new : Option (List ℕ)) (raw : List ℕ) (b : ℕ) → Consumes old mid raw → Consumes mid new (b ∷ []) → Consumes old new (raw ++ b ∷ [])
-Consumes-more None mid new raw b first then = tt
-Consumes-more (Some xs) None new raw b first then = absurd first
-Consumes-more (Some xs) (Some ys) None raw b first then = absurd then
-Consumes-more (Some xs) (Some ys) (Some zs) raw b first then = first ∙ ap (λ t. raw ++ t) then ∙ sym (append_assoc raw (b ∷ []) zs)
+-- the first bytes, as far as there is room for them
+take-min : (n : ℕ) (bytes : List ℕ) → take (min (length bytes) n) bytes ≡ take n bytes
+take-min n bytes =
+    elim (cases_lt n (length bytes)) [
+      | inl longer ↦ ap (λ k. take k bytes) (omega arith)
+      | inr short ↦ take_all (min (length bytes) n) bytes (omega arith) ∙ sym (take_all n bytes (omega arith))
+    ]
 
--- at the end, what was taken is all that there was
-pub same-at_end : (old mid : Option (List ℕ)) (raw : List ℕ) → Consumes old mid raw → IsAtEnd mid → IfSome old (λ bytes. bytes ≡ raw)
-same-at_end None mid raw taken end = tt
-same-at_end (Some xs) None raw taken end = absurd taken
-same-at_end (Some xs) (Some ys) raw taken end = taken ∙ ap (λ t. raw ++ t) end ∙ append-nil raw
+-- what there is room for goes behind the line
+pub take-behind : (n count : ℕ) (line bytes grown : List ℕ) → length line ≤ n → count ≡ min (length bytes) (n - length line) → grown ≡ line ++ take count bytes → grown ≡ take n (line ++ bytes)
+take-behind n count line bytes grown few room is =
+    is ∙ ap (λ k. line ++ take k bytes) room ∙ ap (λ t. line ++ t) (take-min (n - length line) bytes) ∙ sym (take-append-add line bytes (n - length line))
+    ∙ ap (λ k. take k (line ++ bytes)) (omega (arith, few))
+
+-- nothing goes behind it
+pub take-nothing : (n : ℕ) (line piece : List ℕ) → length line ≤ n → length piece ≡ 0 → take n (line ++ piece) ≡ line
+take-nothing n line piece few nothing =
+    ap (λ t. take n (line ++ t)) (nil_from_length piece nothing) ∙ ap (λ t. take n t) (append-nil line) ∙ take_all n line few
 
 -- keeping the front of what is kept keeps the front of all
-pub take-push_kept : (n : ℕ) (raw : List ℕ) (b : ℕ) → take n (take n raw ++ b ∷ []) ≡ take n (raw ++ b ∷ [])
-take-push_kept n raw b =
+take-kept : (n : ℕ) (raw piece : List ℕ) → take n (take n raw ++ piece) ≡ take n (raw ++ piece)
+take-kept n raw piece =
     elim (cases_lt n (length raw)) [
       | inl longer ↦
           let front = take n raw in
-          take-append-le n front (b ∷ []) (omega (arith, length-take n raw)) ∙ take_all n front (omega (arith, length-take n raw))
-          ∙ sym (take-append-le n raw (b ∷ []) (omega arith))
+          take-append-le n front piece (omega (arith, length-take n raw)) ∙ take_all n front (omega (arith, length-take n raw))
+          ∙ sym (take-append-le n raw piece (omega arith))
       | inr short ↦ rw (take_all n raw short) refl
     ]
 
--- the call that gave nothing was at the end
-pub IsAtEnd-at_none : {E : Type 0} (answer : Option (Result ℕ E)) (old new : Option (List ℕ)) → ((item : Result ℕ E) → answer ≡ Some item → ⊥) → YieldsKnownByte old answer new → IsAtEnd old
-IsAtEnd-at_none None old new none step = step
-IsAtEnd-at_none (Some item) old new none step = absurd (none item refl)
+-- the line has the front of all, with the piece that came behind it
+pub piece-behind : (n : ℕ) (raw piece line grown : List ℕ) → line ≡ take n raw → grown ≡ take n (line ++ piece) → grown ≡ take n (raw ++ piece)
+piece-behind n raw piece line grown was is = is ∙ ap (λ l. take n (l ++ piece)) was ∙ take-kept n raw piece
 
--- one byte more that is no newline
-pub HasNoNewline-push : (raw : List ℕ) (b : ℕ) → HasNoNewline raw → b ≢ 10 → HasNoNewline (raw ++ b ∷ [])
-HasNoNewline-push raw b none other = All-push (λ x. x ≢ 10) raw b none other
+-- what stands before a newline has none
+pub before-newline : (bytes : List ℕ) → HasNoNewline (before_first (λ b. b == 10) bytes)
+before-newline bytes = λ k d at.
+    let end = position_or_len (λ b. b == 10) bytes in
+    let inside : k < end = omega (arith, at, length-take end bytes) in
+    λ same. eqb-false (get_or bytes k d) 10 (fails_before_first (λ b. b == 10) bytes k d inside) (sym (get_or-take end bytes k d inside) ∙ same)
+
+-- a reader that shows nothing is at its end
+pub IsAtEnd-shown : (old : Option (List ℕ)) (bytes : List ℕ) → IfSome old (λ xs. length bytes ≡ 0 → xs ≡ []) → length bytes ≡ 0 → IsAtEnd old
+IsAtEnd-shown None bytes end nothing = tt
+IsAtEnd-shown (Some xs) bytes end nothing = end nothing

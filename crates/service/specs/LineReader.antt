@@ -1,9 +1,10 @@
 -- What a line reader has still to give, and what it gives.
 use Rattle.std.specs.Prelude.{ℕ, List, Option, Some, None, [], ◌≡◌, ◌≤◌, ⊤, true, ◌∷◌, length, ◌≢◌, ◌++◌, All, take, IfSome}
-use Rattle.std.specs.{List.list_all, Io.Iter.bytes_remaining, Io.Buffered.reader_remaining, Io.KnownBytes.Consumes}
-use Rattle.std.specs.declared.io.{traits.Bytes.Bytes, buffered.BufReader.BufReader}
-use Rattle.service.specs.declared.lines.{limit.Limited.Limited, Stage.Stage, NextLine.NextLine}
+use Rattle.std.specs.{List.list_all, Io.Buffered.reader_remaining, Io.KnownBytes.Consumes, Io.KnownBytes.IsAtEnd}
+use Rattle.std.specs.declared.io.buffered.BufReader.{BufReader}
+use Rattle.service.specs.declared.lines.{limit.Limited.Limited, Stage.Stage, Piece.Piece, NextLine.NextLine}
 use Rattle.service.specs.declared.lines.Stage.TheVariants.{Open, Ended, Failed}
+use Rattle.service.specs.declared.lines.Piece.TheVariants.{Inner, Last, Nothing}
 use Rattle.service.specs.declared.lines.NextLine.TheVariants.{Text, Long, NotAscii, End, Fault}
 use Rattle.service.specs.Line.{Line, text, too_long, not_ascii, is_printable, lines_of, commands_of}
 
@@ -19,14 +20,14 @@ source_of (Some bytes) = known bytes
 source_of None = unknown
 
 -- the bytes that the reader has left, those read ahead among them, where they are known
-abbrev pub unread_bytes : {R A : Type 0} → (R → Option (List ℕ)) → Bytes (BufReader (Limited R) A) → Option (List ℕ)
-unread_bytes remaining bytes = bytes_remaining (reader_remaining (λ s. remaining s.inner)) bytes
+abbrev pub unread_bytes : {R A : Type 0} → (R → Option (List ℕ)) → BufReader (Limited R) A → Option (List ℕ)
+unread_bytes remaining ahead = reader_remaining (λ s. remaining s.inner) ahead
 
 -- what is left at each stage
-abbrev pub unread : {R A : Type 0} → (R → Option (List ℕ)) → Bytes (BufReader (Limited R) A) → Stage → Source
-unread remaining bytes Open = source_of (unread_bytes remaining bytes)
-unread remaining bytes Ended = known []
-unread remaining bytes Failed = failed
+abbrev pub unread : {R A : Type 0} → (R → Option (List ℕ)) → BufReader (Limited R) A → Stage → Source
+unread remaining ahead Open = source_of (unread_bytes remaining ahead)
+unread remaining ahead Ended = known []
+unread remaining ahead Failed = failed
 
 -- the answer shows this line
 abbrev pub Shows : NextLine → Line → Type 0
@@ -54,6 +55,13 @@ IsText _ = ⊤
 -- there is no newline among the bytes
 abbrev pub HasNoNewline : List ℕ → Type 0
 HasNoNewline bytes = All (λ b. b ≢ 10) bytes
+
+-- bytes of a line were taken, and kept behind those that were kept before, as far as there is room; its newline was taken
+-- too; or there was nothing
+abbrev pub TakesPiece : Option (List ℕ) → List ℕ → Piece → Option (List ℕ) → List ℕ → Type 0
+TakesPiece old kept Inner new keeps = (piece : List ℕ) × HasNoNewline piece × (keeps ≡ take 4098 (kept ++ piece)) × Consumes old new piece
+TakesPiece old kept Last new keeps = (piece : List ℕ) × HasNoNewline piece × (keeps ≡ take 4098 (kept ++ piece)) × Consumes old new (piece ++ 10 ∷ [])
+TakesPiece old kept Nothing new keeps = (keeps ≡ kept) × IsAtEnd old
 
 -- a line's bytes, of which these are kept, were taken up to its end
 abbrev pub TakesBytes : Option (List ℕ) → Stage → List ℕ → Option (List ℕ) → Type 0

@@ -1,14 +1,15 @@
 //! The lines of a reader.
-ghost use Rattle.std.specs.Prelude.{◌≡◌, ◌≤◌, ◌∷◌, ◌++◌, ◌^◌, [], take, vec_len, vec_capacity, IfOk};
-ghost use Rattle.std.specs.{Borrow.sem, Io.BufRead.Rests, List.list_all, Str.Lines.strip_carriage_return};
+ghost use Rattle.std.specs.Prelude.{◌≡◌, ◌≤◌, ◌∷◌, ◌++◌, ◌^◌, [], take, vec_len, vec_capacity, IfOk, OnErr};
+ghost use Rattle.std.specs.{Borrow.sem, Io.BufRead.Rests, Io.KnownBytes.Keeps, List.list_all, Str.Lines.strip_carriage_return};
 ghost use Rattle.service.specs.declared.lines.{TheConstants.KEPT, TheConstants.LINE_ROOM, limit.TheConstants.MOST_READS};
 ghost use Rattle.service.specs.Line.{line_of, is_printable};
-ghost use Rattle.service.specs.LineReader.{Shows, Gives, IsText, source_of, TakesBytes, unread_bytes};
+ghost use Rattle.service.specs.LineReader.{Shows, Gives, IsText, source_of, TakesBytes, TakesPiece, unread_bytes};
 ghost use Rattle.service.specs.contracts.lines.LineReader.{the_row as reader-row};
 
 use limit::{Limited, MOST_READS};
+use names::texts::cut;
 use std::alloc::{AllocError, Global};
-use std::io::{BufReader, Bytes, Read};
+use std::io::{self, BufRead, BufReader, ErrorKind, Read};
 use std::marker::Model;
 
 pub(crate) mod limit;
@@ -23,7 +24,7 @@ const KEPT: usize = 4098;
 /// is no part of it; what follows the last newline is a line too, where there is any.
 #[derive(Drop)]
 pub struct LineReader<R: Read> {
-    bytes: Bytes<BufReader<Limited<R>>>,
+    ahead: BufReader<Limited<R>>,
     line: Vec<u8>,
     stage: Stage,
 }
@@ -51,13 +52,24 @@ enum Stage {
     Failed,
 }
 
+/// What was taken of a line at once.
+#[derive(Clone, Copy)]
+enum Piece {
+    /// Bytes that others of the line may follow.
+    Inner,
+    /// Its last bytes, if any were left, and its newline.
+    Last,
+    /// Nothing, since the input is at its end.
+    Nothing,
+}
+
 impl<R: Read> Model for LineReader<R> {
     ghost use Rattle.std.specs.Prelude.{◌≤◌, vec_capacity};
     ghost use Rattle.service.specs.LineReader.{Source, unread};
 
     ghost Value = { Source };
 
-    ghost view = { λ r. unread R.remaining r.bytes r.stage };
+    ghost view = { λ r. unread R.remaining r.ahead r.stage };
 
     ghost invariant = { λ r. 4098 ≤ vec_capacity r.line };
 }
@@ -76,7 +88,7 @@ impl<R: Read + Drop> LineReader<R> {
         };
         let ahead = BufReader::new(alloc, limited).or(Err(AllocError))?;
         Ok(LineReader {
-            bytes: ahead.bytes(),
+            ahead,
             line,
             stage: Stage::Open,
         })
@@ -89,7 +101,7 @@ impl<R: Read + Drop> LineReader<R> {
         ensures text { IsText result }
     {
         match self.stage {
-            Stage::Open => self.stage = take_line(&mut self.bytes, &mut self.line),
+            Stage::Open => self.stage = take_line(&mut self.ahead, &mut self.line),
             Stage::Ended => return NextLine::End,
             Stage::Failed => return NextLine::Fault,
         }
@@ -127,24 +139,62 @@ fn is_text(line: &[u8]) -> bool
 }
 
 /// Takes the bytes of a line and its newline, keeps the first of them, and answers where the reader then stands.
-fn take_line<R: Read + Drop>(bytes: &mut Bytes<BufReader<Limited<R>>>, line: &mut Vec<u8>) -> Stage
+fn take_line<R: Read + Drop>(ahead: &mut BufReader<Limited<R>>, line: &mut Vec<u8>) -> Stage
     requires { KEPT ≤ vec_capacity line.old }
-    ensures taken { TakesBytes (unread_bytes R.remaining bytes.old) result line.new.items (unread_bytes R.remaining bytes.new) }
+    ensures taken { TakesBytes (unread_bytes R.remaining ahead.old) result line.new.items (unread_bytes R.remaining ahead.new) }
     ensures room { KEPT ≤ vec_capacity line.new }
 {
     line.clear();
-    while let Some(byte) = bytes.next() {
-        let Ok(byte) = byte else {
-            return Stage::Failed;
-        };
-        if byte == b'\n' {
-            return Stage::Open;
-        }
-        if line.len() < KEPT {
-            line.push(byte).unwrap();
+    // Each turn but the first reads once, and the one after the last read fails.
+    for _turn in 0..=MOST_READS {
+        match take_piece(ahead, line) {
+            Ok(Piece::Inner) => {}
+            Ok(Piece::Last) => return Stage::Open,
+            Ok(Piece::Nothing) => return Stage::Ended,
+            Err(fault) if fault.kind() == ErrorKind::Interrupted => {}
+            Err(_fault) => return Stage::Failed,
         }
     }
-    Stage::Ended
+    Stage::Failed
+}
+
+/// Takes what was read ahead of a line, up to its newline, and keeps of it what there is room for. Where nothing was read ahead
+/// it reads once.
+fn take_piece<R: Read + Drop>(
+    ahead: &mut BufReader<Limited<R>>,
+    line: &mut Vec<u8>,
+) -> io::Result<Piece>
+    requires few { vec_len line.old ≤ KEPT }
+    requires room { KEPT ≤ vec_capacity line.old }
+    ensures taken { IfOk result (λ piece.
+        TakesPiece (unread_bytes R.remaining ahead.old) line.old.items piece (unread_bytes R.remaining ahead.new) line.new.items) }
+    ensures bytes { OnErr result (Keeps (unread_bytes R.remaining ahead.old) (unread_bytes R.remaining ahead.new)) }
+    ensures line { OnErr result (line.new ≡ line.old) }
+    ensures few { vec_len line.new ≤ KEPT }
+    ensures room { KEPT ≤ vec_capacity line.new }
+{
+    let bytes = ahead.fill_buf()?;
+    let (piece, rest) = cut(bytes, b'\n');
+    let (count, taken) = match rest {
+        Some(_rest) => (piece.len() + 1, Piece::Last),
+        None if piece.is_empty() => (0, Piece::Nothing),
+        None => (piece.len(), Piece::Inner),
+    };
+    keep(line, piece);
+    ahead.consume(count);
+    Ok(taken)
+}
+
+/// Puts the bytes behind the line, as far as there is room for them.
+fn keep(line: &mut Vec<u8>, bytes: &[u8])
+    requires few { vec_len line.old ≤ KEPT }
+    requires room { KEPT ≤ vec_capacity line.old }
+    ensures kept { line.new.items ≡ take KEPT (line.old.items ++ bytes.now) }
+    ensures few { vec_len line.new ≤ KEPT }
+    ensures room { KEPT ≤ vec_capacity line.new }
+{
+    let count = bytes.len().min(KEPT - line.len());
+    line.extend_from_slice(&bytes[..count]).unwrap();
 }
 
 /// Takes one carriage return off the end.

@@ -35,18 +35,46 @@ fn gives<R: Read + Drop>(
     }
 }
 
-/// The same of an input as a whole, and of one byte a call.
+/// Is interrupted before each call of another reader.
+#[derive(Drop)]
+struct Interrupted<R> {
+    inner: R,
+    is_due: bool,
+}
+
+impl<R: Read> Read for Interrupted<R> {
+    ghost remaining = { λ r. R.remaining r.inner };
+
+    fn read(&mut self, buf: &mut [u8]) -> io::Result<usize> {
+        self.is_due = !self.is_due;
+        if !self.is_due {
+            return Err(io::Error::from(ErrorKind::Interrupted));
+        }
+        self.inner.read(buf)
+    }
+}
+
+/// The same of an input as a whole, and of one byte a call, each interrupted once.
 fn gives_both_ways(
     alloc: Global,
     input: &[u8],
     first: Option<NextLine>,
     others: &[NextLine],
 ) -> bool {
-    let drips = Drips {
+    let inner = Drips {
         rest: input,
         before_fault: NEVER,
     };
-    gives(alloc, input, first, others) && gives(alloc, drips, first, others)
+    gives(alloc, input, first, others)
+        && gives(
+            alloc,
+            Interrupted {
+                inner,
+                is_due: true,
+            },
+            first,
+            others,
+        )
 }
 
 /// Inputs and their lines. The end stays.

@@ -10,8 +10,8 @@ use Rattle.service.proofs.lines.LineReader.next.Goals as goal
 pub returns-in-Open-stage : goal.returns-in-Open-stage
 returns-in-Open-stage g c =
     let s = rw c.in-Open-stage.is at c.take_line-self-inside.ensures.taken in
-    let old = unread_bytes g.R.Read.remaining c.self.inside.bytes in
-    let new = unread_bytes g.R.Read.remaining c.take_line-self-inside.new.bytes in
+    let old = unread_bytes g.R.Read.remaining c.self.inside.ahead in
+    let new = unread_bytes g.R.Read.remaining c.take_line-self-inside.new.ahead in
     let shows : Shows c.classify.result (line_of (strip_carriage_return s.0)) =
     rw (c.deref.ensures.value, c.drop_carriage_return.ensures.stripped, s.2, line_of-stripped_kept s.0) at c.classify.ensures.shows in
     let gives = Gives-newline old new s.0 c.classify.result s.1 s.3 shows in
@@ -20,7 +20,7 @@ returns-in-Open-stage g c =
 pub returns-in-Ended-2 : goal.returns-in-Ended-2
 returns-in-Ended-2 g c =
     let s = rw c.in-Ended-2.is at c.take_line-self-inside.ensures.taken in
-    let old = unread_bytes g.R.Read.remaining c.self.inside.bytes in
+    let old = unread_bytes g.R.Read.remaining c.self.inside.ahead in
     let line = c.classify-in-Ended-2 in
     let kept = c.deref-in-Ended-2 in
     let some = some_taken kept.result.now s.0 (kept.ensures.value ∙ s.2) (rw kept.ensures.len (sym c.is_empty.ensures ∙ c.if-is_empty.false)) in
