@@ -7,8 +7,8 @@ use Rattle.std.specs.Io.KnownBytes.{Consumes}
 use Rattle.service.specs.declared.lines.NextLine.{NextLine}
 use Rattle.service.specs.declared.lines.NextLine.TheVariants.{Text, Long, NotAscii, End, Fault}
 use Rattle.service.specs.Line.{Line, line_of, lines_of, commands_of}
-use Rattle.service.specs.LineReader.{Shows, Gives, Source, known, unknown, failed, source_of, HasNoNewline, IfKnown}
-use Rattle.service.proofs.LineLemmas.{lines-newline, lines-last}
+use Rattle.service.specs.LineReader.{Shows, Gives, Source, known, unknown, failed, source_of, IfKnown}
+use Rattle.service.proofs.LineLemmas.{HasNoNewline, lines-newline, lines-last}
 
 -- an answer that shows the first line
 Gives-shown : (answer : NextLine) (line : Line) (bytes rest : List ℕ) → Shows answer line → lines_of bytes ≡ line ∷ lines_of rest → Gives (known bytes) answer (known rest)

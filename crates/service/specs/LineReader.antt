@@ -1,10 +1,8 @@
 -- What a line reader has still to give, and what it gives.
 use Rattle.std.specs.Prelude.{ℕ, List, Option, Some, None, [], ◌≡◌, ◌≤◌, ⊤, true, ◌∷◌, length, ◌≢◌, ◌++◌, All, take, IfSome}
-use Rattle.std.specs.{List.list_all, Io.Buffered.reader_remaining, Io.KnownBytes.Consumes, Io.KnownBytes.IsAtEnd}
-use Rattle.std.specs.declared.io.buffered.BufReader.{BufReader}
-use Rattle.service.specs.declared.lines.{limit.Limited.Limited, Stage.Stage, Piece.Piece, NextLine.NextLine}
+use Rattle.std.specs.{List.list_all, Io.Buffered.reader_remaining, Io.KnownBytes.Consumes, declared.io.buffered.BufReader.BufReader}
+use Rattle.service.specs.declared.lines.{limit.Limited.Limited, Stage.Stage, NextLine.NextLine}
 use Rattle.service.specs.declared.lines.Stage.TheVariants.{Open, Ended, Failed}
-use Rattle.service.specs.declared.lines.Piece.TheVariants.{Inner, Last, Nothing}
 use Rattle.service.specs.declared.lines.NextLine.TheVariants.{Text, Long, NotAscii, End, Fault}
 use Rattle.service.specs.Line.{Line, text, too_long, not_ascii, is_printable, lines_of, commands_of}
 
@@ -52,22 +50,16 @@ abbrev pub IsText : NextLine → Type 0
 IsText (Text t) = (length t.now ≤ 4096) × (list_all is_printable t.now ≡ true)
 IsText _ = ⊤
 
--- there is no newline among the bytes
-abbrev pub HasNoNewline : List ℕ → Type 0
-HasNoNewline bytes = All (λ b. b ≢ 10) bytes
+-- these bytes of a line are followed by others, by its newline, or by the end of the input
+abbrev pub EndsBy : Option Stage → Option (List ℕ) → List ℕ → Option (List ℕ) → Type 0
+EndsBy None old bytes new = Consumes old new bytes
+EndsBy (Some Open) old bytes new = Consumes old new (bytes ++ 10 ∷ [])
+EndsBy (Some Ended) old bytes new = IfSome old (λ left. left ≡ bytes)
+EndsBy (Some Failed) old bytes new = ⊤
 
--- bytes of a line were taken, and kept behind those that were kept before, as far as there is room; its newline was taken
--- too; or there was nothing
-abbrev pub TakesPiece : Option (List ℕ) → List ℕ → Piece → Option (List ℕ) → List ℕ → Type 0
-TakesPiece old kept Inner new keeps = (piece : List ℕ) × HasNoNewline piece × (keeps ≡ take 4098 (kept ++ piece)) × Consumes old new piece
-TakesPiece old kept Last new keeps = (piece : List ℕ) × HasNoNewline piece × (keeps ≡ take 4098 (kept ++ piece)) × Consumes old new (piece ++ 10 ∷ [])
-TakesPiece old kept Nothing new keeps = (keeps ≡ kept) × IsAtEnd old
-
--- a line's bytes, of which these are kept, were taken up to its end
-abbrev pub TakesBytes : Option (List ℕ) → Stage → List ℕ → Option (List ℕ) → Type 0
-TakesBytes old Open kept new = (raw : List ℕ) × HasNoNewline raw × (kept ≡ take 4098 raw) × Consumes old new (raw ++ 10 ∷ [])
-TakesBytes old Ended kept new = (raw : List ℕ) × HasNoNewline raw × (kept ≡ take 4098 raw) × IfSome old (λ bytes. bytes ≡ raw)
-TakesBytes old Failed kept new = ⊤
+-- such bytes, with no newline among them, were taken and are kept behind those before, as far as there is room
+abbrev pub TakesBytes : Option (List ℕ) → List ℕ → Option Stage → Option (List ℕ) → List ℕ → Type 0
+TakesBytes old kept end new keeps = (bytes : List ℕ) × All (λ b. b ≢ 10) bytes × (keeps ≡ take 4098 (kept ++ bytes)) × EndsBy end old bytes new
 
 -- a fact of the lines that are left and not blank, where the bytes are known
 abbrev pub IfKnown : Source → (List Line → Type 0) → Type 0

@@ -1,15 +1,15 @@
 //! The lines of a reader.
-ghost use Rattle.std.specs.Prelude.{◌≡◌, ◌≤◌, ◌∷◌, ◌++◌, ◌^◌, [], take, vec_len, vec_capacity, IfOk, OnErr};
-ghost use Rattle.std.specs.{Borrow.sem, Io.BufRead.Rests, Io.KnownBytes.Keeps, List.list_all, Str.Lines.strip_carriage_return};
+ghost use Rattle.std.specs.Prelude.{◌≡◌, ◌≤◌, ◌∷◌, ◌++◌, ◌^◌, [], Some, vec_len, vec_capacity, IfOk};
+ghost use Rattle.std.specs.{Borrow.sem, Io.BufRead.Rests, List.list_all, Str.Lines.strip_carriage_return};
 ghost use Rattle.service.specs.declared.lines.{TheConstants.KEPT, TheConstants.LINE_ROOM, limit.TheConstants.MOST_READS};
 ghost use Rattle.service.specs.Line.{line_of, is_printable};
-ghost use Rattle.service.specs.LineReader.{Shows, Gives, IsText, source_of, TakesBytes, TakesPiece, unread_bytes};
+ghost use Rattle.service.specs.LineReader.{Shows, Gives, IsText, source_of, TakesBytes, unread_bytes};
 ghost use Rattle.service.specs.contracts.lines.LineReader.{the_row as reader-row};
 
 use limit::{Limited, MOST_READS};
 use names::texts::cut;
 use std::alloc::{AllocError, Global};
-use std::io::{self, BufRead, BufReader, ErrorKind, Read};
+use std::io::{BufRead, BufReader, ErrorKind, Read};
 use std::marker::Model;
 
 pub(crate) mod limit;
@@ -52,17 +52,6 @@ enum Stage {
     Failed,
 }
 
-/// What was taken of a line at once.
-#[derive(Clone, Copy)]
-enum Piece {
-    /// Bytes that others of the line may follow.
-    Inner,
-    /// Its last bytes, if any were left, and its newline.
-    Last,
-    /// Nothing, since the input is at its end.
-    Nothing,
-}
-
 impl<R: Read> Model for LineReader<R> {
     ghost use Rattle.std.specs.Prelude.{◌≤◌, vec_capacity};
     ghost use Rattle.service.specs.LineReader.{Source, unread};
@@ -82,11 +71,9 @@ impl<R: Read + Drop> LineReader<R> {
         ensures most_bytes { LINE_ROOM ≡ 4096 }
     {
         let line = Vec::with_capacity(alloc, KEPT)?;
-        let limited = Limited {
-            inner: reader,
-            left: MOST_READS,
-        };
-        let ahead = BufReader::new(alloc, limited).or(Err(AllocError))?;
+        let left = MOST_READS;
+        let inner = reader;
+        let ahead = BufReader::new(alloc, Limited { inner, left }).or(Err(AllocError))?;
         Ok(LineReader {
             ahead,
             line,
@@ -94,8 +81,7 @@ impl<R: Read + Drop> LineReader<R> {
         })
     }
 
-    /// The next line, lent from the room that `make` took; this takes no memory. The end and a fault stay:
-    /// after either the reader is read no further, and each call answers the same.
+    /// The next line, lent from the room that `make` took, with no memory. The end and a fault stay: the reader is read no further.
     pub fn next(&mut self) -> NextLine<'_>
         ensures* after_borrow { sem 𝓛 (Rests (reader-row R.row R.Read) self.entry (λ new. Gives self.old result new)) }
         ensures text { IsText result }
@@ -141,60 +127,43 @@ fn is_text(line: &[u8]) -> bool
 /// Takes the bytes of a line and its newline, keeps the first of them, and answers where the reader then stands.
 fn take_line<R: Read + Drop>(ahead: &mut BufReader<Limited<R>>, line: &mut Vec<u8>) -> Stage
     requires { KEPT ≤ vec_capacity line.old }
-    ensures taken { TakesBytes (unread_bytes R.remaining ahead.old) result line.new.items (unread_bytes R.remaining ahead.new) }
+    ensures taken { TakesBytes (unread_bytes R.remaining ahead.old) [] (Some result) (unread_bytes R.remaining ahead.new) line.new.items }
     ensures room { KEPT ≤ vec_capacity line.new }
 {
     line.clear();
     // Each turn but the first reads once, and the one after the last read fails.
     for _turn in 0..=MOST_READS {
-        match take_piece(ahead, line) {
-            Ok(Piece::Inner) => {}
-            Ok(Piece::Last) => return Stage::Open,
-            Ok(Piece::Nothing) => return Stage::Ended,
-            Err(fault) if fault.kind() == ErrorKind::Interrupted => {}
-            Err(_fault) => return Stage::Failed,
+        if let Some(stage) = take_part(ahead, line) {
+            return stage;
         }
     }
     Stage::Failed
 }
 
 /// Takes what was read ahead of a line, up to its newline, and keeps of it what there is room for. Where nothing was read ahead
-/// it reads once.
-fn take_piece<R: Read + Drop>(
-    ahead: &mut BufReader<Limited<R>>,
-    line: &mut Vec<u8>,
-) -> io::Result<Piece>
+/// it reads once. Answers where the reader then stands, unless the line goes on.
+fn take_part<R: Read + Drop>(ahead: &mut BufReader<Limited<R>>, line: &mut Vec<u8>) -> Option<Stage>
     requires few { vec_len line.old ≤ KEPT }
     requires room { KEPT ≤ vec_capacity line.old }
-    ensures taken { IfOk result (λ piece.
-        TakesPiece (unread_bytes R.remaining ahead.old) line.old.items piece (unread_bytes R.remaining ahead.new) line.new.items) }
-    ensures bytes { OnErr result (Keeps (unread_bytes R.remaining ahead.old) (unread_bytes R.remaining ahead.new)) }
-    ensures line { OnErr result (line.new ≡ line.old) }
+    ensures taken { TakesBytes (unread_bytes R.remaining ahead.old) line.old.items result (unread_bytes R.remaining ahead.new) line.new.items }
     ensures few { vec_len line.new ≤ KEPT }
     ensures room { KEPT ≤ vec_capacity line.new }
 {
-    let bytes = ahead.fill_buf()?;
-    let (piece, rest) = cut(bytes, b'\n');
-    let (count, taken) = match rest {
-        Some(_rest) => (piece.len() + 1, Piece::Last),
-        None if piece.is_empty() => (0, Piece::Nothing),
-        None => (piece.len(), Piece::Inner),
+    let bytes = match ahead.fill_buf() {
+        Ok(bytes) => bytes,
+        Err(fault) if fault.kind() == ErrorKind::Interrupted => return None,
+        Err(_fault) => return Some(Stage::Failed),
     };
-    keep(line, piece);
+    let (part, rest) = cut(bytes, b'\n');
+    let (count, end) = match rest {
+        Some(_rest) => (part.len() + 1, Some(Stage::Open)),
+        None if part.is_empty() => (0, Some(Stage::Ended)),
+        None => (part.len(), None),
+    };
+    let kept = part.len().min(KEPT - line.len());
+    line.extend_from_slice(&part[..kept]).unwrap();
     ahead.consume(count);
-    Ok(taken)
-}
-
-/// Puts the bytes behind the line, as far as there is room for them.
-fn keep(line: &mut Vec<u8>, bytes: &[u8])
-    requires few { vec_len line.old ≤ KEPT }
-    requires room { KEPT ≤ vec_capacity line.old }
-    ensures kept { line.new.items ≡ take KEPT (line.old.items ++ bytes.now) }
-    ensures few { vec_len line.new ≤ KEPT }
-    ensures room { KEPT ≤ vec_capacity line.new }
-{
-    let count = bytes.len().min(KEPT - line.len());
-    line.extend_from_slice(&bytes[..count]).unwrap();
+    end
 }
 
 /// Takes one carriage return off the end.

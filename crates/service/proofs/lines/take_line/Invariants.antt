@@ -1,12 +1,11 @@
-use Rattle.std.proofs.Common.{◌≡◌, ◌≤◌, ℕ, List, take, vec_len, vec_capacity}
-use Rattle.std.specs.Io.KnownBytes.{Consumes}
-use Rattle.service.specs.LineReader.{HasNoNewline, unread_bytes}
+use Rattle.std.proofs.Common.{◌≤◌, [], None, vec_len, vec_capacity}
+use Rattle.service.specs.LineReader.{TakesBytes, unread_bytes}
 use Rattle.service.proofs.lines.take_line.Given as goal
 
--- the bytes so far are no newlines, and the first of them are kept
+-- the line goes on behind the bytes so far
 abbrev pub invariant-loop-turn : goal.invariant-loop-turn
 invariant-loop-turn g l = record {
-  taken : (raw : List ℕ) × HasNoNewline raw × (l.line.items ≡ take 4098 raw) × Consumes (unread_bytes g.R.Read.remaining l.initial.ahead) (unread_bytes g.R.Read.remaining l.ahead) raw;
+  taken : TakesBytes (unread_bytes g.R.Read.remaining l.initial.ahead) [] None (unread_bytes g.R.Read.remaining l.ahead) l.line.items;
   few : vec_len l.line ≤ 4098;
   room : 4098 ≤ vec_capacity l.line;
 }
