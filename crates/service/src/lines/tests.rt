@@ -2,6 +2,7 @@ use super::limit::Limited;
 use super::*;
 use crate::fakes::{Drips, NEVER};
 use NextLine::{End, Fault, Long, NotAscii, Text};
+use std::io;
 
 /// Whether this line comes first, where one is named, and then these.
 fn come<R: Read + Drop>(
