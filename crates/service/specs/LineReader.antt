@@ -59,7 +59,7 @@ EndsBy (Some Failed) old bytes new = ⊤
 
 -- such bytes, with no newline among them, were taken and are kept behind those before, as far as there is room
 abbrev pub TakesBytes : Option (List ℕ) → List ℕ → Option Stage → Option (List ℕ) → List ℕ → Type 0
-TakesBytes old kept end new keeps = (bytes : List ℕ) × All (λ b. b ≢ 10) bytes × (keeps ≡ take 4098 (kept ++ bytes)) × EndsBy end old bytes new
+TakesBytes old kept end new keeps = (part : List ℕ) × All (λ b. b ≢ 10) part × (keeps ≡ take 4098 (kept ++ part)) × EndsBy end old part new
 
 -- a fact of the lines that are left and not blank, where the bytes are known
 abbrev pub IfKnown : Source → (List Line → Type 0) → Type 0

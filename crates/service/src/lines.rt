@@ -140,12 +140,12 @@ fn take_line<R: Read + Drop>(ahead: &mut BufReader<Limited<R>>, line: &mut Vec<u
     Stage::Failed
 }
 
-/// Takes what was read ahead of a line, up to its newline, and keeps of it what there is room for. Where nothing was read ahead
-/// it reads once. Answers where the reader then stands, unless the line goes on.
+/// Takes what was read ahead of a line, or reads once, up to its newline. Answers where the reader then stands, unless the line goes on.
 fn take_part<R: Read + Drop>(ahead: &mut BufReader<Limited<R>>, line: &mut Vec<u8>) -> Option<Stage>
     requires few { vec_len line.old ≤ KEPT }
     requires room { KEPT ≤ vec_capacity line.old }
-    ensures taken { TakesBytes (unread_bytes R.remaining ahead.old) line.old.items result (unread_bytes R.remaining ahead.new) line.new.items }
+    ensures taken { TakesBytes (unread_bytes R.remaining ahead.old) line.old.items result
+        (unread_bytes R.remaining ahead.new) line.new.items }
     ensures few { vec_len line.new ≤ KEPT }
     ensures room { KEPT ≤ vec_capacity line.new }
 {
