@@ -26,5 +26,6 @@ pub mod Unsettled
 pub mod Viewed
 pub mod Visiting
 pub mod HandingIn
+pub mod GoingOn
 pub mod Working
 pub mod laws

@@ -5,6 +5,8 @@ use Rattle.search.specs.Finish.{right_hint}
 use Rattle.search.specs.Stage.{IsQuiet}
 pub use Rattle.search.specs.Batches.{TakenLetter}
 use Rattle.search.specs.Batches.{IsWhole}
+use Rattle.search.specs.declared.outcomes.Went.{Went}
+use Rattle.search.specs.declared.outcomes.Went.TheVariants.{Nowhere, On, NoMemory}
 use Rattle.hall.specs.declared.calls.steps.Step.{Step}
 use Rattle.hall.specs.declared.calls.steps.Step.TheVariants.{Take, GiveBack, Finish, Signal}
 use Rattle.hall.specs.declared.calls.steps.Stepped.{Stepped}
@@ -96,6 +98,19 @@ pub data AreHandedIn (back : Bool) (old : HallState) : List TakenLetter → ℕ 
   letter : {before : List TakenLetter} {n : ℕ} {middle new : HallState} (one : TakenLetter) (finished : Bool) →
       AreHandedIn back old before n middle → IsHandedIn back middle one finished new →
       AreHandedIn back old (before ++ one ∷ []) (if finished then n + 1 else n) new
+
+-- the tenant's search of that number is visited where anything of it is left to do, and the hall stays as it is where nothing is
+abbrev pub GoesOn : List ℕ → ℕ → ℕ → HallState → Went → HallState → List TakenLetter → Type 0
+GoesOn who number most old Nowhere new taken = SearchIsQuiet old who number × (new ≡ old) × (taken ≡ [])
+GoesOn who number most old On new taken = (SearchIsQuiet old who number → ⊥) × IsVisited who number most old true new taken
+GoesOn who number most old NoMemory new taken = (SearchIsQuiet old who number → ⊥) × IsVisited who number most old false new taken
+
+-- letters of that search are handed in, and then it goes on
+pub record IsCarriedOn (who : List ℕ) (number most : ℕ) (old : HallState) (letters : List TakenLetter) (finished : ℕ) (went : Went)
+    (new : HallState) (taken : List TakenLetter) : Type 0 where
+  pub middle : HallState
+  pub handed_in : AreHandedIn false old letters finished middle
+  pub goes_on : GoesOn who number most middle went new taken
 
 -- this is the tenant's search of that number, and it is completed
 pub record IsCompletedAt (h : HallState) (who : List ℕ) (number : ℕ) (s : SearchState) : Type 0 where

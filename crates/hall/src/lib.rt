@@ -32,5 +32,5 @@ pub use run_laws::{
     answers_are_true, refusals_come_first, runs_are_allowed, scripts_are_exact,
     scripts_are_isolated, two_worlds,
 };
-pub use search::{Batch, Query};
+pub use search::{Batch, Query, Went};
 pub use standings::{HandedIn, Standing};

@@ -33,22 +33,22 @@ pub(crate) fn enter(busy: &mut Busy, who: Entity, number: u64) -> Result<(), All
 }
 
 /// Takes the tenant's search of the number out.
-pub(crate) fn leave(busy: &mut Busy, who: Entity, number: u64)
-    ensures kept { KeepsBut (λ name k. (name ≡ who) × (k ≡ number)) busy.old busy.new }
-    ensures gone { Lists busy.new who number → ⊥ }
+pub(crate) fn leave(busy: &mut Busy, who: &Entity, number: u64)
+    ensures kept { KeepsBut (λ name k. (name ≡ who.now) × (k ≡ number)) busy.old busy.new }
+    ensures gone { Lists busy.new who.now number → ⊥ }
 {
-    if let Some(numbers) = busy.get_mut(&who) {
+    if let Some(numbers) = busy.get_mut(who) {
         numbers.swap_remove(&number);
         if numbers.is_empty() {
-            busy.swap_remove(&who);
+            busy.swap_remove(who);
         }
     }
 }
 
 /// Takes the tenant's search of the number out where it has settled, and tells how it stands.
-pub(crate) fn settle(busy: &mut Busy, who: Entity, number: u64, search: &Search) -> Standing
-    ensures kept { KeepsBut (λ name k. (name ≡ who) × (k ≡ number) × (IsUnsettled search.now → ⊥)) busy.old busy.new }
-    ensures gone { (IsUnsettled search.now → ⊥) → Lists busy.new who number → ⊥ }
+pub(crate) fn settle(busy: &mut Busy, who: &Entity, number: u64, search: &Search) -> Standing
+    ensures kept { KeepsBut (λ name k. (name ≡ who.now) × (k ≡ number) × (IsUnsettled search.now → ⊥)) busy.old busy.new }
+    ensures gone { (IsUnsettled search.now → ⊥) → Lists busy.new who.now number → ⊥ }
     ensures sound { IsSoundStage search.now.stage }
     ensures stands { Stands search.now result }
 {

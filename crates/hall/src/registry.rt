@@ -17,7 +17,7 @@ use indexmap::IndexMap;
 use names::Entity;
 use proof_trees::Proof;
 use quotas::Limits;
-use search::{Batch, Carried, Hint, Query, Search};
+use search::{Batch, Carried, CarriedOn, Hint, Query, Search, Went};
 use std::alloc::{AllocError, Global};
 use std::marker::Model;
 use std::sync::Arc;
@@ -65,7 +65,7 @@ impl Hall {
     ghost use Rattle.std.specs.Prelude.{◌≤◌, MatchOption, is_ok};
     ghost use Rattle.{std.specs.Arc.arc_value, hall.specs.Run.waits};
     ghost use Rattle.search.specs.Batches.{IsEmpty, IsLookedUp, AreOf};
-    ghost use Rattle.hall.specs.Visits.{IsTaken, IsVisited, StandsAt, StandsNamed, AreHandedIn, SearchIsQuiet};
+    ghost use Rattle.hall.specs.Visits.{IsTaken, IsVisited, StandsAt, StandsNamed, AreHandedIn, IsCarriedOn, SearchIsQuiet};
     ghost use Rattle.hall.specs.Visits.{IsCompletedAt, NoneIsCompletedAt};
 
     /// The hall of these tenants, where nothing was done yet.
@@ -151,7 +151,7 @@ impl Hall {
         ensures served { IsServed self.old who (request.Close number) (told_as (λ u. reply.Closed) result) self.new }
     {
         let seat = self.tenants.seat_mut(&who)?;
-        leave(&mut self.busy, who, number);
+        leave(&mut self.busy, &who, number);
         seat.end(number)
     }
 
@@ -186,7 +186,7 @@ impl Hall {
             return unmoved(&step);
         };
         let stepped = make(search, &step);
-        settle(&mut self.busy, who, number, search);
+        settle(&mut self.busy, &who, number, search);
         stepped
     }
 
@@ -236,7 +236,7 @@ impl Hall {
             return Ok(Standing::Over);
         };
         search.visit(who, number, most, batch)?;
-        Ok(settle(&mut self.busy, who, number, search))
+        Ok(settle(&mut self.busy, &who, number, search))
     }
 
     /// Finishes the letters of the batch in the order in which they were taken, each with its right hint, and answers how
@@ -280,8 +280,45 @@ impl Hall {
             return nothing;
         };
         let finished = search.hand_in(batch, back);
-        let standing = settle(&mut self.busy, who, number, search);
+        let standing = settle(&mut self.busy, &who, number, search);
         HandedIn { finished, standing }
+    }
+
+    /// Hands the letters of the batch in as `hand_in` does, and goes on with their search, which is the tenant's of this number, as
+    /// `visit` does, where anything of it is left to do then. The search is looked up once.
+    pub fn carry_on(
+        &mut self,
+        who: &Entity,
+        number: u64,
+        most: usize,
+        batch: &mut Batch,
+    ) -> (HandedIn, Went)
+        requires looked_up { IsLookedUp batch.old }
+        requires of { batch.old.of ≡ Some (who.now, number) }
+        requires letters { AreOf (Some (who.now, number)) batch.old.letters }
+        requires space { most ≤ batch.old.room }
+        ensures carried_on { IsCarriedOn who.now number most self.old batch.old.letters result.0.finished result.1 self.new batch.new.letters }
+        ensures stands { StandsAt self.new who.now number result.0.standing }
+        ensures most { result.0.finished ≤ length batch.old.letters }
+        ensures bound { length batch.new.letters ≤ most }
+        ensures looked { batch.new.looked ≡ 0 }
+        ensures room { batch.new.room ≡ batch.old.room }
+    {
+        let nothing = HandedIn {
+            finished: 0,
+            standing: Standing::Over,
+        };
+        let Ok(opened) = self.tenants.opened_mut(who, number) else {
+            batch.let_go();
+            return (nothing, Went::Nowhere);
+        };
+        let Carried::Own(search) = &mut opened.carried else {
+            batch.let_go();
+            return (nothing, Went::Nowhere);
+        };
+        let CarriedOn { finished, went } = search.carry_on(most, batch);
+        let standing = settle(&mut self.busy, who, number, search);
+        (HandedIn { finished, standing }, went)
     }
 
     /// Finishes the letter of the job with what was looked up.
@@ -308,7 +345,7 @@ impl Hall {
     {
         let opened = self.tenants.opened_mut(&who, number)?;
         let told = drive(&mut opened.carried);
-        settle(&mut self.busy, who, number, opened.carried.search());
+        settle(&mut self.busy, &who, number, opened.carried.search());
         told
     }
 

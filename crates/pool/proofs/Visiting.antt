@@ -1,15 +1,19 @@
 -- What a search is worked on leaves the journal as it was; when a worker has nothing to do.
 use Rattle.std.specs.Prelude.{IfSome}
 use Rattle.std.specs.Bool.{then_some}
-use Rattle.std.proofs.Common.{◌≡◌, ◌∙◌, ◌↔◌, ◌⊎◌, inl, inr, ℕ, Bool, true, false, not, IsTrue, is_some, Option, None, Some, List, refl, subst, sym}
+use Rattle.std.proofs.Common.{◌≡◌, ◌∙◌, ◌↔◌, ◌⊎◌, inl, inr, ℕ, Bool, true, false, not, IsTrue, is_some, Option, None, Some, List, [], length, ap, refl, subst, sym}
 use Rattle.hall.specs.declared.calls.steps.Step.TheVariants.{Take, GiveBack, Finish, Signal}
 use Rattle.hall.specs.declared.calls.steps.Stepped.TheVariants.{Signalled}
 use Rattle.hall.specs.Hall.{HallState}
 use Rattle.search.specs.Finish.{right_hint}
 use Rattle.search.specs.Batches.{TakenLetter}
-use Rattle.hall.specs.Visits.{SearchIsQuiet, NothingToDo, IsWorkedOn, IsVisited, IsHandedIn, AreHandedIn}
+use Rattle.search.specs.declared.outcomes.Went.{Went}
+use Rattle.search.specs.declared.outcomes.Went.TheVariants.{Nowhere, On}
+use Rattle.search.specs.declared.outcomes.Went.TheVariants as goes
+use Rattle.hall.specs.Visits.{SearchIsQuiet, NothingToDo, IsWorkedOn, IsVisited, IsHandedIn, AreHandedIn, GoesOn, IsCarriedOn}
+use Rattle.hall.proofs.HandingIn.{handed_in_sound}
 use Rattle.pool.specs.Rooms.{RoomState, IsIdle, IsKept}
-use Rattle.pool.specs.Workers.{VisitsOne, IsFound, WasStopped}
+use Rattle.pool.specs.Workers.{VisitsOne, IsFound, IsHandIn, WasStopped}
 use Rattle.pool.specs.declared.visits.TheConstants.{BATCH}
 use Rattle.pool.specs.declared.visits.Found.{Found}
 use Rattle.pool.specs.declared.visits.Found.TheVariants.{Work, Stopped, NoMemory}
@@ -91,3 +95,52 @@ pub handed_in_journal : (back : Bool) (old : HallState) (letters : List TakenLet
 handed_in_journal back old letters n new AreHandedIn.nothing = refl
 handed_in_journal back old letters n new (AreHandedIn.letter {before} {n = m} {middle} one done hands last) =
     one_journal back middle one done new last ∙ handed_in_journal back old before m middle hands
+
+-- nor do both, one after the other
+went_journal : (who : List ℕ) (k most : ℕ) (old : HallState) (went : Went) (new : HallState) (taken : List TakenLetter) → GoesOn who k most old went new taken → new.journal ≡ old.journal
+went_journal who k most old Nowhere new taken (quiet, same, none) = ap (λ (h : HallState). h.journal) same
+went_journal who k most old On new taken (moves, visited) = visited_journal who k most old true new taken visited
+went_journal who k most old goes.NoMemory new taken (moves, visited) = visited_journal who k most old false new taken visited
+
+pub carried_on_journal : {who : List ℕ} {k most : ℕ} {old : HallState} {letters : List TakenLetter} {n : ℕ} {went : Went} {new : HallState} {taken : List TakenLetter} →
+    IsCarriedOn who k most old letters n went new taken → new.journal ≡ old.journal
+carried_on_journal {who} {k} {most} {old} {letters} {n} {went} {new} {taken} c =
+    went_journal who k most c.middle went new taken c.goes_on ∙ handed_in_journal false old letters n c.middle c.handed_in
+
+-- letters are handed in under a lock, and their search goes on under the same one
+module _ {there at : RoomState} (same : there ≡ at) (kept : IsKept there) (goes_on : there.stopped ≡ false) {who : List ℕ} {number : ℕ} {letters : List TakenLetter} {n : ℕ}
+    {went : Went} {new : HallState} {taken : List TakenLetter} (c : IsCarriedOn who number BATCH at.hall letters n went new taken) where
+  kept_here : IsKept at
+  kept_here = subst IsKept same kept
+
+  stays_open : at.stopped ≡ false
+  stays_open = subst (λ (r : RoomState). r.stopped ≡ false) same goes_on
+
+  pub hands_in_there : IsHandIn letters n
+  hands_in_there some = (at, c.middle, kept_here, subst (λ (b : Bool). AreHandedIn b at.hall letters n c.middle) (sym stays_open) c.handed_in)
+
+  -- between the two
+  abbrev halfway : RoomState
+  halfway = record at { hall = c.middle }
+
+  kept_halfway : IsKept halfway
+  kept_halfway = record {
+    counted = kept_here.counted ∙ ap length (sym (handed_in_journal false at.hall letters n c.middle c.handed_in));
+    sound = handed_in_sound false at.hall letters n c.middle kept_here.sound c.handed_in;
+  }
+
+  abbrev pub went_on : Went → Type 0
+  went_on w = GoesOn who number BATCH c.middle w new taken
+
+  pub works_there : went ≡ On → IsFound Work taken
+  works_there is =
+      let did = subst went_on is c.goes_on in
+      (halfway, new, kept_halfway, (stays_open, record { who = who; number = number; left = did.0; visited = did.1 }))
+
+  pub lacks_there : went ≡ goes.NoMemory → IsFound NoMemory taken
+  lacks_there is =
+      let did = subst went_on is c.goes_on in
+      (halfway, new, kept_halfway, (stays_open, record { who = who; number = number; left = did.0; visited = did.1 }))
+
+  pub nothing_there : went ≡ Nowhere → taken ≡ []
+  nothing_there is = (subst went_on is c.goes_on).2

@@ -5,7 +5,7 @@ ghost use Rattle.names.specs.Name.{is_same};
 ghost use Rattle.hall.specs.declared.calls.requests.Request.TheVariants as request;
 ghost use Rattle.hall.specs.declared.calls.replies.Reply.TheVariants as reply;
 ghost use Rattle.hall.specs.Visits.{SearchIsQuiet};
-ghost use Rattle.search.specs.Batches.{IsEmpty, IsLookedUp};
+ghost use Rattle.search.specs.Batches.{IsEmpty, IsLookedUp, AreOf};
 ghost use Rattle.pool.specs.Laws.{CountsAreSeen, NumbersAreCounted, VaultsAreOwn, SightsAreOwn, VerdictsAreOwn};
 ghost use Rattle.pool.specs.Passes.{shares_of};
 ghost use Rattle.pool.specs.Rooms.{IsKept};
@@ -15,11 +15,14 @@ ghost use Rattle.pool.specs.Workers.{IsFound, IsHandIn, WasStopped};
 
 use crate::bells::Bells;
 use crate::faults::{DeskFault, Told};
+use crate::notices::Notice;
 use crate::passes::Pass;
 use crate::rooms::{PARTS, Room, read_off, verdict_on};
 use crate::verdicts::{Gathered, Ticket, Verdict};
 use crate::visits::{BATCH, Found, Visited};
-use hall::{Batch, Fault, Hall, HandedIn, Proof, Query, Reply, Request, Rows, Sights, Standing};
+use hall::{
+    Batch, Fault, Hall, HandedIn, Proof, Query, Reply, Request, Rows, Sights, Standing, Went,
+};
 use names::Entity;
 use quotas::Limits;
 use std::alloc::Global;
@@ -298,12 +301,52 @@ impl<L: Ledger> Desk<L> {
             let found = self.take_turn(rt, room, turn, batch);
             return Visited { finished: 0, found };
         };
-        let (HandedIn { finished, standing }, notice) = room.hand_in(batch);
+        if may_go_on && !room.stopped {
+            return self.carry_on(rt, room, &who, number, turn, batch);
+        }
+        let (HandedIn { finished, .. }, notice) = room.hand_in(batch);
         notice.ring(&self.over, &self.work);
-        let found = if may_go_on && matches!(standing, Standing::Moves) && !room.stopped {
-            self.make_steps(room, &who, number, turn, batch)
-        } else {
-            self.take_turn(rt, room, turn, batch)
+        let found = self.take_turn(rt, room, turn, batch);
+        Visited { finished, found }
+    }
+
+    /// Hands in the letters, which are of that search, and goes on with it, or with the one that has its turn where nothing of
+    /// it is left.
+    fn carry_on<'a, R: Wait>(
+        &'a self,
+        rt: &R,
+        mut room: MutexGuard<'a, Room<L>>,
+        who: &Entity,
+        number: u64,
+        turn: u64,
+        batch: &mut Batch,
+    ) -> Visited
+        requires goes_on { (mutex_guard_value room).stopped ≡ false }
+        requires looked_up { IsLookedUp batch.old }
+        requires of { batch.old.of ≡ Some (who.now, number) }
+        requires letters { AreOf (Some (who.now, number)) batch.old.letters }
+        requires space { BATCH ≤ batch.old.room }
+        ensures handed_in { IsHandIn batch.old.letters result.finished }
+        ensures most { result.finished ≤ length batch.old.letters }
+        ensures found { IsFound result.found batch.new.letters }
+        ensures looked { batch.new.looked ≡ 0 }
+        ensures space { batch.new.room ≡ batch.old.room }
+    {
+        room.kept();
+        let (HandedIn { finished, standing }, went, notice) = room.carry_on(who, number, batch);
+        let found = match went {
+            Went::On => {
+                self.give_back(room, standing, turn, notice);
+                Found::Work
+            }
+            Went::Nowhere => {
+                notice.ring(&self.over, &self.work);
+                self.take_turn(rt, room, turn, batch)
+            }
+            Went::NoMemory => {
+                notice.ring(&self.over, &self.work);
+                Found::NoMemory
+            }
         };
         Visited { finished, found }
     }
@@ -361,7 +404,7 @@ impl<L: Ledger> Desk<L> {
         self.make_steps(room, &who, number, turn, batch)
     }
 
-    /// Makes steps of the search, and gives the lock back. Wakes one worker more if one sleeps and something is left.
+    /// Makes steps of the search, and gives the lock back.
     fn make_steps(
         &self,
         mut room: MutexGuard<'_, Room<L>>,
@@ -379,20 +422,29 @@ impl<L: Ledger> Desk<L> {
         ensures space { batch.new.room ≡ batch.old.room }
     {
         room.kept();
-        let made = room.visit(*who, number, batch);
+        let Ok((standing, notice)) = room.visit(*who, number, batch) else {
+            return Found::NoMemory;
+        };
+        self.give_back(room, standing, turn, notice);
+        Found::Work
+    }
+
+    /// Gives the lock back after steps of a search, which stands so now. Wakes whom that concerns, and one worker more if one
+    /// sleeps and something is left.
+    fn give_back(
+        &self,
+        room: MutexGuard<'_, Room<L>>,
+        standing: Standing,
+        turn: u64,
+        notice: Notice,
+    ) {
         let is_left = room.has_sleepers()
-            && (matches!(made, Ok((Standing::Moves, _))) || !room.is_idle(turn));
+            && (matches!(standing, Standing::Moves) || !room.is_idle(turn));
         drop(room);
         if is_left {
             self.work.notify_one();
         }
-        match made {
-            Ok((_standing, notice)) => {
-                notice.ring(&self.over, &self.work);
-                Found::Work
-            }
-            Err(_fault) => Found::NoMemory,
-        }
+        notice.ring(&self.over, &self.work);
     }
 }
 

@@ -1,10 +1,10 @@
 //! What a worker does when it has the lock: the steps of one search in a row, and what it hands in.
 ghost use Rattle.std.specs.Prelude.{◌≡◌, ◌≤◌, ◌↔◌, ◌⊎◌, false, true, None, Some, IsTrue, IfSome, IfOk, is_ok, length};
-ghost use Rattle.search.specs.Batches.{IsEmpty, IsLookedUp};
+ghost use Rattle.search.specs.Batches.{IsEmpty, IsLookedUp, AreOf};
 
 use crate::notices::{Concern, Notice};
 use crate::rooms::Room;
-use hall::{Batch, Fault, HandedIn, Standing};
+use hall::{Batch, Fault, HandedIn, Standing, Went};
 use names::Entity;
 use std::sync::ledger::Ledger;
 
@@ -34,7 +34,7 @@ pub(crate) struct Visited {
 impl<L: Ledger> Room<L> {
     ghost use Rattle.pool.specs.Rooms.{IsIdle, IsKept};
     ghost use Rattle.pool.specs.Notices.{concern_of};
-    ghost use Rattle.hall.specs.Visits.{SearchIsQuiet, NothingToDo, IsVisited, StandsAt, StandsNamed, AreHandedIn};
+    ghost use Rattle.hall.specs.Visits.{SearchIsQuiet, NothingToDo, IsVisited, StandsAt, StandsNamed, AreHandedIn, IsCarriedOn};
 
     /// The search that a worker goes on with, by whose turn it is.
     pub(crate) fn pick(&self, turn: u64) -> Option<(Entity, u64)>
@@ -98,5 +98,30 @@ impl<L: Ledger> Room<L> {
         let handed_in = self.hall.hand_in(batch, self.stopped);
         let concern = Concern::of_work(search, handed_in.standing);
         (handed_in, Notice::of(concern))
+    }
+    /// Hands in all that a worker holds, of that search, and goes on with it by up to so many steps, where anything of it is
+    /// left to do then. Answers the same, and how the search went on.
+    #[inline(always)]
+    pub(crate) fn carry_on(
+        &mut self,
+        who: &Entity,
+        number: u64,
+        batch: &mut Batch,
+    ) -> (HandedIn, Went, Notice)
+        requires looked_up { IsLookedUp batch.old }
+        requires of { batch.old.of ≡ Some (who.now, number) }
+        requires letters { AreOf (Some (who.now, number)) batch.old.letters }
+        requires space { BATCH ≤ batch.old.room }
+        ensures carried_on { IsCarriedOn who.now number BATCH self.old.hall batch.old.letters
+            result.0.finished result.1 self.new.hall batch.new.letters }
+        ensures notice { result.2 ≡ concern_of (Some (who.now, number)) result.0.standing }
+        ensures room { self.new ≡ record self.old { hall = self.new.hall } }
+        ensures most { result.0.finished ≤ length batch.old.letters }
+        ensures looked { batch.new.looked ≡ 0 }
+        ensures space { batch.new.room ≡ batch.old.room }
+    {
+        let (handed_in, went) = self.hall.carry_on(who, number, BATCH, batch);
+        let concern = Concern::of_work(Some((*who, number)), handed_in.standing);
+        (handed_in, went, Notice::of(concern))
     }
 }

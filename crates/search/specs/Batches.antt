@@ -11,6 +11,9 @@ use Rattle.search.specs.declared.batches.NamedSearch.{NamedSearch}
 use Rattle.search.specs.declared.queries.Need.{Need}
 use Rattle.search.specs.declared.outcomes.Finished.{Finished}
 use Rattle.search.specs.declared.outcomes.Finished.TheVariants.{Done}
+use Rattle.search.specs.declared.outcomes.CarriedOn.{CarriedOn}
+use Rattle.search.specs.declared.outcomes.Went.{Went}
+use Rattle.search.specs.declared.outcomes.Went.TheVariants.{Nowhere, On, NoMemory}
 use Rattle.search.specs.Finish.{right_hint, Takes, Finishes, SignalsFirst}
 use Rattle.search.specs.Stage.{IsQuiet, held_in, stage_marked}
 use Rattle.search.specs.Search.{SearchState, Settles, IsSoundStage}
@@ -118,3 +121,14 @@ pub data HandsInEach (who : List ℕ) (k : ℕ) (back : Bool) (s : SearchState) 
   letter : {before : List TakenLetter} {n : ℕ} {middle t : SearchState} (one : TakenLetter) (finished : Bool) →
       HandsInEach who k back s before n middle → HandsInAs who k back middle one finished t →
       HandsInEach who k back s (before ++ one ∷ []) (if finished then n + 1 else n) t
+
+-- a search is visited where anything is left to do, and stays as it is where nothing is
+abbrev pub GoesOn : List ℕ → ℕ → ℕ → SearchState → Went → SearchState → List TakenLetter → Type 0
+GoesOn who k most s Nowhere t taken = IsQuiet s.stage × (t ≡ s) × (taken ≡ [])
+GoesOn who k most s On t taken = (IsQuiet s.stage → ⊥) × Visits who k most s true t taken
+GoesOn who k most s NoMemory t taken = (IsQuiet s.stage → ⊥) × Visits who k most s false t taken
+
+-- the letters are handed in, and then their search goes on
+abbrev pub CarriesOn : List ℕ → ℕ → ℕ → SearchState → List TakenLetter → CarriedOn → SearchState → List TakenLetter → Type 0
+CarriesOn who k most s letters c t taken =
+    (middle : SearchState) × HandsInEach who k false s letters c.finished middle × GoesOn who k most middle c.went t taken

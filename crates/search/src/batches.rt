@@ -4,9 +4,9 @@ ghost use Rattle.std.specs.Prelude.{true, None, option_copied, MatchOption, IfOk
 ghost use Rattle.search.specs.Finish.{need_for};
 ghost use Rattle.std.specs.List.{AllWithin};
 ghost use Rattle.std.specs.Arc.{arc_value};
-ghost use Rattle.search.specs.Batches.{IsLookedUpIn, taken_of, Visits, MakesStep, HandsInAs, HandsInEach};
+ghost use Rattle.search.specs.Batches.{IsLookedUpIn, taken_of, Visits, MakesStep, HandsInAs, HandsInEach, GoesOn};
 
-use crate::outcomes::Finished;
+use crate::outcomes::{CarriedOn, Finished, Went};
 use crate::queries::{Hint, Need};
 use crate::searches::Search;
 use names::{Entity, Role};
@@ -138,7 +138,7 @@ impl Batch {
 }
 
 impl Search {
-    ghost use Rattle.search.specs.Batches.{IsEmpty, IsLookedUp};
+    ghost use Rattle.search.specs.Batches.{IsEmpty, IsLookedUp, CarriesOn};
 
     /// Makes up to so many steps, one after another: delivers the oldest signal, or else takes the first letter that waits, as
     /// long as there is either. The batch has the letters then, under the name that the search's keeper has for it. Nothing is
@@ -183,6 +183,58 @@ impl Search {
             None => 0,
         }
     }
+
+    /// Finishes the letters as `hand_in` does, and goes on as `visit` does, where anything is left to do then. The batch has the
+    /// letters that this takes, under the name that those before had.
+    pub fn carry_on(&mut self, most: usize, batch: &mut Batch) -> CarriedOn
+        requires looked_up { IsLookedUp batch.old }
+        requires named { batch.old.of ≡ None → ⊥ }
+        requires space { most ≤ batch.old.room }
+        ensures carried_on { (who : List ℕ) (k : ℕ) → batch.old.of ≡ Some (who, k)
+            → CarriesOn who k most self.old batch.old.letters result self.new batch.new.letters }
+        ensures most { result.finished ≤ length batch.old.letters }
+        ensures bound { length batch.new.letters ≤ most }
+        ensures looked { batch.new.looked ≡ 0 }
+        ensures room { batch.new.room ≡ batch.old.room }
+    {
+        let Some(of) = &mut batch.of else {
+            unreachable!()
+        };
+        let finished = hand_in_each(self, of, &batch.held_letters, false);
+        batch.held_letters.clear();
+        batch.looked = 0;
+        let went = go_on(self, of, most, &mut batch.held_letters);
+        if batch.held_letters.is_empty() {
+            batch.of = None;
+        }
+        CarriedOn { finished, went }
+    }
+}
+
+// Goes on with the search, whose letters were handed in, where anything is left to do.
+#[inline(always)]
+fn go_on(
+    search: &mut Search,
+    of: &mut NamedSearch,
+    most: usize,
+    held_letters: &mut Vec<HeldLetter>,
+) -> Went
+    requires empty { held_letters.old.items ≡ [] }
+    requires space { most ≤ vec_capacity held_letters.old }
+    ensures went { GoesOn of.old.who of.old.number most search.old result search.new (map (taken_of of.new) held_letters.new.items) }
+    ensures name { (of.new.who ≡ of.old.who) × (of.new.number ≡ of.old.number) }
+    ensures bound { vec_len held_letters.new ≤ most }
+    ensures capacity { vec_capacity held_letters.new ≡ vec_capacity held_letters.old }
+{
+    if search.is_quiet() {
+        return Went::Nowhere;
+    }
+    let Ok(snapshot) = search.snapshot().clone() else {
+        return Went::NoMemory;
+    };
+    of.snapshot = snapshot;
+    take_each(search, of, most, held_letters);
+    Went::On
 }
 
 // Makes up to so many steps of the search, which the letters that are taken are of.

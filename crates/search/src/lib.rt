@@ -31,7 +31,7 @@ pub use batches::Batch;
 pub use carried::Carried;
 pub use findings::{Findings, Monitor};
 pub use letters::Load;
-pub use outcomes::{Finished, Status};
+pub use outcomes::{CarriedOn, Finished, Status, Went};
 pub use queries::{Hint, Need, Query, Task};
 pub use searches::Search;
 pub use stages::Stage;

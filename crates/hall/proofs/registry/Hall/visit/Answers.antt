@@ -107,11 +107,11 @@ returns-in_err-visit c =
     }
 
 pub invariant_of-self-2 : goal.invariant_of-self-2
-invariant_of-self-2 c = indexed c.before.before.before.before c.settle.new.busy c.settle.ensures.kept
+invariant_of-self-2 c = indexed (goal.at.invariant_of-self-2 c).After-branch-visit c.settle.new.busy c.settle.ensures.kept
 
 pub returns : goal.returns
 returns c =
-    let d = c.before.before.before.before in
+    let d = (goal.at.returns c).After-branch-visit in
     rw (← c.self.view_is) record {
       visited = visited_as c.args.who c.args.number c.args.most _ _ true _ c.visit.new.batch.letters (ap is_ok c.in_ok-visit.was) (made d);
       stands = stands_there _ _ _ (goes d) (goes_there d) _ c.visit.new.self (c.opened_mut.follows.holds (went d) (given c.in-Ok.is) c.self.inside.book) c.settle.result c.settle.ensures.stands;
