@@ -83,6 +83,18 @@ impl Graph {
         self.solutions.give_back();
     }
 
+    /// Takes out all nodes with their listeners and solutions. Tables keep their memory for the next ones, but for what a
+    /// small search doesn't need.
+    pub fn clear(&mut self)
+        ensures empty { self.new ≡ empty_graph }
+        ensures graph { IsGraph self.new }
+    {
+        self.nodes.clear();
+        self.strangers.clear();
+        self.listeners.clear();
+        self.solutions.clear();
+    }
+
     /// The number of the expression's node, which is added if it isn't there, and whether it was added. A node beyond the
     /// 2^32nd is refused as want of memory.
     pub fn node_of(&mut self, expr: &Expr) -> Result<(u64, bool), AllocError>

@@ -2,6 +2,7 @@ ghost use Rattle.std.specs.Prelude.{◌≡◌, ◌↔◌, ◌<◌, ◌∷◌, []
 ghost use Rattle.std.specs.Prelude.{IsTrue, IfOk, OnOk, OnErr, MatchOption};
 
 use crate::numbers::short;
+use crate::rooms::is_worth_keeping;
 use indexmap::IndexSet;
 use names::Entity;
 use std::alloc::{AllocError, Global};
@@ -37,6 +38,16 @@ impl Interned {
     {
         Interned {
             names: IndexSet::new(alloc),
+        }
+    }
+
+    /// Keeps no name. The room of a small table stays.
+    pub fn clear(&mut self)
+        ensures { self.new ≡ [] }
+    {
+        self.names.clear();
+        if !is_worth_keeping(self.names.capacity()) {
+            self.names.shrink_to_fit();
         }
     }
 

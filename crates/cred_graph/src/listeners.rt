@@ -2,6 +2,7 @@ ghost use Rattle.std.specs.Prelude.{◌≡◌, [], ◌↔◌, ◌<◌, IsTrue, S
 
 use crate::listener_lists::ListenerLists;
 use crate::ports::KeptPort;
+use crate::rooms::is_worth_keeping;
 use indexmap::IndexSet;
 use names::Entity;
 use std::alloc::{AllocError, Global};
@@ -101,6 +102,17 @@ impl Listeners {
     {
         self.lists.give_back();
         self.far.shrink_to_fit();
+    }
+
+    /// Takes out all listeners. The room of small tables stays.
+    pub fn clear(&mut self)
+        ensures { self.new ≡ [] }
+    {
+        self.lists.clear();
+        self.far.clear();
+        if !is_worth_keeping(self.far.capacity()) {
+            self.far.shrink_to_fit();
+        }
     }
 
     /// How many listeners the node has.

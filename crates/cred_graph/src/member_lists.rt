@@ -1,7 +1,7 @@
 ghost use Rattle.std.specs.Prelude.{◌≡◌, ◌<◌, ◌∷◌, [], ◌++◌, OnOk, OnErr, length, map, slice_set};
 ghost use Rattle.cred_graph.specs.NodeLists.{list_at, AreSame};
 
-use crate::rooms::is_mostly_spare;
+use crate::rooms::{is_mostly_spare, is_worth_keeping};
 use smallvec::SmallVec;
 use std::alloc::{AllocError, Global};
 use std::marker::Model;
@@ -45,6 +45,16 @@ impl MemberLists {
         ensures { self.new ≡ self.old }
     {
         if is_mostly_spare(self.lists.len(), self.lists.capacity()) {
+            self.lists.shrink_to_fit();
+        }
+    }
+
+    /// Takes out all lists. The room of few stays.
+    pub fn clear(&mut self)
+        ensures { self.new ≡ [] }
+    {
+        self.lists.clear();
+        if !is_worth_keeping(self.lists.capacity()) {
             self.lists.shrink_to_fit();
         }
     }

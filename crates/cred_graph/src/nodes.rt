@@ -4,7 +4,7 @@ ghost use Rattle.credential_text.specs.declared.exprs.Expr.TheVariants as exprs;
 ghost use Rattle.credential_text.specs.Expr.{HasPartsInRange};
 
 use crate::numbers::short;
-use crate::rooms::is_mostly_spare;
+use crate::rooms::{is_mostly_spare, is_worth_keeping};
 use credential_text::Expr;
 use indexmap::IndexSet;
 use names::Entity;
@@ -76,6 +76,16 @@ impl Nodes {
         ensures { self.new ≡ self.old }
     {
         if is_mostly_spare(self.exprs.len(), self.exprs.capacity()) {
+            self.exprs.shrink_to_fit();
+        }
+    }
+
+    /// Takes out all nodes. The room of a small table stays.
+    pub fn clear(&mut self)
+        ensures { self.new ≡ [] }
+    {
+        self.exprs.clear();
+        if !is_worth_keeping(self.exprs.capacity()) {
             self.exprs.shrink_to_fit();
         }
     }

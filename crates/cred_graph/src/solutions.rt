@@ -1,7 +1,7 @@
 ghost use Rattle.std.specs.Prelude.{◌≡◌, [], Some, IfOk, OnErr, MatchOption, ◌<◌, ◌≤◌, length, slice_get};
 
 use crate::member_lists::MemberLists;
-use crate::rooms::is_mostly_spare;
+use crate::rooms::{is_mostly_spare, is_worth_keeping};
 use crate::solved_hashes::SolvedHasher;
 use indexmap::IndexMap;
 use names::Entity;
@@ -103,6 +103,17 @@ impl Solutions {
             self.reasons.shrink_to_fit();
         }
         self.members.give_back();
+    }
+
+    /// Takes out all solutions. The room of small tables stays.
+    pub fn clear(&mut self)
+        ensures { self.new ≡ [] }
+    {
+        self.reasons.clear();
+        if !is_worth_keeping(self.reasons.capacity()) {
+            self.reasons.shrink_to_fit();
+        }
+        self.members.clear();
     }
 
     /// The place of the solution, and its reason, if it is there.

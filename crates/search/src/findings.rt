@@ -1,6 +1,6 @@
 ghost use Rattle.std.specs.Prelude.{◌≡◌, [], ◌∷◌, ◌++◌, IfOk, OnOk, OnErr};
 ghost use Rattle.credential_text.specs.declared.exprs.Expr.TheVariants as exprs;
-ghost use Rattle.cred_graph.specs.Graph.{IsGraph};
+ghost use Rattle.cred_graph.specs.Graph.{IsGraph, empty_graph};
 
 use crate::letters::Load;
 use cred_graph::{Graph, Port};
@@ -57,25 +57,60 @@ impl Model for Findings {
 /// A list of answers with more room than this is given back.
 const MOST_ROOM: usize = 64;
 
+/// Room for so many nodes is made before the first one is added, as many as four groups of a map's index take.
+const FIRST_NODES: u64 = 36;
+
+/// An emptied list of monitors gives its room back where it is less than that, or more than for so many nodes.
+const MOST_NODES: u64 = 256;
+
 impl Findings {
     ghost use Rattle.search.specs.Answers.{progress};
     ghost use Rattle.search.specs.Numbered.{IsLoad, load_at};
 
+    // Where nothing was found yet. It takes no memory.
+    pub(crate) fn new(alloc: Global) -> Self
+        ensures { result ≡ progress empty_graph [] [] }
+    {
+        let _ports: Option<Port> = None;
+        Findings {
+            graph: Graph::new(alloc),
+            monitors: Vec::new(alloc),
+            outs: VecDeque::new(alloc),
+        }
+    }
+
+    // What was found is forgotten. Tables keep the room that a small search needs.
+    pub(crate) fn forget(&mut self, alloc: Global)
+        ensures { self.new ≡ progress empty_graph [] [] }
+    {
+        self.clear(alloc);
+        self.graph.clear();
+        self.monitors.clear();
+        let room = self.monitors.capacity() as u64;
+        if room < FIRST_NODES || room > MOST_NODES {
+            self.monitors.shrink_to_fit();
+        }
+    }
+
     // What a search for the role has found before its first letter is received: the role's node.
-    pub(crate) fn first(alloc: Global, role: Role) -> Result<Self, AllocError>
+    pub(crate) fn first(mut self, role: Role) -> Result<Self, AllocError>
+        requires { self ≡ progress empty_graph [] [] }
         ensures found { IfOk result (λ f. f
             ≡ progress (record { nodes = exprs.Rol role ∷ []; listeners = [] ∷ []; solutions = [] }) (Monitor.Plain ∷ []) []) }
         ensures laws { IfOk result (λ f. IsGraph f.graph) }
     {
-        let mut graph = Graph::new(alloc);
+        self.reserve(FIRST_NODES)?;
+        let Findings {
+            mut graph,
+            mut monitors,
+            outs,
+        } = self;
         graph.node_of(&Expr::Rol(role))?;
-        let mut monitors = Vec::new(alloc);
         monitors.push(NumberedMonitor::Plain)?;
-        let _ports: Option<Port> = None;
         Ok(Findings {
             graph,
             monitors,
-            outs: VecDeque::new(alloc),
+            outs,
         })
     }
 

@@ -25,6 +25,7 @@ mod rows_checks;
 mod searches;
 mod solving;
 mod stages;
+mod tables;
 mod telling;
 
 pub use batches::Batch;
@@ -35,3 +36,4 @@ pub use outcomes::{CarriedOn, Finished, Status, Went};
 pub use queries::{Hint, Need, Query, Task};
 pub use searches::Search;
 pub use stages::Stage;
+pub use tables::Tables;

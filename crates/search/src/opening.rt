@@ -18,9 +18,6 @@ use std::alloc::{AllocError, Global};
 /// For the bodies of so many rows room is made as they are asked.
 const FEW_ROWS: u64 = 16;
 
-/// Room for so many nodes is made before the first one opens, as many as four groups of a map's index take.
-const FIRST_NODES: u64 = 36;
-
 // Makes room for the nodes of the rows' bodies at once, unless the last of these has a node already.
 fn make_room(
     found: &mut Findings,
@@ -108,21 +105,4 @@ pub(crate) fn open(
             ask_parts(alloc, found, parts.as_slice())
         }
     }
-}
-
-// The first node opens, the asked role's, with room for others.
-pub(crate) fn open_first(
-    alloc: Global,
-    found: &mut Findings,
-    snapshot: &Snapshot,
-    node: u64,
-    looked_up: Option<&Span>,
-) -> Result<(), AllocError>
-    requires node { node < length found.old.graph.nodes }
-    requires span { (e : Expr) → IsNode found.old.graph node e → IsSpanFor snapshot.now.vaults e (option_copied looked_up) }
-    ensures { OnOk result ((e : Expr) → IsNode found.old.graph node e
-        → Opens (own_rows snapshot.now.vaults e) found.old found.new node e) }
-{
-    found.reserve(FIRST_NODES)?;
-    open(alloc, found, snapshot, node, looked_up)
 }

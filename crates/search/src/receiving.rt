@@ -13,7 +13,7 @@ ghost use Rattle.search.specs.Numbered.{IsLoad, load_at};
 use crate::findings::Findings;
 use crate::hearing::hear_ask;
 use crate::letters::{Held, Load};
-use crate::opening::{open, open_first};
+use crate::opening::open;
 use crate::telling::take_in;
 use cred_graph::{Graph, Port};
 use scholten_core::Parent;
@@ -81,7 +81,7 @@ pub(crate) fn receive(
         held.now.from held.now.to (load_at found.old.graph.nodes held.now.load)) }
 {
     match held.load {
-        Load::Start => open_first(alloc, found, snapshot, held.to, looked_up),
+        Load::Start => open(alloc, found, snapshot, held.to, looked_up),
         Load::Ask(port) => {
             let asker = sender(held.from);
             asked(alloc, found, snapshot, held.to, asker, port, looked_up)

@@ -24,6 +24,7 @@ use crate::receiving::receive;
 use crate::stages::{
     NumberedStage, Stage, deliver, held_letter, hold, nothing_moves, send, wait_again,
 };
+use crate::tables::Tables;
 use cred_graph::{Graph, Port};
 use names::{Entity, Role};
 use scholten_core::Diffusion;
@@ -102,7 +103,21 @@ impl Search {
         requires { 0 < work }
         ensures { IfOk result (λ s. IsNew s query work (arc_value snapshot)) }
     {
-        let found = Findings::first(alloc, query.role())?;
+        Search::open_in(Tables::new(alloc), alloc, snapshot, query, work)
+    }
+
+    /// The same search, in these tables.
+    pub fn open_in(
+        tables: Tables,
+        alloc: Global,
+        snapshot: Arc<Snapshot>,
+        query: Query,
+        work: u64,
+    ) -> Result<Search, AllocError>
+        requires { 0 < work }
+        ensures { IfOk result (λ s. IsNew s query work (arc_value snapshot)) }
+    {
+        let found = tables.into_found().first(query.role())?;
         let running = Diffusion::start(alloc, 0, Load::Start)?;
         let _ports: Option<Port> = None;
         Ok(Search {
@@ -113,6 +128,19 @@ impl Search {
             stage: NumberedStage::Running(running),
             alloc,
         })
+    }
+
+    /// Ends the search. Its tables are emptied for another one.
+    pub fn into_tables(self) -> Tables {
+        let Search {
+            query: _query,
+            work: _work,
+            snapshot: _snapshot,
+            found,
+            stage: _stage,
+            alloc,
+        } = self;
+        Tables::of(found, alloc)
     }
 
     /// How many letters wait.

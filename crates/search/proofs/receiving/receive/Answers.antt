@@ -10,8 +10,8 @@ use Rattle.search.specs.Numbered.{load_at}
 use Rattle.search.proofs.Arms.{node_in, asker_is, teller_is, asker_in, may_tell, answers_start, answers_ask, answers_tell}
 use Rattle.search.proofs.receiving.receive.Goals as goal
 
-pub open_first-requires-clause-node : goal.open_first-requires-clause-node
-open_first-requires-clause-node c = node_in c.requires.awaits.2
+pub open-requires-clause-node : goal.open-requires-clause-node
+open-requires-clause-node c = node_in c.requires.awaits.2
 
 pub sender-asker-requires : goal.sender-asker-requires
 sender-asker-requires c =
@@ -48,10 +48,10 @@ returns-in-Start c =
     let s = c.args.found.now in
     let l = load_at s.graph.nodes c.args.held.now.load in
     let view = c.args.snapshot.now.vaults in
-    on_ok_weaker c.open_first.result
-    (λ opens. from_none view s c.open_first.new.found c.args.held.now.from c.args.held.now.to l c.requires.none
-    (answers_start c.requires.awaits.2 (ap (load_at s.graph.nodes) c.in-Start.is) view s c.open_first.new.found opens))
-    c.open_first.ensures
+    on_ok_weaker c.open.result
+    (λ opens. from_none view s c.open.new.found c.args.held.now.from c.args.held.now.to l c.requires.none
+    (answers_start c.requires.awaits.2 (ap (load_at s.graph.nodes) c.in-Start.is) view s c.open.new.found opens))
+    c.open.ensures
 
 pub returns-in-Ask : goal.returns-in-Ask
 returns-in-Ask c =

@@ -8,7 +8,7 @@ use Rattle.search.specs.Answers.{Progress}
 use Rattle.search.specs.Numbered.{load_at}
 use Rattle.search.proofs.Searching.{first_graph, opened_kept}
 use Rattle.search.proofs.Numbered.{AreLetters, start_says}
-use Rattle.search.proofs.searches.Search.open.Goals as goal
+use Rattle.search.proofs.searches.Search.open_in.Goals as goal
 
 pub invariant_of-result : goal.invariant_of-result
 invariant_of-result c =
