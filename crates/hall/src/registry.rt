@@ -17,7 +17,7 @@ use indexmap::IndexMap;
 use names::Entity;
 use proof_trees::Proof;
 use quotas::Limits;
-use search::{Batch, Carried, CarriedOn, Hint, Query, Search, Went};
+use search::{Batch, Carried, CarriedOn, Hint, Query, Search, Tables, Went};
 use std::alloc::{AllocError, Global};
 use std::marker::Model;
 use std::sync::Arc;
@@ -29,6 +29,8 @@ pub struct Hall {
     book: Book,
     tenants: Tenants,
     pub(crate) busy: Busy,
+    // The tables of the search that was ended last, for the next one that is opened.
+    spare: Tables,
 }
 
 impl Model for Hall {
@@ -56,6 +58,7 @@ impl Drop for Hall {
             book: _book,
             tenants: _tenants,
             busy: _busy,
+            spare: _spare,
         } = self;
     }
 }
@@ -79,6 +82,7 @@ impl Hall {
             book: Book::new(alloc),
             tenants: Tenants::new(alloc, &roster)?,
             busy: IndexMap::new(alloc),
+            spare: Tables::new(alloc),
         })
     }
 
@@ -125,7 +129,14 @@ impl Hall {
         ensures served { IsServed self.old who (request.Seek query) (told_as reply.Opened result) self.new }
     {
         let seat = self.tenants.seat_mut(&who)?;
-        seat.open(self.alloc, &mut self.book, &mut self.busy, who, query)
+        seat.open(
+            self.alloc,
+            &mut self.book,
+            &mut self.busy,
+            who,
+            query,
+            &mut self.spare,
+        )
     }
 
     /// What the tenant's search of the number has come to.
@@ -152,7 +163,7 @@ impl Hall {
     {
         let seat = self.tenants.seat_mut(&who)?;
         leave(&mut self.busy, &who, number);
-        seat.end(number)
+        seat.end(number, &mut self.spare)
     }
 
     /// The credentials that the tenant issues and holds, in order.

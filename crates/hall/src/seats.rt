@@ -13,10 +13,11 @@ use crate::picking::{Busy, enter};
 use indexmap::IndexMap;
 use names::Entity;
 use quotas::{Limits, Used};
-use search::{Carried, Query, Search};
+use search::{Carried, Query, Search, Tables};
 use snapshots::Snapshot;
 use std::alloc::Global;
 use std::marker::Model;
+use std::mem;
 use std::sync::Arc;
 use vaults::{Book, Change};
 
@@ -93,6 +94,7 @@ impl Seat {
         busy: &mut Busy,
         who: Entity,
         query: Query,
+        spare: &mut Tables,
     ) -> Result<u64, Fault>
         ensures allowed { OnOk result (seek_refusal (account book.old who self.old) ≡ None) }
         ensures number { IfOk result (λ n. n ≡ self.old.opens + 1) }
@@ -111,21 +113,25 @@ impl Seat {
         self.limits.may_open(&used)?;
         let number = self.opens + 1;
         enter(busy, who, number)?;
-        self.searches.insert(number, begin(alloc, book, who, query, self.limits.work())?)?;
+        let work = self.limits.work();
+        self.searches
+            .insert(number, begin(alloc, book, who, query, work, spare)?)?;
         self.opens = number;
         Ok(number)
     }
 
-    /// Ends the search of the number. Where there is none the refusal is 51.
-    pub(crate) fn end(&mut self, number: u64) -> Result<(), Fault>
+    /// Ends the search of the number. Where there is none the refusal is 51. Where nobody else has the search, its tables are
+    /// spare then.
+    pub(crate) fn end(&mut self, number: u64, spare: &mut Tables) -> Result<(), Fault>
         ensures there { OnOk result (get self.old.searches number ≢ None) }
         ensures ended { OnOk result (self.new ≡ record self.old { searches = remove self.old.searches number }) }
         ensures refused { IfErr result (λ f. (f ≡ faults.NoSuchSearch) × (get self.old.searches number ≡ None)) }
         ensures unchanged { OnErr result (self.new ≡ self.old) }
     {
-        let Some(_ended) = self.searches.swap_remove(&number) else {
+        let Some(ended) = self.searches.swap_remove(&number) else {
             return Err(Fault::NoSuchSearch);
         };
+        leave_tables(ended, spare);
         Ok(())
     }
 
@@ -148,13 +154,14 @@ impl Seat {
     }
 }
 
-/// A search over what the tenant sees now, which may send so many letters.
+/// A search over what the tenant sees now, which may send so many letters. It takes the spare tables.
 fn begin(
     alloc: Global,
     book: &mut Book,
     who: Entity,
     query: Query,
     work: u64,
+    spare: &mut Tables,
 ) -> Result<Opened, Fault>
     requires { 0 < work }
     ensures begun { IfOk result (λ opened. opened ≡ beginning book.old who query work) }
@@ -162,9 +169,23 @@ fn begin(
     ensures same { book.new ≡ book.old }
 {
     let snapshot = Arc::new(alloc, Snapshot::take(alloc, book, who)?)?;
-    let carried = Carried::Own(Search::open(alloc, snapshot, query, work)?);
+    let tables = mem::replace(spare, Tables::new(alloc));
+    let carried = Carried::Own(Search::open_in(tables, alloc, snapshot, query, work)?);
     Ok(Opened {
         opened_at: book.journal_len(),
         carried,
     })
+}
+
+/// Ends the search. Where nobody else has it, its tables are spare.
+fn leave_tables(ended: Opened, spare: &mut Tables) {
+    let Opened {
+        opened_at: _,
+        carried,
+    } = ended;
+    match carried {
+        Carried::Own(search) => *spare = search.into_tables(),
+        Carried::Lent(_shared) => {}
+        Carried::Moving => {}
+    }
 }

@@ -18,10 +18,10 @@ made c =
 
 pub invariant_of-result : goal.invariant_of-result
 invariant_of-result c =
-    subst (IsIndexed c.new-3.result) (sym (made c.before)) (record {
+    subst (IsIndexed c.new-3.result) (sym (made (goal.at.invariant_of-result c).In_ok-new)) (record {
       sound = new_sound c.args.roster.items;
       listed = new_each (λ name t k r. IsUnsettled r.search → Lists c.new-3.result name k) c.args.roster.items;
     })
 
 pub returns-clause-hall : goal.returns-clause-hall
-returns-clause-hall c = made c.before.before
+returns-clause-hall c = made (goal.at.returns-clause-hall c).In_ok-new

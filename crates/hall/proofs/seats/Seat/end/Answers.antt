@@ -13,7 +13,7 @@ returns-in_default-clause-refused c =
 
 pub returns-clause-there : goal.returns-clause-there
 returns-clause-there c none =
-    let clash : Some c.in-Some._ended ≡ None =
+    let clash : Some c.in-Some.ended ≡ None =
     c.in-Some.ensures.value ∙ sym (search_found c.self.inside.searches c.args.number) ∙ ap (λ (t : Tenant). get t.searches c.args.number) c.self.view_is ∙ none in
     cc
 

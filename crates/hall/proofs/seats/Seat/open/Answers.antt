@@ -56,7 +56,7 @@ returns-in_err-insert c =
 -- it may send as many letters as the limit allows
 begun : (c : After-branch-insert) →
     c.in_ok-begin.field-0 ≡ beginning c.args.book.now c.args.who c.args.query c.self.inside.limits.work
-begun c = c.in_ok-begin.ensures.begun ∙ ap (beginning c.args.book.now c.args.who c.args.query) c.work.ensures.limit
+begun c = c.in_ok-begin.ensures.begun ∙ ap (beginning c.args.book.now c.args.who c.args.query) c.work-work.ensures.limit
 
 pub returns : goal.returns
 returns c =
