@@ -9,9 +9,10 @@ ghost use Rattle.rtsearch.specs.Running.{Ran, Failed};
 use crate::command_line::{Errand, read_words};
 use crate::serving::run_service;
 use clap::error::ErrorKind;
-use service::run_script;
+use service::{Remains, run_script_keeping};
 use std::alloc::Global;
 use std::io::{Read, Write};
+use std::mem::ManuallyDrop;
 use std::net::{Net, TcpListener, TcpStream};
 use std::sync::Wait;
 use std::thread::Threads;
@@ -52,7 +53,8 @@ pub fn run_words<
     }
 }
 
-/// Runs a script: 0 where all input was read and answered, 1 on a fault.
+/// Runs a script: 0 where all input was read and answered, 1 on a fault. What its tenants have at the end is left to the
+/// system, which takes it back with the process.
 fn script_status<R: Read + Drop, W: Write>(alloc: Global, reader: &mut R, writer: &mut W) -> u8
     ensures ran { result ≡ 0 → IfSome (R.remaining reader.old)
         (λ input. ScriptWrote (commands_of input) (Ok tt) (Appends (W.contents writer.old) (W.contents writer.new))) }
@@ -61,7 +63,8 @@ fn script_status<R: Read + Drop, W: Write>(alloc: Global, reader: &mut R, writer
         (Appends (W.contents writer.old) (W.contents writer.new))) }
     ensures status { result ≤ 1 }
 {
-    match run_script(alloc, reader, writer) {
+    let mut remains = ManuallyDrop::new(Remains::new());
+    match run_script_keeping(alloc, reader, writer, &mut remains) {
         Ok(()) => 0,
         Err(_fault) => 1,
     }

@@ -29,6 +29,6 @@ pub use lines::limit::MOST_READS;
 pub use lines::{LINE_ROOM, LineReader, NextLine};
 pub use refusals::fault_text;
 pub use rosters::{Roster, read_roster};
-pub use scripts::run_script;
+pub use scripts::{Remains, run_script, run_script_keeping};
 pub use serving::{ServeOptions, serve};
 pub use sessions::serve_session;

@@ -34,6 +34,20 @@ impl Host for Hall {
     }
 }
 
+/// What the tenants of a script have at its end. To drop it goes over each search that stayed open, so a program that ends then
+/// may leave it to the system.
+#[derive(Drop)]
+pub struct Remains {
+    tenants: Option<Hall>,
+}
+
+impl Remains {
+    /// Of no script yet.
+    pub fn new() -> Remains {
+        Remains { tenants: None }
+    }
+}
+
 /// Runs a script: a roster, then the commands of its tenants. Each line that isn't blank is answered before the next
 /// line is read. The room for a line and for a short reply is taken before anything is read.
 pub fn run_script<R: Read + Drop, W: Write>(
@@ -44,9 +58,22 @@ pub fn run_script<R: Read + Drop, W: Write>(
     ensures { IfSome (R.remaining reader)
         (λ input. ScriptWrote (commands_of input) result (Appends (W.contents writer.old) (W.contents writer.new))) }
 {
+    run_script_keeping(alloc, reader, writer, &mut Remains::new())
+}
+
+/// The same. What the tenants have at the end is kept there.
+pub fn run_script_keeping<R: Read + Drop, W: Write>(
+    alloc: Global,
+    reader: R,
+    writer: &mut W,
+    remains: &mut Remains,
+) -> Result<(), ScriptFault>
+    ensures { IfSome (R.remaining reader)
+        (λ input. ScriptWrote (commands_of input) result (Appends (W.contents writer.old) (W.contents writer.new))) }
+{
     let mut reply = Room::make(alloc)?;
     let mut lines = LineReader::make(alloc, reader)?;
-    run_lines(alloc, &mut lines, &mut reply, writer)
+    run_lines(alloc, &mut lines, &mut reply, writer, remains)
 }
 
 /// Runs the script of these lines.
@@ -55,6 +82,7 @@ fn run_lines<R: Read + Drop, W: Write>(
     lines: &mut LineReader<R>,
     reply: &mut Room,
     writer: &mut W,
+    remains: &mut Remains,
 ) -> Result<(), ScriptFault>
     ensures { IfKnown lines.old
         (λ lines. ScriptWrote lines result (Appends (W.contents writer.old) (W.contents writer.new))) }
@@ -62,7 +90,9 @@ fn run_lines<R: Read + Drop, W: Write>(
     let Ok(mut hall) = take_roster(alloc, lines, writer)?.hall(alloc) else {
         return Err(ScriptFault::Memory);
     };
-    result_of(converse(&mut hall, lines, reply, writer))
+    let end = converse(&mut hall, lines, reply, writer);
+    remains.tenants = Some(hall);
+    result_of(end)
 }
 
 /// What a script comes to by the end of its conversation.

@@ -4,7 +4,7 @@ use Rattle.std.specs.Io.KnownBytes.{Appends}
 use Rattle.service.specs.Line.{Line}
 use Rattle.service.specs.Written.{ScriptWrote}
 use Rattle.service.proofs.LinesLemmas.{IfKnown-input}
-use Rattle.service.proofs.scripts.run_script.Goals as goal
+use Rattle.service.proofs.scripts.run_script_keeping.Goals as goal
 
 pub returns : goal.returns
 returns g c =
