@@ -56,7 +56,7 @@ impl Arrivals {
     fn idle(&self) -> Option<Duration>
         ensures { option_map as_nanos result ≡ option_map (λ seconds. seconds * 1_000_000_000) self.now.idle_seconds }
     {
-        self.idle_seconds.map(Duration::from_secs)
+        Some(Duration::from_secs(self.idle_seconds?))
     }
 
     /// Bounds how long the connection waits for its peer.
@@ -108,7 +108,8 @@ pub(crate) fn answer_connections<L: Ledger + Send + Sync, R: Threads + Wait + Cl
     thread::scope(
         thread::scope_env(),
         rt,
-        |scope| -> Result<u64, ServeFault>
+        // The listener and the sender are its own, and end with it.
+        move |scope| -> Result<u64, ServeFault>
             requires { desk.now ≡ names_of roster.now }
             ensures { Answered options.accept result }
         {
@@ -123,8 +124,6 @@ pub(crate) fn answer_connections<L: Ledger + Send + Sync, R: Threads + Wait + Cl
                 arrivals.is_stopped.store(true, Ordering::SeqCst);
                 desk.stop(rt);
             }
-            drop(listener);
-            drop(sender);
             accepted
         },
     )
@@ -144,8 +143,9 @@ fn accept_all<R: Wait + Clock, S: OpenListener>(
         if accept == Some(count) {
             return Ok(count);
         }
-        let sent = queue.send(rt, next_connection(rt, listener)?);
-        sent.or(Err(ServeFault::Memory))?;
+        let Ok(()) = queue.send(rt, next_connection(rt, listener)?) else {
+            return Err(ServeFault::Memory);
+        };
         count = count.saturating_add(1);
     }
     unreachable!()

@@ -73,7 +73,9 @@ impl<R: Read + Drop> LineReader<R> {
         let line = Vec::with_capacity(alloc, KEPT)?;
         let left = MOST_READS;
         let inner = reader;
-        let ahead = BufReader::new(alloc, Limited { inner, left }).or(Err(AllocError))?;
+        let Ok(ahead) = BufReader::new(alloc, Limited { inner, left }) else {
+            return Err(AllocError);
+        };
         Ok(LineReader {
             ahead,
             line,
