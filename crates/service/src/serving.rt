@@ -1,7 +1,8 @@
 //! The service: connections that are answered, and the workers beside them.
-ghost use Rattle.std.specs.Prelude.{◌≡◌, ◌≤◌, ◌⊎◌, ◌↔◌, ◌++◌, Some, length, decimal, IsOk, IfOk, IfErr, OnOk, OnErr};
+ghost use Rattle.std.specs.Prelude.{◌≡◌, ◌≤◌, ◌⊎◌, ◌↔◌, ◌++◌, Some, Err, length, decimal, IsOk, IfOk, IfErr, OnOk, OnErr};
 ghost use Rattle.std.specs.Io.KnownBytes.{Appends};
-ghost use Rattle.service.specs.{Roster.names_of, Served.Answered, Served.ServeWrote, Session.session_line, Written.WritesFront};
+ghost use Rattle.service.specs.Served.{Answered, ServeWrote, WithPort, listening_line};
+ghost use Rattle.service.specs.{Roster.names_of, Session.session_line, Written.WritesFront};
 
 use crate::connections::answer_connections;
 use crate::faults::ServeFault;
@@ -54,10 +55,14 @@ pub fn serve<R: Threads + Wait + Clock + Sync, W: Write>(
         return Err(ServeFault::Memory);
     };
     let blank = Blank::new(PARTS);
-    serve_with::<Brand, R, W>(rt, blank, roster, listener, options, writer, &mut line)
+    let count = serve_with::<Brand, R, W>(rt, blank, roster, listener, options, writer, &mut line)?;
+    let Ok(()) = tell(writer, &mut line, b"served ", count) else {
+        return Err(ServeFault::Write);
+    };
+    Ok(count)
 }
 
-/// Serves at a new desk of the roster's tenants, whose ledger has this name, and tells by this line.
+/// Tells the listener's port by this line, and serves at a new desk of the roster's tenants, whose ledger has this name.
 fn serve_with<L: Ledger + Send + Sync, R: Threads + Wait + Clock + Sync, W: Write>(
     rt: &R,
     blank: Blank,
@@ -69,7 +74,8 @@ fn serve_with<L: Ledger + Send + Sync, R: Threads + Wait + Clock + Sync, W: Writ
 ) -> Result<u64, ServeFault>
     requires { (blank.name ≡ L.name) × (blank.parts ≡ L.parts) × (blank.parts ≡ PARTS) }
     ensures count { IfOk result (λ n. options.accept ≡ Some n) }
-    ensures wrote { ServeWrote options.accept result (Appends (W.contents writer.old) (W.contents writer.new)) }
+    ensures told { OnOk result (WithPort (λ port. Appends (W.contents writer.old) (W.contents writer.new) (listening_line port))) }
+    ensures fault { IfErr result (λ why. ServeWrote options.accept (Err why) (Appends (W.contents writer.old) (W.contents writer.new))) }
 {
     let Ok(desk) = roster.desk::<L>(line.alloc(), blank) else {
         return Err(ServeFault::Memory);
@@ -81,11 +87,7 @@ fn serve_with<L: Ledger + Send + Sync, R: Threads + Wait + Clock + Sync, W: Writ
     let Ok(()) = tell(writer, line, b"listening 127.0.0.1:", port) else {
         return Err(ServeFault::Write);
     };
-    let count = answer_beside_workers(rt, line.alloc(), &desk, roster, listener, options)?;
-    let Ok(()) = tell(writer, line, b"served ", count) else {
-        return Err(ServeFault::Write);
-    };
-    Ok(count)
+    answer_beside_workers(rt, line.alloc(), &desk, roster, listener, options)
 }
 
 /// Writes a line of these words and this number.
@@ -99,7 +101,8 @@ fn tell<W: Write>(out: &mut W, line: &mut Room, words: &[u8], count: u64) -> Res
     write_reply(out, line.as_slice())
 }
 
-/// Runs the workers while the connections are answered.
+/// Runs the workers while the connections are answered, until the desk is stopped. Where all of them end sooner, for want of
+/// memory, nobody goes on with the searches: then their thread stops the desk, so that no session waits for one.
 fn answer_beside_workers<L: Ledger + Send + Sync, R: Threads + Wait + Clock + Sync>(
     rt: &R,
     alloc: Global,
@@ -118,27 +121,21 @@ fn answer_beside_workers<L: Ledger + Send + Sync, R: Threads + Wait + Clock + Sy
             requires { desk.now ≡ names_of roster.now }
             ensures { Answered options.accept result }
         {
-            let Ok(working) = scope.spawn(move || work(rt, desk, options.workers)) else {
+            let Ok(working) = scope.spawn(move || {
+                let worked = run_workers(rt, desk, options.workers.clamp(1, 64), &NoGate);
+                desk.stop(rt);
+                worked
+            }) else {
                 return Err(ServeFault::NoThread);
             };
             let answered = answer_connections(rt, alloc, desk, roster, listener, options);
             desk.stop(rt);
             let worked = worked_well(working.join(rt));
-            worked.and(Ok(answered?))
+            let count = answered?;
+            worked?;
+            Ok(count)
         },
     )
-}
-
-/// Runs 1 to 64 workers until the desk is stopped. Where all of them end sooner, for want of memory, nobody goes on with
-/// the searches: then it stops the desk itself, so that no session waits for one.
-fn work<L: Ledger + Send + Sync, R: Threads + Wait + Sync>(
-    rt: &R,
-    desk: &Desk<L>,
-    workers: u64,
-) -> Result<u64, DeskFault> {
-    let worked = run_workers(rt, desk, workers.clamp(1, 64), &NoGate);
-    desk.stop(rt);
-    worked
 }
 
 /// The fault of the workers, if there was one.
