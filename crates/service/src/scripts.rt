@@ -1,8 +1,8 @@
 //! A script: a roster, then the commands of its tenants, each with its reply.
 ghost use Rattle.std.specs.{Prelude.◌≡◌, Prelude.◌⊎◌, Prelude.IfSome, Io.KnownBytes.Appends};
 ghost use Rattle.hall.specs.Hall.{CarriesOut};
-ghost use Rattle.service.specs.Outcome.{IsOutcome, IsSaid, deed_of, speaks, Becomes};
-ghost use Rattle.service.specs.{Command.form_of, Line.commands_of, Line.text, LineReader.IfKnown, Written.end_of, Written.ScriptWrote};
+ghost use Rattle.service.specs.Outcome.{IsSaid, deed_of, Becomes};
+ghost use Rattle.service.specs.{Command.form_of, Line.commands_of, LineReader.IfKnown, Written.end_of, Written.ScriptWrote};
 
 use crate::commands::{Command, read_command};
 use crate::conversations::{Flow, Host, SessionEnd, converse};
@@ -23,7 +23,15 @@ impl Host for Hall {
     ghost Answers = { ScriptAnswers };
 
     fn answer(&mut self, line: &[u8], reply: &mut Room) -> Flow {
-        answer_line(reply.alloc(), line, self, reply);
+        let (before, said) = cut(trim_start(line), b':');
+        let Some(said) = said else {
+            fill_error(reply, &Speaker::Nobody, Refusal::Command.number());
+            return Flow::GoesOn;
+        };
+        match Entity::read(before) {
+            Ok(who) if self.has(who) => answer_tenant(reply.alloc(), who, said, self, reply),
+            _ => fill_error(reply, &Speaker::Nobody, Refusal::BadHello.number()),
+        }
         Flow::GoesOn
     }
 
@@ -107,26 +115,12 @@ fn result_of(end: SessionEnd) -> Result<(), ScriptFault>
     }
 }
 
-/// Answers a line that isn't blank.
-fn answer_line(alloc: Global, line: &[u8], hall: &mut Hall, reply: &mut Room)
-    ensures { Becomes hall.old (IsOutcome (speaks hall.old) (text line.now)) reply.new hall.new }
-{
-    let (before, said) = cut(trim_start(line), b':');
-    let Some(said) = said else {
-        return fill_error(reply, &Speaker::Nobody, Refusal::Command.number());
-    };
-    match Entity::read(before) {
-        Ok(who) if hall.has(who) => answer_tenant(alloc, who, said, hall, reply),
-        _ => fill_error(reply, &Speaker::Nobody, Refusal::BadHello.number()),
-    }
-}
-
 /// Answers what a tenant said.
 fn answer_tenant(alloc: Global, who: Entity, said: &[u8], hall: &mut Hall, reply: &mut Room)
     ensures { Becomes hall.old (IsSaid who (form_of said.now)) reply.new hall.new }
 {
     match read_command(alloc, said) {
-        Ok(command) => fill_reply(reply, &Speaker::Tenant(who), &carry_out(hall, who, command)),
+        Ok(command) => fill_reply(reply, &Speaker::Tenant(who), carry_out(hall, who, command)),
         Err(refusal) => fill_error(reply, &Speaker::Tenant(who), refusal.number()),
     }
 }
@@ -136,7 +130,10 @@ fn carry_out(hall: &mut Hall, who: Entity, command: Command) -> Reply
     ensures { CarriesOut hall.old who (deed_of command) result hall.new }
 {
     match command {
-        Command::Request(request) => hall.ask(who, request).unwrap_or_else(Reply::Refused),
+        Command::Request(request) => match hall.ask(who, request) {
+            Ok(reply) => reply,
+            Err(fault) => Reply::Refused(fault),
+        },
         Command::Wait(number) => match hall.drive(who, number) {
             Ok(answer) => Reply::Answered(answer),
             Err(fault) => Reply::Refused(fault),

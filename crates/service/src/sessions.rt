@@ -117,7 +117,10 @@ impl<L: Ledger, R: Wait> Session<'_, L, R> {
         };
         let is_known = self.roster.check(name, word);
         match Entity::read(name) {
-            Ok(who) if is_known => self.desk.pass(self.rt, who).or(Err(Refusal::Memory)),
+            Ok(who) if is_known => match self.desk.pass(self.rt, who) {
+                Ok(pass) => Ok(pass),
+                Err(_fault) => Err(Refusal::Memory),
+            },
             _ => Err(Refusal::BadHello),
         }
     }
@@ -135,7 +138,7 @@ fn tell<L: Ledger, R: Wait>(
 {
     match read_command(reply.alloc(), line) {
         Ok(command) => match carry_out(rt, desk, pass, command) {
-            Ok(told) => fill_reply(reply, &Speaker::Peer, &told),
+            Ok(told) => fill_reply(reply, &Speaker::Peer, told),
             Err(fault) => fill_error(reply, &Speaker::Peer, fault.number()),
         },
         Err(refusal) => fill_error(reply, &Speaker::Peer, refusal.number()),
