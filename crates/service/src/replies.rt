@@ -142,10 +142,10 @@ fn append_digits(out: &mut Vec<u8>, number: u64)
 }
 
 /// Fills the room with the lines of a reply, or where memory lacks for a long one with the line that says so.
-pub(crate) fn fill_reply(room: &mut Room, who: &Speaker, reply: Reply)
-    ensures { IsFilled (front_of who.now) reply room.new }
+pub(crate) fn fill_reply(room: &mut Room, who: &Speaker, reply: &Reply)
+    ensures { IsFilled (front_of who.now) reply.now room.new }
 {
-    if write_reply_lines(room, who, &reply).is_err() {
+    if write_reply_lines(room, who, reply).is_err() {
         fill_error(room, who, Fault::Memory.number());
     }
 }

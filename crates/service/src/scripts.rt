@@ -120,7 +120,7 @@ fn answer_tenant(alloc: Global, who: Entity, said: &[u8], hall: &mut Hall, reply
     ensures { Becomes hall.old (IsSaid who (form_of said.now)) reply.new hall.new }
 {
     match read_command(alloc, said) {
-        Ok(command) => fill_reply(reply, &Speaker::Tenant(who), carry_out(hall, who, command)),
+        Ok(command) => fill_reply(reply, &Speaker::Tenant(who), &carry_out(hall, who, command)),
         Err(refusal) => fill_error(reply, &Speaker::Tenant(who), refusal.number()),
     }
 }

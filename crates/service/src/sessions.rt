@@ -138,7 +138,7 @@ fn tell<L: Ledger, R: Wait>(
 {
     match read_command(reply.alloc(), line) {
         Ok(command) => match carry_out(rt, desk, pass, command) {
-            Ok(told) => fill_reply(reply, &Speaker::Peer, told),
+            Ok(told) => fill_reply(reply, &Speaker::Peer, &told),
             Err(fault) => fill_error(reply, &Speaker::Peer, fault.number()),
         },
         Err(refusal) => fill_error(reply, &Speaker::Peer, refusal.number()),

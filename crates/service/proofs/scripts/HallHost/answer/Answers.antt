@@ -23,7 +23,7 @@ returns-in_default c =
 pub returns-in-Ok : goal.returns-in-Ok
 returns-in-Ok c =
     let said = c.answer_tenant.ensures in
-    let colon : list_any is_colon c.trim_start.result.now ≡ true = grind (arith, common_steps) in
+    let colon : list_any is_colon c.trim_start.result.now ≡ true = c.cut.ensures.found.0 (rw c.in-Some.is refl) in
     let speaker : speaks c.args.self.now c.cut.result.0.now ≡ true = grind (arith, common_steps) in (
       record {
         outcome = said.outcome;
@@ -39,7 +39,7 @@ returns-in-Ok c =
 
 pub returns-in_default-read : goal.returns-in_default-read
 returns-in_default-read c =
-    let colon : list_any is_colon c.trim_start.result.now ≡ true = grind (arith, common_steps) in
+    let colon : list_any is_colon c.trim_start.result.now ≡ true = c.cut.ensures.found.0 (rw c.in-Some.is refl) in
     let stranger : speaks c.args.self.now c.cut.result.0.now ≡ false = grind (arith, common_steps) in (
       record {
         outcome = nobody refusal.BadHello;
