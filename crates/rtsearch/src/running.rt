@@ -9,7 +9,7 @@ ghost use Rattle.rtsearch.specs.Running.{Ran, Failed};
 use crate::command_line::{Errand, read_words};
 use crate::serving::run_service;
 use clap::error::ErrorKind;
-use service::{Remains, run_script_keeping};
+use service::run_script_keeping;
 use std::alloc::Global;
 use std::io::{Read, Write};
 use std::mem::ManuallyDrop;
@@ -63,8 +63,8 @@ fn script_status<R: Read + Drop, W: Write>(alloc: Global, reader: &mut R, writer
         (Appends (W.contents writer.old) (W.contents writer.new))) }
     ensures status { result ≤ 1 }
 {
-    let mut remains = ManuallyDrop::new(Remains::new());
-    match run_script_keeping(alloc, reader, writer, &mut remains) {
+    let mut kept = ManuallyDrop::new(None);
+    match run_script_keeping(alloc, reader, writer, &mut kept) {
         Ok(()) => 0,
         Err(_fault) => 1,
     }

@@ -1,5 +1,5 @@
 //! The connections of a service: one thread accepts them, also after an accept that failed, and hands them to those that answer.
-ghost use Rattle.std.specs.Prelude.{◌≡◌, ◌*◌, ◌↔◌, min, IsTrue, IfErr, option_map};
+ghost use Rattle.std.specs.Prelude.{◌≡◌, ◌*◌, ◌↔◌, IsTrue, IfErr, option_map};
 ghost use Rattle.std.specs.Duration.{as_nanos};
 ghost use Rattle.service.specs.{Roster.names_of, Served.Answered, Served.IsLasting};
 
@@ -84,8 +84,7 @@ impl Read for Says<'_> {
 
 /// Answers connections by so many sessions at once, and tells how many there were once all have ended. The listener is closed
 /// as soon as no more are accepted. Where accepting fails the desk is stopped first, so that no session waits for a search,
-/// and each session ends where it reads: a peer that is refused finds no session that still answers. Where a session can't be
-/// started nothing is accepted, and those that were started end with the queue.
+/// and each session ends where it reads. Where a session can't be started nothing is accepted, and the others end too.
 pub(crate) fn answer_connections<L: Ledger + Send + Sync, R: Threads + Wait + Clock + Sync>(
     rt: &R,
     alloc: Global,
@@ -166,16 +165,9 @@ fn next_connection<R: Wait + Clock, S: OpenListener>(
             Err(error) if is_lasting(&error) => return Err(ServeFault::Socket),
             Err(_error) => thread::sleep(rt, Duration::from_millis(pause)),
         }
-        pause = next_pause(pause);
+        pause = pause.saturating_mul(2).min(LONGEST_PAUSE);
     }
     unreachable!()
-}
-
-/// Twice as long a pause, up to the longest.
-fn next_pause(pause: u64) -> u64
-    ensures { result ≡ min (2 * pause) LONGEST_PAUSE }
-{
-    pause.saturating_mul(2).min(LONGEST_PAUSE)
 }
 
 /// Whether a failed accept shows that the listener itself is at fault, so that each later one fails too.
@@ -188,8 +180,7 @@ fn is_lasting(error: &Error) -> bool
     ) || matches!(error.raw_os_error(), Some(NOT_OPEN | NO_SOCKET))
 }
 
-/// Answers connection after connection until the queue ends. However a session ends, it ends alone. Each reply is sent at
-/// once, and not held back for the next. A connection that can't be bounded isn't answered.
+/// Answers connection after connection until the queue ends, each reply at once. One that can't be bounded isn't answered.
 fn answer_queue<L: Ledger, R: Wait>(
     rt: &R,
     alloc: Global,

@@ -1,9 +1,8 @@
 //! The service over bytes: lines that come in, commands of many tenants, and replies that go out.
 //!
-//! `run_script` promises `ScriptWrote` (`specs/Written.antt`): what it wrote is the transcript of an exact run of the tenants'
-//! requests as their lines say them, or a front part of it where a device failed. `scripts_are_isolated` is the law that a
-//! tenant's bytes depend on its own lines and on what it has in sight (`specs/Laws.antt`). `serve_session` is one connection at
-//! a desk (`specs/Session.antt`), and `serve` all of them, over TCP.
+//! `run_script` promises `ScriptWrote` (`specs/Written.antt`): it wrote the transcript of an exact run of the tenants' requests,
+//! or a front part of it where a device failed. By the law `scripts_are_isolated` a tenant's bytes depend on its own lines and on
+//! what it has in sight (`specs/Laws.antt`). `serve_session` is one connection (`specs/Session.antt`), `serve` all of them.
 #![tactic(auto)]
 
 mod commands;
@@ -29,6 +28,6 @@ pub use lines::limit::MOST_READS;
 pub use lines::{LINE_ROOM, LineReader, NextLine};
 pub use refusals::fault_text;
 pub use rosters::{Roster, read_roster};
-pub use scripts::{Remains, run_script, run_script_keeping};
+pub use scripts::{run_script, run_script_keeping};
 pub use serving::{ServeOptions, serve};
 pub use sessions::serve_session;

@@ -55,8 +55,7 @@ impl From<NameFault> for Refusal {
     }
 }
 
-/// The text that a reply shows after the number of a refusal, in the words of the protocol. A number that stands
-/// for no reply has none.
+/// The text that a reply shows after the number of a refusal. A number that stands for no reply has none.
 pub fn fault_text(number: u64) -> Option<&'static str>
     ensures text { option_map (λ s. s.now) result ≡ refusal_of number }
     ensures short { IfSome result (λ s. length s.now ≤ 19) }

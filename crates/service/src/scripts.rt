@@ -42,20 +42,6 @@ impl Host for Hall {
     }
 }
 
-/// What the tenants of a script have at its end. To drop it goes over each search that stayed open, so a program that ends then
-/// may leave it to the system.
-#[derive(Drop)]
-pub struct Remains {
-    tenants: Option<Hall>,
-}
-
-impl Remains {
-    /// Of no script yet.
-    pub fn new() -> Remains {
-        Remains { tenants: None }
-    }
-}
-
 /// Runs a script: a roster, then the commands of its tenants. Each line that isn't blank is answered before the next
 /// line is read. The room for a line and for a short reply is taken before anything is read.
 pub fn run_script<R: Read + Drop, W: Write>(
@@ -66,22 +52,22 @@ pub fn run_script<R: Read + Drop, W: Write>(
     ensures { IfSome (R.remaining reader)
         (λ input. ScriptWrote (commands_of input) result (Appends (W.contents writer.old) (W.contents writer.new))) }
 {
-    run_script_keeping(alloc, reader, writer, &mut Remains::new())
+    run_script_keeping(alloc, reader, writer, &mut None)
 }
 
-/// The same. What the tenants have at the end is kept there.
+/// The same. What the tenants have at the end is kept: to drop it goes over each search that stayed open.
 pub fn run_script_keeping<R: Read + Drop, W: Write>(
     alloc: Global,
     reader: R,
     writer: &mut W,
-    remains: &mut Remains,
+    kept: &mut Option<Hall>,
 ) -> Result<(), ScriptFault>
     ensures { IfSome (R.remaining reader)
         (λ input. ScriptWrote (commands_of input) result (Appends (W.contents writer.old) (W.contents writer.new))) }
 {
     let mut reply = Room::make(alloc)?;
     let mut lines = LineReader::make(alloc, reader)?;
-    run_lines(alloc, &mut lines, &mut reply, writer, remains)
+    run_lines(alloc, &mut lines, &mut reply, writer, kept)
 }
 
 /// Runs the script of these lines.
@@ -90,7 +76,7 @@ fn run_lines<R: Read + Drop, W: Write>(
     lines: &mut LineReader<R>,
     reply: &mut Room,
     writer: &mut W,
-    remains: &mut Remains,
+    kept: &mut Option<Hall>,
 ) -> Result<(), ScriptFault>
     ensures { IfKnown lines.old
         (λ lines. ScriptWrote lines result (Appends (W.contents writer.old) (W.contents writer.new))) }
@@ -99,7 +85,7 @@ fn run_lines<R: Read + Drop, W: Write>(
         return Err(ScriptFault::Memory);
     };
     let end = converse(&mut hall, lines, reply, writer);
-    remains.tenants = Some(hall);
+    *kept = Some(hall);
     result_of(end)
 }
 

@@ -33,11 +33,9 @@ pub struct ServeOptions {
 }
 
 /// Serves the roster's tenants, who have done nothing yet, to the peers that connect to the listener. Once the listener's
-/// port is known a line tells it. After the last connection has been answered another line tells how many there were. An
-/// accept that fails for want of descriptors or memory, or since its peer has gone, is no fault: it is tried again. On a
+/// port is known a line tells it. After the last connection has been answered another line tells how many there were. On a
 /// fault nothing more is accepted, waits for searches end, each session ends where it reads, and the fault is told once the
-/// sessions that are open have ended. The listener is closed as soon as nothing more is accepted, so that peers don't wait
-/// there. Where memory was refused to all workers, waits end too and the sessions go on; that is told at the end.
+/// open sessions have ended. Where all workers lacked memory, waits end too and the sessions go on; that is told at the end.
 pub fn serve<R: Threads + Wait + Clock + Sync, W: Write>(
     rt: &R,
     alloc: Global,

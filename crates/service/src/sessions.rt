@@ -69,9 +69,8 @@ impl<L: Ledger, R: Wait> Host for Session<'_, L, R> {
     }
 }
 
-/// Serves a session: answers each line that isn't blank before the next one is read, up to the end of the input or to
-/// `quit`, and then gives its pass back to the desk, which is one of the roster's tenants. The room for a line and for a
-/// short reply is taken before anything is read.
+/// Serves a session: answers each line that isn't blank before the next one is read, up to `quit` or the end of the input,
+/// and then gives its pass back to the desk. The room for a line and for a short reply is taken before anything is read.
 pub fn serve_session<L: Ledger, R: Wait, I: Read + Drop, W: Write>(
     rt: &R,
     alloc: Global,

@@ -61,8 +61,7 @@ pub(crate) fn split_words(text: &[u8]) -> Arguments<'_>
     }
 }
 
-/// The number that these digits write, if they are 1 to 10 digits and the first isn't 0. A sign, which `parse` would read, is a
-/// byte below `0` too.
+/// The number that these digits write, if they are 1 to 10 and the first isn't 0. A sign, which `parse` reads, is below `0` too.
 pub(crate) fn number(text: &[u8]) -> Option<u64>
     ensures { result ≡ number_of text.now }
 {
