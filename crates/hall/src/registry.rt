@@ -308,7 +308,8 @@ impl Hall {
         requires of { batch.old.of ≡ Some (who.now, number) }
         requires letters { AreOf (Some (who.now, number)) batch.old.letters }
         requires space { most ≤ batch.old.room }
-        ensures carried_on { IsCarriedOn who.now number most self.old batch.old.letters result.0.finished result.1 self.new batch.new.letters }
+        ensures carried_on { IsCarriedOn who.now number most self.old batch.old.letters
+            result.0.finished result.1 self.new batch.new.letters }
         ensures stands { StandsAt self.new who.now number result.0.standing }
         ensures most { result.0.finished ≤ length batch.old.letters }
         ensures bound { length batch.new.letters ≤ most }

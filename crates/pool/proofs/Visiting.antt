@@ -141,6 +141,3 @@ module _ {there at : RoomState} (same : there ≡ at) (kept : IsKept there) (goe
   lacks_there is =
       let did = subst went_on is c.goes_on in
       (halfway, new, kept_halfway, (stays_open, record { who = who; number = number; left = did.0; visited = did.1 }))
-
-  pub nothing_there : went ≡ Nowhere → taken ≡ []
-  nothing_there is = (subst went_on is c.goes_on).2
