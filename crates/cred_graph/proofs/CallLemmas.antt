@@ -22,17 +22,17 @@ pub record Listened {E : Type 0} (g h : GraphState) (n : ℕ) (l : Listening) (r
   pub growth : OnErr r (Listens g n l → ⊥)
   pub unchanged : OnErr r (h ≡ g)
 
-module _ (nodes : List Expr) (strangers : List (List ℕ)) (lists after : List (List KeptListening)) (entries : List (Solved × Reason ℕ ℕ)) (stored : IsStored nodes strangers lists entries) where
+module _ (nodes : List Expr) (strangers : List Expr) (lists after : List (List KeptListening)) (entries : List (Solved × Reason ℕ ℕ)) (stored : IsStored nodes strangers lists entries) where
   unlisted : (n : ℕ) (l : KeptListening) → n < length nodes → IsKept nodes strangers l.port → (Contains (list_at lists n) l → ⊥) → Listens (graph_as nodes strangers lists entries) n (listening_as nodes strangers l) → ⊥
   unlisted n l asked is absent listens = absent (listens_stored nodes strangers lists entries stored n l asked is listens)
 
   module _ {E : Type 0} (n : ℕ) (l : KeptListening) (asked : n < length nodes) (asker : l.asker < length nodes) (is : IsKept nodes strangers l.port) where
-    pub listener_stored : (r : Result Bool E) → IfOk r (λ new. HearsOf lists after n l new) → OnErr r (AreSame lists after) → IsStored nodes strangers after entries
+    listener_stored : (r : Result Bool E) → IfOk r (λ new. HearsOf lists after n l new) → OnErr r (AreSame lists after) → IsStored nodes strangers after entries
     listener_stored (Ok true) (absent, adds) same = stored-listener nodes strangers lists after entries n l stored asked asker is absent adds
     listener_stored (Ok false) (there, same) _ = stored-joined nodes strangers strangers lists after entries stored (inl refl) same
     listener_stored (Err e) given same = stored-joined nodes strangers strangers lists after entries stored (inl refl) same
 
-    pub listened : (r : Result Bool E) → IfOk r (λ new. HearsOf lists after n l new) → OnErr r (Contains (list_at lists n) l → ⊥) → OnErr r (AreSame lists after) →
+    listened : (r : Result Bool E) → IfOk r (λ new. HearsOf lists after n l new) → OnErr r (Contains (list_at lists n) l → ⊥) → OnErr r (AreSame lists after) →
         Listened (graph_as nodes strangers lists entries) (graph_as nodes strangers after entries) n (listening_as nodes strangers l) r
     listened (Ok true) (absent, adds) growth same =
         let longer : list_at after n ≡ list_at lists n ++ l ∷ [] = adds n ∙ cond-true (n == n) (list_at lists n ++ l ∷ []) (list_at lists n) (eq-eqb n n refl) in
@@ -59,7 +59,7 @@ module _ (nodes : List Expr) (strangers : List (List ℕ)) (lists after : List (
     }
 
 -- the same where a stranger may join before
-module _ (nodes : List Expr) (strangers names : List (List ℕ)) (lists after : List (List KeptListening)) (entries : List (Solved × Reason ℕ ℕ)) (stored : IsStored nodes strangers lists entries)
+module _ (nodes : List Expr) (strangers names : List Expr) (lists after : List (List KeptListening)) (entries : List (Solved × Reason ℕ ℕ)) (stored : IsStored nodes strangers lists entries)
     (joins : Joins nodes strangers names) where
   pub joined : IsStored nodes names lists entries
   joined = stored-joined nodes strangers names lists lists entries stored joins (λ m. refl)
@@ -68,17 +68,18 @@ module _ (nodes : List Expr) (strangers names : List (List ℕ)) (lists after : 
   joined_same = joined_view nodes strangers names lists lists entries stored joins (λ m. refl)
 
   module _ {E : Type 0} (n : ℕ) (l : KeptListening) (asked : n < length nodes) (asker : l.asker < length nodes) (is : IsKept nodes names l.port) where
-    pub listener_kept : (r : Result Bool E) → IfOk r (λ new. HearsOf lists after n l new) → OnErr r (AreSame lists after) → IsStored nodes names after entries
-    listener_kept r given same = listener_stored nodes names lists after entries joined n l asked asker is r given same
+    pub listener_kept : (rest : List (Solved × Reason ℕ ℕ)) → rest ≡ entries → (r : Result Bool E) → IfOk r (λ new. HearsOf lists after n l new) → OnErr r (AreSame lists after) → IsStored nodes names after rest
+    listener_kept rest stays r given same = subst (IsStored nodes names after) (sym stays) (listener_stored nodes names lists after entries joined n l asked asker is r given same)
 
-    pub listens_by : (k : Listening) → listening_as nodes names l ≡ k → (r : Result Bool E) → IfOk r (λ new. HearsOf lists after n l new) → OnErr r (Contains (list_at lists n) l → ⊥) → OnErr r (AreSame lists after) →
-        Listened (graph_as nodes strangers lists entries) (graph_as nodes names after entries) n k r
-    listens_by k seen r given growth same =
-        subst (λ x. Listened (graph_as nodes strangers lists entries) (graph_as nodes names after entries) n x r) seen
-        (subst (λ x. Listened x (graph_as nodes names after entries) n (listening_as nodes names l) r) joined_same (listened nodes names lists after entries joined n l asked asker is r given growth same))
+    pub listens_by : (rest : List (Solved × Reason ℕ ℕ)) → rest ≡ entries → (k : Listening) → listening_as nodes names l ≡ k → (r : Result Bool E) → IfOk r (λ new. HearsOf lists after n l new) → OnErr r (Contains (list_at lists n) l → ⊥) → OnErr r (AreSame lists after) →
+        Listened (graph_as nodes strangers lists entries) (graph_as nodes names after rest) n k r
+    listens_by rest stays k seen r given growth same =
+        subst (λ es. Listened (graph_as nodes strangers lists entries) (graph_as nodes names after es) n k r) (sym stays)
+        (subst (λ x. Listened (graph_as nodes strangers lists entries) (graph_as nodes names after entries) n x r) seen
+        (subst (λ x. Listened x (graph_as nodes names after entries) n (listening_as nodes names l) r) joined_same (listened nodes names lists after entries joined n l asked asker is r given growth same)))
 
 -- a port that can't be kept is none of a listener's
-pub no_listener : (nodes : List Expr) (strangers : List (List ℕ)) (lists : List (List KeptListening)) (entries : List (Solved × Reason ℕ ℕ)) → IsStored nodes strangers lists entries → (n : ℕ) (l : Listening) → n < length nodes →
+pub no_listener : (nodes : List Expr) (strangers : List Expr) (lists : List (List KeptListening)) (entries : List (Solved × Reason ℕ ℕ)) → IsStored nodes strangers lists entries → (n : ℕ) (l : Listening) → n < length nodes →
     ((p : KeptPort) → IsKept nodes strangers p → kept_as nodes strangers p ≡ l.port → ⊥) → Listens (graph_as nodes strangers lists entries) n l → ⊥
 no_listener nodes strangers lists entries stored n l asked none listens =
     let at = behind_map (listening_as nodes strangers) (list_at lists n) l (subst (λ ls. Contains ls l) (listed_at-lists_from nodes strangers (length nodes) lists n asked) listens) in
@@ -91,18 +92,18 @@ pub record Found {E : Type 0} (g h : GraphState) (s : Solution) (r : Result Bool
   pub growth : OnErr r (IsSolution g s.node s.who → ⊥)
   pub unchanged : OnErr r (h ≡ g)
 
-module _ (nodes : List Expr) (strangers : List (List ℕ)) (lists : List (List KeptListening)) (entries after : List (Solved × Reason ℕ ℕ)) (stored : IsStored nodes strangers lists entries) where
+module _ (nodes : List Expr) (strangers : List Expr) (lists : List (List KeptListening)) (entries after : List (Solved × Reason ℕ ℕ)) (stored : IsStored nodes strangers lists entries) where
   unsolved : (key : Solved) → IsEntity nodes key.who → (HasKey entries key → ⊥) → IsSolution (graph_as nodes strangers lists entries) key.node (entity_at nodes key.who) → ⊥
   unsolved key who absent solution = absent (solution_stored nodes strangers lists entries stored key who solution)
 
   module _ {E : Type 0} (key : Solved) (why : Reason ℕ ℕ) (who : IsEntity nodes key.who) (named : IsReason nodes why)
       (fits : Fits (graph_as nodes strangers lists entries) key.node (entity_at nodes key.who) (reason_at nodes why)) where
-    pub solution_kept : (r : Result Bool E) → IfOk r (λ new. Solves entries after key why new) → OnErr r (after ≡ entries) → IsStored nodes strangers lists after
+    solution_kept : (r : Result Bool E) → IfOk r (λ new. Solves entries after key why new) → OnErr r (after ≡ entries) → IsStored nodes strangers lists after
     solution_kept (Ok true) (absent, added) same = stored-solution nodes strangers lists entries after key why stored who named absent fits added
     solution_kept (Ok false) (there, same) _ = subst (IsStored nodes strangers lists) (sym same) stored
     solution_kept (Err e) given same = subst (IsStored nodes strangers lists) (sym same) stored
 
-    pub found : (r : Result Bool E) → IfOk r (λ new. Solves entries after key why new) → OnErr r (HasKey entries key → ⊥) → OnErr r (after ≡ entries) →
+    found : (r : Result Bool E) → IfOk r (λ new. Solves entries after key why new) → OnErr r (HasKey entries key → ⊥) → OnErr r (after ≡ entries) →
         Found (graph_as nodes strangers lists entries) (graph_as nodes strangers lists after) (solution_as nodes (key, why)) r
     found (Ok true) (absent, added) growth same = record {
       ok = (unsolved key who absent, solution_view nodes strangers lists entries after key why added);
@@ -126,15 +127,25 @@ module _ (nodes : List Expr) (strangers : List (List ℕ)) (lists : List (List K
       unchanged = ap (graph_as nodes strangers lists) same;
     }
 
--- the same by names
-module _ (nodes : List Expr) (strangers : List (List ℕ)) (lists : List (List KeptListening)) (entries after : List (Solved × Reason ℕ ℕ)) (stored : IsStored nodes strangers lists entries) where
-  module _ {E : Type 0} (key : Solved) (why : Reason ℕ ℕ) (who : IsEntity nodes key.who) (named : IsReason nodes why) (s : Solution) (seen : solution_as nodes (key, why) ≡ s)
-      (fits : Fits (graph_as nodes strangers lists entries) s.node s.who s.reason) where
-    pub kept_by : (r : Result Bool E) → IfOk r (λ new. Solves entries after key why new) → OnErr r (after ≡ entries) → IsStored nodes strangers lists after
-    kept_by r given same = solution_kept nodes strangers lists entries after stored key why who named (subst (λ (x : Solution). Fits (graph_as nodes strangers lists entries) x.node x.who x.reason) (sym seen) fits) r given same
+-- the same where lists of no listener are added
+module _ (nodes : List Expr) (strangers : List Expr) (lists longer : List (List KeptListening)) (entries after : List (Solved × Reason ℕ ℕ)) (stored : IsStored nodes strangers lists entries)
+    (same_lists : AreSame lists longer) where
+  kept : IsStored nodes strangers longer entries
+  kept = stored-joined nodes strangers strangers lists longer entries stored (inl refl) same_lists
 
-    pub found_by : (r : Result Bool E) → IfOk r (λ new. Solves entries after key why new) → OnErr r (HasKey entries key → ⊥) → OnErr r (after ≡ entries) →
-        Found (graph_as nodes strangers lists entries) (graph_as nodes strangers lists after) s r
+  kept_same : graph_as nodes strangers longer entries ≡ graph_as nodes strangers lists entries
+  kept_same = joined_view nodes strangers strangers lists longer entries stored (inl refl) same_lists
+
+  module _ (key : Solved) (why : Reason ℕ ℕ) (who : IsEntity nodes key.who) (named : IsReason nodes why)
+      (fits : Fits (graph_as nodes strangers lists entries) key.node (entity_at nodes key.who) (reason_at nodes why)) where
+    fits_kept : Fits (graph_as nodes strangers longer entries) key.node (entity_at nodes key.who) (reason_at nodes why)
+    fits_kept = subst (λ g. Fits g key.node (entity_at nodes key.who) (reason_at nodes why)) (sym kept_same) fits
+
+    pub kept_by : {E : Type 0} (r : Result Bool E) → IfOk r (λ new. Solves entries after key why new) → OnErr r (after ≡ entries) → IsStored nodes strangers longer after
+    kept_by r given same = solution_kept nodes strangers longer entries after kept key why who named fits_kept r given same
+
+    pub found_by : {E : Type 0} (r : Result Bool E) → IfOk r (λ new. Solves entries after key why new) → OnErr r (HasKey entries key → ⊥) → OnErr r (after ≡ entries) →
+        Found (graph_as nodes strangers lists entries) (graph_as nodes strangers longer after) (solution_as nodes (key, why)) r
     found_by r given growth same =
-        subst (λ x. Found (graph_as nodes strangers lists entries) (graph_as nodes strangers lists after) x r) seen
-        (found nodes strangers lists entries after stored key why who named (subst (λ (x : Solution). Fits (graph_as nodes strangers lists entries) x.node x.who x.reason) (sym seen) fits) r given growth same)
+        subst (λ g. Found g (graph_as nodes strangers longer after) (solution_as nodes (key, why)) r) kept_same
+        (found nodes strangers longer entries after kept key why who named fits_kept r given growth same)

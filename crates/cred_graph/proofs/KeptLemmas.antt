@@ -10,14 +10,14 @@ use Rattle.cred_graph.specs.declared.listeners.Listening.{Listening}
 use Rattle.cred_graph.specs.declared.listeners.KeptListening.{KeptListening}
 use Rattle.cred_graph.specs.declared.ports.KeptPort.{KeptPort}
 use Rattle.cred_graph.specs.declared.ports.KeptPort.TheVariants as kept
-use Rattle.cred_graph.specs.NodeLists.{IsOnce, list_at}
-use Rattle.cred_graph.specs.Numbers.{entity_at}
+use Rattle.cred_graph.specs.NodeLists.{IsOnce}
+use Rattle.cred_graph.specs.Numbers.{IsEntity, entity_at}
 use Rattle.cred_graph.specs.Stored.{kept_as, IsKept, Joins, listening_as}
 use Rattle.cred_graph.proofs.Growth.{one_place}
 use Rattle.cred_graph.proofs.Lists.{Contains-at_place, place_of_Contains, slice_get_stays, behind_map, seen_at}
-use Rattle.cred_graph.proofs.NumberLemmas.{entity_is, entity_stays}
+use Rattle.cred_graph.proofs.NumberLemmas.{entity_is, entity_stands, entity_goes_on, entity_stays}
 
-module _ (nodes more : List Expr) (strangers : List (List ℕ)) where
+module _ (nodes more : List Expr) (strangers : List Expr) where
   pub kept_with_node : (p : KeptPort) → IsKept nodes strangers p → IsKept (nodes ++ more) strangers p
   kept_with_node kept.Body is = tt
   kept_with_node kept.Base is = tt
@@ -32,41 +32,40 @@ module _ (nodes more : List Expr) (strangers : List (List ℕ)) where
   same_with_node (kept.Stranger j) is = refl
   same_with_node (kept.Part i) is = refl
 
-module _ (nodes : List Expr) (strangers : List (List ℕ)) (x : List ℕ) (out : Contains nodes (Ent x) → ⊥) where
-  kept_with_stranger : (p : KeptPort) → IsKept nodes strangers p → IsKept nodes (strangers ++ x ∷ []) p
+module _ (nodes : List Expr) (strangers : List Expr) (x : List ℕ) (out : Contains nodes (Ent x) → ⊥) where
+  kept_with_stranger : (p : KeptPort) → IsKept nodes strangers p → IsKept nodes (strangers ++ Ent x ∷ []) p
   kept_with_stranger kept.Body is = tt
   kept_with_stranger kept.Base is = tt
   kept_with_stranger (kept.Via k) (who, at, known) = (
     who,
     at,
-    λ stands. elim (Contains-push_cases strangers x who stands) [
+    λ stands. elim (Contains-push_cases strangers (Ent x) (Ent who) stands) [
       | inl before ↦ known before
-      | inr same ↦ out (Contains-at_place nodes k (Ent x) (at ∙ ap (λ (y : List ℕ). Some (Ent y)) (sym same)))
+      | inr same ↦ out (Contains-at_place nodes k (Ent x) (at ∙ ap Some (sym same)))
     ],
   )
-  kept_with_stranger (kept.Stranger j) is = omega (arith, length_push strangers x)
+  kept_with_stranger (kept.Stranger j) is = entity_goes_on strangers (Ent x ∷ []) j is
   kept_with_stranger (kept.Part i) is = tt
 
-  same_with_stranger : (p : KeptPort) → IsKept nodes strangers p → kept_as nodes (strangers ++ x ∷ []) p ≡ kept_as nodes strangers p
+  same_with_stranger : (p : KeptPort) → IsKept nodes strangers p → kept_as nodes (strangers ++ Ent x ∷ []) p ≡ kept_as nodes strangers p
   same_with_stranger kept.Body is = refl
   same_with_stranger kept.Base is = refl
   same_with_stranger (kept.Via k) is = refl
-  same_with_stranger (kept.Stranger j) is =
-      ap port.Via (get_or_from_slice_get (strangers ++ x ∷ []) j (list_at strangers j) [] (slice_get_stays strangers (x ∷ []) j (list_at strangers j) (slice_get-get_or strangers j [] is)))
+  same_with_stranger (kept.Stranger j) is = ap port.Via (entity_stays strangers (Ent x ∷ []) j is)
   same_with_stranger (kept.Part i) is = refl
 
-pub kept_joined : (nodes : List Expr) (old new : List (List ℕ)) → Joins nodes old new → (p : KeptPort) → IsKept nodes old p → IsKept nodes new p
+pub kept_joined : (nodes : List Expr) (old new : List Expr) → Joins nodes old new → (p : KeptPort) → IsKept nodes old p → IsKept nodes new p
 kept_joined nodes old new (inl same) p is = subst (λ s. IsKept nodes s p) (sym same) is
 kept_joined nodes old new (inr (x, out, new_name, joined)) p is = subst (λ s. IsKept nodes s p) (sym joined) (kept_with_stranger nodes old x out p is)
 
-pub same_joined : (nodes : List Expr) (old new : List (List ℕ)) → Joins nodes old new → (p : KeptPort) → IsKept nodes old p → kept_as nodes new p ≡ kept_as nodes old p
+pub same_joined : (nodes : List Expr) (old new : List Expr) → Joins nodes old new → (p : KeptPort) → IsKept nodes old p → kept_as nodes new p ≡ kept_as nodes old p
 same_joined nodes old new (inl same) p is = ap (λ s. kept_as nodes s p) same
 same_joined nodes old new (inr (x, out, new_name, joined)) p is = ap (λ s. kept_as nodes s p) joined ∙ same_with_stranger nodes old x out p is
 
-module _ (nodes : List Expr) (strangers : List (List ℕ)) (one_node : (m n : ℕ) (e : Expr) → slice_get nodes m ≡ Some e → slice_get nodes n ≡ Some e → m ≡ n) (once : IsOnce strangers) where
-  via_stranger : (k j : ℕ) → IsKept nodes strangers (kept.Via k) → j < length strangers → entity_at nodes k ≡ list_at strangers j → ⊥
+module _ (nodes : List Expr) (strangers : List Expr) (one_node : (m n : ℕ) (e : Expr) → slice_get nodes m ≡ Some e → slice_get nodes n ≡ Some e → m ≡ n) (once : IsOnce strangers) where
+  via_stranger : (k j : ℕ) → IsKept nodes strangers (kept.Via k) → IsEntity strangers j → entity_at nodes k ≡ entity_at strangers j → ⊥
   via_stranger k j (who, at, known) within same =
-      known (Contains-at_place strangers j who (slice_get-get_or strangers j [] within ∙ ap Some (sym same ∙ entity_is nodes k who at)))
+      known (Contains-at_place strangers j (Ent who) (entity_stands strangers j within ∙ ap (λ (y : List ℕ). Some (Ent y)) (sym same ∙ entity_is nodes k who at)))
 
   kept_once : (p q : KeptPort) → IsKept nodes strangers p → IsKept nodes strangers q → kept_as nodes strangers p ≡ kept_as nodes strangers q → p ≡ q
   kept_once kept.Body kept.Body is also same = refl
@@ -85,14 +84,14 @@ module _ (nodes : List Expr) (strangers : List (List ℕ)) (one_node : (m n : �
       let named : entity_at nodes k ≡ entity_at nodes l = cc in
       let who_same : other ≡ who = sym (entity_is nodes l other here) ∙ sym named ∙ entity_is nodes k who at in
       ap kept.Via (one_node k l (Ent who) at (here ∙ ap (λ (y : List ℕ). Some (Ent y)) who_same))
-  kept_once (kept.Via k) (kept.Stranger l) is also same = let named : entity_at nodes k ≡ list_at strangers l = cc in absurd (via_stranger k l is also named)
+  kept_once (kept.Via k) (kept.Stranger l) is also same = let named : entity_at nodes k ≡ entity_at strangers l = cc in absurd (via_stranger k l is also named)
   kept_once (kept.Via k) (kept.Part l) is also same = cc
   kept_once (kept.Stranger k) kept.Body is also same = cc
   kept_once (kept.Stranger k) kept.Base is also same = cc
-  kept_once (kept.Stranger k) (kept.Via l) is also same = let named : entity_at nodes l ≡ list_at strangers k = cc in absurd (via_stranger l k also is named)
+  kept_once (kept.Stranger k) (kept.Via l) is also same = let named : entity_at nodes l ≡ entity_at strangers k = cc in absurd (via_stranger l k also is named)
   kept_once (kept.Stranger k) (kept.Stranger l) is also same =
-      let named : list_at strangers k ≡ list_at strangers l = cc in
-      ap kept.Stranger (once k l (list_at strangers k) (slice_get-get_or strangers k [] is) (slice_get-get_or strangers l [] also ∙ ap Some (sym named)))
+      let named : entity_at strangers k ≡ entity_at strangers l = cc in
+      ap kept.Stranger (once k l (Ent (entity_at strangers k)) (entity_stands strangers k is) (entity_stands strangers l also ∙ ap (λ (y : List ℕ). Some (Ent y)) (sym named)))
   kept_once (kept.Stranger k) (kept.Part l) is also same = cc
   kept_once (kept.Part k) kept.Body is also same = cc
   kept_once (kept.Part k) kept.Base is also same = cc
@@ -115,18 +114,18 @@ module _ (nodes : List Expr) (strangers : List (List ℕ)) (one_node : (m n : �
       let same : at.1 ≡ l = listening_once at.1 l (are at.1 (Contains-at_place list at.0 at.1 at.2)) is at.3 in
       Contains-at_place list at.0 l (at.2 ∙ ap Some same)
 
-pub listens_as : (nodes : List Expr) (strangers : List (List ℕ)) (list : List KeptListening) (l : KeptListening) → Contains list l →
+pub listens_as : (nodes : List Expr) (strangers : List Expr) (list : List KeptListening) (l : KeptListening) → Contains list l →
     Contains (map (listening_as nodes strangers) list) (listening_as nodes strangers l)
 listens_as nodes strangers list l stands =
     let at = place_of_Contains list l stands in
     Contains-at_place (map (listening_as nodes strangers) list) at.0 (listening_as nodes strangers l) (seen_at (listening_as nodes strangers) list at.0 l at.1)
 
-pub once_joined : (nodes : List Expr) (old new : List (List ℕ)) → Joins nodes old new → IsOnce old → IsOnce new
+pub once_joined : (nodes : List Expr) (old new : List Expr) → Joins nodes old new → IsOnce old → IsOnce new
 once_joined nodes old new (inl same) once = subst IsOnce (sym same) once
-once_joined nodes old new (inr (x, out, new_name, joined)) once = subst IsOnce (sym joined) (one_place old x new_name once)
+once_joined nodes old new (inr (x, out, new_name, joined)) once = subst IsOnce (sym joined) (one_place old (Ent x) new_name once)
 
 -- no port stands for an entity that has no node and is no stranger
-pub not_kept : (nodes : List Expr) (strangers : List (List ℕ)) (who : List ℕ) → (Contains nodes (Ent who) → ⊥) → (Contains strangers who → ⊥) →
+pub not_kept : (nodes : List Expr) (strangers : List Expr) (who : List ℕ) → (Contains nodes (Ent who) → ⊥) → (Contains strangers (Ent who) → ⊥) →
     (p : KeptPort) → IsKept nodes strangers p → kept_as nodes strangers p ≡ port.Via who → ⊥
 not_kept nodes strangers who out unknown kept.Body is same = cc
 not_kept nodes strangers who out unknown kept.Base is same = cc
@@ -134,6 +133,6 @@ not_kept nodes strangers who out unknown (kept.Via k) (other, at, known) same =
     let named : entity_at nodes k ≡ who = cc in
     out (Contains-at_place nodes k (Ent who) (at ∙ ap (λ (y : List ℕ). Some (Ent y)) (sym (entity_is nodes k other at) ∙ named)))
 not_kept nodes strangers who out unknown (kept.Stranger j) is same =
-    let named : list_at strangers j ≡ who = cc in
-    unknown (Contains-at_place strangers j who (slice_get-get_or strangers j [] is ∙ ap Some named))
+    let named : entity_at strangers j ≡ who = cc in
+    unknown (Contains-at_place strangers j (Ent who) (entity_stands strangers j is ∙ ap (λ (y : List ℕ). Some (Ent y)) named))
 not_kept nodes strangers who out unknown (kept.Part i) is same = cc

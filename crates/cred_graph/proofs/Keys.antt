@@ -1,16 +1,12 @@
 -- The keys of the tables are found the same exactly where they are equal.
-use Rattle.std.proofs.Common.{ℕ, List, ◌≡◌, rules}
+use Rattle.std.proofs.Common.{◌≡◌, rules}
 use Rattle.std.specs.Bool.{Decides}
-use Rattle.names.specs.contracts.entities.EntityPartialEq.TheImpl as entity
 use Rattle.cred_graph.specs.declared.listeners.KeptListening.{KeptListening}
 use Rattle.cred_graph.specs.declared.listeners.FarListening.{FarListening}
 use Rattle.cred_graph.specs.declared.solutions.Solved.{Solved}
 use Rattle.cred_graph.specs.contracts.listeners.KeptListeningPartialEq.TheImpl as kept
 use Rattle.cred_graph.specs.contracts.listeners.FarListeningPartialEq.TheImpl as far
 use Rattle.cred_graph.specs.contracts.solutions.SolvedPartialEq.TheImpl as solved
-
-pub entities_decided : (a b : List ℕ) → Decides (entity.ghosts.eq a b) (a ≡ b)
-entities_decided a b = search rules
 
 pub kept_decided : (a b : KeptListening) → Decides (kept.ghosts.eq a b) (a ≡ b)
 kept_decided a b = search rules

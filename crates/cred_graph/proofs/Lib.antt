@@ -2,8 +2,7 @@ pub mod Lists
 pub mod Found
 pub mod Growth
 pub mod Keys
-pub mod Tables
-pub mod InternedLemmas
+pub mod Lookups
 pub mod NumberLemmas
 pub mod SolutionLemmas
 pub mod ListenerLemmas

@@ -16,7 +16,7 @@ use Rattle.cred_graph.proofs.NumberLemmas.{entity_is}
 use Rattle.cred_graph.proofs.StoredLemmas.{listed_at-lists_from, solution_stored}
 use Rattle.cred_graph.proofs.Solvers.{solver_has_node, fits_node}
 
-module _ (nodes : List Expr) (strangers : List (List ℕ)) (lists : List (List KeptListening)) (entries : List (Solved × Reason ℕ ℕ)) where
+module _ (nodes : List Expr) (strangers : List Expr) (lists : List (List KeptListening)) (entries : List (Solved × Reason ℕ ℕ)) where
   -- the graph that the tables stand for
   abbrev g : GraphState
   g = graph_as nodes strangers lists entries

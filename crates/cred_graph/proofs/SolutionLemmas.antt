@@ -8,11 +8,11 @@ use Rattle.indexmap.specs.IndexMap.{insert_entry}
 use Rattle.cred_graph.specs.declared.solutions.Solved.{Solved}
 use Rattle.cred_graph.specs.declared.solutions.Reason.{Reason}
 use Rattle.cred_graph.specs.contracts.solutions.SolvedPartialEq.TheImpl as solved
-use Rattle.cred_graph.specs.NodeLists.{list_at, AddsAt}
+use Rattle.cred_graph.specs.NodeLists.{list_at, AddsAt, AreSame}
 use Rattle.cred_graph.specs.Stored.{HasKey, members_by, AreMembers}
 use Rattle.cred_graph.proofs.Keys.{solved_decided}
 use Rattle.cred_graph.proofs.Lists.{Contains-at_place, place_of_Contains}
-use Rattle.cred_graph.proofs.Tables.{lookup_key_is, lookup_key_none, insert_entry-absent}
+use Rattle.cred_graph.proofs.Lookups.{lookup_key_is, lookup_key_none, insert_entry-absent}
 
 pub found_entry : (es : List (Solved × Reason ℕ ℕ)) (key k : Solved) (r : Reason ℕ ℕ) (place : ℕ) →
     Some k ≡ lookup_key (solved.ghosts.eq key) es → slice_get es place ≡ Some (k, r) → slice_get es place ≡ Some (key, r)
@@ -35,6 +35,9 @@ entry_added es mid after key r absent reserved is =
 members_pushed : (n : ℕ) (es : List (Solved × Reason ℕ ℕ)) (e : Solved × Reason ℕ ℕ) →
     members_by n (es ++ e ∷ []) ≡ map (λ (x : Solved × Reason ℕ ℕ). x.0.who) (filter (λ (x : Solved × Reason ℕ ℕ). x.0.node == n) es ++ (if e.0.node == n then e ∷ [] else []))
 members_pushed n es e = ap (map (λ (x : Solved × Reason ℕ ℕ). x.0.who)) (filter-append (λ (x : Solved × Reason ℕ ℕ). x.0.node == n) es (e ∷ []))
+
+pub members_same : (es after : List (Solved × Reason ℕ ℕ)) (old new : List (List ℕ)) → AreMembers es old → after ≡ es → AreSame old new → AreMembers after new
+members_same es after old new are same lists_same n = lists_same n ∙ are n ∙ ap (members_by n) (sym same)
 
 pub members_added : (es after : List (Solved × Reason ℕ ℕ)) (old new : List (List ℕ)) (key : Solved) (r : Reason ℕ ℕ) → AreMembers es old →
     AddsAt old new key.node key.who → after ≡ es ++ (key, r) ∷ [] → AreMembers after new

@@ -22,11 +22,11 @@ use Rattle.cred_graph.proofs.NumberLemmas.{entity_goes_on, entity_stands, entity
 
 -- the lists of listeners
 
-pub length-lists_from : (nodes : List Expr) (strangers : List (List ℕ)) (n k : ℕ) (lists : List (List KeptListening)) → length (lists_from nodes strangers n k lists) ≡ k
+pub length-lists_from : (nodes : List Expr) (strangers : List Expr) (n k : ℕ) (lists : List (List KeptListening)) → length (lists_from nodes strangers n k lists) ≡ k
 length-lists_from nodes strangers n zero lists = refl
 length-lists_from nodes strangers n (suc k) lists = ap suc (length-lists_from nodes strangers (suc n) k lists)
 
-at_list : (nodes : List Expr) (strangers : List (List ℕ)) (n k : ℕ) (lists : List (List KeptListening)) (m : ℕ) → m < k →
+at_list : (nodes : List Expr) (strangers : List Expr) (n k : ℕ) (lists : List (List KeptListening)) (m : ℕ) → m < k →
     get_or (lists_from nodes strangers n k lists) m [] ≡ map (listening_as nodes strangers) (list_at lists (n + m))
 at_list nodes strangers n zero lists m within = absurd (omega arith)
 at_list nodes strangers n (suc k) lists zero within = ap (λ i. map (listening_as nodes strangers) (list_at lists i)) (sym (add-zero n))
@@ -35,12 +35,12 @@ at_list nodes strangers n (suc k) lists (suc m) within =
     at_list nodes strangers (suc n) k lists m (omega arith) ∙ ap (λ i. map (listening_as nodes strangers) (list_at lists i)) same
 
 -- each node's list
-pub listed_at-lists_from : (nodes : List Expr) (strangers : List (List ℕ)) (k : ℕ) (lists : List (List KeptListening)) (n : ℕ) → n < k →
+pub listed_at-lists_from : (nodes : List Expr) (strangers : List Expr) (k : ℕ) (lists : List (List KeptListening)) (n : ℕ) → n < k →
     list_at (lists_from nodes strangers 0 k lists) n ≡ map (listening_as nodes strangers) (list_at lists n)
 listed_at-lists_from nodes strangers k lists n within =
     at_list nodes strangers 0 k lists n within ∙ ap (λ i. map (listening_as nodes strangers) (list_at lists i)) (zero-add n)
 
-more_lists : (nodes : List Expr) (strangers : List (List ℕ)) (n k : ℕ) (lists : List (List KeptListening)) →
+more_lists : (nodes : List Expr) (strangers : List Expr) (n k : ℕ) (lists : List (List KeptListening)) →
     lists_from nodes strangers n (suc k) lists ≡ lists_from nodes strangers n k lists ++ map (listening_as nodes strangers) (list_at lists (n + k)) ∷ []
 more_lists nodes strangers n zero lists = ap (λ i. map (listening_as nodes strangers) (list_at lists i) ∷ []) (sym (add-zero n))
 more_lists nodes strangers n (suc k) lists =
@@ -49,7 +49,7 @@ more_lists nodes strangers n (suc k) lists =
     (more_lists nodes strangers (suc n) k lists ∙ ap (λ i. lists_from nodes strangers (suc n) k lists ++ map (listening_as nodes strangers) (list_at lists i) ∷ []) same)
 
 -- lists that stand for the same
-lists_same : (nodes others : List Expr) (strangers names : List (List ℕ)) (lists after : List (List KeptListening)) →
+lists_same : (nodes others : List Expr) (strangers names : List Expr) (lists after : List (List KeptListening)) →
     ((m : ℕ) → map (listening_as others names) (list_at after m) ≡ map (listening_as nodes strangers) (list_at lists m)) → (n k : ℕ) →
     lists_from others names n k after ≡ lists_from nodes strangers n k lists
 lists_same nodes others strangers names lists after agree n zero = refl
@@ -57,7 +57,7 @@ lists_same nodes others strangers names lists after agree n (suc k) =
     λ i. agree n i ∷ lists_same nodes others strangers names lists after agree (suc n) k i
 
 -- a list that is added to
-lists_with : (nodes : List Expr) (strangers : List (List ℕ)) (k : ℕ) (lists after : List (List KeptListening)) (n : ℕ) (l : KeptListening) → n < k → AddsAt lists after n l →
+lists_with : (nodes : List Expr) (strangers : List Expr) (k : ℕ) (lists after : List (List KeptListening)) (n : ℕ) (l : KeptListening) → n < k → AddsAt lists after n l →
     lists_from nodes strangers 0 k after ≡ listed_with (lists_from nodes strangers 0 k lists) n (listening_as nodes strangers l)
 lists_with nodes strangers k lists after n l asked adds =
     let old = lists_from nodes strangers 0 k lists in
@@ -87,7 +87,7 @@ lists_with nodes strangers k lists after n l asked adds =
 abbrev solution_by : Solved → List ℕ → Reason ℕ (List ℕ) → Solution
 solution_by key who why = record { node = key.node; who = who; reason = why }
 
-pub node_view : (nodes : List Expr) (strangers : List (List ℕ)) (lists : List (List KeptListening)) (entries : List (Solved × Reason ℕ ℕ)) (e : Expr) → IsStored nodes strangers lists entries →
+pub node_view : (nodes : List Expr) (strangers : List Expr) (lists : List (List KeptListening)) (entries : List (Solved × Reason ℕ ℕ)) (e : Expr) → IsStored nodes strangers lists entries →
     graph_as (nodes ++ e ∷ []) strangers lists entries ≡ with_node (graph_as nodes strangers lists entries) e
 node_view nodes strangers lists entries e stored =
     let longer : length (nodes ++ e ∷ []) ≡ suc (length nodes) = omega (arith, length_push nodes e) in
@@ -104,7 +104,7 @@ node_view nodes strangers lists entries e stored =
     (λ j s at i. solution_by s.0 (entity_stays nodes (e ∷ []) s.0.who (stored.members j s at) i) (reason_stays nodes (e ∷ []) s.1 (stored.reasons j s at) i)) in
     λ i. record { nodes = nodes ++ e ∷ []; listeners = listened i; solutions = solved i }
 
-pub stored-node : (nodes : List Expr) (strangers : List (List ℕ)) (lists : List (List KeptListening)) (entries : List (Solved × Reason ℕ ℕ)) (e : Expr) → IsStored nodes strangers lists entries →
+pub stored-node : (nodes : List Expr) (strangers : List Expr) (lists : List (List KeptListening)) (entries : List (Solved × Reason ℕ ℕ)) (e : Expr) → IsStored nodes strangers lists entries →
     (Contains nodes e → ⊥) → HasPartsInRange e → IsStored (nodes ++ e ∷ []) strangers lists entries
 stored-node nodes strangers lists entries e stored absent range = record {
   graph = subst IsGraph (sym (node_view nodes strangers lists entries e stored)) (graph_with_node (graph_as nodes strangers lists entries) e stored.graph absent range);
@@ -117,7 +117,7 @@ stored-node nodes strangers lists entries e stored absent range = record {
 
 -- a stranger joins, and lists stay
 
-pub joined_view : (nodes : List Expr) (strangers names : List (List ℕ)) (lists after : List (List KeptListening)) (entries : List (Solved × Reason ℕ ℕ)) → IsStored nodes strangers lists entries →
+pub joined_view : (nodes : List Expr) (strangers names : List Expr) (lists after : List (List KeptListening)) (entries : List (Solved × Reason ℕ ℕ)) → IsStored nodes strangers lists entries →
     Joins nodes strangers names → AreSame lists after → graph_as nodes names after entries ≡ graph_as nodes strangers lists entries
 joined_view nodes strangers names lists after entries stored joins same =
     let listened = lists_same nodes nodes strangers names lists after
@@ -125,7 +125,7 @@ joined_view nodes strangers names lists after entries stored joins same =
     (λ j l at. ap (λ p. record { asker = l.asker; port = p }) (same_joined nodes strangers names joins l.port (stored.ports m l (Contains-at_place (list_at lists m) j l at))))) 0 (length nodes) in
     λ i. record { nodes = nodes; listeners = listened i; solutions = map (solution_as nodes) entries }
 
-pub stored-joined : (nodes : List Expr) (strangers names : List (List ℕ)) (lists after : List (List KeptListening)) (entries : List (Solved × Reason ℕ ℕ)) → IsStored nodes strangers lists entries →
+pub stored-joined : (nodes : List Expr) (strangers names : List Expr) (lists after : List (List KeptListening)) (entries : List (Solved × Reason ℕ ℕ)) → IsStored nodes strangers lists entries →
     Joins nodes strangers names → AreSame lists after → IsStored nodes names after entries
 stored-joined nodes strangers names lists after entries stored joins same = record {
   graph = subst IsGraph (sym (joined_view nodes strangers names lists after entries stored joins same)) stored.graph;
@@ -138,25 +138,25 @@ stored-joined nodes strangers names lists after entries stored joins same = reco
 
 -- a listener is added
 
-pub listener_view : (nodes : List Expr) (strangers : List (List ℕ)) (lists after : List (List KeptListening)) (entries : List (Solved × Reason ℕ ℕ)) (n : ℕ) (l : KeptListening) → n < length nodes → AddsAt lists after n l →
+pub listener_view : (nodes : List Expr) (strangers : List Expr) (lists after : List (List KeptListening)) (entries : List (Solved × Reason ℕ ℕ)) (n : ℕ) (l : KeptListening) → n < length nodes → AddsAt lists after n l →
     graph_as nodes strangers after entries ≡ with_listener (graph_as nodes strangers lists entries) n (listening_as nodes strangers l)
 listener_view nodes strangers lists after entries n l asked adds =
     let listened = lists_with nodes strangers (length nodes) lists after n l asked adds in
     λ i. record { nodes = nodes; listeners = listened i; solutions = map (solution_as nodes) entries }
 
 -- a node has a listener where its list has what stands for it
-pub listens_stored : (nodes : List Expr) (strangers : List (List ℕ)) (lists : List (List KeptListening)) (entries : List (Solved × Reason ℕ ℕ)) → IsStored nodes strangers lists entries →
+pub listens_stored : (nodes : List Expr) (strangers : List Expr) (lists : List (List KeptListening)) (entries : List (Solved × Reason ℕ ℕ)) → IsStored nodes strangers lists entries →
     (n : ℕ) (l : KeptListening) → n < length nodes → IsKept nodes strangers l.port → Listens (graph_as nodes strangers lists entries) n (listening_as nodes strangers l) → Contains (list_at lists n) l
 listens_stored nodes strangers lists entries stored n l asked is listens =
     listens_kept nodes strangers stored.graph.one_node stored.once (list_at lists n) (stored.ports n) l is
     (subst (λ ls. Contains ls (listening_as nodes strangers l)) (listed_at-lists_from nodes strangers (length nodes) lists n asked) listens)
 
-pub stored_listens : (nodes : List Expr) (strangers : List (List ℕ)) (lists : List (List KeptListening)) (entries : List (Solved × Reason ℕ ℕ)) (n : ℕ) (l : KeptListening) → n < length nodes →
+pub stored_listens : (nodes : List Expr) (strangers : List Expr) (lists : List (List KeptListening)) (entries : List (Solved × Reason ℕ ℕ)) (n : ℕ) (l : KeptListening) → n < length nodes →
     Contains (list_at lists n) l → Listens (graph_as nodes strangers lists entries) n (listening_as nodes strangers l)
 stored_listens nodes strangers lists entries n l asked there =
     subst (λ ls. Contains ls (listening_as nodes strangers l)) (sym (listed_at-lists_from nodes strangers (length nodes) lists n asked)) (listens_as nodes strangers (list_at lists n) l there)
 
-pub stored-listener : (nodes : List Expr) (strangers : List (List ℕ)) (lists after : List (List KeptListening)) (entries : List (Solved × Reason ℕ ℕ)) (n : ℕ) (l : KeptListening) → IsStored nodes strangers lists entries →
+pub stored-listener : (nodes : List Expr) (strangers : List Expr) (lists after : List (List KeptListening)) (entries : List (Solved × Reason ℕ ℕ)) (n : ℕ) (l : KeptListening) → IsStored nodes strangers lists entries →
     n < length nodes → l.asker < length nodes → IsKept nodes strangers l.port → (Contains (list_at lists n) l → ⊥) → AddsAt lists after n l → IsStored nodes strangers after entries
 stored-listener nodes strangers lists after entries n l stored asked asker is absent adds = record {
   graph = subst IsGraph (sym (listener_view nodes strangers lists after entries n l asked adds))
@@ -180,14 +180,14 @@ stored-listener nodes strangers lists after entries n l stored asked asker is ab
 
 -- a solution is added
 
-pub solution_view : (nodes : List Expr) (strangers : List (List ℕ)) (lists : List (List KeptListening)) (entries after : List (Solved × Reason ℕ ℕ)) (key : Solved) (r : Reason ℕ ℕ) → after ≡ entries ++ (key, r) ∷ [] →
+pub solution_view : (nodes : List Expr) (strangers : List Expr) (lists : List (List KeptListening)) (entries after : List (Solved × Reason ℕ ℕ)) (key : Solved) (r : Reason ℕ ℕ) → after ≡ entries ++ (key, r) ∷ [] →
     graph_as nodes strangers lists after ≡ with_solution (graph_as nodes strangers lists entries) (solution_as nodes (key, r))
 solution_view nodes strangers lists entries after key r added =
     let solved = ap (map (solution_as nodes)) added ∙ map_push (solution_as nodes) entries (key, r) in
     λ i. record { nodes = nodes; listeners = lists_from nodes strangers 0 (length nodes) lists; solutions = solved i }
 
 -- an entity is a solution where the table has its number
-pub solution_stored : (nodes : List Expr) (strangers : List (List ℕ)) (lists : List (List KeptListening)) (entries : List (Solved × Reason ℕ ℕ)) → IsStored nodes strangers lists entries →
+pub solution_stored : (nodes : List Expr) (strangers : List Expr) (lists : List (List KeptListening)) (entries : List (Solved × Reason ℕ ℕ)) → IsStored nodes strangers lists entries →
     (key : Solved) → IsEntity nodes key.who → IsSolution (graph_as nodes strangers lists entries) key.node (entity_at nodes key.who) → HasKey entries key
 solution_stored nodes strangers lists entries stored key is (why, there) =
     let at = behind_map (solution_as nodes) entries (record { node = key.node; who = entity_at nodes key.who; reason = why }) there in
@@ -197,13 +197,13 @@ solution_stored nodes strangers lists entries stored key is (why, there) =
     stored.graph.one_node at.1.0.who key.who (Ent (entity_at nodes key.who)) (entity_stands nodes at.1.0.who (stored.members at.0 at.1 at.2) ∙ ap (λ (x : List ℕ). Some (Ent x)) named) (entity_stands nodes key.who is) in
     (at.1.1, Contains-at_place entries at.0 (key, at.1.1) (at.2 ∙ ap Some (λ i. (record { node = node i; who = who i }, at.1.1))))
 
-pub stored_solution : (nodes : List Expr) (strangers : List (List ℕ)) (lists : List (List KeptListening)) (entries : List (Solved × Reason ℕ ℕ)) (key : Solved) → HasKey entries key →
+pub stored_solution : (nodes : List Expr) (strangers : List Expr) (lists : List (List KeptListening)) (entries : List (Solved × Reason ℕ ℕ)) (key : Solved) → HasKey entries key →
     IsSolution (graph_as nodes strangers lists entries) key.node (entity_at nodes key.who)
 stored_solution nodes strangers lists entries key (r, there) =
     let at = place_of_Contains entries (key, r) there in
     (reason_at nodes r, Contains-at_place (map (solution_as nodes) entries) at.0 (solution_as nodes (key, r)) (seen_at (solution_as nodes) entries at.0 (key, r) at.1))
 
-pub stored-solution : (nodes : List Expr) (strangers : List (List ℕ)) (lists : List (List KeptListening)) (entries after : List (Solved × Reason ℕ ℕ)) (key : Solved) (r : Reason ℕ ℕ) → IsStored nodes strangers lists entries →
+pub stored-solution : (nodes : List Expr) (strangers : List Expr) (lists : List (List KeptListening)) (entries after : List (Solved × Reason ℕ ℕ)) (key : Solved) (r : Reason ℕ ℕ) → IsStored nodes strangers lists entries →
     IsEntity nodes key.who → IsReason nodes r → (HasKey entries key → ⊥) → Fits (graph_as nodes strangers lists entries) key.node (entity_at nodes key.who) (reason_at nodes r) →
     after ≡ entries ++ (key, r) ∷ [] → IsStored nodes strangers lists after
 stored-solution nodes strangers lists entries after key r stored who why absent fits added = record {
@@ -225,17 +225,17 @@ stored-solution nodes strangers lists entries after key r stored who why absent 
 
 -- what the calls give
 
-pub node_stored : (nodes after : List Expr) (strangers : List (List ℕ)) (lists : List (List KeptListening)) (entries : List (Solved × Reason ℕ ℕ)) (e copy : Expr) → IsStored nodes strangers lists entries →
-    (Contains nodes e → ⊥) → HasPartsInRange e → copy ≡ e → after ≡ nodes ++ copy ∷ [] → IsStored after strangers lists entries
-node_stored nodes after strangers lists entries e copy stored absent range same is =
-    subst (λ ns. IsStored ns strangers lists entries) (sym (is ∙ ap (λ x. nodes ++ x ∷ []) same)) (stored-node nodes strangers lists entries e stored absent range)
+pub node_stored : (nodes after : List Expr) (strangers : List Expr) (lists : List (List KeptListening)) (entries : List (Solved × Reason ℕ ℕ)) (e : Expr) → IsStored nodes strangers lists entries →
+    (Contains nodes e → ⊥) → HasPartsInRange e → after ≡ nodes ++ e ∷ [] → IsStored after strangers lists entries
+node_stored nodes after strangers lists entries e stored absent range is =
+    subst (λ ns. IsStored ns strangers lists entries) (sym is) (stored-node nodes strangers lists entries e stored absent range)
 
-pub node_given : (nodes after : List Expr) (strangers : List (List ℕ)) (lists : List (List KeptListening)) (entries : List (Solved × Reason ℕ ℕ)) (e copy : Expr) (n : ℕ) → IsStored nodes strangers lists entries →
-    (Contains nodes e → ⊥) → HasPartsInRange e → copy ≡ e → after ≡ nodes ++ copy ∷ [] → n ≡ length nodes →
+pub node_given : (nodes after : List Expr) (strangers : List Expr) (lists : List (List KeptListening)) (entries : List (Solved × Reason ℕ ℕ)) (e : Expr) (n : ℕ) → IsStored nodes strangers lists entries →
+    (Contains nodes e → ⊥) → HasPartsInRange e → after ≡ nodes ++ e ∷ [] → n ≡ length nodes →
     NodeGiven (graph_as nodes strangers lists entries) (graph_as after strangers lists entries) e n true
-node_given nodes after strangers lists entries e copy n stored absent range same is number =
-    (absent, range, number, ap (λ ns. graph_as ns strangers lists entries) (is ∙ ap (λ x. nodes ++ x ∷ []) same) ∙ node_view nodes strangers lists entries e stored)
+node_given nodes after strangers lists entries e n stored absent range is number =
+    (absent, range, number, ap (λ ns. graph_as ns strangers lists entries) is ∙ node_view nodes strangers lists entries e stored)
 
-pub node_stands : (nodes after : List Expr) (e copy : Expr) (n : ℕ) → copy ≡ e → after ≡ nodes ++ copy ∷ [] → n ≡ length nodes → slice_get after n ≡ Some e
-node_stands nodes after e copy n same is number =
-    ap (λ ns. slice_get ns n) (is ∙ ap (λ x. nodes ++ x ∷ []) same) ∙ ap (slice_get (nodes ++ e ∷ [])) number ∙ slice_get_pushed nodes e
+pub node_stands : (nodes after : List Expr) (e : Expr) (n : ℕ) → after ≡ nodes ++ e ∷ [] → n ≡ length nodes → slice_get after n ≡ Some e
+node_stands nodes after e n is number =
+    ap (λ ns. slice_get ns n) is ∙ ap (slice_get (nodes ++ e ∷ [])) number ∙ slice_get_pushed nodes e

@@ -19,29 +19,29 @@ use Rattle.cred_graph.specs.declared.solutions.Solved.{Solved}
 use Rattle.cred_graph.specs.Graph.{GraphState, IsGraph}
 
 -- the port that this one stands for
-abbrev pub kept_as : List Expr → List (List ℕ) → KeptPort → Port (List ℕ)
+abbrev pub kept_as : List Expr → List Expr → KeptPort → Port (List ℕ)
 kept_as nodes strangers kept.Body = port.Body
 kept_as nodes strangers kept.Base = port.Base
 kept_as nodes strangers (kept.Via k) = port.Via (entity_at nodes k)
-kept_as nodes strangers (kept.Stranger j) = port.Via (list_at strangers j)
+kept_as nodes strangers (kept.Stranger j) = port.Via (entity_at strangers j)
 kept_as nodes strangers (kept.Part i) = port.Part i
 
 -- its number is that of an entity that is no stranger, or of a stranger
-abbrev pub IsKept : List Expr → List (List ℕ) → KeptPort → Type 0
-IsKept nodes strangers (kept.Via k) = (who : List ℕ) × (slice_get nodes k ≡ Some (Ent who)) × (Contains strangers who → ⊥)
-IsKept nodes strangers (kept.Stranger j) = j < length strangers
+abbrev pub IsKept : List Expr → List Expr → KeptPort → Type 0
+IsKept nodes strangers (kept.Via k) = (who : List ℕ) × (slice_get nodes k ≡ Some (Ent who)) × (Contains strangers (Ent who) → ⊥)
+IsKept nodes strangers (kept.Stranger j) = IsEntity strangers j
 IsKept nodes strangers _ = Unit {0}
 
 -- the strangers stay, and may be joined by one more, who has no node
-abbrev pub Joins : List Expr → List (List ℕ) → List (List ℕ) → Type 0
-Joins nodes old new = (new ≡ old) ⊎ ((who : List ℕ) × (Contains nodes (Ent who) → ⊥) × (Contains old who → ⊥) × (new ≡ old ++ who ∷ []))
+abbrev pub Joins : List Expr → List Expr → List Expr → Type 0
+Joins nodes old new = (new ≡ old) ⊎ ((who : List ℕ) × (Contains nodes (Ent who) → ⊥) × (Contains old (Ent who) → ⊥) × (new ≡ old ++ Ent who ∷ []))
 
 -- the listener that this one stands for
-abbrev pub listening_as : List Expr → List (List ℕ) → KeptListening → Listening
+abbrev pub listening_as : List Expr → List Expr → KeptListening → Listening
 listening_as nodes strangers l = record { asker = l.asker; port = kept_as nodes strangers l.port }
 
 -- the listeners of k nodes from the node n on
-abbrev pub lists_from : List Expr → List (List ℕ) → ℕ → ℕ → List (List KeptListening) → List (List Listening)
+abbrev pub lists_from : List Expr → List Expr → ℕ → ℕ → List (List KeptListening) → List (List Listening)
 lists_from nodes strangers n zero lists = []
 lists_from nodes strangers n (suc k) lists =
     map (listening_as nodes strangers) (list_at lists n) ∷ lists_from nodes strangers (suc n) k lists
@@ -89,7 +89,7 @@ hash_in_row n = bit_or
     (n * 0x9e37_79b9_7f4a_7c15 % 2 ^ 64 / 2 ^ 56 * 2 ^ 24 % 2 ^ 64)
 
 -- the graph that the tables stand for
-abbrev pub graph_as : List Expr → List (List ℕ) → List (List KeptListening) → List (Solved × Reason ℕ ℕ) → GraphState
+abbrev pub graph_as : List Expr → List Expr → List (List KeptListening) → List (Solved × Reason ℕ ℕ) → GraphState
 graph_as nodes strangers lists entries = record {
   nodes = nodes;
   listeners = lists_from nodes strangers 0 (length nodes) lists;
@@ -97,7 +97,7 @@ graph_as nodes strangers lists entries = record {
 }
 
 -- they are a graph, who is listened to is a node, and each number is one of an entity
-pub record IsStored (nodes : List Expr) (strangers : List (List ℕ)) (lists : List (List KeptListening))
+pub record IsStored (nodes : List Expr) (strangers : List Expr) (lists : List (List KeptListening))
     (entries : List (Solved × Reason ℕ ℕ)) : Type 0 where
   pub graph : IsGraph (graph_as nodes strangers lists entries)
   pub once : IsOnce strangers

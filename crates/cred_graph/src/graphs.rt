@@ -1,12 +1,12 @@
 ghost use Rattle.std.specs.Prelude.{◌≡◌, ◌<◌, Some, IfOk, IfSome, OnOk, OnErr, MatchOption, Contains, length, slice_get};
 ghost use Rattle.credential_text.specs.declared.exprs.Expr.TheVariants as exprs;
 
-use crate::interned::Interned;
-use crate::listeners::{KeptListening, Listeners, Port};
-use crate::nodes::{Nodes, copy_of};
+use crate::listeners::{KeptListening, Port};
+use crate::nodes::Nodes;
 use crate::ports::{keep_port, kept_port, port_name, port_number};
 use crate::reasons::{reason_name, reason_number};
-use crate::solutions::{Reason, Solutions, Solved};
+use crate::solutions::{Reason, Solved};
+use crate::tables::Tables;
 use credential_text::Expr;
 use names::Entity;
 use std::alloc::{AllocError, Global};
@@ -17,9 +17,8 @@ use std::marker::Model;
 pub struct Graph {
     nodes: Nodes,
     // Who is named in a port, and had no node then.
-    strangers: Interned,
-    listeners: Listeners,
-    solutions: Solutions,
+    strangers: Nodes,
+    tables: Tables,
 }
 
 impl Model for Graph {
@@ -28,9 +27,9 @@ impl Model for Graph {
 
     ghost Value = { GraphState };
 
-    ghost view = { λ g. graph_as g.nodes g.strangers g.listeners g.solutions };
+    ghost view = { λ g. graph_as g.nodes g.strangers g.tables.0 g.tables.1 };
 
-    ghost invariant = { λ g. IsStored g.nodes g.strangers g.listeners g.solutions };
+    ghost invariant = { λ g. IsStored g.nodes g.strangers g.tables.0 g.tables.1 };
 }
 
 impl Drop for Graph {
@@ -38,8 +37,7 @@ impl Drop for Graph {
         let Graph {
             nodes: _nodes,
             strangers: _strangers,
-            listeners: _listeners,
-            solutions: _solutions,
+            tables: _tables,
         } = self;
     }
 }
@@ -57,9 +55,8 @@ impl Graph {
     {
         Graph {
             nodes: Nodes::new(alloc),
-            strangers: Interned::new(alloc),
-            listeners: Listeners::new(alloc),
-            solutions: Solutions::new(alloc),
+            strangers: Nodes::new(alloc),
+            tables: Tables::new(alloc),
         }
     }
 
@@ -69,9 +66,8 @@ impl Graph {
         ensures unchanged { self.new ≡ self.old }
     {
         self.nodes.reserve(count)?;
-        let nodes = self.nodes.count().saturating_add(count);
-        self.listeners.reserve(nodes)?;
-        self.solutions.reserve(nodes)
+        self.tables
+            .reserve(self.nodes.count().saturating_add(count))
     }
 
     /// Gives back memory that nothing takes, where it is a good part. It is a hint too: a graph is the same without it.
@@ -79,8 +75,7 @@ impl Graph {
         ensures unchanged { self.new ≡ self.old }
     {
         self.nodes.give_back();
-        self.listeners.give_back();
-        self.solutions.give_back();
+        self.tables.give_back();
     }
 
     /// Takes out all nodes with their listeners and solutions. Tables keep their memory for the next ones, but for what a
@@ -91,8 +86,7 @@ impl Graph {
     {
         self.nodes.clear();
         self.strangers.clear();
-        self.listeners.clear();
-        self.solutions.clear();
+        self.tables.clear();
     }
 
     /// The number of the expression's node, which is added if it isn't there, and whether it was added. A node beyond the
@@ -107,8 +101,8 @@ impl Graph {
         if let Some(n) = self.node(expr) {
             return Ok((n, false));
         }
-        let n = self.nodes.add(copy_of(expr)?)?;
-        Ok((n, true))
+        let n = self.nodes.add(expr)?;
+        Ok((n as u64, true))
     }
 
     /// The number of the expression's node, if it has one.
@@ -142,7 +136,8 @@ impl Graph {
         let port = keep_port(&self.nodes, &mut self.strangers, &port)?;
         let asked = self.nodes.short(n);
         let asker = self.nodes.short(m);
-        self.listeners.add(asked, KeptListening { asker, port })
+        self.tables
+            .add_listener(asked, KeptListening { asker, port })
     }
 
     /// How many listeners the node has.
@@ -151,7 +146,7 @@ impl Graph {
         ensures count { result ≡ length (listeners_of self.now n) }
         ensures graph { IsGraph self.now }
     {
-        self.listeners.count(self.nodes.short(n))
+        self.tables.listeners(self.nodes.short(n))
     }
 
     /// The node that listens in this place among the node's listeners, and its port.
@@ -160,7 +155,7 @@ impl Graph {
         requires place { i < length (listeners_of self.now n) }
         ensures { slice_get (listeners_of self.now n) i ≡ Some (record { asker = result.0; port = result.1 }) }
     {
-        let kept = self.listeners.get(self.nodes.short(n), i);
+        let kept = self.tables.listener(self.nodes.short(n), i);
         let port = port_name(&self.nodes, &self.strangers, kept.port);
         (kept.asker as u64, port)
     }
@@ -178,11 +173,7 @@ impl Graph {
             unreachable!()
         };
         let reason = reason_number(&self.nodes, &reason);
-        let solved = Solved {
-            node: self.nodes.short(n),
-            who: number,
-        };
-        self.solutions.add(solved, reason)
+        self.add_numbered_solution(n, number, reason)
     }
 
     /// How many solutions the node has.
@@ -191,7 +182,7 @@ impl Graph {
         ensures count { result ≡ length (members_of self.now n) }
         ensures graph { IsGraph self.now }
     {
-        self.solutions.count(self.nodes.short(n))
+        self.tables.solutions(self.nodes.short(n))
     }
 
     /// The solution of this place among the node's solutions.
@@ -201,7 +192,7 @@ impl Graph {
         ensures { slice_get (members_of self.now n) i ≡ Some result }
     {
         self.nodes
-            .entity(self.solutions.get(self.nodes.short(n), i))
+            .entity(self.tables.solution(self.nodes.short(n), i))
     }
 
     /// The place of this solution of the node among all solutions of the graph, and its reason, if it is one.
@@ -216,7 +207,7 @@ impl Graph {
         let Some(number) = self.nodes.entity_number(who) else {
             return None;
         };
-        match self.solutions.find(&Solved { node, who: number }) {
+        match self.tables.find(&Solved { node, who: number }) {
             Some((place, reason)) => Some((place, reason_name(&self.nodes, reason))),
             None => None,
         }
@@ -265,7 +256,8 @@ impl Graph {
         let port = kept_port(&self.nodes, &self.strangers, port);
         let asked = self.nodes.short(n);
         let asker = self.nodes.short(m);
-        self.listeners.add(asked, KeptListening { asker, port })
+        self.tables
+            .add_listener(asked, KeptListening { asker, port })
     }
 
     /// As `listener`, with the number of the port's name.
@@ -277,7 +269,7 @@ impl Graph {
         ensures listener { slice_get (listeners_of self.now n) i
             ≡ Some (record { asker = result.0; port = port_at self.now.nodes result.1 }) }
     {
-        let kept = self.listeners.get(self.nodes.short(n), i);
+        let kept = self.tables.listener(self.nodes.short(n), i);
         let port = port_number(&self.nodes, &self.strangers, kept.port);
         (kept.asker as u64, port)
     }
@@ -303,7 +295,7 @@ impl Graph {
             node: self.nodes.short(n),
             who,
         };
-        self.solutions.add(solved, reason)
+        self.tables.add_solution(solved, reason)
     }
 
     /// As `solution`, by its number.
@@ -313,6 +305,6 @@ impl Graph {
         ensures entity { IsEntity self.now.nodes result }
         ensures solution { slice_get (members_of self.now n) i ≡ Some (entity_at self.now.nodes result) }
     {
-        self.solutions.get(self.nodes.short(n), i)
+        self.tables.solution(self.nodes.short(n), i)
     }
 }

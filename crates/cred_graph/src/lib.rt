@@ -7,17 +7,16 @@
 #![tactic(auto)]
 
 mod graphs;
-mod interned;
-mod listener_lists;
 mod listeners;
-mod member_lists;
 mod nodes;
 mod numbers;
 mod ports;
 mod reasons;
 mod rooms;
+mod rows;
 mod solutions;
 mod solved_hashes;
+mod tables;
 
 pub use graphs::Graph;
 pub use listeners::{Listening, Port};

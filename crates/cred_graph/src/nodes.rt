@@ -91,18 +91,18 @@ impl Nodes {
     }
 
     /// Adds a node for an expression that has none, and answers its number. A number that doesn't fit 32 bits is refused.
-    pub fn add(&mut self, expr: Expr) -> Result<u64, AllocError>
-        requires { Contains self.old expr → ⊥ }
+    pub fn add(&mut self, expr: &Expr) -> Result<u32, AllocError>
+        requires { Contains self.old expr.now → ⊥ }
         ensures number { IfOk result (λ n. n ≡ length self.old) }
-        ensures added { OnOk result (self.new ≡ self.old ++ expr ∷ []) }
+        ensures added { OnOk result (self.new ≡ self.old ++ expr.now ∷ []) }
+        ensures range { OnOk result (HasPartsInRange expr.now) }
         ensures unchanged { OnErr result (self.new ≡ self.old) }
     {
-        let n = self.exprs.len() as u64;
-        let Some(_number) = short(n) else {
+        let Some(number) = short(self.exprs.len() as u64) else {
             return Err(AllocError);
         };
-        let _is_new = self.exprs.insert(expr)?;
-        Ok(n)
+        let _is_new = self.exprs.insert(copy_of(expr)?)?;
+        Ok(number)
     }
 
     /// The expression of the node.
@@ -156,7 +156,7 @@ impl Nodes {
 }
 
 /// The same expression again.
-pub fn copy_of(expr: &Expr) -> Result<Expr, AllocError>
+fn copy_of(expr: &Expr) -> Result<Expr, AllocError>
     ensures same { IfOk result (λ copy. copy ≡ expr.now) }
     ensures range { HasPartsInRange expr.now }
 {

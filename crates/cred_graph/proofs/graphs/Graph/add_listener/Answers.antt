@@ -2,61 +2,61 @@ use Rattle.cred_graph.proofs.Lists.{on_err}
 use Rattle.cred_graph.specs.Stored.{graph_as}
 use Rattle.cred_graph.proofs.CallLemmas.{Listened, joined, joined_same, listener_kept, listens_by, no_listener}
 use Rattle.cred_graph.proofs.graphs.Graph.add_listener.Goals as goal
-use Rattle.cred_graph.proofs.graphs.Graph.add_listener.Goals.{After-add}
+use Rattle.cred_graph.proofs.graphs.Graph.add_listener.Goals.{After-add_listener}
 
 pub invariant_of-self : goal.invariant_of-self
-invariant_of-self c = joined c.self.inside.nodes c.self.inside.strangers _ c.self.inside.listeners c.self.inside.listeners c.self.inside.solutions c.self.invariant c.keep_port.ensures.joins
+invariant_of-self c = joined c.self.inside.nodes c.self.inside.strangers _ c.self.inside.tables.0 c.self.inside.tables.0 c.self.inside.tables.1 c.self.invariant c.keep_port.ensures.joins
 
 pub returns-in_err-port-clause-graph : goal.returns-in_err-port-clause-graph
 returns-in_err-port-clause-graph c =
-    (joined c.self.inside.nodes c.self.inside.strangers c.keep_port.new.strangers c.self.inside.listeners c.self.inside.listeners c.self.inside.solutions c.self.invariant c.keep_port.ensures.joins).graph
+    (joined c.self.inside.nodes c.self.inside.strangers c.keep_port.new.strangers c.self.inside.tables.0 c.self.inside.tables.0 c.self.inside.tables.1 c.self.invariant c.keep_port.ensures.joins).graph
 
 pub returns-in_err-port-clause-growth : goal.returns-in_err-port-clause-growth
 returns-in_err-port-clause-growth c =
     let asked = rw (← c.self.view_is) at c.requires.asked in
-    rw (← c.self.view_is) (on_err c.from_residual.result (no_listener c.self.inside.nodes c.self.inside.strangers c.self.inside.listeners c.self.inside.solutions c.self.invariant c.args.n (record { asker = c.args.m; port = c.args.port }) asked c.in_err-port.ensures.refused))
+    rw (← c.self.view_is) (on_err c.from_residual.result (no_listener c.self.inside.nodes c.self.inside.strangers c.self.inside.tables.0 c.self.inside.tables.1 c.self.invariant c.args.n (record { asker = c.args.m; port = c.args.port }) asked c.in_err-port.ensures.refused))
 
 pub returns-in_err-port-clause-unchanged : goal.returns-in_err-port-clause-unchanged
 returns-in_err-port-clause-unchanged c =
     rw (← c.self.view_is)
     (on_err c.from_residual.result
-    (joined_same c.self.inside.nodes c.self.inside.strangers c.keep_port.new.strangers c.self.inside.listeners c.self.inside.listeners c.self.inside.solutions c.self.invariant c.keep_port.ensures.joins))
+    (joined_same c.self.inside.nodes c.self.inside.strangers c.keep_port.new.strangers c.self.inside.tables.0 c.self.inside.tables.0 c.self.inside.tables.1 c.self.invariant c.keep_port.ensures.joins))
 
 pub invariant_of-self-2 : goal.invariant_of-self-2
 invariant_of-self-2 c =
     let asked = rw (← c.self.view_is, ← c.short-asked.ensures) at c.requires.asked in
     let asker = rw (← c.self.view_is, ← c.short-asker.ensures) at c.requires.asker in
-    listener_kept c.self.inside.nodes c.self.inside.strangers c.keep_port.new.strangers c.self.inside.listeners c.add.new.self c.self.inside.solutions c.self.invariant c.keep_port.ensures.joins c.short-asked.result (record { asker = c.short-asker.result; port = c.in_ok-port.port }) asked asker c.in_ok-port.ensures.kept.0 c.add.result c.add.ensures.ok c.add.ensures.unchanged
+    listener_kept c.self.inside.nodes c.self.inside.strangers c.keep_port.new.strangers c.self.inside.tables.0 c.add_listener.new.self.0 c.self.inside.tables.1 c.self.invariant c.keep_port.ensures.joins c.short-asked.result (record { asker = c.short-asker.result; port = c.in_ok-port.port }) asked asker c.in_ok-port.ensures.kept.0 c.add_listener.new.self.1 c.add_listener.ensures.solutions c.add_listener.result c.add_listener.ensures.ok c.add_listener.ensures.unchanged
 
 -- what the call gives
-given : (c : After-add) →
+given : (c : After-add_listener) →
     Listened c.args.self.now
-    (graph_as c.self.inside.nodes c.keep_port.new.strangers c.add.new.self c.self.inside.solutions)
+    (graph_as c.self.inside.nodes c.keep_port.new.strangers c.add_listener.new.self.0 c.add_listener.new.self.1)
     c.args.n
     (record { asker = c.args.m; port = c.args.port })
-    c.add.result
+    c.add_listener.result
 given c =
     let asked = rw (← c.self.view_is, ← c.short-asked.ensures) at c.requires.asked in
     let asker = rw (← c.self.view_is, ← c.short-asker.ensures) at c.requires.asker in
     rw (← c.self.view_is, ← c.short-asked.ensures)
-    (listens_by c.self.inside.nodes c.self.inside.strangers c.keep_port.new.strangers c.self.inside.listeners
-    c.add.new.self c.self.inside.solutions c.self.invariant c.keep_port.ensures.joins c.short-asked.result
+    (listens_by c.self.inside.nodes c.self.inside.strangers c.keep_port.new.strangers c.self.inside.tables.0
+    c.add_listener.new.self.0 c.self.inside.tables.1 c.self.invariant c.keep_port.ensures.joins c.short-asked.result
     (record { asker = c.short-asker.result; port = c.in_ok-port.port }) asked asker c.in_ok-port.ensures.kept.0
-    (record { asker = c.args.m; port = c.args.port })
+    c.add_listener.new.self.1 c.add_listener.ensures.solutions (record { asker = c.args.m; port = c.args.port })
     (λ i. record { asker = c.short-asker.ensures i; port = c.in_ok-port.ensures.kept.1 i })
-    c.add.result c.add.ensures.ok c.add.ensures.growth c.add.ensures.unchanged)
+    c.add_listener.result c.add_listener.ensures.ok c.add_listener.ensures.growth c.add_listener.ensures.unchanged)
 
 pub returns-clause-ok : goal.returns-clause-ok
-returns-clause-ok c = (given (goal.at.returns-clause-ok c).After-add).ok
+returns-clause-ok c = (given (goal.at.returns-clause-ok c).After-add_listener).ok
 
 pub returns-clause-listens : goal.returns-clause-listens
-returns-clause-listens c = (given (goal.at.returns-clause-listens c).After-add).listens
+returns-clause-listens c = (given (goal.at.returns-clause-listens c).After-add_listener).listens
 
 pub returns-clause-graph : goal.returns-clause-graph
-returns-clause-graph c = (given (goal.at.returns-clause-graph c).After-add).graph
+returns-clause-graph c = (given (goal.at.returns-clause-graph c).After-add_listener).graph
 
 pub returns-clause-growth : goal.returns-clause-growth
-returns-clause-growth c = (given (goal.at.returns-clause-growth c).After-add).growth
+returns-clause-growth c = (given (goal.at.returns-clause-growth c).After-add_listener).growth
 
 pub returns-clause-unchanged : goal.returns-clause-unchanged
-returns-clause-unchanged c = (given (goal.at.returns-clause-unchanged c).After-add).unchanged
+returns-clause-unchanged c = (given (goal.at.returns-clause-unchanged c).After-add_listener).unchanged

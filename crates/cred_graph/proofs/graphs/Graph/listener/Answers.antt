@@ -2,16 +2,16 @@ use Rattle.std.proofs.Common.{arith}
 use Rattle.cred_graph.proofs.ReadLemmas.{length-listeners, listener_read, port_read}
 use Rattle.cred_graph.proofs.graphs.Graph.listener.Goals as goal
 
-pub get-kept-requires : goal.get-kept-requires
-get-kept-requires c =
+pub listener-kept-requires : goal.listener-kept-requires
+listener-kept-requires c =
     let node = rw (← c.self.view_is, ← c.short.ensures) at c.requires.node in
     let place = rw (← c.self.view_is, ← c.short.ensures) at c.requires.place in
-    omega (arith, length-listeners c.self.inside.nodes c.self.inside.strangers c.self.inside.listeners c.self.inside.solutions c.short.result node)
+    omega (arith, length-listeners c.self.inside.nodes c.self.inside.strangers c.self.inside.tables.0 c.self.inside.tables.1 c.short.result node)
 
 pub port_name-port-requires : goal.port_name-port-requires
-port_name-port-requires c = port_read c.self.inside.nodes c.self.inside.strangers c.self.inside.listeners c.self.inside.solutions c.short.result c.args.i c.get-kept.result c.self.invariant c.get-kept.ensures
+port_name-port-requires c = port_read c.self.inside.nodes c.self.inside.strangers c.self.inside.tables.0 c.self.inside.tables.1 c.short.result c.args.i c.listener-kept.result c.self.invariant c.listener-kept.ensures
 
 pub returns : goal.returns
 returns c =
     let node = rw (← c.self.view_is, ← c.short.ensures) at c.requires.node in
-    rw (← c.self.view_is, ← c.short.ensures, c.port_name-port.ensures) (listener_read c.self.inside.nodes c.self.inside.strangers c.self.inside.listeners c.self.inside.solutions c.short.result c.args.i c.get-kept.result node c.get-kept.ensures)
+    rw (← c.self.view_is, ← c.short.ensures, c.port_name-port.ensures) (listener_read c.self.inside.nodes c.self.inside.strangers c.self.inside.tables.0 c.self.inside.tables.1 c.short.result c.args.i c.listener-kept.result node c.listener-kept.ensures)

@@ -22,9 +22,11 @@ empty = record {
   justified = λ i s at. no_place i s at;
 }
 
-stored : (nodes : List Expr) (strangers : List (List ℕ)) (lists : List (List KeptListening)) (entries : List (Solved × Reason ℕ ℕ)) →
-    nodes ≡ [] → strangers ≡ [] → lists ≡ [] → entries ≡ [] → IsStored nodes strangers lists entries
-stored nodes strangers lists entries a b c d = rw (a, b, c, d) (record {
+abbrev Tables : Type 0
+Tables = List (List KeptListening) × List (Solved × Reason ℕ ℕ)
+
+stored : (nodes strangers : List Expr) (tables : Tables) → nodes ≡ [] → strangers ≡ [] → tables ≡ ([], []) → IsStored nodes strangers tables.0 tables.1
+stored nodes strangers tables a b c = rw (a, b, c) (record {
   graph = empty;
   once = λ i j x p q. no_place i x p;
   asked = λ n above. refl;
@@ -33,17 +35,14 @@ stored nodes strangers lists entries a b c d = rw (a, b, c, d) (record {
   reasons = λ j e at. no_place j e at;
 })
 
-none : (nodes : List Expr) (strangers : List (List ℕ))
-    (lists : List (List KeptListening)) (entries : List (Solved × Reason ℕ ℕ)) →
-    nodes ≡ [] → entries ≡ [] → graph_as nodes strangers lists entries ≡ empty_graph
-none nodes strangers lists entries a b = rw (a, b)
+none : (nodes strangers : List Expr) (tables : Tables) → nodes ≡ [] → tables ≡ ([], []) → graph_as nodes strangers tables.0 tables.1 ≡ empty_graph
+none nodes strangers tables a b = rw (a, b)
 
 pub returns-clause-empty : goal.returns-clause-empty
-returns-clause-empty c =
-    none c.new.result c.new-2.result c.new-3.result c.new-4.result c.new.ensures c.new-4.ensures
+returns-clause-empty c = none c.new.result c.new-2.result c.new-3.result c.new.ensures c.new-3.ensures
 
 pub invariant_of-result : goal.invariant_of-result
-invariant_of-result c = stored c.new.result c.new-2.result c.new-3.result c.new-4.result c.new.ensures c.new-2.ensures c.new-3.ensures c.new-4.ensures
+invariant_of-result c = stored c.new.result c.new-2.result c.new-3.result c.new.ensures c.new-2.ensures c.new-3.ensures
 
 pub returns-clause-graph : goal.returns-clause-graph
-returns-clause-graph c = (stored c.new.result c.new-2.result c.new-3.result c.new-4.result c.new.ensures c.new-2.ensures c.new-3.ensures c.new-4.ensures).graph
+returns-clause-graph c = (stored c.new.result c.new-2.result c.new-3.result c.new.ensures c.new-2.ensures c.new-3.ensures).graph

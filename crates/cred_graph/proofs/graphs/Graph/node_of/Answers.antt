@@ -6,24 +6,21 @@ use Rattle.cred_graph.proofs.graphs.Graph.node_of.Goals as goal
 pub invariant_of-self-2 : goal.invariant_of-self-2
 invariant_of-self-2 c =
     let absent = rw (← c.self.view_is) at c.in_default.ensures.node in
-    node_stored c.self.inside.nodes _ c.self.inside.strangers c.self.inside.listeners c.self.inside.solutions c.args.expr.now _ c.self.invariant absent c.copy_of.ensures.range c.in_ok-copy_of.ensures.same c.in_ok-n.ensures.added
+    node_stored c.self.inside.nodes _ c.self.inside.strangers c.self.inside.tables.0 c.self.inside.tables.1 c.args.expr.now c.self.invariant absent c.in_ok-n.ensures.range c.in_ok-n.ensures.added
 
 pub returns-clause-graph : goal.returns-clause-graph
 returns-clause-graph c =
     let absent = rw (← c.self.view_is) at c.in_default.ensures.node in
-    (node_stored c.self.inside.nodes _ c.self.inside.strangers c.self.inside.listeners c.self.inside.solutions c.args.expr.now _ c.self.invariant absent c.copy_of.ensures.range c.in_ok-copy_of.ensures.same c.in_ok-n.ensures.added).graph
+    (node_stored c.self.inside.nodes _ c.self.inside.strangers c.self.inside.tables.0 c.self.inside.tables.1 c.args.expr.now c.self.invariant absent c.in_ok-n.ensures.range c.in_ok-n.ensures.added).graph
 
 pub returns-clause-node : goal.returns-clause-node
-returns-clause-node c = node_stands c.self.inside.nodes _ c.args.expr.now _ c.in_ok-n.n c.in_ok-copy_of.ensures.same c.in_ok-n.ensures.added c.in_ok-n.ensures.number
+returns-clause-node c = node_stands c.self.inside.nodes _ c.args.expr.now c.in_ok-n.n c.in_ok-n.ensures.added c.in_ok-n.ensures.number
 
 pub returns-clause-ok : goal.returns-clause-ok
 returns-clause-ok c =
     let absent = rw (← c.self.view_is) at c.in_default.ensures.node in
     rw (← c.self.view_is)
-    (node_given c.self.inside.nodes _ c.self.inside.strangers c.self.inside.listeners c.self.inside.solutions c.args.expr.now _ c.in_ok-n.n c.self.invariant absent c.copy_of.ensures.range c.in_ok-copy_of.ensures.same c.in_ok-n.ensures.added c.in_ok-n.ensures.number)
-
-pub invariant_of-self : goal.invariant_of-self
-invariant_of-self c = c.self.invariant
+    (node_given c.self.inside.nodes _ c.self.inside.strangers c.self.inside.tables.0 c.self.inside.tables.1 c.args.expr.now c.in_ok-n.n c.self.invariant absent c.in_ok-n.ensures.range c.in_ok-n.ensures.added c.in_ok-n.ensures.number)
 
 pub returns-in-Some-clause-ok : goal.returns-in-Some-clause-ok
 returns-in-Some-clause-ok c = (c.in-Some.ensures.node, refl)
@@ -31,8 +28,5 @@ returns-in-Some-clause-ok c = (c.in-Some.ensures.node, refl)
 pub returns-in-Some-clause-graph : goal.returns-in-Some-clause-graph
 returns-in-Some-clause-graph c = c.in-Some.ensures.graph
 
-pub returns-in_err-copy_of-clause-growth : goal.returns-in_err-copy_of-clause-growth
-returns-in_err-copy_of-clause-growth c = on_err c.from_residual.result c.in_default.ensures.node
-
 pub returns-in_err-n-clause-growth : goal.returns-in_err-n-clause-growth
-returns-in_err-n-clause-growth c = on_err c.from_residual-in_err-n.result c.in_default.ensures.node
+returns-in_err-n-clause-growth c = on_err c.from_residual.result c.in_default.ensures.node

@@ -2,22 +2,22 @@ use Rattle.std.proofs.Common.{arith}
 use Rattle.cred_graph.proofs.ReadLemmas.{length-listeners, listener_read, port_read}
 use Rattle.cred_graph.proofs.graphs.Graph.numbered_listener.Goals as goal
 
-pub get-kept-requires : goal.get-kept-requires
-get-kept-requires c =
+pub listener-kept-requires : goal.listener-kept-requires
+listener-kept-requires c =
     let node = rw (← c.self.view_is, ← c.short.ensures) at c.requires.node in
     let place = rw (← c.self.view_is, ← c.short.ensures) at c.requires.place in
-    omega (arith, length-listeners c.self.inside.nodes c.self.inside.strangers c.self.inside.listeners c.self.inside.solutions c.short.result node)
+    omega (arith, length-listeners c.self.inside.nodes c.self.inside.strangers c.self.inside.tables.0 c.self.inside.tables.1 c.short.result node)
 
 pub port_number-port-requires-clause-kept : goal.port_number-port-requires-clause-kept
-port_number-port-requires-clause-kept c = port_read c.self.inside.nodes c.self.inside.strangers c.self.inside.listeners c.self.inside.solutions c.short.result c.args.i c.get-kept.result c.self.invariant c.get-kept.ensures
+port_number-port-requires-clause-kept c = port_read c.self.inside.nodes c.self.inside.strangers c.self.inside.tables.0 c.self.inside.tables.1 c.short.result c.args.i c.listener-kept.result c.self.invariant c.listener-kept.ensures
 
 pub port_number-port-requires-clause-named : goal.port_number-port-requires-clause-named
 port_number-port-requires-clause-named c =
     let node = rw (← c.self.view_is, ← c.short.ensures) at c.requires.node in
     let named = rw (← c.self.view_is, ← c.short.ensures) at c.requires.named in
-    named _ (listener_read c.self.inside.nodes c.self.inside.strangers c.self.inside.listeners c.self.inside.solutions c.short.result c.args.i c.get-kept.result node c.get-kept.ensures)
+    named _ (listener_read c.self.inside.nodes c.self.inside.strangers c.self.inside.tables.0 c.self.inside.tables.1 c.short.result c.args.i c.listener-kept.result node c.listener-kept.ensures)
 
 pub returns-clause-listener : goal.returns-clause-listener
 returns-clause-listener c =
     let node = rw (← c.self.view_is, ← c.short.ensures) at c.requires.node in
-    rw (← c.self.view_is, ← c.short.ensures, c.port_number-port.ensures.same) (listener_read c.self.inside.nodes c.self.inside.strangers c.self.inside.listeners c.self.inside.solutions c.short.result c.args.i c.get-kept.result node c.get-kept.ensures)
+    rw (← c.self.view_is, ← c.short.ensures, c.port_number-port.ensures.same) (listener_read c.self.inside.nodes c.self.inside.strangers c.self.inside.tables.0 c.self.inside.tables.1 c.short.result c.args.i c.listener-kept.result node c.listener-kept.ensures)

@@ -2,13 +2,13 @@ use Rattle.std.proofs.Common.{arith}
 use Rattle.cred_graph.proofs.ReadLemmas.{length-members, member_read, member_entity}
 use Rattle.cred_graph.proofs.graphs.Graph.numbered_solution.Goals as goal
 
-pub get-requires : goal.get-requires
-get-requires c =
+pub solution-requires : goal.solution-requires
+solution-requires c =
     let place = rw (← c.self.view_is, ← c.short.ensures) at c.requires.place in
-    omega (arith, length-members c.self.inside.nodes c.self.inside.strangers c.self.inside.listeners c.self.inside.solutions c.short.result)
+    omega (arith, length-members c.self.inside.nodes c.self.inside.strangers c.self.inside.tables.0 c.self.inside.tables.1 c.short.result)
 
 pub returns-clause-entity : goal.returns-clause-entity
-returns-clause-entity c = rw (← c.self.view_is) (member_entity c.self.inside.nodes c.self.inside.strangers c.self.inside.listeners c.self.inside.solutions c.short.result c.args.i c.get.result c.self.invariant c.get.ensures)
+returns-clause-entity c = rw (← c.self.view_is) (member_entity c.self.inside.nodes c.self.inside.strangers c.self.inside.tables.0 c.self.inside.tables.1 c.short.result c.args.i c.solution.result c.self.invariant c.solution.ensures)
 
 pub returns-clause-solution : goal.returns-clause-solution
-returns-clause-solution c = rw (← c.self.view_is, ← c.short.ensures) (member_read c.self.inside.nodes c.self.inside.strangers c.self.inside.listeners c.self.inside.solutions c.short.result c.args.i c.get.result c.get.ensures)
+returns-clause-solution c = rw (← c.self.view_is, ← c.short.ensures) (member_read c.self.inside.nodes c.self.inside.strangers c.self.inside.tables.0 c.self.inside.tables.1 c.short.result c.args.i c.solution.result c.solution.ensures)

@@ -1,7 +1,7 @@
 use Rattle.std.proofs.Common.{sym}
 use Rattle.credential_text.proofs.Equality.{exprs_decided}
 use Rattle.credential_text.specs.contracts.exprs.ExprPartialEq.TheImpl as expr
-use Rattle.cred_graph.proofs.Tables.{stands_at, not_found}
+use Rattle.cred_graph.proofs.Lookups.{stands_at, not_found}
 use Rattle.cred_graph.proofs.nodes.Nodes.number.Goals as goal
 
 pub returns-in-Some : goal.returns-in-Some

@@ -1,9 +1,0 @@
-use Rattle.std.proofs.Common.{◌+◌, ◌-◌, map, vec_len}
-use Rattle.cred_graph.specs.NodeLists.{AreSame}
-use Rattle.cred_graph.proofs.listener_lists.reach.Given as goal
-
-abbrev pub invariant-loop-alloc : goal.invariant-loop-alloc
-invariant-loop-alloc l = AreSame (map (λ v. v.items) l.initial.lists.items) (map (λ v. v.items) l.lists.items)
-
-abbrev pub decreases-loop-alloc : goal.decreases-loop-alloc
-decreases-loop-alloc l = l.n + 1 - vec_len l.lists

@@ -1,0 +1,243 @@
+ghost use Rattle.std.specs.Prelude.{◌≡◌, [], ◌∷◌, ◌++◌, ◌↔◌, ◌<◌, ◌≤◌, IsTrue, Some, IfOk, OnOk, OnErr, MatchOption, Contains, length, slice_get};
+
+use crate::listeners::{FarListening, KeptListening};
+use crate::rooms::{is_mostly_spare, is_worth_keeping};
+use crate::rows::Rows;
+use crate::solutions::{Reason, Solved};
+use crate::solved_hashes::SolvedHasher;
+use indexmap::{IndexMap, IndexSet};
+use std::alloc::{AllocError, Global};
+use std::hash::BuildHasherDefault;
+use std::marker::Model;
+
+/// So many listeners of a node are looked through one by one.
+const NEAR: usize = 8;
+
+/// Room for so many solutions is made with the first one, as many as sixteen groups of a map's index take.
+const FIRST_ROOM: usize = 144;
+
+/// A table of fewer solutions grows fourfold, so that it is moved and indexed anew less often.
+const SMALL: usize = 4096;
+
+/// The listeners of each node, each once and in order of adding, and the solutions of all nodes with their reasons, in
+/// order of adding. Entities are spoken of by number. A node's row has its listeners and who its solutions are; listeners
+/// beyond the first ones of their node stand in a table too.
+pub struct Tables {
+    rows: Rows,
+    far: IndexSet<FarListening>,
+    reasons: IndexMap<Solved, Reason<u32, u32>, BuildHasherDefault<SolvedHasher>>,
+}
+
+impl Model for Tables {
+    ghost use Rattle.std.specs.Prelude.{ℕ, List};
+    ghost use Rattle.cred_graph.specs.declared.listeners.KeptListening.{KeptListening};
+    ghost use Rattle.cred_graph.specs.declared.solutions.Solved.{Solved};
+    ghost use Rattle.cred_graph.specs.declared.solutions.Reason.{Reason};
+    ghost use Rattle.cred_graph.specs.Stored.{AreFar, AreMembers};
+
+    ghost Value = { List (List KeptListening) × List (Solved × Reason ℕ ℕ) };
+
+    ghost view = { λ t. (t.rows.0, t.reasons.entries) };
+
+    ghost invariant = { λ t. AreFar t.rows.0 t.far.keys × AreMembers t.reasons.entries t.rows.1 };
+}
+
+// By hand, so that who holds them drops them by one call, whose proof stands here.
+impl Drop for Tables {
+    fn drop(self) {
+        let Tables {
+            rows: _rows,
+            far: _far,
+            reasons: _reasons,
+        } = self;
+    }
+}
+
+impl Tables {
+    ghost use Rattle.cred_graph.specs.NodeLists.{list_at, AreSame, AddsAt};
+    ghost use Rattle.cred_graph.specs.Stored.{HearsOf, HasKey, Solves, members_by};
+
+    /// No listener and no solution of any node.
+    pub fn new(alloc: Global) -> Self
+        ensures { result ≡ ([], []) }
+    {
+        Tables {
+            rows: Rows::new(alloc),
+            far: IndexSet::new(alloc),
+            reasons: IndexMap::with_hasher(alloc, BuildHasherDefault::new()),
+        }
+    }
+
+    /// Makes room for the rows of so many nodes.
+    pub fn reserve(&mut self, nodes: u64) -> Result<(), AllocError>
+        ensures { self.new ≡ self.old }
+    {
+        self.rows.reserve(nodes)
+    }
+
+    /// Gives back the memory that nothing takes, where that is more than half of a table.
+    pub fn give_back(&mut self)
+        ensures { self.new ≡ self.old }
+    {
+        self.rows.give_back();
+        self.far.shrink_to_fit();
+        if is_mostly_spare(self.reasons.len(), self.reasons.capacity()) {
+            self.reasons.shrink_to_fit();
+        }
+    }
+
+    /// Takes out all listeners and solutions. The room of small tables stays.
+    pub fn clear(&mut self)
+        ensures { self.new ≡ ([], []) }
+    {
+        self.rows.clear();
+        self.far.clear();
+        if !is_worth_keeping(self.far.capacity()) {
+            self.far.shrink_to_fit();
+        }
+        self.reasons.clear();
+        if !is_worth_keeping(self.reasons.capacity()) {
+            self.reasons.shrink_to_fit();
+        }
+    }
+
+    /// How many listeners the node has.
+    pub fn listeners(&self, n: u32) -> u64
+        ensures { result ≡ length (list_at self.now.0 n) }
+    {
+        self.rows.listeners(n).len() as u64
+    }
+
+    /// The listener that stands here among those of the node.
+    pub fn listener(&self, n: u32, i: u64) -> KeptListening
+        requires { i < length (list_at self.now.0 n) }
+        ensures { slice_get (list_at self.now.0 n) i ≡ Some result }
+    {
+        self.rows.listeners(n)[i as usize]
+    }
+
+    /// Whether the node has this listener.
+    fn has(&self, n: u32, listening: &KeptListening) -> bool
+        ensures { IsTrue result ↔ Contains (list_at self.now.0 n) listening.now }
+    {
+        let list = self.rows.listeners(n);
+        let (near, others) = list.split_at(list.len().min(NEAR));
+        if near.contains(listening) {
+            return true;
+        }
+        !others.is_empty()
+            && self.far.contains(&FarListening {
+                asked: n,
+                listening: *listening,
+            })
+    }
+
+    /// Lets the node have the listener, and answers whether that is new.
+    pub fn add_listener(&mut self, n: u32, listening: KeptListening) -> Result<bool, AllocError>
+        ensures ok { IfOk result (λ new. HearsOf self.old.0 self.new.0 n listening new) }
+        ensures growth { OnErr result (Contains (list_at self.old.0 n) listening → ⊥) }
+        ensures unchanged { OnErr result (AreSame self.old.0 self.new.0) }
+        ensures solutions { self.new.1 ≡ self.old.1 }
+    {
+        if self.has(n, &listening) {
+            return Ok(false);
+        }
+        self.push_listener(n, listening)?;
+        Ok(true)
+    }
+
+    /// Adds a listener that the node doesn't have.
+    fn push_listener(&mut self, n: u32, listening: KeptListening) -> Result<(), AllocError>
+        requires { Contains (list_at self.old.0 n) listening → ⊥ }
+        ensures added { OnOk result (AddsAt self.old.0 self.new.0 n listening) }
+        ensures unchanged { OnErr result (AreSame self.old.0 self.new.0) }
+        ensures solutions { self.new.1 ≡ self.old.1 }
+    {
+        if self.rows.listeners(n).len() < NEAR {
+            return self.rows.add_listener(n, listening);
+        }
+        self.far.reserve(1)?;
+        self.rows.add_listener(n, listening)?;
+        let _is_new = self
+            .far
+            .insert(FarListening {
+                asked: n,
+                listening,
+            })
+            .unwrap();
+        Ok(())
+    }
+
+    /// The place of the solution, and its reason, if it is there.
+    pub fn find(&self, solved: &Solved) -> Option<(u64, Reason<u32, u32>)>
+        ensures { MatchOption result (HasKey self.now.1 solved.now → ⊥) (λ r. slice_get self.now.1 r.0 ≡ Some (solved.now, r.1)) }
+    {
+        match self.reasons.get_full(solved) {
+            Some((place, _solved, reason)) => Some((place as u64, *reason)),
+            None => None,
+        }
+    }
+
+    /// Adds a solution, and answers whether that is new. The first reason stays.
+    pub fn add_solution(
+        &mut self,
+        solved: Solved,
+        reason: Reason<u32, u32>,
+    ) -> Result<bool, AllocError>
+        ensures ok { IfOk result (λ new. Solves self.old.1 self.new.1 solved reason new) }
+        ensures growth { OnErr result (HasKey self.old.1 solved → ⊥) }
+        ensures unchanged { OnErr result (self.new.1 ≡ self.old.1) }
+        ensures listeners { AreSame self.old.0 self.new.0 }
+    {
+        if let Some(_found) = self.find(&solved) {
+            return Ok(false);
+        }
+        self.push_solution(solved, reason)?;
+        Ok(true)
+    }
+
+    /// Adds a solution that isn't there.
+    fn push_solution(
+        &mut self,
+        solved: Solved,
+        reason: Reason<u32, u32>,
+    ) -> Result<(), AllocError>
+        requires { HasKey self.old.1 solved → ⊥ }
+        ensures added { OnOk result (self.new.1 ≡ self.old.1 ++ (solved, reason) ∷ []) }
+        ensures unchanged { OnErr result (self.new.1 ≡ self.old.1) }
+        ensures listeners { AreSame self.old.0 self.new.0 }
+    {
+        let room = self.room_for_one();
+        self.reasons.reserve(room)?;
+        self.rows.add_member(solved.node, solved.who)?;
+        let _earlier = self.reasons.insert(solved, reason).unwrap();
+        Ok(())
+    }
+
+    /// For how many solutions room is made where it is asked for one: a table that is still small grows fourfold.
+    fn room_for_one(&self) -> usize
+        ensures { 1 ≤ result }
+    {
+        let count = self.reasons.len();
+        if count == self.reasons.capacity() {
+            (3 * count.min(SMALL)).max(FIRST_ROOM)
+        } else {
+            1
+        }
+    }
+
+    /// How many solutions the node has.
+    pub fn solutions(&self, n: u32) -> u64
+        ensures { result ≡ length (members_by n self.now.1) }
+    {
+        self.rows.members(n).len() as u64
+    }
+
+    /// The number of the entity that stands here among the node's solutions.
+    pub fn solution(&self, n: u32, i: u64) -> u32
+        requires { i < length (members_by n self.now.1) }
+        ensures { slice_get (members_by n self.now.1) i ≡ Some result }
+    {
+        self.rows.members(n)[i as usize]
+    }
+}
