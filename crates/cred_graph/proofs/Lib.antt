@@ -3,6 +3,7 @@ pub mod Found
 pub mod Growth
 pub mod Keys
 pub mod Lookups
+pub mod RowLemmas
 pub mod NumberLemmas
 pub mod SolutionLemmas
 pub mod ListenerLemmas

@@ -13,14 +13,14 @@ place_of_Contains xs x (k, within, is) = (k, slice_get-get_or xs k x within ∙ 
 
 -- what is at a place stays there
 pub slice_get_stays : {X : Type 0} (xs ys : List X) (k : ℕ) (x : X) → slice_get xs k ≡ Some x → slice_get (xs ++ ys) k ≡ Some x
-slice_get_stays [] ys k x e = cc
+slice_get_stays [] ys k x e = absurd (none-some x e)
 slice_get_stays (y ∷ xs) ys zero x e = e
 slice_get_stays (y ∷ xs) ys (suc k) x e = slice_get_stays xs ys k x e
 
 -- what is at a place was there, or is the new element
 pub slice_get_push_cases : {X : Type 0} (xs : List X) (y : X) (k : ℕ) (x : X) → slice_get (xs ++ y ∷ []) k ≡ Some x → (slice_get xs k ≡ Some x) ⊎ ((k ≡ length xs) × (y ≡ x))
 slice_get_push_cases [] y zero x e = inr (refl, same_Some y x e)
-slice_get_push_cases [] y (suc k) x e = cc
+slice_get_push_cases [] y (suc k) x e = absurd (none-some x e)
 slice_get_push_cases (z ∷ xs) y zero x e = inl e
 slice_get_push_cases (z ∷ xs) y (suc k) x e =
     elim (slice_get_push_cases xs y k x e) [ inl before ↦ inl before | inr new ↦ inr (ap suc new.0, new.1) ]

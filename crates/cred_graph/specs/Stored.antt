@@ -1,5 +1,5 @@
 -- What the tables of a graph keep, and how the one of solutions hashes its keys
-use Rattle.std.specs.Prelude.{ℕ, zero, suc, List, [], ◌∷◌, ◌++◌, ◌≡◌, ◌<◌, ◌↔◌, ◌⊎◌, Bool, true, false, Some, Contains, drop, length, map}
+use Rattle.std.specs.Prelude.{ℕ, zero, suc, List, [], ◌∷◌, ◌++◌, ◌≡◌, ◌↔◌, ◌⊎◌, Bool, true, false, Some, Contains, drop, length, map}
 use Rattle.std.specs.Prelude.{slice_get, ◌==◌, filter, ◌≤◌, ◌+◌, ◌*◌, ◌/◌, ◌%◌, ◌^◌, if◌then◌else◌, nat_eq, bit_or, bit_and}
 use Rattle.std.specs.Int.{w32, from_le_bytes}
 use Rattle.credential_text.specs.declared.exprs.Expr.{Expr}

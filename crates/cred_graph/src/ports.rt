@@ -20,11 +20,7 @@ pub enum KeptPort {
 }
 
 /// The port as it is kept from now on.
-pub fn keep_port(
-    nodes: &Nodes,
-    strangers: &mut Nodes,
-    port: &Port,
-) -> Result<KeptPort, AllocError>
+pub fn keep_port(nodes: &Nodes, strangers: &mut Nodes, port: &Port) -> Result<KeptPort, AllocError>
     ensures kept { IfOk result (λ p. IsKept nodes.now strangers.new p × (kept_as nodes.now strangers.new p ≡ port.now)) }
     ensures joins { Joins nodes.now strangers.old strangers.new }
     ensures refused { OnErr result ((p : KeptPort) → IsKept nodes.now strangers.old p → kept_as nodes.now strangers.old p ≡ port.now → ⊥) }

@@ -133,15 +133,11 @@ fn reach(rows: &mut Vec<Row>, n: usize) -> Result<(), AllocError>
 }
 
 /// Adds a listener at the end of those of the node.
-fn push_listener(
-    rows: &mut Vec<Row>,
-    n: usize,
-    listening: KeptListening,
-) -> Result<(), AllocError>
+fn push_listener(rows: &mut Vec<Row>, n: usize, listening: KeptListening) -> Result<(), AllocError>
     requires { n < length rows.old.items }
     ensures added { OnOk result (map (λ r. r.listeners.items) rows.new.items ≡
         slice_set (map (λ r. r.listeners.items) rows.old.items) n
-            (list_at (map (λ r. r.listeners.items) rows.old.items) n ++ listening ∷ [])) }
+        (list_at (map (λ r. r.listeners.items) rows.old.items) n ++ listening ∷ [])) }
     ensures unchanged { OnErr result (map (λ r. r.listeners.items) rows.new.items ≡ map (λ r. r.listeners.items) rows.old.items) }
     ensures members { map (λ r. r.members.items) rows.new.items ≡ map (λ r. r.members.items) rows.old.items }
 {

@@ -197,11 +197,7 @@ impl Tables {
     }
 
     /// Adds a solution that isn't there.
-    fn push_solution(
-        &mut self,
-        solved: Solved,
-        reason: Reason<u32, u32>,
-    ) -> Result<(), AllocError>
+    fn push_solution(&mut self, solved: Solved, reason: Reason<u32, u32>) -> Result<(), AllocError>
         requires { HasKey self.old.1 solved → ⊥ }
         ensures added { OnOk result (self.new.1 ≡ self.old.1 ++ (solved, reason) ∷ []) }
         ensures unchanged { OnErr result (self.new.1 ≡ self.old.1) }

@@ -1,14 +1,30 @@
-use Rattle.std.proofs.Common.{◌∙◌, ap}
+use Rattle.std.proofs.Common.{◌<◌, ◌^◌, ◌≡◌, ◌∙◌, ap, arith, List, [], ◌∷◌, ◌++◌, length}
+use Rattle.std.proofs.lemmas.List.{length_push}
 use Rattle.credential_text.proofs.Equality.{exprs_decided}
+use Rattle.credential_text.specs.declared.exprs.Expr.{Expr}
 use Rattle.credential_text.specs.contracts.exprs.ExprPartialEq.TheImpl as expr
 use Rattle.indexmap.specs.IndexSet.{insert_key}
+use Rattle.cred_graph.specs.NodeLists.{AreShort}
 use Rattle.cred_graph.proofs.Lookups.{insert_key-absent}
 use Rattle.cred_graph.proofs.nodes.Nodes.add.Goals as goal
+use Rattle.cred_graph.proofs.nodes.Nodes.add.Goals.{In_ok-_is_new}
+
+short_pushed : (exprs after : List Expr) (e : Expr) → length exprs < 2 ^ 32 → after ≡ exprs ++ e ∷ [] → AreShort after
+short_pushed exprs after e room is = omega (arith, ap length is, length_push exprs e)
+
+pushed : (c : In_ok-_is_new) → c.insert.new.self.keys ≡ c.self.inside.exprs.keys ++ c.args.expr.now ∷ []
+pushed c =
+    let absent = rw (← c.self.view_is) at c.requires in
+    c.in_ok-_is_new.ensures.keys
+    ∙ ap (insert_key expr.ghosts.eq c.self.inside.exprs.keys) c.in_ok-copy_of.ensures.same
+    ∙ insert_key-absent expr.ghosts.eq exprs_decided c.self.inside.exprs.keys c.args.expr.now absent
+
+pub invariant_of-self-2 : goal.invariant_of-self-2
+invariant_of-self-2 c =
+    short_pushed c.self.inside.exprs.keys _ c.args.expr.now (rw (← c.len.ensures.len) c.in-Some.ensures.small) (pushed c)
+
+pub returns-clause-number : goal.returns-clause-number
+returns-clause-number c = c.in-Some.ensures.same ∙ c.len.ensures.len ∙ ap length c.self.view_is
 
 pub returns-clause-added : goal.returns-clause-added
-returns-clause-added c =
-    let absent = rw (← c.self.view_is) at c.requires in
-    rw (← c.self.view_is)
-    (c.in_ok-_is_new.ensures.keys
-    ∙ ap (insert_key expr.ghosts.eq c.self.inside.exprs.keys) c.in_ok-copy_of.ensures.same
-    ∙ insert_key-absent expr.ghosts.eq exprs_decided c.self.inside.exprs.keys c.args.expr.now absent)
+returns-clause-added c = rw (← c.self.view_is) (pushed c)

@@ -1,6 +1,7 @@
 use Rattle.std.proofs.Common.{◌<◌, ap, arith, refl, length}
 use Rattle.cred_graph.specs.NodeLists.{list_at}
 use Rattle.cred_graph.proofs.ListenerLemmas.{far_kept, far_same, far_added}
+use Rattle.cred_graph.proofs.Lists.{on_err}
 use Rattle.cred_graph.proofs.SolutionLemmas.{members_same}
 use Rattle.cred_graph.proofs.tables.Tables.push_listener.Goals as goal
 
@@ -28,3 +29,19 @@ invariant_of-self-2 c =
       far_added c.self.inside.rows.0 _ c.self.inside.far.keys _ _ c.args.n c.args.listening c.self.invariant.0 absent full c.in_ok-add_listener.ensures.added c.in_ok-reserve.ensures.keys (rw c.unwrap-is_new.ensures at c.insert.ensures.keys),
       members_same c.self.inside.reasons.entries _ c.self.inside.rows.1 _ c.self.invariant.1 refl c.in_ok-add_listener.ensures.members,
     )
+
+pub returns-then-listeners-lt-NEAR-clause-added : goal.returns-then-listeners-lt-NEAR-clause-added
+returns-then-listeners-lt-NEAR-clause-added c = rw (← c.self.view_is) c.add_listener.ensures.added
+
+pub returns-then-listeners-lt-NEAR-clause-unchanged : goal.returns-then-listeners-lt-NEAR-clause-unchanged
+returns-then-listeners-lt-NEAR-clause-unchanged c = rw (← c.self.view_is) c.add_listener.ensures.unchanged
+
+pub returns-in_err-reserve-clause-unchanged : goal.returns-in_err-reserve-clause-unchanged
+returns-in_err-reserve-clause-unchanged c = rw (← c.self.view_is) (on_err c.from_residual.result (λ m. refl))
+
+pub returns-in_err-add_listener-clause-unchanged : goal.returns-in_err-add_listener-clause-unchanged
+returns-in_err-add_listener-clause-unchanged c =
+    rw (← c.self.view_is) (on_err c.from_residual-in_err-add_listener.result c.in_err-add_listener.ensures.unchanged)
+
+pub returns-clause-added : goal.returns-clause-added
+returns-clause-added c = rw (← c.self.view_is) c.in_ok-add_listener.ensures.added

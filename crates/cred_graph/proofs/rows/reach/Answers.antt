@@ -1,0 +1,9 @@
+use Rattle.cred_graph.specs.declared.rows.Row.{Row}
+use Rattle.cred_graph.proofs.RowLemmas.{row_made}
+use Rattle.cred_graph.proofs.rows.reach.Goals as goal
+
+pub loop-alloc-preserved : goal.loop-alloc-preserved
+loop-alloc-preserved c = record {
+  listeners = row_made (λ (r : Row). r.listeners.items) c.args.rows.now.items c.loop-alloc.rows.items _ _ c.loop-alloc.invariant.listeners c.in_ok-push.ensures.items c.new.ensures.items;
+  members = row_made (λ (r : Row). r.members.items) c.args.rows.now.items c.loop-alloc.rows.items _ _ c.loop-alloc.invariant.members c.in_ok-push.ensures.items c.new-in-loop-alloc.ensures.items;
+}
