@@ -9,7 +9,6 @@
 mod graphs;
 mod listeners;
 mod nodes;
-mod numbers;
 mod ports;
 mod reasons;
 mod rooms;

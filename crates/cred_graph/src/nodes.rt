@@ -3,13 +3,15 @@ ghost use Rattle.credential_text.specs.declared.exprs.Expr.{Expr};
 ghost use Rattle.credential_text.specs.declared.exprs.Expr.TheVariants as exprs;
 ghost use Rattle.credential_text.specs.Expr.{HasPartsInRange};
 
-use crate::numbers::short;
 use crate::rooms::{is_mostly_spare, is_worth_keeping};
 use credential_text::Expr;
 use indexmap::IndexSet;
 use names::Entity;
 use std::alloc::{AllocError, Global};
 use std::marker::Model;
+
+/// So many nodes have numbers of 32 bits.
+const MOST: usize = 1 << 32;
 
 /// The expressions of the nodes, each once and by its node's number, which has 32 bits.
 pub struct Nodes {
@@ -98,11 +100,12 @@ impl Nodes {
         ensures range { OnOk result (HasPartsInRange expr.now) }
         ensures unchanged { OnErr result (self.new ≡ self.old) }
     {
-        let Some(number) = short(self.exprs.len() as u64) else {
+        let number = self.exprs.len();
+        if number >= MOST {
             return Err(AllocError);
-        };
+        }
         let _is_new = self.exprs.insert(copy_of(expr)?)?;
-        Ok(number)
+        Ok(number as u32)
     }
 
     /// The expression of the node.

@@ -21,10 +21,10 @@ pushed c =
 
 pub invariant_of-self-2 : goal.invariant_of-self-2
 invariant_of-self-2 c =
-    short_pushed c.self.inside.exprs.keys _ c.args.expr.now (rw (← c.len.ensures.len) c.in-Some.ensures.small) (pushed c)
+    short_pushed c.self.inside.exprs.keys _ c.args.expr.now (rw (← c.len-number.ensures.len) c.if-number-ge-MOST.false) (pushed c)
 
 pub returns-clause-number : goal.returns-clause-number
-returns-clause-number c = c.in-Some.ensures.same ∙ c.len.ensures.len ∙ ap length c.self.view_is
+returns-clause-number c = c.len-number.ensures.len ∙ ap length c.self.view_is
 
 pub returns-clause-added : goal.returns-clause-added
 returns-clause-added c = rw (← c.self.view_is) (pushed c)
