@@ -1,4 +1,5 @@
-use Rattle.std.proofs.Common.{refl}
+use Rattle.std.proofs.Common.{ap, refl}
+use Rattle.cred_graph.specs.Stored.{graph_as}
 use Rattle.cred_graph.proofs.Lists.{on_err}
 use Rattle.cred_graph.proofs.StoredLemmas.{node_given, node_stands, node_stored}
 use Rattle.cred_graph.proofs.graphs.Graph.node_of.Goals as goal
@@ -30,3 +31,13 @@ returns-in-Some-clause-graph c = c.in-Some.ensures.graph
 
 pub returns-in_err-n-clause-growth : goal.returns-in_err-n-clause-growth
 returns-in_err-n-clause-growth c = on_err c.from_residual.result c.in_default.ensures.node
+
+pub invariant_of-self : goal.invariant_of-self
+invariant_of-self c = rw c.in_err-n.ensures.unchanged c.self.invariant
+
+pub returns-in_err-n-clause-graph : goal.returns-in_err-n-clause-graph
+returns-in_err-n-clause-graph c = rw c.in_err-n.ensures.unchanged c.self.invariant.graph
+
+pub returns-in_err-n-clause-unchanged : goal.returns-in_err-n-clause-unchanged
+returns-in_err-n-clause-unchanged c =
+    rw (← c.self.view_is) (on_err c.from_residual.result (ap (λ nodes. graph_as nodes c.self.inside.strangers c.self.inside.tables.0 c.self.inside.tables.1) c.in_err-n.ensures.unchanged))
