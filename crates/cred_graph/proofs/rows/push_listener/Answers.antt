@@ -1,7 +1,7 @@
-use Rattle.std.proofs.Common.{ap}
+use Rattle.std.proofs.Common.{◌∙◌, ap}
 use Rattle.std.proofs.Math.Seq.{map-set_same}
 use Rattle.cred_graph.specs.declared.rows.Row.{Row}
-use Rattle.cred_graph.proofs.Lists.{map-pushed_at}
+use Rattle.cred_graph.proofs.Lists.{map-pushed_at, on_err}
 use Rattle.cred_graph.proofs.rows.push_listener.Goals as goal
 
 pub returns-clause-added : goal.returns-clause-added
@@ -10,4 +10,13 @@ returns-clause-added c =
 
 pub returns-clause-members : goal.returns-clause-members
 returns-clause-members c =
+    map-set_same (λ (r : Row). r.members.items) c.args.rows.now.items c.args.n (record { listeners = c.push.new.self; members = c.index_mut.result.now.members }) c.index_mut.result.now (ap (λ (r : Row). r.members.items) c.index_mut.ensures.value)
+
+pub returns-in_err-push-clause-unchanged : goal.returns-in_err-push-clause-unchanged
+returns-in_err-push-clause-unchanged c =
+    let same = ap (λ v. v.items) c.in_err-push.ensures.err ∙ ap (λ (r : Row). r.listeners.items) c.index_mut.ensures.value in
+    on_err c.from_residual.result (map-set_same (λ (r : Row). r.listeners.items) c.args.rows.now.items c.args.n (record { listeners = c.push.new.self; members = c.index_mut.result.now.members }) c.index_mut.result.now same)
+
+pub returns-in_err-push-clause-members : goal.returns-in_err-push-clause-members
+returns-in_err-push-clause-members c =
     map-set_same (λ (r : Row). r.members.items) c.args.rows.now.items c.args.n (record { listeners = c.push.new.self; members = c.index_mut.result.now.members }) c.index_mut.result.now (ap (λ (r : Row). r.members.items) c.index_mut.ensures.value)

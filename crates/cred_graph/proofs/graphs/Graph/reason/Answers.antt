@@ -1,5 +1,5 @@
 use Rattle.cred_graph.proofs.Found.{found_earlier}
-use Rattle.cred_graph.proofs.ReadLemmas.{no_such_entity, no_such_solution, reason_read}
+use Rattle.cred_graph.proofs.ReadLemmas.{no_such_node, no_such_entity, no_such_solution, reason_read}
 use Rattle.cred_graph.proofs.graphs.Graph.reason.Goals as goal
 
 pub returns-in_default-entity_number-clause-found : goal.returns-in_default-entity_number-clause-found
@@ -23,3 +23,7 @@ pub returns-in-None-clause-found : goal.returns-in-None-clause-found
 returns-in-None-clause-found c =
     rw (← c.self.view_is)
     (no_such_solution c.self.inside.nodes c.self.inside.strangers c.self.inside.tables.0 c.self.inside.tables.1 c.args.n c.in-Some.node c.in-Some-entity_number.number c.args.who.now c.self.invariant c.in-Some.ensures c.in-Some-entity_number.ensures c.in-None.ensures)
+
+pub returns-in_default-clause-found : goal.returns-in_default-clause-found
+returns-in_default-clause-found c =
+    rw (← c.self.view_is) (no_such_node c.self.inside.nodes c.self.inside.strangers c.self.inside.tables.0 c.self.inside.tables.1 c.args.n c.args.who.now c.self.invariant c.in_default.ensures)
