@@ -1,5 +1,5 @@
 -- What sets of keys hear, whose equality is exact.
-use Rattle.std.proofs.Common.{◌≡◌, Bool, true, false, cond, Some, Result, Ok, Err, OnErr, List, [], ◌∷◌, ◌++◌, ◌||◌, inl, inr, Contains, refl, sym, ap, subst, ◌∙◌, not, if◌then◌else◌, true≢false, append-nil, append_assoc, arith}
+use Rattle.std.proofs.Common.{◌≡◌, Bool, true, false, cond, Some, List, [], ◌∷◌, ◌++◌, ◌||◌, inl, inr, Contains, refl, sym, ap, subst, ◌∙◌, not, if◌then◌else◌, true≢false, append-nil, append_assoc, arith}
 use Rattle.std.specs.Cmp.{IsEquivalence}
 use Rattle.std.specs.List.{list_any}
 use Rattle.std.specs.Map.{lookup_key}
@@ -8,11 +8,6 @@ use Rattle.std.proofs.lemmas.Option.{same_Some}
 use Rattle.std.proofs.lemmas.Map.Views.{list_any-from_Contains, Contains-from_any}
 use Rattle.indexmap.specs.IndexSet.{insert_key}
 use Rattle.monitors.specs.LinkMonitor.{AddsKey}
-
--- what holds holds where a call failed
-pub on_err : {T E P : Type 0} (r : Result T E) → P → OnErr r P
-on_err (Ok x) p = tt
-on_err (Err e) p = p
 
 module _ {K : Type 0} (eq : K → K → Bool) (laws : IsEquivalence eq) (exact : (x y : K) → eq x y ≡ true → x ≡ y) where
   -- the key that is found is the one that was sought
@@ -76,3 +71,8 @@ module _ {K : Type 0} (eq : K → K → Bool) (laws : IsEquivalence eq) (exact :
 pub now_told : {K : Type 0} (keys after : List K) (key : K) (new : Bool) → AddsKey (λ keys. keys) keys after key new → Contains after key
 now_told keys after key true (absent, is) = subst (λ keys. Contains keys key) (sym is) (Contains-push keys key)
 now_told keys after key false (there, is) = subst (λ keys. Contains keys key) (sym is) there
+
+-- what holds the keys hears of it as they do
+pub held : {K S : Type 0} (holding : List K → S) (keys after : List K) (key : K) (new : Bool) → AddsKey (λ keys. keys) keys after key new → AddsKey holding keys (holding after) key new
+held holding keys after key true (absent, is) = (absent, ap holding is)
+held holding keys after key false (there, is) = (there, ap holding is)

@@ -1,11 +1,11 @@
 -- The entity's line is the old one and the part, wherever it is written.
-use Rattle.std.proofs.Common.{rules, ◌≡◌, [], ◌∷◌, Option, None, Some, IfSome, MatchOption, ℕ, List, ap, refl, sym, subst, ◌∙◌, false, Contains, slice_get}
+use Rattle.std.proofs.Common.{◌≡◌, [], ◌∷◌, Option, None, Some, IfSome, MatchOption, ℕ, List, ap, refl, sym, subst, ◌∙◌, false, Contains, slice_get}
 use Rattle.std.specs.Map.{keys_of}
 use Rattle.std.proofs.lemmas.List.Elements.{Contains-append_right}
+use Rattle.std.proofs.lemmas.Result.{err_from_is_err_and}
 use Rattle.monitors.specs.declared.tellers.Tellers.{Tellers}
 use Rattle.monitors.specs.MeetMonitor.{MeetLines, HearsByName}
 use Rattle.monitors.proofs.ByKey.{heard_already, heard_new, never_heard, still_known, table_still}
-use Rattle.monitors.proofs.KeyLemmas.{on_err}
 use Rattle.monitors.proofs.meet_tables.MeetTable.part_told.Goals as goal
 
 pub returns-then-has : goal.returns-then-has
@@ -34,13 +34,14 @@ pub returns-in_err-write_line : goal.returns-in_err-write_line
 returns-in_err-write_line g c =
     let same = c.in_err-write_line.ensures.unchanged in
     let is = ap (λ lines. record { parts = c.self.inside.parts; lines = lines }) same ∙ c.self.view_is in
-    record {
-      ok = search rules;
+    let p = err_from_is_err_and c.from_residual.result c.from_residual.ensures.1 in
+    rw p.1 (record {
+      ok = tt;
       keys = rw (← c.self.view_is) (record { known = λ k there. Contains-append_right (c.args.who ∷ []) (keys_of c.self.inside.told.entries) k (subst (λ es. Contains (keys_of es) k) same there) });
       parts = ap (λ (m : MeetLines g.row.K.Denot). m.parts) is;
-      growth = on_err c.from_residual.result (rw (← c.self.view_is) (never_heard g.K.PartialEq.eq g.met.K.Eq.laws g.met.K.Key.exact c.self.inside.parts c.self.inside.told.entries c.self.invariant c.args.part c.args.who c.line_of-place.result.1 c.line_of-place.ensures.tellers (sym c.has.ensures ∙ c.if-has.false)));
-      unchanged = on_err c.from_residual.result is;
-    }
+      growth = rw (← c.self.view_is) (never_heard g.K.PartialEq.eq g.met.K.Eq.laws g.met.K.Key.exact c.self.inside.parts c.self.inside.told.entries c.self.invariant c.args.part c.args.who c.line_of-place.result.1 c.line_of-place.ensures.tellers (sym c.has.ensures ∙ c.if-has.false));
+      unchanged = is;
+    })
 
 pub invariant_of-self-2 : goal.invariant_of-self-2
 invariant_of-self-2 g c =
