@@ -1,13 +1,15 @@
 -- Letters of a batch: which they are, how they are taken in a row, and how they are handed in.
 use Rattle.std.proofs.Common.{◌≡◌, ◌∙◌, ◌+◌, ◌++◌, ◌∷◌, ◌<◌, ◌≤◌, ℕ, Bool, true, false, List, [], length, map, get_or, take, ap, sym, subst, refl, inl, inr, arith, None, Some, Option, option_map, if◌then◌else◌}
 use Rattle.std.specs.Prelude.{slice_get, slice_set}
+use Rattle.std.specs.List.{AllWithin}
 use Rattle.std.proofs.Math.Seq.{map-set_same}
 use Rattle.std.proofs.lemmas.Bool.{cases_eq}
 use Rattle.std.proofs.lemmas.List.{map_more, length-map, length-set, get_or-set_same, get_or-set_other}
 use Rattle.std.proofs.lemmas.List.Elements.{All-map}
-use Rattle.std.proofs.lemmas.Option.{slice_get-map}
+use Rattle.std.proofs.lemmas.Option.{same_Some, slice_get-map}
 use Rattle.search.specs.declared.batches.HeldLetter.{HeldLetter}
 use Rattle.search.specs.declared.batches.NamedSearch.{NamedSearch}
+use Rattle.search.specs.declared.outcomes.CarriedOn.{CarriedOn}
 use Rattle.search.specs.declared.queries.Hint.{Hint}
 use Rattle.scholten_core.specs.declared.letters.Letter.{Letter}
 use Rattle.std.specs.Arc.{arc_value}
@@ -16,7 +18,7 @@ use Rattle.search.specs.Net.{Said}
 use Rattle.search.specs.Stage.{held_in, stage_marked}
 use Rattle.search.specs.Search.{SearchState}
 use Rattle.search.specs.Batches.{TakenLetter, BatchState, IsBatch, IsLookedUp, IsLookedUpIn, IsNextLetter, AreOf, name_of, taken_of, letters_of}
-use Rattle.search.specs.Batches.{MakesStep, WorksOn, HandsInAs, HandsInEach, PutsBack}
+use Rattle.search.specs.Batches.{MakesStep, WorksOn, HandsInAs, HandsInEach, PutsBack, GoesOn, CarriesOn}
 
 -- what a batch of these fields is
 abbrev pub batch : Option NamedSearch → List HeldLetter → ℕ → ℕ → BatchState
@@ -65,6 +67,33 @@ module _ (of : NamedSearch) (es : List HeldLetter) (looked room : ℕ) (e : Held
       | inr other ↦ subst (IsLookedUpIn of) (sym (get_or-set_other es looked k (record e { hint = hint }) d other)) (is.1 k d first (omega (arith, below, other)))
     ],
   )
+
+pub no_letters : (es : List HeldLetter) → length es ≡ 0 → es ≡ []
+no_letters [] none = refl
+no_letters (e ∷ es) none = absurd (omega arith)
+
+-- the letters of a search, and what is said of them by a batch that has them
+module _ (of : NamedSearch) (o : Option NamedSearch) (es : List HeldLetter) (looked room : ℕ) (b : BatchState) (is : batch o es looked room ≡ b) (some : o ≡ Some of) where
+  pub its_letters : map (taken_of of) es ≡ b.letters
+  its_letters = ap (λ (x : Option NamedSearch). letters_of x es) (sym some) ∙ ap (λ (x : BatchState). x.letters) is
+
+  pub all_looked_up : IsBatch o es looked → IsLookedUp b → AllWithin (IsLookedUpIn of) es 0 (length es)
+  all_looked_up kept all =
+      let inside = subst (λ (x : Option NamedSearch). IsBatch x es looked) some kept in
+      let every : looked ≡ length es = ap (λ (x : BatchState). x.looked) is ∙ all ∙ ap length (sym its_letters) ∙ length-map es (taken_of of) in
+      subst (AllWithin (IsLookedUpIn of) es 0) every inside.1
+
+  -- what is done to the search of its letters is done by the batch's name
+  pub carries_on : (most : ℕ) (s middle t : SearchState) (c : CarriedOn) (read : List HeldLetter) (letters : List TakenLetter) → read ≡ es →
+      HandsInEach of.who of.number false s (map (taken_of of) read) c.finished middle → GoesOn of.who of.number most middle c.went t letters →
+      (who : List ℕ) (k : ℕ) → b.of ≡ Some (who, k) → CarriesOn who k most s b.letters c t letters
+  carries_on most s middle t c read letters reads hands goes who k named =
+      let same = ap (option_map name_of) (sym some) ∙ ap (λ (x : BatchState). x.of) is ∙ named in
+      subst (λ (n : List ℕ × ℕ). CarriesOn n.0 n.1 most s b.letters c t letters) (same_Some (name_of of) (who, k) same) (
+        middle,
+        subst (λ (ls : List TakenLetter). HandsInEach of.who of.number false s ls c.finished middle) (ap (map (taken_of of)) reads ∙ its_letters) hands,
+        goes,
+      )
 
 -- by what the search answered
 pub puts_back : (s t : SearchState) (number : ℕ) (back : Bool) → (back ≡ false → held_in s.stage number ≡ None) → (back ≡ false → t ≡ s) →

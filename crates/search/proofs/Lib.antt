@@ -1,3 +1,4 @@
+pub mod Cleared
 pub mod Grow
 pub mod Settled
 pub mod Kept

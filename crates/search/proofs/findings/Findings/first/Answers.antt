@@ -9,6 +9,7 @@ use Rattle.search.specs.declared.findings.NumberedMonitor.TheVariants.{Plain}
 use Rattle.search.specs.declared.letters.Load.{Load}
 use Rattle.search.specs.Numbered.{AreLoads, AreMonitors, IsLoad, IsMonitor, load_at, monitor_at, progress_at}
 use Rattle.search.specs.Answers.{Progress, progress}
+use Rattle.search.proofs.Cleared.{no_outs, nothing_of}
 use Rattle.search.proofs.findings.Findings.first.Goals as goal
 use Rattle.search.proofs.findings.Findings.first.Goals.{In_ok-push}
 
@@ -19,10 +20,6 @@ first_node old new e (n, false) none given = let clash : None ≡ Some e = subst
 nobody : (n : ℕ) (l : Listening) → Contains (list_at ([] ∷ []) n) l → ⊥
 nobody zero l there = omega (arith, there.1)
 nobody (suc n) l there = omega (arith, there.1)
-
-nothing_of : {A : Type 0} {B : Type 0} (f : A → B) (xs : List A) → map f xs ≡ [] → xs ≡ []
-nothing_of f [] is = refl
-nothing_of f (x ∷ xs) is = let clash : f x ∷ map f xs ≡ [] = is in cc
 
 -- where it begins nothing is found
 begins : (c : In_ok-push) → progress_at c.self.inside.graph c.self.inside.monitors.items c.self.inside.outs.items ≡ progress empty_graph [] []
@@ -36,7 +33,7 @@ one_monitor c = c.in_ok-push.ensures.items ∙ ap (λ ms. ms ++ Plain ∷ [])
     (nothing_of (monitor_at c.self.inside.graph.nodes) c.self.inside.monitors.items (ap (λ (s : Progress). s.monitors) (begins c)))
 
 no_letter : (c : In_ok-push) → c.self.inside.outs.items ≡ []
-no_letter c = nothing_of (λ (o : ℕ × Load ℕ). (o.0, load_at c.self.inside.graph.nodes o.1)) c.self.inside.outs.items (ap (λ (s : Progress). s.outs) (begins c))
+no_letter c = no_outs c.self.inside.graph c.self.inside.monitors.items c.self.inside.outs.items (progress empty_graph [] []) (begins c) refl
 
 pub returns-clause-found : goal.returns-clause-found
 returns-clause-found c =
