@@ -37,3 +37,16 @@ returns-then-engaged-gt1 c =
           (refl, get_or-set_same nodes c.args.node _ None within ∙ ap (option_map less) (engaged ∙ there));
       gone = λ e there one. absurd (omega (arith, one, ap count_of (engaged ∙ there), c.if-engaged-gt1.true));
     }
+
+pub overflow_sub-engaged : goal.overflow_sub-engaged
+overflow_sub-engaged c = omega (arith, c.if-engaged-gt1.true)
+
+pub index_mut-requires : goal.index_mut-requires
+index_mut-requires c =
+    let engaged : Some c.in_ok-engaged.engaged ≡ engagement_of c.args.nodes.now.items c.args.node = sym c.in_ok-engaged.was ∙ c.engaged_at.ensures in
+    omega (arith, engaged_within c.args.nodes.now.items c.args.node c.in_ok-engaged.engaged engaged, c.args.nodes.now.ok.0)
+
+pub index_mut-requires-2 : goal.index_mut-requires-2
+index_mut-requires-2 c =
+    let engaged : Some c.in_ok-engaged.engaged ≡ engagement_of c.args.nodes.now.items c.args.node = sym c.in_ok-engaged.was ∙ c.engaged_at.ensures in
+    omega (arith, engaged_within c.args.nodes.now.items c.args.node c.in_ok-engaged.engaged engaged, c.args.nodes.now.ok.0)

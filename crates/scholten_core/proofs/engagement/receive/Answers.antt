@@ -3,7 +3,7 @@ use Rattle.std.proofs.lemmas.List.{get_or-set_other, get_or-set_same}
 use Rattle.std.proofs.lemmas.Option.{none-some}
 use Rattle.scholten_core.specs.declared.engagement.Engagement.{Engagement}
 use Rattle.scholten_core.specs.Kept.{engagement_of}
-use Rattle.scholten_core.proofs.Paid.{engaged_within}
+use Rattle.scholten_core.proofs.Paid.{engaged_within, count_of}
 use Rattle.scholten_core.proofs.engagement.receive.Goals as goal
 
 pub returns-in_err-make_place-clause-growth : goal.returns-in_err-make_place-clause-growth
@@ -54,3 +54,16 @@ returns-then-count-eq0-clause-received c =
       anew = λ none some. absurd (omega (arith, some, c.if-count-eq0.true));
       idle = λ none nothing. (refl, none);
     }
+
+pub overflow_add-engaged : goal.overflow_add-engaged
+overflow_add-engaged c =
+    let found : Some c.in-Some.engaged ≡ engagement_of c.args.nodes.now.items c.args.to = sym c.in-Some.is ∙ c.engaged_at.ensures in
+    omega (arith, c.requires, ap count_of found)
+
+pub index_mut-requires : goal.index_mut-requires
+index_mut-requires c =
+    let found : Some c.in-Some.engaged ≡ engagement_of c.args.nodes.now.items c.args.to = sym c.in-Some.is ∙ c.engaged_at.ensures in
+    omega (arith, engaged_within c.args.nodes.now.items c.args.to c.in-Some.engaged found, c.args.nodes.now.ok.0)
+
+pub index_mut-requires-2 : goal.index_mut-requires-2
+index_mut-requires-2 c = c.in_ok-make_place.ensures.place

@@ -8,6 +8,7 @@ use Rattle.scholten_core.proofs.Complete.{sound}
 use Rattle.scholten_core.proofs.Fields.{unchanged_kept}
 use Rattle.scholten_core.proofs.Finished.{IsFinishedIn, finished_fields}
 use Rattle.scholten_core.proofs.Steps.{deficit-le-outstanding}
+use Rattle.scholten_core.specs.Computation.{IsHeldIn}
 use Rattle.scholten_core.proofs.diffusions.Diffusion.finish_with.Given.{Over}
 use Rattle.scholten_core.proofs.diffusions.Diffusion.finish_with.Goals as goal
 use Rattle.scholten_core.proofs.diffusions.Diffusion.finish_with.Goals.{After-send}
@@ -97,3 +98,28 @@ returns g c = record {
   kept = tt;
   sound = sound _ (invariant_of-self-2 g c).settled;
 }
+
+pub invariant_of-self : goal.invariant_of-self
+invariant_of-self g c =
+    unchanged_kept c.self.inside.letters c.reserve.new.self c.self.inside.signals.items c.self.inside.signals.items c.self.inside.environment c.self.inside.nodes.items c.self.inside.nodes.items c.reserve.ensures.letters c.reserve.ensures.sent refl refl c.self.invariant
+
+pub invariant_of-self-in_err-reserve-2 : goal.invariant_of-self-in_err-reserve-2
+invariant_of-self-in_err-reserve-2 g c =
+    unchanged_kept c.self.inside.letters c.reserve.new.self c.self.inside.signals.items c.reserve-2.new.self.items c.self.inside.environment c.self.inside.nodes.items c.self.inside.nodes.items c.reserve.ensures.letters c.reserve.ensures.sent c.reserve-2.ensures.items refl c.self.invariant
+
+pub put-requires : goal.put-requires
+put-requires g c = omega (arith, c.in_ok-reserve-2.ensures.ok)
+
+pub finish-requires : goal.finish-requires
+finish-requires g c =
+    let held = rw (← c.self.view_is) at c.requires.held in
+    subst (λ letters. IsHeldIn letters c.args.number) (sym c.reserve.ensures.letters) held
+
+pub send-requires : goal.send-requires
+send-requires g c =
+    let room = rw (← c.self.view_is) at c.requires.room in
+    record {
+      room = omega (arith, c.in_ok-reserve.ensures.room, c.len.ensures, c.finish.ensures.room);
+      numbers = omega (arith, room, c.finish.ensures.sent, c.reserve.ensures.sent);
+      from = refl;
+    }

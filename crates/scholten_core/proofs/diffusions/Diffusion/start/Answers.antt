@@ -1,9 +1,10 @@
-use Rattle.std.proofs.Common.{◌≡◌, ◌+◌, ◌++◌, [], ◌∷◌, false, sym, ap, ◌∙◌, subst}
+use Rattle.std.proofs.Common.{◌≡◌, ◌+◌, ◌++◌, [], ◌∷◌, false, sym, ap, ◌∙◌, subst, refl, arith}
 use Rattle.scholten_core.specs.declared.parents.Parent.TheVariants.{Environment}
 use Rattle.scholten_core.specs.Kept.{IsKept, engagements, held_in}
 use Rattle.scholten_core.specs.Step.{started}
 use Rattle.scholten_core.proofs.Complete.{sound}
 use Rattle.scholten_core.proofs.Fields.{started_kept}
+use Rattle.std.proofs.lemmas.Result.{err_from_is_err_and}
 use Rattle.scholten_core.proofs.diffusions.Diffusion.start.Given.{Over}
 use Rattle.scholten_core.proofs.diffusions.Diffusion.start.Goals as goal
 use Rattle.scholten_core.proofs.diffusions.Diffusion.start.Goals.{After-new-3}
@@ -25,3 +26,11 @@ invariant_of-result g c =
 
 pub returns-clause-sound : goal.returns-clause-sound
 returns-clause-sound g c = sound _ (invariant_of-result g c).settled
+
+pub returns-in_err-letters : goal.returns-in_err-letters
+returns-in_err-letters g c =
+    let p = err_from_is_err_and c.from_residual.result c.from_residual.ensures.1 in
+    rw p.1 (record { started = tt; sound = tt })
+
+pub push-requires : goal.push-requires
+push-requires g c = record { room = c.in_ok-letters.ensures.room; numbers = omega (arith, c.in_ok-letters.ensures.sent); waits = refl; from = refl }

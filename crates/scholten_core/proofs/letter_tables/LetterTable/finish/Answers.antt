@@ -53,3 +53,7 @@ returns-then-behind-len-clause-letters g c =
 pub returns-else-behind-len-clause-letters : goal.returns-else-behind-len-clause-letters
 returns-else-behind-len-clause-letters g c =
     rw (← c.self.view_is) (gone g (goal.at.returns-else-behind-len-clause-letters g c).After-empty)
+
+pub pair_mut-slot-requires : goal.pair_mut-slot-requires
+pair_mut-slot-requires g c =
+    key_within c.args.number c.self.inside.letters.entries c.unwrap-at.result (rw c.unwrap-at.ensures at c.place_of.ensures)

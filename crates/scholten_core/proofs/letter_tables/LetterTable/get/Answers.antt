@@ -1,5 +1,5 @@
 use Rattle.std.proofs.Common.{option_copied, ap, ◌∙◌}
-use Rattle.scholten_core.proofs.Standing.{letter_absent, letter_there}
+use Rattle.scholten_core.proofs.Standing.{letter_absent, letter_there, key_within}
 use Rattle.scholten_core.proofs.letter_tables.LetterTable.get.Goals as goal
 
 pub returns-in_err-at : goal.returns-in_err-at
@@ -9,3 +9,7 @@ returns-in_err-at g c =
 pub returns : goal.returns
 returns g c =
     rw (← c.self.view_is) (c.letter.ensures ∙ letter_there c.self.inside.sent c.args.number c.in_ok-at.at c.self.inside.letters.entries c.index.result.now c.self.invariant.numbers c.in_ok-at.ensures c.index.ensures)
+
+pub index-requires : goal.index-requires
+index-requires g c =
+    key_within c.args.number c.self.inside.letters.entries c.in_ok-at.at c.in_ok-at.ensures

@@ -1,6 +1,7 @@
-use Rattle.std.proofs.Common.{◌≡◌, ℕ, ◌++◌, [], ◌∷◌, None, sym, ◌∙◌, arith}
+use Rattle.std.proofs.Common.{◌≡◌, ℕ, ◌++◌, [], ◌∷◌, None, sym, ◌∙◌, arith, ap, subst, length, ◌≤◌, length-append}
 use Rattle.scholten_core.proofs.Counts.{popped_hole}
-use Rattle.scholten_core.proofs.Tables.{holes-popped, numbered-popped, standing-popped, take-popped, waits-popped}
+use Rattle.scholten_core.proofs.Tables.{holes-popped, numbered-popped, standing-popped, take-popped, waits-popped, cut_ends}
+use Rattle.indexmap.specs.IndexMap.{spare}
 use Rattle.scholten_core.proofs.letter_tables.LetterTable.pop_holes.Given.{Over}
 use Rattle.scholten_core.proofs.letter_tables.LetterTable.pop_holes.Goals as goal
 use Rattle.scholten_core.proofs.letter_tables.LetterTable.pop_holes.Goals.{After-pop}
@@ -29,3 +30,32 @@ loop-self-preserved g c =
       before = take-popped _ _ hole.0 hole.1 _ ∙ before.before;
       all = take-popped _ _ hole.0 hole.1 _ ∙ before.all;
     }
+
+pub loop-self-init : goal.loop-self-init
+loop-self-init g c = record {
+  letters = ap (λ s. s.letters) c.self.view_is;
+  sent = ap (λ s. s.sent) c.self.view_is;
+  room = subst (λ n. n ≤ spare c.self.inside.letters) (ap (λ s. s.room) c.self.view_is) (omega arith);
+  numbers = c.self.invariant.numbers;
+  waiting = c.self.invariant.waiting;
+  gone = c.self.invariant.gone;
+  before = c.self.invariant.before;
+  all = c.self.invariant.all;
+}
+
+pub loop-self-smaller : goal.loop-self-smaller
+loop-self-smaller g c =
+    let hole = popped g (goal.at.loop-self-smaller g c).After-pop in
+    omega (arith, ap length hole.1 ∙ length-append c.pop.new.self.entries ((hole.0, None) ∷ []))
+
+pub invariant_of-self : goal.invariant_of-self
+invariant_of-self g c =
+    let kept = c.loop-self.invariant in
+    rw (c.min-self-inside.ensures, c.min-self-inside-2.ensures, c.len.ensures.len, c.len-2.ensures.len) (cut_ends _ _ _ c.loop-self.self-inside.first c.loop-self.self-inside.last c.loop-self.self-inside.letters.entries kept.numbers kept.waiting kept.gone kept.before kept.all)
+
+pub returns : goal.returns
+returns g c = record {
+  letters = c.loop-self.invariant.letters;
+  sent = c.loop-self.invariant.sent;
+  room = c.loop-self.invariant.room;
+}

@@ -31,3 +31,8 @@ returns-clause-letters g c =
     ap standing (added g after)
     ∙ standing-append c.self.inside.letters.entries ((c.self.inside.sent + 1, Some c.args.letter) ∷ [])
     ∙ ap (λ s. s.letters ++ (s.sent + 1, c.args.letter) ∷ []) c.self.view_is
+
+pub overflow_add-self : goal.overflow_add-self
+overflow_add-self g c =
+    let numbers = rw (← c.self.view_is) at c.requires.numbers in
+    omega (arith, numbers)

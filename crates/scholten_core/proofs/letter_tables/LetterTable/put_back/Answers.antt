@@ -51,3 +51,7 @@ returns-clause-letters g c =
     ap (λ w. standing (set_value_at c.self.inside.letters.entries c.unwrap-at.result w)) (written g after)
     ∙ standing-change (λ x. record x { held = false }) 0 c.self.inside.letters.entries c.self.inside.sent c.unwrap-at.result c.args.number one.letter c.self.invariant.numbers one.there
     ∙ ap (λ s. map (mark c.args.number false) s.letters) c.self.view_is
+
+pub pair_mut-slot-requires : goal.pair_mut-slot-requires
+pair_mut-slot-requires g c =
+    key_within c.args.number c.self.inside.letters.entries c.unwrap-at.result (rw c.unwrap-at.ensures at c.place_of.ensures)
