@@ -9,16 +9,21 @@ use Rattle.search.proofs.Batched.{batch, none_in}
 use Rattle.search.proofs.searches.Search.visit.Goals.{Joined-batch}
 use Rattle.search.proofs.searches.Search.visit.Goals as goal
 
-pub returns-in_err-clone-clause-visited : goal.returns-in_err-clone-clause-visited
-returns-in_err-clone-clause-visited c =
+pub returns-in_err-clone : goal.returns-in_err-clone
+returns-in_err-clone c =
     let p = err_from_is_err_and c.from_residual.result c.from_residual.ensures.1 in
     let none : 0 ≤ c.args.most = omega arith in
-    rw p.1 (
-      0,
-      none,
-      subst (λ (ls : List TakenLetter). WorksOn c.args.who c.args.number c.args.self.now 0 ls c.args.self.now) (sym c.requires.empty.0) WorksOn.nothing,
-      refl,
-    )
+    rw p.1 (record {
+      visited = (
+        0,
+        none,
+        subst (λ (ls : List TakenLetter). WorksOn c.args.who c.args.number c.args.self.now 0 ls c.args.self.now) (sym c.requires.empty.0) WorksOn.nothing,
+        refl,
+      );
+      bound = subst (λ (ls : List TakenLetter). length ls ≤ c.args.most) (sym c.requires.empty.0) none;
+      looked = c.requires.empty.1;
+      room = refl;
+    })
 
 abbrev of_search : (c : Joined-batch) → NamedSearch
 of_search c = record { who = c.args.who; number = c.args.number; snapshot = c.in_ok-clone.field-0 }
@@ -26,16 +31,16 @@ of_search c = record { who = c.args.who; number = c.args.number; snapshot = c.in
 is_batch : (c : Joined-batch) → c.match-batch.batch ≡ batch (Some (of_search c)) c.take_each.new.held_letters.items c.batch.inside.looked (vec_capacity c.take_each.new.held_letters)
 is_batch c = search rules
 
-pub returns-then-not-is_empty-clause-visited : goal.returns-then-not-is_empty-clause-visited
-returns-then-not-is_empty-clause-visited c =
-    subst (λ (b : BatchState). Visits c.args.who c.args.number c.args.most c.args.self.now true c.take_each.new.search b.letters) (sym (is_batch c)) c.take_each.ensures.visited
-
-pub returns-then-not-is_empty-clause-looked : goal.returns-then-not-is_empty-clause-looked
-returns-then-not-is_empty-clause-looked c = ap (λ (b : BatchState). b.looked) (is_batch c) ∙ ap (λ (b : BatchState). b.looked) c.batch.view_is ∙ c.requires.empty.1
-
-pub returns-then-not-is_empty-clause-room : goal.returns-then-not-is_empty-clause-room
-returns-then-not-is_empty-clause-room c =
-    ap (λ (b : BatchState). b.room) (is_batch c) ∙ c.take_each.ensures.capacity ∙ ap (λ (b : BatchState). b.room) c.batch.view_is
+pub returns-then-not-is_empty : goal.returns-then-not-is_empty
+returns-then-not-is_empty c =
+    record {
+      visited = subst (λ (b : BatchState). Visits c.args.who c.args.number c.args.most c.args.self.now true c.take_each.new.search b.letters) (sym (is_batch c)) c.take_each.ensures.visited;
+      bound =
+          let held = c.take_each.new.held_letters in
+          subst (λ (b : BatchState). length b.letters ≤ c.args.most) (sym (is_batch c)) (omega (arith, length-map held.items (taken_of (of_search c)), c.take_each.ensures.bound, held.ok.0));
+      looked = ap (λ (b : BatchState). b.looked) (is_batch c) ∙ ap (λ (b : BatchState). b.looked) c.batch.view_is ∙ c.requires.empty.1;
+      room = ap (λ (b : BatchState). b.room) (is_batch c) ∙ c.take_each.ensures.capacity ∙ ap (λ (b : BatchState). b.room) c.batch.view_is;
+    }
 
 -- no letters are the letters of any search
 none_are : (o : Option NamedSearch) (of : NamedSearch) (es : List HeldLetter) → length es ≡ 0 → letters_of o es ≡ map (taken_of of) es
@@ -44,18 +49,22 @@ none_are (Some other) of [] none = refl
 none_are None of (e ∷ es) none = absurd (omega arith)
 none_are (Some other) of (e ∷ es) none = absurd (omega arith)
 
-pub returns-else-not-is_empty-clause-visited : goal.returns-else-not-is_empty-clause-visited
-returns-else-not-is_empty-clause-visited c =
-    let held = c.take_each.new.held_letters in
-    let none : length held.items ≡ 0 = omega (arith, eqb-true (vec_len held) 0 (sym c.if-not-is_empty.ensures), held.ok.0) in
-    subst (λ (ls : List TakenLetter). Visits c.args.who c.args.number c.args.most c.args.self.now true c.take_each.new.search ls)
-    (sym (none_are c.batch.inside.of (record { who = c.args.who; number = c.args.number; snapshot = c.in_ok-clone.field-0 }) held.items none)) c.take_each.ensures.visited
-
-pub returns-else-not-is_empty-clause-looked : goal.returns-else-not-is_empty-clause-looked
-returns-else-not-is_empty-clause-looked c = ap (λ (b : BatchState). b.looked) c.batch.view_is ∙ c.requires.empty.1
-
-pub returns-else-not-is_empty-clause-room : goal.returns-else-not-is_empty-clause-room
-returns-else-not-is_empty-clause-room c = c.take_each.ensures.capacity ∙ ap (λ (b : BatchState). b.room) c.batch.view_is
+pub returns-else-not-is_empty : goal.returns-else-not-is_empty
+returns-else-not-is_empty c =
+    record {
+      visited =
+          let held = c.take_each.new.held_letters in
+          let none : length held.items ≡ 0 = omega (arith, eqb-true (vec_len held) 0 (sym c.if-not-is_empty.ensures), held.ok.0) in
+          subst (λ (ls : List TakenLetter). Visits c.args.who c.args.number c.args.most c.args.self.now true c.take_each.new.search ls)
+          (sym (none_are c.batch.inside.of (record { who = c.args.who; number = c.args.number; snapshot = c.in_ok-clone.field-0 }) held.items none)) c.take_each.ensures.visited;
+      bound =
+          let held = c.take_each.new.held_letters in
+          let none : length held.items ≡ 0 = omega (arith, eqb-true (vec_len held) 0 (sym c.if-not-is_empty.ensures), held.ok.0) in
+          let of : NamedSearch = record { who = c.args.who; number = c.args.number; snapshot = c.in_ok-clone.field-0 } in
+          subst (λ (ls : List TakenLetter). length ls ≤ c.args.most) (sym (none_are c.batch.inside.of of held.items none)) (omega (arith, length-map held.items (taken_of of), none));
+      looked = ap (λ (b : BatchState). b.looked) c.batch.view_is ∙ c.requires.empty.1;
+      room = c.take_each.ensures.capacity ∙ ap (λ (b : BatchState). b.room) c.batch.view_is;
+    }
 
 pub take_each-requires-clause-reads : goal.take_each-requires-clause-reads
 take_each-requires-clause-reads c = c.in_ok-clone.ensures.cases ∙ c.snapshot.ensures
@@ -65,18 +74,3 @@ take_each-requires-clause-empty c = none_in c.batch.inside.of c.batch.inside.hel
 
 pub take_each-requires-clause-space : goal.take_each-requires-clause-space
 take_each-requires-clause-space c = subst (λ (b : BatchState). c.args.most ≤ b.room) (sym c.batch.view_is) c.requires.space
-
-pub returns-then-not-is_empty-clause-bound : goal.returns-then-not-is_empty-clause-bound
-returns-then-not-is_empty-clause-bound c =
-    let held = c.take_each.new.held_letters in
-    subst (λ (b : BatchState). length b.letters ≤ c.args.most) (sym (is_batch c)) (omega (arith, length-map held.items (taken_of (of_search c)), c.take_each.ensures.bound, held.ok.0))
-
-pub returns-else-not-is_empty-clause-bound : goal.returns-else-not-is_empty-clause-bound
-returns-else-not-is_empty-clause-bound c =
-    let held = c.take_each.new.held_letters in
-    let none : length held.items ≡ 0 = omega (arith, eqb-true (vec_len held) 0 (sym c.if-not-is_empty.ensures), held.ok.0) in
-    let of : NamedSearch = record { who = c.args.who; number = c.args.number; snapshot = c.in_ok-clone.field-0 } in
-    subst (λ (ls : List TakenLetter). length ls ≤ c.args.most) (sym (none_are c.batch.inside.of of held.items none)) (omega (arith, length-map held.items (taken_of of), none))
-
-pub returns-in_err-clone-clause-bound : goal.returns-in_err-clone-clause-bound
-returns-in_err-clone-clause-bound c = subst (λ (ls : List TakenLetter). length ls ≤ c.args.most) (sym c.requires.empty.0) (omega arith)
