@@ -1,5 +1,5 @@
 -- What the set of bases hears is heard. Who was told nothing wasn't told this.
-use Rattle.std.proofs.Common.{◌≡◌, ◌∙◌, Bool, [], Contains, sym, ap, subst, arith}
+use Rattle.std.proofs.Common.{◌≡◌, ◌∙◌, Bool, Contains, sym, ap, subst, arith}
 use Rattle.std.proofs.lemmas.Result.{IfOk-weaker, on_err_weaker, err_from_is_err_and}
 use Rattle.monitors.specs.declared.link_monitors.LinkMemory.{LinkMemory}
 use Rattle.monitors.specs.declared.link_monitors.LinkMemory.TheVariants.{Untold}

@@ -1,4 +1,4 @@
-use Rattle.std.proofs.Common.{◌≡◌, ◌∙◌, ◌++◌, ◌∷◌, [], ℕ, zero, suc, Bool, true, false, None, Some, Contains, List, ap, map, refl, subst, arith, slice_get, sym}
+use Rattle.std.proofs.Common.{◌≡◌, ◌∙◌, ◌++◌, ◌∷◌, [], ℕ, zero, suc, Bool, true, false, None, Some, Contains, ap, refl, subst, arith, slice_get, sym}
 use Rattle.std.proofs.lemmas.List.Elements.{All-nil, All-push}
 use Rattle.credential_text.specs.declared.exprs.Expr.{Expr}
 use Rattle.credential_text.specs.declared.exprs.Expr.TheVariants.{Rol}
@@ -7,7 +7,7 @@ use Rattle.cred_graph.specs.Graph.{NodeGiven, GraphState, Listens, empty_graph}
 use Rattle.cred_graph.specs.NodeLists.{list_at}
 use Rattle.search.specs.declared.findings.NumberedMonitor.TheVariants.{Plain}
 use Rattle.search.specs.declared.letters.Load.{Load}
-use Rattle.search.specs.Numbered.{AreLoads, AreMonitors, IsLoad, IsMonitor, load_at, monitor_at, progress_at}
+use Rattle.search.specs.Numbered.{AreLoads, AreMonitors, IsLoad, IsMonitor, monitor_at, progress_at}
 use Rattle.search.specs.Answers.{Progress, progress}
 use Rattle.search.proofs.Cleared.{no_outs, nothing_of}
 use Rattle.search.proofs.findings.Findings.first.Goals as goal

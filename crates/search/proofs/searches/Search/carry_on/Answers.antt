@@ -1,9 +1,8 @@
-use Rattle.std.proofs.Common.{◌≡◌, ◌≤◌, ◌∙◌, [], List, ℕ, None, Some, length, map, vec_len, vec_capacity, refl, sym, ap, subst, arith, option_map}
+use Rattle.std.proofs.Common.{◌≡◌, ◌≤◌, ◌∙◌, [], List, ℕ, None, length, map, vec_len, vec_capacity, refl, sym, ap, subst, arith, option_map}
 use Rattle.std.specs.List.{AllWithin}
 use Rattle.std.proofs.lemmas.Bool.{eqb-true}
 use Rattle.std.proofs.lemmas.List.{length-map}
 use Rattle.search.specs.declared.batches.HeldLetter.{HeldLetter}
-use Rattle.search.specs.declared.batches.NamedSearch.{NamedSearch}
 use Rattle.search.specs.declared.outcomes.CarriedOn.{CarriedOn}
 use Rattle.search.specs.Batches.{BatchState, CarriesOn, GoesOn, IsLookedUpIn, name_of, taken_of}
 use Rattle.search.proofs.Batched.{batch, all_looked_up, carries_on, its_letters, no_letters}
