@@ -1,10 +1,12 @@
 -- A command is read in one way, but for want of memory.
-use Rattle.std.proofs.Common.{◌≡◌, ◌≢◌, ◌≤◌, ℕ, true, false, List, ◌∷◌, length, codes, refl, sym, subst, ◌∙◌, Option, Some, None, Result, Ok, Err, inl, inr}
+use Rattle.std.proofs.Common.{◌≡◌, ◌≢◌, ◌≤◌, ◌⊎◌, ℕ, true, false, List, ◌∷◌, length, codes, refl, sym, subst, ap, ◌∙◌, Option, Some, None, Result, Ok, Err, inl, inr}
 use Rattle.std.specs.Str.{bytes_eq}
 use Rattle.names.specs.declared.roles.Role.{Role}
 use Rattle.names.specs.Role.{SpellsRole}
 use Rattle.names.proofs.RoleLemmas.{name_faultless, role_faultless}
 use Rattle.credential_text.specs.declared.credentials.Credential.{Credential}
+use Rattle.credential_text.specs.declared.faults.CredFault.{CredFault}
+use Rattle.credential_text.specs.Refusal as credential
 use Rattle.credential_text.specs.Spelling.{Spells}
 use Rattle.credential_text.proofs.Readings.{role_texts_tell}
 use Rattle.credential_text.proofs.Refused.{refused_unless_spelled}
@@ -65,3 +67,22 @@ module _ (text verb rest : List ℕ) (c : Credential) (are : words text ≡ verb
 
   pub Reads-drop : false ≡ bytes_eq verb (codes "put") → true ≡ bytes_eq verb (codes "drop") → Reads (form_of text) (Ok (Request (Alter (Withdraw c))))
   Reads-drop put drops = rw (are, sym others, sym put, sym drops) (inl (c, spelled.0, spelled.1, refl))
+
+-- where it spells none, or memory lacks
+module _ (text verb rest : List ℕ) (are : words text ≡ verb ∷ words rest) (others : rest ≡ after_word text) (why : Refusal)
+    (refused : ((f : CredFault) × (credential.refusal rest ≡ Some f) × (why ≡ refusal.Credential f))
+    ⊎ ((credential.refusal rest ≡ None) × (why ≡ refusal.Memory))) where
+  pub Reads-put_refused : true ≡ bytes_eq verb (codes "put") → Reads (form_of text) (Err why)
+  Reads-put_refused put =
+      elim refused [
+        | inl is ↦ rw (are, sym others, sym put) (inr (inl (is.0, is.1, ap Err is.2)))
+        | inr is ↦ rw (are, sym others, sym put) (inr (inr (is.0, ap Err is.1)))
+      ]
+
+  pub Reads-drop_refused : false ≡ bytes_eq verb (codes "put") → true ≡ bytes_eq verb (codes "drop") →
+      Reads (form_of text) (Err why)
+  Reads-drop_refused put drops =
+      elim refused [
+        | inl is ↦ rw (are, sym others, sym put, sym drops) (inr (inl (is.0, is.1, ap Err is.2)))
+        | inr is ↦ rw (are, sym others, sym put, sym drops) (inr (inr (is.0, ap Err is.1)))
+      ]

@@ -15,7 +15,6 @@ use vaults::Change;
 /// What a tenant may say.
 #[derive(Drop)]
 pub(crate) enum Command {
-    /// Ask the hall.
     Request(Request),
     /// Wait for the answer of the search with this number.
     Wait(u64),

@@ -1,36 +1,29 @@
 //! The connections of a service: one thread accepts them, also after an accept that failed, and hands them to those that answer.
-ghost use Rattle.std.specs.Prelude.{◌≡◌, ◌*◌, ◌↔◌, IsTrue, IfErr, option_map};
-ghost use Rattle.std.specs.Duration.{as_nanos};
-ghost use Rattle.service.specs.{Roster.names_of, Served.Answered, Served.IsLasting};
+ghost use Rattle.std.specs.{Prelude.◌≡◌, Prelude.◌*◌, Prelude.◌↔◌, Prelude.IsTrue, Prelude.IfErr, Prelude.option_map, Duration.as_nanos};
+ghost use Rattle.service.specs.Served.{Answered, IsLasting};
 
 use crate::faults::ServeFault;
-use crate::rosters::Roster;
 use crate::serving::ServeOptions;
-use crate::sessions::serve_session;
 use crossbeam_channel::{Receiver, Sender, bounded};
-use pool::Desk;
 use std::alloc::Global;
-use std::io::{self, Error, ErrorKind, Read};
+use std::io::{self, Error, ErrorKind, Read, Write};
 use std::net::{OpenListener, TcpListener, TcpStream};
 use std::sync::Wait;
 use std::sync::atomic::{AtomicBool, Ordering};
-use std::sync::ledger::Ledger;
 use std::thread::{self, Threads};
 use std::time::{Clock, Duration};
 
 /// How many accepted connections wait for a session that is free. More wait in the listener.
 const QUEUED: usize = 1;
 
-/// The system's number of a descriptor that isn't open. Its errors have no kind of their own.
+/// The system's numbers of a descriptor that isn't open and of one that is no socket. Their errors have no kind of their own.
 const NOT_OPEN: i32 = 9;
 
-/// The system's number of a descriptor that is no socket.
 const NO_SOCKET: i32 = 88;
 
-/// How many milliseconds pass after the first accept that failed.
+/// How many milliseconds pass after the first accept that failed, and how many at most after a later one.
 const FIRST_PAUSE: u64 = 1;
 
-/// The most that pass after a later one.
 const LONGEST_PAUSE: u64 = 100;
 
 /// Where the sessions find their connections, and what ends them beside what their peers say.
@@ -39,7 +32,6 @@ struct Arrivals {
     queue: Receiver<TcpStream>,
     /// After how many seconds in which its peer says nothing, or takes nothing of a reply. Without a number it goes on.
     idle_seconds: Option<u64>,
-    /// Whether the service has stopped on a fault.
     is_stopped: AtomicBool,
 }
 
@@ -61,9 +53,8 @@ impl Arrivals {
 
     /// Bounds how long the connection waits for its peer.
     fn limit(&self, stream: &TcpStream) -> io::Result<()> {
-        let idle = self.idle();
-        stream.set_read_timeout(idle)?;
-        stream.set_write_timeout(idle)
+        stream.set_read_timeout(self.idle())?;
+        stream.set_write_timeout(self.idle())
     }
 }
 
@@ -82,18 +73,25 @@ impl Read for Says<'_> {
     }
 }
 
+/// What answers the peers of a service. Several threads may call it at once.
+pub(crate) trait Service {
+    /// Answers a peer, up to the end of what it says.
+    fn answer<I: Read + Drop, W: Write>(&self, alloc: Global, reader: I, writer: &mut W);
+
+    /// Lets nobody wait for a search any more.
+    fn stop(&self);
+}
+
 /// Answers connections by so many sessions at once, and tells how many there were once all have ended. The listener is closed
 /// as soon as no more are accepted. Where accepting fails the desk is stopped first, so that no session waits for a search,
 /// and each session ends where it reads. Where a session can't be started nothing is accepted, and the others end too.
-pub(crate) fn answer_connections<L: Ledger + Send + Sync, R: Threads + Wait + Clock + Sync>(
+pub(crate) fn answer_connections<S: Service + Sync, R: Threads + Wait + Clock + Sync>(
     rt: &R,
     alloc: Global,
-    desk: &Desk<L>,
-    roster: &Roster,
+    service: &S,
     listener: TcpListener,
     options: ServeOptions,
 ) -> Result<u64, ServeFault>
-    requires { desk.now ≡ names_of roster.now }
     ensures { Answered options.accept result }
 {
     let Ok((sender, queue)) = bounded(alloc, QUEUED) else {
@@ -109,19 +107,17 @@ pub(crate) fn answer_connections<L: Ledger + Send + Sync, R: Threads + Wait + Cl
         rt,
         // The listener and the sender are its own, and end with it.
         move |scope| -> Result<u64, ServeFault>
-            requires { desk.now ≡ names_of roster.now }
             ensures { Answered options.accept result }
         {
             for _session in 0..options.sessions {
-                let Ok(_) = scope.spawn(move || answer_queue(rt, alloc, desk, roster, arrivals))
-                else {
+                let Ok(_) = scope.spawn(move || answer_queue(rt, alloc, service, arrivals)) else {
                     return Err(ServeFault::NoThread);
                 };
             }
             let accepted = accept_all(rt, &listener, &sender, options.accept);
             if accepted.is_err() {
                 arrivals.is_stopped.store(true, Ordering::SeqCst);
-                desk.stop(rt);
+                service.stop();
             }
             accepted
         },
@@ -181,15 +177,7 @@ fn is_lasting(error: &Error) -> bool
 }
 
 /// Answers connection after connection until the queue ends, each reply at once. One that can't be bounded isn't answered.
-fn answer_queue<L: Ledger, R: Wait>(
-    rt: &R,
-    alloc: Global,
-    desk: &Desk<L>,
-    roster: &Roster,
-    arrivals: &Arrivals,
-)
-    requires { desk.now ≡ names_of roster.now }
-{
+fn answer_queue<S: Service, R: Wait>(rt: &R, alloc: Global, service: &S, arrivals: &Arrivals) {
     for _ in rt.forever() {
         let Ok(stream) = arrivals.queue.recv(rt) else {
             break;
@@ -197,8 +185,7 @@ fn answer_queue<L: Ledger, R: Wait>(
         let mut stream = &stream;
         if arrivals.limit(stream).is_ok() {
             let _ = stream.set_nodelay(true);
-            let reader = Says { stream, arrivals };
-            let _end = serve_session(rt, alloc, desk, roster, reader, &mut stream);
+            service.answer(alloc, Says { stream, arrivals }, &mut stream);
         }
     }
 }

@@ -76,11 +76,8 @@ impl<R: Read + Drop> LineReader<R> {
         let Ok(ahead) = BufReader::new(alloc, Limited { inner, left }) else {
             return Err(AllocError);
         };
-        Ok(LineReader {
-            ahead,
-            line,
-            stage: Stage::Open,
-        })
+        let stage = Stage::Open;
+        Ok(LineReader { ahead, line, stage })
     }
 
     /// The next line, lent from the room that `make` took, with no memory. The end and a fault stay: the reader is read no further.

@@ -60,9 +60,8 @@ impl Room {
     pub(crate) fn make(alloc: Global) -> Result<Room, AllocError>
         ensures { IfOk result (λ r. r ≡ []) }
     {
-        Ok(Room {
-            bytes: Vec::with_capacity(alloc, SHORT_REPLY)?,
-        })
+        let bytes = Vec::with_capacity(alloc, SHORT_REPLY)?;
+        Ok(Room { bytes })
     }
 
     /// Where it takes its memory from.

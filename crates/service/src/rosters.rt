@@ -20,10 +20,9 @@ use std::io::{Read, Write};
 use std::marker::Model;
 use std::sync::ledger::{Blank, Ledger};
 
-/// The most tenants of a roster.
+/// The most tenants of a roster, and the most bytes of a tenant's word.
 const MOST_TENANTS: usize = 1_000;
 
-/// The most bytes of a tenant's word.
 const MOST_WORD: usize = 64;
 
 /// Who may speak: 1 to 1,000 tenants, each with a name of its own, a word and its limits.

@@ -4,13 +4,14 @@ ghost use Rattle.std.specs.Io.KnownBytes.{Appends};
 ghost use Rattle.service.specs.Served.{Answered, ServeWrote, WithPort, listening_line};
 ghost use Rattle.service.specs.{Roster.names_of, Session.session_line, Written.WritesFront};
 
-use crate::connections::answer_connections;
+use crate::connections::{Service, answer_connections};
 use crate::faults::ServeFault;
 use crate::replies::{Room, Speaker, WriteFault, fill_counted, write_reply};
 use crate::rosters::Roster;
+use crate::sessions::serve_session;
 use pool::{Desk, DeskFault, NoGate, PARTS, run_workers};
 use std::alloc::Global;
-use std::io::Write;
+use std::io::{Read, Write};
 use std::marker::Brand;
 use std::net::TcpListener;
 use std::sync::Wait;
@@ -85,7 +86,9 @@ fn serve_with<L: Ledger + Send + Sync, R: Threads + Wait + Clock + Sync, W: Writ
     let Ok(()) = tell(writer, line, b"listening 127.0.0.1:", port) else {
         return Err(ServeFault::Write);
     };
-    answer_beside_workers(rt, line.alloc(), &desk, roster, listener, options)
+    let desk = &desk;
+    let service = AtDesk { rt, desk, roster };
+    answer_beside_workers(rt, line.alloc(), desk, &service, listener, options)
 }
 
 /// Writes a line of these words and this number.
@@ -99,24 +102,41 @@ fn tell<W: Write>(out: &mut W, line: &mut Room, words: &[u8], count: u64) -> Res
     write_reply(out, line.as_slice())
 }
 
+/// The service at the desk of a roster's tenants.
+#[derive(Drop)]
+struct AtDesk<'a, L: Ledger, R> {
+    rt: &'a R,
+    desk: &'a Desk<L>,
+    roster: &'a Roster,
+    ghost tenants: { desk.now ≡ names_of roster.now },
+}
+
+impl<L: Ledger, R: Wait> Service for AtDesk<'_, L, R> {
+    fn answer<I: Read + Drop, W: Write>(&self, alloc: Global, reader: I, writer: &mut W) {
+        let _end = serve_session(self.rt, alloc, self.desk, self.roster, reader, writer);
+    }
+
+    fn stop(&self) {
+        self.desk.stop(self.rt);
+    }
+}
+
 /// Runs the workers while the connections are answered, until the desk is stopped. Where all of them end sooner, for want of
 /// memory, nobody goes on with the searches: then their thread stops the desk, so that no session waits for one.
 fn answer_beside_workers<L: Ledger + Send + Sync, R: Threads + Wait + Clock + Sync>(
     rt: &R,
     alloc: Global,
     desk: &Desk<L>,
-    roster: &Roster,
+    service: &(impl Service + Sync),
     listener: TcpListener,
     options: ServeOptions,
 ) -> Result<u64, ServeFault>
-    requires { desk.now ≡ names_of roster.now }
     ensures { Answered options.accept result }
 {
     thread::scope(
         thread::scope_env(),
         rt,
         |scope| -> Result<u64, ServeFault>
-            requires { desk.now ≡ names_of roster.now }
             ensures { Answered options.accept result }
         {
             let Ok(working) = scope.spawn(move || {
@@ -126,7 +146,7 @@ fn answer_beside_workers<L: Ledger + Send + Sync, R: Threads + Wait + Clock + Sy
             }) else {
                 return Err(ServeFault::NoThread);
             };
-            let answered = answer_connections(rt, alloc, desk, roster, listener, options);
+            let answered = answer_connections(rt, alloc, service, listener, options);
             desk.stop(rt);
             let worked = worked_well(working.join(rt));
             let count = answered?;

@@ -21,7 +21,6 @@ impl<R: Read> Read for Limited<R> {
     fn read(&mut self, buf: &mut [u8]) -> io::Result<usize>
         ensures bound { ReadsAtMost result buf.new }
         ensures bytes { ReadConsumes (R.remaining self.old.inner) (R.remaining self.new.inner) result buf.new }
-        // A call costs one; with none left there is no call.
         ensures counted { 0 < self.old.left → self.new.left + 1 ≡ self.old.left }
         ensures used_up { self.old.left ≡ 0 → IsErr result × (self.new ≡ self.old) }
     {
