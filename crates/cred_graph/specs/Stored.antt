@@ -34,7 +34,8 @@ IsKept nodes strangers _ = Unit {0}
 
 -- the strangers stay, and may be joined by one more, who has no node
 abbrev pub Joins : List Expr → List Expr → List Expr → Type 0
-Joins nodes old new = (new ≡ old) ⊎ ((who : List ℕ) × (Contains nodes (Ent who) → ⊥) × (Contains old (Ent who) → ⊥) × (new ≡ old ++ Ent who ∷ []))
+Joins nodes old new = (new ≡ old)
+    ⊎ ((who : List ℕ) × (Contains nodes (Ent who) → ⊥) × (Contains old (Ent who) → ⊥) × (new ≡ old ++ Ent who ∷ []))
 
 -- the listener that this one stands for
 abbrev pub listening_as : List Expr → List Expr → KeptListening → Listening
