@@ -1,7 +1,7 @@
 -- What monitors keep, and what that is seen as.
-use Rattle.std.specs.Prelude.{[], ◌≤◌}
-use Rattle.monitors.specs.declared.link_monitors.LinkMemory.{LinkMemory}
-use Rattle.monitors.specs.declared.link_monitors.LinkMemory.TheVariants as link
+use Rattle.std.specs.Prelude.{[], ◌≤◌, Option, Some, None, Box}
+use Rattle.std.specs.declared.alloc.Global.{Global}
+use Rattle.monitors.specs.declared.link_monitors.LinkSets.{LinkSets}
 use Rattle.monitors.specs.declared.keyed_meets.MeetMemory.{MeetMemory}
 use Rattle.monitors.specs.declared.keyed_meets.MeetMemory.TheVariants as meet
 use Rattle.monitors.specs.LinkMonitor.{LinkToldBy}
@@ -9,9 +9,9 @@ use Rattle.monitors.specs.MeetMonitor.{MeetLines}
 
 module _ {K : Type 0} where
   -- what a linked role was told
-  abbrev pub link_told : LinkMemory K → LinkToldBy K
-  link_told link.Untold = record { bases = []; members = [] }
-  link_told (link.Told sets) = record { bases = sets.value.bases; members = sets.value.members }
+  abbrev pub link_told : Option (Box (LinkSets K) Global) → LinkToldBy K
+  link_told None = record { bases = []; members = [] }
+  link_told (Some sets) = record { bases = sets.value.bases; members = sets.value.members }
 
   -- what an intersection was told
   abbrev pub meet_told : MeetMemory K → MeetLines K

@@ -1,4 +1,5 @@
-ghost use Rattle.std.specs.Prelude.{◌≡◌, [], IfOk, OnOk, OnErr, Contains};
+ghost use Rattle.std.specs.Prelude.{◌≡◌, [], None, IfOk, IsSome, OnOk, OnErr, Contains};
+ghost use Rattle.monitors.specs.Memories.{link_told};
 
 use crate::key_sets::KeySet;
 use crate::keys::Key;
@@ -13,18 +14,11 @@ struct LinkSets<K: Key> {
     members: KeySet<K>,
 }
 
-/// What a linked role keeps of what it was told: nothing, until it is told something.
-#[derive(Drop)]
-enum LinkMemory<K: Key> {
-    Untold,
-    Told(Box<LinkSets<K>>),
-}
-
 /// What a linked role `A.s.t` was told: the members of its base `A.s`, and the entities that came to it by way of
 /// these, by name or by another key. Contracts see it as the two lists, each in order of telling. What it was told stands
 /// on the heap, since most monitors of a search are told nothing and stand side by side.
 pub struct LinkMonitor<K: Key = Entity> {
-    memory: LinkMemory<K>,
+    told: Option<Box<LinkSets<K>>>,
     alloc: Global,
 }
 
@@ -34,14 +28,14 @@ impl<K: Key> Model for LinkMonitor<K> {
 
     ghost Value = { LinkToldBy K };
 
-    ghost view = { λ m. link_told m.memory };
+    ghost view = { λ m. link_told m.told };
 }
 
 // By hand, so that who holds one drops it by one call, whose proof stands here.
 impl<K: Key> Drop for LinkMonitor<K> {
     fn drop(self) {
         let LinkMonitor {
-            memory: _memory,
+            told: _told,
             alloc: _alloc,
         } = self;
     }
@@ -54,10 +48,7 @@ impl<K: Key> LinkMonitor<K> {
     pub fn new(alloc: Global) -> Self
         ensures { result ≡ record { bases = []; members = [] } }
     {
-        LinkMonitor {
-            memory: LinkMemory::Untold,
-            alloc,
-        }
+        LinkMonitor { told: None, alloc }
     }
 
     /// Hears that the entity is a member of the base, and answers whether that is new.
@@ -67,18 +58,10 @@ impl<K: Key> LinkMonitor<K> {
         ensures growth { OnErr result (Contains self.old.bases base → ⊥) }
         ensures unchanged { OnErr result (self.new ≡ self.old) }
     {
-        match &mut self.memory {
-            LinkMemory::Told(sets) => sets.bases.insert(base),
-            LinkMemory::Untold => {
-                let nothing = LinkSets {
-                    bases: KeySet::new(self.alloc),
-                    members: KeySet::new(self.alloc),
-                };
-                let mut sets = Box::new(self.alloc, nothing)?;
-                let is_new = sets.bases.insert(base)?;
-                self.memory = LinkMemory::Told(sets);
-                Ok(is_new)
-            }
+        make_sets(&mut self.told, self.alloc)?;
+        match &mut self.told {
+            Some(sets) => sets.bases.insert(base),
+            None => unreachable!(),
         }
     }
 
@@ -92,9 +75,25 @@ impl<K: Key> LinkMonitor<K> {
         ensures unchanged { OnErr result (self.new ≡ self.old) }
     {
         let _base = base;
-        match &mut self.memory {
-            LinkMemory::Told(sets) => sets.members.insert(who),
-            LinkMemory::Untold => unreachable!(),
+        match &mut self.told {
+            Some(sets) => sets.members.insert(who),
+            None => unreachable!(),
         }
     }
+}
+
+/// Makes the sets of a linked role, empty, where there are none.
+fn make_sets<K: Key>(told: &mut Option<Box<LinkSets<K>>>, alloc: Global) -> Result<(), AllocError>
+    ensures made { OnOk result (IsSome told.new) }
+    ensures lacking { OnErr result (told.old ≡ None) }
+    ensures told { link_told told.new ≡ link_told told.old }
+{
+    if let None = told {
+        let nothing = LinkSets {
+            bases: KeySet::new(alloc),
+            members: KeySet::new(alloc),
+        };
+        *told = Some(Box::new(alloc, nothing)?);
+    }
+    Ok(())
 }

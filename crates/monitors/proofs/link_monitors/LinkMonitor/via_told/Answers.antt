@@ -12,7 +12,7 @@ told_of sets = record { bases = sets.bases; members = sets.members }
 
 pub unreachable-requires : goal.unreachable-requires
 unreachable-requires g c =
-    let there = rw (← c.self.view_is, c.in-Untold.is) at c.requires in
+    let there = rw (← c.self.view_is, c.in-None.is) at c.requires in
     omega (arith, there.1)
 
 pub unreachable-unreachable : goal.unreachable-unreachable
@@ -22,7 +22,7 @@ pub returns : goal.returns
 unfolding told_of
 returns g c =
     let sets = c.deref_mut.result.now in
-    let was : told_of sets ≡ c.args.self.now = ap told_of c.deref_mut.ensures.value ∙ ap link_told (sym c.in-Told.is) ∙ c.self.view_is in
+    let was : told_of sets ≡ c.args.self.now = ap told_of c.deref_mut.ensures.value ∙ ap link_told (sym c.in-Some.is) ∙ c.self.view_is in
     rw (← was) (record {
       ok = IfOk-weaker c.insert.result
           (λ (new : Bool). AddsKey (λ keys. keys) sets.members c.insert.new.self c.args.who new)
