@@ -1,7 +1,8 @@
 -- What a table of lines by key hears, by the names that its keys stand for.
-use Rattle.std.proofs.Common.{◌≡◌, ◌<◌, ◌==◌, ◌⊎◌, inl, inr, ℕ, Bool, true, false, List, [], ◌∷◌, ◌++◌, Contains, refl, sym, ap, subst, ◌∙◌, arith, get_or, set, if◌then◌else◌}
+use Rattle.std.proofs.Common.{zero, suc, replicate, unwrap_or, Option, None, Some, cond, true≢false, ◌≡◌, ◌<◌, ◌==◌, ◌⊎◌, inl, inr, ℕ, Bool, true, false, List, [], ◌∷◌, ◌++◌, Contains, refl, sym, ap, subst, ◌∙◌, arith, get_or, set, if◌then◌else◌}
 use Rattle.std.specs.Cmp.{IsEquivalence}
 use Rattle.std.specs.Map.{keys_of, lookup}
+use Rattle.std.proofs.lemmas.Option.{same_Some}
 use Rattle.std.proofs.lemmas.List.Elements.{Contains-get_or, Contains-append_left, Contains-append_right, Contains-append_cases, Contains-push_cases}
 use Rattle.indexmap.specs.IndexMap.{insert_entry}
 use Rattle.monitors.specs.declared.tellers.Tellers.{Tellers}
@@ -9,6 +10,27 @@ use Rattle.monitors.specs.MeetMonitor.{HearsPart, is_among, is_teller, AreTeller
 use Rattle.monitors.specs.MeetMonitor.{MeetLines, TellsApart, named, HearsByName, IsUntold, IsTable}
 use Rattle.monitors.proofs.NamedLemmas.{named_lookup, named_insert}
 use Rattle.monitors.proofs.TableLemmas.{seen, told_already, never_told, AddsTeller, still_tellers, tells_last}
+
+of_nobody : (n p : ℕ) → get_or (replicate n false) p false ≡ false
+of_nobody zero p = refl
+of_nobody (suc n) zero = refl
+of_nobody (suc n) (suc p) = of_nobody n p
+
+-- an entity's line, or if it has none, one of no teller
+module _ (found : Option Tellers) (none line : Tellers) (nobody : none.told ≡ replicate 8 false) (is : line ≡ unwrap_or found none) where
+  pub tellers_on : (p : ℕ) → get_or line.told p false ≡ is_among p found
+  tellers_on p = by found is
+    where
+      by : (o : Option Tellers) → line ≡ unwrap_or o none → get_or line.told p false ≡ is_among p o
+      by None same = ap (λ (t : Tellers). get_or t.told p false) same ∙ ap (λ told. get_or told p false) nobody ∙ of_nobody 8 p
+      by (Some t) same = ap (λ (t : Tellers). get_or t.told p false) same
+
+  pub found_line : (p : ℕ) → get_or line.told p false ≡ true → found ≡ Some line
+  found_line p there = by found is (sym (tellers_on p) ∙ there)
+    where
+      by : (o : Option Tellers) → line ≡ unwrap_or o none → is_among p o ≡ true → o ≡ Some line
+      by None same among = absurd (true≢false (sym among))
+      by (Some t) same among = ap Some (sym same)
 
 module _ {K : Type 0} (eq : K → K → Bool) (laws : IsEquivalence eq) (exact : (x y : K) → eq x y ≡ true → x ≡ y) where
   -- an inserted key is one of the keys, or goes last
@@ -48,30 +70,49 @@ module _ {K : Type 0} (eq : K → K → Bool) (laws : IsEquivalence eq) (exact :
         ])
       ]
 
-  -- the line of the entity is t
-  module _ (parts : ℕ) (es : List (K × Tellers)) (table : IsTable parts es) (part : ℕ) (who : K) (t : Tellers) (line : (p : ℕ) → get_or t.told p false ≡ is_among p (lookup (eq who) es)) where
+  -- a line that says that the part told the entity stands as it is
+  pub line_stands : (es : List (K × Tellers)) (who : K) (t : Tellers) → lookup (eq who) es ≡ Some t → insert_entry eq es who t ≡ es
+  line_stands [] who t found = cc
+  line_stands (e ∷ es) who t found = by (eq who e.0) refl (line_stands es who t)
+    where
+      by : (b : Bool) → eq who e.0 ≡ b → (lookup (eq who) es ≡ Some t → insert_entry eq es who t ≡ es) → insert_entry eq (e ∷ es) who t ≡ e ∷ es
+      by true same rest =
+          ap (λ b. if b then (e.0, t) ∷ es else e ∷ insert_entry eq es who t) same
+          ∙ ap (λ line. (e.0, line) ∷ es) (same_Some t e.1 (sym found ∙ ap (λ (b : Bool). cond b (Some e.1) (lookup (eq who) es)) same))
+      by false other rest =
+          ap (λ b. if b then (e.0, t) ∷ es else e ∷ insert_entry eq es who t) other
+          ∙ ap (λ es. e ∷ es) (rest (sym (ap (λ (b : Bool). cond b (Some e.1) (lookup (eq who) es)) other) ∙ found))
+
+  -- so many parts told these lines
+  module _ (parts : ℕ) (es : List (K × Tellers)) (table : IsTable parts es) (part : ℕ) (who : K) where
     abbrev before : MeetLines K
     before = record { parts = parts; lines = es }
 
     are : (name : K → List ℕ) → TellsApart name (who ∷ keys_of es) → AreTellers parts (named name es)
     are name apart = table.tellers name (λ a b x y. apart a b (Contains-append_right (who ∷ []) (keys_of es) a x) (Contains-append_right (who ∷ []) (keys_of es) b y))
 
-    named_line : (name : K → List ℕ) → TellsApart name (who ∷ keys_of es) → (p : ℕ) → get_or t.told p false ≡ is_teller (named name es) p (name who)
-    named_line name apart p = line p ∙ ap (is_among p) (sym (named_lookup eq laws exact name es who apart))
+    named_line : (name : K → List ℕ) → TellsApart name (who ∷ keys_of es) → (p : ℕ) → is_teller (named name es) p (name who) ≡ is_among p (lookup (eq who) es)
+    named_line name apart p = ap (is_among p) (named_lookup eq laws exact name es who apart)
 
-    pub heard_already : get_or t.told part false ≡ true → HearsByName before before part who false
-    heard_already there name apart = told_already parts (named name es) (are name apart) part (name who) (sym (named_line name apart part) ∙ there)
+    pub heard_already : is_among part (lookup (eq who) es) ≡ true → HearsByName before before part who false
+    heard_already there name apart = told_already parts (named name es) (are name apart) part (name who) (named_line name apart part ∙ there)
 
-    pub never_heard : get_or t.told part false ≡ false → IsUntold before part who
-    never_heard absent = record { untold = λ name apart. never_told parts (named name es) (are name apart) part (name who) (sym (named_line name apart part) ∙ absent) }
+    pub never_heard : is_among part (lookup (eq who) es) ≡ false → IsUntold before part who
+    never_heard absent = record { untold = λ name apart. never_told parts (named name es) (are name apart) part (name who) (named_line name apart part ∙ absent) }
 
-    -- and u is that line and the part
-    module _ (u : Tellers) (written : u.told ≡ set t.told part true) (below : part < parts) (absent : get_or t.told part false ≡ false) where
+    -- the line of the entity is t, and u is that line and the part
+    module _ (t u : Tellers) (line : (p : ℕ) → get_or t.told p false ≡ is_among p (lookup (eq who) es)) (written : u.told ≡ set t.told part true) (below : part < parts) (absent : get_or t.told part false ≡ false) where
       abbrev after : List (K × Tellers)
       after = insert_entry eq es who u
 
       adds : (name : K → List ℕ) → TellsApart name (who ∷ keys_of es) → AddsTeller parts (named name es) part (name who) t u
-      adds name apart = record { are = are name apart; line = named_line name apart; written = written; below = below; absent = absent }
+      adds name apart = record {
+        are = are name apart;
+        line = λ p. line p ∙ sym (named_line name apart p);
+        written = written;
+        below = below;
+        absent = absent;
+      }
 
       pub heard_new : HearsByName before (record { parts = parts; lines = after }) part who (u.count == parts)
       heard_new name apart =

@@ -1,26 +1,13 @@
 -- What sets of keys hear, whose equality is exact.
-use Rattle.std.proofs.Common.{◌≡◌, Bool, true, false, cond, Some, List, [], ◌∷◌, ◌++◌, ◌||◌, inl, inr, Contains, refl, sym, ap, subst, ◌∙◌, not, if◌then◌else◌, true≢false, append-nil, append_assoc, arith}
+use Rattle.std.proofs.Common.{◌≡◌, Bool, true, false, List, [], ◌∷◌, ◌++◌, ◌||◌, inl, inr, Contains, refl, sym, ap, subst, ◌∙◌, not, if◌then◌else◌, true≢false, append-nil, append_assoc, arith}
 use Rattle.std.specs.Cmp.{IsEquivalence}
 use Rattle.std.specs.List.{list_any}
-use Rattle.std.specs.Map.{lookup_key}
 use Rattle.std.proofs.lemmas.List.Elements.{Contains-append_left, Contains-append_right, Contains-append_cases, Contains-push}
-use Rattle.std.proofs.lemmas.Option.{same_Some}
 use Rattle.std.proofs.lemmas.Map.Views.{list_any-from_Contains, Contains-from_any}
 use Rattle.indexmap.specs.IndexSet.{insert_key}
 use Rattle.monitors.specs.LinkMonitor.{AddsKey}
 
 module _ {K : Type 0} (eq : K → K → Bool) (laws : IsEquivalence eq) (exact : (x y : K) → eq x y ≡ true → x ≡ y) where
-  -- the key that is found is the one that was sought
-  pub found_key : {X : Type 0} (es : List (K × X)) (who key : K) → Some key ≡ lookup_key (eq who) es → who ≡ key
-  found_key [] who key found = cc
-  found_key (e ∷ es) who key found = by (eq who e.0) refl (found_key es who key)
-    where
-      by : (b : Bool) → eq who e.0 ≡ b → (Some key ≡ lookup_key (eq who) es → who ≡ key) → who ≡ key
-      by true same later =
-          let is : Some key ≡ Some e.0 = found ∙ ap (λ (b : Bool). cond b (Some e.0) (lookup_key (eq who) es)) same in
-          exact who e.0 same ∙ sym (same_Some key e.0 is)
-      by false other later = later (found ∙ ap (λ (b : Bool). cond b (Some e.0) (lookup_key (eq who) es)) other)
-
   -- a key that no other is the same as isn't among them
   pub is_new : (keys : List K) (key : K) → list_any (eq key) keys ≡ false → Contains keys key → ⊥
   is_new keys key e among = true≢false (sym (list_any-from_Contains laws key keys among) ∙ e)

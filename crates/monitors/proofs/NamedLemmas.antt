@@ -1,13 +1,12 @@
 -- Lines by key and the same by name: a key is found where its name is, and inserted there.
-use Rattle.std.proofs.Common.{◌≡◌, ℕ, zero, suc, Bool, true, false, cond, List, [], ◌∷◌, Option, Some, None, refl, sym, ap, ◌∙◌, nat_eq, if◌then◌else◌, slice_get, true≢false, arith}
+use Rattle.std.proofs.Common.{◌≡◌, ℕ, Bool, true, false, cond, List, [], ◌∷◌, Option, Some, None, refl, sym, ap, ◌∙◌, nat_eq, if◌then◌else◌, true≢false, arith}
 use Rattle.std.specs.Cmp.{IsEquivalence}
 use Rattle.std.specs.Cmp.Lexicographic.{pointwise}
 use Rattle.std.specs.List.{IsDistinct, AllByRecursion}
 use Rattle.std.specs.Map.{keys_of, lookup}
 use Rattle.std.proofs.lemmas.Cmp.{nat_list_eq_equiv}
-use Rattle.std.proofs.lemmas.Option.{same_Some}
 use Rattle.std.proofs.lemmas.List.Elements.{Contains-get_or, Contains-append_right, All-contains_itself, recursion_from_All}
-use Rattle.indexmap.specs.IndexMap.{insert_entry, set_value_at}
+use Rattle.indexmap.specs.IndexMap.{insert_entry}
 use Rattle.monitors.specs.declared.tellers.Tellers.{Tellers}
 use Rattle.monitors.specs.Keys.{same_name}
 use Rattle.monitors.specs.MeetMonitor.{TellsApart, named}
@@ -15,23 +14,6 @@ use Rattle.monitors.specs.MeetMonitor.{TellsApart, named}
 -- the entity's line in the table
 abbrev pub tellers_at : List (List ℕ × Tellers) → List ℕ → Option Tellers
 tellers_at entries who = lookup (pointwise nat_eq who) entries
-
--- to write a line at its place is to insert it
-pub written_line : {K X : Type 0} (eq : K → K → Bool) → IsEquivalence eq → (es : List (K × X)) (i : ℕ) (k : K) (x y : X) → IsDistinct eq (keys_of es) → slice_get es i ≡ Some (k, x) → set_value_at es i y ≡ insert_entry eq es k y
-unfolding IsDistinct
-written_line eq laws [] i k x y once at = cc
-written_line eq laws (e ∷ es) zero k x y once at =
-    let is : e ≡ (k, x) = same_Some e (k, x) at in
-    sym (ap (λ b. if b then (e.0, y) ∷ es else e ∷ insert_entry eq es k y) (ap (λ (p : _). eq k p.0) is ∙ laws.refl k))
-written_line {K} {X} eq laws (e ∷ es) (suc i) k x y (others, once) at =
-    let other : eq k e.0 ≡ false = laws.symm k e.0 ∙ apart es i others at in
-    ap (λ l. e ∷ l) (written_line eq laws es i k x y once at)
-    ∙ sym (ap (λ b. if b then (e.0, y) ∷ es else e ∷ insert_entry eq es k y) other)
-  where
-    apart : (fs : List (K × X)) (j : ℕ) → AllByRecursion (λ z. eq e.0 z ≡ false) (keys_of fs) → slice_get fs j ≡ Some (k, x) → eq e.0 k ≡ false
-    apart [] j none there = cc
-    apart (f ∷ fs) zero none there = ap (λ (p : K × X). eq e.0 p.0) (sym (same_Some f (k, x) there)) ∙ none.0
-    apart (f ∷ fs) (suc j) none there = apart fs j none.1 there
 
 module _ {K : Type 0} (eq : K → K → Bool) (laws : IsEquivalence eq) (exact : (x y : K) → eq x y ≡ true → x ≡ y) (name : K → List ℕ) where
   -- two keys are the same where their names are

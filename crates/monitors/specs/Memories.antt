@@ -1,7 +1,8 @@
 -- What monitors keep, and what that is seen as.
-use Rattle.std.specs.Prelude.{[], ◌≤◌, Option, Some, None, Box}
+use Rattle.std.specs.Prelude.{ℕ, List, [], Option, Some, None, Box}
 use Rattle.std.specs.declared.alloc.Global.{Global}
 use Rattle.monitors.specs.declared.link_monitors.LinkSets.{LinkSets}
+use Rattle.monitors.specs.declared.tellers.Tellers.{Tellers}
 use Rattle.monitors.specs.declared.keyed_meets.MeetMemory.{MeetMemory}
 use Rattle.monitors.specs.declared.keyed_meets.MeetMemory.TheVariants as meet
 use Rattle.monitors.specs.LinkMonitor.{LinkToldBy}
@@ -13,12 +14,11 @@ module _ {K : Type 0} where
   link_told None = record { bases = []; members = [] }
   link_told (Some sets) = record { bases = sets.value.bases; members = sets.value.members }
 
+  -- so many parts, with these lines
+  abbrev pub lines_of : ℕ → List (K × Tellers) → MeetLines K
+  lines_of parts lines = record { parts = parts; lines = lines }
+
   -- what an intersection was told
   abbrev pub meet_told : MeetMemory K → MeetLines K
-  meet_told (meet.Untold parts) = record { parts = parts; lines = [] }
-  meet_told (meet.Told table) = table.value
-
-  -- an intersection that was told nothing has 2 to 8 parts
-  abbrev pub IsMeetMemory : MeetMemory K → Type 0
-  IsMeetMemory (meet.Untold parts) = (2 ≤ parts) × (parts ≤ 8)
-  IsMeetMemory (meet.Told table) = Unit {0}
+  meet_told (meet.Untold parts) = lines_of parts []
+  meet_told (meet.Told parts told) = lines_of parts told.value.entries

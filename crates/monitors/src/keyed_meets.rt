@@ -1,15 +1,19 @@
-ghost use Rattle.std.specs.Prelude.{◌≡◌, ◌<◌, ◌≤◌, [], IfOk, OnErr};
+ghost use Rattle.std.specs.Prelude.{◌≡◌, ◌<◌, ◌≤◌, ℕ, [], IfOk, OnOk, OnErr};
+ghost use Rattle.monitors.specs.MeetMonitor.{HearsByName, IsUntold, HasKeysOf, IsTable};
+ghost use Rattle.monitors.specs.Memories.{lines_of, meet_told};
 
 use crate::keys::Key;
-use crate::meet_tables::MeetTable;
+use crate::tellers::Tellers;
+use indexmap::IndexMap;
 use std::alloc::{AllocError, Global};
 use std::marker::Model;
 
-/// What an intersection keeps of what it was told: the number of its parts alone, until it is told something.
+/// What an intersection keeps of what it was told: the number of its parts, and once it is told something, for each entity the
+/// parts that told it.
 #[derive(Drop)]
 enum MeetMemory<K: Key> {
     Untold(u8),
-    Told(Box<MeetTable<K>>),
+    Told(u8, Box<IndexMap<K, Tellers>>),
 }
 
 /// What an intersection of 2 to 8 parts was told: for each entity, by its key, the parts that told it. Contracts say what it
@@ -21,14 +25,14 @@ pub struct KeyedMeet<K: Key> {
 }
 
 impl<K: Key> Model for KeyedMeet<K> {
-    ghost use Rattle.monitors.specs.MeetMonitor.{MeetLines};
-    ghost use Rattle.monitors.specs.Memories.{meet_told, IsMeetMemory};
+    ghost use Rattle.monitors.specs.MeetMonitor.{MeetLines, IsTable};
+    ghost use Rattle.monitors.specs.Memories.{meet_told};
 
     ghost Value = { MeetLines K };
 
     ghost view = { λ m. meet_told m.memory };
 
-    ghost invariant = { λ m. IsMeetMemory m.memory };
+    ghost invariant = { λ m. IsTable (meet_told m.memory).parts (meet_told m.memory).lines };
 }
 
 // By hand, so that who holds one drops it by one call, whose proof stands here.
@@ -65,14 +69,45 @@ impl<K: Key> KeyedMeet<K> {
         ensures growth { OnErr result (IsUntold self.old part who) }
         ensures unchanged { OnErr result (self.new ≡ self.old) }
     {
+        make_table(&mut self.memory, self.alloc)?;
         match &mut self.memory {
-            MeetMemory::Told(table) => table.part_told(part, who),
-            MeetMemory::Untold(parts) => {
-                let mut table = Box::new(self.alloc, MeetTable::make(self.alloc, *parts))?;
-                let is_last = table.part_told(part, who)?;
-                self.memory = MeetMemory::Told(table);
-                Ok(is_last)
-            }
+            MeetMemory::Told(parts, told) => hear(told, *parts, part, who),
+            MeetMemory::Untold(_parts) => unreachable!(),
         }
     }
+}
+
+/// Makes the table of an intersection, with no line, where there is none.
+fn make_table<K: Key>(memory: &mut MeetMemory<K>, alloc: Global) -> Result<(), AllocError>
+    ensures made { OnOk result ((parts : ℕ) → memory.new ≡ MeetMemory.Untold parts → ⊥) }
+    ensures lacking { OnErr result ((meet_told memory.old).lines ≡ []) }
+    ensures told { meet_told memory.new ≡ meet_told memory.old }
+{
+    if let MeetMemory::Untold(parts) = memory {
+        *memory = MeetMemory::Told(*parts, Box::new(alloc, IndexMap::new(alloc))?);
+    }
+    Ok(())
+}
+
+/// Hears in a table of the tellers of entities what `KeyedMeet::part_told` hears.
+fn hear<K: Key>(
+    told: &mut IndexMap<K, Tellers>,
+    parts: u8,
+    part: u8,
+    who: K,
+) -> Result<bool, AllocError>
+    requires table { IsTable parts told.old.entries }
+    requires part { part < parts }
+    ensures ok { IfOk result (λ last. HearsByName (lines_of parts told.old.entries) (lines_of parts told.new.entries) part who last) }
+    ensures keys { HasKeysOf (lines_of parts told.old.entries) (lines_of parts told.new.entries) who }
+    ensures growth { OnErr result (IsUntold (lines_of parts told.old.entries) part who) }
+    ensures unchanged { OnErr result (told.new.entries ≡ told.old.entries) }
+    ensures table { IsTable parts told.new.entries }
+{
+    let line = told.entry(who)?.or_insert(Tellers::none());
+    if line.has(part) {
+        return Ok(false);
+    }
+    *line = line.with(part);
+    Ok(line.count() == parts)
 }

@@ -12,7 +12,6 @@ mod keyed_meets;
 mod keys;
 mod link_monitors;
 mod meet_monitors;
-mod meet_tables;
 mod tellers;
 
 pub use keyed_meets::KeyedMeet;
