@@ -1,5 +1,5 @@
 -- The entity's line is the old one and the part.
-use Rattle.std.proofs.Common.{[], ◌∷◌, refl, ap, sym, ◌∙◌, unwrap_or}
+use Rattle.std.proofs.Common.{[], ◌∷◌, refl, ap, sym, false, get_or, ◌∙◌}
 use Rattle.std.specs.Map.{keys_of, lookup}
 use Rattle.std.proofs.lemmas.List.Elements.{Contains-append_right}
 use Rattle.std.proofs.lemmas.Result.{err_from_is_err_and}
@@ -25,9 +25,9 @@ pub returns-then-has : goal.returns-then-has
 returns-then-has g c =
     let es = c.args.told.now.entries in
     let line = c.or_insert-line.result.now in
-    let there = sym c.has.ensures ∙ c.if-has.true in
+    let there = sym {b = get_or c.or_insert-line.result.now.told c.args.part false} c.if-has.ensures in
     let old = lookup (g.K.PartialEq.eq c.args.who) es in
-    let is = c.or_insert-line.ensures.value ∙ ap (λ old. unwrap_or old c.none.result) c.in_ok-told.ensures.value in
+    let is = rw c.in_ok-told.ensures.value at c.or_insert-line.ensures.value in
     let found = found_line old c.none.result line c.none.ensures is c.args.part there in
     let same = ap (λ (m : IndexMap _ _ _). m.entries) (c.told-then-has-2-1.given.1 (sym c.in_ok-told.ensures.same_map)) ∙ c.in_ok-told.ensures.update.1 line ∙ line_stands g.K.PartialEq.eq g.met.K.Eq.laws g.met.K.Key.exact es c.args.who line found in
     rw same (record {
@@ -43,9 +43,9 @@ returns g c =
     let es = c.args.told.now.entries in
     let line = c.or_insert-line.result.now in
     let old = lookup (g.K.PartialEq.eq c.args.who) es in
-    let is = c.or_insert-line.ensures.value ∙ ap (λ old. unwrap_or old c.none.result) c.in_ok-told.ensures.value in
+    let is = rw c.in_ok-told.ensures.value at c.or_insert-line.ensures.value in
     let on = tellers_on old c.none.result line c.none.ensures is in
-    let absent = sym c.has.ensures ∙ c.if-has.false in
+    let absent = sym {b = get_or c.or_insert-line.result.now.told c.args.part false} c.if-has.ensures in
     let written = ap (λ (m : IndexMap _ _ _). m.entries) (c.told-3-1.given.1 (sym c.in_ok-told.ensures.same_map)) ∙ c.in_ok-told.ensures.update.1 c.with.result in
     rw (written, c.count.ensures) (record {
       ok = heard_new g.K.PartialEq.eq g.met.K.Eq.laws g.met.K.Key.exact c.args.parts es c.requires.table c.args.part c.args.who line c.with.result on c.with.ensures c.requires.part absent;

@@ -31,7 +31,7 @@ returns-in_err-push g c =
     rw (p.1, ← c.self.view_is) (record {
       ok = tt;
       growth = near_lacks g.K.PartialEq.eq g.met.K.Eq.laws g.met.K.Key.exact near c.self.inside.far.keys c.args.key (lacks g (goal.at.returns-in_err-push g c).After-len) (rw none (λ there. omega (arith, there.1)));
-      unchanged = ap (λ keys. keys ++ c.self.inside.far.keys) c.in_err-push.ensures.items;
+      unchanged = ap (λ keys. keys ++ c.self.inside.far.keys) {x = c.push.new.self.items} {y = near} c.in_err-push.ensures.items;
     })
 
 pub invariant_of-self-then-len-lt-NEAR : goal.invariant_of-self-then-len-lt-NEAR
@@ -58,7 +58,7 @@ returns-in_err-insert g c =
     rw (p.1, ← c.self.view_is) (record {
       ok = tt;
       growth = near_lacks g.K.PartialEq.eq g.met.K.Eq.laws g.met.K.Key.exact near far c.args.key (lacks g (goal.at.returns-in_err-insert g c).After-len) absent;
-      unchanged = ap (λ keys. near ++ keys) c.in_err-insert.ensures.err;
+      unchanged = ap (λ keys. near ++ keys) {x = c.insert.new.self.keys} {y = far} c.in_err-insert.ensures.err;
     })
 
 pub invariant_of-self-2 : goal.invariant_of-self-2
