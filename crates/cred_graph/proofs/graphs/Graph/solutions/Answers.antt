@@ -1,6 +1,6 @@
-use Rattle.std.proofs.Common.{◌∙◌}
+use Rattle.std.proofs.Common.{◌∙◌, ap, length}
 use Rattle.cred_graph.proofs.ReadLemmas.{length-members}
 use Rattle.cred_graph.proofs.graphs.Graph.solutions.Goals as goal
 
 pub returns-clause-count : goal.returns-clause-count
-returns-clause-count c = rw (← c.self.view_is, ← c.short.ensures) (c.solutions.ensures ∙ length-members c.self.inside.nodes c.self.inside.strangers c.self.inside.tables.0 c.self.inside.tables.1 c.short.result)
+returns-clause-count c = rw (← c.self.view_is, ← c.short.ensures) (ap length c.members.ensures ∙ length-members c.self.inside.nodes c.self.inside.strangers c.self.inside.tables.0 c.self.inside.tables.1 c.short.result)
