@@ -1,7 +1,7 @@
 -- Rows that get one more element, and rows that are made.
-use Rattle.std.proofs.Common.{ℕ, zero, suc, ◌<◌, ◌≡◌, ◌==◌, ◌∙◌, ap, refl, sym, subst, inl, inr, List, [], ◌∷◌, ◌++◌, get_or, length, map, set}
+use Rattle.std.proofs.Common.{ℕ, zero, suc, ◌<◌, ◌≤◌, ◌≡◌, ◌==◌, ◌∙◌, ap, refl, sym, subst, arith, inl, inr, List, [], ◌∷◌, ◌++◌, get_or, length, map, set}
 use Rattle.std.proofs.lemmas.Bool.{cases_eq, cond-true, cond-false, eq-eqb, ne_eqb}
-use Rattle.std.proofs.lemmas.List.{length-map, map_push, get_or-set_same, get_or-set_other}
+use Rattle.std.proofs.lemmas.List.{length-map, map_push, get_or-map, get_or_past, get_or-set_same, get_or-set_other}
 use Rattle.std.proofs.Math.Seq.{map-set_same}
 use Rattle.cred_graph.specs.declared.listeners.KeptListening.{KeptListening}
 use Rattle.cred_graph.specs.declared.rows.Row.{Row}
@@ -21,6 +21,13 @@ empty_last (l ∷ lists) zero = refl
 empty_last (l ∷ lists) (suc m) = empty_last lists m
 
 module _ {R X : Type 0} (f : R → List X) where
+  -- the list of the row that is there, or of none
+  pub row_at : (rows read : List R) (n : ℕ) (row : R) → read ≡ rows → n < length read → ((d : R) → row ≡ get_or read n d) → f row ≡ list_at (map f rows) n
+  row_at rows read n row is within at = ap f (at row) ∙ sym (get_or-map f read n row [] within) ∙ ap (λ rs. list_at (map f rs) n) is
+
+  pub no_row : (rows read : List R) (n : ℕ) → read ≡ rows → length read ≤ n → [] ≡ list_at (map f rows) n
+  no_row rows read n is beyond = sym (get_or_past (map f rows) n [] (omega (arith, length-map rows f, ap length is)))
+
   -- an empty row is made
   pub row_made : (old rows after : List R) (row : R) → AreSame (map f old) (map f rows) → after ≡ rows ++ row ∷ [] → f row ≡ [] → AreSame (map f old) (map f after)
   row_made old rows after row same is empty m =
