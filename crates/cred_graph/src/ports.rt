@@ -1,12 +1,10 @@
 ghost use Rattle.std.specs.Prelude.{◌≡◌, IfOk, OnErr};
-ghost use Rattle.cred_graph.specs.declared.listeners.Port.TheVariants as ports;
 ghost use Rattle.cred_graph.specs.Numbers.{port_at, IsPort, IsNamed};
 ghost use Rattle.cred_graph.specs.Stored.{kept_as, IsKept, Joins};
 
 use crate::listeners::Port;
 use crate::nodes::Nodes;
 use credential_text::Expr;
-use names::Entity;
 use std::alloc::AllocError;
 
 /// A port as a graph keeps it. A member of a base that had no node when it was first named is a stranger, and goes on
@@ -27,28 +25,18 @@ pub fn keep_port(nodes: &Nodes, strangers: &mut Nodes, port: &Port) -> Result<Ke
     ensures joins { Joins nodes.now strangers.old strangers.new }
     ensures refused { OnErr result ((p : KeptPort) → IsKept nodes.now strangers.old p → kept_as nodes.now strangers.old p ≡ port.now → ⊥) }
 {
-    match port {
-        Port::Body => Ok(KeptPort::Body),
-        Port::Base => Ok(KeptPort::Base),
-        Port::Via(who) => keep_name(nodes, strangers, who),
-        Port::Part(part) => Ok(KeptPort::Part(*part)),
-    }
-}
-
-/// The port of a member of a base as it is kept from now on.
-fn keep_name(nodes: &Nodes, strangers: &mut Nodes, who: &Entity) -> Result<KeptPort, AllocError>
-    ensures kept { IfOk result (λ p. IsKept nodes.now strangers.new p × (kept_as nodes.now strangers.new p ≡ ports.Via who.now)) }
-    ensures joins { Joins nodes.now strangers.old strangers.new }
-    ensures refused { OnErr result ((p : KeptPort) → IsKept nodes.now strangers.old p → kept_as nodes.now strangers.old p ≡ ports.Via who.now → ⊥) }
-{
-    if let Some(j) = strangers.entity_number(who) {
-        return Ok(KeptPort::Stranger(j));
-    }
-    if let Some(k) = nodes.entity_number(who) {
-        return Ok(KeptPort::Via(k));
-    }
-    let j = strangers.add(&Expr::Ent(*who))?;
-    Ok(KeptPort::Stranger(j))
+    Ok(match port {
+        Port::Body => KeptPort::Body,
+        Port::Base => KeptPort::Base,
+        Port::Via(who) => match strangers.entity_number(who) {
+            Some(j) => KeptPort::Stranger(j),
+            None => match nodes.entity_number(who) {
+                Some(k) => KeptPort::Via(k),
+                None => KeptPort::Stranger(strangers.add(&Expr::Ent(*who))?),
+            },
+        },
+        Port::Part(part) => KeptPort::Part(*part),
+    })
 }
 
 /// The port of a number as it is kept. Where there is no stranger no table is asked.

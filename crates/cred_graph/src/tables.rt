@@ -23,6 +23,7 @@ const SMALL: usize = 4096;
 /// The listeners of each node, each once and in order of adding, and the solutions of all nodes with their reasons, in
 /// order of adding. Entities are spoken of by number. A node's row has its listeners and who its solutions are; listeners
 /// beyond the first ones of their node stand in a table too.
+#[derive(Drop)]
 pub struct Tables {
     rows: Vec<Row>,
     far: IndexSet<(u32, KeptListening)>,
@@ -42,17 +43,6 @@ impl Model for Tables {
 
     ghost invariant = { λ t. AreFar (map (λ r. r.listeners.items) t.rows.items) t.far.keys
         × AreMembers t.reasons.entries (map (λ r. r.members.items) t.rows.items) };
-}
-
-// By hand, so that who holds them drops them by one call, whose proof stands here.
-impl Drop for Tables {
-    fn drop(self) {
-        let Tables {
-            rows: _rows,
-            far: _far,
-            reasons: _reasons,
-        } = self;
-    }
 }
 
 impl Tables {
