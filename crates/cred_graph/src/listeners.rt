@@ -1,8 +1,11 @@
 ghost use Rattle.std.specs.Prelude.{◌≡◌, ⊤};
+ghost use Rattle.std.specs.Hash as fed;
+ghost use borrow.Author.Rules.{rules};
 
 use crate::ports::KeptPort;
 use names::Entity;
 use std::alloc::AllocError;
+use std::hash::{Hash, Hasher};
 
 /// For what an expression listens to another. The member of a base is an `Entity`, or the number of one.
 #[derive(Copy, PartialEq, Eq)]
@@ -36,8 +39,19 @@ pub struct Listening {
 }
 
 /// A listener as a graph keeps it.
-#[derive(Clone, Copy, Default, PartialEq, Eq, Hash)]
+#[derive(Clone, Copy, Default, PartialEq, Eq)]
 pub struct KeptListening {
     pub asker: u32,
     pub port: KeptPort,
+}
+
+// By the asker alone, since a node listens to another on few ports.
+impl Hash for KeptListening {
+    ghost hash_input = { λ l. fed.u32 l.asker };
+
+    ghost respects_eq = { Prim.search rules };
+
+    fn hash<H: Hasher>(&self, state: &mut H) {
+        self.asker.hash(state);
+    }
 }

@@ -11,3 +11,15 @@ returns-in_err-push_solution-clause-growth c = on_err c.from_residual.result c.i
 
 pub returns-clause-ok : goal.returns-clause-ok
 returns-clause-ok c = (c.in_default.ensures, c.in_ok-push_solution.ensures.added)
+
+pub push_solution-requires : goal.push_solution-requires
+push_solution-requires c = c.in_default.ensures
+
+pub returns-in_err-push_solution-clause-unchanged : goal.returns-in_err-push_solution-clause-unchanged
+returns-in_err-push_solution-clause-unchanged c = on_err c.from_residual.result c.in_err-push_solution.ensures.unchanged
+
+pub returns-in_err-push_solution-clause-listeners : goal.returns-in_err-push_solution-clause-listeners
+returns-in_err-push_solution-clause-listeners c = c.in_err-push_solution.ensures.listeners
+
+pub returns-clause-listeners : goal.returns-clause-listeners
+returns-clause-listeners c = c.in_ok-push_solution.ensures.listeners

@@ -1,0 +1,12 @@
+use Rattle.std.proofs.Common.{ap, sym}
+use Rattle.cred_graph.specs.Stored.{kept_as}
+use Rattle.cred_graph.proofs.ports.port_number.Goals as goal
+
+pub returns-in-Body : goal.returns-in-Body
+returns-in-Body c = record { same = ap (kept_as c.args.nodes.now c.args.strangers.now) (sym c.in-Body.is); number = tt }
+
+pub returns-in-Base : goal.returns-in-Base
+returns-in-Base c = record { same = ap (kept_as c.args.nodes.now c.args.strangers.now) (sym c.in-Base.is); number = tt }
+
+pub returns-in-Part : goal.returns-in-Part
+returns-in-Part c = record { same = ap (kept_as c.args.nodes.now c.args.strangers.now) (sym c.in-Part.is); number = tt }
