@@ -1,4 +1,5 @@
 use Rattle.std.proofs.Common.{◌≡◌, ◌∙◌, ap, refl, sym, inl, inr, Some, slice_get}
+use Rattle.std.proofs.lemmas.Result.{IfOk-from_err}
 use Rattle.credential_text.specs.declared.exprs.Expr.TheVariants.{Ent}
 use Rattle.cred_graph.specs.declared.listeners.Port.TheVariants as port
 use Rattle.cred_graph.proofs.KeptLemmas.{not_kept}
@@ -41,3 +42,6 @@ returns-in-Base c = record { kept = (tt, sym c.in-Base.is); joins = inl refl; re
 
 pub returns-in-Part : goal.returns-in-Part
 returns-in-Part c = record { kept = (tt, sym c.in-Part.is); joins = inl refl; refused = tt }
+
+pub returns-in_err-add-in-None-entity_number-clause-kept : goal.returns-in_err-add-in-None-entity_number-clause-kept
+returns-in_err-add-in-None-entity_number-clause-kept c = IfOk-from_err c.from_residual.result _ c.from_residual.ensures.0

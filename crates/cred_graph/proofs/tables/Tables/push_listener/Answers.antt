@@ -1,4 +1,5 @@
 use Rattle.std.proofs.Common.{◌<◌, ap, arith, refl, length}
+use Rattle.std.proofs.lemmas.Result.{IfOk-from_err}
 use Rattle.cred_graph.specs.NodeLists.{list_at}
 use Rattle.cred_graph.proofs.ListenerLemmas.{far_kept, far_same, far_added}
 use Rattle.cred_graph.proofs.Lists.{on_err}
@@ -31,18 +32,30 @@ invariant_of-self-2 c =
       members_same c.self.inside.reasons.entries _ (members_in c.self.inside.rows.items) _ c.self.invariant.1 refl c.in_ok-add_listener.ensures.members,
     )
 
-pub returns-then-listeners-lt-NEAR-clause-added : goal.returns-then-listeners-lt-NEAR-clause-added
-returns-then-listeners-lt-NEAR-clause-added c = rw (← c.self.view_is) c.add_listener.ensures.added
+pub returns-then-listeners-lt-NEAR : goal.returns-then-listeners-lt-NEAR
+returns-then-listeners-lt-NEAR c = record {
+  added = rw (← c.self.view_is) c.add_listener.ensures.added;
+  unchanged = rw (← c.self.view_is) c.add_listener.ensures.unchanged;
+  solutions = rw (← c.self.view_is) refl;
+}
 
-pub returns-then-listeners-lt-NEAR-clause-unchanged : goal.returns-then-listeners-lt-NEAR-clause-unchanged
-returns-then-listeners-lt-NEAR-clause-unchanged c = rw (← c.self.view_is) c.add_listener.ensures.unchanged
+pub returns-in_err-reserve : goal.returns-in_err-reserve
+returns-in_err-reserve c = record {
+  added = IfOk-from_err c.from_residual.result _ c.from_residual.ensures.0;
+  unchanged = rw (← c.self.view_is) (on_err c.from_residual.result (λ m. refl));
+  solutions = rw (← c.self.view_is) refl;
+}
 
-pub returns-in_err-reserve-clause-unchanged : goal.returns-in_err-reserve-clause-unchanged
-returns-in_err-reserve-clause-unchanged c = rw (← c.self.view_is) (on_err c.from_residual.result (λ m. refl))
+pub returns-in_err-add_listener : goal.returns-in_err-add_listener
+returns-in_err-add_listener c = record {
+  added = IfOk-from_err c.from_residual-in_err-add_listener.result _ c.from_residual-in_err-add_listener.ensures.0;
+  unchanged = rw (← c.self.view_is) (on_err c.from_residual-in_err-add_listener.result c.in_err-add_listener.ensures.unchanged);
+  solutions = rw (← c.self.view_is) refl;
+}
 
-pub returns-in_err-add_listener-clause-unchanged : goal.returns-in_err-add_listener-clause-unchanged
-returns-in_err-add_listener-clause-unchanged c =
-    rw (← c.self.view_is) (on_err c.from_residual-in_err-add_listener.result c.in_err-add_listener.ensures.unchanged)
-
-pub returns-clause-added : goal.returns-clause-added
-returns-clause-added c = rw (← c.self.view_is) c.in_ok-add_listener.ensures.added
+pub returns : goal.returns
+returns c = record {
+  added = rw (← c.self.view_is) c.in_ok-add_listener.ensures.added;
+  unchanged = tt;
+  solutions = rw (← c.self.view_is) refl;
+}
