@@ -10,3 +10,6 @@ returns-in-Base c = record { kept = tt; same = ap (port_at c.args.nodes.now) (sy
 
 pub returns-in-Part : goal.returns-in-Part
 returns-in-Part c = record { kept = tt; same = ap (port_at c.args.nodes.now) (sym c.in-Part.is) }
+
+pub entity-requires : goal.entity-requires
+entity-requires c = rw c.in-Via.is at c.requires

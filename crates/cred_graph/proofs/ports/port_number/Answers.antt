@@ -10,3 +10,11 @@ returns-in-Base c = record { same = ap (kept_as c.args.nodes.now c.args.stranger
 
 pub returns-in-Part : goal.returns-in-Part
 returns-in-Part c = record { same = ap (kept_as c.args.nodes.now c.args.strangers.now) (sym c.in-Part.is); number = tt }
+
+pub returns-in-Via : goal.returns-in-Via
+returns-in-Via c =
+    let k = rw c.in-Via.is at c.requires.kept in
+    record { same = ap (kept_as c.args.nodes.now c.args.strangers.now) (sym c.in-Via.is); number = (k.0, k.1) }
+
+pub entity-requires : goal.entity-requires
+entity-requires c = rw c.in-Stranger.is at c.requires.kept

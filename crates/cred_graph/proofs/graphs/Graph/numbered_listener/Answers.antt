@@ -24,3 +24,6 @@ returns-clause-listener c =
 
 pub short-requires : goal.short-requires
 short-requires c = rw (← c.self.view_is) at c.requires.node
+
+pub returns-clause-port : goal.returns-clause-port
+returns-clause-port c = rw (← c.self.view_is) c.port_number-port.ensures.number

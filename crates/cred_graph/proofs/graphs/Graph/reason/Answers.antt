@@ -27,3 +27,16 @@ returns-in-None-clause-found c =
 pub returns-then-n-count-clause-found : goal.returns-then-n-count-clause-found
 returns-then-n-count-clause-found c =
     rw (← c.self.view_is) (no_such_node c.self.inside.nodes c.self.inside.strangers c.self.inside.tables.0 c.self.inside.tables.1 c.args.n c.args.who.now c.self.invariant (rw c.count.ensures at c.if-n-count.true))
+
+pub returns-then-n-count-clause-earlier : goal.returns-then-n-count-clause-earlier
+returns-then-n-count-clause-earlier c = tt
+
+pub returns-in_default-clause-earlier : goal.returns-in_default-clause-earlier
+returns-in_default-clause-earlier c = tt
+
+pub returns-in-None-clause-earlier : goal.returns-in-None-clause-earlier
+returns-in-None-clause-earlier c = tt
+
+pub reason_name-requires : goal.reason_name-requires
+reason_name-requires c =
+    c.self.invariant.reasons c.in-Some-find.place (record { node = c.short-node.result; who = c.in-Some.number }, c.in-Some-find.reason) c.in-Some-find.ensures
