@@ -75,6 +75,9 @@ module _ (lists : List (List KeptListening)) (n : ℕ) (l : KeptListening)
             has ∙ rows_have.1 ((are n l).1 (subst (λ xs. Contains xs l) (sym tail) (beyond none there))),
       )
 
+pub none_far : AreFar [] []
+none_far n l = (λ there. absurd (omega (arith, there.1)), λ there. absurd (omega (arith, there.1)))
+
 -- the table stays where a list with room among the first gets one more
 far_near : (lists after : List (List KeptListening)) (rows : List (ℕ × KeptListening)) (n : ℕ) (l : KeptListening) → AreFar lists rows → length (list_at lists n) < 8 → AddsAt lists after n l → AreFar after rows
 far_near lists after rows n l are room adds m k =
@@ -100,7 +103,7 @@ far_kept lists after rows n l are room (Err e) adds same = far_same lists after 
 
 -- a listener that isn't there goes last in the table too
 pub far_added : (lists after : List (List KeptListening)) (rows mid new : List (ℕ × KeptListening)) (n : ℕ) (l : KeptListening) → AreFar lists rows →
-    (Contains (list_at lists n) l → ⊥) → (length (list_at lists n) < 8 → ⊥) → AddsAt lists after n l → mid ≡ rows → new ≡ insert_key far_eq mid (n, l) → AreFar after new
+    (Contains (list_at lists n) l → ⊥) → 8 ≤ length (list_at lists n) → AddsAt lists after n l → mid ≡ rows → new ≡ insert_key far_eq mid (n, l) → AreFar after new
 far_added lists after rows mid new n l are absent full adds reserved is =
     let list = list_at lists n in
     let tail : Contains (drop 8 list) l → ⊥ = λ there. absent (subst (λ xs. Contains xs l) (take-append-drop 8 list) (Contains-append_right (take 8 list) (drop 8 list) l there)) in
@@ -109,7 +112,7 @@ far_added lists after rows mid new n l are absent full adds reserved is =
     subst (AreFar after) (sym rows_are) (λ m k. elim (cases_eq m n) [
       | inl here ↦
           let longer : list_at after m ≡ list_at lists m ++ l ∷ [] = adds m ∙ cond-true (m == n) (list_at lists m ++ l ∷ []) (list_at lists m) (eq-eqb m n here) in
-          let many : 8 ≤ length (list_at lists m) = subst (λ i. 8 ≤ length (list_at lists i)) (sym here) (omega arith) in
+          let many : 8 ≤ length (list_at lists m) = subst (λ i. 8 ≤ length (list_at lists i)) (sym here) full in
           let dropped : drop 8 (list_at after m) ≡ drop 8 (list_at lists m) ++ l ∷ [] = ap (drop 8) longer ∙ drop-append-le 8 (list_at lists m) (l ∷ []) many in (
             λ (there : Contains (rows ++ (n, l) ∷ []) (m, k)).
                 subst (λ xs. Contains xs k) (sym dropped) (elim (Contains-push_cases rows (n, l) (m, k) there) [

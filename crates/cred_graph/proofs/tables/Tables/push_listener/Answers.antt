@@ -1,6 +1,6 @@
-use Rattle.std.proofs.Common.{◌<◌, ap, arith, refl, length}
+use Rattle.std.proofs.Common.{◌<◌, ◌≤◌, refl, subst, List, length}
 use Rattle.std.proofs.lemmas.Result.{IfOk-from_err}
-use Rattle.cred_graph.specs.NodeLists.{list_at}
+use Rattle.cred_graph.specs.declared.listeners.KeptListening.{KeptListening}
 use Rattle.cred_graph.proofs.ListenerLemmas.{far_kept, far_same, far_added}
 use Rattle.cred_graph.proofs.Lists.{on_err}
 use Rattle.cred_graph.proofs.SolutionLemmas.{members_same}
@@ -9,7 +9,7 @@ use Rattle.cred_graph.proofs.tables.Tables.push_listener.Goals as goal
 
 pub invariant_of-self : goal.invariant_of-self
 invariant_of-self c =
-    let room : length (list_at (listeners_in c.self.inside.rows.items) c.args.n) < 8 = omega (arith, ap length (rw (← c.self.view_is) at c.listeners.ensures), c.if-listeners-lt-NEAR.true) in (
+    let room = subst (λ (l : List KeptListening). length l < 8) (rw (← c.self.view_is) at c.listeners.ensures) c.if-listeners-lt-NEAR.true in (
       far_kept (listeners_in c.self.inside.rows.items) _ c.self.inside.far.keys c.args.n c.args.listening c.self.invariant.0 room c.add_listener.result c.add_listener.ensures.added c.add_listener.ensures.unchanged,
       members_same c.self.inside.reasons.entries _ (members_in c.self.inside.rows.items) _ c.self.invariant.1 refl c.add_listener.ensures.members,
     )
@@ -26,7 +26,7 @@ invariant_of-self-in_err-add_listener c = (
 
 pub invariant_of-self-2 : goal.invariant_of-self-2
 invariant_of-self-2 c =
-    let full : length (list_at (listeners_in c.self.inside.rows.items) c.args.n) < 8 → ⊥ = λ room. omega (arith, ap length (rw (← c.self.view_is) at c.listeners.ensures), c.if-listeners-lt-NEAR.false) in
+    let full = subst (λ (l : List KeptListening). 8 ≤ length l) (rw (← c.self.view_is) at c.listeners.ensures) c.if-listeners-lt-NEAR.false in
     let absent = rw (← c.self.view_is) at c.requires in (
       far_added (listeners_in c.self.inside.rows.items) _ c.self.inside.far.keys _ _ c.args.n c.args.listening c.self.invariant.0 absent full c.in_ok-add_listener.ensures.added c.in_ok-reserve.ensures.keys (rw c.unwrap-is_new.ensures at c.insert.ensures.keys),
       members_same c.self.inside.reasons.entries _ (members_in c.self.inside.rows.items) _ c.self.invariant.1 refl c.in_ok-add_listener.ensures.members,
