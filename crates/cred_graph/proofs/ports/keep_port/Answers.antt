@@ -45,3 +45,15 @@ returns-in-Part c = record { kept = (tt, sym c.in-Part.is); joins = inl refl; re
 
 pub returns-in_err-add-in-None-entity_number-clause-kept : goal.returns-in_err-add-in-None-entity_number-clause-kept
 returns-in_err-add-in-None-entity_number-clause-kept c = IfOk-from_err c.from_residual.result _ c.from_residual.ensures.0
+
+pub returns-in-Some-clause-joins : goal.returns-in-Some-clause-joins
+returns-in-Some-clause-joins c = inl refl
+
+pub returns-in-Some-entity_number-clause-joins : goal.returns-in-Some-entity_number-clause-joins
+returns-in-Some-entity_number-clause-joins c = inl refl
+
+pub add-requires : goal.add-requires
+add-requires c = c.in-None.ensures
+
+pub returns-in_err-add-in-None-entity_number-clause-joins : goal.returns-in_err-add-in-None-entity_number-clause-joins
+returns-in_err-add-in-None-entity_number-clause-joins c = inl c.in_err-add-in-None-entity_number.ensures.unchanged
