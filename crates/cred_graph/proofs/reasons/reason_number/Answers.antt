@@ -1,5 +1,4 @@
-use Rattle.std.proofs.Common.{ap, sym}
-use Rattle.cred_graph.specs.Numbers.{reason_at}
+use Rattle.std.proofs.Common.{sym}
 use Rattle.cred_graph.proofs.reasons.reason_number.Goals as goal
 
 pub returns-in-Leaf : goal.returns-in-Leaf
