@@ -1,18 +1,22 @@
-//! How much room the tables of a graph keep.
-ghost use Rattle.std.specs.Prelude.{◌≡◌, ◌/◌, ◌&&◌, nat_le, nat_lt, if◌then◌else◌};
+//! How much room the tables of a graph keep where they give memory back. `usize::MAX` is all that a table has.
+ghost use Rattle.std.specs.Prelude.{◌≡◌, ◌-◌, ◌/◌, ◌^◌, ◌&&◌, nat_le, nat_lt, if◌then◌else◌};
 
 /// The room that a table keeps as it is emptied: all of it, where that is as much as a search begins with and not as much as
 /// a large one has. A table that has less is had anew sooner than it grows, since to grow moves what it had room for.
 pub fn kept_when_empty(room: usize) -> usize
-    ensures { result ≡ (if nat_le 36 room && nat_le room 256 then room else 0) }
+    ensures { result ≡ (if nat_le 36 room && nat_le room 256 then 2 ^ 64 - 1 else 0) }
 {
-    if 36 <= room && room <= 256 { room } else { 0 }
+    if 36 <= room && room <= 256 {
+        usize::MAX
+    } else {
+        0
+    }
 }
 
-/// The room that a table keeps where so much is taken: all of it, unless less than half is taken. Memory is given back only
+/// The room that a table keeps beyond what is taken: all of it, unless less than half is taken. Memory is given back only
 /// then, since a list has to be moved for it, which costs more than its last rows take.
 pub fn kept_room(taken: usize, room: usize) -> usize
-    ensures { result ≡ (if nat_lt taken (room / 2) then taken else room) }
+    ensures { result ≡ (if nat_lt taken (room / 2) then 0 else 2 ^ 64 - 1) }
 {
-    if taken < room / 2 { taken } else { room }
+    if taken < room / 2 { 0 } else { usize::MAX }
 }
