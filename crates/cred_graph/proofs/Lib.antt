@@ -12,3 +12,4 @@ pub mod StoredLemmas
 pub mod Solvers
 pub mod CallLemmas
 pub mod ReadLemmas
+pub mod EmptyLemmas

@@ -9,16 +9,11 @@ use Rattle.std.proofs.lemmas.List.Elements.{Contains-append_cases, Contains-appe
 use Rattle.std.proofs.lemmas.Map.Views.{exact_unsigned_eq}
 use Rattle.indexmap.specs.IndexSet.{insert_key}
 use Rattle.cred_graph.specs.declared.listeners.KeptListening.{KeptListening}
-use Rattle.cred_graph.specs.declared.listeners.FarListening.{FarListening}
 use Rattle.cred_graph.specs.contracts.listeners.KeptListeningPartialEq.TheImpl as kept
-use Rattle.cred_graph.specs.contracts.listeners.FarListeningPartialEq.TheImpl as far
 use Rattle.cred_graph.specs.NodeLists.{list_at, AreSame, AddsAt}
 use Rattle.cred_graph.specs.Stored.{AreFar}
-use Rattle.cred_graph.proofs.Keys.{kept_decided, far_decided}
+use Rattle.cred_graph.proofs.Keys.{kept_decided, far_decided, far_eq}
 use Rattle.cred_graph.proofs.Lookups.{any_exact, insert_key-absent}
-
-abbrev pub far_of : ℕ → KeptListening → FarListening
-far_of n l = record { asked = n; listening = l }
 
 seen_from : (x y : KeptListening) → Decides (kept.ghosts.eq y x) (x ≡ y)
 seen_from x y = (λ (same : kept.ghosts.eq y x ≡ true). sym ((kept_decided y x).0 same), λ (same : x ≡ y). (kept_decided y x).1 (sym same))
@@ -66,12 +61,12 @@ module _ (lists : List (List KeptListening)) (n : ℕ) (l : KeptListening)
       )
 
   -- a listener that isn't among the first is looked for in the table
-  pub has_far : (rows : List FarListening) (r : Bool) → AreFar lists rows → found ≡ false →
-      r ≡ list_any (far.ghosts.eq (far_of n l)) rows → IsTrue r ↔ Contains (list_at lists n) l
+  pub has_far : (rows : List (ℕ × KeptListening)) (r : Bool) → AreFar lists rows → found ≡ false →
+      r ≡ list_any (far_eq (n, l)) rows → IsTrue r ↔ Contains (list_at lists n) l
   has_far rows r are none has =
       let tail : drop 8 (list_at lists n) ≡ others =
       ap (drop 8) (sym is) ∙ sym (drop_min 8 list) ∙ ap (λ k. drop k list) (min_turned (length list)) ∙ sym back in
-      let rows_have = any_exact far.ghosts.eq far_decided rows (far_of n l) in (
+      let rows_have = any_exact far_eq far_decided rows (n, l) in (
         λ (yes : r ≡ true).
             subst (λ xs. Contains xs l) whole
             (Contains-append_right near others l
@@ -80,8 +75,11 @@ module _ (lists : List (List KeptListening)) (n : ℕ) (l : KeptListening)
             has ∙ rows_have.1 ((are n l).1 (subst (λ xs. Contains xs l) (sym tail) (beyond none there))),
       )
 
+pub none_far : AreFar [] []
+none_far n l = (λ there. absurd (omega (arith, there.1)), λ there. absurd (omega (arith, there.1)))
+
 -- the table stays where a list with room among the first gets one more
-far_near : (lists after : List (List KeptListening)) (rows : List FarListening) (n : ℕ) (l : KeptListening) → AreFar lists rows → length (list_at lists n) < 8 → AddsAt lists after n l → AreFar after rows
+far_near : (lists after : List (List KeptListening)) (rows : List (ℕ × KeptListening)) (n : ℕ) (l : KeptListening) → AreFar lists rows → length (list_at lists n) < 8 → AddsAt lists after n l → AreFar after rows
 far_near lists after rows n l are room adds m k =
     let same : drop 8 (list_at after m) ≡ drop 8 (list_at lists m) = elim (cases_eq m n) [
       | inl here ↦
@@ -90,51 +88,51 @@ far_near lists after rows n l are room adds m k =
           ap (drop 8) longer ∙ drop_all 8 (list_at lists m ++ l ∷ []) (one_more (list_at lists m) l few) ∙ sym (drop_all 8 (list_at lists m) (omega arith))
       | inr other ↦ ap (drop 8) (adds m ∙ cond-false (m == n) (list_at lists m ++ l ∷ []) (list_at lists m) (ne_eqb m n other))
     ] in
-    subst (λ xs. Contains rows (far_of m k) ↔ Contains xs k) (sym same) (are m k)
+    subst (λ xs. Contains rows (m, k) ↔ Contains xs k) (sym same) (are m k)
 
-pub far_same : (lists after : List (List KeptListening)) (rows mid : List FarListening) → AreFar lists rows → mid ≡ rows → AreSame lists after → AreFar after mid
+pub far_same : (lists after : List (List KeptListening)) (rows mid : List (ℕ × KeptListening)) → AreFar lists rows → mid ≡ rows → AreSame lists after → AreFar after mid
 far_same lists after rows mid are same lists_same n l =
-    subst (λ rs. Contains rs (far_of n l) ↔ Contains (drop 8 (list_at after n)) l) (sym same)
-    (subst (λ xs. Contains rows (far_of n l) ↔ Contains (drop 8 xs) l) (sym (lists_same n)) (are n l))
+    subst (λ rs. Contains rs (n, l) ↔ Contains (drop 8 (list_at after n)) l) (sym same)
+    (subst (λ xs. Contains rows (n, l) ↔ Contains (drop 8 xs) l) (sym (lists_same n)) (are n l))
 
 -- the table stays where a list with room among the first is to get one more
-pub far_kept : {T E : Type 0} (lists after : List (List KeptListening)) (rows : List FarListening) (n : ℕ) (l : KeptListening) → AreFar lists rows → length (list_at lists n) < 8 →
+pub far_kept : {T E : Type 0} (lists after : List (List KeptListening)) (rows : List (ℕ × KeptListening)) (n : ℕ) (l : KeptListening) → AreFar lists rows → length (list_at lists n) < 8 →
     (r : Result T E) → OnOk r (AddsAt lists after n l) → OnErr r (AreSame lists after) → AreFar after rows
 far_kept lists after rows n l are room (Ok x) adds same = far_near lists after rows n l are room adds
 far_kept lists after rows n l are room (Err e) adds same = far_same lists after rows rows are refl same
 
 -- a listener that isn't there goes last in the table too
-pub far_added : (lists after : List (List KeptListening)) (rows mid new : List FarListening) (n : ℕ) (l : KeptListening) → AreFar lists rows →
-    (Contains (list_at lists n) l → ⊥) → (length (list_at lists n) < 8 → ⊥) → AddsAt lists after n l → mid ≡ rows → new ≡ insert_key far.ghosts.eq mid (far_of n l) → AreFar after new
+pub far_added : (lists after : List (List KeptListening)) (rows mid new : List (ℕ × KeptListening)) (n : ℕ) (l : KeptListening) → AreFar lists rows →
+    (Contains (list_at lists n) l → ⊥) → 8 ≤ length (list_at lists n) → AddsAt lists after n l → mid ≡ rows → new ≡ insert_key far_eq mid (n, l) → AreFar after new
 far_added lists after rows mid new n l are absent full adds reserved is =
     let list = list_at lists n in
     let tail : Contains (drop 8 list) l → ⊥ = λ there. absent (subst (λ xs. Contains xs l) (take-append-drop 8 list) (Contains-append_right (take 8 list) (drop 8 list) l there)) in
-    let out : Contains rows (far_of n l) → ⊥ = λ there. tail ((are n l).0 there) in
-    let rows_are : new ≡ rows ++ far_of n l ∷ [] = is ∙ ap (λ rs. insert_key far.ghosts.eq rs (far_of n l)) reserved ∙ insert_key-absent far.ghosts.eq far_decided rows (far_of n l) out in
+    let out : Contains rows (n, l) → ⊥ = λ there. tail ((are n l).0 there) in
+    let rows_are : new ≡ rows ++ (n, l) ∷ [] = is ∙ ap (λ rs. insert_key far_eq rs (n, l)) reserved ∙ insert_key-absent far_eq far_decided rows (n, l) out in
     subst (AreFar after) (sym rows_are) (λ m k. elim (cases_eq m n) [
       | inl here ↦
           let longer : list_at after m ≡ list_at lists m ++ l ∷ [] = adds m ∙ cond-true (m == n) (list_at lists m ++ l ∷ []) (list_at lists m) (eq-eqb m n here) in
-          let many : 8 ≤ length (list_at lists m) = subst (λ i. 8 ≤ length (list_at lists i)) (sym here) (omega arith) in
+          let many : 8 ≤ length (list_at lists m) = subst (λ i. 8 ≤ length (list_at lists i)) (sym here) full in
           let dropped : drop 8 (list_at after m) ≡ drop 8 (list_at lists m) ++ l ∷ [] = ap (drop 8) longer ∙ drop-append-le 8 (list_at lists m) (l ∷ []) many in (
-            λ (there : Contains (rows ++ far_of n l ∷ []) (far_of m k)).
-                subst (λ xs. Contains xs k) (sym dropped) (elim (Contains-push_cases rows (far_of n l) (far_of m k) there) [
+            λ (there : Contains (rows ++ (n, l) ∷ []) (m, k)).
+                subst (λ xs. Contains xs k) (sym dropped) (elim (Contains-push_cases rows (n, l) (m, k) there) [
                   | inl before ↦ Contains-append_left (drop 8 (list_at lists m)) (l ∷ []) k ((are m k).0 before)
-                  | inr now ↦ subst (λ (x : FarListening). Contains (drop 8 (list_at lists m) ++ l ∷ []) x.listening) now (Contains-push (drop 8 (list_at lists m)) l)
+                  | inr now ↦ subst (λ (x : ℕ × KeptListening). Contains (drop 8 (list_at lists m) ++ l ∷ []) x.1) now (Contains-push (drop 8 (list_at lists m)) l)
                 ]),
             λ (there : Contains (drop 8 (list_at after m)) k).
                 elim (Contains-push_cases (drop 8 (list_at lists m)) l k (subst (λ xs. Contains xs k) dropped there)) [
-                  | inl before ↦ Contains-append_left rows (far_of n l ∷ []) (far_of m k) ((are m k).1 before)
-                  | inr now ↦ subst (Contains (rows ++ far_of n l ∷ [])) (ap (λ j. far_of j l) (sym here) ∙ ap (far_of m) now) (Contains-push rows (far_of n l))
+                  | inl before ↦ Contains-append_left rows ((n, l) ∷ []) (m, k) ((are m k).1 before)
+                  | inr now ↦ subst (Contains (rows ++ (n, l) ∷ [])) (ap (λ j. (j, l)) (sym here) ∙ ap (λ k. (m, k)) now) (Contains-push rows (n, l))
                 ],
           )
       | inr other ↦
           let same : list_at after m ≡ list_at lists m = adds m ∙ cond-false (m == n) (list_at lists m ++ l ∷ []) (list_at lists m) (ne_eqb m n other) in (
-            λ (there : Contains (rows ++ far_of n l ∷ []) (far_of m k)).
-                elim (Contains-push_cases rows (far_of n l) (far_of m k) there) [
+            λ (there : Contains (rows ++ (n, l) ∷ []) (m, k)).
+                elim (Contains-push_cases rows (n, l) (m, k) there) [
                   | inl before ↦ subst (λ xs. Contains (drop 8 xs) k) (sym same) ((are m k).0 before)
-                  | inr now ↦ absurd (other (sym (ap (λ (x : FarListening). x.asked) now)))
+                  | inr now ↦ absurd (other (sym (ap (λ (x : ℕ × KeptListening). x.0) now)))
                 ],
             λ (there : Contains (drop 8 (list_at after m)) k).
-                Contains-append_left rows (far_of n l ∷ []) (far_of m k) ((are m k).1 (subst (λ xs. Contains (drop 8 xs) k) same there)),
+                Contains-append_left rows ((n, l) ∷ []) (m, k) ((are m k).1 (subst (λ xs. Contains (drop 8 xs) k) same there)),
           )
     ])

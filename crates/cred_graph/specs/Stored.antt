@@ -8,7 +8,6 @@ use Rattle.cred_graph.specs.declared.listeners.Port.{Port}
 use Rattle.cred_graph.specs.declared.listeners.Port.TheVariants as port
 use Rattle.cred_graph.specs.declared.listeners.Listening.{Listening}
 use Rattle.cred_graph.specs.declared.listeners.KeptListening.{KeptListening}
-use Rattle.cred_graph.specs.declared.listeners.FarListening.{FarListening}
 use Rattle.cred_graph.specs.declared.ports.KeptPort.{KeptPort}
 use Rattle.cred_graph.specs.declared.ports.KeptPort.TheVariants as kept
 use Rattle.cred_graph.specs.Numbers.{entity_at, reason_at, IsEntity, IsReason}
@@ -48,9 +47,8 @@ lists_from nodes strangers n (suc k) lists =
     map (listening_as nodes strangers) (list_at lists n) ∷ lists_from nodes strangers (suc n) k lists
 
 -- a table has the listeners of each node beyond the first 8
-abbrev pub AreFar : List (List KeptListening) → List FarListening → Type 0
-AreFar lists rows =
-    (n : ℕ) (l : KeptListening) → Contains rows (record { asked = n; listening = l }) ↔ Contains (drop 8 (list_at lists n)) l
+abbrev pub AreFar : List (List KeptListening) → List (ℕ × KeptListening) → Type 0
+AreFar lists rows = (n : ℕ) (l : KeptListening) → Contains rows (n, l) ↔ Contains (drop 8 (list_at lists n)) l
 
 -- the list of this number has the listener now, and b says whether it is new
 abbrev pub HearsOf : List (List KeptListening) → List (List KeptListening) → ℕ → KeptListening → Bool → Type 0

@@ -146,7 +146,7 @@ impl Graph {
         ensures count { result ≡ length (listeners_of self.now n) }
         ensures graph { IsGraph self.now }
     {
-        self.tables.listeners(self.nodes.short(n))
+        self.tables.listeners(self.nodes.short(n)).len() as u64
     }
 
     /// The node that listens in this place among the node's listeners, and its port.
@@ -182,7 +182,7 @@ impl Graph {
         ensures count { result ≡ length (members_of self.now n) }
         ensures graph { IsGraph self.now }
     {
-        self.tables.solutions(self.nodes.short(n))
+        self.tables.members(self.nodes.short(n)).len() as u64
     }
 
     /// The solution of this place among the node's solutions.
@@ -201,9 +201,10 @@ impl Graph {
             slice_get self.now.solutions r.0 ≡ Some (record { node = n; who = who.now; reason = r.1 })) }
         ensures earlier { IfSome result (λ r. Fits (before r.0 self.now) n who.now r.1) }
     {
-        let Some(node) = self.nodes.found(n) else {
+        if n >= self.nodes.count() {
             return None;
-        };
+        }
+        let node = self.nodes.short(n);
         let Some(number) = self.nodes.entity_number(who) else {
             return None;
         };

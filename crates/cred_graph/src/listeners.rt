@@ -1,8 +1,14 @@
+ghost use Rattle.std.specs.Prelude.{◌≡◌, ⊤};
+ghost use Rattle.std.specs.Hash as fed;
+ghost use borrow.Author.Rules.{rules};
+
 use crate::ports::KeptPort;
 use names::Entity;
+use std::alloc::AllocError;
+use std::hash::{Hash, Hasher};
 
 /// For what an expression listens to another. The member of a base is an `Entity`, or the number of one.
-#[derive(Clone, Copy, PartialEq, Eq)]
+#[derive(Copy, PartialEq, Eq)]
 pub enum Port<E = Entity> {
     /// A role, for the body of one of its credentials.
     Body,
@@ -14,6 +20,16 @@ pub enum Port<E = Entity> {
     Part(u8),
 }
 
+impl<E: Copy> Clone for Port<E> {
+    ghost is_clone = { λ x y. y ≡ x };
+
+    ghost is_infallible = { λ _. ⊤ };
+
+    fn clone(&self) -> Result<Self, AllocError> {
+        Ok(*self)
+    }
+}
+
 /// Who listens to a node: the node `asker`, on a port. One node may listen to another on two ports, which are two
 /// listeners.
 #[derive(Clone, Copy)]
@@ -23,15 +39,19 @@ pub struct Listening {
 }
 
 /// A listener as a graph keeps it.
-#[derive(Clone, Copy, Default, PartialEq, Eq, Hash)]
+#[derive(Clone, Copy, Default, PartialEq, Eq)]
 pub struct KeptListening {
     pub asker: u32,
     pub port: KeptPort,
 }
 
-/// A listener of the node `asked` beyond the first ones of that node.
-#[derive(Clone, Copy, PartialEq, Eq, Hash)]
-pub struct FarListening {
-    pub asked: u32,
-    pub listening: KeptListening,
+// By the asker alone, since a node listens to another on few ports.
+impl Hash for KeptListening {
+    ghost hash_input = { λ l. fed.u32 l.asker };
+
+    ghost respects_eq = { Prim.search rules };
+
+    fn hash<H: Hasher>(&self, state: &mut H) {
+        self.asker.hash(state);
+    }
 }

@@ -3,7 +3,7 @@ ghost use Rattle.credential_text.specs.declared.exprs.Expr.{Expr};
 ghost use Rattle.credential_text.specs.declared.exprs.Expr.TheVariants as exprs;
 ghost use Rattle.credential_text.specs.Expr.{HasPartsInRange};
 
-use crate::rooms::{is_mostly_spare, is_worth_keeping};
+use crate::rooms::{kept_room, kept_when_empty};
 use credential_text::Expr;
 use indexmap::IndexSet;
 use names::Entity;
@@ -77,9 +77,8 @@ impl Nodes {
     pub fn give_back(&mut self)
         ensures { self.new ≡ self.old }
     {
-        if is_mostly_spare(self.exprs.len(), self.exprs.capacity()) {
-            self.exprs.shrink_to_fit();
-        }
+        self.exprs
+            .shrink_to(kept_room(self.exprs.len(), self.exprs.capacity()));
     }
 
     /// Takes out all nodes. The room of a small table stays.
@@ -87,9 +86,7 @@ impl Nodes {
         ensures { self.new ≡ [] }
     {
         self.exprs.clear();
-        if !is_worth_keeping(self.exprs.capacity()) {
-            self.exprs.shrink_to_fit();
-        }
+        self.exprs.shrink_to(kept_when_empty(self.exprs.capacity()));
     }
 
     /// Adds a node for an expression that has none, and answers its number. A number that doesn't fit 32 bits is refused.
@@ -123,17 +120,6 @@ impl Nodes {
     {
         let _nodes = self.exprs.len();
         n as u32
-    }
-
-    /// The node's number in 32 bits, if there is such a node.
-    pub fn found(&self, n: u64) -> Option<u32>
-        ensures { MatchOption result (length self.now ≤ n) (λ k. k ≡ n) }
-    {
-        if n < self.exprs.len() as u64 {
-            Some(n as u32)
-        } else {
-            None
-        }
     }
 
     /// The number of the entity's node, if it has one.

@@ -9,7 +9,7 @@ use std::alloc::AllocError;
 
 /// A port as a graph keeps it. A member of a base that had no node when it was first named is a stranger, and goes on
 /// to have its number among the strangers.
-#[derive(Clone, Copy, Default, PartialEq, Eq, Hash)]
+#[derive(Clone, Copy, Default, PartialEq, Eq)]
 pub enum KeptPort {
     #[default]
     Body,

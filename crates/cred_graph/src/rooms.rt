@@ -1,18 +1,22 @@
-//! When the tables of a graph give memory back.
-ghost use Rattle.std.specs.Prelude.{◌↔◌, ◌<◌, ◌≤◌, ◌/◌, IsTrue};
+//! How much room the tables of a graph keep where they give memory back. `usize::MAX` is all that a table has.
+ghost use Rattle.std.specs.Prelude.{◌≡◌, ◌-◌, ◌/◌, ◌^◌, ◌&&◌, nat_le, nat_lt, if◌then◌else◌};
 
-/// Whether a table that is emptied keeps its room: as much as a search begins with, and not as much as a large one has. A
-/// table that has less is had anew sooner than it grows, since to grow moves what it had room for.
-pub fn is_worth_keeping(room: usize) -> bool
-    ensures { IsTrue result ↔ (36 ≤ room) × (room ≤ 256) }
+/// The room that a table keeps as it is emptied: all of it, where that is as much as a search begins with and not as much as
+/// a large one has. A table that has less is had anew sooner than it grows, since to grow moves what it had room for.
+pub fn kept_when_empty(room: usize) -> usize
+    ensures { result ≡ (if nat_le 36 room && nat_le room 256 then 2 ^ 64 - 1 else 0) }
 {
-    36 <= room && room <= 256
+    if 36 <= room && room <= 256 {
+        usize::MAX
+    } else {
+        0
+    }
 }
 
-/// Whether less than half of the room is taken. Memory is given back only then, since a list has to be moved for it, which
-/// costs more than its last rows take.
-pub fn is_mostly_spare(taken: usize, room: usize) -> bool
-    ensures { IsTrue result ↔ taken < room / 2 }
+/// The room that a table keeps beyond what is taken: all of it, unless less than half is taken. Memory is given back only
+/// then, since a list has to be moved for it, which costs more than its last rows take.
+pub fn kept_room(taken: usize, room: usize) -> usize
+    ensures { result ≡ (if nat_lt taken (room / 2) then 0 else 2 ^ 64 - 1) }
 {
-    taken < room / 2
+    if taken < room / 2 { 0 } else { usize::MAX }
 }

@@ -1,8 +1,11 @@
+ghost use Rattle.std.specs.Prelude.{◌≡◌, ⊤};
+
 use names::Entity;
+use std::alloc::AllocError;
 
 /// Why an entity is a solution of a node. Nodes have numbers of the type `N`; the member of a base is an `Entity`, or the
 /// number of one.
-#[derive(Clone, Copy, PartialEq, Eq)]
+#[derive(Copy, PartialEq, Eq)]
 pub enum Reason<N = u64, E = Entity> {
     /// The node's expression is the entity.
     Leaf,
@@ -13,6 +16,16 @@ pub enum Reason<N = u64, E = Entity> {
     Via(E),
     /// The node is an intersection, and the entity a solution of each part.
     Parts,
+}
+
+impl<N: Copy, E: Copy> Clone for Reason<N, E> {
+    ghost is_clone = { λ x y. y ≡ x };
+
+    ghost is_infallible = { λ _. ⊤ };
+
+    fn clone(&self) -> Result<Self, AllocError> {
+        Ok(*self)
+    }
 }
 
 /// That an entity is a solution of a node, for a reason.

@@ -1,9 +1,9 @@
 ghost use Rattle.std.specs.Prelude.{◌≡◌, ◌↔◌, ◌<◌, ◌≤◌, ◌++◌, [], ◌∷◌, IsTrue, Some, length, slice_get};
 ghost use Rattle.std.specs.Prelude.{IfOk, OnOk, OnErr, MatchOption, Contains};
 
-use crate::listeners::{FarListening, KeptListening};
-use crate::rooms::{is_mostly_spare, is_worth_keeping};
-use crate::rows::Rows;
+use crate::listeners::KeptListening;
+use crate::rooms::{kept_room, kept_when_empty};
+use crate::rows::{Row, add_listener, add_member};
 use crate::solutions::{Reason, Solved};
 use crate::solved_hashes::SolvedHasher;
 use indexmap::{IndexMap, IndexSet};
@@ -23,14 +23,15 @@ const SMALL: usize = 4096;
 /// The listeners of each node, each once and in order of adding, and the solutions of all nodes with their reasons, in
 /// order of adding. Entities are spoken of by number. A node's row has its listeners and who its solutions are; listeners
 /// beyond the first ones of their node stand in a table too.
+#[derive(Drop)]
 pub struct Tables {
-    rows: Rows,
-    far: IndexSet<FarListening>,
+    rows: Vec<Row>,
+    far: IndexSet<(u32, KeptListening)>,
     reasons: IndexMap<Solved, Reason<u32, u32>, BuildHasherDefault<SolvedHasher>>,
 }
 
 impl Model for Tables {
-    ghost use Rattle.std.specs.Prelude.{ℕ, List};
+    ghost use Rattle.std.specs.Prelude.{ℕ, List, map};
     ghost use Rattle.cred_graph.specs.declared.listeners.KeptListening.{KeptListening};
     ghost use Rattle.cred_graph.specs.declared.solutions.Solved.{Solved};
     ghost use Rattle.cred_graph.specs.declared.solutions.Reason.{Reason};
@@ -38,20 +39,10 @@ impl Model for Tables {
 
     ghost Value = { List (List KeptListening) × List (Solved × Reason ℕ ℕ) };
 
-    ghost view = { λ t. (t.rows.0, t.reasons.entries) };
+    ghost view = { λ t. (map (λ r. r.listeners.items) t.rows.items, t.reasons.entries) };
 
-    ghost invariant = { λ t. AreFar t.rows.0 t.far.keys × AreMembers t.reasons.entries t.rows.1 };
-}
-
-// By hand, so that who holds them drops them by one call, whose proof stands here.
-impl Drop for Tables {
-    fn drop(self) {
-        let Tables {
-            rows: _rows,
-            far: _far,
-            reasons: _reasons,
-        } = self;
-    }
+    ghost invariant = { λ t. AreFar (map (λ r. r.listeners.items) t.rows.items) t.far.keys
+        × AreMembers t.reasons.entries (map (λ r. r.members.items) t.rows.items) };
 }
 
 impl Tables {
@@ -63,7 +54,7 @@ impl Tables {
         ensures { result ≡ ([], []) }
     {
         Tables {
-            rows: Rows::new(alloc),
+            rows: Vec::new(alloc),
             far: IndexSet::new(alloc),
             reasons: IndexMap::with_hasher(alloc, BuildHasherDefault::new()),
         }
@@ -73,18 +64,19 @@ impl Tables {
     pub fn reserve(&mut self, nodes: u64) -> Result<(), AllocError>
         ensures { self.new ≡ self.old }
     {
-        self.rows.reserve(nodes)
+        let more = (nodes as usize).saturating_sub(self.rows.len());
+        self.rows.reserve(more)
     }
 
     /// Gives back the memory that nothing takes, where that is more than half of a table.
     pub fn give_back(&mut self)
         ensures { self.new ≡ self.old }
     {
-        self.rows.give_back();
+        self.rows
+            .shrink_to(kept_room(self.rows.len(), self.rows.capacity()));
         self.far.shrink_to_fit();
-        if is_mostly_spare(self.reasons.len(), self.reasons.capacity()) {
-            self.reasons.shrink_to_fit();
-        }
+        self.reasons
+            .shrink_to(kept_room(self.reasons.len(), self.reasons.capacity()));
     }
 
     /// Takes out all listeners and solutions. The room of small tables stays.
@@ -92,21 +84,22 @@ impl Tables {
         ensures { self.new ≡ ([], []) }
     {
         self.rows.clear();
+        self.rows.shrink_to(kept_when_empty(self.rows.capacity()));
         self.far.clear();
-        if !is_worth_keeping(self.far.capacity()) {
-            self.far.shrink_to_fit();
-        }
+        self.far.shrink_to(kept_when_empty(self.far.capacity()));
         self.reasons.clear();
-        if !is_worth_keeping(self.reasons.capacity()) {
-            self.reasons.shrink_to_fit();
-        }
+        self.reasons
+            .shrink_to(kept_when_empty(self.reasons.capacity()));
     }
 
-    /// How many listeners the node has.
-    pub fn listeners(&self, n: u32) -> u64
-        ensures { result ≡ length (list_at self.now.0 n) }
+    /// The listeners of the node.
+    pub fn listeners(&self, n: u32) -> &[KeptListening]
+        ensures { result.now ≡ list_at self.now.0 n }
     {
-        self.rows.listeners(n).len() as u64
+        match self.rows.as_slice().get(n as usize) {
+            Some(row) => row.listeners.as_slice(),
+            None => &[],
+        }
     }
 
     /// The listener that stands here among those of the node.
@@ -114,23 +107,19 @@ impl Tables {
         requires { i < length (list_at self.now.0 n) }
         ensures { slice_get (list_at self.now.0 n) i ≡ Some result }
     {
-        self.rows.listeners(n)[i as usize]
+        self.listeners(n)[i as usize]
     }
 
     /// Whether the node has this listener.
     fn has(&self, n: u32, listening: &KeptListening) -> bool
         ensures { IsTrue result ↔ Contains (list_at self.now.0 n) listening.now }
     {
-        let list = self.rows.listeners(n);
+        let list = self.listeners(n);
         let (near, others) = list.split_at(list.len().min(NEAR));
         if near.contains(listening) {
             return true;
         }
-        !others.is_empty()
-            && self.far.contains(&FarListening {
-                asked: n,
-                listening: *listening,
-            })
+        !others.is_empty() && self.far.contains(&(n, *listening))
     }
 
     /// Lets the node have the listener, and answers whether that is new.
@@ -154,18 +143,12 @@ impl Tables {
         ensures unchanged { OnErr result (AreSame self.old.0 self.new.0) }
         ensures solutions { self.new.1 ≡ self.old.1 }
     {
-        if self.rows.listeners(n).len() < NEAR {
-            return self.rows.add_listener(n, listening);
+        if self.listeners(n).len() < NEAR {
+            return add_listener(&mut self.rows, n, listening);
         }
         self.far.reserve(1)?;
-        self.rows.add_listener(n, listening)?;
-        let _is_new = self
-            .far
-            .insert(FarListening {
-                asked: n,
-                listening,
-            })
-            .unwrap();
+        add_listener(&mut self.rows, n, listening)?;
+        let _is_new = self.far.insert((n, listening)).unwrap();
         Ok(())
     }
 
@@ -206,7 +189,7 @@ impl Tables {
     {
         let room = self.room_for_one();
         self.reasons.reserve(room)?;
-        self.rows.add_member(solved.node, solved.who)?;
+        add_member(&mut self.rows, solved.node, solved.who)?;
         let _earlier = self.reasons.insert(solved, reason).unwrap();
         Ok(())
     }
@@ -223,11 +206,14 @@ impl Tables {
         }
     }
 
-    /// How many solutions the node has.
-    pub fn solutions(&self, n: u32) -> u64
-        ensures { result ≡ length (members_by n self.now.1) }
+    /// The numbers of the node's solutions.
+    pub fn members(&self, n: u32) -> &[u32]
+        ensures { result.now ≡ members_by n self.now.1 }
     {
-        self.rows.members(n).len() as u64
+        match self.rows.as_slice().get(n as usize) {
+            Some(row) => row.members.as_slice(),
+            None => &[],
+        }
     }
 
     /// The number of the entity that stands here among the node's solutions.
@@ -235,6 +221,6 @@ impl Tables {
         requires { i < length (members_by n self.now.1) }
         ensures { slice_get (members_by n self.now.1) i ≡ Some result }
     {
-        self.rows.members(n)[i as usize]
+        self.members(n)[i as usize]
     }
 }

@@ -1,4 +1,5 @@
-use Rattle.std.proofs.Common.{◌≡◌, ◌∙◌, ap, sym, inr, Some, slice_get}
+use Rattle.std.proofs.Common.{◌≡◌, ◌∙◌, ap, refl, sym, inl, inr, Some, slice_get}
+use Rattle.std.proofs.lemmas.Result.{IfOk-from_err}
 use Rattle.credential_text.specs.declared.exprs.Expr.TheVariants.{Ent}
 use Rattle.cred_graph.specs.declared.listeners.Port.TheVariants as port
 use Rattle.cred_graph.proofs.KeptLemmas.{not_kept}
@@ -32,3 +33,27 @@ returns-in_ok-add-in-None-entity_number-clause-joins c = inr (c.in-Via.who, c.in
 pub returns-in_err-add-in-None-entity_number-clause-refused : goal.returns-in_err-add-in-None-entity_number-clause-refused
 returns-in_err-add-in-None-entity_number-clause-refused c =
     on_err c.from_residual.result (λ p is same. not_kept c.args.nodes.now c.args.strangers.now c.in-Via.who c.in-None-entity_number.ensures c.in-None.ensures p is (same ∙ c.in-Via.is))
+
+pub returns-in-Body : goal.returns-in-Body
+returns-in-Body c = record { kept = (tt, sym c.in-Body.is); joins = inl refl; refused = tt }
+
+pub returns-in-Base : goal.returns-in-Base
+returns-in-Base c = record { kept = (tt, sym c.in-Base.is); joins = inl refl; refused = tt }
+
+pub returns-in-Part : goal.returns-in-Part
+returns-in-Part c = record { kept = (tt, sym c.in-Part.is); joins = inl refl; refused = tt }
+
+pub returns-in_err-add-in-None-entity_number-clause-kept : goal.returns-in_err-add-in-None-entity_number-clause-kept
+returns-in_err-add-in-None-entity_number-clause-kept c = IfOk-from_err c.from_residual.result _ c.from_residual.ensures.0
+
+pub returns-in-Some-clause-joins : goal.returns-in-Some-clause-joins
+returns-in-Some-clause-joins c = inl refl
+
+pub returns-in-Some-entity_number-clause-joins : goal.returns-in-Some-entity_number-clause-joins
+returns-in-Some-entity_number-clause-joins c = inl refl
+
+pub add-requires : goal.add-requires
+add-requires c = c.in-None.ensures
+
+pub returns-in_err-add-in-None-entity_number-clause-joins : goal.returns-in_err-add-in-None-entity_number-clause-joins
+returns-in_err-add-in-None-entity_number-clause-joins c = inl c.in_err-add-in-None-entity_number.ensures.unchanged

@@ -1,3 +1,4 @@
+use Rattle.std.proofs.Common.{refl}
 use Rattle.cred_graph.specs.declared.rows.Row.{Row}
 use Rattle.cred_graph.proofs.RowLemmas.{row_made}
 use Rattle.cred_graph.proofs.rows.reach.Goals as goal
@@ -7,3 +8,12 @@ loop-alloc-preserved c = record {
   listeners = row_made (λ (r : Row). r.listeners.items) c.args.rows.now.items c.loop-alloc.rows.items _ _ c.loop-alloc.invariant.listeners c.in_ok-push.ensures.items c.new.ensures.items;
   members = row_made (λ (r : Row). r.members.items) c.args.rows.now.items c.loop-alloc.rows.items _ _ c.loop-alloc.invariant.members c.in_ok-push.ensures.items c.new-in-loop-alloc.ensures.items;
 }
+
+pub loop-alloc-init : goal.loop-alloc-init
+loop-alloc-init c = record { listeners = λ m. refl; members = λ m. refl }
+
+pub returns-clause-listeners : goal.returns-clause-listeners
+returns-clause-listeners c = c.loop-alloc.invariant.listeners
+
+pub returns-clause-members : goal.returns-clause-members
+returns-clause-members c = c.loop-alloc.invariant.members

@@ -1,3 +1,4 @@
+use Rattle.std.proofs.lemmas.Result.{IfOk-from_err}
 use Rattle.cred_graph.proofs.Lists.{on_err}
 use Rattle.cred_graph.specs.Stored.{graph_as}
 use Rattle.cred_graph.proofs.CallLemmas.{Listened, joined, joined_same, listener_kept, listens_by, no_listener}
@@ -7,20 +8,28 @@ use Rattle.cred_graph.proofs.graphs.Graph.add_listener.Goals.{After-add_listener
 pub invariant_of-self : goal.invariant_of-self
 invariant_of-self c = joined c.self.inside.nodes c.self.inside.strangers _ c.self.inside.tables.0 c.self.inside.tables.0 c.self.inside.tables.1 c.self.invariant c.keep_port.ensures.joins
 
-pub returns-in_err-port-clause-graph : goal.returns-in_err-port-clause-graph
-returns-in_err-port-clause-graph c =
-    (joined c.self.inside.nodes c.self.inside.strangers c.keep_port.new.strangers c.self.inside.tables.0 c.self.inside.tables.0 c.self.inside.tables.1 c.self.invariant c.keep_port.ensures.joins).graph
-
-pub returns-in_err-port-clause-growth : goal.returns-in_err-port-clause-growth
-returns-in_err-port-clause-growth c =
+pub returns-in_err-port : goal.returns-in_err-port
+returns-in_err-port c =
     let asked = rw (← c.self.view_is) at c.requires.asked in
-    rw (← c.self.view_is) (on_err c.from_residual.result (no_listener c.self.inside.nodes c.self.inside.strangers c.self.inside.tables.0 c.self.inside.tables.1 c.self.invariant c.args.n (record { asker = c.args.m; port = c.args.port }) asked c.in_err-port.ensures.refused))
+    record {
+      ok = IfOk-from_err c.from_residual.result _ c.from_residual.ensures.0;
+      listens = IfOk-from_err c.from_residual.result _ c.from_residual.ensures.0;
+      graph = (joined c.self.inside.nodes c.self.inside.strangers c.keep_port.new.strangers c.self.inside.tables.0 c.self.inside.tables.0 c.self.inside.tables.1 c.self.invariant c.keep_port.ensures.joins).graph;
+      growth =
+          rw (← c.self.view_is)
+          (on_err c.from_residual.result
+          (no_listener c.self.inside.nodes c.self.inside.strangers c.self.inside.tables.0 c.self.inside.tables.1 c.self.invariant c.args.n (record { asker = c.args.m; port = c.args.port }) asked c.in_err-port.ensures.refused));
+      unchanged =
+          rw (← c.self.view_is)
+          (on_err c.from_residual.result
+          (joined_same c.self.inside.nodes c.self.inside.strangers c.keep_port.new.strangers c.self.inside.tables.0 c.self.inside.tables.0 c.self.inside.tables.1 c.self.invariant c.keep_port.ensures.joins));
+    }
 
-pub returns-in_err-port-clause-unchanged : goal.returns-in_err-port-clause-unchanged
-returns-in_err-port-clause-unchanged c =
-    rw (← c.self.view_is)
-    (on_err c.from_residual.result
-    (joined_same c.self.inside.nodes c.self.inside.strangers c.keep_port.new.strangers c.self.inside.tables.0 c.self.inside.tables.0 c.self.inside.tables.1 c.self.invariant c.keep_port.ensures.joins))
+pub short-asked-requires : goal.short-asked-requires
+short-asked-requires c = rw (← c.self.view_is) at c.requires.asked
+
+pub short-asker-requires : goal.short-asker-requires
+short-asker-requires c = rw (← c.self.view_is) at c.requires.asker
 
 pub invariant_of-self-2 : goal.invariant_of-self-2
 invariant_of-self-2 c =

@@ -43,3 +43,12 @@ returns-clause-growth c = (given (goal.at.returns-clause-growth c).After-add_lis
 
 pub returns-clause-unchanged : goal.returns-clause-unchanged
 returns-clause-unchanged c = (given (goal.at.returns-clause-unchanged c).After-add_listener).unchanged
+
+pub kept_port-port-requires : goal.kept_port-port-requires
+kept_port-port-requires c = rw (← c.self.view_is) at c.requires.port
+
+pub short-asked-requires : goal.short-asked-requires
+short-asked-requires c = rw (← c.self.view_is) at c.requires.asked
+
+pub short-asker-requires : goal.short-asker-requires
+short-asker-requires c = rw (← c.self.view_is) at c.requires.asker

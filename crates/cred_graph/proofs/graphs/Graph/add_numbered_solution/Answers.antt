@@ -1,6 +1,7 @@
 use Rattle.cred_graph.specs.Numbers.{entity_at, reason_at}
 use Rattle.cred_graph.specs.Stored.{graph_as}
 use Rattle.cred_graph.proofs.CallLemmas.{Found, kept_by, found_by}
+use Rattle.cred_graph.proofs.Solvers.{fits_node}
 use Rattle.cred_graph.proofs.graphs.Graph.add_numbered_solution.Goals as goal
 use Rattle.cred_graph.proofs.graphs.Graph.add_numbered_solution.Goals.{After-add_solution}
 
@@ -45,3 +46,8 @@ returns-clause-graph c = (given (goal.at.returns-clause-graph c).After-add_solut
 
 pub returns-clause-unchanged : goal.returns-clause-unchanged
 returns-clause-unchanged c = (given (goal.at.returns-clause-unchanged c).After-add_solution).unchanged
+
+pub short-requires : goal.short-requires
+short-requires c =
+    let fits = rw (← c.self.view_is) at c.requires.fits in
+    fits_node (graph_as c.self.inside.nodes c.self.inside.strangers c.self.inside.tables.0 c.self.inside.tables.1) c.args.n _ _ fits

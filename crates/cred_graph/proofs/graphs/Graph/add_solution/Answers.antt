@@ -35,3 +35,22 @@ pub returns-clause-ok : goal.returns-clause-ok
 returns-clause-ok c =
     let d = (goal.at.returns-clause-ok c).After-add_numbered_solution in
     rw (who_is d, why_is d) at c.add_numbered_solution.ensures.ok
+
+pub add_numbered_solution-requires-clause-reason : goal.add_numbered_solution-requires-clause-reason
+add_numbered_solution-requires-clause-reason c = rw (← c.self.view_is) c.reason_number-reason.ensures.number
+
+pub returns-clause-solves : goal.returns-clause-solves
+returns-clause-solves c =
+    let d = (goal.at.returns-clause-solves c).After-add_numbered_solution in
+    rw (who_is d) at c.add_numbered_solution.ensures.solves
+
+pub returns-clause-growth : goal.returns-clause-growth
+returns-clause-growth c =
+    let d = (goal.at.returns-clause-growth c).After-add_numbered_solution in
+    rw (who_is d) at c.add_numbered_solution.ensures.growth
+
+pub returns-clause-graph : goal.returns-clause-graph
+returns-clause-graph c = c.add_numbered_solution.ensures.graph
+
+pub returns-clause-unchanged : goal.returns-clause-unchanged
+returns-clause-unchanged c = c.add_numbered_solution.ensures.unchanged

@@ -15,3 +15,6 @@ pub returns : goal.returns
 returns c =
     let node = rw (← c.self.view_is, ← c.short.ensures) at c.requires.node in
     rw (← c.self.view_is, ← c.short.ensures, c.port_name-port.ensures) (listener_read c.self.inside.nodes c.self.inside.strangers c.self.inside.tables.0 c.self.inside.tables.1 c.short.result c.args.i c.listener-kept.result node c.listener-kept.ensures)
+
+pub short-requires : goal.short-requires
+short-requires c = rw (← c.self.view_is) at c.requires.node

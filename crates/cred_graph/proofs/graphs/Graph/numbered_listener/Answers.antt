@@ -21,3 +21,9 @@ pub returns-clause-listener : goal.returns-clause-listener
 returns-clause-listener c =
     let node = rw (← c.self.view_is, ← c.short.ensures) at c.requires.node in
     rw (← c.self.view_is, ← c.short.ensures, c.port_number-port.ensures.same) (listener_read c.self.inside.nodes c.self.inside.strangers c.self.inside.tables.0 c.self.inside.tables.1 c.short.result c.args.i c.listener-kept.result node c.listener-kept.ensures)
+
+pub short-requires : goal.short-requires
+short-requires c = rw (← c.self.view_is) at c.requires.node
+
+pub returns-clause-port : goal.returns-clause-port
+returns-clause-port c = rw (← c.self.view_is) c.port_number-port.ensures.number

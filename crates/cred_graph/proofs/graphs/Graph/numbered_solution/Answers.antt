@@ -12,3 +12,6 @@ returns-clause-entity c = rw (← c.self.view_is) (member_entity c.self.inside.n
 
 pub returns-clause-solution : goal.returns-clause-solution
 returns-clause-solution c = rw (← c.self.view_is, ← c.short.ensures) (member_read c.self.inside.nodes c.self.inside.strangers c.self.inside.tables.0 c.self.inside.tables.1 c.short.result c.args.i c.solution.result c.solution.ensures)
+
+pub short-requires : goal.short-requires
+short-requires c = rw (← c.self.view_is) at c.requires.node

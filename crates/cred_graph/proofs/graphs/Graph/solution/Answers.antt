@@ -15,3 +15,6 @@ pub returns : goal.returns
 returns c =
     rw (← c.self.view_is, ← c.short.ensures)
     (member_read c.self.inside.nodes c.self.inside.strangers c.self.inside.tables.0 c.self.inside.tables.1 c.short.result c.args.i c.solution.result c.solution.ensures ∙ ap Some (entity_is c.self.inside.nodes c.solution.result c.entity.result c.entity.ensures))
+
+pub short-requires : goal.short-requires
+short-requires c = rw (← c.self.view_is) at c.requires.node

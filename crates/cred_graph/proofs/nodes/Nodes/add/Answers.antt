@@ -1,10 +1,12 @@
-use Rattle.std.proofs.Common.{◌<◌, ◌^◌, ◌≡◌, ◌∙◌, ap, arith, List, [], ◌∷◌, ◌++◌, length}
+use Rattle.std.proofs.Common.{◌<◌, ◌^◌, ◌≡◌, ◌∙◌, ap, arith, refl, List, [], ◌∷◌, ◌++◌, length}
 use Rattle.std.proofs.lemmas.List.{length_push}
+use Rattle.std.proofs.lemmas.Result.{IfOk-from_err}
 use Rattle.credential_text.proofs.Equality.{exprs_decided}
 use Rattle.credential_text.specs.declared.exprs.Expr.{Expr}
 use Rattle.credential_text.specs.contracts.exprs.ExprPartialEq.TheImpl as expr
 use Rattle.indexmap.specs.IndexSet.{insert_key}
 use Rattle.cred_graph.specs.NodeLists.{AreShort}
+use Rattle.cred_graph.proofs.Lists.{on_err}
 use Rattle.cred_graph.proofs.Lookups.{insert_key-absent}
 use Rattle.cred_graph.proofs.nodes.Nodes.add.Goals as goal
 use Rattle.cred_graph.proofs.nodes.Nodes.add.Goals.{In_ok-_is_new}
@@ -28,3 +30,34 @@ returns-clause-number c = c.len-number.ensures.len ∙ ap length c.self.view_is
 
 pub returns-clause-added : goal.returns-clause-added
 returns-clause-added c = rw (← c.self.view_is) (pushed c)
+
+pub returns-clause-range : goal.returns-clause-range
+returns-clause-range c = c.in_ok-copy_of.ensures.range
+
+pub returns-then-number-ge-MOST : goal.returns-then-number-ge-MOST
+returns-then-number-ge-MOST c = record { number = tt; added = tt; range = tt; unchanged = refl }
+
+pub invariant_of-self : goal.invariant_of-self
+invariant_of-self c = c.self.invariant
+
+pub returns-in_err-copy_of : goal.returns-in_err-copy_of
+returns-in_err-copy_of c = record {
+  number = IfOk-from_err c.from_residual.result _ c.from_residual.ensures.0;
+  added = IfOk-from_err c.from_residual.result _ c.from_residual.ensures.0;
+  range = IfOk-from_err c.from_residual.result _ c.from_residual.ensures.0;
+  unchanged = on_err c.from_residual.result c.self.view_is;
+}
+
+pub invariant_of-self-in_err-_is_new : goal.invariant_of-self-in_err-_is_new
+invariant_of-self-in_err-_is_new c = rw c.in_err-_is_new.ensures.err c.self.invariant
+
+pub returns-in_err-_is_new : goal.returns-in_err-_is_new
+returns-in_err-_is_new c = record {
+  number = IfOk-from_err c.from_residual-in_err-_is_new.result _ c.from_residual-in_err-_is_new.ensures.0;
+  added = IfOk-from_err c.from_residual-in_err-_is_new.result _ c.from_residual-in_err-_is_new.ensures.0;
+  range = IfOk-from_err c.from_residual-in_err-_is_new.result _ c.from_residual-in_err-_is_new.ensures.0;
+  unchanged = on_err c.from_residual-in_err-_is_new.result (c.in_err-_is_new.ensures.err ∙ c.self.view_is);
+}
+
+pub returns-clause-unchanged : goal.returns-clause-unchanged
+returns-clause-unchanged c = tt

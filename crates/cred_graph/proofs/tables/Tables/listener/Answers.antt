@@ -3,5 +3,5 @@ use Rattle.cred_graph.proofs.tables.Tables.listener.Goals as goal
 
 pub returns : goal.returns
 returns c =
-    let within = rw (← c.self.view_is, ← c.listeners.ensures) at c.requires in
-    rw (← c.self.view_is, ← c.listeners.ensures) (slice_get-get_or c.listeners.result.now c.args.i _ within)
+    let within = rw (← c.listeners.ensures) at c.requires in
+    rw (← c.listeners.ensures) (slice_get-get_or c.listeners.result.now c.args.i _ within)

@@ -1,17 +1,19 @@
 use Rattle.std.proofs.Common.{refl}
+use Rattle.std.proofs.lemmas.Result.{IfOk-from_err}
 use Rattle.cred_graph.proofs.ListenerLemmas.{far_same}
 use Rattle.cred_graph.proofs.Lists.{on_err}
 use Rattle.cred_graph.proofs.SolutionLemmas.{entry_added, members_added, members_same}
+use Rattle.cred_graph.proofs.RowLemmas.{listeners_in, members_in}
 use Rattle.cred_graph.proofs.tables.Tables.push_solution.Goals as goal
 
 pub invariant_of-self : goal.invariant_of-self
 invariant_of-self c =
-    (c.self.invariant.0, members_same c.self.inside.reasons.entries _ c.self.inside.rows.1 _ c.self.invariant.1 c.in_err-reserve.ensures.entries (λ n. refl))
+    (c.self.invariant.0, members_same c.self.inside.reasons.entries _ (members_in c.self.inside.rows.items) _ c.self.invariant.1 c.in_err-reserve.ensures.entries (λ n. refl))
 
 pub invariant_of-self-in_err-add_member : goal.invariant_of-self-in_err-add_member
 invariant_of-self-in_err-add_member c = (
-  far_same c.self.inside.rows.0 _ c.self.inside.far.keys _ c.self.invariant.0 refl c.in_err-add_member.ensures.listeners,
-  members_same c.self.inside.reasons.entries _ c.self.inside.rows.1 _ c.self.invariant.1 c.in_ok-reserve.ensures.entries c.in_err-add_member.ensures.unchanged,
+  far_same (listeners_in c.self.inside.rows.items) _ c.self.inside.far.keys _ c.self.invariant.0 refl c.in_err-add_member.ensures.listeners,
+  members_same c.self.inside.reasons.entries _ (members_in c.self.inside.rows.items) _ c.self.invariant.1 c.in_ok-reserve.ensures.entries c.in_err-add_member.ensures.unchanged,
 )
 
 pub invariant_of-self-2 : goal.invariant_of-self-2
@@ -19,25 +21,30 @@ invariant_of-self-2 c =
     let absent = rw (← c.self.view_is) at c.requires in
     let inserted = rw c.unwrap-earlier.ensures at c.insert.ensures.entries in
     let entries = entry_added c.self.inside.reasons.entries _ _ c.args.solved c.args.reason absent c.in_ok-reserve.ensures.entries inserted in (
-      far_same c.self.inside.rows.0 _ c.self.inside.far.keys _ c.self.invariant.0 refl c.in_ok-add_member.ensures.listeners,
-      members_added c.self.inside.reasons.entries _ c.self.inside.rows.1 _ c.args.solved c.args.reason c.self.invariant.1 c.in_ok-add_member.ensures.added entries,
+      far_same (listeners_in c.self.inside.rows.items) _ c.self.inside.far.keys _ c.self.invariant.0 refl c.in_ok-add_member.ensures.listeners,
+      members_added c.self.inside.reasons.entries _ (members_in c.self.inside.rows.items) _ c.args.solved c.args.reason c.self.invariant.1 c.in_ok-add_member.ensures.added entries,
     )
 
-pub returns-clause-added : goal.returns-clause-added
-returns-clause-added c =
+pub returns-in_err-reserve : goal.returns-in_err-reserve
+returns-in_err-reserve c = record {
+  added = IfOk-from_err c.from_residual.result _ c.from_residual.ensures.0;
+  unchanged = rw (← c.self.view_is) (on_err c.from_residual.result c.in_err-reserve.ensures.entries);
+  listeners = rw (← c.self.view_is) (λ m. refl);
+}
+
+pub returns-in_err-add_member : goal.returns-in_err-add_member
+returns-in_err-add_member c = record {
+  added = IfOk-from_err c.from_residual-in_err-add_member.result _ c.from_residual-in_err-add_member.ensures.0;
+  unchanged = rw (← c.self.view_is) (on_err c.from_residual-in_err-add_member.result c.in_ok-reserve.ensures.entries);
+  listeners = rw (← c.self.view_is) c.in_err-add_member.ensures.listeners;
+}
+
+pub returns : goal.returns
+returns c =
     let absent = rw (← c.self.view_is) at c.requires in
     let inserted = rw c.unwrap-earlier.ensures at c.insert.ensures.entries in
-    rw (← c.self.view_is) (entry_added c.self.inside.reasons.entries _ _ c.args.solved c.args.reason absent c.in_ok-reserve.ensures.entries inserted)
-
-pub returns-clause-listeners : goal.returns-clause-listeners
-returns-clause-listeners c = rw (← c.self.view_is) c.in_ok-add_member.ensures.listeners
-
-pub returns-in_err-reserve-clause-unchanged : goal.returns-in_err-reserve-clause-unchanged
-returns-in_err-reserve-clause-unchanged c = rw (← c.self.view_is) (on_err c.from_residual.result c.in_err-reserve.ensures.entries)
-
-pub returns-in_err-add_member-clause-unchanged : goal.returns-in_err-add_member-clause-unchanged
-returns-in_err-add_member-clause-unchanged c =
-    rw (← c.self.view_is) (on_err c.from_residual-in_err-add_member.result c.in_ok-reserve.ensures.entries)
-
-pub returns-in_err-add_member-clause-listeners : goal.returns-in_err-add_member-clause-listeners
-returns-in_err-add_member-clause-listeners c = rw (← c.self.view_is) c.in_err-add_member.ensures.listeners
+    record {
+      added = rw (← c.self.view_is) (entry_added c.self.inside.reasons.entries _ _ c.args.solved c.args.reason absent c.in_ok-reserve.ensures.entries inserted);
+      unchanged = tt;
+      listeners = rw (← c.self.view_is) c.in_ok-add_member.ensures.listeners;
+    }
