@@ -75,9 +75,6 @@ module _ (lists : List (List KeptListening)) (n : ℕ) (l : KeptListening)
             has ∙ rows_have.1 ((are n l).1 (subst (λ xs. Contains xs l) (sym tail) (beyond none there))),
       )
 
-pub none_far : AreFar [] []
-none_far n l = (λ there. absurd (omega (arith, there.1)), λ there. absurd (omega (arith, there.1)))
-
 -- the table stays where a list with room among the first gets one more
 far_near : (lists after : List (List KeptListening)) (rows : List (ℕ × KeptListening)) (n : ℕ) (l : KeptListening) → AreFar lists rows → length (list_at lists n) < 8 → AddsAt lists after n l → AreFar after rows
 far_near lists after rows n l are room adds m k =
