@@ -68,10 +68,6 @@ module _ (of : NamedSearch) (es : List HeldLetter) (looked room : ℕ) (e : Held
     ],
   )
 
-pub no_letters : (es : List HeldLetter) → length es ≡ 0 → es ≡ []
-no_letters [] none = refl
-no_letters (e ∷ es) none = absurd (omega arith)
-
 -- the letters of a search, and what is said of them by a batch that has them
 module _ (of : NamedSearch) (o : Option NamedSearch) (es : List HeldLetter) (looked room : ℕ) (b : BatchState) (is : batch o es looked room ≡ b) (some : o ≡ Some of) where
   pub its_letters : map (taken_of of) es ≡ b.letters

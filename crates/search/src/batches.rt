@@ -23,19 +23,6 @@ pub(crate) struct HeldLetter {
     hint: Hint,
 }
 
-impl HeldLetter {
-    ghost use Rattle.std.specs.Prelude.{◌≡◌};
-    ghost use Rattle.search.specs.Finish.{right_hint};
-
-    /// Looks up what the letter needs.
-    #[inline(always)]
-    fn look_up(&mut self, snapshot: &Snapshot)
-        ensures { self.new ≡ record self.old { hint = right_hint snapshot.now.vaults self.old.need } }
-    {
-        self.need.look_up_into(snapshot, &mut self.hint);
-    }
-}
-
 /// A search as its keeper names it, and what it reads.
 #[derive(Drop)]
 pub(crate) struct NamedSearch {
@@ -110,7 +97,9 @@ impl Batch {
     {
         let Some(of) = &self.of else { unreachable!() };
         let held_letter = &mut self.held_letters[self.looked];
-        held_letter.look_up(&of.snapshot);
+        held_letter
+            .need
+            .look_up_into(&of.snapshot, &mut held_letter.hint);
         self.looked += 1;
     }
 

@@ -12,7 +12,6 @@ use std::collections::VecDeque;
 use std::marker::Model;
 
 /// What a node remembers of what it was told, as contracts see it.
-#[derive(Drop)]
 pub enum Monitor {
     /// An entity or a role remembers its solutions alone.
     Plain,

@@ -15,7 +15,6 @@ use scholten_core::Diffusion;
 use std::collections::VecDeque;
 
 /// Where a search stands, as contracts see it.
-#[derive(Drop)]
 pub enum Stage {
     /// It runs, or ran until nothing was outstanding.
     Running(Diffusion<Load>),

@@ -16,7 +16,7 @@ returns c =
     let hint : Hint = right_hint c.deref.result.now.vaults e.need in
     let within : n < length es = within_held c.self.inside.of c.in-Some.of es n c.in-Some.is (subst (λ (b : BatchState). b.looked < length b.letters) (sym c.self.view_is) c.requires) in
     let changed = with_hint c.in-Some.of es n room e hint c.index_mut-held_letter.ensures.value within in
-    rw (c.look_up.ensures)
+    rw (c.look_up_into.ensures)
     (subst (λ (b : BatchState). batch c.self.inside.of changed (n + 1) room ≡ record b { looked = b.looked + 1 }) c.self.view_is
     (subst (λ (o : Option NamedSearch). batch o changed (n + 1) room ≡ record (batch o es n room) { looked = n + 1 }) (sym c.in-Some.is)
     (looked_up_batch c.in-Some.of es n room e hint c.index_mut-held_letter.ensures.value within)))
@@ -30,6 +30,6 @@ invariant_of-self c =
     let hint : Hint = right_hint c.deref.result.now.vaults e.need in
     let within : n < length es = within_held c.self.inside.of c.in-Some.of es n c.in-Some.is (subst (λ (b : BatchState). b.looked < length b.letters) (sym c.self.view_is) c.requires) in
     let right = ap (λ (s : SnapshotState). right_hint s.vaults e.need) c.deref.ensures in
-    rw (c.look_up.ensures)
+    rw (c.look_up_into.ensures)
     (subst (λ (o : Option NamedSearch). IsBatch o (with_hint c.in-Some.of es n room e hint c.index_mut-held_letter.ensures.value within) (n + 1)) (sym c.in-Some.is)
     (looked_up_more c.in-Some.of es n room e hint c.index_mut-held_letter.ensures.value within right (subst (λ (o : Option NamedSearch). IsBatch o es n) c.in-Some.is c.self.invariant)))

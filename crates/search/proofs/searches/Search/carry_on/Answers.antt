@@ -1,11 +1,11 @@
 use Rattle.std.proofs.Common.{◌≡◌, ◌≤◌, ◌∙◌, [], List, ℕ, None, length, map, vec_len, vec_capacity, refl, sym, ap, subst, arith, option_map}
 use Rattle.std.specs.List.{AllWithin}
 use Rattle.std.proofs.lemmas.Bool.{eqb-true}
-use Rattle.std.proofs.lemmas.List.{length-map}
+use Rattle.std.proofs.lemmas.List.{length-map, nil_from_length}
 use Rattle.search.specs.declared.batches.HeldLetter.{HeldLetter}
 use Rattle.search.specs.declared.outcomes.CarriedOn.{CarriedOn}
 use Rattle.search.specs.Batches.{BatchState, CarriesOn, GoesOn, IsLookedUpIn, name_of, taken_of}
-use Rattle.search.proofs.Batched.{batch, all_looked_up, carries_on, its_letters, no_letters}
+use Rattle.search.proofs.Batched.{batch, all_looked_up, carries_on, its_letters}
 use Rattle.search.proofs.searches.Search.carry_on.Goals.{in-Some-1, in-None-1}
 use Rattle.search.proofs.searches.Search.carry_on.Goals as goal
 
@@ -26,12 +26,12 @@ go_on-went-requires-clause-space c =
 pub invariant_of-batch : goal.invariant_of-batch
 invariant_of-batch c =
     let held = c.go_on-went.new.held_letters in
-    (no_letters held.items (omega (arith, eqb-true (vec_len held) 0 (sym c.if-is_empty.ensures), held.ok.0)), refl)
+    (nil_from_length held.items (omega (arith, eqb-true (vec_len held) 0 (sym c.if-is_empty.ensures), held.ok.0)), refl)
 
 pub invariant_of-batch-then-is_empty-2 : goal.invariant_of-batch-then-is_empty-2
 invariant_of-batch-then-is_empty-2 c =
     let held = c.go_on-went.new.held_letters in
-    (no_letters held.items (omega (arith, eqb-true (vec_len held) 0 (sym c.if-is_empty.ensures), held.ok.0)), refl)
+    (nil_from_length held.items (omega (arith, eqb-true (vec_len held) 0 (sym c.if-is_empty.ensures), held.ok.0)), refl)
 
 pub invariant_of-batch-else-is_empty : goal.invariant_of-batch-else-is_empty
 invariant_of-batch-else-is_empty c = (omega arith, λ k d first below. absurd (omega (arith, below)))
@@ -41,7 +41,7 @@ returns-then-is_empty c =
     let held = c.go_on-went.new.held_letters in
     let of = c.in-Some.of in
     let result : CarriedOn = record { finished = c.hand_in_each-finished.result; went = c.go_on-went.result } in
-    let none : held.items ≡ [] = no_letters held.items (omega (arith, eqb-true (vec_len held) 0 (sym c.if-is_empty.ensures), held.ok.0)) in
+    let none : held.items ≡ [] = nil_from_length held.items (omega (arith, eqb-true (vec_len held) 0 (sym c.if-is_empty.ensures), held.ok.0)) in
     let is : batch None held.items 0 (vec_capacity held) ≡ c.match-batch-2.batch = sym (elim c.match-batch-2.branch as (λ _. c.match-batch-2.batch ≡ batch None held.items 0 (vec_capacity held)) [ in-Some-1 w ↦ w.batch-is | in-None-1 w ↦ w.batch-is ]) in
     let went = subst (λ (es : List HeldLetter). GoesOn of.who of.number c.args.most c.hand_in_each-finished.new.search c.go_on-went.result c.go_on-went.new.search (map (taken_of c.go_on-went.new.of) es)) none c.go_on-went.ensures.went in
     record {
