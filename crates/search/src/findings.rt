@@ -128,7 +128,9 @@ impl Findings {
             ≡ record self.old { outs = self.old.outs ++ (to, load_at self.old.graph.nodes load) ∷ [] }) }
         ensures unchanged { OnErr result (self.new ≡ self.old) }
     {
-        self.outs.push_back((to, load))?;
+        let Ok(()) = self.outs.push_back((to, load)) else {
+            return Err(AllocError);
+        };
         Ok(())
     }
 
