@@ -212,6 +212,15 @@ tells_on f xs x s now mid next k so_far is at done =
     done ∙ ap (λ (u : Progress). record u { outs = u.outs ++ f u.graph (x u.graph) ∷ [] }) so_far
     ∙ ap (λ (os : List (ℕ × Load (List ℕ))). record s { outs = os }) (sent_next (f s.graph) (xs s.graph) k (x s.graph) s.outs (s.outs ++ take k (map (f s.graph) (xs s.graph))) (subst (λ (u : Progress). slice_get (xs u.graph) k ≡ Some (x u.graph)) (is ∙ so_far) at) refl)
 
+-- with a listener or a solution no node is added
+pub listened_nodes : (g h : GraphState) (n : ℕ) (l : Listening) (b : Bool) → ListenerGiven g h n l b → h.nodes ≡ g.nodes
+listened_nodes g h n l true (new, with) = ap (λ (k : GraphState). k.nodes) with
+listened_nodes g h n l false (listens, same) = ap (λ (k : GraphState). k.nodes) same
+
+pub solved_nodes : (g h : GraphState) (s : Solution) (b : Bool) → SolutionGiven g h s b → h.nodes ≡ g.nodes
+solved_nodes g h s true (new, with) = ap (λ (k : GraphState). k.nodes) with
+solved_nodes g h s false (solved, same) = ap (λ (k : GraphState). k.nodes) same
+
 -- a listener is added, on a port whose number is an entity's
 pub numbered_listened : (g h : GraphState) (n m : ℕ) (p : Port ℕ) (b : Bool) (ms : List NumberedMonitor) (outs : List (ℕ × Load ℕ)) → ListenerGiven g h n (record { asker = m; port = port_at g.nodes p }) b → n < length g.nodes → IsGraph h → IsPort g.nodes p → AreNumbered g ms outs → AreNumbered h ms outs
 numbered_listened g h n m p false ms outs (listens, same) node graph port are = subst (λ (k : GraphState). AreNumbered k ms outs) (sym same) are
