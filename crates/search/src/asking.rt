@@ -31,11 +31,7 @@ fn monitor_for(alloc: Global, expr: &Expr) -> NumberedMonitor
 
 // The number of the expression's node, which is added with its monitor if it isn't there.
 #[inline(always)]
-pub(crate) fn node_for(
-    alloc: Global,
-    found: &mut Findings,
-    expr: &Expr,
-) -> Result<u64, AllocError>
+pub(crate) fn node_for(alloc: Global, found: &mut Findings, expr: &Expr) -> Result<u64, AllocError>
     ensures given { IfOk result (λ to. (new : Bool) × NodeGiven found.old.graph found.new.graph expr.now to new
         × (found.new.outs ≡ found.old.outs)
         × (found.new.monitors ≡ (if new then found.old.monitors ++ new_monitor expr.now ∷ [] else found.old.monitors))) }

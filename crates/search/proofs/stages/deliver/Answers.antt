@@ -1,15 +1,29 @@
 -- The signal at the place is delivered.
-use Rattle.std.proofs.Common.{ℕ, List, ◌∙◌, ◌<◌, ◌≤◌, ap, length, refl, sym, subst}
+use Rattle.std.proofs.Common.{ℕ, List, ◌≡◌, ◌∙◌, ◌<◌, ◌≤◌, ap, arith, length, refl, sym, subst}
 use Rattle.credential_text.specs.declared.exprs.Expr.{Expr}
 use Rattle.scholten_core.specs.Computation.{Computation, named_with}
 use Rattle.scholten_core.specs.Step.{DeliversSignal}
 use Rattle.scholten_core.proofs.Named.{delivers-named}
 use Rattle.search.specs.declared.letters.Load.{Load}
+use Rattle.search.specs.declared.stages.NumberedStage.{NumberedStage}
+use Rattle.search.specs.declared.stages.NumberedStage.TheVariants as numbered_stage
 use Rattle.search.specs.declared.stages.Stage.{Stage}
 use Rattle.search.specs.Stage.{signals_in}
 use Rattle.search.specs.Numbered.{IsStage, load_at, stage_at}
 use Rattle.search.proofs.Numbered.{shown, shows}
 use Rattle.search.proofs.stages.deliver.Goals as goal
+
+-- where nothing runs no signal is under way
+none_sent : (nodes : List Expr) (st : NumberedStage) (place : ℕ) → ((d : Computation (Load ℕ)) → st ≡ numbered_stage.Running d → ⊥) → length (signals_in (stage_at nodes st)) ≤ place
+none_sent nodes (numbered_stage.Running d) place never = absurd (never d refl)
+none_sent nodes numbered_stage.Spent place never = omega arith
+none_sent nodes numbered_stage.Broken place never = omega arith
+
+pub returns-in_default : goal.returns-in_default
+returns-in_default c = record {
+  delivers = λ (nodes : List Expr). (none_sent nodes c.args.stage.now c.args.place c.in_default.not-Running, refl);
+  loads = λ (nodes : List Expr) are. are;
+}
 
 pub returns-clause-delivers : goal.returns-clause-delivers
 returns-clause-delivers c =

@@ -1,5 +1,5 @@
 -- Where no letter is left and no signal is under way, nothing is outstanding.
-use Rattle.std.proofs.Common.{List, ◌∙◌, ◌≡◌, ◌↔◌, IsTrue, true, refl, subst, sym, arith, eq-eqb}
+use Rattle.std.proofs.Common.{List, ◌∙◌, ◌↔◌, IsTrue, true, refl, subst, sym, arith, eq-eqb}
 use Rattle.std.proofs.lemmas.Map.Views.{exact_unsigned_eq}
 use Rattle.credential_text.specs.declared.exprs.Expr.{Expr}
 use Rattle.search.specs.declared.stages.NumberedStage.{NumberedStage}

@@ -59,8 +59,7 @@ returns-clause-sends c =
     let d = c.in-Running.running in
     let within = sent_within c.requires.0 st d c.in-Running.is c.requires.1 c.requires.2 c.args.work c.requires.4 in
     let count : c.len.result ≡ length outs.items = c.len.ensures ∙ outs.ok.0 in
-    subst (λ (x : Progress). Sends (stage_at x.graph.nodes st) (stage_at x.graph.nodes (numbered_stage.Running c.finish_with.new.self)) c.args.work c.args.number x.outs Done) c.found.view_is
-    (
+    subst (λ (x : Progress). Sends (stage_at x.graph.nodes st) (stage_at x.graph.nodes (numbered_stage.Running c.finish_with.new.self)) c.args.work c.args.number x.outs Done) c.found.view_is (
       shown nodes st d c.in-Running.is,
       named_with (load_at nodes) c.finish_with.new.self,
       shows nodes st d c.in-Running.is,

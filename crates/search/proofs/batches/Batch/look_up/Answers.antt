@@ -1,11 +1,24 @@
-use Rattle.std.proofs.Common.{◌≡◌, ◌<◌, ◌+◌, ap, Option, length, sym, subst, vec_capacity}
+use Rattle.std.proofs.Common.{◌≡◌, ◌<◌, ◌+◌, ap, arith, Option, length, sym, subst, vec_capacity}
 use Rattle.search.specs.declared.batches.NamedSearch.{NamedSearch}
 use Rattle.search.specs.declared.queries.Hint.{Hint}
-use Rattle.search.specs.Batches.{BatchState, IsBatch}
+use Rattle.search.specs.Batches.{BatchState, IsBatch, letters_of}
 use Rattle.search.specs.Finish.{right_hint}
 use Rattle.snapshots.specs.Snapshot.{SnapshotState}
 use Rattle.search.proofs.Batched.{batch, with_hint, looked_up_batch, looked_up_more, within_held}
 use Rattle.search.proofs.batches.Batch.look_up.Goals as goal
+
+pub unreachable-requires : goal.unreachable-requires
+unreachable-requires c =
+    let b = c.self.inside in
+    let within : b.looked < length (letters_of b.of b.held_letters.items) = subst (λ (x : BatchState). x.looked < length x.letters) (sym c.self.view_is) c.requires in
+    let none : b.looked < 0 = subst (λ (o : Option NamedSearch). b.looked < length (letters_of o b.held_letters.items)) c.in_default.is within in
+    omega (arith, none)
+
+pub index_mut-held_letter-requires : goal.index_mut-held_letter-requires
+index_mut-held_letter-requires c =
+    let b = c.self.inside in
+    let within = within_held b.of c.in-Some.of b.held_letters.items b.looked c.in-Some.is (subst (λ (x : BatchState). x.looked < length x.letters) (sym c.self.view_is) c.requires) in
+    omega (arith, within, b.held_letters.ok.0)
 
 pub returns : goal.returns
 returns c =

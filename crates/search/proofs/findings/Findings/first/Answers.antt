@@ -1,9 +1,7 @@
-use Rattle.std.proofs.Common.{◌≡◌, ◌∙◌, ◌++◌, ◌∷◌, [], ℕ, Bool, true, false, None, Some, ap, subst, slice_get}
+use Rattle.std.proofs.Common.{◌≡◌, ◌∙◌, ◌++◌, ◌∷◌, [], ℕ, true, false, None, Some, ap, subst, slice_get}
 use Rattle.names.specs.declared.roles.Role.{Role}
-use Rattle.credential_text.specs.declared.exprs.Expr.{Expr}
 use Rattle.credential_text.specs.declared.exprs.Expr.TheVariants.{Rol}
-use Rattle.cred_graph.specs.Graph.{GraphState, empty_graph}
-use Rattle.search.specs.declared.findings.Monitor.{Monitor}
+use Rattle.cred_graph.specs.Graph.{empty_graph}
 use Rattle.search.specs.declared.findings.Monitor.TheVariants.{Plain}
 use Rattle.search.specs.Answers.{Progress, progress}
 use Rattle.search.proofs.Numbered.{HasNode}

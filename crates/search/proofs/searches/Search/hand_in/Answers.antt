@@ -1,4 +1,4 @@
-use Rattle.std.proofs.Common.{◌≡◌, ◌≤◌, ◌∙◌, ap, arith, length, List, ℕ, option_map, refl, subst, sym, vec_capacity}
+use Rattle.std.proofs.Common.{◌≤◌, ◌∙◌, ap, arith, length, List, ℕ, option_map, refl, subst, sym, vec_capacity}
 use Rattle.std.specs.List.{AllWithin}
 use Rattle.std.proofs.lemmas.List.{length-map}
 use Rattle.std.proofs.lemmas.Option.{none-some}

@@ -1,8 +1,9 @@
 -- A held letter is awaited by its receiver, whose receipt keeps what a search keeps.
-use Rattle.std.proofs.Common.{◌≡◌, refl, sym, subst, ap, [], ℕ, List}
+use Rattle.std.proofs.Common.{◌≡◌, option_copied, refl, sym, subst, ap, [], ℕ, List}
+use Rattle.credential_text.specs.declared.exprs.Expr.{Expr}
 use Rattle.vaults.specs.Journal.{credentials}
 use Rattle.snapshots.specs.Snapshot.{SnapshotState, IsOrdered}
-use Rattle.cred_graph.specs.Graph.{GraphState}
+use Rattle.cred_graph.specs.Graph.{GraphState, IsNode}
 use Rattle.search.specs.declared.letters.Load.{Load}
 use Rattle.search.specs.declared.letters.Held.{Held}
 use Rattle.search.specs.declared.stages.Stage.{Stage}
@@ -11,7 +12,7 @@ use Rattle.search.specs.Net.{sent_of}
 use Rattle.search.specs.Answers.{Progress, progress, Answers, Awaits}
 use Rattle.search.specs.Stage.{HoldsLetter, Sends, letter_in}
 use Rattle.search.specs.Search.{SearchState, IsKept, asked_role}
-use Rattle.search.specs.Finish.{Receives}
+use Rattle.search.specs.Finish.{IsSpanFor, Receives}
 use Rattle.search.specs.Numbered.{IsLoad, IsStage, held_at, load_at, stage_at}
 use Rattle.search.specs.contracts.searches.Search.{the_view}
 use Rattle.search.proofs.Arms.{node_in}
@@ -34,6 +35,12 @@ pub receive-received-requires-clause-load : goal.receive-received-requires-claus
 receive-received-requires-clause-load c =
     subst (λ (x : Progress). IsLoad x.graph.nodes c.args.held.now.load) (sym c.clear.ensures)
     (subst (λ (x : SearchState). IsLoad x.graph.nodes c.args.held.now.load) (sym c.self.view_is) c.requires.load)
+
+pub receive-received-requires-clause-span : goal.receive-received-requires-clause-span
+receive-received-requires-clause-span c = λ e at.
+    let to = c.args.held.now.to in
+    let span = subst (λ (x : SearchState). (e' : Expr) → IsNode x.graph to e' → IsSpanFor x.snapshot.vaults e' (option_copied c.args.looked_up)) (sym c.self.view_is) c.requires.span in
+    subst (λ (v : SnapshotState). IsSpanFor v.vaults e (option_copied c.args.looked_up)) (sym c.deref-2.ensures) (span e (subst (λ (x : Progress). IsNode x.graph to e) c.clear.ensures at))
 
 pub receive-received-requires-clause-none : goal.receive-received-requires-clause-none
 receive-received-requires-clause-none c = ap (λ (x : Progress). x.outs) c.clear.ensures
