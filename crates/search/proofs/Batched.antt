@@ -1,5 +1,5 @@
 -- Letters of a batch: which they are, how they are taken in a row, and how they are handed in.
-use Rattle.std.proofs.Common.{◌≡◌, ◌∙◌, ◌+◌, ◌++◌, ◌∷◌, ◌<◌, ◌≤◌, ℕ, Bool, true, false, List, [], length, map, get_or, take, ap, sym, subst, refl, inl, inr, arith, None, Some, Option, option_map, if◌then◌else◌}
+use Rattle.std.proofs.Common.{◌≡◌, ◌∙◌, ◌+◌, ◌++◌, ◌∷◌, ◌<◌, ℕ, Bool, true, false, List, [], length, map, get_or, take, ap, sym, subst, refl, inl, inr, arith, None, Some, Option, option_map, if◌then◌else◌}
 use Rattle.std.specs.Prelude.{slice_get, slice_set}
 use Rattle.std.specs.List.{AllWithin}
 use Rattle.std.proofs.Math.Seq.{map-set_same}
@@ -37,11 +37,6 @@ pub next_letter : (of : Option NamedSearch) (es : List HeldLetter) (looked room 
     IsNextLetter (batch of es looked room) e.letter
 next_letter None es looked room e at is = let clash : None ≡ Some e = subst (λ (xs : List HeldLetter). slice_get xs looked ≡ Some e) is.0 at in cc
 next_letter (Some of) es looked room e at is = (taken_of of e, slice_get-map (taken_of of) es looked ∙ ap (option_map (taken_of of)) at, refl, refl)
-
--- with all of them looked up there is none
-pub none_next : (of : Option NamedSearch) (es : List HeldLetter) (looked room : ℕ) → length es ≤ looked → IsBatch of es looked → IsLookedUp (batch of es looked room)
-none_next None es looked room past is = is.1
-none_next (Some of) es looked room past is = let long = length-map es (taken_of of) in omega (arith, past, is.0, long)
 
 pub within_held : (o : Option NamedSearch) (of : NamedSearch) (es : List HeldLetter) (n : ℕ) → o ≡ Some of → n < length (letters_of o es) → n < length es
 within_held None of es n is within = cc
