@@ -1,5 +1,5 @@
 -- Letters of a batch: which they are, how they are taken in a row, and how they are handed in.
-use Rattle.std.proofs.Common.{◌≡◌, ◌∙◌, ◌+◌, ◌++◌, ◌∷◌, ◌<◌, ◌≤◌, ℕ, Bool, true, false, List, [], length, map, get_or, take, ap, sym, subst, refl, inl, inr, arith, None, Some, Option, option_map, if◌then◌else◌}
+use Rattle.std.proofs.Common.{◌≡◌, ◌∙◌, ◌+◌, ◌++◌, ◌∷◌, ◌<◌, ℕ, Bool, true, false, List, [], length, map, get_or, take, ap, sym, subst, refl, inl, inr, arith, None, Some, Option, option_map, if◌then◌else◌}
 use Rattle.std.specs.Prelude.{slice_get, slice_set}
 use Rattle.std.specs.List.{AllWithin}
 use Rattle.std.proofs.Math.Seq.{map-set_same}
@@ -9,7 +9,6 @@ use Rattle.std.proofs.lemmas.List.Elements.{All-map}
 use Rattle.std.proofs.lemmas.Option.{same_Some, slice_get-map}
 use Rattle.search.specs.declared.batches.HeldLetter.{HeldLetter}
 use Rattle.search.specs.declared.batches.NamedSearch.{NamedSearch}
-use Rattle.search.specs.declared.outcomes.CarriedOn.{CarriedOn}
 use Rattle.search.specs.declared.queries.Hint.{Hint}
 use Rattle.scholten_core.specs.declared.letters.Letter.{Letter}
 use Rattle.std.specs.Arc.{arc_value}
@@ -18,7 +17,7 @@ use Rattle.search.specs.Net.{Said}
 use Rattle.search.specs.Stage.{held_in, stage_marked}
 use Rattle.search.specs.Search.{SearchState}
 use Rattle.search.specs.Batches.{TakenLetter, BatchState, IsBatch, IsLookedUp, IsLookedUpIn, IsNextLetter, AreOf, name_of, taken_of, letters_of}
-use Rattle.search.specs.Batches.{MakesStep, WorksOn, HandsInAs, HandsInEach, PutsBack, GoesOn, CarriesOn}
+use Rattle.search.specs.Batches.{MakesStep, WorksOn, HandsInAs, HandsInEach, PutsBack}
 
 -- what a batch of these fields is
 abbrev pub batch : Option NamedSearch → List HeldLetter → ℕ → ℕ → BatchState
@@ -38,11 +37,6 @@ pub next_letter : (of : Option NamedSearch) (es : List HeldLetter) (looked room 
     IsNextLetter (batch of es looked room) e.letter
 next_letter None es looked room e at is = let clash : None ≡ Some e = subst (λ (xs : List HeldLetter). slice_get xs looked ≡ Some e) is.0 at in cc
 next_letter (Some of) es looked room e at is = (taken_of of e, slice_get-map (taken_of of) es looked ∙ ap (option_map (taken_of of)) at, refl, refl)
-
--- with all of them looked up there is none
-pub none_next : (of : Option NamedSearch) (es : List HeldLetter) (looked room : ℕ) → length es ≤ looked → IsBatch of es looked → IsLookedUp (batch of es looked room)
-none_next None es looked room past is = is.1
-none_next (Some of) es looked room past is = let long = length-map es (taken_of of) in omega (arith, past, is.0, long)
 
 pub within_held : (o : Option NamedSearch) (of : NamedSearch) (es : List HeldLetter) (n : ℕ) → o ≡ Some of → n < length (letters_of o es) → n < length es
 within_held None of es n is within = cc
@@ -68,10 +62,6 @@ module _ (of : NamedSearch) (es : List HeldLetter) (looked room : ℕ) (e : Held
     ],
   )
 
-pub no_letters : (es : List HeldLetter) → length es ≡ 0 → es ≡ []
-no_letters [] none = refl
-no_letters (e ∷ es) none = absurd (omega arith)
-
 -- the letters of a search, and what is said of them by a batch that has them
 module _ (of : NamedSearch) (o : Option NamedSearch) (es : List HeldLetter) (looked room : ℕ) (b : BatchState) (is : batch o es looked room ≡ b) (some : o ≡ Some of) where
   pub its_letters : map (taken_of of) es ≡ b.letters
@@ -83,17 +73,13 @@ module _ (of : NamedSearch) (o : Option NamedSearch) (es : List HeldLetter) (loo
       let every : looked ≡ length es = ap (λ (x : BatchState). x.looked) is ∙ all ∙ ap length (sym its_letters) ∙ length-map es (taken_of of) in
       subst (AllWithin (IsLookedUpIn of) es 0) every inside.1
 
-  -- what is done to the search of its letters is done by the batch's name
-  pub carries_on : (most : ℕ) (s middle t : SearchState) (c : CarriedOn) (read : List HeldLetter) (letters : List TakenLetter) → read ≡ es →
-      HandsInEach of.who of.number false s (map (taken_of of) read) c.finished middle → GoesOn of.who of.number most middle c.went t letters →
-      (who : List ℕ) (k : ℕ) → b.of ≡ Some (who, k) → CarriesOn who k most s b.letters c t letters
-  carries_on most s middle t c read letters reads hands goes who k named =
+  -- what is handed in is handed in by the batch's name
+  pub hands_in : (back : Bool) (s t : SearchState) (n : ℕ) (read : List HeldLetter) → read ≡ es → HandsInEach of.who of.number back s (map (taken_of of) read) n t →
+      (who : List ℕ) (k : ℕ) → b.of ≡ Some (who, k) → HandsInEach who k back s b.letters n t
+  hands_in back s t n read reads hands who k named =
       let same = ap (option_map name_of) (sym some) ∙ ap (λ (x : BatchState). x.of) is ∙ named in
-      subst (λ (n : List ℕ × ℕ). CarriesOn n.0 n.1 most s b.letters c t letters) (same_Some (name_of of) (who, k) same) (
-        middle,
-        subst (λ (ls : List TakenLetter). HandsInEach of.who of.number false s ls c.finished middle) (ap (map (taken_of of)) reads ∙ its_letters) hands,
-        goes,
-      )
+      subst (λ (m : List ℕ × ℕ). HandsInEach m.0 m.1 back s b.letters n t) (same_Some (name_of of) (who, k) same)
+      (subst (λ (ls : List TakenLetter). HandsInEach of.who of.number back s ls n t) (ap (map (taken_of of)) reads ∙ its_letters) hands)
 
 -- by what the search answered
 pub puts_back : (s t : SearchState) (number : ℕ) (back : Bool) → (back ≡ false → held_in s.stage number ≡ None) → (back ≡ false → t ≡ s) →

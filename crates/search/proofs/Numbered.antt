@@ -1,5 +1,5 @@
 -- What the numbers in letters stand for goes on while nodes are added.
-use Rattle.std.proofs.Common.{ℕ, ◌+◌, ◌<◌, ◌≤◌, All, get_or, Option, None, MatchOption, length, arith, ◌≡◌, ◌∙◌, Some, map, take, slice_get, Bool, true, false, Contains, refl, sym, subst, ap, List, [], ◌∷◌, ◌++◌, inl, inr, append-nil, append_assoc}
+use Rattle.std.proofs.Common.{ℕ, ◌+◌, ◌<◌, ◌≤◌, All, get_or, Option, None, MatchOption, length, arith, ◌≡◌, ◌∙◌, Some, map, take, slice_get, Bool, true, false, Contains, refl, sym, subst, ap, List, [], ◌∷◌, ◌++◌, if◌then◌else◌, inl, inr, append-nil, append_assoc}
 use Rattle.std.proofs.lemmas.List.Elements.{All-cons, All-head, All-nil, All-push, All-tail, All-weaker, Contains-push_cases}
 use Rattle.std.specs.Option.{option_map}
 use Rattle.std.proofs.lemmas.Option.{slice_get-get_or, slice_get_past}
@@ -162,30 +162,44 @@ numbered_given g h e n true ms outs (absent, range, is, with) graph are =
     subst (λ x. AreNumbered x ms outs) (sym with) (numbered_with_node g e ms outs (subst (λ (x : GraphState). IsOnce x.nodes) with graph.one_node) are)
 numbered_given g h e n false ms outs (node, same) graph are = subst (λ x. AreNumbered x ms outs) (sym same) are
 
--- a node that is there is asked
-pub asks_old : (s t : Progress) (g h : GraphState) (ms : List NumberedMonitor) (outs : List (ℕ × Load ℕ)) (e : Expr) (n : ℕ) (p : Port ℕ) → progress_at g ms outs ≡ s → NodeGiven g h e n false →
-    t ≡ record (progress_at h ms outs) { outs = outs_at h.nodes outs ++ (n, load.Ask (port_at h.nodes p)) ∷ [] } → AsksFor s t e (port_at s.graph.nodes p)
-asks_old s t g h ms outs e n p is (node, same) done =
-    subst (λ (x : Progress). AsksFor x t e (port_at x.graph.nodes p)) is (
-      n,
-      false,
-      (node, ap (λ (x : Progress). x.graph) done ∙ same),
-      ap (λ (x : Progress). x.outs) done ∙ ap (λ (k : GraphState). outs_at k.nodes outs ++ (n, load.Ask (port_at k.nodes p)) ∷ []) same,
-      ap (λ (x : Progress). x.monitors) done ∙ ap (λ (k : GraphState). monitors_at k.nodes ms) same,
-    )
+-- the node of the expression has this number, and is added with its monitor where there is none
+abbrev pub HasNode : Progress → Progress → Expr → ℕ → Type 0
+HasNode s t e n =
+    (new : Bool) × NodeGiven s.graph t.graph e n new × (t.outs ≡ s.outs) × (t.monitors ≡ (if new then s.monitors ++ new_monitor e ∷ [] else s.monitors))
 
--- the new node is asked, where the letters before it and the other monitors stay what they are
-pub asks_new : (s t : Progress) (g h : GraphState) (ms ms' : List NumberedMonitor) (m : NumberedMonitor) (outs : List (ℕ × Load ℕ)) (e : Expr) (n : ℕ) (p : Port ℕ) → progress_at g ms outs ≡ s → AreNumbered g ms outs → IsPort g.nodes p →
-    NodeGiven g h e n true → ms' ≡ ms ++ m ∷ [] → monitor_at h.nodes m ≡ new_monitor e → t ≡ record (progress_at h ms' outs) { outs = outs_at h.nodes outs ++ (n, load.Ask (port_at h.nodes p)) ∷ [] } → AsksFor s t e (port_at s.graph.nodes p)
-asks_new s t g h ms ms' m outs e n p is are port (absent, range, at, with) pushed new done =
-    subst (λ (x : Progress). AsksFor x t e (port_at x.graph.nodes p)) is (
-      n,
+pub node_there : (s : Progress) (g h : GraphState) (ms : List NumberedMonitor) (outs : List (ℕ × Load ℕ)) (e : Expr) (n : ℕ) → progress_at g ms outs ≡ s → NodeGiven g h e n false → HasNode s (progress_at h ms outs) e n
+node_there s g h ms outs e n is (node, same) =
+    subst (λ (x : Progress). HasNode x (progress_at h ms outs) e n) is (false, (node, same), ap (λ (k : GraphState). outs_at k.nodes outs) same, ap (λ (k : GraphState). monitors_at k.nodes ms) same)
+
+-- the letters before it and the other monitors stay what they are
+pub node_added : (s : Progress) (g h : GraphState) (ms ms' : List NumberedMonitor) (m : NumberedMonitor) (outs : List (ℕ × Load ℕ)) (e : Expr) (n : ℕ) → progress_at g ms outs ≡ s → AreNumbered g ms outs →
+    NodeGiven g h e n true → ms' ≡ ms ++ m ∷ [] → monitor_at h.nodes m ≡ new_monitor e → HasNode s (progress_at h ms' outs) e n
+node_added s g h ms ms' m outs e n is are (absent, range, at, with) pushed new =
+    subst (λ (x : Progress). HasNode x (progress_at h ms' outs) e n) is (
       true,
-      (absent, range, at, ap (λ (x : Progress). x.graph) done ∙ with),
-      ap (λ (x : Progress). x.outs) done ∙ ap (λ (k : GraphState). outs_at k.nodes outs ++ (n, load.Ask (port_at k.nodes p)) ∷ []) with ∙ (λ i. outs_stay g.nodes (e ∷ []) outs are.loads i ++ (n, load.Ask (port_stays g.nodes (e ∷ []) p port i)) ∷ []),
-      ap (λ (x : Progress). x.monitors) done ∙ ap (monitors_at h.nodes) pushed ∙ map-append (monitor_at h.nodes) ms (m ∷ [])
+      (absent, range, at, with),
+      ap (λ (k : GraphState). outs_at k.nodes outs) with ∙ outs_stay g.nodes (e ∷ []) outs are.loads,
+      ap (monitors_at h.nodes) pushed ∙ map-append (monitor_at h.nodes) ms (m ∷ [])
           ∙ (λ i. (ap (λ (k : GraphState). monitors_at k.nodes ms) with ∙ monitors_stay g.nodes (e ∷ []) ms are.monitors) i ++ new i ∷ []),
     )
+
+-- the node is asked
+pub asks_node : (s t u : Progress) (e : Expr) (n : ℕ) (p : Port ℕ) → HasNode s t e n → IsPort s.graph.nodes p →
+    u ≡ record t { outs = t.outs ++ (n, load.Ask (port_at t.graph.nodes p)) ∷ [] } → AsksFor s u e (port_at s.graph.nodes p)
+asks_node s t u e n p (true, (absent, range, at, with), outs, monitors) port done = (
+  n,
+  true,
+  (absent, range, at, ap (λ (x : Progress). x.graph) done ∙ with),
+  ap (λ (x : Progress). x.outs) done ∙ (λ i. outs i ++ (n, load.Ask ((ap (λ (k : GraphState). port_at k.nodes p) with ∙ port_stays s.graph.nodes (e ∷ []) p port) i)) ∷ []),
+  ap (λ (x : Progress). x.monitors) done ∙ monitors,
+)
+asks_node s t u e n p (false, (node, same), outs, monitors) port done = (
+  n,
+  false,
+  (node, ap (λ (x : Progress). x.graph) done ∙ same),
+  ap (λ (x : Progress). x.outs) done ∙ (λ i. outs i ++ (n, load.Ask (port_at (same i).nodes p)) ∷ []),
+  ap (λ (x : Progress). x.monitors) done ∙ monitors,
+)
 
 pub port_given : (g h : GraphState) (e : Expr) (n : ℕ) (b : Bool) (p : Port ℕ) → NodeGiven g h e n b → IsPort g.nodes p → IsPort h.nodes p
 port_given g h e n true p (absent, range, is, with) port = subst (λ (x : GraphState). IsPort x.nodes p) (sym with) (port_goes_on g.nodes (e ∷ []) p port)
@@ -197,6 +211,15 @@ pub tells_on : {A : Type 0} (f : GraphState → A → ℕ × Load (List ℕ)) (x
 tells_on f xs x s now mid next k so_far is at done =
     done ∙ ap (λ (u : Progress). record u { outs = u.outs ++ f u.graph (x u.graph) ∷ [] }) so_far
     ∙ ap (λ (os : List (ℕ × Load (List ℕ))). record s { outs = os }) (sent_next (f s.graph) (xs s.graph) k (x s.graph) s.outs (s.outs ++ take k (map (f s.graph) (xs s.graph))) (subst (λ (u : Progress). slice_get (xs u.graph) k ≡ Some (x u.graph)) (is ∙ so_far) at) refl)
+
+-- with a listener or a solution no node is added
+pub listened_nodes : (g h : GraphState) (n : ℕ) (l : Listening) (b : Bool) → ListenerGiven g h n l b → h.nodes ≡ g.nodes
+listened_nodes g h n l true (new, with) = ap (λ (k : GraphState). k.nodes) with
+listened_nodes g h n l false (listens, same) = ap (λ (k : GraphState). k.nodes) same
+
+pub solved_nodes : (g h : GraphState) (s : Solution) (b : Bool) → SolutionGiven g h s b → h.nodes ≡ g.nodes
+solved_nodes g h s true (new, with) = ap (λ (k : GraphState). k.nodes) with
+solved_nodes g h s false (solved, same) = ap (λ (k : GraphState). k.nodes) same
 
 -- a listener is added, on a port whose number is an entity's
 pub numbered_listened : (g h : GraphState) (n m : ℕ) (p : Port ℕ) (b : Bool) (ms : List NumberedMonitor) (outs : List (ℕ × Load ℕ)) → ListenerGiven g h n (record { asker = m; port = port_at g.nodes p }) b → n < length g.nodes → IsGraph h → IsPort g.nodes p → AreNumbered g ms outs → AreNumbered h ms outs

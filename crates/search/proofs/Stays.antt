@@ -1,5 +1,6 @@
 -- A completed search holds no letter, and nothing of it moves: it stays as it is.
-use Rattle.std.proofs.Common.{◌≡◌, ℕ, List, [], ◌∷◌, length, None, ap, refl, arith}
+use Rattle.std.proofs.Common.{◌≡◌, ℕ, [], None, ap, refl, arith}
+use Rattle.std.proofs.lemmas.List.{nil_from_length}
 use Rattle.scholten_core.specs.Computation.{Computation, outstanding}
 use Rattle.search.specs.declared.stages.Stage.{Stage}
 use Rattle.search.specs.declared.stages.Stage.TheVariants as stage
@@ -7,12 +8,8 @@ use Rattle.search.specs.Net.{Said}
 use Rattle.search.specs.Search.{IsCompleted}
 use Rattle.search.specs.Stage.{waiting_in, signals_in, held_in}
 
-none_long : {X : Type 0} (xs : List X) → length xs ≡ 0 → xs ≡ []
-none_long [] none = refl
-none_long (x ∷ xs) none = absurd (omega (arith, none))
-
 no_letters : (c : Computation Said) → outstanding c ≡ 0 → c.letters ≡ []
-no_letters c done = none_long c.letters (omega (arith, done))
+no_letters c done = nil_from_length c.letters (omega (arith, done))
 
 -- no letter waits
 pub waits_none : (st : Stage) → IsCompleted st → waiting_in st ≡ []
@@ -22,7 +19,7 @@ waits_none stage.Broken done = refl
 
 -- no signal is under way
 pub signals_none : (st : Stage) → IsCompleted st → signals_in st ≡ []
-signals_none (stage.Running c) done = none_long c.signals (omega (arith, done))
+signals_none (stage.Running c) done = nil_from_length c.signals (omega (arith, done))
 signals_none stage.Spent done = refl
 signals_none stage.Broken done = refl
 

@@ -1,5 +1,6 @@
 //! How a node asks: an expression gets a node and a monitor if it has none, and an Ask goes to its node.
-ghost use Rattle.std.specs.Prelude.{◌≡◌, List, OnOk};
+ghost use Rattle.std.specs.Prelude.{◌≡◌, ◌++◌, ◌∷◌, [], Bool, List, IfOk, OnOk, if◌then◌else◌};
+ghost use Rattle.cred_graph.specs.Graph.{IsGraph, NodeGiven};
 ghost use Rattle.cred_graph.specs.Numbers.{IsPort, port_at};
 ghost use Rattle.credential_text.specs.declared.exprs.Expr.{Expr};
 ghost use Rattle.search.specs.Answers.{new_monitor, AsksFor};
@@ -28,6 +29,23 @@ fn monitor_for(alloc: Global, expr: &Expr) -> NumberedMonitor
     }
 }
 
+// The number of the expression's node, which is added with its monitor if it isn't there.
+#[inline(always)]
+pub(crate) fn node_for(alloc: Global, found: &mut Findings, expr: &Expr) -> Result<u64, AllocError>
+    ensures given { IfOk result (λ to. (new : Bool) × NodeGiven found.old.graph found.new.graph expr.now to new
+        × (found.new.outs ≡ found.old.outs)
+        × (found.new.monitors ≡ (if new then found.old.monitors ++ new_monitor expr.now ∷ [] else found.old.monitors))) }
+    ensures laws { IsGraph found.new.graph }
+{
+    let (node, is_new) = found.graph.node_of(expr)?;
+    if !is_new {
+        return Ok(node);
+    }
+    found.monitors.reserve(1)?;
+    found.monitors.push_reserved(monitor_for(alloc, expr));
+    Ok(node)
+}
+
 // Sends an Ask on the port to the node of the expression.
 pub(crate) fn ask(
     alloc: Global,
@@ -38,10 +56,6 @@ pub(crate) fn ask(
     requires { IsPort found.old.graph.nodes port }
     ensures { OnOk result (AsksFor found.old found.new expr.now (port_at found.old.graph.nodes port)) }
 {
-    let (node, is_new) = found.graph.node_of(expr)?;
-    if !is_new {
-        return found.send(node, Load::Ask(port));
-    }
-    found.monitors.push(monitor_for(alloc, expr))?;
+    let node = node_for(alloc, found, expr)?;
     found.send(node, Load::Ask(port))
 }

@@ -6,6 +6,7 @@ ghost use Rattle.std.specs.List.{AllWithin};
 ghost use Rattle.std.specs.Arc.{arc_value};
 ghost use Rattle.search.specs.Batches.{IsLookedUpIn, taken_of, Visits, MakesStep, HandsInAs, HandsInEach, GoesOn};
 
+use crate::hints::role_needed;
 use crate::outcomes::{CarriedOn, Finished, Went};
 use crate::queries::{Hint, Need};
 use crate::searches::Search;
@@ -21,19 +22,6 @@ pub(crate) struct HeldLetter {
     letter: u64,
     need: Need,
     hint: Hint,
-}
-
-impl HeldLetter {
-    ghost use Rattle.std.specs.Prelude.{◌≡◌};
-    ghost use Rattle.search.specs.Finish.{right_hint};
-
-    /// Looks up what the letter needs.
-    #[inline(always)]
-    fn look_up(&mut self, snapshot: &Snapshot)
-        ensures { self.new ≡ record self.old { hint = right_hint snapshot.now.vaults self.old.need } }
-    {
-        self.need.look_up_into(snapshot, &mut self.hint);
-    }
 }
 
 /// A search as its keeper names it, and what it reads.
@@ -110,7 +98,9 @@ impl Batch {
     {
         let Some(of) = &self.of else { unreachable!() };
         let held_letter = &mut self.held_letters[self.looked];
-        held_letter.look_up(&of.snapshot);
+        held_letter
+            .need
+            .look_up_into(&of.snapshot, &mut held_letter.hint);
         self.looked += 1;
     }
 
@@ -197,44 +187,33 @@ impl Search {
         ensures looked { batch.new.looked ≡ 0 }
         ensures room { batch.new.room ≡ batch.old.room }
     {
-        let Some(of) = &mut batch.of else {
+        let Some((who, number)) = batch.search() else {
             unreachable!()
         };
-        let finished = hand_in_each(self, of, &batch.held_letters, false);
-        batch.held_letters.clear();
-        batch.looked = 0;
-        let went = go_on(self, of, most, &mut batch.held_letters);
-        if batch.held_letters.is_empty() {
-            batch.of = None;
-        }
+        let finished = self.hand_in(batch, false);
+        batch.let_go();
+        let went = self.go_on(who, number, most, batch);
         CarriedOn { finished, went }
     }
-}
 
-// Goes on with the search, whose letters were handed in, where anything is left to do.
-#[inline(always)]
-fn go_on(
-    search: &mut Search,
-    of: &mut NamedSearch,
-    most: usize,
-    held_letters: &mut Vec<HeldLetter>,
-) -> Went
-    requires empty { held_letters.old.items ≡ [] }
-    requires space { most ≤ vec_capacity held_letters.old }
-    ensures went { GoesOn of.old.who of.old.number most search.old result search.new (map (taken_of of.new) held_letters.new.items) }
-    ensures name { (of.new.who ≡ of.old.who) × (of.new.number ≡ of.old.number) }
-    ensures bound { vec_len held_letters.new ≤ most }
-    ensures capacity { vec_capacity held_letters.new ≡ vec_capacity held_letters.old }
-{
-    if search.is_quiet() {
-        return Went::Nowhere;
+    // Visits the search, whose letters were handed in, where anything is left to do.
+    #[inline(always)]
+    fn go_on(&mut self, who: Entity, number: u64, most: usize, batch: &mut Batch) -> Went
+        requires empty { IsEmpty batch.old }
+        requires space { most ≤ batch.old.room }
+        ensures went { GoesOn who number most self.old result self.new batch.new.letters }
+        ensures bound { length batch.new.letters ≤ most }
+        ensures looked { batch.new.looked ≡ 0 }
+        ensures room { batch.new.room ≡ batch.old.room }
+    {
+        if self.is_quiet() {
+            return Went::Nowhere;
+        }
+        match self.visit(who, number, most, batch) {
+            Ok(()) => Went::On,
+            Err(_refused) => Went::NoMemory,
+        }
     }
-    let Ok(snapshot) = search.snapshot().clone() else {
-        return Went::NoMemory;
-    };
-    of.snapshot = snapshot;
-    take_each(search, of, most, held_letters);
-    Went::On
 }
 
 // Makes up to so many steps of the search, which the letters that are taken are of.
@@ -273,7 +252,7 @@ fn make_step(search: &mut Search, of: &NamedSearch, held_letters: &mut Vec<HeldL
         return false;
     };
     search.kept();
-    note(held_letters, letter, search.role_needed(&held));
+    note(held_letters, letter, role_needed(search.graph(), &held));
     true
 }
 

@@ -1,7 +1,8 @@
-ghost use Rattle.std.specs.Prelude.{◌≡◌, [], ◌∷◌, ◌++◌, IfOk, OnOk, OnErr};
+ghost use Rattle.std.specs.Prelude.{◌≡◌, [], ◌∷◌, ◌++◌, OnOk, OnErr};
 ghost use Rattle.credential_text.specs.declared.exprs.Expr.TheVariants as exprs;
 ghost use Rattle.cred_graph.specs.Graph.{IsGraph, empty_graph};
 
+use crate::asking::node_for;
 use crate::letters::Load;
 use cred_graph::{Graph, Port};
 use credential_text::Expr;
@@ -12,7 +13,6 @@ use std::collections::VecDeque;
 use std::marker::Model;
 
 /// What a node remembers of what it was told, as contracts see it.
-#[derive(Drop)]
 pub enum Monitor {
     /// An entity or a role remembers its solutions alone.
     Plain,
@@ -93,25 +93,15 @@ impl Findings {
     }
 
     // What a search for the role has found before its first letter is received: the role's node.
-    pub(crate) fn first(mut self, role: Role) -> Result<Self, AllocError>
-        requires { self ≡ progress empty_graph [] [] }
-        ensures found { IfOk result (λ f. f
+    pub(crate) fn first(&mut self, alloc: Global, role: Role) -> Result<(), AllocError>
+        requires { self.old ≡ progress empty_graph [] [] }
+        ensures found { OnOk result (self.new
             ≡ progress (record { nodes = exprs.Rol role ∷ []; listeners = [] ∷ []; solutions = [] }) (Monitor.Plain ∷ []) []) }
-        ensures laws { IfOk result (λ f. IsGraph f.graph) }
+        ensures laws { OnOk result (IsGraph self.new.graph) }
     {
         self.reserve(FIRST_NODES)?;
-        let Findings {
-            mut graph,
-            mut monitors,
-            outs,
-        } = self;
-        graph.node_of(&Expr::Rol(role))?;
-        monitors.push(NumberedMonitor::Plain)?;
-        Ok(Findings {
-            graph,
-            monitors,
-            outs,
-        })
+        node_for(alloc, self, &Expr::Rol(role))?;
+        Ok(())
     }
 
     // The graph.
@@ -138,7 +128,9 @@ impl Findings {
             ≡ record self.old { outs = self.old.outs ++ (to, load_at self.old.graph.nodes load) ∷ [] }) }
         ensures unchanged { OnErr result (self.new ≡ self.old) }
     {
-        self.outs.push_back((to, load))?;
+        let Ok(()) = self.outs.push_back((to, load)) else {
+            return Err(AllocError);
+        };
         Ok(())
     }
 

@@ -2,7 +2,6 @@
 ghost use Rattle.std.specs.Prelude.{◌≡◌, ◌<◌, ◌↔◌, length, option_copied, IsTrue};
 ghost use Rattle.credential_text.specs.declared.exprs.Expr.{Expr};
 ghost use Rattle.cred_graph.specs.Graph.{IsNode};
-ghost use Rattle.snapshots.specs.Snapshot.{IsOrdered};
 ghost use Rattle.search.specs.Finish.{rows_for, need_for, need_of, right_hint};
 ghost use Rattle.search.specs.Numbered.{load_at};
 
@@ -41,30 +40,6 @@ pub(crate) fn role_needed<'a>(graph: &'a Graph, held: &Held<Load<u32>>) -> Optio
     }
 }
 
-// Whether the hint is the one that an Ask of the expression needs.
-fn meets(snapshot: &Snapshot, expr: &Expr, hint: &Hint) -> bool
-    ensures { IsTrue result ↔ (hint.now ≡ right_hint snapshot.now.vaults (rows_for expr.now)) }
-{
-    match expr {
-        Expr::Rol(role) => match hint {
-            Hint::Rows(span) => is_span_of(snapshot, role, *span),
-            Hint::Nothing => false,
-        },
-        Expr::Ent(_entity) => is_nothing(hint),
-        Expr::Link(_base, _name) => is_nothing(hint),
-        Expr::Meet(_parts) => is_nothing(hint),
-    }
-}
-
-fn is_nothing(hint: &Hint) -> bool
-    ensures { IsTrue result ↔ (hint.now ≡ Hint.Nothing) }
-{
-    match hint {
-        Hint::Rows(_span) => false,
-        Hint::Nothing => true,
-    }
-}
-
 // Whether the hint is the one that the letter needs.
 pub(crate) fn hint_is_right(
     graph: &Graph,
@@ -73,16 +48,18 @@ pub(crate) fn hint_is_right(
     hint: &Hint,
 ) -> bool
     requires { held.now.to < length graph.now.nodes }
-    ensures right { IsTrue result
+    ensures { IsTrue result
         ↔ ((e : Expr) → IsNode graph.now held.now.to e
         → hint.now ≡ right_hint snapshot.now.vaults (need_of e (load_at graph.now.nodes held.now.load))) }
-    ensures ordered { IsOrdered snapshot.now.vaults }
 {
-    let _asker = snapshot.asker();
-    let expr = graph.expr(held.to);
-    match held.load {
-        Load::Start => meets(snapshot, expr, hint),
-        Load::Ask(_port) => meets(snapshot, expr, hint),
-        Load::Tell(_port, _who) => is_nothing(hint),
+    match role_needed(graph, held) {
+        Some(role) => match hint {
+            Hint::Rows(span) => is_span_of(snapshot, role, *span),
+            Hint::Nothing => false,
+        },
+        None => match hint {
+            Hint::Rows(_span) => false,
+            Hint::Nothing => true,
+        },
     }
 }

@@ -1,10 +1,11 @@
 use cred_graph::Port;
 use names::Entity;
 use scholten_core::Parent;
+use std::alloc::AllocError;
 
 /// What a letter of a search says, of entities by name, as contracts see it, or by number. Who says it to whom is the
 /// letter's.
-#[derive(Clone, Copy)]
+#[derive(Copy)]
 pub enum Load<E = Entity> {
     /// The environment asks the role that the search is for.
     Start,
@@ -12,6 +13,12 @@ pub enum Load<E = Entity> {
     Ask(Port<E>),
     /// The entity is a member of what the receiver asked on this port.
     Tell(Port<E>, E),
+}
+
+impl<E: Copy> Clone for Load<E> {
+    fn clone(&self) -> Result<Self, AllocError> {
+        Ok(*self)
+    }
 }
 
 /// A letter in the hands of who finishes it.

@@ -18,7 +18,7 @@ fn solutions_of(alloc: Global, graph: &Graph, node: u64) -> Result<Vec<Entity>, 
     let count = graph.solutions(node);
     let mut list = Vec::with_capacity(alloc, count as usize)?;
     for place in 0..count {
-        list.push(graph.solution(node, place))?;
+        list.push_reserved(graph.solution(node, place));
     }
     Ok(list)
 }

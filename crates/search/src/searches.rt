@@ -7,12 +7,12 @@ ghost use Rattle.rt0_rules.specs.Membership.{AreMembers};
 ghost use Rattle.rt0_rules.specs.FixedPoint.{IsExact};
 ghost use Rattle.cred_graph.specs.Graph.{IsNode, Known};
 ghost use Rattle.scholten_core.specs.declared.letters.Letter.{Letter};
-ghost use Rattle.scholten_core.specs.Computation.{Computation, IsHeld};
 ghost use Rattle.search.specs.Net.{Said, OwesRules, IsJustified};
 ghost use Rattle.search.specs.Ending.{MaySettle, Nothing, Members};
 ghost use Rattle.search.specs.Search.{IsAnswered, status_of, found, come_to, IsSoundStage};
 ghost use Rattle.search.specs.Numbered.{IsLoad, IsStage, held_at, load_at, stage_at};
-ghost use Rattle.search.specs.Stage.{Sends, IsQuiet, NoneHeld};
+ghost use Rattle.search.specs.Stage.{IsQuiet, NoneHeld};
+ghost use Rattle.scholten_core.specs.Computation.{Computation};
 
 use crate::findings::Findings;
 use crate::hints::{hint_is_right, role_needed};
@@ -117,7 +117,8 @@ impl Search {
         requires { 0 < work }
         ensures { IfOk result (λ s. IsNew s query work (arc_value snapshot)) }
     {
-        let found = tables.into_found().first(query.role())?;
+        let mut found = tables.into_found();
+        found.first(alloc, query.role())?;
         let running = Diffusion::start(alloc, 0, Load::Start)?;
         let _ports: Option<Port> = None;
         Ok(Search {
@@ -136,11 +137,12 @@ impl Search {
             query: _query,
             work: _work,
             snapshot: _snapshot,
-            found,
+            mut found,
             stage: _stage,
             alloc,
         } = self;
-        Tables::of(found, alloc)
+        found.forget(alloc);
+        Tables { found }
     }
 
     /// How many letters wait.
@@ -199,17 +201,7 @@ impl Search {
         let Some((number, held)) = self.take_held(place) else {
             return None;
         };
-        Some((number, Need::of(self.role_needed(&held))))
-    }
-
-    // The role whose rows the letter in hand needs, if it needs any.
-    #[inline(always)]
-    pub(crate) fn role_needed(&self, held: &Held<Load<u32>>) -> Option<&Role>
-        requires { held.now.to < length self.now.graph.nodes }
-        ensures { (e : Expr) × IsNode self.now.graph held.now.to e
-            × (need_for (option_copied result) ≡ need_of e (load_at self.now.graph.nodes held.now.load)) }
-    {
-        role_needed(self.found.graph(), held)
+        Some((number, Need::of(role_needed(self.graph(), &held))))
     }
 
     /// Takes the waiting letter at that place, in order of sending. Want of memory changes nothing.
@@ -296,7 +288,7 @@ impl Search {
         self.found.clear(self.alloc);
         let received = receive(self.alloc, &mut self.found, &self.snapshot, held, looked_up);
         match received {
-            Ok(()) => send_found(&mut self.stage, self.work, letter, &mut self.found),
+            Ok(()) => send(&mut self.stage, self.work, letter, &mut self.found),
             Err(_refusal) => {
                 self.stage = NumberedStage::Broken;
                 Finished::Broken
@@ -373,18 +365,6 @@ fn tidy(stage: &NumberedStage, found: &mut Findings, alloc: Global)
     if has_ended {
         found.give_back(alloc);
     }
-}
-
-// What the receiver of the held letter of that number answers is sent, where the work limit allows it.
-fn send_found(stage: &mut NumberedStage, work: u64, number: u64, found: &mut Findings) -> Finished
-    requires { (nodes : List Expr) × (c : Computation Said) × (stage_at nodes stage.old ≡ Stage.Running c)
-        × IsHeld c number × (c.sent ≤ work) }
-    ensures sends { Sends (stage_at found.old.graph.nodes stage.old) (stage_at found.old.graph.nodes stage.new) work number
-        found.old.outs result }
-    ensures findings { (found.new.graph ≡ found.old.graph) × (found.new.monitors ≡ found.old.monitors) }
-    ensures loads { IsStage found.old.graph.nodes stage.old → IsStage found.old.graph.nodes stage.new }
-{
-    send(stage, work, number, &mut found.outs)
 }
 
 // What a search of this stage has come to, whose graph is this.

@@ -7,15 +7,14 @@ ghost use Rattle.search.specs.Stage.{waiting_in, signals_in, held_in, HoldsLette
 ghost use Rattle.search.specs.Stage.{IsQuiet, NoneHeld};
 ghost use Rattle.search.specs.Search.{IsOutstanding};
 ghost use Rattle.credential_text.specs.declared.exprs.Expr.{Expr};
-ghost use Rattle.search.specs.Numbered.{AreLoads, IsLoad, IsStage, held_at, outs_at, stage_at};
+ghost use Rattle.search.specs.Numbered.{IsLoad, IsStage, held_at, stage_at};
 
+use crate::findings::Findings;
 use crate::letters::{Held, Load};
 use crate::outcomes::Finished;
 use scholten_core::Diffusion;
-use std::collections::VecDeque;
 
 /// Where a search stands, as contracts see it.
-#[derive(Drop)]
 pub enum Stage {
     /// It runs, or ran until nothing was outstanding.
     Running(Diffusion<Load>),
@@ -94,34 +93,32 @@ pub(crate) fn wait_again(stage: &mut NumberedStage, number: u64)
     }
 }
 
-// The held letter of that number is finished, and its receiver sends these, where the work limit allows it.
+// The held letter of that number is finished, and what its receiver answers is sent, where the work limit allows it.
 pub(crate) fn send(
     stage: &mut NumberedStage,
     work: u64,
     number: u64,
-    outs: &mut VecDeque<(u64, Load<u32>)>,
+    found: &mut Findings,
 ) -> Finished
     requires { (nodes : List Expr) × (c : Computation Said) × (stage_at nodes stage.old ≡ Stage.Running c)
         × IsHeld c number × (c.sent ≤ work) }
-    ensures sends { (nodes : List Expr)
-        → Sends (stage_at nodes stage.old) (stage_at nodes stage.new) work number (outs_at nodes outs.old.items) result }
-    ensures loads { (nodes : List Expr) → IsStage nodes stage.old → AreLoads nodes outs.old.items → IsStage nodes stage.new }
-    ensures left { (nodes : List Expr) → AreLoads nodes outs.old.items → AreLoads nodes outs.new.items }
+    ensures sends { Sends (stage_at found.old.graph.nodes stage.old) (stage_at found.old.graph.nodes stage.new) work number
+        found.old.outs result }
+    ensures findings { (found.new.graph ≡ found.old.graph) × (found.new.monitors ≡ found.old.monitors) }
+    ensures loads { IsStage found.old.graph.nodes stage.old → IsStage found.old.graph.nodes stage.new }
 {
     let NumberedStage::Running(running) = stage else {
         unreachable!()
     };
-    if work - running.sent() < outs.len() as u64 {
+    if work - running.sent() < found.outs.len() as u64 {
         *stage = NumberedStage::Spent;
         return Finished::Spent;
     }
-    match running.finish_with(number, outs) {
-        Ok(()) => Finished::Done,
-        Err(_refusal) => {
-            *stage = NumberedStage::Broken;
-            Finished::Broken
-        }
-    }
+    let Ok(()) = running.finish_with(number, &mut found.outs) else {
+        *stage = NumberedStage::Broken;
+        return Finished::Broken;
+    };
+    Finished::Done
 }
 
 // The signal at that place is delivered, where there is one. With the last one the memory of letters is given back.

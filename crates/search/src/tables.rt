@@ -10,7 +10,7 @@ use std::marker::Model;
 /// Empty tables of a search with the memory that they have taken, as a small search takes it and no more. A search that is
 /// opened in them is the same as any other, and takes less memory anew.
 pub struct Tables {
-    found: Findings,
+    pub(crate) found: Findings,
 }
 
 impl Model for Tables {
@@ -39,13 +39,6 @@ impl Tables {
             found: Findings::new(alloc),
         }
     }
-
-    // What was found is forgotten, and its tables are these.
-    pub(crate) fn of(mut found: Findings, alloc: Global) -> Tables {
-        found.forget(alloc);
-        Tables { found }
-    }
-
     // The tables, where nothing was found yet.
     pub(crate) fn into_found(self) -> Findings
         ensures { result ≡ progress empty_graph [] [] }

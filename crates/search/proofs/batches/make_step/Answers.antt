@@ -1,8 +1,11 @@
-use Rattle.std.proofs.Common.{◌∙◌, ◌∷◌, [], arith, map, ap, sym, subst, refl, inl, inr, option_copied}
+use Rattle.std.proofs.Common.{◌∙◌, ◌≡◌, ◌<◌, ◌∷◌, [], arith, length, map, ap, sym, subst, refl, inl, inr, option_copied}
 use Rattle.std.proofs.lemmas.List.{map-append}
 use Rattle.search.specs.declared.batches.HeldLetter.{HeldLetter}
 use Rattle.search.specs.declared.queries.Hint.TheVariants.{Nothing}
-use Rattle.search.specs.Finish.{need_for}
+use Rattle.credential_text.specs.declared.exprs.Expr.{Expr}
+use Rattle.cred_graph.specs.Graph.{GraphState, IsNode}
+use Rattle.search.specs.Finish.{need_for, need_of}
+use Rattle.search.specs.Numbered.{load_at}
 use Rattle.search.specs.Stage.{IsQuiet}
 use Rattle.search.specs.Search.{SearchState}
 use Rattle.search.specs.Batches.{taken_of}
@@ -31,7 +34,8 @@ returns-in_default-clause-made c =
     )
 
 pub role_needed-requires : goal.role_needed-requires
-role_needed-requires c = taken_there c.args.search.now c.take_held.new.self 0 c.in-Some.letter c.in-Some.held c.in-Some.ensures.taken
+role_needed-requires c =
+    subst (λ (g : GraphState). c.in-Some.held.to < length g.nodes) (sym c.graph.ensures.graph) (taken_there c.args.search.now c.take_held.new.self 0 c.in-Some.letter c.in-Some.held c.in-Some.ensures.taken)
 
 pub returns-clause-made : goal.returns-clause-made
 returns-clause-made c =
@@ -41,7 +45,8 @@ returns-clause-made c =
     inr (
       taken_of of one,
       (
-        takes_needing c.args.search.now c.take_held.new.self 0 c.in-Some.letter c.in-Some.held need c.in-Some.ensures.taken c.role_needed.ensures,
+        takes_needing c.args.search.now c.take_held.new.self 0 c.in-Some.letter c.in-Some.held need c.in-Some.ensures.taken
+            (subst (λ (g : GraphState). (e : Expr) × IsNode g c.in-Some.held.to e × (need ≡ need_of e (load_at g.nodes c.in-Some.held.load))) c.graph.ensures.graph c.role_needed.ensures),
         refl,
         refl,
         c.requires.reads,

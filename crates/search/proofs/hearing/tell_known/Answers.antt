@@ -1,5 +1,6 @@
 -- The asker was told of one more solution.
-use Rattle.std.proofs.Common.{ℕ, ◌<◌, ◌∙◌, List, length, subst, sym}
+use Rattle.std.proofs.Common.{ℕ, ◌<◌, ◌∙◌, List, ap, length, subst, sym}
+use Rattle.std.proofs.lemmas.Result.{err_from_is_err_and}
 use Rattle.cred_graph.specs.Graph.{GraphState, members_of}
 use Rattle.cred_graph.specs.Numbers.{IsEntity, IsPort, entity_at, port_at}
 use Rattle.search.specs.declared.letters.Load.TheVariants as load
@@ -23,3 +24,14 @@ send-requires c = (
   subst (λ (s : Progress). IsPort s.graph.nodes c.args.port) (sym c.loop-place.invariant) c.requires.port,
   subst (λ (s : Progress). IsEntity s.graph.nodes c.numbered_solution-who.result) c.found-in-loop-place.view_is c.numbered_solution-who.ensures.entity,
 )
+
+pub numbered_solution-who-requires-clause-place : goal.numbered_solution-who-requires-clause-place
+numbered_solution-who-requires-clause-place c =
+    subst (λ (g : GraphState). c.loop-place.place < length (members_of g c.args.node))
+    (ap (λ (s : Progress). s.graph) c.found.view_is ∙ sym (ap (λ (s : Progress). s.graph) (c.found-in-loop-place.view_is ∙ c.loop-place.invariant)))
+    (subst (λ (n : ℕ). c.loop-place.place < n) c.solutions-place-end.ensures.count c.loop-place-test.true)
+
+pub returns-in_err-send : goal.returns-in_err-send
+returns-in_err-send c =
+    let p = err_from_is_err_and c.from_residual.result c.from_residual.ensures.1 in
+    rw p.1 tt

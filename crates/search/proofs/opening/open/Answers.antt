@@ -1,5 +1,5 @@
 -- An entity's node opens: its own entity is a solution of it.
-use Rattle.std.proofs.Common.{List, ℕ, ◌≡◌, ◌∙◌, ap, refl, sym, subst, Some, slice_get}
+use Rattle.std.proofs.Common.{List, ℕ, ◌≡◌, ◌<◌, ◌∙◌, ap, length, refl, sym, subst, Some, slice_get}
 use Rattle.std.proofs.lemmas.Option.{same_Some}
 use Rattle.std.proofs.lemmas.Result.{err_from_is_err_and, on_ok_weaker}
 use Rattle.credential_text.specs.declared.exprs.Expr.{Expr}
@@ -8,6 +8,12 @@ use Rattle.cred_graph.specs.declared.solutions.Reason.TheVariants as reason
 use Rattle.cred_graph.proofs.NumberLemmas.{entity_is}
 use Rattle.search.specs.Answers.{Progress, AsksEach, Opens, Solves, own_rows, part_asks}
 use Rattle.search.proofs.opening.open.Goals as goal
+
+pub expr-requires : goal.expr-requires
+expr-requires c = subst (λ (s : Progress). c.args.node < length s.graph.nodes) (sym c.found.view_is) c.requires.node
+
+pub short-who-requires : goal.short-who-requires
+short-who-requires c = subst (λ (s : Progress). c.args.node < length s.graph.nodes) (sym c.found.view_is) c.requires.node
 
 pub returns-in-Ent : goal.returns-in-Ent
 returns-in-Ent c =

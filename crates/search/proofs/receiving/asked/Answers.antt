@@ -1,8 +1,8 @@
 -- What opens adds nodes, so the node and its asker are there still, and the port stays what it is.
-use Rattle.std.proofs.Common.{[], inl, inr, refl, get_or, sym, subst, arith, ◌∙◌}
+use Rattle.std.proofs.Common.{[], inl, inr, refl, get_or, sym, subst, arith, length, ◌∙◌, ◌<◌}
 use Rattle.std.proofs.lemmas.Bool.{false≢true}
 use Rattle.std.proofs.lemmas.Option.{slice_get-get_or}
-use Rattle.std.proofs.lemmas.Result.{on_ok_weaker}
+use Rattle.std.proofs.lemmas.Result.{err_from_is_err_and, on_ok_weaker}
 use Rattle.credential_text.specs.declared.exprs.Expr.{Expr}
 use Rattle.credential_text.specs.declared.exprs.Expr.TheVariants.{Ent}
 use Rattle.search.specs.Answers.{Progress, HearsAsk, IsOpenAt, own_rows}
@@ -48,3 +48,17 @@ returns-then-is_open c =
     on_ok_weaker c.hear_ask.result
     (λ hears. (c.args.found.now, inl (subst (λ (s : Progress). IsOpenAt s.graph c.args.node) c.found.view_is (c.is_open.ensures.0 c.if-is_open.true), refl), hears))
     c.hear_ask.ensures
+
+pub is_open-requires : goal.is_open-requires
+is_open-requires c = subst (λ (s : Progress). c.args.node < length s.graph.nodes) (sym c.found.view_is) c.requires.node
+
+pub hear_ask-requires : goal.hear_ask-requires
+hear_ask-requires c = record { node = c.requires.node; asker = c.requires.asker; port = c.requires.port }
+
+pub open-requires : goal.open-requires
+open-requires c = record { node = c.requires.node; span = c.requires.span }
+
+pub returns-in_err-open : goal.returns-in_err-open
+returns-in_err-open c =
+    let p = err_from_is_err_and c.from_residual.result c.from_residual.ensures.1 in
+    rw p.1 tt

@@ -1,5 +1,6 @@
 -- One more listener was told.
-use Rattle.std.proofs.Common.{◌<◌, ◌∙◌, length, subst, sym}
+use Rattle.std.proofs.Common.{ℕ, ◌<◌, ◌∙◌, ap, length, subst, sym}
+use Rattle.std.proofs.lemmas.Result.{err_from_is_err_and}
 use Rattle.cred_graph.specs.declared.listeners.Listening.{Listening}
 use Rattle.cred_graph.specs.Graph.{GraphState, listeners_of}
 use Rattle.cred_graph.specs.Numbers.{IsEntity, IsPort, entity_at, port_at}
@@ -30,3 +31,14 @@ send-requires c = (
   subst (λ (s : Progress). IsPort s.graph.nodes c.numbered_listener-asker.result.1) c.found-in-loop-place.view_is c.numbered_listener-asker.ensures.port,
   subst (λ (s : Progress). IsEntity s.graph.nodes c.args.who) (sym c.loop-place.invariant) c.requires.entity,
 )
+
+pub numbered_listener-asker-requires-clause-place : goal.numbered_listener-asker-requires-clause-place
+numbered_listener-asker-requires-clause-place c =
+    subst (λ (g : GraphState). c.loop-place.place < length (listeners_of g c.args.node))
+    (ap (λ (s : Progress). s.graph) c.found.view_is ∙ sym (ap (λ (s : Progress). s.graph) (c.found-in-loop-place.view_is ∙ c.loop-place.invariant)))
+    (subst (λ (n : ℕ). c.loop-place.place < n) c.listeners-place-end.ensures.count c.loop-place-test.true)
+
+pub returns-in_err-send : goal.returns-in_err-send
+returns-in_err-send c =
+    let p = err_from_is_err_and c.from_residual.result c.from_residual.ensures.1 in
+    rw p.1 tt

@@ -1,13 +1,29 @@
 -- The signal at the place is delivered.
-use Rattle.std.proofs.Common.{ℕ, List, ◌<◌, refl, sym, subst}
+use Rattle.std.proofs.Common.{ℕ, List, ◌≡◌, ◌∙◌, ◌<◌, ◌≤◌, ap, arith, length, refl, sym, subst}
 use Rattle.credential_text.specs.declared.exprs.Expr.{Expr}
 use Rattle.scholten_core.specs.Computation.{Computation, named_with}
 use Rattle.scholten_core.specs.Step.{DeliversSignal}
 use Rattle.scholten_core.proofs.Named.{delivers-named}
 use Rattle.search.specs.declared.letters.Load.{Load}
-use Rattle.search.specs.Numbered.{load_at}
+use Rattle.search.specs.declared.stages.NumberedStage.{NumberedStage}
+use Rattle.search.specs.declared.stages.NumberedStage.TheVariants as numbered_stage
+use Rattle.search.specs.declared.stages.Stage.{Stage}
+use Rattle.search.specs.Stage.{signals_in}
+use Rattle.search.specs.Numbered.{IsStage, load_at, stage_at}
 use Rattle.search.proofs.Numbered.{shown, shows}
 use Rattle.search.proofs.stages.deliver.Goals as goal
+
+-- where nothing runs no signal is under way
+none_sent : (nodes : List Expr) (st : NumberedStage) (place : ℕ) → ((d : Computation (Load ℕ)) → st ≡ numbered_stage.Running d → ⊥) → length (signals_in (stage_at nodes st)) ≤ place
+none_sent nodes (numbered_stage.Running d) place never = absurd (never d refl)
+none_sent nodes numbered_stage.Spent place never = omega arith
+none_sent nodes numbered_stage.Broken place never = omega arith
+
+pub returns-in_default : goal.returns-in_default
+returns-in_default c = record {
+  delivers = λ (nodes : List Expr). (none_sent nodes c.args.stage.now c.args.place c.in_default.not-Running, refl);
+  loads = λ (nodes : List Expr) are. are;
+}
 
 pub returns-clause-delivers : goal.returns-clause-delivers
 returns-clause-delivers c =
@@ -20,3 +36,14 @@ returns-clause-delivers c =
       subst (λ (n : ℕ). c.args.place < n) c.signals.ensures c.if-place-signals.false,
       delivers-named (load_at nodes) d c.give_back.new.self c.args.place (subst (λ (e : Computation (Load ℕ)). DeliversSignal d c.args.place e) (sym c.give_back.ensures) c.signal.ensures),
     )
+
+pub returns-then-place-signals-clause-delivers : goal.returns-then-place-signals-clause-delivers
+returns-then-place-signals-clause-delivers c =
+    λ (nodes : List Expr).
+    let st = c.args.stage.now in (
+      subst (λ (n : ℕ). n ≤ c.args.place) (c.signals.ensures ∙ sym (ap (λ (s : Stage). length (signals_in s)) (shows nodes st c.in-Running.running c.in-Running.is))) c.if-place-signals.true,
+      ap (stage_at nodes) (sym c.in-Running.is),
+    )
+
+pub returns-then-place-signals-clause-loads : goal.returns-then-place-signals-clause-loads
+returns-then-place-signals-clause-loads c = λ (nodes : List Expr). subst (IsStage nodes) c.in-Running.is

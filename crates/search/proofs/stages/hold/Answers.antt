@@ -1,14 +1,30 @@
 -- The letter that was taken is in hand.
-use Rattle.std.proofs.Common.{◌∙◌, List, ap, sym, subst, true, ℕ}
+use Rattle.std.proofs.Common.{◌≡◌, ◌∙◌, List, None, ap, refl, slice_get, sym, subst, true, ℕ}
 use Rattle.std.specs.Option.{option_map}
 use Rattle.credential_text.specs.declared.exprs.Expr.{Expr}
 use Rattle.scholten_core.specs.Computation.{Computation, letter_with, named_with}
 use Rattle.scholten_core.proofs.Named.{by_number-named, letter_of-named, letter_says, marked_say, takes-named}
 use Rattle.search.specs.declared.letters.Load.{Load}
-use Rattle.search.specs.Numbered.{IsLoad, load_at, stage_at}
+use Rattle.search.specs.declared.stages.NumberedStage.{NumberedStage}
+use Rattle.search.specs.declared.stages.NumberedStage.TheVariants as numbered_stage
+use Rattle.search.specs.Stage.{waiting_in}
+use Rattle.search.specs.Numbered.{IsLoad, IsStage, load_at, stage_at}
 use Rattle.search.proofs.InHand.{holds_taken}
 use Rattle.search.proofs.Numbered.{AreLetters, shown, shows, loads_shown, past_waiting}
 use Rattle.search.proofs.stages.hold.Goals as goal
+
+-- where nothing runs no letter waits
+none_waits : (nodes : List Expr) (st : NumberedStage) (place : ℕ) → ((d : Computation (Load ℕ)) → st ≡ numbered_stage.Running d → ⊥) → slice_get (waiting_in (stage_at nodes st)) place ≡ None
+none_waits nodes (numbered_stage.Running d) place never = absurd (never d refl)
+none_waits nodes numbered_stage.Spent place never = refl
+none_waits nodes numbered_stage.Broken place never = refl
+
+pub returns-in_default : goal.returns-in_default
+returns-in_default c = record {
+  held = λ (nodes : List Expr). (none_waits nodes c.args.stage.now c.args.place c.in_default.not-Running, refl);
+  load = λ (nodes : List Expr) are. tt;
+  loads = λ (nodes : List Expr) are. are;
+}
 
 pub returns-then-place-waiting-clause-held : goal.returns-then-place-waiting-clause-held
 returns-then-place-waiting-clause-held c =
@@ -37,3 +53,9 @@ returns-clause-load c =
     let all = subst (λ (e : Computation (Load ℕ)). AreLetters nodes e.letters) (sym c.take-number.ensures.marked)
     (marked_say (IsLoad nodes) c.in-Running.running c.take-number.result true (loads_shown nodes c.args.stage.now c.in-Running.running c.in-Running.is are)) in
     letter_says (IsLoad nodes) c.take-number.new.self c.take-number.result c.in-Some.letter.now all (sym c.in-Some.ensures.letter)
+
+pub returns-then-place-waiting-clause-load : goal.returns-then-place-waiting-clause-load
+returns-then-place-waiting-clause-load c = λ (nodes : List Expr) are. tt
+
+pub returns-then-place-waiting-clause-loads : goal.returns-then-place-waiting-clause-loads
+returns-then-place-waiting-clause-loads c = λ (nodes : List Expr). subst (IsStage nodes) c.in-Running.is

@@ -12,7 +12,7 @@ invariant_of-self-2 c =
     let is = subst (λ (s : Progress). IsLoad s.graph.nodes c.args.load) (sym c.self.view_is) c.requires in
     record {
       once = c.self.invariant.once;
-      loads = subst (AreLoads old.graph.nodes) (sym {A = List (ℕ × Load ℕ)} c.in_ok-push_back.ensures.items) (All-push (λ (o : ℕ × Load ℕ). IsLoad old.graph.nodes o.1) old.outs.items (c.args.to, c.args.load) c.self.invariant.loads is);
+      loads = subst (AreLoads old.graph.nodes) (sym {A = List (ℕ × Load ℕ)} c.in-Ok.ensures.items) (All-push (λ (o : ℕ × Load ℕ). IsLoad old.graph.nodes o.1) old.outs.items (c.args.to, c.args.load) c.self.invariant.loads is);
       monitors = c.self.invariant.monitors;
       ports = c.self.invariant.ports;
     }
@@ -22,4 +22,4 @@ returns-clause-sent c =
     let old = c.self.inside in
     subst (λ (s : Progress). progress_at old.graph old.monitors.items c.push_back.new.self.items ≡ record s { outs = s.outs ++ (c.args.to, load_at s.graph.nodes c.args.load) ∷ [] }) c.self.view_is
     (ap (progress old.graph (monitors_at old.graph.nodes old.monitors.items))
-    (ap (outs_at old.graph.nodes) c.in_ok-push_back.ensures.items ∙ map-append (λ (o : ℕ × Load ℕ). (o.0, load_at old.graph.nodes o.1)) old.outs.items ((c.args.to, c.args.load) ∷ [])))
+    (ap (outs_at old.graph.nodes) c.in-Ok.ensures.items ∙ map-append (λ (o : ℕ × Load ℕ). (o.0, load_at old.graph.nodes o.1)) old.outs.items ((c.args.to, c.args.load) ∷ [])))

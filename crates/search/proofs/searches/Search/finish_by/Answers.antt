@@ -21,7 +21,7 @@ use Rattle.search.proofs.searches.Search.finish_by.Goals.{After-hint_is_right}
 -- the hint is right just where it is so of what the search has found
 right_here : (c : After-hint_is_right) → IsTrue c.hint_is_right.result ↔ ((e : Expr) → IsNode c.self.inside.found.graph c.in-Some.held.to e → c.args.hint.now ≡ right_hint c.deref.result.now.vaults (need_of e (load_at c.self.inside.found.graph.nodes c.in-Some.held.load)))
 right_here c =
-    subst (λ (g : GraphState). IsTrue c.hint_is_right.result ↔ ((e : Expr) → IsNode g c.in-Some.held.to e → c.args.hint.now ≡ right_hint c.deref.result.now.vaults (need_of e (load_at g.nodes c.in-Some.held.load)))) c.graph.ensures c.hint_is_right.ensures.right
+    subst (λ (g : GraphState). IsTrue c.hint_is_right.result ↔ ((e : Expr) → IsNode g c.in-Some.held.to e → c.args.hint.now ≡ right_hint c.deref.result.now.vaults (need_of e (load_at g.nodes c.in-Some.held.load)))) c.graph.ensures c.hint_is_right.ensures
 
 pub hint_is_right-requires : goal.hint_is_right-requires
 hint_is_right-requires c =

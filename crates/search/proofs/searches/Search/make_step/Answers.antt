@@ -1,9 +1,10 @@
 -- A search that isn't quiet has a first signal or a first letter.
-use Rattle.std.proofs.Common.{ap, arith, inl, sym, subst}
+use Rattle.std.proofs.Common.{ap, arith, inl, sym, subst, true≢false}
+use Rattle.std.proofs.lemmas.Bool.{false≢true}
 use Rattle.cred_graph.specs.Graph.{GraphState}
 use Rattle.search.specs.Stage.{HoldsLetter, letter_in}
 use Rattle.search.specs.Finish.{Receives}
-use Rattle.search.specs.Numbered.{held_at}
+use Rattle.search.specs.Numbered.{IsLoad, held_at}
 use Rattle.search.specs.Search.{SearchState}
 use Rattle.search.proofs.Driven.{first_goes, nothing_first, finishes_first}
 use Rattle.search.proofs.searches.Search.make_step.Goals as goal
@@ -31,3 +32,19 @@ returns-then-signals-gt0-clause-made c =
       question = c.signal.ensures.question;
       settles = c.signal.ensures.settles;
     })
+
+pub returns-then-signals-gt0-clause-none : goal.returns-then-signals-gt0-clause-none
+returns-then-signals-gt0-clause-none c = λ no. absurd (true≢false no)
+
+pub returns-in_default-clause-made : goal.returns-in_default-clause-made
+returns-in_default-clause-made c = λ yes. absurd (false≢true yes)
+
+pub receive_held-finished-requires-clause-load : goal.receive_held-finished-requires-clause-load
+receive_held-finished-requires-clause-load c =
+    subst (λ (g : GraphState). IsLoad g.nodes c.in-Some.held.load) (sym (ap (λ (x : SearchState). x.graph) c.in-Some.ensures.taken.1.after)) c.in-Some.ensures.load
+
+pub receive_held-finished-requires-clause-span : goal.receive_held-finished-requires-clause-span
+receive_held-finished-requires-clause-span c = λ e at. tt
+
+pub returns-clause-none : goal.returns-clause-none
+returns-clause-none c = λ no. absurd (true≢false no)

@@ -1,5 +1,6 @@
 -- A letter says the same where it waits again.
-use Rattle.std.proofs.Common.{◌≡◌, false, subst, Some}
+use Rattle.std.proofs.Common.{◌≡◌, None, false, subst, Some, true≢false}
+use Rattle.std.proofs.lemmas.Bool.{false≢true}
 use Rattle.search.specs.Numbered.{held_at, stage_at}
 use Rattle.search.specs.Stage.{held_in, letter_in}
 use Rattle.search.specs.Search.{SearchState}
@@ -34,3 +35,15 @@ pub wait_again-requires : goal.wait_again-requires
 wait_again-requires c =
     let held = c.in-Some.ensures.held c.self.inside.found.graph.nodes in
     (c.self.inside.found.graph.nodes, held.running, held.runs, held.held)
+
+pub returns-in_default-clause-held : goal.returns-in_default-clause-held
+returns-in_default-clause-held c = λ _. subst (λ (s : SearchState). held_in s.stage c.args.letter ≡ None) c.self.view_is (c.in_default.ensures.held c.self.inside.found.graph.nodes)
+
+pub returns-in_default-clause-waits : goal.returns-in_default-clause-waits
+returns-in_default-clause-waits c = λ yes. absurd (false≢true yes)
+
+pub returns-clause-held : goal.returns-clause-held
+returns-clause-held c = λ no. absurd (true≢false no)
+
+pub returns-clause-unchanged : goal.returns-clause-unchanged
+returns-clause-unchanged c = λ no. absurd (true≢false no)

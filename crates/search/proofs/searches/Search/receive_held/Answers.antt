@@ -1,8 +1,9 @@
 -- A held letter is awaited by its receiver, whose receipt keeps what a search keeps.
-use Rattle.std.proofs.Common.{◌≡◌, refl, sym, subst, ap, [], ℕ, List}
+use Rattle.std.proofs.Common.{◌≡◌, option_copied, refl, sym, subst, ap, [], ℕ, List}
+use Rattle.credential_text.specs.declared.exprs.Expr.{Expr}
 use Rattle.vaults.specs.Journal.{credentials}
 use Rattle.snapshots.specs.Snapshot.{SnapshotState, IsOrdered}
-use Rattle.cred_graph.specs.Graph.{GraphState}
+use Rattle.cred_graph.specs.Graph.{GraphState, IsNode}
 use Rattle.search.specs.declared.letters.Load.{Load}
 use Rattle.search.specs.declared.letters.Held.{Held}
 use Rattle.search.specs.declared.stages.Stage.{Stage}
@@ -11,7 +12,7 @@ use Rattle.search.specs.Net.{sent_of}
 use Rattle.search.specs.Answers.{Progress, progress, Answers, Awaits}
 use Rattle.search.specs.Stage.{HoldsLetter, Sends, letter_in}
 use Rattle.search.specs.Search.{SearchState, IsKept, asked_role}
-use Rattle.search.specs.Finish.{Receives}
+use Rattle.search.specs.Finish.{IsSpanFor, Receives}
 use Rattle.search.specs.Numbered.{IsLoad, IsStage, held_at, load_at, stage_at}
 use Rattle.search.specs.contracts.searches.Search.{the_view}
 use Rattle.search.proofs.Arms.{node_in}
@@ -21,7 +22,7 @@ use Rattle.search.proofs.Ended.{same_question, settles}
 use Rattle.search.proofs.Finishing.{held_letter_is, sent_receives, sent_kept}
 use Rattle.search.proofs.Numbered.{HasMore, answers_more, more_stage, more_stage_same}
 use Rattle.search.proofs.searches.Search.receive_held.Goals as goal
-use Rattle.search.proofs.searches.Search.receive_held.Goals.{After-clear, After-send_found}
+use Rattle.search.proofs.searches.Search.receive_held.Goals.{After-clear, After-send}
 
 -- the letter in hand, in words
 abbrev in_words : (c : After-clear) → Held (Load (List ℕ))
@@ -34,6 +35,12 @@ pub receive-received-requires-clause-load : goal.receive-received-requires-claus
 receive-received-requires-clause-load c =
     subst (λ (x : Progress). IsLoad x.graph.nodes c.args.held.now.load) (sym c.clear.ensures)
     (subst (λ (x : SearchState). IsLoad x.graph.nodes c.args.held.now.load) (sym c.self.view_is) c.requires.load)
+
+pub receive-received-requires-clause-span : goal.receive-received-requires-clause-span
+receive-received-requires-clause-span c = λ e at.
+    let to = c.args.held.now.to in
+    let span = subst (λ (x : SearchState). (e' : Expr) → IsNode x.graph to e' → IsSpanFor x.snapshot.vaults e' (option_copied c.args.looked_up)) (sym c.self.view_is) c.requires.span in
+    subst (λ (v : SnapshotState). IsSpanFor v.vaults e (option_copied c.args.looked_up)) (sym c.deref-2.ensures) (span e (subst (λ (x : Progress). IsNode x.graph to e) c.clear.ensures at))
 
 pub receive-received-requires-clause-none : goal.receive-received-requires-clause-none
 receive-received-requires-clause-none c = ap (λ (x : Progress). x.outs) c.clear.ensures
@@ -50,13 +57,13 @@ receive-received-requires-clause-awaits c =
           (held_awaits (the_view c.self.inside) c.self.invariant.0.rules c.args.letter h held)),
     )
 
-pub send_found-requires : goal.send_found-requires
-send_found-requires c =
-    let held = in_hand (goal.at.send_found-requires c).After-clear in
+pub send-requires : goal.send-requires
+send-requires c =
+    let held = in_hand (goal.at.send-requires c).After-clear in
     (c.self.inside.found.graph.nodes, held.running, held.runs, held.held, (c.self.invariant.0.rules held.running held.runs).within)
 
 -- the receipt's row, by what the search reads and in words
-row : (c : After-send_found) → Answers (the_view c.self.inside).snapshot.vaults (progress c.self.inside.found.graph c.self.inside.found.monitors []) c.receive-received.new.found c.args.held.now.from c.args.held.now.to (load_at c.self.inside.found.graph.nodes c.args.held.now.load)
+row : (c : After-send) → Answers (the_view c.self.inside).snapshot.vaults (progress c.self.inside.found.graph c.self.inside.found.monitors []) c.receive-received.new.found c.args.held.now.from c.args.held.now.to (load_at c.self.inside.found.graph.nodes c.args.held.now.load)
 row c =
     let t = c.receive-received.new.found in
     let k = c.args.held.now in
@@ -64,7 +71,7 @@ row c =
     (subst (λ (x : Progress). Answers c.deref-2.result.now.vaults (progress x.graph x.monitors []) t k.from k.to (load_at x.graph.nodes k.load)) c.clear.ensures c.in-Ok.ensures)
 
 -- nodes were added alone
-more : (c : After-send_found) → HasMore c.self.inside.found.graph.nodes c.receive-received.new.found.graph.nodes
+more : (c : After-send) → HasMore c.self.inside.found.graph.nodes c.receive-received.new.found.graph.nodes
 more c =
     let s = the_view c.self.inside in
     let h = held_at c.self.inside.found.graph.nodes c.args.held.now in
@@ -72,53 +79,53 @@ more c =
     answers_more s.snapshot.vaults (progress s.graph s.monitors []) c.receive-received.new.found h.from h.to h.load (node_in (held_awaits s c.self.invariant.0.rules c.args.letter h held)) (row c)
 
 -- what was sent, by what the stage is seen as
-sends : (c : After-send_found) → Sends (the_view c.self.inside).stage (stage_at c.receive-received.new.found.graph.nodes c.send_found.new.stage) (the_view c.self.inside).work c.args.letter c.receive-received.new.found.outs c.send_found.result
+sends : (c : After-send) → Sends (the_view c.self.inside).stage (stage_at c.receive-received.new.found.graph.nodes c.send.new.stage) (the_view c.self.inside).work c.args.letter c.receive-received.new.found.outs c.send.result
 sends c =
     let nodes = c.receive-received.new.found.graph.nodes in
-    subst (λ (st : Stage). Sends st (stage_at nodes c.send_found.new.stage) c.self.inside.work c.args.letter c.receive-received.new.found.outs c.send_found.result)
-    (more_stage_same c.self.inside.found.graph.nodes nodes c.self.inside.stage (more c) c.self.invariant.1) c.send_found.ensures.sends
+    subst (λ (st : Stage). Sends st (stage_at nodes c.send.new.stage) c.self.inside.work c.args.letter c.receive-received.new.found.outs c.send.result)
+    (more_stage_same c.self.inside.found.graph.nodes nodes c.self.inside.stage (more c) c.self.invariant.1) c.send.ensures.sends
 
 -- what a search is seen as once the answers are sent
-abbrev sent_as : After-send_found → SearchState
-sent_as c = record (the_view c.self.inside) { graph = c.receive-received.new.found.graph; monitors = c.receive-received.new.found.monitors; stage = stage_at c.receive-received.new.found.graph.nodes c.send_found.new.stage }
+abbrev sent_as : After-send → SearchState
+sent_as c = record (the_view c.self.inside) { graph = c.receive-received.new.found.graph; monitors = c.receive-received.new.found.monitors; stage = stage_at c.receive-received.new.found.graph.nodes c.send.new.stage }
 
-sent_is : (c : After-send_found) → record (the_view c.self.inside) { graph = c.send_found.new.found.graph; monitors = c.send_found.new.found.monitors; stage = stage_at c.send_found.new.found.graph.nodes c.send_found.new.stage } ≡ sent_as c
-sent_is c = λ i. record (the_view c.self.inside) { graph = c.send_found.ensures.findings.0 i; monitors = c.send_found.ensures.findings.1 i; stage = stage_at (c.send_found.ensures.findings.0 i).nodes c.send_found.new.stage }
+sent_is : (c : After-send) → record (the_view c.self.inside) { graph = c.send.new.found.graph; monitors = c.send.new.found.monitors; stage = stage_at c.send.new.found.graph.nodes c.send.new.stage } ≡ sent_as c
+sent_is c = λ i. record (the_view c.self.inside) { graph = c.send.ensures.findings.0 i; monitors = c.send.ensures.findings.1 i; stage = stage_at (c.send.ensures.findings.0 i).nodes c.send.new.stage }
 
-held_of : (c : After-send_found) → HoldsLetter (the_view c.self.inside).stage c.args.letter (held_at c.self.inside.found.graph.nodes c.args.held.now)
+held_of : (c : After-send) → HoldsLetter (the_view c.self.inside).stage c.args.letter (held_at c.self.inside.found.graph.nodes c.args.held.now)
 held_of c = subst (λ (x : SearchState). HoldsLetter x.stage c.args.letter (held_at x.graph.nodes c.args.held.now)) (sym c.self.view_is) c.requires.held
 
-kept : (c : After-send_found) → IsKept (sent_as c)
+kept : (c : After-send) → IsKept (sent_as c)
 kept c =
     let s = the_view c.self.inside in
     let t = c.receive-received.new.found in
     let ordered = subst (λ (v : SnapshotState). IsOrdered v.vaults) c.deref.ensures c.asker-asker.ensures.ordered in
-    sent_kept s c.args.letter (held_at c.self.inside.found.graph.nodes c.args.held.now) (held_of c) t.graph t.monitors t.outs (row c) c.self.invariant.0 ordered (sent_as c).stage c.send_found.result (sends c)
+    sent_kept s c.args.letter (held_at c.self.inside.found.graph.nodes c.args.held.now) (held_of c) t.graph t.monitors t.outs (row c) c.self.invariant.0 ordered (sent_as c).stage c.send.result (sends c)
 
 pub invariant_of-self : goal.invariant_of-self
 invariant_of-self c =
-    let after = (goal.at.invariant_of-self c).After-send_found in
+    let after = (goal.at.invariant_of-self c).After-send in
     let old = c.self.inside.found.graph.nodes in
     let new = c.receive-received.new.found.graph.nodes in (
       subst IsKept (sym (sent_is after)) (kept after),
-      subst (λ (g : GraphState). IsStage g.nodes c.send_found.new.stage) (sym c.send_found.ensures.findings.0) (c.send_found.ensures.loads (more_stage old new c.self.inside.stage (more after) c.self.invariant.1)),
+      subst (λ (g : GraphState). IsStage g.nodes c.send.new.stage) (sym c.send.ensures.findings.0) (c.send.ensures.loads (more_stage old new c.self.inside.stage (more after) c.self.invariant.1)),
     )
 
 pub returns-in-Ok-clause-receives : goal.returns-in-Ok-clause-receives
 returns-in-Ok-clause-receives c =
-    let after = (goal.at.returns-in-Ok-clause-receives c).After-send_found in
+    let after = (goal.at.returns-in-Ok-clause-receives c).After-send in
     let s = the_view c.self.inside in
     let t = c.receive-received.new.found in
-    let received = sent_receives s c.args.letter (held_at c.self.inside.found.graph.nodes c.args.held.now) (held_of after) t.graph t.monitors t.outs (row after) (sent_as after).stage c.send_found.result (sends after) in
-    subst (λ (x : SearchState). Receives x (record s { graph = c.send_found.new.found.graph; monitors = c.send_found.new.found.monitors; stage = stage_at c.send_found.new.found.graph.nodes c.send_found.new.stage }) c.args.letter (letter_in (held_at x.graph.nodes c.args.held.now)) c.send_found.result) c.self.view_is
-    (subst (λ (x : SearchState). Receives s x c.args.letter (letter_in (held_at c.self.inside.found.graph.nodes c.args.held.now)) c.send_found.result) (sym (sent_is after)) received)
+    let received = sent_receives s c.args.letter (held_at c.self.inside.found.graph.nodes c.args.held.now) (held_of after) t.graph t.monitors t.outs (row after) (sent_as after).stage c.send.result (sends after) in
+    subst (λ (x : SearchState). Receives x (record s { graph = c.send.new.found.graph; monitors = c.send.new.found.monitors; stage = stage_at c.send.new.found.graph.nodes c.send.new.stage }) c.args.letter (letter_in (held_at x.graph.nodes c.args.held.now)) c.send.result) c.self.view_is
+    (subst (λ (x : SearchState). Receives s x c.args.letter (letter_in (held_at c.self.inside.found.graph.nodes c.args.held.now)) c.send.result) (sym (sent_is after)) received)
 
 pub returns-in-Ok-clause-settles : goal.returns-in-Ok-clause-settles
 returns-in-Ok-clause-settles c =
-    let after = (goal.at.returns-in-Ok-clause-settles c).After-send_found in
+    let after = (goal.at.returns-in-Ok-clause-settles c).After-send in
     let s = the_view c.self.inside in
     let h = held_at c.self.inside.found.graph.nodes c.args.held.now in
-    let t : SearchState = record s { graph = c.send_found.new.found.graph; monitors = c.send_found.new.found.monitors; stage = stage_at c.send_found.new.found.graph.nodes c.send_found.new.stage } in
+    let t : SearchState = record s { graph = c.send.new.found.graph; monitors = c.send.new.found.monitors; stage = stage_at c.send.new.found.graph.nodes c.send.new.stage } in
     settles c.self.view_is (same_question s t.graph t.monitors t.stage) (subst IsKept (sym (sent_is after)) (kept after))
     (held_outstanding s.stage c.args.letter (letter_in h) (held_letter_is s.stage c.args.letter h (held_of after)))
 

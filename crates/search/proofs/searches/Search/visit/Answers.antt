@@ -1,10 +1,10 @@
 use Rattle.std.proofs.Common.{arith, ap, true, ◌≡◌, ◌≤◌, ◌∙◌, ◌∷◌, [], List, None, Option, rules, Some, length, map, vec_len, refl, sym, subst, vec_capacity}
 use Rattle.std.proofs.lemmas.Result.{err_from_is_err_and}
 use Rattle.std.proofs.lemmas.Bool.{eqb-true}
-use Rattle.std.proofs.lemmas.List.{length-map}
+use Rattle.std.proofs.lemmas.List.{length-map, nil_from_length}
 use Rattle.search.specs.declared.batches.HeldLetter.{HeldLetter}
 use Rattle.search.specs.declared.batches.NamedSearch.{NamedSearch}
-use Rattle.search.specs.Batches.{BatchState, TakenLetter, Visits, WorksOn, letters_of, taken_of}
+use Rattle.search.specs.Batches.{BatchState, IsBatch, TakenLetter, Visits, WorksOn, letters_of, taken_of}
 use Rattle.search.proofs.Batched.{batch, none_in}
 use Rattle.search.proofs.searches.Search.visit.Goals.{Joined-batch}
 use Rattle.search.proofs.searches.Search.visit.Goals as goal
@@ -74,3 +74,16 @@ take_each-requires-clause-empty c = none_in c.batch.inside.of c.batch.inside.hel
 
 pub take_each-requires-clause-space : goal.take_each-requires-clause-space
 take_each-requires-clause-space c = subst (λ (b : BatchState). c.args.most ≤ b.room) (sym c.batch.view_is) c.requires.space
+
+pub invariant_of-batch-then-not-is_empty-2 : goal.invariant_of-batch-then-not-is_empty-2
+invariant_of-batch-then-not-is_empty-2 c =
+    let first : c.batch.inside.looked ≡ 0 = ap (λ (b : BatchState). b.looked) c.batch.view_is ∙ c.requires.empty.1 in
+    (omega (arith, first), λ k d from below. absurd (omega (arith, below, first)))
+
+pub invariant_of-batch-else-not-is_empty : goal.invariant_of-batch-else-not-is_empty
+invariant_of-batch-else-not-is_empty c =
+    let b = c.batch.inside in
+    let held = c.take_each.new.held_letters in
+    let none : held.items ≡ [] = nil_from_length held.items (omega (arith, eqb-true (vec_len held) 0 (sym c.if-not-is_empty.ensures), held.ok.0)) in
+    let before : b.held_letters.items ≡ [] = none_in b.of b.held_letters.items b.looked c.batch.invariant (ap (λ (x : BatchState). x.letters) c.batch.view_is ∙ c.requires.empty.0) in
+    subst (λ (es : List HeldLetter). IsBatch b.of es b.looked) (before ∙ sym none) c.batch.invariant
