@@ -1,3 +1,5 @@
+ghost use Rattle.std.specs.Prelude.{◌≡◌, ⊤};
+
 use cred_graph::Port;
 use names::Entity;
 use scholten_core::Parent;
@@ -16,6 +18,10 @@ pub enum Load<E = Entity> {
 }
 
 impl<E: Copy> Clone for Load<E> {
+    ghost is_clone = { λ x y. y ≡ x };
+
+    ghost is_infallible = { λ _. ⊤ };
+
     fn clone(&self) -> Result<Self, AllocError> {
         Ok(*self)
     }
