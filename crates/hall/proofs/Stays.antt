@@ -1,8 +1,8 @@
 -- A completed search stays as it is, whatever is asked of it.
 use Rattle.std.proofs.Common.{◌≡◌, ◌∙◌, ℕ, List, Option, Some, None, Result, Ok, ap, sym, refl, slice_get, subst}
-use Rattle.search.specs.Carried.{IsCarried, carried_search}
-use Rattle.search.specs.declared.carried.Carried.{Carried}
-use Rattle.search.specs.declared.carried.Carried.TheVariants.{Own, Lent, Moving}
+use Rattle.hall.specs.Carried.{IsCarried, carried_search}
+use Rattle.hall.specs.declared.carried.Carried.{Carried}
+use Rattle.hall.specs.declared.carried.Carried.TheVariants.{Own, Lent, Moving}
 use Rattle.search.specs.declared.stages.Stage.{Stage}
 use Rattle.search.specs.declared.stages.Stage.TheVariants as stage
 use Rattle.search.specs.Search.{SearchState, IsCompleted, IsOutstanding, IsSoundStage, settled_of, IsAnswered, status_of, come_to}

@@ -1,3 +1,4 @@
+pub mod Carried
 pub mod Fault
 pub mod Query
 pub mod Text

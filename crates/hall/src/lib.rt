@@ -8,6 +8,7 @@
 #![tactic(auto)]
 
 mod calls;
+mod carried;
 mod faults;
 mod hands;
 mod jobs;

@@ -1,18 +1,19 @@
 //! A search that was opened and not ended: its steps, what one of its tenant's calls does to it, and what is told of it.
 ghost use Rattle.std.specs.Prelude.{◌≡◌, MatchOption};
 ghost use Rattle.search.specs.{Stage.IsQuiet, Search.SearchState, Search.IsCompleted, Search.Settles};
-ghost use Rattle.search.specs.Carried.{IsCarried, carried_search};
+ghost use Rattle.hall.specs.Carried.{IsCarried, carried_search};
 ghost use Rattle.hall.specs.declared.calls.requests.Request.TheVariants as request;
 ghost use Rattle.hall.specs.declared.calls.replies.Reply.TheVariants as reply;
 ghost use Rattle.hall.specs.Hall.{IsToldOver, told_as};
 ghost use Rattle.hall.specs.{Kept.DrivesTo, Kept.IsToldOf, Kept.IsNext, Steps.settled_of, Steps.IsMade};
 
 use crate::calls::{Answer, Step, Stepped};
+use crate::carried::Carried;
 use crate::faults::Fault;
 use crate::lists::Names;
 use names::Entity;
 use proof_trees::Proof;
-use search::{Carried, Finished, Search, Status};
+use search::{Finished, Search, Status};
 use std::alloc::Global;
 use std::marker::Model;
 
@@ -27,7 +28,7 @@ impl Model for Opened {
     ghost use Rattle.std.specs.Coded.{codes};
     ghost use Rattle.search.specs.contracts.stages.Stage as running;
     ghost use Rattle.search.specs.contracts.findings.Monitor as memory;
-    ghost use Rattle.search.specs.Carried.{IsCarried, carried_search};
+    ghost use Rattle.hall.specs.Carried.{IsCarried, carried_search};
     ghost use Rattle.hall.specs.Hall.{Running};
 
     ghost Value = { Running };

@@ -6,6 +6,7 @@ ghost use Rattle.hall.specs.declared.calls.replies.Reply.TheVariants as reply;
 ghost use Rattle.hall.specs.Hall.{IsSound, IsServed, IsStepped, CarriesOut, told_as, new_hall, search_at};
 
 use crate::calls::{Answer, Step, Stepped};
+use crate::carried::Carried;
 use crate::faults::Fault;
 use crate::jobs::Job;
 use crate::lists::{Rows, Sights};
@@ -17,7 +18,7 @@ use indexmap::IndexMap;
 use names::Entity;
 use proof_trees::Proof;
 use quotas::Limits;
-use search::{Batch, Carried, CarriedOn, Hint, Query, Search, Tables, Went};
+use search::{Batch, CarriedOn, Hint, Query, Search, Tables, Went};
 use std::alloc::{AllocError, Global};
 use std::marker::Model;
 use std::sync::Arc;

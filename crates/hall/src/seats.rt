@@ -7,13 +7,14 @@ ghost use Rattle.hall.specs.{Fault.vault_fault, Account.alter_refusal, Account.s
 ghost use Rattle.hall.specs.Hall.{account, beginning, new_tenant};
 ghost use Rattle.hall.specs.Kept.{Lists, KeepsBut};
 
+use crate::carried::Carried;
 use crate::faults::Fault;
 use crate::opened::Opened;
 use crate::picking::{Busy, enter};
 use indexmap::IndexMap;
 use names::Entity;
 use quotas::{Limits, Used};
-use search::{Carried, Query, Search, Tables};
+use search::{Query, Search, Tables};
 use snapshots::Snapshot;
 use std::alloc::Global;
 use std::marker::Model;

@@ -5,5 +5,4 @@ pub mod Search
 pub mod Ending
 pub mod Finish
 pub mod Numbered
-pub mod Carried
 pub mod Batches

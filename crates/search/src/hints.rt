@@ -7,7 +7,6 @@ ghost use Rattle.search.specs.Numbered.{load_at};
 
 use crate::letters::{Held, Load};
 use crate::queries::Hint;
-use crate::rows_checks::is_span_of;
 use cred_graph::Graph;
 use credential_text::Expr;
 use names::Role;
@@ -54,7 +53,7 @@ pub(crate) fn hint_is_right(
 {
     match role_needed(graph, held) {
         Some(role) => match hint {
-            Hint::Rows(span) => is_span_of(snapshot, role, *span),
+            Hint::Rows(span) => snapshot.finds(role, *span),
             Hint::Nothing => false,
         },
         None => match hint {

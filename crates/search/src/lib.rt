@@ -9,7 +9,6 @@
 
 mod asking;
 mod batches;
-mod carried;
 mod driving;
 mod findings;
 mod hearing;
@@ -21,7 +20,6 @@ mod opening;
 mod outcomes;
 mod queries;
 mod receiving;
-mod rows_checks;
 mod searches;
 mod solving;
 mod stages;
@@ -29,7 +27,6 @@ mod tables;
 mod telling;
 
 pub use batches::Batch;
-pub use carried::Carried;
 pub use findings::{Findings, Monitor};
 pub use letters::Load;
 pub use outcomes::{CarriedOn, Finished, Status, Went};

@@ -9,6 +9,7 @@ mod holdings;
 mod snapshots;
 mod spans;
 mod steps;
+mod uncounted;
 
 pub use snapshots::Snapshot;
 pub use spans::Span;

@@ -1,10 +1,9 @@
-//! Whole searches: stepped in three orders, driven, letter by letter, shared, and compared with the plain programs.
+//! Whole searches: stepped in three orders, driven, letter by letter, and compared with the plain programs.
 mod drives;
 mod letters;
 mod numbers;
 mod plain;
 mod refusals;
-mod sharing;
 
 use credential_text::{CredFault, Credential, read_credential};
 use names::{Entity, Role};

@@ -49,7 +49,11 @@ fn judges_all<L: Ledger>(
             lo: *lo,
             hi: *hi,
         };
-        if snapshot.span_is(&Role::read(text)?, span, steps) != *expected {
+        let role = Role::read(text)?;
+        if snapshot.span_is(&role, span, steps) != *expected {
+            return Ok(false);
+        }
+        if snapshot.finds(&role, span) != *expected {
             return Ok(false);
         }
     }

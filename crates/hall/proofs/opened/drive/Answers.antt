@@ -1,5 +1,5 @@
 use Rattle.std.proofs.Common.{◌≡◌, ap, sym, subst, subst₂}
-use Rattle.search.specs.Carried.{carried_search}
+use Rattle.hall.specs.Carried.{carried_search}
 use Rattle.search.specs.Search.{SearchState, IsOutstanding, IsSoundStage, settled_of}
 use Rattle.search.specs.Stage.{IsQuiet, NoneHeld}
 use Rattle.search.specs.Finish.{IsDriven}

@@ -1,5 +1,5 @@
 use Rattle.std.proofs.Common.{◌≡◌, ◌∙◌, length, ap, sym, subst, refl, arith, Some, false}
-use Rattle.search.specs.Carried.{carried_search}
+use Rattle.hall.specs.Carried.{carried_search}
 use Rattle.search.specs.Batches.{CarriesOn}
 use Rattle.hall.specs.Hall.{Running, HallState, search_at, with_search}
 use Rattle.hall.specs.Kept.{IsIndexed}

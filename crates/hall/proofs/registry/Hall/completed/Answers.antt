@@ -1,6 +1,6 @@
 use Rattle.std.proofs.Common.{◌≡◌, ◌∙◌, Some, ap, sym, subst, refl, true, false}
 use Rattle.std.proofs.lemmas.Result.{err_from_is_err_and}
-use Rattle.search.specs.Carried.{carried_search}
+use Rattle.hall.specs.Carried.{carried_search}
 use Rattle.search.specs.Search.{SearchState, IsCompleted}
 use Rattle.hall.specs.Hall.{Running, HallState}
 use Rattle.hall.specs.Kept.{IsIndexed}

@@ -1,6 +1,6 @@
 use Rattle.std.proofs.Common.{◌≡◌, ◌∙◌, Some, sym, subst, ap}
 use Rattle.std.proofs.lemmas.Result.{err_from_is_err_and}
-use Rattle.search.specs.Carried.{carried_search}
+use Rattle.hall.specs.Carried.{carried_search}
 use Rattle.search.specs.Search.{SearchState}
 use Rattle.hall.specs.declared.calls.replies.Reply.TheVariants.{Answered, Refused}
 use Rattle.hall.specs.Run.{waits}

@@ -1,5 +1,5 @@
 use Rattle.std.proofs.Common.{◌≡◌, ◌∙◌, [], arith, Some, ap, sym, subst, refl}
-use Rattle.search.specs.Carried.{carried_search}
+use Rattle.hall.specs.Carried.{carried_search}
 use Rattle.search.specs.Batches.{HandsInEach}
 use Rattle.hall.specs.Hall.{Running, HallState, search_at}
 use Rattle.hall.specs.Visits.{AreHandedIn}

@@ -1,5 +1,5 @@
 use Rattle.std.proofs.Common.{◌≡◌, ◌∙◌, Some, refl, sym, subst, ap, inl}
-use Rattle.search.specs.Carried.{carried_search}
+use Rattle.hall.specs.Carried.{carried_search}
 use Rattle.hall.specs.Steps.{StepsSearch}
 use Rattle.hall.specs.declared.calls.steps.Stepped.TheVariants.{Gone}
 use Rattle.hall.specs.Hall.{Running, IsStepped, search_at}

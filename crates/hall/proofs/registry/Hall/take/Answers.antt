@@ -2,7 +2,7 @@ use Rattle.std.proofs.Common.{◌≡◌, ◌∙◌, Option, Some, None, Result, 
 use Rattle.std.proofs.lemmas.Result.{err_from_is_err_and}
 use Rattle.std.specs.Arc.{arc_value}
 use Rattle.std.specs.declared.alloc.AllocError.{AllocError}
-use Rattle.search.specs.Carried.{carried_search}
+use Rattle.hall.specs.Carried.{carried_search}
 use Rattle.hall.specs.declared.calls.steps.Step.TheVariants.{Take}
 use Rattle.search.specs.Finish.{Takes}
 use Rattle.hall.specs.Hall.{Running, search_at, with_search}

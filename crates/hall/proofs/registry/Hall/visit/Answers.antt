@@ -1,7 +1,7 @@
 use Rattle.std.proofs.Common.{◌≡◌, ◌∙◌, ℕ, true, false, List, [], length, arith, Some, ap, sym, subst, refl, inr}
 use Rattle.std.proofs.lemmas.Result.{err_from_is_err_and}
 use Rattle.search.specs.Batches.{TakenLetter, Visits}
-use Rattle.search.specs.Carried.{carried_search}
+use Rattle.hall.specs.Carried.{carried_search}
 use Rattle.std.specs.Result.{is_ok}
 use Rattle.hall.specs.Hall.{Running, HallState, search_at}
 use Rattle.hall.specs.Visits.{IsVisited, SearchIsQuiet}

@@ -1,13 +1,24 @@
-//! Whether a span holds a role's rows, by a few comparisons.
+//! Whether a span holds a role's rows, for who doesn't count the comparisons.
 ghost use Rattle.std.specs.Prelude.{◌≡◌, ◌<◌, ◌↔◌, IsTrue};
 ghost use Rattle.snapshots.specs.Span.{span_of};
 
+use crate::snapshots::Snapshot;
+use crate::spans::Span;
+use crate::steps::Steps;
 use names::Role;
-use snapshots::{Snapshot, Span, Steps};
 use std::marker::Brand;
 use std::sync::ledger::{Blank, Ledger};
 
-// The same, with a count of the comparisons that nobody reads.
+impl Snapshot {
+    /// The same as `span_is`, with a count that nobody reads.
+    pub fn finds(&self, role: &Role, span: Span) -> bool
+        ensures { IsTrue result ↔ (span ≡ span_of self.now.vaults role.now) }
+    {
+        compares::<Brand>(self, role, span, Blank::new(1))
+    }
+}
+
+/// The same, counted in a ledger of its own.
 fn compares<L: Ledger>(snapshot: &Snapshot, role: &Role, span: Span, blank: Blank) -> bool
     requires name { blank.name ≡ L.name }
     requires parts { blank.parts ≡ L.parts }
@@ -16,11 +27,4 @@ fn compares<L: Ledger>(snapshot: &Snapshot, role: &Role, span: Span, blank: Blan
 {
     let (book, share) = blank.open::<L>();
     snapshot.span_is(role, span, &mut Steps::new(book, share))
-}
-
-// Whether the span is the one that the snapshot finds for the role.
-pub(crate) fn is_span_of(snapshot: &Snapshot, role: &Role, span: Span) -> bool
-    ensures { IsTrue result ↔ (span ≡ span_of snapshot.now.vaults role.now) }
-{
-    compares::<Brand>(snapshot, role, span, Blank::new(1))
 }

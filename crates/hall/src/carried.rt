@@ -1,17 +1,17 @@
 //! A search as its keeper carries it: its own, or shared with who reads it.
 ghost use Rattle.std.specs.Prelude.{◌≡◌, IfOk};
 ghost use Rattle.std.specs.Arc.{arc_value};
-ghost use Rattle.search.specs.Carried.{IsCarried, carried_search};
+ghost use Rattle.hall.specs.Carried.{IsCarried, carried_search};
 ghost use Rattle.search.specs.Search.{IsCompleted};
 
-use crate::searches::Search;
+use search::Search;
 use std::alloc::{AllocError, Global};
 use std::mem;
 use std::sync::Arc;
 
 /// A search as its keeper carries it.
 #[derive(Drop)]
-pub enum Carried {
+pub(crate) enum Carried {
     /// Nobody else has it, and it may be carried on.
     Own(Search),
     /// It is completed, and shared with who reads it. Nothing changes it again.
@@ -22,7 +22,7 @@ pub enum Carried {
 
 impl Carried {
     /// The search, however it is carried.
-    pub fn search(&self) -> &Search
+    pub(crate) fn search(&self) -> &Search
         requires { IsCarried self.now }
         ensures { result.now ≡ carried_search self.now }
     {
@@ -35,7 +35,7 @@ impl Carried {
 
     /// The completed search, shared from now on. It is moved to where it can be shared the first time; where memory for
     /// that is refused, nothing changes.
-    pub fn lend(&mut self, alloc: Global) -> Result<Arc<Search>, AllocError>
+    pub(crate) fn lend(&mut self, alloc: Global) -> Result<Arc<Search>, AllocError>
         requires carried { IsCarried self.old }
         requires completed { IsCompleted (carried_search self.old).stage }
         ensures lent { IfOk result (λ shared. arc_value shared ≡ carried_search self.old) }

@@ -1,6 +1,6 @@
 use Rattle.std.proofs.Common.{◌∙◌, ap, sym}
-use Rattle.search.specs.Carried.{carried_search}
-use Rattle.search.proofs.carried.Carried.into_shared.Goals as goal
+use Rattle.hall.specs.Carried.{carried_search}
+use Rattle.hall.proofs.carried.Carried.into_shared.Goals as goal
 
 pub returns-in-Err-clause-same : goal.returns-in-Err-clause-same
 returns-in-Err-clause-same c = c.in-Err.ensures.value_returned ∙ sym (ap carried_search c.in-Own.is)

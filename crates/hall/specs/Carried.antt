@@ -1,8 +1,8 @@
 -- A search, however its keeper carries it.
 use Rattle.std.specs.Prelude.{[]}
 use Rattle.std.specs.Arc.{arc_value}
-use Rattle.search.specs.declared.carried.Carried.{Carried}
-use Rattle.search.specs.declared.carried.Carried.TheVariants.{Own, Lent, Moving}
+use Rattle.hall.specs.declared.carried.Carried.{Carried}
+use Rattle.hall.specs.declared.carried.Carried.TheVariants.{Own, Lent, Moving}
 use Rattle.search.specs.declared.queries.Query.TheVariants.{Who}
 use Rattle.search.specs.declared.stages.Stage.TheVariants as stage
 use Rattle.search.specs.Search.{SearchState, IsCompleted}
