@@ -1,17 +1,16 @@
 -- Letters that are handed in to one search, which goes on at once, as a hall has them.
 use Rattle.std.proofs.Common.{◌≡◌, ◌∙◌, ℕ, List, [], true, false, ap, sym, refl, subst, Some}
-use Rattle.search.specs.declared.outcomes.Went.{Went}
-use Rattle.search.specs.declared.outcomes.Went.TheVariants.{Nowhere, On, NoMemory}
-use Rattle.search.specs.declared.outcomes.CarriedOn.{CarriedOn}
+use Rattle.hall.specs.declared.standings.Went.{Went}
+use Rattle.hall.specs.declared.standings.Went.TheVariants.{Nowhere, On, NoMemory}
+use Rattle.hall.specs.declared.standings.CarriedOn.{CarriedOn}
 use Rattle.search.specs.Stage.{IsQuiet}
 use Rattle.search.specs.Search.{SearchState}
-use Rattle.search.specs.Batches.{TakenLetter, AreOf, HandsInEach, Visits, CarriesOn}
-use Rattle.search.specs.Batches as search
+use Rattle.hall.specs.Batches.{TakenLetter, AreOf, HandsInEach, Visits, CarriesOn}
+use Rattle.hall.specs.Batches as search
 use Rattle.hall.specs.Hall.{HallState, Running, IsSound, search_at, with_search}
 use Rattle.hall.specs.Visits.{SearchIsQuiet, IsHandedIn, AreHandedIn, GoesOn, IsCarriedOn}
 use Rattle.hall.specs.Kept.{IsUnsettled}
 use Rattle.hall.proofs.Placed.{found_after, put_back, put_twice}
-use Rattle.hall.proofs.Carrying.{Moves}
 use Rattle.hall.proofs.Reached.{there}
 use Rattle.hall.proofs.HandingIn.{stay_each, hands_as, handed_in_sound}
 use Rattle.hall.proofs.Visiting.{visits_as, visits_soundly}

@@ -6,7 +6,7 @@ use Rattle.search.specs.declared.outcomes.Finished.{Finished}
 use Rattle.search.specs.declared.outcomes.Finished.TheVariants as finished
 use Rattle.search.specs.Finish.{right_hint}
 use Rattle.search.specs.Search.{SearchState, IsCompleted, IsSoundStage}
-use Rattle.search.specs.Batches.{TakenLetter, AreOf, HandsInAs, HandsInEach}
+use Rattle.hall.specs.Batches.{TakenLetter, AreOf, HandsInAs, HandsInEach}
 use Rattle.search.proofs.Stays.{held_none}
 use Rattle.hall.specs.declared.calls.steps.Step.{Step}
 use Rattle.hall.specs.declared.calls.steps.Step.TheVariants.{GiveBack, Finish}

@@ -1,3 +1,4 @@
+pub mod Batched
 pub mod Altering
 pub mod AtHand
 pub mod Carrying

@@ -14,7 +14,7 @@ use Rattle.indexmap.specs.IndexSet as set
 use Rattle.search.specs.declared.queries.Query.{Query}
 use Rattle.search.specs.Search.{SearchState, Settles, settled_of}
 use Rattle.search.specs.Finish.{IsDriven}
-use Rattle.search.specs.Batches.{TakenLetter, WorksOn, HandsInEach}
+use Rattle.hall.specs.Batches.{TakenLetter, WorksOn, HandsInEach}
 use Rattle.hall.specs.declared.calls.requests.Request.{Request}
 use Rattle.hall.specs.declared.calls.requests.Request.TheVariants.{Seek}
 use Rattle.hall.specs.declared.calls.replies.Reply.{Reply}

@@ -7,7 +7,7 @@ use Rattle.search.specs.Finish.{SignalsFirst}
 use Rattle.hall.specs.declared.calls.steps.Step.TheVariants.{Take, Signal}
 use Rattle.hall.specs.declared.calls.steps.Stepped.TheVariants as stepped
 use Rattle.hall.specs.Hall.{Running, HallState, search_at, with_search, StepsAt, IsStepped, IsSound}
-use Rattle.search.specs.Batches.{TakenLetter, TakesAs, WorksOn, IsWhole, Visits}
+use Rattle.hall.specs.Batches.{TakenLetter, TakesAs, WorksOn, IsWhole, Visits}
 use Rattle.hall.specs.Visits.{IsTaken, IsWorkedOn, IsVisited, SearchIsQuiet}
 use Rattle.hall.proofs.Placed.{found_after, put_back, put_twice}
 use Rattle.hall.proofs.Carrying.{Moves, moved, none_quiet}

@@ -9,7 +9,7 @@ use Rattle.search.specs.Ending.{Settled, Nothing, Members}
 use Rattle.search.specs.Search.{SearchState, IsOutstanding, IsSoundStage, settled_of}
 use Rattle.search.specs.Stage.{waiting_in, signals_in, IsQuiet, NoneHeld}
 use Rattle.search.specs.Finish.{IsDriven}
-use Rattle.search.specs.Batches.{TakenLetter, TakesAs}
+use Rattle.hall.specs.Batches.{TakenLetter, TakesAs}
 use Rattle.hall.specs.declared.faults.Fault.{Fault}
 use Rattle.hall.specs.declared.faults.Fault.TheVariants.{NoTenant, NoSuchSearch, Memory}
 use Rattle.hall.specs.declared.calls.answers.Answer.{Answer}

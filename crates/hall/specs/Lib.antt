@@ -1,4 +1,5 @@
 pub mod Carried
+pub mod Batches
 pub mod Fault
 pub mod Query
 pub mod Text

@@ -16,7 +16,7 @@ unfoldable pub use Rattle.search.specs.Search.{settled_of}
 use Rattle.search.specs.Search.{SearchState, SameQuestion, Settles, IsSoundStage}
 use Rattle.search.specs.Stage.{waiting_in, Delivers}
 use Rattle.search.specs.Finish.{Takes, Finishes}
-pub use Rattle.search.specs.Batches.{PutsBack}
+pub use Rattle.hall.specs.Batches.{PutsBack}
 use Rattle.hall.specs.declared.calls.steps.Step.{Step}
 use Rattle.hall.specs.declared.calls.steps.Step.TheVariants as step
 use Rattle.hall.specs.declared.calls.steps.Stepped.{Stepped}

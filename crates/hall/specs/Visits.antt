@@ -3,10 +3,10 @@ use Rattle.std.specs.Prelude.{◌≡◌, ◌⊎◌, ◌↔◌, ◌≤◌, ◌+�
 use Rattle.search.specs.Search.{SearchState, IsCompleted}
 use Rattle.search.specs.Finish.{right_hint}
 use Rattle.search.specs.Stage.{IsQuiet}
-pub use Rattle.search.specs.Batches.{TakenLetter}
-use Rattle.search.specs.Batches.{IsWhole}
-use Rattle.search.specs.declared.outcomes.Went.{Went}
-use Rattle.search.specs.declared.outcomes.Went.TheVariants.{Nowhere, On, NoMemory}
+pub use Rattle.hall.specs.Batches.{TakenLetter}
+use Rattle.hall.specs.Batches.{IsWhole}
+use Rattle.hall.specs.declared.standings.Went.{Went}
+use Rattle.hall.specs.declared.standings.Went.TheVariants.{Nowhere, On, NoMemory}
 use Rattle.hall.specs.declared.calls.steps.Step.{Step}
 use Rattle.hall.specs.declared.calls.steps.Step.TheVariants.{Take, GiveBack, Finish, Signal}
 use Rattle.hall.specs.declared.calls.steps.Stepped.{Stepped}

@@ -7,6 +7,7 @@
 //! worlds that agree for a tenant tell it the same. `specs/Visits.antt` is for those who work for a hall.
 #![tactic(auto)]
 
+mod batches;
 mod calls;
 mod carried;
 mod faults;
@@ -21,7 +22,9 @@ mod running;
 mod seats;
 mod standings;
 mod tenants;
+mod visits;
 
+pub use batches::Batch;
 pub use calls::{Answer, Event, Reply, Request, Step, Stepped};
 pub use faults::Fault;
 pub use jobs::Job;
@@ -33,5 +36,5 @@ pub use run_laws::{
     answers_are_true, refusals_come_first, runs_are_allowed, scripts_are_exact,
     scripts_are_isolated, two_worlds,
 };
-pub use search::{Batch, Query, Went};
-pub use standings::{HandedIn, Standing};
+pub use search::Query;
+pub use standings::{HandedIn, Standing, Went};

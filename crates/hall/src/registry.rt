@@ -5,6 +5,7 @@ ghost use Rattle.hall.specs.declared.calls.requests.Request.TheVariants as reque
 ghost use Rattle.hall.specs.declared.calls.replies.Reply.TheVariants as reply;
 ghost use Rattle.hall.specs.Hall.{IsSound, IsServed, IsStepped, CarriesOut, told_as, new_hall, search_at};
 
+use crate::batches::Batch;
 use crate::calls::{Answer, Step, Stepped};
 use crate::carried::Carried;
 use crate::faults::Fault;
@@ -12,13 +13,14 @@ use crate::jobs::Job;
 use crate::lists::{Rows, Sights};
 use crate::opened::{drive, make, proof_of, told_of, unmoved};
 use crate::picking::{Busy, leave, settle};
-use crate::standings::{HandedIn, Standing};
+use crate::standings::{CarriedOn, HandedIn, Standing, Went};
 use crate::tenants::Tenants;
+use crate::visits::{carry_on, hand_in, visit};
 use indexmap::IndexMap;
 use names::Entity;
 use proof_trees::Proof;
 use quotas::Limits;
-use search::{Batch, CarriedOn, Hint, Query, Search, Tables, Went};
+use search::{Hint, Query, Search, Tables};
 use std::alloc::{AllocError, Global};
 use std::marker::Model;
 use std::sync::Arc;
@@ -68,7 +70,7 @@ impl Hall {
     ghost use Rattle.hall.specs.declared.calls.steps.Step.TheVariants as step;
     ghost use Rattle.std.specs.Prelude.{◌≤◌, MatchOption, is_ok};
     ghost use Rattle.{std.specs.Arc.arc_value, hall.specs.Run.waits};
-    ghost use Rattle.search.specs.Batches.{IsEmpty, IsLookedUp, AreOf};
+    ghost use Rattle.hall.specs.Batches.{IsEmpty, IsLookedUp, AreOf};
     ghost use Rattle.hall.specs.Visits.{IsTaken, IsVisited, StandsAt, StandsNamed, AreHandedIn, IsCarriedOn, SearchIsQuiet};
     ghost use Rattle.hall.specs.Visits.{IsCompletedAt, NoneIsCompletedAt};
 
@@ -247,7 +249,7 @@ impl Hall {
         let Carried::Own(search) = &mut opened.carried else {
             return Ok(Standing::Over);
         };
-        search.visit(who, number, most, batch)?;
+        visit(search, who, number, most, batch)?;
         Ok(settle(&mut self.busy, &who, number, search))
     }
 
@@ -291,7 +293,7 @@ impl Hall {
         let Carried::Own(search) = &mut opened.carried else {
             return nothing;
         };
-        let finished = search.hand_in(batch, back);
+        let finished = hand_in(search, batch, back);
         let standing = settle(&mut self.busy, &who, number, search);
         HandedIn { finished, standing }
     }
@@ -329,7 +331,7 @@ impl Hall {
             batch.let_go();
             return (nothing, Went::Nowhere);
         };
-        let CarriedOn { finished, went } = search.carry_on(most, batch);
+        let CarriedOn { finished, went } = carry_on(search, most, batch);
         let standing = settle(&mut self.busy, who, number, search);
         (HandedIn { finished, standing }, went)
     }

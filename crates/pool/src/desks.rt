@@ -5,7 +5,7 @@ ghost use Rattle.names.specs.Name.{is_same};
 ghost use Rattle.hall.specs.declared.calls.requests.Request.TheVariants as request;
 ghost use Rattle.hall.specs.declared.calls.replies.Reply.TheVariants as reply;
 ghost use Rattle.hall.specs.Visits.{SearchIsQuiet};
-ghost use Rattle.search.specs.Batches.{IsEmpty, IsLookedUp, AreOf};
+ghost use Rattle.hall.specs.Batches.{IsEmpty, IsLookedUp, AreOf};
 ghost use Rattle.pool.specs.Laws.{CountsAreSeen, NumbersAreCounted, VaultsAreOwn, SightsAreOwn, VerdictsAreOwn};
 ghost use Rattle.pool.specs.Passes.{shares_of};
 ghost use Rattle.pool.specs.Rooms.{IsKept};

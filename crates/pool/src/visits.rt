@@ -1,6 +1,6 @@
 //! What a worker does when it has the lock: the steps of one search in a row, and what it hands in.
 ghost use Rattle.std.specs.Prelude.{◌≡◌, ◌≤◌, ◌↔◌, ◌⊎◌, false, true, None, Some, IsTrue, IfSome, IfOk, is_ok, length};
-ghost use Rattle.search.specs.Batches.{IsEmpty, IsLookedUp, AreOf};
+ghost use Rattle.hall.specs.Batches.{IsEmpty, IsLookedUp, AreOf};
 
 use crate::notices::{Concern, Notice};
 use crate::rooms::Room;

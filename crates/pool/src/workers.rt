@@ -1,7 +1,7 @@
 //! Workers: threads that take letters, look up outside the lock, and hand in.
 ghost use Rattle.std.specs.Prelude.{ℕ, List, ◌≡◌, ◌≤◌, IfOk, IfErr, IfSome, vec_len, vec_capacity};
 ghost use Rattle.pool.specs.Refusals.{IsWorkRefusal};
-ghost use Rattle.search.specs.Batches.{IsLookedUp};
+ghost use Rattle.hall.specs.Batches.{IsLookedUp};
 ghost use Rattle.pool.specs.Workers.{AreLetThrough, WasStopped, done_by_both, IsDoneBy, DoneBy};
 
 use crate::desks::Desk;

@@ -36,4 +36,3 @@ pub mod StepsLeft
 pub mod Driven
 pub mod Stays
 pub mod Heard
-pub mod Batched

@@ -5,4 +5,3 @@ pub mod Search
 pub mod Ending
 pub mod Finish
 pub mod Numbered
-pub mod Batches

@@ -8,7 +8,6 @@
 #![tactic(auto)]
 
 mod asking;
-mod batches;
 mod driving;
 mod findings;
 mod hearing;
@@ -26,10 +25,9 @@ mod stages;
 mod tables;
 mod telling;
 
-pub use batches::Batch;
 pub use findings::{Findings, Monitor};
 pub use letters::Load;
-pub use outcomes::{CarriedOn, Finished, Status, Went};
+pub use outcomes::{Finished, Status};
 pub use queries::{Hint, Need, Query, Task};
 pub use searches::Search;
 pub use stages::Stage;

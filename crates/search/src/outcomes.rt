@@ -28,22 +28,3 @@ pub enum Finished {
     /// No such letter is held.
     NotHeld,
 }
-
-/// How a search went on once letters were handed in to it.
-#[derive(Clone, Copy)]
-pub enum Went {
-    /// Nothing of it was left to do, so no step was made.
-    Nowhere,
-    /// Steps were made, as many as were asked for or left.
-    On,
-    /// Something was left, and there was no memory to share what the search reads: no step was made.
-    NoMemory,
-}
-
-/// What came of letters that were handed in, and how their search went on at once.
-#[derive(Clone, Copy)]
-pub struct CarriedOn {
-    /// How many of the letters are finished.
-    pub finished: u64,
-    pub went: Went,
-}

@@ -49,23 +49,14 @@ impl Need {
     }
 
     /// The hint that it asks for.
+    #[inline(always)]
     pub fn look_up(&self, snapshot: &Snapshot) -> Hint
         ensures { result ≡ right_hint snapshot.now.vaults self.now }
     {
-        let mut hint = Hint::Nothing;
-        self.look_up_into(snapshot, &mut hint);
-        hint
-    }
-
-    /// The same in place, where most letters of a batch need nothing and a hint is larger than what says so.
-    #[inline(always)]
-    pub(crate) fn look_up_into(&self, snapshot: &Snapshot, hint: &mut Hint)
-        ensures { hint.new ≡ right_hint snapshot.now.vaults self.now }
-    {
-        *hint = match self {
+        match self {
             Need::Rows(role) => Hint::Rows(snapshot.find(role)),
             Need::Nothing => Hint::Nothing,
-        };
+        }
     }
 }
 

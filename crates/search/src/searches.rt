@@ -193,6 +193,7 @@ impl Search {
 
     /// Takes the waiting letter at that place, in order of sending, without the snapshot: its number, and what it
     /// needs.
+    #[inline(always)]
     pub fn take_letter(&mut self, place: u64) -> Option<(u64, Need)>
         ensures taken { MatchOption result ((slice_get (waiting_in self.old.stage) place ≡ None) × (self.new ≡ self.old))
             (λ r. Takes self.old self.new place r.0 r.1) }
@@ -235,23 +236,15 @@ impl Search {
     }
 
     /// Finishes the held letter of that number with what was looked up. Where a growth is refused the search is broken.
+    #[inline(always)]
     pub fn finish(&mut self, letter: u64, hint: Hint) -> Finished
         ensures finishes { Finishes self.old self.new letter hint result }
-        ensures settles { Settles self.old self.new }
-    {
-        self.finish_by(letter, &hint)
-    }
-
-    // The same with what somebody else keeps.
-    #[inline(always)]
-    pub(crate) fn finish_by(&mut self, letter: u64, hint: &Hint) -> Finished
-        ensures finishes { Finishes self.old self.new letter hint.now result }
         ensures settles { Settles self.old self.new }
     {
         let Some(held) = held_letter(&self.stage, letter) else {
             return Finished::NotHeld;
         };
-        if !hint_is_right(self.found.graph(), &self.snapshot, &held, hint) {
+        if !hint_is_right(self.found.graph(), &self.snapshot, &held, &hint) {
             self.put_back(letter);
             return Finished::BadHint;
         }

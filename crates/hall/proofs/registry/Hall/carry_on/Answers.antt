@@ -1,6 +1,6 @@
 use Rattle.std.proofs.Common.{◌≡◌, ◌∙◌, length, ap, sym, subst, refl, arith, Some, false}
 use Rattle.hall.specs.Carried.{carried_search}
-use Rattle.search.specs.Batches.{CarriesOn}
+use Rattle.hall.specs.Batches.{CarriesOn}
 use Rattle.hall.specs.Hall.{Running, HallState, search_at, with_search}
 use Rattle.hall.specs.Kept.{IsIndexed}
 use Rattle.hall.proofs.Carrying.{none_quiet}
@@ -56,12 +56,12 @@ abbrev goes : After-carry_on-finished → Running
 goes c = record { opened_at = c.opened.inside.opened_at; search = c.in-Own.search }
 
 abbrev went : After-carry_on-finished → Running
-went c = record { opened_at = c.opened.inside.opened_at; search = c.carry_on-finished.new.self }
+went c = record { opened_at = c.opened.inside.opened_at; search = c.carry_on-finished.new.search }
 
 goes_there : (c : After-carry_on-finished) → search_at (hall_of c.self.inside.book c.self.inside.tenants) c.args.who.now c.args.number ≡ Some (goes c)
 goes_there c = c.in-Ok.ensures.here ∙ ap Some (sym c.opened.view_is) ∙ own c.opened.inside.opened_at c.in-Own.is
 
-carries : (c : After-carry_on-finished) → CarriesOn c.args.who.now c.args.number c.args.most c.in-Own.search c.args.batch.now.letters c.carry_on-finished.result c.carry_on-finished.new.self c.carry_on-finished.new.batch.letters
+carries : (c : After-carry_on-finished) → CarriesOn c.args.who.now c.args.number c.args.most c.in-Own.search c.args.batch.now.letters c.carry_on-finished.result c.carry_on-finished.new.search c.carry_on-finished.new.batch.letters
 carries c = c.carry_on-finished.ensures.carried_on c.args.who.now c.args.number c.requires.of
 
 -- the hall with the search as it went on
@@ -72,19 +72,19 @@ pub invariant_of-self-2 : goal.invariant_of-self-2
 invariant_of-self-2 c =
     let d = (goal.at.invariant_of-self-2 c).After-carry_on-finished in
     let who = c.args.who.now in
-    indexed_there _ _ _ (goes d) (goes_there d) _ c.carry_on-finished.new.self (becomes d) c.self.inside.busy c.settle-standing.new.busy
-    (unsettled_before_carrying who c.args.number c.args.most _ c.args.batch.now.letters c.requires.letters (goes d) (goes_there d) c.carry_on-finished.new.self c.carry_on-finished.new.batch.letters
+    indexed_there _ _ _ (goes d) (goes_there d) _ c.carry_on-finished.new.search (becomes d) c.self.inside.busy c.settle-standing.new.busy
+    (unsettled_before_carrying who c.args.number c.args.most _ c.args.batch.now.letters c.requires.letters (goes d) (goes_there d) c.carry_on-finished.new.search c.carry_on-finished.new.batch.letters
     c.carry_on-finished.result (carries d) _ (becomes d)) c.settle-standing.ensures.kept c.self.invariant
-    (carried_soundly who c.args.number c.args.most _ c.args.batch.now.letters c.requires.letters (goes d) (goes_there d) c.carry_on-finished.new.self c.carry_on-finished.new.batch.letters
+    (carried_soundly who c.args.number c.args.most _ c.args.batch.now.letters c.requires.letters (goes d) (goes_there d) c.carry_on-finished.new.search c.carry_on-finished.new.batch.letters
     c.carry_on-finished.result (carries d) _ (becomes d) c.self.invariant.sound)
 
 pub returns : goal.returns
 returns c =
     let d = (goal.at.returns c).After-carry_on-finished in
     rw (← c.self.view_is) record {
-      carried_on = carried_on c.args.who.now c.args.number c.args.most _ c.args.batch.now.letters c.requires.letters (goes d) (goes_there d) c.carry_on-finished.new.self
+      carried_on = carried_on c.args.who.now c.args.number c.args.most _ c.args.batch.now.letters c.requires.letters (goes d) (goes_there d) c.carry_on-finished.new.search
           c.carry_on-finished.new.batch.letters c.carry_on-finished.result (carries d) _ (becomes d);
-      stands = stands_there _ _ _ (goes d) (goes_there d) _ c.carry_on-finished.new.self (becomes d) c.settle-standing.result c.settle-standing.ensures.stands;
+      stands = stands_there _ _ _ (goes d) (goes_there d) _ c.carry_on-finished.new.search (becomes d) c.settle-standing.result c.settle-standing.ensures.stands;
       most = c.carry_on-finished.ensures.most;
       bound = c.carry_on-finished.ensures.bound;
       looked = c.carry_on-finished.ensures.looked;

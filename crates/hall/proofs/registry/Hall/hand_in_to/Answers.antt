@@ -1,6 +1,6 @@
 use Rattle.std.proofs.Common.{◌≡◌, ◌∙◌, [], arith, Some, ap, sym, subst, refl}
 use Rattle.hall.specs.Carried.{carried_search}
-use Rattle.search.specs.Batches.{HandsInEach}
+use Rattle.hall.specs.Batches.{HandsInEach}
 use Rattle.hall.specs.Hall.{Running, HallState, search_at}
 use Rattle.hall.specs.Visits.{AreHandedIn}
 use Rattle.hall.specs.Kept.{IsIndexed}
@@ -55,7 +55,7 @@ abbrev goes : After-hand_in-finished → Running
 goes c = record { opened_at = c.opened.inside.opened_at; search = c.in-Own.search }
 
 abbrev went : After-hand_in-finished → Running
-went c = record { opened_at = c.opened.inside.opened_at; search = c.hand_in-finished.new.self }
+went c = record { opened_at = c.opened.inside.opened_at; search = c.hand_in-finished.new.search }
 
 goes_there : (c : After-hand_in-finished) → search_at (hall_of c.self.inside.book c.self.inside.tenants) c.args.who c.args.number ≡ Some (goes c)
 goes_there c = c.in-Ok.ensures.here ∙ ap Some (sym c.opened.view_is) ∙ own c.opened.inside.opened_at c.in-Own.is
@@ -65,16 +65,16 @@ handed : (c : After-hand_in-finished) → AreHandedIn c.args.back (hall_of c.sel
     (hall_of c.self.inside.book (c.opened_mut.follows.lender (went c)))
 handed c =
     hands_as c.args.back _ c.args.who c.args.number c.args.batch.now.letters c.hand_in-finished.result _ c.requires.letters
-    (there _ _ _ (goes c) (goes_there c) _ c.hand_in-finished.new.self (c.opened_mut.follows.holds (went c) (given c.in-Ok.is) c.self.inside.book)
+    (there _ _ _ (goes c) (goes_there c) _ c.hand_in-finished.new.search (c.opened_mut.follows.holds (went c) (given c.in-Ok.is) c.self.inside.book)
     (c.hand_in-finished.result ≡ 0) (λ s t. HandsInEach c.args.who c.args.number c.args.back s c.args.batch.now.letters c.hand_in-finished.result t)
     (c.hand_in-finished.ensures.handed_in c.args.who c.args.number c.requires.of))
 
 pub invariant_of-self-2 : goal.invariant_of-self-2
 invariant_of-self-2 c =
     let d = (goal.at.invariant_of-self-2 c).After-hand_in-finished in
-    indexed_there _ _ _ (goes d) (goes_there d) _ c.hand_in-finished.new.self (c.opened_mut.follows.holds (went d) (given c.in-Ok.is) c.self.inside.book)
+    indexed_there _ _ _ (goes d) (goes_there d) _ c.hand_in-finished.new.search (c.opened_mut.follows.holds (went d) (given c.in-Ok.is) c.self.inside.book)
     c.self.inside.busy c.settle-standing.new.busy
-    (unsettled_before_hands c.args.who c.args.number c.args.back c.in-Own.search c.args.batch.now.letters c.hand_in-finished.result c.hand_in-finished.new.self
+    (unsettled_before_hands c.args.who c.args.number c.args.back c.in-Own.search c.args.batch.now.letters c.hand_in-finished.result c.hand_in-finished.new.search
     (c.hand_in-finished.ensures.handed_in c.args.who c.args.number c.requires.of)) c.settle-standing.ensures.kept c.self.invariant
     (handed_in_sound c.args.back _ c.args.batch.now.letters c.hand_in-finished.result _ c.self.invariant.sound (handed d))
 
@@ -83,6 +83,6 @@ returns c =
     let d = (goal.at.returns c).After-hand_in-finished in
     rw (← c.self.view_is) record {
       handed_in = handed d;
-      stands = stands_there _ _ _ (goes d) (goes_there d) _ c.hand_in-finished.new.self (c.opened_mut.follows.holds (went d) (given c.in-Ok.is) c.self.inside.book) c.settle-standing.result c.settle-standing.ensures.stands;
+      stands = stands_there _ _ _ (goes d) (goes_there d) _ c.hand_in-finished.new.search (c.opened_mut.follows.holds (went d) (given c.in-Ok.is) c.self.inside.book) c.settle-standing.result c.settle-standing.ensures.stands;
       most = c.hand_in-finished.ensures.most;
     }

@@ -1,6 +1,6 @@
 use Rattle.std.proofs.Common.{◌≡◌, ◌∙◌, ℕ, true, false, List, [], length, arith, Some, ap, sym, subst, refl, inr}
 use Rattle.std.proofs.lemmas.Result.{err_from_is_err_and}
-use Rattle.search.specs.Batches.{TakenLetter, Visits}
+use Rattle.hall.specs.Batches.{TakenLetter, Visits}
 use Rattle.hall.specs.Carried.{carried_search}
 use Rattle.std.specs.Result.{is_ok}
 use Rattle.hall.specs.Hall.{Running, HallState, search_at}
@@ -65,7 +65,7 @@ abbrev goes : After-branch-visit → Running
 goes c = record { opened_at = c.opened.inside.opened_at; search = c.in-Own.search }
 
 abbrev went : After-branch-visit → Running
-went c = record { opened_at = c.opened.inside.opened_at; search = c.visit.new.self }
+went c = record { opened_at = c.opened.inside.opened_at; search = c.visit.new.search }
 
 goes_there : (c : After-branch-visit) → search_at (hall_of c.self.inside.book c.self.inside.tenants) c.args.who c.args.number ≡ Some (goes c)
 goes_there c = c.in-Ok.ensures.here ∙ ap Some (sym c.opened.view_is) ∙ own c.opened.inside.opened_at c.in-Own.is
@@ -73,16 +73,16 @@ goes_there c = c.in-Ok.ensures.here ∙ ap Some (sym c.opened.view_is) ∙ own c
 moves : (c : After-branch-visit) → Moves (hall_of c.self.inside.book c.self.inside.tenants) c.args.who c.args.number (c.visit.new.batch.letters ≡ [])
     (λ s t. Visits c.args.who c.args.number c.args.most s (is_ok c.visit.result) t c.visit.new.batch.letters) (hall_of c.self.inside.book (c.opened_mut.follows.lender (went c)))
 moves c =
-    there _ _ _ (goes c) (goes_there c) _ c.visit.new.self (c.opened_mut.follows.holds (went c) (given c.in-Ok.is) c.self.inside.book) (c.visit.new.batch.letters ≡ [])
+    there _ _ _ (goes c) (goes_there c) _ c.visit.new.search (c.opened_mut.follows.holds (went c) (given c.in-Ok.is) c.self.inside.book) (c.visit.new.batch.letters ≡ [])
     (λ s t. Visits c.args.who c.args.number c.args.most s (is_ok c.visit.result) t c.visit.new.batch.letters) c.visit.ensures.visited
 
 -- a search that settled is left out of the index
 indexed : (c : After-branch-visit) (kept : _) →
-    KeepsBut (λ name k. (name ≡ c.args.who) × (k ≡ c.args.number) × (IsUnsettled c.visit.new.self → ⊥)) c.self.inside.busy kept →
+    KeepsBut (λ name k. (name ≡ c.args.who) × (k ≡ c.args.number) × (IsUnsettled c.visit.new.search → ⊥)) c.self.inside.busy kept →
     IsIndexed kept (hall_of c.self.inside.book (c.opened_mut.follows.lender (went c)))
 indexed c kept keeps =
-    indexed_there _ _ _ (goes c) (goes_there c) _ c.visit.new.self (c.opened_mut.follows.holds (went c) (given c.in-Ok.is) c.self.inside.book) c.self.inside.busy kept
-    (let (n, within, works, whole) = c.visit.ensures.visited in unsettled_before_work c.args.who c.args.number c.in-Own.search n c.visit.new.batch.letters c.visit.new.self works)
+    indexed_there _ _ _ (goes c) (goes_there c) _ c.visit.new.search (c.opened_mut.follows.holds (went c) (given c.in-Ok.is) c.self.inside.book) c.self.inside.busy kept
+    (let (n, within, works, whole) = c.visit.ensures.visited in unsettled_before_work c.args.who c.args.number c.in-Own.search n c.visit.new.batch.letters c.visit.new.search works)
     keeps c.self.invariant
     (visits_soundly _ c.args.who c.args.number c.args.most c.visit.new.batch.letters (is_ok c.visit.result) _ (moves c) c.self.invariant.sound)
 
@@ -114,7 +114,7 @@ returns c =
     let d = (goal.at.returns c).After-branch-visit in
     rw (← c.self.view_is) record {
       visited = visited_as c.args.who c.args.number c.args.most _ _ true _ c.visit.new.batch.letters (ap is_ok c.in_ok-visit.was) (made d);
-      stands = stands_there _ _ _ (goes d) (goes_there d) _ c.visit.new.self (c.opened_mut.follows.holds (went d) (given c.in-Ok.is) c.self.inside.book) c.settle.result c.settle.ensures.stands;
+      stands = stands_there _ _ _ (goes d) (goes_there d) _ c.visit.new.search (c.opened_mut.follows.holds (went d) (given c.in-Ok.is) c.self.inside.book) c.settle.result c.settle.ensures.stands;
       only_memory = tt;
       bound = c.visit.ensures.bound;
       looked = c.visit.ensures.looked;

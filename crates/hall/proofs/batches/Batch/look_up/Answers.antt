@@ -1,0 +1,48 @@
+use Rattle.std.proofs.Common.{◌≡◌, ◌<◌, ◌+◌, ap, arith, Option, length, sym, subst, vec_capacity}
+use Rattle.hall.specs.declared.batches.NamedSearch.{NamedSearch}
+use Rattle.search.specs.declared.queries.Hint.{Hint}
+use Rattle.hall.specs.Batches.{BatchState, IsBatch, letters_of}
+use Rattle.search.specs.Finish.{right_hint}
+use Rattle.snapshots.specs.Snapshot.{SnapshotState}
+use Rattle.hall.proofs.Batched.{batch, with_hint, looked_up_batch, looked_up_more, within_held}
+use Rattle.hall.proofs.batches.Batch.look_up.Goals as goal
+
+pub unreachable-requires : goal.unreachable-requires
+unreachable-requires c =
+    let b = c.self.inside in
+    let within : b.looked < length (letters_of b.of b.held_letters.items) = subst (λ (x : BatchState). x.looked < length x.letters) (sym c.self.view_is) c.requires in
+    let none : b.looked < 0 = subst (λ (o : Option NamedSearch). b.looked < length (letters_of o b.held_letters.items)) c.in_default.is within in
+    omega (arith, none)
+
+pub index_mut-held_letter-requires : goal.index_mut-held_letter-requires
+index_mut-held_letter-requires c =
+    let b = c.self.inside in
+    let within = within_held b.of c.in-Some.of b.held_letters.items b.looked c.in-Some.is (subst (λ (x : BatchState). x.looked < length x.letters) (sym c.self.view_is) c.requires) in
+    omega (arith, within, b.held_letters.ok.0)
+
+pub returns : goal.returns
+returns c =
+    let es = c.self.inside.held_letters.items in
+    let n = c.self.inside.looked in
+    let room = vec_capacity c.self.inside.held_letters in
+    let e = c.index_mut-held_letter.result.now in
+    let hint : Hint = right_hint c.deref.result.now.vaults e.need in
+    let within : n < length es = within_held c.self.inside.of c.in-Some.of es n c.in-Some.is (subst (λ (b : BatchState). b.looked < length b.letters) (sym c.self.view_is) c.requires) in
+    let changed = with_hint c.in-Some.of es n room e hint c.index_mut-held_letter.ensures.value within in
+    rw (c.look_up-held_letter.ensures)
+    (subst (λ (b : BatchState). batch c.self.inside.of changed (n + 1) room ≡ record b { looked = b.looked + 1 }) c.self.view_is
+    (subst (λ (o : Option NamedSearch). batch o changed (n + 1) room ≡ record (batch o es n room) { looked = n + 1 }) (sym c.in-Some.is)
+    (looked_up_batch c.in-Some.of es n room e hint c.index_mut-held_letter.ensures.value within)))
+
+pub invariant_of-self : goal.invariant_of-self
+invariant_of-self c =
+    let es = c.self.inside.held_letters.items in
+    let n = c.self.inside.looked in
+    let room = vec_capacity c.self.inside.held_letters in
+    let e = c.index_mut-held_letter.result.now in
+    let hint : Hint = right_hint c.deref.result.now.vaults e.need in
+    let within : n < length es = within_held c.self.inside.of c.in-Some.of es n c.in-Some.is (subst (λ (b : BatchState). b.looked < length b.letters) (sym c.self.view_is) c.requires) in
+    let right = ap (λ (s : SnapshotState). right_hint s.vaults e.need) c.deref.ensures in
+    rw (c.look_up-held_letter.ensures)
+    (subst (λ (o : Option NamedSearch). IsBatch o (with_hint c.in-Some.of es n room e hint c.index_mut-held_letter.ensures.value within) (n + 1)) (sym c.in-Some.is)
+    (looked_up_more c.in-Some.of es n room e hint c.index_mut-held_letter.ensures.value within right (subst (λ (o : Option NamedSearch). IsBatch o es n) c.in-Some.is c.self.invariant)))
