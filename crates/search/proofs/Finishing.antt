@@ -78,6 +78,17 @@ span_for view e l hint is = subst (λ (x : Hint). IsSpanFor view e (span_in x)) 
     needed f (load.Ask p) = opened f
     needed f (load.Tell p who) = tt
 
+-- a search that is settled for want of work or memory doesn't run
+abbrev runs : Stage → Type 0
+runs (stage.Running c) = Unit {0}
+runs stage.Spent = ⊥
+runs stage.Broken = ⊥
+
+abbrev is_spent : Stage → Type 0
+is_spent stage.Spent = Unit {0}
+is_spent (stage.Running c) = ⊥
+is_spent stage.Broken = ⊥
+
 -- where a search runs after a letter was finished, it ran before
 pub record RanBefore (old : Stage) (work number : ℕ) (outs : List (ℕ × Load (List ℕ))) (after : Computation (Load (List ℕ))) : Type 0 where
   pub before : Computation (Load (List ℕ))
@@ -86,18 +97,18 @@ pub record RanBefore (old : Stage) (work number : ℕ) (outs : List (ℕ × Load
   pub finishes : FinishesLetter before number outs after
 
 sent_from : (old new : Stage) (work number : ℕ) (outs : List (ℕ × Load (List ℕ))) (result : Finished) → Sends old new work number outs result → (e : Computation (Load (List ℕ))) → new ≡ stage.Running e → RanBefore old work number outs e
-sent_from old new work number outs finished.Done (c, d, ran, runs, within, finishes) e now =
-    record { before = c; ran = ran; within = within; finishes = subst (FinishesLetter c number outs) (same_running d e (sym runs ∙ now)) finishes }
-sent_from old new work number outs finished.Spent (c, ran, over, is) e now = let clash : stage.Spent ≡ stage.Running e = sym is ∙ now in cc
-sent_from old new work number outs finished.Broken (c, ran, within, is) e now = let clash : stage.Broken ≡ stage.Running e = sym is ∙ now in cc
+sent_from old new work number outs finished.Done (c, d, ran, running, within, finishes) e now =
+    record { before = c; ran = ran; within = within; finishes = subst (FinishesLetter c number outs) (same_running d e (sym running ∙ now)) finishes }
+sent_from old new work number outs finished.Spent (c, ran, over, is) e now = absurd (subst runs (sym now ∙ is) tt)
+sent_from old new work number outs finished.Broken (c, ran, within, is) e now = absurd (subst runs (sym now ∙ is) tt)
 sent_from old new work number outs finished.BadHint sent e now = absurd sent
 sent_from old new work number outs finished.NotHeld sent e now = absurd sent
 
 -- where a search is spent after a letter was finished, what was sent with the answers is above the limit
 spent_from : (old new : Stage) (work number : ℕ) (outs : List (ℕ × Load (List ℕ))) (result : Finished) → Sends old new work number outs result → new ≡ stage.Spent → (c : Computation (Load (List ℕ))) × (old ≡ stage.Running c) × (work < c.sent + length outs)
-spent_from old new work number outs finished.Done (c, d, ran, runs, within, finishes) now = let clash : stage.Running d ≡ stage.Spent = sym runs ∙ now in cc
+spent_from old new work number outs finished.Done (c, d, ran, running, within, finishes) now = absurd (subst is_spent (sym now ∙ running) tt)
 spent_from old new work number outs finished.Spent (c, ran, over, is) now = (c, ran, over)
-spent_from old new work number outs finished.Broken (c, ran, within, is) now = let clash : stage.Broken ≡ stage.Spent = sym is ∙ now in cc
+spent_from old new work number outs finished.Broken (c, ran, within, is) now = absurd (subst is_spent (sym now ∙ is) tt)
 spent_from old new work number outs finished.BadHint sent now = absurd sent
 spent_from old new work number outs finished.NotHeld sent now = absurd sent
 
@@ -107,8 +118,8 @@ module _ (s : SearchState) (number : ℕ) (h : Held (Load (List ℕ))) (held : H
   after st = record s { graph = g; monitors = ms; stage = st }
 
   pub sent_receives : (st : Stage) (result : Finished) → Sends s.stage st s.work number outs result → Receives s (after st) number (letter_in h) result
-  sent_receives st finished.Done (c, d, ran, runs, within, finishes) =
-      (record { before = c; after = d; outs = outs; ran = ran; runs = runs; finishes = finishes; within = within; row = row }, same_question s g ms st)
+  sent_receives st finished.Done (c, d, ran, running, within, finishes) =
+      (record { before = c; after = d; outs = outs; ran = ran; runs = running; finishes = finishes; within = within; row = row }, same_question s g ms st)
   sent_receives st finished.Spent (c, ran, over, is) =
       (record { before = c; reached = progress g ms outs; ran = ran; row = row; over = over }, is, same_question s g ms st)
   sent_receives st finished.Broken (c, ran, within, is) = (is, same_question s g ms st)

@@ -1,5 +1,5 @@
 -- What the numbers in letters stand for goes on while nodes are added.
-use Rattle.std.proofs.Common.{ℕ, ◌+◌, ◌<◌, ◌≤◌, All, get_or, Option, None, MatchOption, length, arith, ◌≡◌, ◌∙◌, Some, map, take, slice_get, Bool, true, false, Contains, refl, sym, subst, ap, List, [], ◌∷◌, ◌++◌, if◌then◌else◌, inl, inr, append-nil, append_assoc}
+use Rattle.std.proofs.Common.{ℕ, ◌<◌, ◌≤◌, All, get_or, Option, None, MatchOption, length, arith, ◌≡◌, ◌∙◌, ◌⊎◌, Some, map, slice_get, Bool, true, false, Contains, refl, sym, subst, ap, List, [], ◌∷◌, ◌++◌, if◌then◌else◌, inl, inr, append-nil, append_assoc}
 use Rattle.std.proofs.lemmas.List.Elements.{All-cons, All-head, All-nil, All-push, All-tail, All-weaker, Contains-push_cases}
 use Rattle.std.specs.Option.{option_map}
 use Rattle.std.proofs.lemmas.Option.{slice_get-get_or, slice_get_past}
@@ -15,7 +15,7 @@ use Rattle.cred_graph.specs.declared.solutions.Reason.{Reason}
 use Rattle.cred_graph.specs.declared.solutions.Reason.TheVariants as reason
 use Rattle.scholten_core.specs.declared.parents.Parent.{Parent}
 use Rattle.scholten_core.specs.declared.parents.Parent.TheVariants.{Neutral, Environment, Node}
-use Rattle.cred_graph.specs.Graph.{GraphState, IsGraph, NodeGiven, ListenerGiven, SolutionGiven}
+use Rattle.cred_graph.specs.Graph.{GraphState, IsGraph, IsNode, NodeGiven, ListenerGiven, SolutionGiven}
 use Rattle.cred_graph.specs.NodeLists.{list_at, IsOnce}
 use Rattle.cred_graph.specs.declared.solutions.Solution.{Solution}
 use Rattle.std.specs.FinSet as set
@@ -43,8 +43,7 @@ use Rattle.search.specs.declared.stages.Stage.TheVariants as stage
 use Rattle.search.specs.declared.findings.Monitor.TheVariants as monitor
 use Rattle.search.specs.declared.findings.NumberedMonitor.{NumberedMonitor}
 use Rattle.search.specs.declared.findings.NumberedMonitor.TheVariants as numbered_monitor
-use Rattle.search.specs.Answers.{Progress, Answers, AsksFor, AsksEach, HearsAsk, Opens, Solves, TakesIn, own_rows, known_tells, new_monitor, new_tells, row_asks, part_asks}
-use Rattle.search.proofs.Loops.{sent_next}
+use Rattle.search.specs.Answers.{Progress, Answers, AsksFor, AsksEach, HearsAsk, IsOpenAt, Opens, Solves, TakesIn, own_rows, new_monitor, row_asks, part_asks}
 use Rattle.search.specs.Numbered.{AreLoads, AreMonitors, AreNumbered, IsLoad, IsMonitor, IsStage, monitor_at, monitors_at, held_at, load_at, outs_at, progress_at, stage_at}
 
 -- the numbers in these letters are entities'
@@ -124,10 +123,6 @@ numbered_with_node g e ms outs once are = record {
 pub numbered_with_monitor : (g : GraphState) (ms : List NumberedMonitor) (m : NumberedMonitor) (outs : List (ℕ × Load ℕ)) → IsMonitor g.nodes m → AreNumbered g ms outs → AreNumbered g (ms ++ m ∷ []) outs
 numbered_with_monitor g ms m outs is are = record { once = are.once; loads = are.loads; monitors = All-push (IsMonitor g.nodes) ms m are.monitors is; ports = are.ports }
 
--- the monitors hear of an entity
-pub numbered_heard : (g : GraphState) (ms ms' : List NumberedMonitor) (outs : List (ℕ × Load ℕ)) (k : ℕ) → AreNumbered g ms outs → IsEntity g.nodes k → ((nodes : List Expr) → AreMonitors nodes ms → IsEntity nodes k → AreMonitors nodes ms') → AreNumbered g ms' outs
-numbered_heard g ms ms' outs k are is hear = record { once = are.once; loads = are.loads; monitors = hear g.nodes are.monitors is; ports = are.ports }
-
 -- nodes are added alone
 abbrev pub HasMore : List Expr → List Expr → Type 0
 HasMore old new = (more : List Expr) × (new ≡ old ++ more)
@@ -205,22 +200,6 @@ pub port_given : (g h : GraphState) (e : Expr) (n : ℕ) (b : Bool) (p : Port �
 port_given g h e n true p (absent, range, is, with) port = subst (λ (x : GraphState). IsPort x.nodes p) (sym with) (port_goes_on g.nodes (e ∷ []) p port)
 port_given g h e n false p (node, same) port = subst (λ (x : GraphState). IsPort x.nodes p) (sym same) port
 
--- one more letter was sent of those that tell each element of a list of the graph
-pub tells_on : {A : Type 0} (f : GraphState → A → ℕ × Load (List ℕ)) (xs : GraphState → List A) (x : GraphState → A) (s now mid next : Progress) (k : ℕ) → now ≡ record s { outs = s.outs ++ take k (map (f s.graph) (xs s.graph)) } → mid ≡ now →
-    slice_get (xs mid.graph) k ≡ Some (x mid.graph) → next ≡ record now { outs = now.outs ++ f now.graph (x now.graph) ∷ [] } → next ≡ record s { outs = s.outs ++ take (k + 1) (map (f s.graph) (xs s.graph)) }
-tells_on f xs x s now mid next k so_far is at done =
-    done ∙ ap (λ (u : Progress). record u { outs = u.outs ++ f u.graph (x u.graph) ∷ [] }) so_far
-    ∙ ap (λ (os : List (ℕ × Load (List ℕ))). record s { outs = os }) (sent_next (f s.graph) (xs s.graph) k (x s.graph) s.outs (s.outs ++ take k (map (f s.graph) (xs s.graph))) (subst (λ (u : Progress). slice_get (xs u.graph) k ≡ Some (x u.graph)) (is ∙ so_far) at) refl)
-
--- with a listener or a solution no node is added
-pub listened_nodes : (g h : GraphState) (n : ℕ) (l : Listening) (b : Bool) → ListenerGiven g h n l b → h.nodes ≡ g.nodes
-listened_nodes g h n l true (new, with) = ap (λ (k : GraphState). k.nodes) with
-listened_nodes g h n l false (listens, same) = ap (λ (k : GraphState). k.nodes) same
-
-pub solved_nodes : (g h : GraphState) (s : Solution) (b : Bool) → SolutionGiven g h s b → h.nodes ≡ g.nodes
-solved_nodes g h s true (new, with) = ap (λ (k : GraphState). k.nodes) with
-solved_nodes g h s false (solved, same) = ap (λ (k : GraphState). k.nodes) same
-
 -- a listener is added, on a port whose number is an entity's
 pub numbered_listened : (g h : GraphState) (n m : ℕ) (p : Port ℕ) (b : Bool) (ms : List NumberedMonitor) (outs : List (ℕ × Load ℕ)) → ListenerGiven g h n (record { asker = m; port = port_at g.nodes p }) b → n < length g.nodes → IsGraph h → IsPort g.nodes p → AreNumbered g ms outs → AreNumbered h ms outs
 numbered_listened g h n m p false ms outs (listens, same) node graph port are = subst (λ (k : GraphState). AreNumbered k ms outs) (sym same) are
@@ -255,30 +234,24 @@ module _ (s : Progress) (g h : GraphState) (ms : List NumberedMonitor) (outs : L
   hears_old n m p (listens, same) =
       subst (λ (x : Progress). HearsAsk x (progress_at h ms outs) n m (port_at x.graph.nodes p)) is (false, (listens, same), ap (λ (k : GraphState). monitors_at k.nodes ms) same, ap (λ (k : GraphState). outs_at k.nodes outs) same)
 
-  pub hears_new : (t : Progress) (n m : ℕ) (p : Port ℕ) → ListenerGiven g h n (record { asker = m; port = port_at g.nodes p }) true →
-      t ≡ record (progress_at h ms outs) { outs = outs_at h.nodes outs ++ known_tells h n m (port_at h.nodes p) } → HearsAsk s t n m (port_at s.graph.nodes p)
-  hears_new t n m p (new, with) done =
-      subst (λ (x : Progress). HearsAsk x t n m (port_at x.graph.nodes p)) is (
-        true,
-        (new, ap (λ (x : Progress). x.graph) done ∙ with),
-        ap (λ (x : Progress). x.monitors) done ∙ ap (λ (k : GraphState). monitors_at k.nodes ms) with,
-        ap (λ (x : Progress). x.outs) done ∙ ap (λ (k : GraphState). outs_at k.nodes outs ++ known_tells k n m (port_at k.nodes p)) with,
-      )
+  pub listens_new : (n m : ℕ) (p : Port ℕ) (b : Bool) → b ≡ true → ListenerGiven g h n (record { asker = m; port = port_at g.nodes p }) b → ListenerGiven s.graph h n (record { asker = m; port = port_at s.graph.nodes p }) true
+  listens_new n m p b new given =
+      subst (λ (x : Progress). ListenerGiven x.graph h n (record { asker = m; port = port_at x.graph.nodes p }) true) is (subst (ListenerGiven g h n (record { asker = m; port = port_at g.nodes p })) new given)
 
   pub solves_old : (n k : ℕ) (r : Reason ℕ ℕ) → SolutionGiven g h (record { node = n; who = entity_at g.nodes k; reason = reason_at g.nodes r }) false →
       Solves s (progress_at h ms outs) n (entity_at s.graph.nodes k) (reason_at s.graph.nodes r)
   solves_old n k r (has, same) =
       subst (λ (x : Progress). Solves x (progress_at h ms outs) n (entity_at x.graph.nodes k) (reason_at x.graph.nodes r)) is (false, (has, same), ap (λ (k : GraphState). monitors_at k.nodes ms) same, ap (λ (y : GraphState). outs_at y.nodes outs) same)
 
-  pub solves_new : (t : Progress) (n k : ℕ) (r : Reason ℕ ℕ) → SolutionGiven g h (record { node = n; who = entity_at g.nodes k; reason = reason_at g.nodes r }) true →
-      t ≡ record (progress_at h ms outs) { outs = outs_at h.nodes outs ++ new_tells h n (entity_at h.nodes k) } → Solves s t n (entity_at s.graph.nodes k) (reason_at s.graph.nodes r)
-  solves_new t n k r (new, with) done =
-      subst (λ (x : Progress). Solves x t n (entity_at x.graph.nodes k) (reason_at x.graph.nodes r)) is (
-        true,
-        (new, ap (λ (x : Progress). x.graph) done ∙ with),
-        ap (λ (x : Progress). x.monitors) done ∙ ap (λ (k : GraphState). monitors_at k.nodes ms) with,
-        ap (λ (x : Progress). x.outs) done ∙ ap (λ (y : GraphState). outs_at y.nodes outs ++ new_tells y n (entity_at y.nodes k)) with,
-      )
+  pub solves_new : (n k : ℕ) (r : Reason ℕ ℕ) (b : Bool) → b ≡ true → SolutionGiven g h (record { node = n; who = entity_at g.nodes k; reason = reason_at g.nodes r }) b →
+      SolutionGiven s.graph h (record { node = n; who = entity_at s.graph.nodes k; reason = reason_at s.graph.nodes r }) true
+  solves_new n k r b new given =
+      subst (λ (x : Progress). SolutionGiven x.graph h (record { node = n; who = entity_at x.graph.nodes k; reason = reason_at x.graph.nodes r }) true) is
+      (subst (SolutionGiven g h (record { node = n; who = entity_at g.nodes k; reason = reason_at g.nodes r })) new given)
+
+  -- what was found but the graph is left, where no node was added
+  pub others_left : h.nodes ≡ g.nodes → (monitors_at h.nodes ms ≡ s.monitors) × (outs_at h.nodes outs ≡ s.outs)
+  others_left same = (ap (λ nodes. monitors_at nodes ms) same ∙ ap (λ (x : Progress). x.monitors) is, ap (λ nodes. outs_at nodes outs) same ∙ ap (λ (x : Progress). x.outs) is)
 
 -- a port stays what it is where nodes are added
 pub more_port : (old new : List Expr) (p : Port ℕ) → HasMore old new → IsPort old p → IsPort new p
@@ -361,6 +334,16 @@ takes_more s t n m (port.Via b) who solves = solves_more s t n who (reason.Via b
 takes_more s t n m (port.Part i) who (last, ms, heard, inl (others, same)) = same_nodes s t (ap (λ (u : Progress). u.graph.nodes) same)
 takes_more s t n m (port.Part i) who (last, ms, heard, inr (all, solves)) = solves_more (record s { monitors = ms }) t n who reason.Parts solves
 
+-- the node was open before, or it opens
+abbrev pub IsOpened : List Vault → Progress → Progress → ℕ → Type 0
+IsOpened view s mid n = (IsOpenAt s.graph n × (mid ≡ s)) ⊎ ((IsOpenAt s.graph n → ⊥) × ((e : Expr) → IsNode s.graph n e → Opens (own_rows view e) s mid n e))
+
+pub opened_more : (view : List Vault) (s mid : Progress) (n : ℕ) → n < length s.graph.nodes → IsOpened view s mid n → HasMore s.graph.nodes mid.graph.nodes
+opened_more view s mid n there (inl (was, same)) = same_nodes s mid (ap (λ (u : Progress). u.graph.nodes) same)
+opened_more view s mid n there (inr (first, opens)) =
+    let e : Expr = get_or s.graph.nodes n (Ent []) in
+    opens_more (own_rows view e) s mid n e (opens e (slice_get-get_or s.graph.nodes n (Ent []) there))
+
 -- to answer a letter adds nodes alone
 pub answers_more : (view : List Vault) (s t : Progress) (from : Parent) (to : ℕ) (l : Load (List ℕ)) → to < length s.graph.nodes → Answers view s t from to l → HasMore s.graph.nodes t.graph.nodes
 answers_more view s t Neutral to load.Start there answers = absurd answers
@@ -372,11 +355,8 @@ answers_more view s t Environment to load.Start there opens =
 answers_more view s t Environment to (load.Ask p) there answers = absurd answers
 answers_more view s t Environment to (load.Tell p who) there answers = absurd answers
 answers_more view s t (Node m) to load.Start there answers = absurd answers
-answers_more view s t (Node m) to (load.Ask p) there (mid, inl (was, same), hears) =
-    then_more s.graph.nodes mid.graph.nodes t.graph.nodes (same_nodes s mid (ap (λ (u : Progress). u.graph.nodes) same)) (hears_more mid t to m p hears)
-answers_more view s t (Node m) to (load.Ask p) there (mid, inr (first, opens), hears) =
-    let e : Expr = get_or s.graph.nodes to (Ent []) in
-    then_more s.graph.nodes mid.graph.nodes t.graph.nodes (opens_more (own_rows view e) s mid to e (opens e (slice_get-get_or s.graph.nodes to (Ent []) there))) (hears_more mid t to m p hears)
+answers_more view s t (Node m) to (load.Ask p) there (mid, opened, hears) =
+    then_more s.graph.nodes mid.graph.nodes t.graph.nodes (opened_more view s mid to there opened) (hears_more mid t to m p hears)
 answers_more view s t (Node m) to (load.Tell p who) there takes = takes_more s t to m p who takes
 
 -- where nodes are added a search stands where it stood

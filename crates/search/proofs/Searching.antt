@@ -1,6 +1,6 @@
 -- What a search keeps gives its status, and is kept by its calls.
 use Rattle.std.proofs.Common.{ℕ, zero, suc, ◌<◌, ◌↔◌, ◌≡◌, ◌∙◌, inl, inr, refl, sym, subst, ap, Bool, true, false, not, List, [], ◌∷◌, Some, Contains, length, slice_get, arith}
-use Rattle.std.proofs.lemmas.Option.{same_Some, slice_get_within}
+use Rattle.std.proofs.lemmas.Option.{none-some, same_Some, slice_get_within}
 use Rattle.names.specs.declared.roles.Role.{Role}
 use Rattle.credential_text.specs.declared.credentials.Credential.{Credential}
 use Rattle.credential_text.specs.declared.exprs.Expr.{Expr}
@@ -52,6 +52,14 @@ KeepsLimit s = s.stage ≡ stage.Spent → WorkExceeds (rows_of s) (asked_role s
 abbrev pub first_graph : Role → GraphState
 first_graph role = record { nodes = Rol role ∷ []; listeners = [] ∷ []; solutions = [] }
 
+abbrev is_plain : Monitor → Type 0
+is_plain monitor.Plain = Unit {0}
+is_plain _ = ⊥
+
+abbrev is_role : Expr → Type 0
+is_role (Rol r) = Unit {0}
+is_role _ = ⊥
+
 module _ (rows : List Credential) (role : Role) where
   abbrev start : Sent
   start = record { from = Environment; to = 0; load = load.Start }
@@ -61,7 +69,7 @@ module _ (rows : List Credential) (role : Role) where
 
   only_node : (n : ℕ) (e : Expr) → IsNode (first_graph role) n e → (n ≡ 0) × (Rol role ≡ e)
   only_node zero e at = (refl, same_Some (Rol role) e at)
-  only_node (suc n) e at = cc
+  only_node (suc n) e at = absurd (none-some e at)
 
   no_listener : (n : ℕ) (m : ℕ) (p : Port (List ℕ)) → Listens (first_graph role) n (record { asker = m; port = p }) → ⊥
   no_listener zero m p among = Contains-none (record { asker = m; port = p }) among
@@ -69,7 +77,7 @@ module _ (rows : List Credential) (role : Role) where
 
   no_monitor : (m : ℕ) (x : Monitor) → slice_get (monitor.Plain ∷ []) m ≡ Some x → monitor.Plain ≡ x
   no_monitor zero x at = same_Some monitor.Plain x at
-  no_monitor (suc m) x at = cc
+  no_monitor (suc m) x at = absurd (none-some x at)
 
   first_right : IsGraph (first_graph role) → IsRight rows role first_net
   first_right graph = record {
@@ -81,7 +89,7 @@ module _ (rows : List Credential) (role : Role) where
       | inl same ↦ subst (λ (y : Sent). LetterFits rows first_net y.from y.to y.load) same refl
       | inr none ↦ absurd (Contains-none x none)
     ];
-    parts_fit = λ m i who told. let clash = no_monitor m (monitor.Meet told.0) told.1 in cc;
+    parts_fit = λ m i who told. absurd (subst is_plain (no_monitor m (monitor.Meet told.0) told.1) tt);
   }
 
   never_open : (m : ℕ) → IsOpen first_net m → ⊥
@@ -92,9 +100,9 @@ module _ (rows : List Credential) (role : Role) where
   first_paid graph = record {
     root = inr (0, Contains-first start []);
     opened = λ m e at opens. absurd (never_open m opens);
-    via = λ m r t b at told. let clash = no_monitor m (monitor.Link told.0) told.1 in cc;
+    via = λ m r t b at told. absurd (subst is_plain (no_monitor m (monitor.Link told.0) told.1) tt);
     told = λ n m p who among solution. absurd (no_listener n m p among);
-    met = λ m parts who at all. let clash : Rol role ≡ Meet parts = (only_node m (Meet parts) at).1 in cc;
+    met = λ m parts who at all. absurd (subst is_role (only_node m (Meet parts) at).1 tt);
   }
 
   pub first_kept : (work : ℕ) → 0 < work → IsGraph (first_graph role) → KeptBy rows role work (first_graph role) (monitor.Plain ∷ []) (started 0 load.Start)
@@ -245,8 +253,8 @@ waiting_to s (stage.Running c) place number l kept runs at =
     let among = (filtered (λ (x : ℕ × Letter (Load (List ℕ))). not x.1.held) c.letters (number, l) (Contains-at_place (waiting c) place (number, l) at)).0 in
     let sent = Contains-map (λ (x : ℕ × Letter (Load (List ℕ))). plain x.1) c.letters (number, l) among in
     receiver_in (rows_of s) (asked_role s.query) (net_of s.graph s.monitors c) kept_now.steady.right l.from l.to l.load (kept_now.steady.right.letters_fit (plain l) sent)
-waiting_to s stage.Spent place number l kept runs at = cc
-waiting_to s stage.Broken place number l kept runs at = cc
+waiting_to s stage.Spent place number l kept runs at = absurd (none-some (number, l) at)
+waiting_to s stage.Broken place number l kept runs at = absurd (none-some (number, l) at)
 
 pub taken_to : (s : SearchState) (st : Stage) (place number : ℕ) (l : Letter (Load (List ℕ))) → KeepsRules s → Holds s.stage st place number l → l.to < length s.graph.nodes
 taken_to s st place number l kept holds = waiting_to s s.stage place number l kept refl holds.waited

@@ -1,4 +1,4 @@
-ghost use Rattle.std.specs.Prelude.{◌≡◌, [], ◌∷◌, ◌++◌, OnOk, OnErr};
+ghost use Rattle.std.specs.Prelude.{◌≡◌, ℕ, [], ◌∷◌, ◌++◌, OnOk, OnErr};
 ghost use Rattle.credential_text.specs.declared.exprs.Expr.TheVariants as exprs;
 ghost use Rattle.cred_graph.specs.Graph.{IsGraph, empty_graph};
 
@@ -30,7 +30,6 @@ pub enum NumberedMonitor {
 
 /// What a search has found: the graph, and beside each node its monitor. And what a receiver answers, until it is sent,
 /// in a list that serves the next receipt too, where it isn't long. Contracts see its letters and monitors with names.
-#[derive(Drop)]
 pub struct Findings {
     pub(crate) graph: Graph,
     pub(crate) monitors: Vec<NumberedMonitor>,
@@ -54,7 +53,18 @@ impl Model for Findings {
     ghost invariant = { λ f. AreNumbered f.graph f.monitors.items f.outs.items };
 }
 
-/// A list of answers with more room than this is given back.
+// By hand, so that who holds some drops them by one call, whose proof stands here.
+impl Drop for Findings {
+    fn drop(self) {
+        let Findings {
+            graph: _graph,
+            monitors: _monitors,
+            outs: _outs,
+        } = self;
+    }
+}
+
+/// A list of answers keeps no more room than this.
 const MOST_ROOM: usize = 64;
 
 /// Room for so many nodes is made before the first one is added, as many as four groups of a map's index take.
@@ -64,6 +74,9 @@ const FIRST_NODES: u64 = 36;
 const MOST_NODES: u64 = 256;
 
 impl Findings {
+    ghost use Rattle.cred_graph.specs.declared.listeners.Listening.{Listening};
+    ghost use Rattle.cred_graph.specs.Graph.{Listens};
+    ghost use Rattle.cred_graph.specs.Numbers.{IsNamed};
     ghost use Rattle.search.specs.Answers.{progress};
     ghost use Rattle.search.specs.Numbered.{IsLoad, load_at};
 
@@ -80,10 +93,10 @@ impl Findings {
     }
 
     // What was found is forgotten. Tables keep the room that a small search needs.
-    pub(crate) fn forget(&mut self, alloc: Global)
+    pub(crate) fn forget(&mut self)
         ensures { self.new ≡ progress empty_graph [] [] }
     {
-        self.clear(alloc);
+        self.clear();
         self.graph.clear();
         self.monitors.clear();
         let room = self.monitors.capacity() as u64;
@@ -104,9 +117,11 @@ impl Findings {
         Ok(())
     }
 
-    // The graph.
+    // The graph. Each entity that a listener's port names has a node.
+    #[inline(always)]
     pub(crate) fn graph(&self) -> &Graph
-        ensures { result.now ≡ self.now.graph }
+        ensures graph { result.now ≡ self.now.graph }
+        ensures ports { (n : ℕ) (l : Listening) → Listens result.now n l → IsNamed result.now.nodes l.port }
     {
         &self.graph
     }
@@ -135,24 +150,22 @@ impl Findings {
     }
 
     // The list of answers is empty, with the room that it had if that isn't much.
-    pub(crate) fn clear(&mut self, alloc: Global)
+    pub(crate) fn clear(&mut self)
         ensures { self.new ≡ record self.old { outs = [] } }
     {
-        if self.outs.capacity() > MOST_ROOM {
-            self.outs = VecDeque::new(alloc);
-        } else {
-            self.outs.clear();
-        }
+        self.outs.clear();
+        self.outs.shrink_to(MOST_ROOM);
     }
 
     // Gives back the memory that nothing takes. The list of monitors is moved for it only where less than half of its room
     // is taken.
     #[cold]
     #[inline(never)]
-    pub(crate) fn give_back(&mut self, alloc: Global)
+    pub(crate) fn give_back(&mut self)
         ensures { self.new ≡ record self.old { outs = [] } }
     {
-        self.outs = VecDeque::new(alloc);
+        self.outs.clear();
+        self.outs.shrink_to_fit();
         if self.monitors.len() < self.monitors.capacity() / 2 {
             self.monitors.shrink_to_fit();
         }

@@ -84,9 +84,9 @@ pub(crate) fn open(
     ensures { OnOk result ((e : Expr) → IsNode found.old.graph node e
         → Opens (own_rows snapshot.now.vaults e) found.old found.new node e) }
 {
-    match found.graph.expr(node) {
+    match found.graph().expr(node) {
         Expr::Ent(_who) => {
-            let who = found.graph.short(node);
+            let who = found.graph().short(node);
             solve(found, node, who, Reason::Leaf)
         }
         Expr::Rol(role) => {

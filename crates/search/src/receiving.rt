@@ -1,12 +1,12 @@
 //! How a node receives a letter: what is found, and the letters that it sends.
-ghost use Rattle.std.specs.Prelude.{◌≡◌, ◌<◌, ◌↔◌, ℕ, List, [], length, option_copied, IsTrue, OnOk};
+ghost use Rattle.std.specs.Prelude.{◌≡◌, ◌<◌, ℕ, List, [], length, option_copied, OnOk};
 ghost use Rattle.names.specs.declared.roles.Role.{Role};
 ghost use Rattle.credential_text.specs.declared.exprs.Expr.{Expr};
 ghost use Rattle.vaults.specs.Journal.{credentials};
 ghost use Rattle.cred_graph.specs.Graph.{IsNode};
 ghost use Rattle.search.specs.Net.{Sent};
 ghost use Rattle.cred_graph.specs.Numbers.{IsPort, port_at};
-ghost use Rattle.search.specs.Answers.{progress, IsOpenAt, AnswersAsk, Answers, Awaits};
+ghost use Rattle.search.specs.Answers.{progress, AnswersAsk, Answers, Awaits};
 ghost use Rattle.search.specs.Finish.{IsSpanFor};
 ghost use Rattle.search.specs.Numbered.{IsLoad, load_at};
 
@@ -15,18 +15,10 @@ use crate::hearing::hear_ask;
 use crate::letters::{Held, Load};
 use crate::opening::open;
 use crate::telling::take_in;
-use cred_graph::{Graph, Port};
+use cred_graph::Port;
 use scholten_core::Parent;
 use snapshots::{Snapshot, Span};
 use std::alloc::{AllocError, Global};
-
-// Whether the node was asked before: the asked role's by the environment, any other by a listener.
-fn is_open(graph: &Graph, node: u64) -> bool
-    requires { node < length graph.now.nodes }
-    ensures { IsTrue result ↔ IsOpenAt graph.now node }
-{
-    node == 0 || graph.listeners(node) > 0
-}
 
 // The node that sent a letter.
 fn sender(from: Parent) -> u64
@@ -40,7 +32,8 @@ fn sender(from: Parent) -> u64
     }
 }
 
-// A node is asked on a port: at its first Ask it opens; then the asker listens to it.
+// A node is asked on a port: at its first Ask it opens; then the asker listens to it. The asked role's node was opened by
+// the environment.
 fn asked(
     alloc: Global,
     found: &mut Findings,
@@ -56,10 +49,9 @@ fn asked(
     requires span { (e : Expr) → IsNode found.old.graph node e → IsSpanFor snapshot.now.vaults e (option_copied looked_up) }
     ensures { OnOk result (AnswersAsk snapshot.now.vaults found.old found.new node asker (port_at found.old.graph.nodes port)) }
 {
-    if is_open(&found.graph, node) {
-        return hear_ask(found, node, asker, port);
+    if node != 0 && found.graph().listeners(node) == 0 {
+        open(alloc, found, snapshot, node, looked_up)?;
     }
-    open(alloc, found, snapshot, node, looked_up)?;
     hear_ask(found, node, asker, port)
 }
 

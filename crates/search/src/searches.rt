@@ -9,7 +9,7 @@ ghost use Rattle.cred_graph.specs.Graph.{IsNode, Known};
 ghost use Rattle.scholten_core.specs.declared.letters.Letter.{Letter};
 ghost use Rattle.search.specs.Net.{Said, OwesRules, IsJustified};
 ghost use Rattle.search.specs.Ending.{MaySettle, Nothing, Members};
-ghost use Rattle.search.specs.Search.{IsAnswered, status_of, found, come_to, IsSoundStage};
+ghost use Rattle.search.specs.Search.{IsAnswered, status_of, come_to, IsSoundStage};
 ghost use Rattle.search.specs.Numbered.{IsLoad, IsStage, held_at, load_at, stage_at};
 ghost use Rattle.search.specs.Stage.{IsQuiet, NoneHeld};
 ghost use Rattle.scholten_core.specs.Computation.{Computation};
@@ -117,7 +117,7 @@ impl Search {
         requires { 0 < work }
         ensures { IfOk result (λ s. IsNew s query work (arc_value snapshot)) }
     {
-        let mut found = tables.into_found();
+        let Tables { mut found } = tables;
         found.first(alloc, query.role())?;
         let running = Diffusion::start(alloc, 0, Load::Start)?;
         let _ports: Option<Port> = None;
@@ -139,9 +139,9 @@ impl Search {
             snapshot: _snapshot,
             mut found,
             stage: _stage,
-            alloc,
+            alloc: _alloc,
         } = self;
-        found.forget(alloc);
+        found.forget();
         Tables { found }
     }
 
@@ -278,7 +278,7 @@ impl Search {
         ensures settles { Settles self.old self.new }
     {
         let _asker = self.snapshot.asker();
-        self.found.clear(self.alloc);
+        self.found.clear();
         let received = receive(self.alloc, &mut self.found, &self.snapshot, held, looked_up);
         match received {
             Ok(()) => send(&mut self.stage, self.work, letter, &mut self.found),
@@ -297,9 +297,7 @@ impl Search {
         ensures question { SameQuestion self.old self.new }
         ensures settles { Settles self.old self.new }
     {
-        let delivered = deliver(&mut self.stage, place);
-        tidy(&self.stage, &mut self.found, self.alloc);
-        delivered
+        deliver(&mut self.stage, &mut self.found, place)
     }
 
     /// Whether nothing of the search can be carried on before a letter that is held comes back. Where none is held, the
@@ -346,20 +344,6 @@ impl Search {
     }
 }
 
-// Where nothing of a search is outstanding, what it found keeps no memory that nothing takes.
-#[inline(always)]
-fn tidy(stage: &NumberedStage, found: &mut Findings, alloc: Global)
-    ensures { (found.new.graph ≡ found.old.graph) × (found.new.monitors ≡ found.old.monitors) }
-{
-    let has_ended = match stage {
-        NumberedStage::Running(running) => running.is_complete(),
-        NumberedStage::Spent | NumberedStage::Broken => true,
-    };
-    if has_ended {
-        found.give_back(alloc);
-    }
-}
-
 // What a search of this stage has come to, whose graph is this.
 fn status_at(stage: &NumberedStage, graph: &Graph, query: &Query) -> Status
     ensures is { (nodes : List Expr) → result ≡ status_of (come_to (stage_at nodes stage.now) graph.now query.now) }
@@ -369,24 +353,16 @@ fn status_at(stage: &NumberedStage, graph: &Graph, query: &Query) -> Status
         NumberedStage::Spent => Status::Spent,
         NumberedStage::Broken => Status::Broken,
         NumberedStage::Running(running) => {
-            if running.is_complete() {
-                answer(graph, query)
-            } else {
-                Status::Working
+            if !running.is_complete() {
+                return Status::Working;
+            }
+            match query {
+                Query::Who(_role) => Status::Members,
+                Query::Ask(_role, who) => match graph.reason(0, who) {
+                    Some(_reason) => Status::Yes,
+                    None => Status::No,
+                },
             }
         }
-    }
-}
-
-// The answer of a completed search.
-fn answer(graph: &Graph, query: &Query) -> Status
-    ensures { result ≡ status_of (found graph.now query.now) }
-{
-    match query {
-        Query::Who(_role) => Status::Members,
-        Query::Ask(_role, who) => match graph.reason(0, who) {
-            Some(_reason) => Status::Yes,
-            None => Status::No,
-        },
     }
 }

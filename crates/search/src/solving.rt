@@ -1,30 +1,15 @@
 //! How a node finds a solution: every listener is told of a new one.
-ghost use Rattle.std.specs.Prelude.{◌≡◌, ◌<◌, ◌++◌, length, OnOk};
+ghost use Rattle.std.specs.Prelude.{◌<◌, length, OnOk};
 ghost use Rattle.cred_graph.specs.Numbers.{IsEntity, IsReason, entity_at, reason_at};
 ghost use Rattle.cred_graph.specs.Graph.{Fits};
-ghost use Rattle.search.specs.Answers.{Solves, new_tells};
+ghost use Rattle.search.specs.Answers.{Solves};
 
 use crate::findings::Findings;
 use crate::letters::Load;
 use cred_graph::Reason;
 use std::alloc::AllocError;
 
-// Each listener of the node is told of the entity.
-fn tell_listeners(found: &mut Findings, node: u64, who: u32) -> Result<(), AllocError>
-    requires node { node < length found.old.graph.nodes }
-    requires entity { IsEntity found.old.graph.nodes who }
-    ensures { OnOk result (found.new ≡ record found.old {
-      outs = found.old.outs ++ new_tells found.old.graph node (entity_at found.old.graph.nodes who);
-    }) }
-{
-    for place in 0..found.graph.listeners(node) {
-        let (asker, port) = found.graph.numbered_listener(node, place);
-        found.send(asker, Load::Tell(port, who))?;
-    }
-    Ok(())
-}
-
-// The entity is a solution of the node; where that is new, each listener is told.
+// The entity is a solution of the node; where that is new, each listener of the node is told.
 pub(crate) fn solve(
     found: &mut Findings,
     node: u64,
@@ -41,5 +26,9 @@ pub(crate) fn solve(
     if !found.graph.add_numbered_solution(node, who, reason)? {
         return Ok(());
     }
-    tell_listeners(found, node, who)
+    for place in 0..found.graph().listeners(node) {
+        let (asker, port) = found.graph().numbered_listener(node, place);
+        found.send(asker, Load::Tell(port, who))?;
+    }
+    Ok(())
 }

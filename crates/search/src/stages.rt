@@ -25,11 +25,21 @@ pub enum Stage {
 }
 
 /// The same with numbers for names.
-#[derive(Drop)]
 pub enum NumberedStage {
     Running(Diffusion<Load<u32>>),
     Spent,
     Broken,
+}
+
+// By hand, so that who holds one drops it by one call, whose proof stands here.
+impl Drop for NumberedStage {
+    fn drop(self) {
+        match self {
+            NumberedStage::Running(_running) => {}
+            NumberedStage::Spent => {}
+            NumberedStage::Broken => {}
+        }
+    }
 }
 
 // The held letter of that number.
@@ -121,10 +131,11 @@ pub(crate) fn send(
     Finished::Done
 }
 
-// The signal at that place is delivered, where there is one. With the last one the memory of letters is given back.
+// The signal at that place is delivered, where there is one. With the last one the memory that nothing takes is given back.
 #[inline(always)]
-pub(crate) fn deliver(stage: &mut NumberedStage, place: u64) -> bool
+pub(crate) fn deliver(stage: &mut NumberedStage, found: &mut Findings, place: u64) -> bool
     ensures delivers { (nodes : List Expr) → Delivers (stage_at nodes stage.old) (stage_at nodes stage.new) place result }
+    ensures findings { (found.new.graph ≡ found.old.graph) × (found.new.monitors ≡ found.old.monitors) }
     ensures loads { (nodes : List Expr) → IsStage nodes stage.old → IsStage nodes stage.new }
 {
     let NumberedStage::Running(running) = stage else {
@@ -134,7 +145,10 @@ pub(crate) fn deliver(stage: &mut NumberedStage, place: u64) -> bool
         return false;
     }
     running.signal(place);
-    running.give_back();
+    if running.is_complete() {
+        running.give_back();
+        found.give_back();
+    }
     true
 }
 

@@ -1,14 +1,11 @@
 //! The tables of a search that was ended, for the next one.
-ghost use Rattle.std.specs.Prelude.{◌≡◌, []};
-ghost use Rattle.cred_graph.specs.Graph.{empty_graph};
-ghost use Rattle.search.specs.Answers.{progress};
-
 use crate::findings::Findings;
 use std::alloc::Global;
 use std::marker::Model;
 
 /// Empty tables of a search with the memory that they have taken, as a small search takes it and no more. A search that is
 /// opened in them is the same as any other, and takes less memory anew.
+#[derive(Drop)]
 pub struct Tables {
     pub(crate) found: Findings,
 }
@@ -25,25 +22,11 @@ impl Model for Tables {
     ghost invariant = { λ t. t.found ≡ progress empty_graph [] [] };
 }
 
-// By hand, so that who holds them drops them by one call, whose proof stands here.
-impl Drop for Tables {
-    fn drop(self) {
-        let Tables { found: _found } = self;
-    }
-}
-
 impl Tables {
     /// Tables that have taken no memory.
     pub fn new(alloc: Global) -> Tables {
         Tables {
             found: Findings::new(alloc),
         }
-    }
-    // The tables, where nothing was found yet.
-    pub(crate) fn into_found(self) -> Findings
-        ensures { result ≡ progress empty_graph [] [] }
-    {
-        let Tables { found } = self;
-        found
     }
 }

@@ -1,36 +1,30 @@
 //! How a node takes in what it is told.
-ghost use Rattle.std.specs.Prelude.{◌≡◌, ◌<◌, ℕ, List, Some, length, slice_get, slice_set, IfOk, OnOk};
+ghost use Rattle.std.specs.Prelude.{◌≡◌, ◌<◌, ℕ, List, Some, length, slice_get, IfOk, OnOk};
 ghost use Rattle.names.specs.declared.roles.Role.{Role};
 ghost use Rattle.credential_text.specs.declared.exprs.Expr.TheVariants as exprs;
-ghost use Rattle.cred_graph.specs.Graph.{GraphState, IsNode};
+ghost use Rattle.cred_graph.specs.Graph.{IsNode};
 ghost use Rattle.cred_graph.specs.Numbers.{IsEntity, IsPort, entity_at, port_at};
-ghost use Rattle.monitors.specs.LinkMonitor.{LinkTold, LinkToldBy};
-ghost use Rattle.monitors.specs.MeetMonitor.{MeetTold, MeetLines};
-ghost use Rattle.credential_text.specs.declared.exprs.Expr.{Expr};
-ghost use Rattle.cred_graph.specs.NodeLists.{IsOnce};
-ghost use Rattle.search.specs.Numbered.{AreMonitors, monitors_at};
+ghost use Rattle.monitors.specs.LinkMonitor.{LinkTold};
+ghost use Rattle.monitors.specs.MeetMonitor.{MeetTold};
 ghost use Rattle.search.specs.declared.findings.Monitor.TheVariants as Monitor;
-ghost use Rattle.search.specs.Answers.{BaseHeard, PartHeard, TellsLast, TellsBase, TellsPart, MayTakeIn, TakesIn};
+ghost use Rattle.search.specs.Answers.{BaseHeard, PartHeard, TellsBase, MayTakeIn, TakesIn};
 
 use crate::asking::ask;
 use crate::findings::{Findings, NumberedMonitor};
 use crate::solving::solve;
 use cred_graph::{Graph, Port, Reason};
 use credential_text::Expr;
-use names::{Entity, Role};
+use names::Role;
 use std::alloc::{AllocError, Global};
 
 // The monitor of a linked role hears a member of its base, and answers whether that is new.
-fn hear_base(monitors: &mut Vec<NumberedMonitor>, node: u64, base: u32) -> Result<bool, AllocError>
-    requires { (x : LinkToldBy ℕ) × (slice_get monitors.old.items node ≡ Some (NumberedMonitor.Link x)) }
-    ensures heard { IfOk result (λ new. (nodes : List Expr) → IsOnce nodes
-        → AreMonitors nodes monitors.old.items → IsEntity nodes base
-        → BaseHeard (monitors_at nodes monitors.old.items) (monitors_at nodes monitors.new.items)
-        node (entity_at nodes base) new) }
-    ensures numbers { (nodes : List Expr) → AreMonitors nodes monitors.old.items → IsEntity nodes base
-        → AreMonitors nodes monitors.new.items }
+fn hear_base(found: &mut Findings, node: u64, base: u32) -> Result<bool, AllocError>
+    requires entity { IsEntity found.old.graph.nodes base }
+    requires monitor { (x : LinkTold) × (slice_get found.old.monitors node ≡ Some (Monitor.Link x)) }
+    ensures { IfOk result (λ new. BaseHeard found.old.monitors found.new.monitors node (entity_at found.old.graph.nodes base) new
+        × (found.new ≡ record found.old { monitors = found.new.monitors })) }
 {
-    match &mut monitors[node as usize] {
+    match &mut found.monitors[node as usize] {
         NumberedMonitor::Link(told) => told.base_told(base),
         NumberedMonitor::Plain => unreachable!(),
         NumberedMonitor::Meet(_told) => unreachable!(),
@@ -38,21 +32,13 @@ fn hear_base(monitors: &mut Vec<NumberedMonitor>, node: u64, base: u32) -> Resul
 }
 
 // The monitor of an intersection hears that a part told the entity, and answers whether it is the last.
-fn hear_part(
-    monitors: &mut Vec<NumberedMonitor>,
-    node: u64,
-    part: u8,
-    who: u32,
-) -> Result<bool, AllocError>
-    requires { (x : MeetLines ℕ) × (slice_get monitors.old.items node ≡ Some (NumberedMonitor.Meet x)) × (part < x.parts) }
-    ensures heard { IfOk result (λ last. (nodes : List Expr) → IsOnce nodes
-        → AreMonitors nodes monitors.old.items → IsEntity nodes who
-        → PartHeard (monitors_at nodes monitors.old.items) (monitors_at nodes monitors.new.items)
-        node part (entity_at nodes who) last) }
-    ensures numbers { (nodes : List Expr) → AreMonitors nodes monitors.old.items → IsEntity nodes who
-        → AreMonitors nodes monitors.new.items }
+fn hear_part(found: &mut Findings, node: u64, part: u8, who: u32) -> Result<bool, AllocError>
+    requires entity { IsEntity found.old.graph.nodes who }
+    requires monitor { (x : MeetTold) × (slice_get found.old.monitors node ≡ Some (Monitor.Meet x)) × (part < x.parts) }
+    ensures { IfOk result (λ last. PartHeard found.old.monitors found.new.monitors node part (entity_at found.old.graph.nodes who) last
+        × (found.new ≡ record found.old { monitors = found.new.monitors })) }
 {
-    match &mut monitors[node as usize] {
+    match &mut found.monitors[node as usize] {
         NumberedMonitor::Meet(told) => told.part_told(part, who),
         NumberedMonitor::Plain => unreachable!(),
         NumberedMonitor::Link(_told) => unreachable!(),
@@ -60,14 +46,15 @@ fn hear_part(
 }
 
 // The role that the member of its base gives to the linked role at the node.
-fn given_role(graph: &Graph, node: u64, base: Entity) -> Expr
-    requires { (r : Role) × (name : List ℕ) × IsNode graph.now node (exprs.Link r name) }
+fn given_role(graph: &Graph, node: u64, base: u32) -> Expr
+    requires entity { IsEntity graph.now.nodes base }
+    requires link { (r : Role) × (name : List ℕ) × IsNode graph.now node (exprs.Link r name) }
     ensures { (r : Role) → (name : List ℕ) → IsNode graph.now node (exprs.Link r name)
-        → result ≡ exprs.Rol (record { owner = base; name = name }) }
+        → result ≡ exprs.Rol (record { owner = entity_at graph.now.nodes base; name = name }) }
 {
     match graph.expr(node) {
         Expr::Link(_base, name) => Expr::Rol(Role {
-            owner: base,
+            owner: graph.entity(base),
             name: *name,
         }),
         _ => unreachable!(),
@@ -82,29 +69,15 @@ fn told_base(alloc: Global, found: &mut Findings, node: u64, base: u32) -> Resul
     requires monitor { (x : LinkTold) × (slice_get found.old.monitors node ≡ Some (Monitor.Link x)) }
     ensures { OnOk result (TellsBase found.old found.new node (entity_at found.old.graph.nodes base)) }
 {
-    if !hear_base(&mut found.monitors, node, base)? {
+    if !hear_base(found, node, base)? {
         return Ok(());
     }
-    let who = found.graph.entity(base);
-    let role = given_role(&found.graph, node, who);
+    let role = given_role(found.graph(), node, base);
     ask(alloc, found, &role, Port::Via(base))
 }
 
-// An intersection hears that a part told the entity; with the last part it is a solution.
-fn told_part(found: &mut Findings, node: u64, part: u8, who: u32) -> Result<(), AllocError>
-    requires node { node < length found.old.graph.nodes }
-    requires entity { IsEntity found.old.graph.nodes who }
-    requires monitor { (x : MeetTold) × (slice_get found.old.monitors node ≡ Some (Monitor.Meet x)) × (part < x.parts) }
-    requires last { TellsLast found.old.graph found.old.monitors node part (entity_at found.old.graph.nodes who) }
-    ensures { OnOk result (TellsPart found.old found.new node part (entity_at found.old.graph.nodes who)) }
-{
-    if !hear_part(&mut found.monitors, node, part, who)? {
-        return Ok(());
-    }
-    solve(found, node, who, Reason::Parts)
-}
-
-// The node is told on a port, by the node that it listens to, that the entity is a member.
+// The node is told on a port, by the node that it listens to, that the entity is a member. Of an intersection it is a
+// solution once the last part has told it.
 pub(crate) fn take_in(
     alloc: Global,
     found: &mut Findings,
@@ -123,11 +96,16 @@ pub(crate) fn take_in(
 {
     match port {
         Port::Body => {
-            let body = found.graph.short(from);
+            let body = found.graph().short(from);
             solve(found, node, who, Reason::Body(body))
         }
         Port::Via(base) => solve(found, node, who, Reason::Via(base)),
         Port::Base => told_base(alloc, found, node, who),
-        Port::Part(part) => told_part(found, node, part, who),
+        Port::Part(part) => {
+            if !hear_part(found, node, part, who)? {
+                return Ok(());
+            }
+            solve(found, node, who, Reason::Parts)
+        }
     }
 }

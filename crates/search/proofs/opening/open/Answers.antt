@@ -6,19 +6,20 @@ use Rattle.credential_text.specs.declared.exprs.Expr.{Expr}
 use Rattle.credential_text.specs.declared.exprs.Expr.TheVariants.{Ent, Link, Meet}
 use Rattle.cred_graph.specs.declared.solutions.Reason.TheVariants as reason
 use Rattle.cred_graph.proofs.NumberLemmas.{entity_is}
-use Rattle.search.specs.Answers.{Progress, AsksEach, Opens, Solves, own_rows, part_asks}
+use Rattle.cred_graph.specs.Graph.{GraphState}
+use Rattle.search.specs.Answers.{AsksEach, Opens, Solves, own_rows, part_asks}
 use Rattle.search.proofs.opening.open.Goals as goal
 
 pub expr-requires : goal.expr-requires
-expr-requires c = subst (λ (s : Progress). c.args.node < length s.graph.nodes) (sym c.found.view_is) c.requires.node
+expr-requires c = subst (λ (g : GraphState). c.args.node < length g.nodes) (sym c.graph.ensures.graph) c.requires.node
 
 pub short-who-requires : goal.short-who-requires
-short-who-requires c = subst (λ (s : Progress). c.args.node < length s.graph.nodes) (sym c.found.view_is) c.requires.node
+short-who-requires c = subst (λ (g : GraphState). c.args.node < length g.nodes) (sym c.graph-in-Ent.ensures.graph) c.requires.node
 
 pub returns-in-Ent : goal.returns-in-Ent
 returns-in-Ent c =
     let nodes = c.args.found.now.graph.nodes in
-    let is : slice_get nodes c.args.node ≡ Some c.expr.result.now = subst (λ (s : Progress). slice_get s.graph.nodes c.args.node ≡ Some c.expr.result.now) c.found.view_is c.expr.ensures.node in
+    let is : slice_get nodes c.args.node ≡ Some c.expr.result.now = subst (λ (g : GraphState). slice_get g.nodes c.args.node ≡ Some c.expr.result.now) c.graph.ensures.graph c.expr.ensures.node in
     let at = is ∙ ap Some c.in-Ent.is in
     let named = entity_is nodes c.short-who.result c.in-Ent._who (ap (slice_get nodes) c.short-who.ensures ∙ at) in
     on_ok_weaker c.solve.result
@@ -29,7 +30,7 @@ returns-in-Ent c =
 pub solve-requires : goal.solve-requires
 solve-requires c =
     let nodes = c.args.found.now.graph.nodes in
-    let is : slice_get nodes c.args.node ≡ Some c.expr.result.now = subst (λ (s : Progress). slice_get s.graph.nodes c.args.node ≡ Some c.expr.result.now) c.found.view_is c.expr.ensures.node in
+    let is : slice_get nodes c.args.node ≡ Some c.expr.result.now = subst (λ (g : GraphState). slice_get g.nodes c.args.node ≡ Some c.expr.result.now) c.graph.ensures.graph c.expr.ensures.node in
     let at = is ∙ ap Some c.in-Ent.is in
     let there = ap (slice_get nodes) c.short-who.ensures ∙ at in
     let named = entity_is nodes c.short-who.result c.in-Ent._who there in
@@ -44,7 +45,7 @@ ask-requires c = tt
 pub returns-in-Link : goal.returns-in-Link
 returns-in-Link c =
     let nodes = c.args.found.now.graph.nodes in
-    let is : slice_get nodes c.args.node ≡ Some c.expr.result.now = subst (λ (s : Progress). slice_get s.graph.nodes c.args.node ≡ Some c.expr.result.now) c.found.view_is c.expr.ensures.node in
+    let is : slice_get nodes c.args.node ≡ Some c.expr.result.now = subst (λ (g : GraphState). slice_get g.nodes c.args.node ≡ Some c.expr.result.now) c.graph.ensures.graph c.expr.ensures.node in
     let at = is ∙ ap Some c.in-Link.is in
     on_ok_weaker c.ask.result
     (λ asks e there. subst (λ (x : Expr). Opens (own_rows c.args.snapshot.now.vaults x) c.args.found.now c.ask.new.found c.args.node x) (same_Some (Link c.in-Link.base c.in-Link._name) e (sym at ∙ there))
@@ -62,7 +63,7 @@ ask_parts-requires c = rw c.as_slice.ensures.parts c.as_slice.ensures.few
 pub returns-in_ok-parts-in-Meet : goal.returns-in_ok-parts-in-Meet
 returns-in_ok-parts-in-Meet c =
     let nodes = c.args.found.now.graph.nodes in
-    let is : slice_get nodes c.args.node ≡ Some c.expr.result.now = subst (λ (s : Progress). slice_get s.graph.nodes c.args.node ≡ Some c.expr.result.now) c.found.view_is c.expr.ensures.node in
+    let is : slice_get nodes c.args.node ≡ Some c.expr.result.now = subst (λ (g : GraphState). slice_get g.nodes c.args.node ≡ Some c.expr.result.now) c.graph.ensures.graph c.expr.ensures.node in
     let at = is ∙ ap Some c.in-Meet.is in
     let parts = c.as_slice.ensures.parts ∙ c.in_ok-parts-in-Meet.ensures in
     on_ok_weaker c.ask_parts.result

@@ -21,11 +21,11 @@ use Rattle.search.proofs.searches.Search.finish.Goals.{After-hint_is_right}
 -- the hint is right just where it is so of what the search has found
 right_here : (c : After-hint_is_right) → IsTrue c.hint_is_right.result ↔ ((e : Expr) → IsNode c.self.inside.found.graph c.in-Some.held.to e → c.args.hint ≡ right_hint c.deref.result.now.vaults (need_of e (load_at c.self.inside.found.graph.nodes c.in-Some.held.load)))
 right_here c =
-    subst (λ (g : GraphState). IsTrue c.hint_is_right.result ↔ ((e : Expr) → IsNode g c.in-Some.held.to e → c.args.hint ≡ right_hint c.deref.result.now.vaults (need_of e (load_at g.nodes c.in-Some.held.load)))) c.graph.ensures c.hint_is_right.ensures
+    subst (λ (g : GraphState). IsTrue c.hint_is_right.result ↔ ((e : Expr) → IsNode g c.in-Some.held.to e → c.args.hint ≡ right_hint c.deref.result.now.vaults (need_of e (load_at g.nodes c.in-Some.held.load)))) c.graph.ensures.graph c.hint_is_right.ensures
 
 pub hint_is_right-requires : goal.hint_is_right-requires
 hint_is_right-requires c =
-    subst (λ (g : GraphState). c.in-Some.held.to < length g.nodes) (sym c.graph.ensures)
+    subst (λ (g : GraphState). c.in-Some.held.to < length g.nodes) (sym c.graph.ensures.graph)
     (node_in (held_awaits (the_view c.self.inside) c.self.invariant.0.rules c.args.letter (held_at c.self.inside.found.graph.nodes c.in-Some.held) (c.in-Some.ensures.held c.self.inside.found.graph.nodes)))
 
 pub returns-then-not-hint_is_right-clause-finishes : goal.returns-then-not-hint_is_right-clause-finishes

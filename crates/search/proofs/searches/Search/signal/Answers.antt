@@ -9,15 +9,15 @@ use Rattle.search.proofs.Ended.{signal_settles}
 use Rattle.search.proofs.searches.Search.signal.Goals as goal
 
 pub invariant_of-self : goal.invariant_of-self
-invariant_of-self c = rw (c.tidy.ensures.0, c.tidy.ensures.1) (
-  delivered_kept (the_view c.self.inside) (stage_at c.self.inside.found.graph.nodes c.deliver-delivered.new.stage) c.args.place c.deliver-delivered.result c.self.invariant.0 (c.deliver-delivered.ensures.delivers c.self.inside.found.graph.nodes),
-  c.deliver-delivered.ensures.loads c.self.inside.found.graph.nodes c.self.invariant.1,
+invariant_of-self c = rw (c.deliver.ensures.findings.0, c.deliver.ensures.findings.1) (
+  delivered_kept (the_view c.self.inside) (stage_at c.self.inside.found.graph.nodes c.deliver.new.stage) c.args.place c.deliver.result c.self.invariant.0 (c.deliver.ensures.delivers c.self.inside.found.graph.nodes),
+  c.deliver.ensures.loads c.self.inside.found.graph.nodes c.self.invariant.1,
 )
 
 pub returns-clause-delivered : goal.returns-clause-delivered
-returns-clause-delivered c = rw (c.tidy.ensures.0)
-    (subst (λ (s : SearchState). Delivers s.stage (stage_at c.self.inside.found.graph.nodes c.deliver-delivered.new.stage) c.args.place c.deliver-delivered.result) c.self.view_is (c.deliver-delivered.ensures.delivers c.self.inside.found.graph.nodes))
+returns-clause-delivered c = rw (c.deliver.ensures.findings.0)
+    (subst (λ (s : SearchState). Delivers s.stage (stage_at c.self.inside.found.graph.nodes c.deliver.new.stage) c.args.place c.deliver.result) c.self.view_is (c.deliver.ensures.delivers c.self.inside.found.graph.nodes))
 
 pub returns-clause-settles : goal.returns-clause-settles
-returns-clause-settles c = rw (c.tidy.ensures.0, c.tidy.ensures.1)
-    (signal_settles (stage_at c.self.inside.found.graph.nodes c.deliver-delivered.new.stage) c.args.place c.deliver-delivered.result c.self.view_is c.self.invariant.0 (c.deliver-delivered.ensures.delivers c.self.inside.found.graph.nodes))
+returns-clause-settles c = rw (c.deliver.ensures.findings.0, c.deliver.ensures.findings.1)
+    (signal_settles (stage_at c.self.inside.found.graph.nodes c.deliver.new.stage) c.args.place c.deliver.result c.self.view_is c.self.invariant.0 (c.deliver.ensures.delivers c.self.inside.found.graph.nodes))

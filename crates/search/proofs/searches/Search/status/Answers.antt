@@ -12,7 +12,7 @@ use Rattle.search.proofs.searches.Search.status.Goals.{After-status_at}
 -- the status, by what the search is seen as
 status_here : (c : After-status_at) → c.status_at.result ≡ status_of (come_to (stage_at c.self.inside.found.graph.nodes c.self.inside.stage) c.self.inside.found.graph c.self.inside.query)
 status_here c =
-    subst (λ (g : GraphState). c.status_at.result ≡ status_of (come_to (stage_at c.self.inside.found.graph.nodes c.self.inside.stage) g c.self.inside.query)) c.graph.ensures (c.status_at.ensures.is c.self.inside.found.graph.nodes)
+    subst (λ (g : GraphState). c.status_at.result ≡ status_of (come_to (stage_at c.self.inside.found.graph.nodes c.self.inside.stage) g c.self.inside.query)) c.graph.ensures.graph (c.status_at.ensures.is c.self.inside.found.graph.nodes)
 
 pub returns-clause-is : goal.returns-clause-is
 returns-clause-is c = status_is c.self.view_is (status_here c)

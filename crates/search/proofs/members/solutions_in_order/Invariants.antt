@@ -1,6 +1,6 @@
 use Rattle.std.proofs.Common.{◌≡◌, ◌≤◌, take, vec_len, vec_capacity}
 use Rattle.cred_graph.specs.Graph.{members_of}
-use Rattle.search.proofs.members.solutions_of.Given as goal
+use Rattle.search.proofs.members.solutions_in_order.Given as goal
 
 abbrev pub invariant-loop-place : goal.invariant-loop-place
 invariant-loop-place l = record {
