@@ -27,6 +27,7 @@ Tables = List (List KeptListening) × List (Solved × Reason ℕ ℕ)
 pub stored : (nodes strangers : List Expr) (tables : Tables) → nodes ≡ [] → strangers ≡ [] → tables ≡ ([], []) → IsStored nodes strangers tables.0 tables.1
 stored nodes strangers tables a b c = rw (a, b, c) (record {
   graph = empty;
+  short = omega arith;
   once = λ i j x p q. no_place i x p;
   asked = λ n above. refl;
   ports = λ n l there. absurd (omega (arith, there.1));

@@ -62,14 +62,14 @@ module _ (nodes : List Expr) (strangers : List Expr) (lists : List (List KeptLis
   pub no_such_entity : (n : ℕ) (who : List ℕ) → IsStored nodes strangers lists entries → (Contains nodes (Ent who) → ⊥) → IsSolution g n who → ⊥
   no_such_entity n who stored absent solution = absent (solver_has_node g stored.graph n who solution)
 
-  pub no_such_solution : (n node k : ℕ) (who : List ℕ) → IsStored nodes strangers lists entries → node ≡ n → slice_get nodes k ≡ Some (Ent who) →
-      (HasKey entries (record { node = node; who = k }) → ⊥) → IsSolution g n who → ⊥
-  no_such_solution n node k who stored same at absent solution =
-      absent (solution_stored nodes strangers lists entries stored (record { node = node; who = k }) (who, at) (rw (same, entity_is nodes k who at) solution))
+  pub no_such_solution : (n k : ℕ) (who : List ℕ) → IsStored nodes strangers lists entries → slice_get nodes k ≡ Some (Ent who) →
+      (HasKey entries (record { node = n; who = k }) → ⊥) → IsSolution g n who → ⊥
+  no_such_solution n k who stored at absent solution =
+      absent (solution_stored nodes strangers lists entries stored (record { node = n; who = k }) (who, at) (rw (entity_is nodes k who at) solution))
 
-  pub reason_read : (n node k place : ℕ) (who : List ℕ) (r : Reason ℕ ℕ) (why : Reason ℕ (List ℕ)) → node ≡ n → slice_get nodes k ≡ Some (Ent who) →
-      slice_get entries place ≡ Some (record { node = node; who = k }, r) → why ≡ reason_at nodes r →
+  pub reason_read : (n k place : ℕ) (who : List ℕ) (r : Reason ℕ ℕ) (why : Reason ℕ (List ℕ)) → slice_get nodes k ≡ Some (Ent who) →
+      slice_get entries place ≡ Some (record { node = n; who = k }, r) → why ≡ reason_at nodes r →
       slice_get g.solutions place ≡ Some (record { node = n; who = who; reason = why })
-  reason_read n node k place who r why same at entry is =
-      seen_at (solution_as nodes) entries place (record { node = node; who = k }, r) entry ∙
-      (λ i. Some (record { node = same i; who = entity_is nodes k who at i; reason = (sym is) i }))
+  reason_read n k place who r why at entry is =
+      seen_at (solution_as nodes) entries place (record { node = n; who = k }, r) entry ∙
+      (λ i. Some (record { node = n; who = entity_is nodes k who at i; reason = (sym is) i }))

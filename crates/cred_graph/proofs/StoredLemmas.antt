@@ -1,5 +1,5 @@
 -- The tables stand for a graph, and stay one where a node, a listener or a solution is added.
-use Rattle.std.proofs.Common.{ℕ, zero, suc, ◌+◌, ◌<◌, ◌≡◌, ◌==◌, ◌∙◌, ap, refl, sym, subst, inl, inr, arith, zero-add, add-zero, true, List, [], ◌∷◌, ◌++◌, Some, Contains, get_or, length, map, set, slice_get}
+use Rattle.std.proofs.Common.{ℕ, zero, suc, ◌+◌, ◌^◌, ◌<◌, ◌≡◌, ◌==◌, ◌∙◌, ap, refl, sym, subst, inl, inr, arith, zero-add, add-zero, true, List, [], ◌∷◌, ◌++◌, Some, Contains, get_or, length, map, set, slice_get}
 use Rattle.std.proofs.lemmas.Bool.{cases_eq, cond-true, cond-false, eq-eqb, ne_eqb}
 use Rattle.std.proofs.lemmas.List.{length-set, length_push, map_push, ext_get_or, get_or-set_same, get_or-set_other}
 use Rattle.std.proofs.lemmas.List.Elements.{Contains-push_cases}
@@ -13,7 +13,7 @@ use Rattle.cred_graph.specs.declared.solutions.Reason.{Reason}
 use Rattle.cred_graph.specs.declared.solutions.Solved.{Solved}
 use Rattle.cred_graph.specs.Graph.{IsSolution, Listens, Fits, IsGraph, NodeGiven}
 use Rattle.cred_graph.specs.Numbers.{IsEntity, IsReason, entity_at, reason_at}
-use Rattle.cred_graph.specs.NodeLists.{list_at, AreSame, AddsAt}
+use Rattle.cred_graph.specs.NodeLists.{list_at, AreSame, AreShort, AddsAt}
 use Rattle.cred_graph.specs.Stored.{IsKept, Joins, listening_as, lists_from, HasKey, solution_as, graph_as, IsStored}
 use Rattle.cred_graph.proofs.Growth.{listed_with, with_node, with_listener, with_solution, graph_with_node, graph_with_listener, graph_with_solution}
 use Rattle.cred_graph.proofs.KeptLemmas.{kept_with_node, same_with_node, kept_joined, same_joined, once_joined, listens_kept, listens_as}
@@ -105,9 +105,10 @@ node_view nodes strangers lists entries e stored =
     λ i. record { nodes = nodes ++ e ∷ []; listeners = listened i; solutions = solved i }
 
 pub stored-node : (nodes : List Expr) (strangers : List Expr) (lists : List (List KeptListening)) (entries : List (Solved × Reason ℕ ℕ)) (e : Expr) → IsStored nodes strangers lists entries →
-    (Contains nodes e → ⊥) → HasPartsInRange e → IsStored (nodes ++ e ∷ []) strangers lists entries
-stored-node nodes strangers lists entries e stored absent range = record {
+    (Contains nodes e → ⊥) → HasPartsInRange e → AreShort (nodes ++ e ∷ []) → IsStored (nodes ++ e ∷ []) strangers lists entries
+stored-node nodes strangers lists entries e stored absent range short = record {
   graph = subst IsGraph (sym (node_view nodes strangers lists entries e stored)) (graph_with_node (graph_as nodes strangers lists entries) e stored.graph absent range);
+  short = short;
   once = stored.once;
   asked = λ n beyond. stored.asked n (omega (arith, length_push nodes e));
   ports = λ n l there. kept_with_node nodes (e ∷ []) strangers l.port (stored.ports n l there);
@@ -129,6 +130,7 @@ pub stored-joined : (nodes : List Expr) (strangers names : List Expr) (lists aft
     Joins nodes strangers names → AreSame lists after → IsStored nodes names after entries
 stored-joined nodes strangers names lists after entries stored joins same = record {
   graph = subst IsGraph (sym (joined_view nodes strangers names lists after entries stored joins same)) stored.graph;
+  short = stored.short;
   once = once_joined nodes strangers names joins stored.once;
   asked = λ n beyond. same n ∙ stored.asked n beyond;
   ports = λ n l there. kept_joined nodes strangers names joins l.port (stored.ports n l (subst (λ ls. Contains ls l) (same n) there));
@@ -162,6 +164,7 @@ stored-listener nodes strangers lists after entries n l stored asked asker is ab
   graph = subst IsGraph (sym (listener_view nodes strangers lists after entries n l asked adds))
       (graph_with_listener (graph_as nodes strangers lists entries) n (listening_as nodes strangers l) stored.graph
       (λ listens. absent (listens_stored nodes strangers lists entries stored n l asked is listens)) asked asker);
+  short = stored.short;
   once = stored.once;
   asked = λ m beyond. adds m ∙ cond-false (m == n) (list_at lists m ++ l ∷ []) (list_at lists m) (ne_eqb m n (λ same. omega (arith, same))) ∙ stored.asked m beyond;
   ports = λ m k there. elim (cases_eq m n) [
@@ -210,6 +213,7 @@ stored-solution nodes strangers lists entries after key r stored who why absent 
   graph = subst IsGraph (sym (solution_view nodes strangers lists entries after key r added))
       (graph_with_solution (graph_as nodes strangers lists entries) (solution_as nodes (key, r)) stored.graph
       (λ solution. absent (solution_stored nodes strangers lists entries stored key who solution)) fits);
+  short = stored.short;
   once = stored.once;
   asked = stored.asked;
   ports = stored.ports;
@@ -226,9 +230,9 @@ stored-solution nodes strangers lists entries after key r stored who why absent 
 -- what the calls give
 
 pub node_stored : (nodes after : List Expr) (strangers : List Expr) (lists : List (List KeptListening)) (entries : List (Solved × Reason ℕ ℕ)) (e : Expr) → IsStored nodes strangers lists entries →
-    (Contains nodes e → ⊥) → HasPartsInRange e → after ≡ nodes ++ e ∷ [] → IsStored after strangers lists entries
-node_stored nodes after strangers lists entries e stored absent range is =
-    subst (λ ns. IsStored ns strangers lists entries) (sym is) (stored-node nodes strangers lists entries e stored absent range)
+    (Contains nodes e → ⊥) → HasPartsInRange e → after ≡ nodes ++ e ∷ [] → length nodes < 2 ^ 32 → IsStored after strangers lists entries
+node_stored nodes after strangers lists entries e stored absent range is room =
+    subst (λ ns. IsStored ns strangers lists entries) (sym is) (stored-node nodes strangers lists entries e stored absent range (omega (arith, length_push nodes e)))
 
 pub node_given : (nodes after : List Expr) (strangers : List Expr) (lists : List (List KeptListening)) (entries : List (Solved × Reason ℕ ℕ)) (e : Expr) (n : ℕ) → IsStored nodes strangers lists entries →
     (Contains nodes e → ⊥) → HasPartsInRange e → after ≡ nodes ++ e ∷ [] → n ≡ length nodes →

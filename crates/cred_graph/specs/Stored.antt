@@ -11,7 +11,7 @@ use Rattle.cred_graph.specs.declared.listeners.KeptListening.{KeptListening}
 use Rattle.cred_graph.specs.declared.ports.KeptPort.{KeptPort}
 use Rattle.cred_graph.specs.declared.ports.KeptPort.TheVariants as kept
 use Rattle.cred_graph.specs.Numbers.{entity_at, reason_at, IsEntity, IsReason}
-use Rattle.cred_graph.specs.NodeLists.{list_at, AddsAt, AreSame, IsOnce}
+use Rattle.cred_graph.specs.NodeLists.{list_at, AddsAt, AreSame, AreShort, IsOnce}
 use Rattle.cred_graph.specs.declared.solutions.Reason.{Reason}
 use Rattle.cred_graph.specs.declared.solutions.Solution.{Solution}
 use Rattle.cred_graph.specs.declared.solutions.Solved.{Solved}
@@ -99,6 +99,7 @@ graph_as nodes strangers lists entries = record {
 pub record IsStored (nodes : List Expr) (strangers : List Expr) (lists : List (List KeptListening))
     (entries : List (Solved × Reason ℕ ℕ)) : Type 0 where
   pub graph : IsGraph (graph_as nodes strangers lists entries)
+  pub short : AreShort nodes
   pub once : IsOnce strangers
   pub asked : (n : ℕ) → length nodes ≤ n → list_at lists n ≡ []
   pub ports : (n : ℕ) (l : KeptListening) → Contains (list_at lists n) l → IsKept nodes strangers l.port

@@ -2,7 +2,7 @@ ghost use Rattle.std.specs.Prelude.{◌≡◌, ◌↔◌, ◌<◌, ◌≤◌, �
 ghost use Rattle.std.specs.Prelude.{IfOk, OnOk, OnErr, MatchOption, Contains};
 
 use crate::listeners::KeptListening;
-use crate::rooms::{kept_room, kept_when_empty};
+use crate::rooms::{kept_room, kept_when_empty, room_for_one};
 use crate::rows::{Row, add_listener, add_member};
 use crate::solutions::{Reason, Solved};
 use crate::solved_hashes::SolvedHasher;
@@ -13,12 +13,6 @@ use std::marker::Model;
 
 /// So many listeners of a node are looked through one by one.
 const NEAR: usize = 8;
-
-/// Room for so many solutions is made with the first one, as many as sixteen groups of a map's index take.
-const FIRST_ROOM: usize = 144;
-
-/// A table of fewer solutions grows fourfold, so that it is moved and indexed anew less often.
-const SMALL: usize = 4096;
 
 /// The listeners of each node, each once and in order of adding, and the solutions of all nodes with their reasons, in
 /// order of adding. Entities are spoken of by number. A node's row has its listeners and who its solutions are; listeners
@@ -96,9 +90,11 @@ impl Tables {
     pub fn listeners(&self, n: u32) -> &[KeptListening]
         ensures { result.now ≡ list_at self.now.0 n }
     {
-        match self.rows.as_slice().get(n as usize) {
-            Some(row) => row.listeners.as_slice(),
-            None => &[],
+        let n = n as usize;
+        if n < self.rows.len() {
+            self.rows[n].listeners.as_slice()
+        } else {
+            &[]
         }
     }
 
@@ -115,11 +111,10 @@ impl Tables {
         ensures { IsTrue result ↔ Contains (list_at self.now.0 n) listening.now }
     {
         let list = self.listeners(n);
-        let (near, others) = list.split_at(list.len().min(NEAR));
-        if near.contains(listening) {
-            return true;
+        if list.len() <= NEAR {
+            return list.contains(listening);
         }
-        !others.is_empty() && self.far.contains(&(n, *listening))
+        list[..NEAR].contains(listening) || self.far.contains(&(n, *listening))
     }
 
     /// Lets the node have the listener, and answers whether that is new.
@@ -187,32 +182,22 @@ impl Tables {
         ensures unchanged { OnErr result (self.new.1 ≡ self.old.1) }
         ensures listeners { AreSame self.old.0 self.new.0 }
     {
-        let room = self.room_for_one();
+        let room = room_for_one(self.reasons.len(), self.reasons.capacity());
         self.reasons.reserve(room)?;
         add_member(&mut self.rows, solved.node, solved.who)?;
         let _earlier = self.reasons.insert(solved, reason).unwrap();
         Ok(())
     }
 
-    /// For how many solutions room is made where it is asked for one: a table that is still small grows fourfold.
-    fn room_for_one(&self) -> usize
-        ensures { 1 ≤ result }
-    {
-        let count = self.reasons.len();
-        if count == self.reasons.capacity() {
-            (3 * count.min(SMALL)).max(FIRST_ROOM)
-        } else {
-            1
-        }
-    }
-
     /// The numbers of the node's solutions.
     pub fn members(&self, n: u32) -> &[u32]
         ensures { result.now ≡ members_by n self.now.1 }
     {
-        match self.rows.as_slice().get(n as usize) {
-            Some(row) => row.members.as_slice(),
-            None => &[],
+        let n = n as usize;
+        if n < self.rows.len() {
+            self.rows[n].members.as_slice()
+        } else {
+            &[]
         }
     }
 
