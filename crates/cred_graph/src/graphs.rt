@@ -5,7 +5,7 @@ use crate::listeners::{KeptListening, Port};
 use crate::nodes::Nodes;
 use crate::ports::{keep_port, kept_port, port_name, port_number};
 use crate::reasons::{reason_name, reason_number};
-use crate::solutions::{Reason, Solved};
+use crate::solutions::Reason;
 use crate::tables::Tables;
 use credential_text::Expr;
 use names::Entity;
@@ -208,11 +208,7 @@ impl Graph {
         let Some(number) = self.nodes.entity_number(who) else {
             return None;
         };
-        let solved = Solved {
-            node: n as u32,
-            who: number,
-        };
-        match self.tables.find(&solved) {
+        match self.tables.find(n as u32, number) {
             Some((place, reason)) => Some((place, reason_name(&self.nodes, reason))),
             None => None,
         }
@@ -296,13 +292,7 @@ impl Graph {
         ensures growth { OnErr result (IsSolution self.old n (entity_at self.old.nodes who) → ⊥) }
         ensures unchanged { OnErr result (self.new ≡ self.old) }
     {
-        self.tables.add_solution(
-            Solved {
-                node: n as u32,
-                who,
-            },
-            reason,
-        )
+        self.tables.add_solution(n as u32, who, reason)
     }
 
     /// As `solution`, by its number.

@@ -4,7 +4,7 @@ ghost use Rattle.std.specs.Prelude.{IfOk, OnOk, OnErr, MatchOption, Contains};
 use crate::listeners::KeptListening;
 use crate::rooms::{kept_room, kept_when_empty, room_for_one};
 use crate::rows::{Row, add_listener, add_member};
-use crate::solutions::{Reason, Solved};
+use crate::solutions::Reason;
 use crate::solved_hashes::SolvedHasher;
 use indexmap::{IndexMap, IndexSet};
 use std::alloc::{AllocError, Global};
@@ -21,17 +21,17 @@ const NEAR: usize = 8;
 pub struct Tables {
     rows: Vec<Row>,
     far: IndexSet<(u32, KeptListening)>,
-    reasons: IndexMap<Solved, Reason<u32, u32>, BuildHasherDefault<SolvedHasher>>,
+    // By the numbers of the node and of the entity.
+    reasons: IndexMap<(u32, u32), Reason<u32, u32>, BuildHasherDefault<SolvedHasher>>,
 }
 
 impl Model for Tables {
     ghost use Rattle.std.specs.Prelude.{ℕ, List, map};
     ghost use Rattle.cred_graph.specs.declared.listeners.KeptListening.{KeptListening};
-    ghost use Rattle.cred_graph.specs.declared.solutions.Solved.{Solved};
     ghost use Rattle.cred_graph.specs.declared.solutions.Reason.{Reason};
     ghost use Rattle.cred_graph.specs.Stored.{AreFar, AreMembers};
 
-    ghost Value = { List (List KeptListening) × List (Solved × Reason ℕ ℕ) };
+    ghost Value = { List (List KeptListening) × List ((ℕ × ℕ) × Reason ℕ ℕ) };
 
     ghost view = { λ t. (map (λ r. r.listeners.items) t.rows.items, t.reasons.entries) };
 
@@ -148,10 +148,10 @@ impl Tables {
     }
 
     /// The place of the solution, and its reason, if it is there.
-    pub fn find(&self, solved: &Solved) -> Option<(u64, Reason<u32, u32>)>
-        ensures { MatchOption result (HasKey self.now.1 solved.now → ⊥) (λ r. slice_get self.now.1 r.0 ≡ Some (solved.now, r.1)) }
+    pub fn find(&self, node: u32, who: u32) -> Option<(u64, Reason<u32, u32>)>
+        ensures { MatchOption result (HasKey self.now.1 (node, who) → ⊥) (λ r. slice_get self.now.1 r.0 ≡ Some ((node, who), r.1)) }
     {
-        match self.reasons.get_full(solved) {
+        match self.reasons.get_full(&(node, who)) {
             Some((place, _solved, reason)) => Some((place as u64, *reason)),
             None => None,
         }
@@ -160,32 +160,38 @@ impl Tables {
     /// Adds a solution, and answers whether that is new. The first reason stays.
     pub fn add_solution(
         &mut self,
-        solved: Solved,
+        node: u32,
+        who: u32,
         reason: Reason<u32, u32>,
     ) -> Result<bool, AllocError>
-        ensures ok { IfOk result (λ new. Solves self.old.1 self.new.1 solved reason new) }
-        ensures growth { OnErr result (HasKey self.old.1 solved → ⊥) }
+        ensures ok { IfOk result (λ new. Solves self.old.1 self.new.1 (node, who) reason new) }
+        ensures growth { OnErr result (HasKey self.old.1 (node, who) → ⊥) }
         ensures unchanged { OnErr result (self.new.1 ≡ self.old.1) }
         ensures listeners { AreSame self.old.0 self.new.0 }
     {
-        if let Some(_found) = self.find(&solved) {
+        if let Some(_found) = self.find(node, who) {
             return Ok(false);
         }
-        self.push_solution(solved, reason)?;
+        self.push_solution(node, who, reason)?;
         Ok(true)
     }
 
     /// Adds a solution that isn't there.
-    fn push_solution(&mut self, solved: Solved, reason: Reason<u32, u32>) -> Result<(), AllocError>
-        requires { HasKey self.old.1 solved → ⊥ }
-        ensures added { OnOk result (self.new.1 ≡ self.old.1 ++ (solved, reason) ∷ []) }
+    fn push_solution(
+        &mut self,
+        node: u32,
+        who: u32,
+        reason: Reason<u32, u32>,
+    ) -> Result<(), AllocError>
+        requires { HasKey self.old.1 (node, who) → ⊥ }
+        ensures added { OnOk result (self.new.1 ≡ self.old.1 ++ ((node, who), reason) ∷ []) }
         ensures unchanged { OnErr result (self.new.1 ≡ self.old.1) }
         ensures listeners { AreSame self.old.0 self.new.0 }
     {
         let room = room_for_one(self.reasons.len(), self.reasons.capacity());
         self.reasons.reserve(room)?;
-        add_member(&mut self.rows, solved.node, solved.who)?;
-        let _earlier = self.reasons.insert(solved, reason).unwrap();
+        add_member(&mut self.rows, node, who)?;
+        let _earlier = self.reasons.insert((node, who), reason).unwrap();
         Ok(())
     }
 

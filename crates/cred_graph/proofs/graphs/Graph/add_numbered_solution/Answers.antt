@@ -11,7 +11,7 @@ invariant_of-self c =
     let entity = rw (← c.self.view_is) at c.requires.entity in
     let reason = rw (← c.self.view_is) at c.requires.reason in
     let fits = rw (← c.self.view_is) at c.requires.fits in
-    kept_by c.self.inside.nodes c.self.inside.strangers c.self.inside.tables.0 c.add_solution.new.self.0 c.self.inside.tables.1 c.add_solution.new.self.1 c.self.invariant c.add_solution.ensures.listeners (record { node = c.args.n; who = c.args.who }) c.args.reason entity reason
+    kept_by c.self.inside.nodes c.self.inside.strangers c.self.inside.tables.0 c.add_solution.new.self.0 c.self.inside.tables.1 c.add_solution.new.self.1 c.self.invariant c.add_solution.ensures.listeners (c.args.n, c.args.who) c.args.reason entity reason
     fits c.add_solution.result c.add_solution.ensures.ok c.add_solution.ensures.unchanged
 
 -- what the call gives
@@ -30,7 +30,7 @@ given c =
     let fits = rw (← c.self.view_is) at c.requires.fits in
     rw (← c.self.view_is)
     (found_by c.self.inside.nodes c.self.inside.strangers c.self.inside.tables.0 c.add_solution.new.self.0 c.self.inside.tables.1
-    c.add_solution.new.self.1 c.self.invariant c.add_solution.ensures.listeners (record { node = c.args.n; who = c.args.who }) c.args.reason entity
+    c.add_solution.new.self.1 c.self.invariant c.add_solution.ensures.listeners (c.args.n, c.args.who) c.args.reason entity
     reason fits c.add_solution.result c.add_solution.ensures.ok c.add_solution.ensures.growth c.add_solution.ensures.unchanged)
 
 pub returns-clause-ok : goal.returns-clause-ok

@@ -39,4 +39,4 @@ returns-in-None-clause-earlier c = tt
 
 pub reason_name-requires : goal.reason_name-requires
 reason_name-requires c =
-    c.self.invariant.reasons c.in-Some-find.place (record { node = c.args.n; who = c.in-Some.number }, c.in-Some-find.reason) c.in-Some-find.ensures
+    c.self.invariant.reasons c.in-Some-find.place ((c.args.n, c.in-Some.number), c.in-Some-find.reason) c.in-Some-find.ensures

@@ -5,7 +5,7 @@ use Rattle.cred_graph.proofs.tables.Tables.add_solution.Goals as goal
 
 pub returns-in-Some : goal.returns-in-Some
 returns-in-Some c = record {
-  ok = ((c.in-Some._found.1, Contains-at_place c.args.self.now.1 c.in-Some._found.0 (c.args.solved, c.in-Some._found.1) c.in-Some.ensures), refl);
+  ok = ((c.in-Some._found.1, Contains-at_place c.args.self.now.1 c.in-Some._found.0 ((c.args.node, c.args.who), c.in-Some._found.1) c.in-Some.ensures), refl);
   growth = tt;
   unchanged = tt;
   listeners = λ m. refl;

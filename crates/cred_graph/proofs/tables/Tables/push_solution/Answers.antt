@@ -20,9 +20,9 @@ pub invariant_of-self-2 : goal.invariant_of-self-2
 invariant_of-self-2 c =
     let absent = rw (← c.self.view_is) at c.requires in
     let inserted = rw c.unwrap-earlier.ensures at c.insert.ensures.entries in
-    let entries = entry_added c.self.inside.reasons.entries _ _ c.args.solved c.args.reason absent c.in_ok-reserve.ensures.entries inserted in (
+    let entries = entry_added c.self.inside.reasons.entries _ _ (c.args.node, c.args.who) c.args.reason absent c.in_ok-reserve.ensures.entries inserted in (
       far_same (listeners_in c.self.inside.rows.items) _ c.self.inside.far.keys _ c.self.invariant.0 refl c.in_ok-add_member.ensures.listeners,
-      members_added c.self.inside.reasons.entries _ (members_in c.self.inside.rows.items) _ c.args.solved c.args.reason c.self.invariant.1 c.in_ok-add_member.ensures.added entries,
+      members_added c.self.inside.reasons.entries _ (members_in c.self.inside.rows.items) _ (c.args.node, c.args.who) c.args.reason c.self.invariant.1 c.in_ok-add_member.ensures.added entries,
     )
 
 pub returns-in_err-reserve : goal.returns-in_err-reserve
@@ -44,7 +44,7 @@ returns c =
     let absent = rw (← c.self.view_is) at c.requires in
     let inserted = rw c.unwrap-earlier.ensures at c.insert.ensures.entries in
     record {
-      added = rw (← c.self.view_is) (entry_added c.self.inside.reasons.entries _ _ c.args.solved c.args.reason absent c.in_ok-reserve.ensures.entries inserted);
+      added = rw (← c.self.view_is) (entry_added c.self.inside.reasons.entries _ _ (c.args.node, c.args.who) c.args.reason absent c.in_ok-reserve.ensures.entries inserted);
       unchanged = tt;
       listeners = rw (← c.self.view_is) c.in_ok-add_member.ensures.listeners;
     }
