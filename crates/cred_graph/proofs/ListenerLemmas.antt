@@ -1,6 +1,6 @@
 -- Listeners in their lists and in the table of those beyond the first 8 of a node.
-use Rattle.std.proofs.Common.{ℕ, ◌≡◌, ◌==◌, ◌≤◌, ◌<◌, ◌∙◌, ◌↔◌, IsTrue, ap, refl, sym, subst, inl, inr, arith}
-use Rattle.std.proofs.Common.{Bool, true, false, true≢false, List, [], ◌∷◌, ◌++◌, Contains, drop, length, take, Result, Ok, Err, OnOk, OnErr}
+use Rattle.std.proofs.Common.{ℕ, ◌≡◌, ◌==◌, ◌≤◌, ◌<◌, ◌∙◌, ◌↔◌, IsTrue, ap, sym, subst, inl, inr, arith}
+use Rattle.std.proofs.Common.{Bool, true, false, true≢false, List, [], ◌∷◌, ◌++◌, Contains, drop, length, take}
 use Rattle.std.specs.Bool.{Decides}
 use Rattle.std.specs.List.{list_any}
 use Rattle.std.proofs.lemmas.Bool.{cases_eq, cond-true, cond-false, eq-eqb, ne_eqb}
@@ -65,7 +65,7 @@ module _ (lists : List (List KeptListening)) (n : ℕ) (l : KeptListening) (list
         )
 
 -- the table stays where a list with room among the first gets one more
-far_near : (lists after : List (List KeptListening)) (rows : List (ℕ × KeptListening)) (n : ℕ) (l : KeptListening) → AreFar lists rows → length (list_at lists n) < 8 → AddsAt lists after n l → AreFar after rows
+pub far_near : (lists after : List (List KeptListening)) (rows : List (ℕ × KeptListening)) (n : ℕ) (l : KeptListening) → AreFar lists rows → length (list_at lists n) < 8 → AddsAt lists after n l → AreFar after rows
 far_near lists after rows n l are room adds m k =
     let same : drop 8 (list_at after m) ≡ drop 8 (list_at lists m) = elim (cases_eq m n) [
       | inl here ↦
@@ -80,12 +80,6 @@ pub far_same : (lists after : List (List KeptListening)) (rows mid : List (ℕ �
 far_same lists after rows mid are same lists_same n l =
     subst (λ rs. Contains rs (n, l) ↔ Contains (drop 8 (list_at after n)) l) (sym same)
     (subst (λ xs. Contains rows (n, l) ↔ Contains (drop 8 xs) l) (sym (lists_same n)) (are n l))
-
--- the table stays where a list with room among the first is to get one more
-pub far_kept : {T E : Type 0} (lists after : List (List KeptListening)) (rows : List (ℕ × KeptListening)) (n : ℕ) (l : KeptListening) → AreFar lists rows → length (list_at lists n) < 8 →
-    (r : Result T E) → OnOk r (AddsAt lists after n l) → OnErr r (AreSame lists after) → AreFar after rows
-far_kept lists after rows n l are room (Ok x) adds same = far_near lists after rows n l are room adds
-far_kept lists after rows n l are room (Err e) adds same = far_same lists after rows rows are refl same
 
 -- a listener that isn't there goes last in the table too
 pub far_added : (lists after : List (List KeptListening)) (rows mid new : List (ℕ × KeptListening)) (n : ℕ) (l : KeptListening) → AreFar lists rows →

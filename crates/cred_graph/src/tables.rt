@@ -127,24 +127,14 @@ impl Tables {
         if self.has(n, &listening) {
             return Ok(false);
         }
-        self.push_listener(n, listening)?;
-        Ok(true)
-    }
-
-    /// Adds a listener that the node doesn't have.
-    fn push_listener(&mut self, n: u32, listening: KeptListening) -> Result<(), AllocError>
-        requires { Contains (list_at self.old.0 n) listening → ⊥ }
-        ensures added { OnOk result (AddsAt self.old.0 self.new.0 n listening) }
-        ensures unchanged { OnErr result (AreSame self.old.0 self.new.0) }
-        ensures solutions { self.new.1 ≡ self.old.1 }
-    {
         if self.listeners(n).len() < NEAR {
-            return add_listener(&mut self.rows, n, listening);
+            add_listener(&mut self.rows, n, listening)?;
+            return Ok(true);
         }
         self.far.reserve(1)?;
         add_listener(&mut self.rows, n, listening)?;
         let _is_new = self.far.insert((n, listening)).unwrap();
-        Ok(())
+        Ok(true)
     }
 
     /// The place of the solution, and its reason, if it is there.
@@ -172,27 +162,11 @@ impl Tables {
         if let Some(_found) = self.find(node, who) {
             return Ok(false);
         }
-        self.push_solution(node, who, reason)?;
-        Ok(true)
-    }
-
-    /// Adds a solution that isn't there.
-    fn push_solution(
-        &mut self,
-        node: u32,
-        who: u32,
-        reason: Reason<u32, u32>,
-    ) -> Result<(), AllocError>
-        requires { HasKey self.old.1 (node, who) → ⊥ }
-        ensures added { OnOk result (self.new.1 ≡ self.old.1 ++ ((node, who), reason) ∷ []) }
-        ensures unchanged { OnErr result (self.new.1 ≡ self.old.1) }
-        ensures listeners { AreSame self.old.0 self.new.0 }
-    {
         let room = room_for_one(self.reasons.len(), self.reasons.capacity());
         self.reasons.reserve(room)?;
         add_member(&mut self.rows, node, who)?;
         let _earlier = self.reasons.insert((node, who), reason).unwrap();
-        Ok(())
+        Ok(true)
     }
 
     /// The numbers of the node's solutions.
