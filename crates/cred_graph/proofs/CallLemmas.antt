@@ -6,7 +6,6 @@ use Rattle.cred_graph.specs.declared.listeners.Listening.{Listening}
 use Rattle.cred_graph.specs.declared.listeners.KeptListening.{KeptListening}
 use Rattle.cred_graph.specs.declared.ports.KeptPort.{KeptPort}
 use Rattle.cred_graph.specs.declared.solutions.Solution.{Solution}
-use Rattle.cred_graph.specs.declared.solutions.Solved.{Solved}
 use Rattle.cred_graph.specs.declared.solutions.Reason.{Reason}
 use Rattle.cred_graph.specs.Graph.{GraphState, IsSolution, Listens, Fits, IsGraph, ListenerGiven, SolutionGiven}
 use Rattle.cred_graph.specs.Numbers.{IsEntity, IsReason, entity_at, reason_at}
@@ -22,7 +21,7 @@ pub record Listened {E : Type 0} (g h : GraphState) (n : ℕ) (l : Listening) (r
   pub growth : OnErr r (Listens g n l → ⊥)
   pub unchanged : OnErr r (h ≡ g)
 
-module _ (nodes : List Expr) (strangers : List Expr) (lists after : List (List KeptListening)) (entries : List (Solved × Reason ℕ ℕ)) (stored : IsStored nodes strangers lists entries) where
+module _ (nodes : List Expr) (strangers : List Expr) (lists after : List (List KeptListening)) (entries : List ((ℕ × ℕ) × Reason ℕ ℕ)) (stored : IsStored nodes strangers lists entries) where
   unlisted : (n : ℕ) (l : KeptListening) → n < length nodes → IsKept nodes strangers l.port → (Contains (list_at lists n) l → ⊥) → Listens (graph_as nodes strangers lists entries) n (listening_as nodes strangers l) → ⊥
   unlisted n l asked is absent listens = absent (listens_stored nodes strangers lists entries stored n l asked is listens)
 
@@ -59,7 +58,7 @@ module _ (nodes : List Expr) (strangers : List Expr) (lists after : List (List K
     }
 
 -- the same where a stranger may join before
-module _ (nodes : List Expr) (strangers names : List Expr) (lists after : List (List KeptListening)) (entries : List (Solved × Reason ℕ ℕ)) (stored : IsStored nodes strangers lists entries)
+module _ (nodes : List Expr) (strangers names : List Expr) (lists after : List (List KeptListening)) (entries : List ((ℕ × ℕ) × Reason ℕ ℕ)) (stored : IsStored nodes strangers lists entries)
     (joins : Joins nodes strangers names) where
   pub joined : IsStored nodes names lists entries
   joined = stored-joined nodes strangers names lists lists entries stored joins (λ m. refl)
@@ -68,10 +67,10 @@ module _ (nodes : List Expr) (strangers names : List Expr) (lists after : List (
   joined_same = joined_view nodes strangers names lists lists entries stored joins (λ m. refl)
 
   module _ {E : Type 0} (n : ℕ) (l : KeptListening) (asked : n < length nodes) (asker : l.asker < length nodes) (is : IsKept nodes names l.port) where
-    pub listener_kept : (rest : List (Solved × Reason ℕ ℕ)) → rest ≡ entries → (r : Result Bool E) → IfOk r (λ new. HearsOf lists after n l new) → OnErr r (AreSame lists after) → IsStored nodes names after rest
+    pub listener_kept : (rest : List ((ℕ × ℕ) × Reason ℕ ℕ)) → rest ≡ entries → (r : Result Bool E) → IfOk r (λ new. HearsOf lists after n l new) → OnErr r (AreSame lists after) → IsStored nodes names after rest
     listener_kept rest stays r given same = subst (IsStored nodes names after) (sym stays) (listener_stored nodes names lists after entries joined n l asked asker is r given same)
 
-    pub listens_by : (rest : List (Solved × Reason ℕ ℕ)) → rest ≡ entries → (k : Listening) → listening_as nodes names l ≡ k → (r : Result Bool E) → IfOk r (λ new. HearsOf lists after n l new) → OnErr r (Contains (list_at lists n) l → ⊥) → OnErr r (AreSame lists after) →
+    pub listens_by : (rest : List ((ℕ × ℕ) × Reason ℕ ℕ)) → rest ≡ entries → (k : Listening) → listening_as nodes names l ≡ k → (r : Result Bool E) → IfOk r (λ new. HearsOf lists after n l new) → OnErr r (Contains (list_at lists n) l → ⊥) → OnErr r (AreSame lists after) →
         Listened (graph_as nodes strangers lists entries) (graph_as nodes names after rest) n k r
     listens_by rest stays k seen r given growth same =
         subst (λ es. Listened (graph_as nodes strangers lists entries) (graph_as nodes names after es) n k r) (sym stays)
@@ -79,7 +78,7 @@ module _ (nodes : List Expr) (strangers names : List Expr) (lists after : List (
         (subst (λ x. Listened x (graph_as nodes names after entries) n (listening_as nodes names l) r) joined_same (listened nodes names lists after entries joined n l asked asker is r given growth same)))
 
 -- a port that can't be kept is none of a listener's
-pub no_listener : (nodes : List Expr) (strangers : List Expr) (lists : List (List KeptListening)) (entries : List (Solved × Reason ℕ ℕ)) → IsStored nodes strangers lists entries → (n : ℕ) (l : Listening) → n < length nodes →
+pub no_listener : (nodes : List Expr) (strangers : List Expr) (lists : List (List KeptListening)) (entries : List ((ℕ × ℕ) × Reason ℕ ℕ)) → IsStored nodes strangers lists entries → (n : ℕ) (l : Listening) → n < length nodes →
     ((p : KeptPort) → IsKept nodes strangers p → kept_as nodes strangers p ≡ l.port → ⊥) → Listens (graph_as nodes strangers lists entries) n l → ⊥
 no_listener nodes strangers lists entries stored n l asked none listens =
     let at = behind_map (listening_as nodes strangers) (list_at lists n) l (subst (λ ls. Contains ls l) (listed_at-lists_from nodes strangers (length nodes) lists n asked) listens) in
@@ -92,12 +91,12 @@ pub record Found {E : Type 0} (g h : GraphState) (s : Solution) (r : Result Bool
   pub growth : OnErr r (IsSolution g s.node s.who → ⊥)
   pub unchanged : OnErr r (h ≡ g)
 
-module _ (nodes : List Expr) (strangers : List Expr) (lists : List (List KeptListening)) (entries after : List (Solved × Reason ℕ ℕ)) (stored : IsStored nodes strangers lists entries) where
-  unsolved : (key : Solved) → IsEntity nodes key.who → (HasKey entries key → ⊥) → IsSolution (graph_as nodes strangers lists entries) key.node (entity_at nodes key.who) → ⊥
+module _ (nodes : List Expr) (strangers : List Expr) (lists : List (List KeptListening)) (entries after : List ((ℕ × ℕ) × Reason ℕ ℕ)) (stored : IsStored nodes strangers lists entries) where
+  unsolved : (key : ℕ × ℕ) → IsEntity nodes key.1 → (HasKey entries key → ⊥) → IsSolution (graph_as nodes strangers lists entries) key.0 (entity_at nodes key.1) → ⊥
   unsolved key who absent solution = absent (solution_stored nodes strangers lists entries stored key who solution)
 
-  module _ {E : Type 0} (key : Solved) (why : Reason ℕ ℕ) (who : IsEntity nodes key.who) (named : IsReason nodes why)
-      (fits : Fits (graph_as nodes strangers lists entries) key.node (entity_at nodes key.who) (reason_at nodes why)) where
+  module _ {E : Type 0} (key : ℕ × ℕ) (why : Reason ℕ ℕ) (who : IsEntity nodes key.1) (named : IsReason nodes why)
+      (fits : Fits (graph_as nodes strangers lists entries) key.0 (entity_at nodes key.1) (reason_at nodes why)) where
     solution_kept : (r : Result Bool E) → IfOk r (λ new. Solves entries after key why new) → OnErr r (after ≡ entries) → IsStored nodes strangers lists after
     solution_kept (Ok true) (absent, added) same = stored-solution nodes strangers lists entries after key why stored who named absent fits added
     solution_kept (Ok false) (there, same) _ = subst (IsStored nodes strangers lists) (sym same) stored
@@ -128,7 +127,7 @@ module _ (nodes : List Expr) (strangers : List Expr) (lists : List (List KeptLis
     }
 
 -- the same where lists of no listener are added
-module _ (nodes : List Expr) (strangers : List Expr) (lists longer : List (List KeptListening)) (entries after : List (Solved × Reason ℕ ℕ)) (stored : IsStored nodes strangers lists entries)
+module _ (nodes : List Expr) (strangers : List Expr) (lists longer : List (List KeptListening)) (entries after : List ((ℕ × ℕ) × Reason ℕ ℕ)) (stored : IsStored nodes strangers lists entries)
     (same_lists : AreSame lists longer) where
   kept : IsStored nodes strangers longer entries
   kept = stored-joined nodes strangers strangers lists longer entries stored (inl refl) same_lists
@@ -136,10 +135,10 @@ module _ (nodes : List Expr) (strangers : List Expr) (lists longer : List (List 
   kept_same : graph_as nodes strangers longer entries ≡ graph_as nodes strangers lists entries
   kept_same = joined_view nodes strangers strangers lists longer entries stored (inl refl) same_lists
 
-  module _ (key : Solved) (why : Reason ℕ ℕ) (who : IsEntity nodes key.who) (named : IsReason nodes why)
-      (fits : Fits (graph_as nodes strangers lists entries) key.node (entity_at nodes key.who) (reason_at nodes why)) where
-    fits_kept : Fits (graph_as nodes strangers longer entries) key.node (entity_at nodes key.who) (reason_at nodes why)
-    fits_kept = subst (λ g. Fits g key.node (entity_at nodes key.who) (reason_at nodes why)) (sym kept_same) fits
+  module _ (key : ℕ × ℕ) (why : Reason ℕ ℕ) (who : IsEntity nodes key.1) (named : IsReason nodes why)
+      (fits : Fits (graph_as nodes strangers lists entries) key.0 (entity_at nodes key.1) (reason_at nodes why)) where
+    fits_kept : Fits (graph_as nodes strangers longer entries) key.0 (entity_at nodes key.1) (reason_at nodes why)
+    fits_kept = subst (λ g. Fits g key.0 (entity_at nodes key.1) (reason_at nodes why)) (sym kept_same) fits
 
     pub kept_by : {E : Type 0} (r : Result Bool E) → IfOk r (λ new. Solves entries after key why new) → OnErr r (after ≡ entries) → IsStored nodes strangers longer after
     kept_by r given same = solution_kept nodes strangers longer entries after kept key why who named fits_kept r given same

@@ -3,7 +3,6 @@ use Rattle.std.proofs.Common.{ℕ, ◌≡◌, List, [], None, Some, arith, refl,
 use Rattle.credential_text.specs.declared.exprs.Expr.{Expr}
 use Rattle.cred_graph.specs.declared.listeners.KeptListening.{KeptListening}
 use Rattle.cred_graph.specs.declared.solutions.Reason.{Reason}
-use Rattle.cred_graph.specs.declared.solutions.Solved.{Solved}
 use Rattle.cred_graph.specs.Graph.{IsGraph, empty_graph}
 use Rattle.cred_graph.specs.Stored.{graph_as, IsStored}
 
@@ -22,11 +21,12 @@ empty = record {
 }
 
 abbrev Tables : Type 0
-Tables = List (List KeptListening) × List (Solved × Reason ℕ ℕ)
+Tables = List (List KeptListening) × List ((ℕ × ℕ) × Reason ℕ ℕ)
 
 pub stored : (nodes strangers : List Expr) (tables : Tables) → nodes ≡ [] → strangers ≡ [] → tables ≡ ([], []) → IsStored nodes strangers tables.0 tables.1
 stored nodes strangers tables a b c = rw (a, b, c) (record {
   graph = empty;
+  short = omega arith;
   once = λ i j x p q. no_place i x p;
   asked = λ n above. refl;
   ports = λ n l there. absurd (omega (arith, there.1));

@@ -1,12 +1,11 @@
 -- Listeners in their lists and in the table of those beyond the first 8 of a node.
-use Rattle.std.proofs.Common.{ℕ, ◌≡◌, ◌==◌, ◌≤◌, ◌<◌, ◌∙◌, ◌↔◌, IsTrue, ap, refl, sym, subst, inl, inr, arith, min}
-use Rattle.std.proofs.Common.{Bool, true, false, not, true≢false, List, [], ◌∷◌, ◌++◌, Contains, drop, length, take, Result, Ok, Err, OnOk, OnErr}
+use Rattle.std.proofs.Common.{ℕ, ◌≡◌, ◌==◌, ◌≤◌, ◌<◌, ◌∙◌, ◌↔◌, IsTrue, ap, sym, subst, inl, inr, arith}
+use Rattle.std.proofs.Common.{Bool, true, false, true≢false, List, [], ◌∷◌, ◌++◌, Contains, drop, length, take}
 use Rattle.std.specs.Bool.{Decides}
 use Rattle.std.specs.List.{list_any}
 use Rattle.std.proofs.lemmas.Bool.{cases_eq, cond-true, cond-false, eq-eqb, ne_eqb}
-use Rattle.std.proofs.lemmas.List.{drop_all, drop_min, drop-append-le, length_push, take-append-drop}
+use Rattle.std.proofs.lemmas.List.{drop_all, drop-append-le, length_push, take-append-drop}
 use Rattle.std.proofs.lemmas.List.Elements.{Contains-append_cases, Contains-append_left, Contains-append_right, Contains-push, Contains-push_cases}
-use Rattle.std.proofs.lemmas.Map.Views.{exact_unsigned_eq}
 use Rattle.indexmap.specs.IndexSet.{insert_key}
 use Rattle.cred_graph.specs.declared.listeners.KeptListening.{KeptListening}
 use Rattle.cred_graph.specs.contracts.listeners.KeptListeningPartialEq.TheImpl as kept
@@ -18,9 +17,6 @@ use Rattle.cred_graph.proofs.Lookups.{any_exact, insert_key-absent}
 seen_from : (x y : KeptListening) → Decides (kept.ghosts.eq y x) (x ≡ y)
 seen_from x y = (λ (same : kept.ghosts.eq y x ≡ true). sym ((kept_decided y x).0 same), λ (same : x ≡ y). (kept_decided y x).1 (sym same))
 
-min_turned : (m : ℕ) → min 8 m ≡ min m 8
-min_turned m = omega arith
-
 one_more : (xs : List KeptListening) (l : KeptListening) → length xs < 8 → length (xs ++ l ∷ []) ≤ 8
 one_more xs l few = omega (arith, length_push xs l)
 
@@ -29,54 +25,47 @@ shown : (near : List KeptListening) (l : KeptListening) →
     (list_any (λ y. kept.ghosts.eq y l) near ≡ true) ↔ Contains near l
 shown near l = any_exact (λ x y. kept.ghosts.eq y x) seen_from near l
 
-module _ (lists : List (List KeptListening)) (n : ℕ) (l : KeptListening)
-    (list near others : List KeptListening) (found : Bool)
-    (is : list ≡ list_at lists n) (front : near ≡ take (min (length list) 8) list)
-    (back : others ≡ drop (min (length list) 8) list) (any : found ≡ list_any (λ y. kept.ghosts.eq y l) near) where
-  whole : near ++ others ≡ list_at lists n
-  whole =
-      ap (λ xs. xs ++ others) front ∙ ap (λ xs. take (min (length list) 8) list ++ xs) back
-      ∙ take-append-drop (min (length list) 8) list ∙ is
-
-  -- a listener that isn't among the first is among the others
-  beyond : found ≡ false → Contains (list_at lists n) l → Contains others l
-  beyond none there =
-      elim (Contains-append_cases near others l (subst (λ xs. Contains xs l) (sym whole) there)) [
-        | inl here ↦ absurd (true≢false (sym ((shown near l).1 here) ∙ sym any ∙ none))
-        | inr last ↦ last
-      ]
-
-  pub has_near : found ≡ true → IsTrue true ↔ Contains (list_at lists n) l
-  has_near some = (
-    λ _. subst (λ xs. Contains xs l) whole (Contains-append_left near others l ((shown near l).0 (sym any ∙ some))),
-    λ _. refl,
+module _ (lists : List (List KeptListening)) (n : ℕ) (l : KeptListening) (list : List KeptListening) (is : list ≡ list_at lists n) where
+  pub has_few : (found : Bool) → found ≡ list_any (λ y. kept.ghosts.eq y l) list → IsTrue found ↔ Contains (list_at lists n) l
+  has_few found any = subst (λ xs. IsTrue found ↔ Contains xs l) is (
+    λ (yes : found ≡ true). (shown list l).0 (sym any ∙ yes),
+    λ (there : Contains list l). any ∙ (shown list l).1 there,
   )
 
-  pub has_none : (empty : Bool) → found ≡ false → empty ≡ (length others == 0) → empty ≡ true →
-      IsTrue (not empty) ↔ Contains (list_at lists n) l
-  has_none empty none is_empty empty_is =
-      let gone : length others ≡ 0 = exact_unsigned_eq (length others) 0 (sym is_empty ∙ empty_is) in (
-        λ (no : not empty ≡ true). absurd (true≢false (sym no ∙ ap not empty_is)),
-        λ there. absurd (omega (arith, (beyond none there).1, gone)),
-      )
+  -- where there are many, the first are looked through
+  module _ (found : Bool) (any : found ≡ list_any (λ y. kept.ghosts.eq y l) (take 8 list)) where
+    whole : take 8 list ++ drop 8 list ≡ list_at lists n
+    whole = take-append-drop 8 list ∙ is
 
-  -- a listener that isn't among the first is looked for in the table
-  pub has_far : (rows : List (ℕ × KeptListening)) (r : Bool) → AreFar lists rows → found ≡ false →
-      r ≡ list_any (far_eq (n, l)) rows → IsTrue r ↔ Contains (list_at lists n) l
-  has_far rows r are none has =
-      let tail : drop 8 (list_at lists n) ≡ others =
-      ap (drop 8) (sym is) ∙ sym (drop_min 8 list) ∙ ap (λ k. drop k list) (min_turned (length list)) ∙ sym back in
-      let rows_have = any_exact far_eq far_decided rows (n, l) in (
-        λ (yes : r ≡ true).
-            subst (λ xs. Contains xs l) whole
-            (Contains-append_right near others l
-            (subst (λ xs. Contains xs l) tail ((are n l).0 (rows_have.0 (sym has ∙ yes))))),
-        λ (there : Contains (list_at lists n) l).
-            has ∙ rows_have.1 ((are n l).1 (subst (λ xs. Contains xs l) (sym tail) (beyond none there))),
-      )
+    pub has_near : found ≡ true → IsTrue found ↔ Contains (list_at lists n) l
+    has_near some = (
+      λ _. subst (λ xs. Contains xs l) whole (Contains-append_left (take 8 list) (drop 8 list) l ((shown (take 8 list) l).0 (sym any ∙ some))),
+      λ _. some,
+    )
+
+    -- a listener that isn't among the first is among the others
+    beyond : found ≡ false → Contains (list_at lists n) l → Contains (drop 8 list) l
+    beyond none there =
+        elim (Contains-append_cases (take 8 list) (drop 8 list) l (subst (λ xs. Contains xs l) (sym whole) there)) [
+          | inl here ↦ absurd (true≢false (sym ((shown (take 8 list) l).1 here) ∙ sym any ∙ none))
+          | inr last ↦ last
+        ]
+
+    -- and is looked for in the table
+    pub has_far : (rows : List (ℕ × KeptListening)) (r : Bool) → AreFar lists rows → found ≡ false →
+        r ≡ list_any (far_eq (n, l)) rows → IsTrue r ↔ Contains (list_at lists n) l
+    has_far rows r are none has =
+        let rows_have = any_exact far_eq far_decided rows (n, l) in (
+          λ (yes : r ≡ true).
+              subst (λ xs. Contains xs l) whole
+              (Contains-append_right (take 8 list) (drop 8 list) l
+              (subst (λ xs. Contains (drop 8 xs) l) (sym is) ((are n l).0 (rows_have.0 (sym has ∙ yes))))),
+          λ (there : Contains (list_at lists n) l).
+              has ∙ rows_have.1 ((are n l).1 (subst (λ xs. Contains (drop 8 xs) l) is (beyond none there))),
+        )
 
 -- the table stays where a list with room among the first gets one more
-far_near : (lists after : List (List KeptListening)) (rows : List (ℕ × KeptListening)) (n : ℕ) (l : KeptListening) → AreFar lists rows → length (list_at lists n) < 8 → AddsAt lists after n l → AreFar after rows
+pub far_near : (lists after : List (List KeptListening)) (rows : List (ℕ × KeptListening)) (n : ℕ) (l : KeptListening) → AreFar lists rows → length (list_at lists n) < 8 → AddsAt lists after n l → AreFar after rows
 far_near lists after rows n l are room adds m k =
     let same : drop 8 (list_at after m) ≡ drop 8 (list_at lists m) = elim (cases_eq m n) [
       | inl here ↦
@@ -91,12 +80,6 @@ pub far_same : (lists after : List (List KeptListening)) (rows mid : List (ℕ �
 far_same lists after rows mid are same lists_same n l =
     subst (λ rs. Contains rs (n, l) ↔ Contains (drop 8 (list_at after n)) l) (sym same)
     (subst (λ xs. Contains rows (n, l) ↔ Contains (drop 8 xs) l) (sym (lists_same n)) (are n l))
-
--- the table stays where a list with room among the first is to get one more
-pub far_kept : {T E : Type 0} (lists after : List (List KeptListening)) (rows : List (ℕ × KeptListening)) (n : ℕ) (l : KeptListening) → AreFar lists rows → length (list_at lists n) < 8 →
-    (r : Result T E) → OnOk r (AddsAt lists after n l) → OnErr r (AreSame lists after) → AreFar after rows
-far_kept lists after rows n l are room (Ok x) adds same = far_near lists after rows n l are room adds
-far_kept lists after rows n l are room (Err e) adds same = far_same lists after rows rows are refl same
 
 -- a listener that isn't there goes last in the table too
 pub far_added : (lists after : List (List KeptListening)) (rows mid new : List (ℕ × KeptListening)) (n : ℕ) (l : KeptListening) → AreFar lists rows →

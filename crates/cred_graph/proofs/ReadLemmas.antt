@@ -6,7 +6,6 @@ use Rattle.credential_text.specs.declared.exprs.Expr.TheVariants.{Ent}
 use Rattle.cred_graph.specs.declared.listeners.KeptListening.{KeptListening}
 use Rattle.cred_graph.specs.declared.solutions.Solution.{Solution}
 use Rattle.cred_graph.specs.declared.solutions.Reason.{Reason}
-use Rattle.cred_graph.specs.declared.solutions.Solved.{Solved}
 use Rattle.cred_graph.specs.Graph.{GraphState, IsSolution, listeners_of, members_of, before}
 use Rattle.cred_graph.specs.Numbers.{IsEntity, entity_at, reason_at}
 use Rattle.cred_graph.specs.NodeLists.{list_at}
@@ -16,7 +15,7 @@ use Rattle.cred_graph.proofs.NumberLemmas.{entity_is}
 use Rattle.cred_graph.proofs.StoredLemmas.{listed_at-lists_from, solution_stored}
 use Rattle.cred_graph.proofs.Solvers.{solver_has_node, fits_node}
 
-module _ (nodes : List Expr) (strangers : List Expr) (lists : List (List KeptListening)) (entries : List (Solved × Reason ℕ ℕ)) where
+module _ (nodes : List Expr) (strangers : List Expr) (lists : List (List KeptListening)) (entries : List ((ℕ × ℕ) × Reason ℕ ℕ)) where
   -- the graph that the tables stand for
   abbrev g : GraphState
   g = graph_as nodes strangers lists entries
@@ -34,8 +33,8 @@ module _ (nodes : List Expr) (strangers : List Expr) (lists : List (List KeptLis
   members_read : (n : ℕ) → members_of g n ≡ map (entity_at nodes) (members_by n entries)
   members_read n =
       ap (map (λ (s : Solution). s.who)) (filter_mapped (λ (s : Solution). s.node == n) (solution_as nodes) entries) ∙
-      map-map (λ (s : Solution). s.who) (solution_as nodes) (filter (λ (e : Solved × Reason ℕ ℕ). e.0.node == n) entries) ∙
-      sym (map-map (entity_at nodes) (λ (e : Solved × Reason ℕ ℕ). e.0.who) (filter (λ (e : Solved × Reason ℕ ℕ). e.0.node == n) entries))
+      map-map (λ (s : Solution). s.who) (solution_as nodes) (filter (λ (e : (ℕ × ℕ) × Reason ℕ ℕ). e.0.0 == n) entries) ∙
+      sym (map-map (entity_at nodes) (λ (e : (ℕ × ℕ) × Reason ℕ ℕ). e.0.1) (filter (λ (e : (ℕ × ℕ) × Reason ℕ ℕ). e.0.0 == n) entries))
 
   pub length-members : (n : ℕ) → length (members_by n entries) ≡ length (members_of g n)
   length-members n = sym (ap length (members_read n) ∙ length-map (members_by n entries) (entity_at nodes))
@@ -45,9 +44,9 @@ module _ (nodes : List Expr) (strangers : List Expr) (lists : List (List KeptLis
 
   pub member_entity : (n i k : ℕ) → IsStored nodes strangers lists entries → slice_get (members_by n entries) i ≡ Some k → IsEntity nodes k
   member_entity n i k stored at =
-      let passes = filter (λ (e : Solved × Reason ℕ ℕ). e.0.node == n) entries in
-      let entry = behind_map (λ (e : Solved × Reason ℕ ℕ). e.0.who) passes k (Contains-at_place (members_by n entries) i k at) in
-      let place = filtered_from (λ (e : Solved × Reason ℕ ℕ). e.0.node == n) entries entry.0 entry.1 entry.2 in
+      let passes = filter (λ (e : (ℕ × ℕ) × Reason ℕ ℕ). e.0.0 == n) entries in
+      let entry = behind_map (λ (e : (ℕ × ℕ) × Reason ℕ ℕ). e.0.1) passes k (Contains-at_place (members_by n entries) i k at) in
+      let place = filtered_from (λ (e : (ℕ × ℕ) × Reason ℕ ℕ). e.0.0 == n) entries entry.0 entry.1 entry.2 in
       subst (IsEntity nodes) entry.3 (stored.members place.0 entry.1 place.1)
 
   -- what is found of a solution
@@ -62,14 +61,14 @@ module _ (nodes : List Expr) (strangers : List Expr) (lists : List (List KeptLis
   pub no_such_entity : (n : ℕ) (who : List ℕ) → IsStored nodes strangers lists entries → (Contains nodes (Ent who) → ⊥) → IsSolution g n who → ⊥
   no_such_entity n who stored absent solution = absent (solver_has_node g stored.graph n who solution)
 
-  pub no_such_solution : (n node k : ℕ) (who : List ℕ) → IsStored nodes strangers lists entries → node ≡ n → slice_get nodes k ≡ Some (Ent who) →
-      (HasKey entries (record { node = node; who = k }) → ⊥) → IsSolution g n who → ⊥
-  no_such_solution n node k who stored same at absent solution =
-      absent (solution_stored nodes strangers lists entries stored (record { node = node; who = k }) (who, at) (rw (same, entity_is nodes k who at) solution))
+  pub no_such_solution : (n k : ℕ) (who : List ℕ) → IsStored nodes strangers lists entries → slice_get nodes k ≡ Some (Ent who) →
+      (HasKey entries (n, k) → ⊥) → IsSolution g n who → ⊥
+  no_such_solution n k who stored at absent solution =
+      absent (solution_stored nodes strangers lists entries stored (n, k) (who, at) (rw (entity_is nodes k who at) solution))
 
-  pub reason_read : (n node k place : ℕ) (who : List ℕ) (r : Reason ℕ ℕ) (why : Reason ℕ (List ℕ)) → node ≡ n → slice_get nodes k ≡ Some (Ent who) →
-      slice_get entries place ≡ Some (record { node = node; who = k }, r) → why ≡ reason_at nodes r →
+  pub reason_read : (n k place : ℕ) (who : List ℕ) (r : Reason ℕ ℕ) (why : Reason ℕ (List ℕ)) → slice_get nodes k ≡ Some (Ent who) →
+      slice_get entries place ≡ Some ((n, k), r) → why ≡ reason_at nodes r →
       slice_get g.solutions place ≡ Some (record { node = n; who = who; reason = why })
-  reason_read n node k place who r why same at entry is =
-      seen_at (solution_as nodes) entries place (record { node = node; who = k }, r) entry ∙
-      (λ i. Some (record { node = same i; who = entity_is nodes k who at i; reason = (sym is) i }))
+  reason_read n k place who r why at entry is =
+      seen_at (solution_as nodes) entries place ((n, k), r) entry ∙
+      (λ i. Some (record { node = n; who = entity_is nodes k who at i; reason = (sym is) i }))

@@ -22,11 +22,11 @@ empty_last (l ∷ lists) (suc m) = empty_last lists m
 
 module _ {R X : Type 0} (f : R → List X) where
   -- the list of the row that is there, or of none
-  pub row_at : (rows read : List R) (n : ℕ) (row : R) → read ≡ rows → n < length read → ((d : R) → row ≡ get_or read n d) → f row ≡ list_at (map f rows) n
-  row_at rows read n row is within at = ap f (at row) ∙ sym (get_or-map f read n row [] within) ∙ ap (λ rs. list_at (map f rs) n) is
+  pub row_at : (rows : List R) (n : ℕ) (row : R) → n < length rows → row ≡ get_or rows n row → f row ≡ list_at (map f rows) n
+  row_at rows n row within at = ap f at ∙ sym (get_or-map f rows n row [] within)
 
-  pub no_row : (rows read : List R) (n : ℕ) → read ≡ rows → length read ≤ n → [] ≡ list_at (map f rows) n
-  no_row rows read n is beyond = sym (get_or_past (map f rows) n [] (omega (arith, length-map rows f, ap length is)))
+  pub no_row : (rows : List R) (n : ℕ) → length rows ≤ n → [] ≡ list_at (map f rows) n
+  no_row rows n beyond = sym (get_or_past (map f rows) n [] (omega (arith, length-map rows f)))
 
   -- an empty row is made
   pub row_made : (old rows after : List R) (row : R) → AreSame (map f old) (map f rows) → after ≡ rows ++ row ∷ [] → f row ≡ [] → AreSame (map f old) (map f after)

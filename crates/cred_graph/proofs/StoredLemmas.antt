@@ -1,5 +1,5 @@
 -- The tables stand for a graph, and stay one where a node, a listener or a solution is added.
-use Rattle.std.proofs.Common.{ℕ, zero, suc, ◌+◌, ◌<◌, ◌≡◌, ◌==◌, ◌∙◌, ap, refl, sym, subst, inl, inr, arith, zero-add, add-zero, true, List, [], ◌∷◌, ◌++◌, Some, Contains, get_or, length, map, set, slice_get}
+use Rattle.std.proofs.Common.{ℕ, zero, suc, ◌+◌, ◌^◌, ◌<◌, ◌≡◌, ◌==◌, ◌∙◌, ap, refl, sym, subst, inl, inr, arith, zero-add, add-zero, true, List, [], ◌∷◌, ◌++◌, Some, Contains, get_or, length, map, set, slice_get}
 use Rattle.std.proofs.lemmas.Bool.{cases_eq, cond-true, cond-false, eq-eqb, ne_eqb}
 use Rattle.std.proofs.lemmas.List.{length-set, length_push, map_push, ext_get_or, get_or-set_same, get_or-set_other}
 use Rattle.std.proofs.lemmas.List.Elements.{Contains-push_cases}
@@ -10,10 +10,9 @@ use Rattle.cred_graph.specs.declared.listeners.Listening.{Listening}
 use Rattle.cred_graph.specs.declared.listeners.KeptListening.{KeptListening}
 use Rattle.cred_graph.specs.declared.solutions.Solution.{Solution}
 use Rattle.cred_graph.specs.declared.solutions.Reason.{Reason}
-use Rattle.cred_graph.specs.declared.solutions.Solved.{Solved}
 use Rattle.cred_graph.specs.Graph.{IsSolution, Listens, Fits, IsGraph, NodeGiven}
 use Rattle.cred_graph.specs.Numbers.{IsEntity, IsReason, entity_at, reason_at}
-use Rattle.cred_graph.specs.NodeLists.{list_at, AreSame, AddsAt}
+use Rattle.cred_graph.specs.NodeLists.{list_at, AreSame, AreShort, AddsAt}
 use Rattle.cred_graph.specs.Stored.{IsKept, Joins, listening_as, lists_from, HasKey, solution_as, graph_as, IsStored}
 use Rattle.cred_graph.proofs.Growth.{listed_with, with_node, with_listener, with_solution, graph_with_node, graph_with_listener, graph_with_solution}
 use Rattle.cred_graph.proofs.KeptLemmas.{kept_with_node, same_with_node, kept_joined, same_joined, once_joined, listens_kept, listens_as}
@@ -84,10 +83,10 @@ lists_with nodes strangers k lists after n l asked adds =
 
 -- a node is added
 
-abbrev solution_by : Solved → List ℕ → Reason ℕ (List ℕ) → Solution
-solution_by key who why = record { node = key.node; who = who; reason = why }
+abbrev solution_by : ℕ × ℕ → List ℕ → Reason ℕ (List ℕ) → Solution
+solution_by key who why = record { node = key.0; who = who; reason = why }
 
-pub node_view : (nodes : List Expr) (strangers : List Expr) (lists : List (List KeptListening)) (entries : List (Solved × Reason ℕ ℕ)) (e : Expr) → IsStored nodes strangers lists entries →
+pub node_view : (nodes : List Expr) (strangers : List Expr) (lists : List (List KeptListening)) (entries : List ((ℕ × ℕ) × Reason ℕ ℕ)) (e : Expr) → IsStored nodes strangers lists entries →
     graph_as (nodes ++ e ∷ []) strangers lists entries ≡ with_node (graph_as nodes strangers lists entries) e
 node_view nodes strangers lists entries e stored =
     let longer : length (nodes ++ e ∷ []) ≡ suc (length nodes) = omega (arith, length_push nodes e) in
@@ -101,23 +100,24 @@ node_view nodes strangers lists entries e stored =
     ap (λ ls. ls ++ [] ∷ []) named in
     let solved : map (solution_as (nodes ++ e ∷ [])) entries ≡ map (solution_as nodes) entries =
     map_same (solution_as (nodes ++ e ∷ [])) (solution_as nodes) entries
-    (λ j s at i. solution_by s.0 (entity_stays nodes (e ∷ []) s.0.who (stored.members j s at) i) (reason_stays nodes (e ∷ []) s.1 (stored.reasons j s at) i)) in
+    (λ j s at i. solution_by s.0 (entity_stays nodes (e ∷ []) s.0.1 (stored.members j s at) i) (reason_stays nodes (e ∷ []) s.1 (stored.reasons j s at) i)) in
     λ i. record { nodes = nodes ++ e ∷ []; listeners = listened i; solutions = solved i }
 
-pub stored-node : (nodes : List Expr) (strangers : List Expr) (lists : List (List KeptListening)) (entries : List (Solved × Reason ℕ ℕ)) (e : Expr) → IsStored nodes strangers lists entries →
-    (Contains nodes e → ⊥) → HasPartsInRange e → IsStored (nodes ++ e ∷ []) strangers lists entries
-stored-node nodes strangers lists entries e stored absent range = record {
+pub stored-node : (nodes : List Expr) (strangers : List Expr) (lists : List (List KeptListening)) (entries : List ((ℕ × ℕ) × Reason ℕ ℕ)) (e : Expr) → IsStored nodes strangers lists entries →
+    (Contains nodes e → ⊥) → HasPartsInRange e → AreShort (nodes ++ e ∷ []) → IsStored (nodes ++ e ∷ []) strangers lists entries
+stored-node nodes strangers lists entries e stored absent range short = record {
   graph = subst IsGraph (sym (node_view nodes strangers lists entries e stored)) (graph_with_node (graph_as nodes strangers lists entries) e stored.graph absent range);
+  short = short;
   once = stored.once;
   asked = λ n beyond. stored.asked n (omega (arith, length_push nodes e));
   ports = λ n l there. kept_with_node nodes (e ∷ []) strangers l.port (stored.ports n l there);
-  members = λ j s at. entity_goes_on nodes (e ∷ []) s.0.who (stored.members j s at);
+  members = λ j s at. entity_goes_on nodes (e ∷ []) s.0.1 (stored.members j s at);
   reasons = λ j s at. reason_goes_on nodes (e ∷ []) s.1 (stored.reasons j s at);
 }
 
 -- a stranger joins, and lists stay
 
-pub joined_view : (nodes : List Expr) (strangers names : List Expr) (lists after : List (List KeptListening)) (entries : List (Solved × Reason ℕ ℕ)) → IsStored nodes strangers lists entries →
+pub joined_view : (nodes : List Expr) (strangers names : List Expr) (lists after : List (List KeptListening)) (entries : List ((ℕ × ℕ) × Reason ℕ ℕ)) → IsStored nodes strangers lists entries →
     Joins nodes strangers names → AreSame lists after → graph_as nodes names after entries ≡ graph_as nodes strangers lists entries
 joined_view nodes strangers names lists after entries stored joins same =
     let listened = lists_same nodes nodes strangers names lists after
@@ -125,10 +125,11 @@ joined_view nodes strangers names lists after entries stored joins same =
     (λ j l at. ap (λ p. record { asker = l.asker; port = p }) (same_joined nodes strangers names joins l.port (stored.ports m l (Contains-at_place (list_at lists m) j l at))))) 0 (length nodes) in
     λ i. record { nodes = nodes; listeners = listened i; solutions = map (solution_as nodes) entries }
 
-pub stored-joined : (nodes : List Expr) (strangers names : List Expr) (lists after : List (List KeptListening)) (entries : List (Solved × Reason ℕ ℕ)) → IsStored nodes strangers lists entries →
+pub stored-joined : (nodes : List Expr) (strangers names : List Expr) (lists after : List (List KeptListening)) (entries : List ((ℕ × ℕ) × Reason ℕ ℕ)) → IsStored nodes strangers lists entries →
     Joins nodes strangers names → AreSame lists after → IsStored nodes names after entries
 stored-joined nodes strangers names lists after entries stored joins same = record {
   graph = subst IsGraph (sym (joined_view nodes strangers names lists after entries stored joins same)) stored.graph;
+  short = stored.short;
   once = once_joined nodes strangers names joins stored.once;
   asked = λ n beyond. same n ∙ stored.asked n beyond;
   ports = λ n l there. kept_joined nodes strangers names joins l.port (stored.ports n l (subst (λ ls. Contains ls l) (same n) there));
@@ -138,30 +139,31 @@ stored-joined nodes strangers names lists after entries stored joins same = reco
 
 -- a listener is added
 
-pub listener_view : (nodes : List Expr) (strangers : List Expr) (lists after : List (List KeptListening)) (entries : List (Solved × Reason ℕ ℕ)) (n : ℕ) (l : KeptListening) → n < length nodes → AddsAt lists after n l →
+pub listener_view : (nodes : List Expr) (strangers : List Expr) (lists after : List (List KeptListening)) (entries : List ((ℕ × ℕ) × Reason ℕ ℕ)) (n : ℕ) (l : KeptListening) → n < length nodes → AddsAt lists after n l →
     graph_as nodes strangers after entries ≡ with_listener (graph_as nodes strangers lists entries) n (listening_as nodes strangers l)
 listener_view nodes strangers lists after entries n l asked adds =
     let listened = lists_with nodes strangers (length nodes) lists after n l asked adds in
     λ i. record { nodes = nodes; listeners = listened i; solutions = map (solution_as nodes) entries }
 
 -- a node has a listener where its list has what stands for it
-pub listens_stored : (nodes : List Expr) (strangers : List Expr) (lists : List (List KeptListening)) (entries : List (Solved × Reason ℕ ℕ)) → IsStored nodes strangers lists entries →
+pub listens_stored : (nodes : List Expr) (strangers : List Expr) (lists : List (List KeptListening)) (entries : List ((ℕ × ℕ) × Reason ℕ ℕ)) → IsStored nodes strangers lists entries →
     (n : ℕ) (l : KeptListening) → n < length nodes → IsKept nodes strangers l.port → Listens (graph_as nodes strangers lists entries) n (listening_as nodes strangers l) → Contains (list_at lists n) l
 listens_stored nodes strangers lists entries stored n l asked is listens =
     listens_kept nodes strangers stored.graph.one_node stored.once (list_at lists n) (stored.ports n) l is
     (subst (λ ls. Contains ls (listening_as nodes strangers l)) (listed_at-lists_from nodes strangers (length nodes) lists n asked) listens)
 
-pub stored_listens : (nodes : List Expr) (strangers : List Expr) (lists : List (List KeptListening)) (entries : List (Solved × Reason ℕ ℕ)) (n : ℕ) (l : KeptListening) → n < length nodes →
+pub stored_listens : (nodes : List Expr) (strangers : List Expr) (lists : List (List KeptListening)) (entries : List ((ℕ × ℕ) × Reason ℕ ℕ)) (n : ℕ) (l : KeptListening) → n < length nodes →
     Contains (list_at lists n) l → Listens (graph_as nodes strangers lists entries) n (listening_as nodes strangers l)
 stored_listens nodes strangers lists entries n l asked there =
     subst (λ ls. Contains ls (listening_as nodes strangers l)) (sym (listed_at-lists_from nodes strangers (length nodes) lists n asked)) (listens_as nodes strangers (list_at lists n) l there)
 
-pub stored-listener : (nodes : List Expr) (strangers : List Expr) (lists after : List (List KeptListening)) (entries : List (Solved × Reason ℕ ℕ)) (n : ℕ) (l : KeptListening) → IsStored nodes strangers lists entries →
+pub stored-listener : (nodes : List Expr) (strangers : List Expr) (lists after : List (List KeptListening)) (entries : List ((ℕ × ℕ) × Reason ℕ ℕ)) (n : ℕ) (l : KeptListening) → IsStored nodes strangers lists entries →
     n < length nodes → l.asker < length nodes → IsKept nodes strangers l.port → (Contains (list_at lists n) l → ⊥) → AddsAt lists after n l → IsStored nodes strangers after entries
 stored-listener nodes strangers lists after entries n l stored asked asker is absent adds = record {
   graph = subst IsGraph (sym (listener_view nodes strangers lists after entries n l asked adds))
       (graph_with_listener (graph_as nodes strangers lists entries) n (listening_as nodes strangers l) stored.graph
       (λ listens. absent (listens_stored nodes strangers lists entries stored n l asked is listens)) asked asker);
+  short = stored.short;
   once = stored.once;
   asked = λ m beyond. adds m ∙ cond-false (m == n) (list_at lists m ++ l ∷ []) (list_at lists m) (ne_eqb m n (λ same. omega (arith, same))) ∙ stored.asked m beyond;
   ports = λ m k there. elim (cases_eq m n) [
@@ -180,57 +182,58 @@ stored-listener nodes strangers lists after entries n l stored asked asker is ab
 
 -- a solution is added
 
-pub solution_view : (nodes : List Expr) (strangers : List Expr) (lists : List (List KeptListening)) (entries after : List (Solved × Reason ℕ ℕ)) (key : Solved) (r : Reason ℕ ℕ) → after ≡ entries ++ (key, r) ∷ [] →
+pub solution_view : (nodes : List Expr) (strangers : List Expr) (lists : List (List KeptListening)) (entries after : List ((ℕ × ℕ) × Reason ℕ ℕ)) (key : ℕ × ℕ) (r : Reason ℕ ℕ) → after ≡ entries ++ (key, r) ∷ [] →
     graph_as nodes strangers lists after ≡ with_solution (graph_as nodes strangers lists entries) (solution_as nodes (key, r))
 solution_view nodes strangers lists entries after key r added =
     let solved = ap (map (solution_as nodes)) added ∙ map_push (solution_as nodes) entries (key, r) in
     λ i. record { nodes = nodes; listeners = lists_from nodes strangers 0 (length nodes) lists; solutions = solved i }
 
 -- an entity is a solution where the table has its number
-pub solution_stored : (nodes : List Expr) (strangers : List Expr) (lists : List (List KeptListening)) (entries : List (Solved × Reason ℕ ℕ)) → IsStored nodes strangers lists entries →
-    (key : Solved) → IsEntity nodes key.who → IsSolution (graph_as nodes strangers lists entries) key.node (entity_at nodes key.who) → HasKey entries key
+pub solution_stored : (nodes : List Expr) (strangers : List Expr) (lists : List (List KeptListening)) (entries : List ((ℕ × ℕ) × Reason ℕ ℕ)) → IsStored nodes strangers lists entries →
+    (key : ℕ × ℕ) → IsEntity nodes key.1 → IsSolution (graph_as nodes strangers lists entries) key.0 (entity_at nodes key.1) → HasKey entries key
 solution_stored nodes strangers lists entries stored key is (why, there) =
-    let at = behind_map (solution_as nodes) entries (record { node = key.node; who = entity_at nodes key.who; reason = why }) there in
-    let node : at.1.0.node ≡ key.node = ap (λ (s : Solution). s.node) at.3 in
-    let named : entity_at nodes at.1.0.who ≡ entity_at nodes key.who = ap (λ (s : Solution). s.who) at.3 in
-    let who : at.1.0.who ≡ key.who =
-    stored.graph.one_node at.1.0.who key.who (Ent (entity_at nodes key.who)) (entity_stands nodes at.1.0.who (stored.members at.0 at.1 at.2) ∙ ap (λ (x : List ℕ). Some (Ent x)) named) (entity_stands nodes key.who is) in
-    (at.1.1, Contains-at_place entries at.0 (key, at.1.1) (at.2 ∙ ap Some (λ i. (record { node = node i; who = who i }, at.1.1))))
+    let at = behind_map (solution_as nodes) entries (record { node = key.0; who = entity_at nodes key.1; reason = why }) there in
+    let node : at.1.0.0 ≡ key.0 = ap (λ (s : Solution). s.node) at.3 in
+    let named : entity_at nodes at.1.0.1 ≡ entity_at nodes key.1 = ap (λ (s : Solution). s.who) at.3 in
+    let who : at.1.0.1 ≡ key.1 =
+    stored.graph.one_node at.1.0.1 key.1 (Ent (entity_at nodes key.1)) (entity_stands nodes at.1.0.1 (stored.members at.0 at.1 at.2) ∙ ap (λ (x : List ℕ). Some (Ent x)) named) (entity_stands nodes key.1 is) in
+    (at.1.1, Contains-at_place entries at.0 (key, at.1.1) (at.2 ∙ ap Some (λ i. ((node i, who i), at.1.1))))
 
-pub stored_solution : (nodes : List Expr) (strangers : List Expr) (lists : List (List KeptListening)) (entries : List (Solved × Reason ℕ ℕ)) (key : Solved) → HasKey entries key →
-    IsSolution (graph_as nodes strangers lists entries) key.node (entity_at nodes key.who)
+pub stored_solution : (nodes : List Expr) (strangers : List Expr) (lists : List (List KeptListening)) (entries : List ((ℕ × ℕ) × Reason ℕ ℕ)) (key : ℕ × ℕ) → HasKey entries key →
+    IsSolution (graph_as nodes strangers lists entries) key.0 (entity_at nodes key.1)
 stored_solution nodes strangers lists entries key (r, there) =
     let at = place_of_Contains entries (key, r) there in
     (reason_at nodes r, Contains-at_place (map (solution_as nodes) entries) at.0 (solution_as nodes (key, r)) (seen_at (solution_as nodes) entries at.0 (key, r) at.1))
 
-pub stored-solution : (nodes : List Expr) (strangers : List Expr) (lists : List (List KeptListening)) (entries after : List (Solved × Reason ℕ ℕ)) (key : Solved) (r : Reason ℕ ℕ) → IsStored nodes strangers lists entries →
-    IsEntity nodes key.who → IsReason nodes r → (HasKey entries key → ⊥) → Fits (graph_as nodes strangers lists entries) key.node (entity_at nodes key.who) (reason_at nodes r) →
+pub stored-solution : (nodes : List Expr) (strangers : List Expr) (lists : List (List KeptListening)) (entries after : List ((ℕ × ℕ) × Reason ℕ ℕ)) (key : ℕ × ℕ) (r : Reason ℕ ℕ) → IsStored nodes strangers lists entries →
+    IsEntity nodes key.1 → IsReason nodes r → (HasKey entries key → ⊥) → Fits (graph_as nodes strangers lists entries) key.0 (entity_at nodes key.1) (reason_at nodes r) →
     after ≡ entries ++ (key, r) ∷ [] → IsStored nodes strangers lists after
 stored-solution nodes strangers lists entries after key r stored who why absent fits added = record {
   graph = subst IsGraph (sym (solution_view nodes strangers lists entries after key r added))
       (graph_with_solution (graph_as nodes strangers lists entries) (solution_as nodes (key, r)) stored.graph
       (λ solution. absent (solution_stored nodes strangers lists entries stored key who solution)) fits);
+  short = stored.short;
   once = stored.once;
   asked = stored.asked;
   ports = stored.ports;
   members = λ j e at. elim (slice_get_push_cases entries (key, r) j e (ap (λ l. slice_get l j) (sym added) ∙ at)) [
     | inl before ↦ stored.members j e before
-    | inr now ↦ subst (λ (x : Solved × Reason ℕ ℕ). IsEntity nodes x.0.who) now.1 who
+    | inr now ↦ subst (λ (x : (ℕ × ℕ) × Reason ℕ ℕ). IsEntity nodes x.0.1) now.1 who
   ];
   reasons = λ j e at. elim (slice_get_push_cases entries (key, r) j e (ap (λ l. slice_get l j) (sym added) ∙ at)) [
     | inl before ↦ stored.reasons j e before
-    | inr now ↦ subst (λ (x : Solved × Reason ℕ ℕ). IsReason nodes x.1) now.1 why
+    | inr now ↦ subst (λ (x : (ℕ × ℕ) × Reason ℕ ℕ). IsReason nodes x.1) now.1 why
   ];
 }
 
 -- what the calls give
 
-pub node_stored : (nodes after : List Expr) (strangers : List Expr) (lists : List (List KeptListening)) (entries : List (Solved × Reason ℕ ℕ)) (e : Expr) → IsStored nodes strangers lists entries →
-    (Contains nodes e → ⊥) → HasPartsInRange e → after ≡ nodes ++ e ∷ [] → IsStored after strangers lists entries
-node_stored nodes after strangers lists entries e stored absent range is =
-    subst (λ ns. IsStored ns strangers lists entries) (sym is) (stored-node nodes strangers lists entries e stored absent range)
+pub node_stored : (nodes after : List Expr) (strangers : List Expr) (lists : List (List KeptListening)) (entries : List ((ℕ × ℕ) × Reason ℕ ℕ)) (e : Expr) → IsStored nodes strangers lists entries →
+    (Contains nodes e → ⊥) → HasPartsInRange e → after ≡ nodes ++ e ∷ [] → length nodes < 2 ^ 32 → IsStored after strangers lists entries
+node_stored nodes after strangers lists entries e stored absent range is room =
+    subst (λ ns. IsStored ns strangers lists entries) (sym is) (stored-node nodes strangers lists entries e stored absent range (omega (arith, length_push nodes e)))
 
-pub node_given : (nodes after : List Expr) (strangers : List Expr) (lists : List (List KeptListening)) (entries : List (Solved × Reason ℕ ℕ)) (e : Expr) (n : ℕ) → IsStored nodes strangers lists entries →
+pub node_given : (nodes after : List Expr) (strangers : List Expr) (lists : List (List KeptListening)) (entries : List ((ℕ × ℕ) × Reason ℕ ℕ)) (e : Expr) (n : ℕ) → IsStored nodes strangers lists entries →
     (Contains nodes e → ⊥) → HasPartsInRange e → after ≡ nodes ++ e ∷ [] → n ≡ length nodes →
     NodeGiven (graph_as nodes strangers lists entries) (graph_as after strangers lists entries) e n true
 node_given nodes after strangers lists entries e n stored absent range is number =

@@ -11,10 +11,9 @@ use Rattle.cred_graph.specs.declared.listeners.KeptListening.{KeptListening}
 use Rattle.cred_graph.specs.declared.ports.KeptPort.{KeptPort}
 use Rattle.cred_graph.specs.declared.ports.KeptPort.TheVariants as kept
 use Rattle.cred_graph.specs.Numbers.{entity_at, reason_at, IsEntity, IsReason}
-use Rattle.cred_graph.specs.NodeLists.{list_at, AddsAt, AreSame, IsOnce}
+use Rattle.cred_graph.specs.NodeLists.{list_at, AddsAt, AreSame, AreShort, IsOnce}
 use Rattle.cred_graph.specs.declared.solutions.Reason.{Reason}
 use Rattle.cred_graph.specs.declared.solutions.Solution.{Solution}
-use Rattle.cred_graph.specs.declared.solutions.Solved.{Solved}
 use Rattle.cred_graph.specs.Graph.{GraphState, IsGraph}
 
 -- the port that this one stands for
@@ -56,23 +55,23 @@ HearsOf old new n l true = (Contains (list_at old n) l → ⊥) × AddsAt old ne
 HearsOf old new n l false = Contains (list_at old n) l × AreSame old new
 
 -- the solution that an entry of the table stands for
-abbrev pub solution_as : List Expr → Solved × Reason ℕ ℕ → Solution
-solution_as nodes e = record { node = e.0.node; who = entity_at nodes e.0.who; reason = reason_at nodes e.1 }
+abbrev pub solution_as : List Expr → (ℕ × ℕ) × Reason ℕ ℕ → Solution
+solution_as nodes e = record { node = e.0.0; who = entity_at nodes e.0.1; reason = reason_at nodes e.1 }
 
 -- the table has an entry of this key
-abbrev pub HasKey : List (Solved × Reason ℕ ℕ) → Solved → Type 0
+abbrev pub HasKey : List ((ℕ × ℕ) × Reason ℕ ℕ) → ℕ × ℕ → Type 0
 HasKey entries key = (r : Reason ℕ ℕ) × Contains entries (key, r)
 
 -- the entities that have an entry at the node, in order
-abbrev pub members_by : ℕ → List (Solved × Reason ℕ ℕ) → List ℕ
-members_by n entries = map (λ e. e.0.who) (filter (λ e. e.0.node == n) entries)
+abbrev pub members_by : ℕ → List ((ℕ × ℕ) × Reason ℕ ℕ) → List ℕ
+members_by n entries = map (λ e. e.0.1) (filter (λ e. e.0.0 == n) entries)
 
 -- each node has the list of these
-abbrev pub AreMembers : List (Solved × Reason ℕ ℕ) → List (List ℕ) → Type 0
+abbrev pub AreMembers : List ((ℕ × ℕ) × Reason ℕ ℕ) → List (List ℕ) → Type 0
 AreMembers entries lists = (n : ℕ) → list_at lists n ≡ members_by n entries
 
 -- the table has an entry of this key now, and b says whether it is new: an entry that is there keeps its reason
-abbrev pub Solves : List (Solved × Reason ℕ ℕ) → List (Solved × Reason ℕ ℕ) → Solved → Reason ℕ ℕ → Bool → Type 0
+abbrev pub Solves : List ((ℕ × ℕ) × Reason ℕ ℕ) → List ((ℕ × ℕ) × Reason ℕ ℕ) → ℕ × ℕ → Reason ℕ ℕ → Bool → Type 0
 Solves old new key r true = (HasKey old key → ⊥) × (new ≡ old ++ (key, r) ∷ [])
 Solves old new key r false = HasKey old key × (new ≡ old)
 
@@ -88,7 +87,7 @@ hash_in_row n = bit_or
     (n * 0x9e37_79b9_7f4a_7c15 % 2 ^ 64 / 2 ^ 56 * 2 ^ 24 % 2 ^ 64)
 
 -- the graph that the tables stand for
-abbrev pub graph_as : List Expr → List Expr → List (List KeptListening) → List (Solved × Reason ℕ ℕ) → GraphState
+abbrev pub graph_as : List Expr → List Expr → List (List KeptListening) → List ((ℕ × ℕ) × Reason ℕ ℕ) → GraphState
 graph_as nodes strangers lists entries = record {
   nodes = nodes;
   listeners = lists_from nodes strangers 0 (length nodes) lists;
@@ -97,10 +96,11 @@ graph_as nodes strangers lists entries = record {
 
 -- they are a graph, who is listened to is a node, and each number is one of an entity
 pub record IsStored (nodes : List Expr) (strangers : List Expr) (lists : List (List KeptListening))
-    (entries : List (Solved × Reason ℕ ℕ)) : Type 0 where
+    (entries : List ((ℕ × ℕ) × Reason ℕ ℕ)) : Type 0 where
   pub graph : IsGraph (graph_as nodes strangers lists entries)
+  pub short : AreShort nodes
   pub once : IsOnce strangers
   pub asked : (n : ℕ) → length nodes ≤ n → list_at lists n ≡ []
   pub ports : (n : ℕ) (l : KeptListening) → Contains (list_at lists n) l → IsKept nodes strangers l.port
-  pub members : (j : ℕ) (e : Solved × Reason ℕ ℕ) → slice_get entries j ≡ Some e → IsEntity nodes e.0.who
-  pub reasons : (j : ℕ) (e : Solved × Reason ℕ ℕ) → slice_get entries j ≡ Some e → IsReason nodes e.1
+  pub members : (j : ℕ) (e : (ℕ × ℕ) × Reason ℕ ℕ) → slice_get entries j ≡ Some e → IsEntity nodes e.0.1
+  pub reasons : (j : ℕ) (e : (ℕ × ℕ) × Reason ℕ ℕ) → slice_get entries j ≡ Some e → IsReason nodes e.1

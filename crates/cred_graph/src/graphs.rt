@@ -5,7 +5,7 @@ use crate::listeners::{KeptListening, Port};
 use crate::nodes::Nodes;
 use crate::ports::{keep_port, kept_port, port_name, port_number};
 use crate::reasons::{reason_name, reason_number};
-use crate::solutions::{Reason, Solved};
+use crate::solutions::Reason;
 use crate::tables::Tables;
 use credential_text::Expr;
 use names::Entity;
@@ -110,7 +110,10 @@ impl Graph {
         ensures node { MatchOption result (Contains self.now.nodes expr.now → ⊥) (λ n. IsNode self.now n expr.now) }
         ensures graph { IsGraph self.now }
     {
-        self.nodes.number(expr)
+        match self.nodes.number(expr) {
+            Some(n) => Some(n as u64),
+            None => None,
+        }
     }
 
     /// The expression of the node.
@@ -134,10 +137,9 @@ impl Graph {
         ensures unchanged { OnErr result (self.new ≡ self.old) }
     {
         let port = keep_port(&self.nodes, &mut self.strangers, &port)?;
-        let asked = self.nodes.short(n);
-        let asker = self.nodes.short(m);
+        let asker = m as u32;
         self.tables
-            .add_listener(asked, KeptListening { asker, port })
+            .add_listener(n as u32, KeptListening { asker, port })
     }
 
     /// How many listeners the node has.
@@ -146,7 +148,7 @@ impl Graph {
         ensures count { result ≡ length (listeners_of self.now n) }
         ensures graph { IsGraph self.now }
     {
-        self.tables.listeners(self.nodes.short(n)).len() as u64
+        self.tables.listeners(n as u32).len() as u64
     }
 
     /// The node that listens in this place among the node's listeners, and its port.
@@ -155,7 +157,7 @@ impl Graph {
         requires place { i < length (listeners_of self.now n) }
         ensures { slice_get (listeners_of self.now n) i ≡ Some (record { asker = result.0; port = result.1 }) }
     {
-        let kept = self.tables.listener(self.nodes.short(n), i);
+        let kept = self.tables.listener(n as u32, i);
         let port = port_name(&self.nodes, &self.strangers, kept.port);
         (kept.asker as u64, port)
     }
@@ -182,7 +184,7 @@ impl Graph {
         ensures count { result ≡ length (members_of self.now n) }
         ensures graph { IsGraph self.now }
     {
-        self.tables.members(self.nodes.short(n)).len() as u64
+        self.tables.members(n as u32).len() as u64
     }
 
     /// The solution of this place among the node's solutions.
@@ -191,8 +193,7 @@ impl Graph {
         requires place { i < length (members_of self.now n) }
         ensures { slice_get (members_of self.now n) i ≡ Some result }
     {
-        self.nodes
-            .entity(self.tables.solution(self.nodes.short(n), i))
+        self.nodes.entity(self.tables.solution(n as u32, i))
     }
 
     /// The place of this solution of the node among all solutions of the graph, and its reason, if it is one.
@@ -204,11 +205,10 @@ impl Graph {
         if n >= self.nodes.count() {
             return None;
         }
-        let node = self.nodes.short(n);
         let Some(number) = self.nodes.entity_number(who) else {
             return None;
         };
-        match self.tables.find(&Solved { node, who: number }) {
+        match self.tables.find(n as u32, number) {
             Some((place, reason)) => Some((place, reason_name(&self.nodes, reason))),
             None => None,
         }
@@ -219,7 +219,8 @@ impl Graph {
         requires { n < length self.now.nodes }
         ensures { result ≡ n }
     {
-        self.nodes.short(n)
+        let _nodes = self.nodes.count();
+        n as u32
     }
 
     /// The entity of this number.
@@ -255,10 +256,9 @@ impl Graph {
         ensures unchanged { OnErr result (self.new ≡ self.old) }
     {
         let port = kept_port(&self.nodes, &self.strangers, port);
-        let asked = self.nodes.short(n);
-        let asker = self.nodes.short(m);
+        let asker = m as u32;
         self.tables
-            .add_listener(asked, KeptListening { asker, port })
+            .add_listener(n as u32, KeptListening { asker, port })
     }
 
     /// As `listener`, with the number of the port's name.
@@ -270,7 +270,7 @@ impl Graph {
         ensures listener { slice_get (listeners_of self.now n) i
             ≡ Some (record { asker = result.0; port = port_at self.now.nodes result.1 }) }
     {
-        let kept = self.tables.listener(self.nodes.short(n), i);
+        let kept = self.tables.listener(n as u32, i);
         let port = port_number(&self.nodes, &self.strangers, kept.port);
         (kept.asker as u64, port)
     }
@@ -292,11 +292,7 @@ impl Graph {
         ensures growth { OnErr result (IsSolution self.old n (entity_at self.old.nodes who) → ⊥) }
         ensures unchanged { OnErr result (self.new ≡ self.old) }
     {
-        let solved = Solved {
-            node: self.nodes.short(n),
-            who,
-        };
-        self.tables.add_solution(solved, reason)
+        self.tables.add_solution(n as u32, who, reason)
     }
 
     /// As `solution`, by its number.
@@ -306,6 +302,6 @@ impl Graph {
         ensures entity { IsEntity self.now.nodes result }
         ensures solution { slice_get (members_of self.now n) i ≡ Some (entity_at self.now.nodes result) }
     {
-        self.tables.solution(self.nodes.short(n), i)
+        self.tables.solution(n as u32, i)
     }
 }

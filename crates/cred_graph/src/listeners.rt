@@ -1,12 +1,14 @@
+ghost use Rattle.std.specs.Prelude.{◌≡◌, ⊤};
 ghost use Rattle.std.specs.Hash as fed;
 ghost use borrow.Author.Rules.{rules};
 
 use crate::ports::KeptPort;
 use names::Entity;
+use std::alloc::AllocError;
 use std::hash::{Hash, Hasher};
 
 /// For what an expression listens to another. The member of a base is an `Entity`, or the number of one.
-#[derive(Clone, Copy, PartialEq, Eq)]
+#[derive(Copy, PartialEq, Eq)]
 pub enum Port<E = Entity> {
     /// A role, for the body of one of its credentials.
     Body,
@@ -16,6 +18,16 @@ pub enum Port<E = Entity> {
     Via(E),
     /// An intersection, for its part of this number, counted from 0.
     Part(u8),
+}
+
+impl<E: Copy> Clone for Port<E> {
+    ghost is_clone = { λ x y. y ≡ x };
+
+    ghost is_infallible = { λ _. ⊤ };
+
+    fn clone(&self) -> Result<Self, AllocError> {
+        Ok(*self)
+    }
 }
 
 /// Who listens to a node: the node `asker`, on a port. One node may listen to another on two ports, which are two

@@ -50,11 +50,11 @@ impl Nodes {
     }
 
     /// The number of the expression's node, if it has one.
-    pub fn number(&self, expr: &Expr) -> Option<u64>
+    pub fn number(&self, expr: &Expr) -> Option<u32>
         ensures { MatchOption result (Contains self.now expr.now → ⊥) (λ n. slice_get self.now n ≡ Some expr.now) }
     {
         match self.exprs.get_index_of(expr) {
-            Some(n) => Some(n as u64),
+            Some(n) => Some(n as u32),
             None => None,
         }
     }
@@ -113,23 +113,11 @@ impl Nodes {
         &self.exprs.as_slice()[n as usize]
     }
 
-    /// The node's number in 32 bits.
-    pub fn short(&self, n: u64) -> u32
-        requires { n < length self.now }
-        ensures { result ≡ n }
-    {
-        let _nodes = self.exprs.len();
-        n as u32
-    }
-
     /// The number of the entity's node, if it has one.
     pub fn entity_number(&self, who: &Entity) -> Option<u32>
         ensures { MatchOption result (Contains self.now (exprs.Ent who.now) → ⊥) (λ k. slice_get self.now k ≡ Some (exprs.Ent who.now)) }
     {
-        match self.number(&Expr::Ent(*who)) {
-            Some(n) => Some(self.short(n)),
-            None => None,
-        }
+        self.number(&Expr::Ent(*who))
     }
 
     /// The entity of this number.

@@ -1,5 +1,22 @@
-//! How much room the tables of a graph keep where they give memory back. `usize::MAX` is all that a table has.
-ghost use Rattle.std.specs.Prelude.{◌≡◌, ◌-◌, ◌/◌, ◌^◌, ◌&&◌, nat_le, nat_lt, if◌then◌else◌};
+//! How much room the tables of a graph make, and keep where they give memory back. `usize::MAX` is all that a table has.
+ghost use Rattle.std.specs.Prelude.{◌≡◌, ◌-◌, ◌≤◌, ◌/◌, ◌^◌, ◌&&◌, nat_le, nat_lt, if◌then◌else◌};
+
+/// Room for so many entries is made with the first one, as many as sixteen groups of a map's index take.
+const FIRST_ROOM: usize = 144;
+
+/// A table of fewer entries grows fourfold, so that it is moved and indexed anew less often.
+const SMALL: usize = 4096;
+
+/// For how many entries room is made where it is asked for one: a table that is full and still small grows fourfold.
+pub fn room_for_one(taken: usize, room: usize) -> usize
+    ensures { 1 ≤ result }
+{
+    if taken == room {
+        (3 * taken.min(SMALL)).max(FIRST_ROOM)
+    } else {
+        1
+    }
+}
 
 /// The room that a table keeps as it is emptied: all of it, where that is as much as a search begins with and not as much as
 /// a large one has. A table that has less is had anew sooner than it grows, since to grow moves what it had room for.

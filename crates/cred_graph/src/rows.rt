@@ -7,10 +7,18 @@ use std::alloc::AllocError;
 
 /// The listeners of a node and the numbers of its solutions, each in order of adding. Four listeners and eight numbers
 /// stand in the row itself.
-#[derive(Drop)]
 pub struct Row {
     pub listeners: SmallVec<KeptListening, 4>,
     pub members: SmallVec<u32, 8>,
+}
+
+impl Drop for Row {
+    fn drop(self) {
+        let Row {
+            listeners: _listeners,
+            members: _members,
+        } = self;
+    }
 }
 
 /// Adds a listener at the end of those of the node.

@@ -35,10 +35,3 @@ pub struct Solution {
     pub who: Entity,
     pub reason: Reason,
 }
-
-/// That the entity of this number is a solution of a node.
-#[derive(Clone, Copy, PartialEq, Eq, Hash)]
-pub struct Solved {
-    pub node: u32,
-    pub who: u32,
-}

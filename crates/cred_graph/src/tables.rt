@@ -2,9 +2,9 @@ ghost use Rattle.std.specs.Prelude.{◌≡◌, ◌↔◌, ◌<◌, ◌≤◌, �
 ghost use Rattle.std.specs.Prelude.{IfOk, OnOk, OnErr, MatchOption, Contains};
 
 use crate::listeners::KeptListening;
-use crate::rooms::{kept_room, kept_when_empty};
+use crate::rooms::{kept_room, kept_when_empty, room_for_one};
 use crate::rows::{Row, add_listener, add_member};
-use crate::solutions::{Reason, Solved};
+use crate::solutions::Reason;
 use crate::solved_hashes::SolvedHasher;
 use indexmap::{IndexMap, IndexSet};
 use std::alloc::{AllocError, Global};
@@ -14,12 +14,6 @@ use std::marker::Model;
 /// So many listeners of a node are looked through one by one.
 const NEAR: usize = 8;
 
-/// Room for so many solutions is made with the first one, as many as sixteen groups of a map's index take.
-const FIRST_ROOM: usize = 144;
-
-/// A table of fewer solutions grows fourfold, so that it is moved and indexed anew less often.
-const SMALL: usize = 4096;
-
 /// The listeners of each node, each once and in order of adding, and the solutions of all nodes with their reasons, in
 /// order of adding. Entities are spoken of by number. A node's row has its listeners and who its solutions are; listeners
 /// beyond the first ones of their node stand in a table too.
@@ -27,17 +21,17 @@ const SMALL: usize = 4096;
 pub struct Tables {
     rows: Vec<Row>,
     far: IndexSet<(u32, KeptListening)>,
-    reasons: IndexMap<Solved, Reason<u32, u32>, BuildHasherDefault<SolvedHasher>>,
+    // By the numbers of the node and of the entity.
+    reasons: IndexMap<(u32, u32), Reason<u32, u32>, BuildHasherDefault<SolvedHasher>>,
 }
 
 impl Model for Tables {
     ghost use Rattle.std.specs.Prelude.{ℕ, List, map};
     ghost use Rattle.cred_graph.specs.declared.listeners.KeptListening.{KeptListening};
-    ghost use Rattle.cred_graph.specs.declared.solutions.Solved.{Solved};
     ghost use Rattle.cred_graph.specs.declared.solutions.Reason.{Reason};
     ghost use Rattle.cred_graph.specs.Stored.{AreFar, AreMembers};
 
-    ghost Value = { List (List KeptListening) × List (Solved × Reason ℕ ℕ) };
+    ghost Value = { List (List KeptListening) × List ((ℕ × ℕ) × Reason ℕ ℕ) };
 
     ghost view = { λ t. (map (λ r. r.listeners.items) t.rows.items, t.reasons.entries) };
 
@@ -96,9 +90,11 @@ impl Tables {
     pub fn listeners(&self, n: u32) -> &[KeptListening]
         ensures { result.now ≡ list_at self.now.0 n }
     {
-        match self.rows.as_slice().get(n as usize) {
-            Some(row) => row.listeners.as_slice(),
-            None => &[],
+        let n = n as usize;
+        if n < self.rows.len() {
+            self.rows[n].listeners.as_slice()
+        } else {
+            &[]
         }
     }
 
@@ -115,11 +111,10 @@ impl Tables {
         ensures { IsTrue result ↔ Contains (list_at self.now.0 n) listening.now }
     {
         let list = self.listeners(n);
-        let (near, others) = list.split_at(list.len().min(NEAR));
-        if near.contains(listening) {
-            return true;
+        if list.len() <= NEAR {
+            return list.contains(listening);
         }
-        !others.is_empty() && self.far.contains(&(n, *listening))
+        list[..NEAR].contains(listening) || self.far.contains(&(n, *listening))
     }
 
     /// Lets the node have the listener, and answers whether that is new.
@@ -132,31 +127,21 @@ impl Tables {
         if self.has(n, &listening) {
             return Ok(false);
         }
-        self.push_listener(n, listening)?;
-        Ok(true)
-    }
-
-    /// Adds a listener that the node doesn't have.
-    fn push_listener(&mut self, n: u32, listening: KeptListening) -> Result<(), AllocError>
-        requires { Contains (list_at self.old.0 n) listening → ⊥ }
-        ensures added { OnOk result (AddsAt self.old.0 self.new.0 n listening) }
-        ensures unchanged { OnErr result (AreSame self.old.0 self.new.0) }
-        ensures solutions { self.new.1 ≡ self.old.1 }
-    {
         if self.listeners(n).len() < NEAR {
-            return add_listener(&mut self.rows, n, listening);
+            add_listener(&mut self.rows, n, listening)?;
+            return Ok(true);
         }
         self.far.reserve(1)?;
         add_listener(&mut self.rows, n, listening)?;
         let _is_new = self.far.insert((n, listening)).unwrap();
-        Ok(())
+        Ok(true)
     }
 
     /// The place of the solution, and its reason, if it is there.
-    pub fn find(&self, solved: &Solved) -> Option<(u64, Reason<u32, u32>)>
-        ensures { MatchOption result (HasKey self.now.1 solved.now → ⊥) (λ r. slice_get self.now.1 r.0 ≡ Some (solved.now, r.1)) }
+    pub fn find(&self, node: u32, who: u32) -> Option<(u64, Reason<u32, u32>)>
+        ensures { MatchOption result (HasKey self.now.1 (node, who) → ⊥) (λ r. slice_get self.now.1 r.0 ≡ Some ((node, who), r.1)) }
     {
-        match self.reasons.get_full(solved) {
+        match self.reasons.get_full(&(node, who)) {
             Some((place, _solved, reason)) => Some((place as u64, *reason)),
             None => None,
         }
@@ -165,54 +150,34 @@ impl Tables {
     /// Adds a solution, and answers whether that is new. The first reason stays.
     pub fn add_solution(
         &mut self,
-        solved: Solved,
+        node: u32,
+        who: u32,
         reason: Reason<u32, u32>,
     ) -> Result<bool, AllocError>
-        ensures ok { IfOk result (λ new. Solves self.old.1 self.new.1 solved reason new) }
-        ensures growth { OnErr result (HasKey self.old.1 solved → ⊥) }
+        ensures ok { IfOk result (λ new. Solves self.old.1 self.new.1 (node, who) reason new) }
+        ensures growth { OnErr result (HasKey self.old.1 (node, who) → ⊥) }
         ensures unchanged { OnErr result (self.new.1 ≡ self.old.1) }
         ensures listeners { AreSame self.old.0 self.new.0 }
     {
-        if let Some(_found) = self.find(&solved) {
+        if let Some(_found) = self.find(node, who) {
             return Ok(false);
         }
-        self.push_solution(solved, reason)?;
-        Ok(true)
-    }
-
-    /// Adds a solution that isn't there.
-    fn push_solution(&mut self, solved: Solved, reason: Reason<u32, u32>) -> Result<(), AllocError>
-        requires { HasKey self.old.1 solved → ⊥ }
-        ensures added { OnOk result (self.new.1 ≡ self.old.1 ++ (solved, reason) ∷ []) }
-        ensures unchanged { OnErr result (self.new.1 ≡ self.old.1) }
-        ensures listeners { AreSame self.old.0 self.new.0 }
-    {
-        let room = self.room_for_one();
+        let room = room_for_one(self.reasons.len(), self.reasons.capacity());
         self.reasons.reserve(room)?;
-        add_member(&mut self.rows, solved.node, solved.who)?;
-        let _earlier = self.reasons.insert(solved, reason).unwrap();
-        Ok(())
-    }
-
-    /// For how many solutions room is made where it is asked for one: a table that is still small grows fourfold.
-    fn room_for_one(&self) -> usize
-        ensures { 1 ≤ result }
-    {
-        let count = self.reasons.len();
-        if count == self.reasons.capacity() {
-            (3 * count.min(SMALL)).max(FIRST_ROOM)
-        } else {
-            1
-        }
+        add_member(&mut self.rows, node, who)?;
+        let _earlier = self.reasons.insert((node, who), reason).unwrap();
+        Ok(true)
     }
 
     /// The numbers of the node's solutions.
     pub fn members(&self, n: u32) -> &[u32]
         ensures { result.now ≡ members_by n self.now.1 }
     {
-        match self.rows.as_slice().get(n as usize) {
-            Some(row) => row.members.as_slice(),
-            None => &[],
+        let n = n as usize;
+        if n < self.rows.len() {
+            self.rows[n].members.as_slice()
+        } else {
+            &[]
         }
     }
 

@@ -25,17 +25,11 @@ returns-in_err-port c =
           (joined_same c.self.inside.nodes c.self.inside.strangers c.keep_port.new.strangers c.self.inside.tables.0 c.self.inside.tables.0 c.self.inside.tables.1 c.self.invariant c.keep_port.ensures.joins));
     }
 
-pub short-asked-requires : goal.short-asked-requires
-short-asked-requires c = rw (← c.self.view_is) at c.requires.asked
-
-pub short-asker-requires : goal.short-asker-requires
-short-asker-requires c = rw (← c.self.view_is) at c.requires.asker
-
 pub invariant_of-self-2 : goal.invariant_of-self-2
 invariant_of-self-2 c =
-    let asked = rw (← c.self.view_is, ← c.short-asked.ensures) at c.requires.asked in
-    let asker = rw (← c.self.view_is, ← c.short-asker.ensures) at c.requires.asker in
-    listener_kept c.self.inside.nodes c.self.inside.strangers c.keep_port.new.strangers c.self.inside.tables.0 c.add_listener.new.self.0 c.self.inside.tables.1 c.self.invariant c.keep_port.ensures.joins c.short-asked.result (record { asker = c.short-asker.result; port = c.in_ok-port.port }) asked asker c.in_ok-port.ensures.kept.0 c.add_listener.new.self.1 c.add_listener.ensures.solutions c.add_listener.result c.add_listener.ensures.ok c.add_listener.ensures.unchanged
+    let asked = rw (← c.self.view_is) at c.requires.asked in
+    let asker = rw (← c.self.view_is) at c.requires.asker in
+    listener_kept c.self.inside.nodes c.self.inside.strangers c.keep_port.new.strangers c.self.inside.tables.0 c.add_listener.new.self.0 c.self.inside.tables.1 c.self.invariant c.keep_port.ensures.joins c.args.n (record { asker = c.args.m; port = c.in_ok-port.port }) asked asker c.in_ok-port.ensures.kept.0 c.add_listener.new.self.1 c.add_listener.ensures.solutions c.add_listener.result c.add_listener.ensures.ok c.add_listener.ensures.unchanged
 
 -- what the call gives
 given : (c : After-add_listener) →
@@ -45,14 +39,14 @@ given : (c : After-add_listener) →
     (record { asker = c.args.m; port = c.args.port })
     c.add_listener.result
 given c =
-    let asked = rw (← c.self.view_is, ← c.short-asked.ensures) at c.requires.asked in
-    let asker = rw (← c.self.view_is, ← c.short-asker.ensures) at c.requires.asker in
-    rw (← c.self.view_is, ← c.short-asked.ensures)
+    let asked = rw (← c.self.view_is) at c.requires.asked in
+    let asker = rw (← c.self.view_is) at c.requires.asker in
+    rw (← c.self.view_is)
     (listens_by c.self.inside.nodes c.self.inside.strangers c.keep_port.new.strangers c.self.inside.tables.0
-    c.add_listener.new.self.0 c.self.inside.tables.1 c.self.invariant c.keep_port.ensures.joins c.short-asked.result
-    (record { asker = c.short-asker.result; port = c.in_ok-port.port }) asked asker c.in_ok-port.ensures.kept.0
+    c.add_listener.new.self.0 c.self.inside.tables.1 c.self.invariant c.keep_port.ensures.joins c.args.n
+    (record { asker = c.args.m; port = c.in_ok-port.port }) asked asker c.in_ok-port.ensures.kept.0
     c.add_listener.new.self.1 c.add_listener.ensures.solutions (record { asker = c.args.m; port = c.args.port })
-    (λ i. record { asker = c.short-asker.ensures i; port = c.in_ok-port.ensures.kept.1 i })
+    (λ i. record { asker = c.args.m; port = c.in_ok-port.ensures.kept.1 i })
     c.add_listener.result c.add_listener.ensures.ok c.add_listener.ensures.growth c.add_listener.ensures.unchanged)
 
 pub returns-clause-ok : goal.returns-clause-ok

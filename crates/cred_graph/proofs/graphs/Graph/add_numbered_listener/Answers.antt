@@ -7,9 +7,9 @@ use Rattle.cred_graph.proofs.graphs.Graph.add_numbered_listener.Goals.{After-add
 
 pub invariant_of-self : goal.invariant_of-self
 invariant_of-self c =
-    let asked = rw (← c.self.view_is, ← c.short-asked.ensures) at c.requires.asked in
-    let asker = rw (← c.self.view_is, ← c.short-asker.ensures) at c.requires.asker in
-    listener_kept c.self.inside.nodes c.self.inside.strangers c.self.inside.strangers c.self.inside.tables.0 c.add_listener.new.self.0 c.self.inside.tables.1 c.self.invariant (inl refl) c.short-asked.result (record { asker = c.short-asker.result; port = c.kept_port-port.result }) asked asker c.kept_port-port.ensures.kept c.add_listener.new.self.1 c.add_listener.ensures.solutions c.add_listener.result c.add_listener.ensures.ok c.add_listener.ensures.unchanged
+    let asked = rw (← c.self.view_is) at c.requires.asked in
+    let asker = rw (← c.self.view_is) at c.requires.asker in
+    listener_kept c.self.inside.nodes c.self.inside.strangers c.self.inside.strangers c.self.inside.tables.0 c.add_listener.new.self.0 c.self.inside.tables.1 c.self.invariant (inl refl) c.args.n (record { asker = c.args.m; port = c.kept_port-port.result }) asked asker c.kept_port-port.ensures.kept c.add_listener.new.self.1 c.add_listener.ensures.solutions c.add_listener.result c.add_listener.ensures.ok c.add_listener.ensures.unchanged
 
 -- what the call gives
 given : (c : After-add_listener) →
@@ -19,14 +19,14 @@ given : (c : After-add_listener) →
     (record { asker = c.args.m; port = port_at c.args.self.now.nodes c.args.port })
     c.add_listener.result
 given c =
-    let asked = rw (← c.self.view_is, ← c.short-asked.ensures) at c.requires.asked in
-    let asker = rw (← c.self.view_is, ← c.short-asker.ensures) at c.requires.asker in
-    rw (← c.self.view_is, ← c.short-asked.ensures)
+    let asked = rw (← c.self.view_is) at c.requires.asked in
+    let asker = rw (← c.self.view_is) at c.requires.asker in
+    rw (← c.self.view_is)
     (listens_by c.self.inside.nodes c.self.inside.strangers c.self.inside.strangers c.self.inside.tables.0
-    c.add_listener.new.self.0 c.self.inside.tables.1 c.self.invariant (inl refl) c.short-asked.result
-    (record { asker = c.short-asker.result; port = c.kept_port-port.result }) asked asker
+    c.add_listener.new.self.0 c.self.inside.tables.1 c.self.invariant (inl refl) c.args.n
+    (record { asker = c.args.m; port = c.kept_port-port.result }) asked asker
     c.kept_port-port.ensures.kept c.add_listener.new.self.1 c.add_listener.ensures.solutions (record { asker = c.args.m; port = port_at c.self.inside.nodes c.args.port })
-    (λ i. record { asker = c.short-asker.ensures i; port = c.kept_port-port.ensures.same i }) c.add_listener.result
+    (λ i. record { asker = c.args.m; port = c.kept_port-port.ensures.same i }) c.add_listener.result
     c.add_listener.ensures.ok c.add_listener.ensures.growth c.add_listener.ensures.unchanged)
 
 pub returns-clause-ok : goal.returns-clause-ok
@@ -46,9 +46,3 @@ returns-clause-unchanged c = (given (goal.at.returns-clause-unchanged c).After-a
 
 pub kept_port-port-requires : goal.kept_port-port-requires
 kept_port-port-requires c = rw (← c.self.view_is) at c.requires.port
-
-pub short-asked-requires : goal.short-asked-requires
-short-asked-requires c = rw (← c.self.view_is) at c.requires.asked
-
-pub short-asker-requires : goal.short-asker-requires
-short-asker-requires c = rw (← c.self.view_is) at c.requires.asker

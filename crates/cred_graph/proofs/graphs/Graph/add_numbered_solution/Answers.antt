@@ -1,3 +1,4 @@
+use Rattle.std.proofs.Common.{arith}
 use Rattle.cred_graph.specs.Numbers.{entity_at, reason_at}
 use Rattle.cred_graph.specs.Stored.{graph_as}
 use Rattle.cred_graph.proofs.CallLemmas.{Found, kept_by, found_by}
@@ -9,8 +10,8 @@ pub invariant_of-self : goal.invariant_of-self
 invariant_of-self c =
     let entity = rw (← c.self.view_is) at c.requires.entity in
     let reason = rw (← c.self.view_is) at c.requires.reason in
-    let fits = rw (← c.self.view_is, ← c.short.ensures) at c.requires.fits in
-    kept_by c.self.inside.nodes c.self.inside.strangers c.self.inside.tables.0 c.add_solution.new.self.0 c.self.inside.tables.1 c.add_solution.new.self.1 c.self.invariant c.add_solution.ensures.listeners (record { node = c.short.result; who = c.args.who }) c.args.reason entity reason
+    let fits = rw (← c.self.view_is) at c.requires.fits in
+    kept_by c.self.inside.nodes c.self.inside.strangers c.self.inside.tables.0 c.add_solution.new.self.0 c.self.inside.tables.1 c.add_solution.new.self.1 c.self.invariant c.add_solution.ensures.listeners (c.args.n, c.args.who) c.args.reason entity reason
     fits c.add_solution.result c.add_solution.ensures.ok c.add_solution.ensures.unchanged
 
 -- what the call gives
@@ -26,10 +27,10 @@ given : (c : After-add_solution) →
 given c =
     let entity = rw (← c.self.view_is) at c.requires.entity in
     let reason = rw (← c.self.view_is) at c.requires.reason in
-    let fits = rw (← c.self.view_is, ← c.short.ensures) at c.requires.fits in
-    rw (← c.self.view_is, ← c.short.ensures)
+    let fits = rw (← c.self.view_is) at c.requires.fits in
+    rw (← c.self.view_is)
     (found_by c.self.inside.nodes c.self.inside.strangers c.self.inside.tables.0 c.add_solution.new.self.0 c.self.inside.tables.1
-    c.add_solution.new.self.1 c.self.invariant c.add_solution.ensures.listeners (record { node = c.short.result; who = c.args.who }) c.args.reason entity
+    c.add_solution.new.self.1 c.self.invariant c.add_solution.ensures.listeners (c.args.n, c.args.who) c.args.reason entity
     reason fits c.add_solution.result c.add_solution.ensures.ok c.add_solution.ensures.growth c.add_solution.ensures.unchanged)
 
 pub returns-clause-ok : goal.returns-clause-ok
@@ -47,7 +48,8 @@ returns-clause-graph c = (given (goal.at.returns-clause-graph c).After-add_solut
 pub returns-clause-unchanged : goal.returns-clause-unchanged
 returns-clause-unchanged c = (given (goal.at.returns-clause-unchanged c).After-add_solution).unchanged
 
-pub short-requires : goal.short-requires
-short-requires c =
+pub overflow_cast-n : goal.overflow_cast-n
+overflow_cast-n c =
     let fits = rw (← c.self.view_is) at c.requires.fits in
-    fits_node (graph_as c.self.inside.nodes c.self.inside.strangers c.self.inside.tables.0 c.self.inside.tables.1) c.args.n _ _ fits
+    let node = fits_node (graph_as c.self.inside.nodes c.self.inside.strangers c.self.inside.tables.0 c.self.inside.tables.1) c.args.n _ _ fits in
+    record { fits = omega (arith, node, c.self.invariant.short) }

@@ -14,7 +14,10 @@ unreachable-requires c =
 pub reason_number-reason-requires : goal.reason_number-reason-requires
 reason_number-reason-requires c =
     let fits = rw (← c.self.view_is) at c.requires in
-    reason_has_numbers (graph_as c.self.inside.nodes c.self.inside.strangers c.self.inside.tables.0 c.self.inside.tables.1) c.self.invariant.graph c.args.n c.args.who c.args.reason fits
+    record {
+      short = c.self.invariant.short;
+      numbers = reason_has_numbers (graph_as c.self.inside.nodes c.self.inside.strangers c.self.inside.tables.0 c.self.inside.tables.1) c.self.invariant.graph c.args.n c.args.who c.args.reason fits;
+    }
 
 pub add_numbered_solution-requires-clause-entity : goal.add_numbered_solution-requires-clause-entity
 add_numbered_solution-requires-clause-entity c = rw (← c.self.view_is) (c.args.who, c.in-Some.ensures)

@@ -1,4 +1,4 @@
-use Rattle.std.proofs.Common.{ap, refl}
+use Rattle.std.proofs.Common.{ap, arith, refl}
 use Rattle.std.proofs.lemmas.Result.{IfOk-from_err}
 use Rattle.cred_graph.specs.Stored.{graph_as}
 use Rattle.cred_graph.proofs.Lists.{on_err}
@@ -8,12 +8,12 @@ use Rattle.cred_graph.proofs.graphs.Graph.node_of.Goals as goal
 pub invariant_of-self-2 : goal.invariant_of-self-2
 invariant_of-self-2 c =
     let absent = rw (← c.self.view_is) at c.in_default.ensures.node in
-    node_stored c.self.inside.nodes _ c.self.inside.strangers c.self.inside.tables.0 c.self.inside.tables.1 c.args.expr.now c.self.invariant absent c.in_ok-n.ensures.range c.in_ok-n.ensures.added
+    node_stored c.self.inside.nodes _ c.self.inside.strangers c.self.inside.tables.0 c.self.inside.tables.1 c.args.expr.now c.self.invariant absent c.in_ok-n.ensures.range c.in_ok-n.ensures.added (omega (arith, c.in_ok-n.ensures.number))
 
 pub returns-clause-graph : goal.returns-clause-graph
 returns-clause-graph c =
     let absent = rw (← c.self.view_is) at c.in_default.ensures.node in
-    (node_stored c.self.inside.nodes _ c.self.inside.strangers c.self.inside.tables.0 c.self.inside.tables.1 c.args.expr.now c.self.invariant absent c.in_ok-n.ensures.range c.in_ok-n.ensures.added).graph
+    (node_stored c.self.inside.nodes _ c.self.inside.strangers c.self.inside.tables.0 c.self.inside.tables.1 c.args.expr.now c.self.invariant absent c.in_ok-n.ensures.range c.in_ok-n.ensures.added (omega (arith, c.in_ok-n.ensures.number))).graph
 
 pub returns-clause-node : goal.returns-clause-node
 returns-clause-node c = node_stands c.self.inside.nodes _ c.args.expr.now c.in_ok-n.n c.in_ok-n.ensures.added c.in_ok-n.ensures.number

@@ -4,14 +4,11 @@ use Rattle.cred_graph.proofs.graphs.Graph.numbered_solution.Goals as goal
 
 pub solution-requires : goal.solution-requires
 solution-requires c =
-    let place = rw (← c.self.view_is, ← c.short.ensures) at c.requires.place in
-    omega (arith, length-members c.self.inside.nodes c.self.inside.strangers c.self.inside.tables.0 c.self.inside.tables.1 c.short.result)
+    let place = rw (← c.self.view_is) at c.requires.place in
+    omega (arith, length-members c.self.inside.nodes c.self.inside.strangers c.self.inside.tables.0 c.self.inside.tables.1 c.args.n)
 
 pub returns-clause-entity : goal.returns-clause-entity
-returns-clause-entity c = rw (← c.self.view_is) (member_entity c.self.inside.nodes c.self.inside.strangers c.self.inside.tables.0 c.self.inside.tables.1 c.short.result c.args.i c.solution.result c.self.invariant c.solution.ensures)
+returns-clause-entity c = rw (← c.self.view_is) (member_entity c.self.inside.nodes c.self.inside.strangers c.self.inside.tables.0 c.self.inside.tables.1 c.args.n c.args.i c.solution.result c.self.invariant c.solution.ensures)
 
 pub returns-clause-solution : goal.returns-clause-solution
-returns-clause-solution c = rw (← c.self.view_is, ← c.short.ensures) (member_read c.self.inside.nodes c.self.inside.strangers c.self.inside.tables.0 c.self.inside.tables.1 c.short.result c.args.i c.solution.result c.solution.ensures)
-
-pub short-requires : goal.short-requires
-short-requires c = rw (← c.self.view_is) at c.requires.node
+returns-clause-solution c = rw (← c.self.view_is) (member_read c.self.inside.nodes c.self.inside.strangers c.self.inside.tables.0 c.self.inside.tables.1 c.args.n c.args.i c.solution.result c.solution.ensures)

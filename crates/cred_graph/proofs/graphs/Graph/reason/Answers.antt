@@ -9,20 +9,20 @@ returns-in_default-clause-found c =
 pub returns-in-Some-find-clause-found : goal.returns-in-Some-find-clause-found
 returns-in-Some-find-clause-found c =
     rw (← c.self.view_is)
-    (reason_read c.self.inside.nodes c.self.inside.strangers c.self.inside.tables.0 c.self.inside.tables.1 c.args.n c.short-node.result c.in-Some.number c.in-Some-find.place c.args.who.now c.in-Some-find.reason c.reason_name.result c.short-node.ensures c.in-Some.ensures
+    (reason_read c.self.inside.nodes c.self.inside.strangers c.self.inside.tables.0 c.self.inside.tables.1 c.args.n c.in-Some.number c.in-Some-find.place c.args.who.now c.in-Some-find.reason c.reason_name.result c.in-Some.ensures
     c.in-Some-find.ensures c.reason_name.ensures)
 
 pub returns-in-Some-find-clause-earlier : goal.returns-in-Some-find-clause-earlier
 returns-in-Some-find-clause-earlier c =
     rw (← c.self.view_is)
     (found_earlier _ c.self.invariant.graph c.args.n c.in-Some-find.place c.args.who.now c.reason_name.result
-    (reason_read c.self.inside.nodes c.self.inside.strangers c.self.inside.tables.0 c.self.inside.tables.1 c.args.n c.short-node.result c.in-Some.number c.in-Some-find.place c.args.who.now c.in-Some-find.reason c.reason_name.result c.short-node.ensures c.in-Some.ensures
+    (reason_read c.self.inside.nodes c.self.inside.strangers c.self.inside.tables.0 c.self.inside.tables.1 c.args.n c.in-Some.number c.in-Some-find.place c.args.who.now c.in-Some-find.reason c.reason_name.result c.in-Some.ensures
     c.in-Some-find.ensures c.reason_name.ensures))
 
 pub returns-in-None-clause-found : goal.returns-in-None-clause-found
 returns-in-None-clause-found c =
     rw (← c.self.view_is)
-    (no_such_solution c.self.inside.nodes c.self.inside.strangers c.self.inside.tables.0 c.self.inside.tables.1 c.args.n c.short-node.result c.in-Some.number c.args.who.now c.self.invariant c.short-node.ensures c.in-Some.ensures c.in-None.ensures)
+    (no_such_solution c.self.inside.nodes c.self.inside.strangers c.self.inside.tables.0 c.self.inside.tables.1 c.args.n c.in-Some.number c.args.who.now c.self.invariant c.in-Some.ensures c.in-None.ensures)
 
 pub returns-then-n-count-clause-found : goal.returns-then-n-count-clause-found
 returns-then-n-count-clause-found c =
@@ -39,4 +39,4 @@ returns-in-None-clause-earlier c = tt
 
 pub reason_name-requires : goal.reason_name-requires
 reason_name-requires c =
-    c.self.invariant.reasons c.in-Some-find.place (record { node = c.short-node.result; who = c.in-Some.number }, c.in-Some-find.reason) c.in-Some-find.ensures
+    c.self.invariant.reasons c.in-Some-find.place ((c.args.n, c.in-Some.number), c.in-Some-find.reason) c.in-Some-find.ensures
