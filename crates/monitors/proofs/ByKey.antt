@@ -125,3 +125,17 @@ module _ {K : Type 0} (eq : K → K → Bool) (laws : IsEquivalence eq) (exact :
             let also : TellsApart name (who ∷ keys_of es) = λ a b x y. apart a b (now_known es who u a x) (now_known es who u b y) in
             subst (AreTellers parts) (sym (named_insert eq laws exact name es who u also)) (still_tellers (adds name also));
       }
+
+    -- the line of the entity was t, or one of no teller where it had none, and is u now
+    pub heard : (none t u : Tellers) (last : Bool) → none.told ≡ replicate 8 false → t ≡ unwrap_or (lookup (eq who) es) none → part < parts → (get_or t.told part false ≡ true → (last ≡ false) × (u ≡ t)) →
+        (get_or t.told part false ≡ false → (last ≡ (u.count == parts)) × (u.told ≡ set t.told part true)) → HearsByName before (record { parts = parts; lines = insert_entry eq es who u }) part who last × IsTable parts (insert_entry eq es who u)
+    heard none t u last nobody is below again new = by (get_or t.told part false) refl
+      where
+        by : (b : Bool) → get_or t.told part false ≡ b → HearsByName before (record { parts = parts; lines = insert_entry eq es who u }) part who last × IsTable parts (insert_entry eq es who u)
+        by true told =
+            let found = found_line (lookup (eq who) es) none t nobody is part told in
+            let stands = ap (insert_entry eq es who) (again told).1 ∙ line_stands es who t found in
+            rw (stands, (again told).0) (heard_already (ap (is_among part) found ∙ told), table)
+        by false untold =
+            let on = tellers_on (lookup (eq who) es) none t nobody is in
+            rw (new untold).0 (heard_new t u on (new untold).1 below untold, table_still t u on (new untold).1 below untold)
