@@ -1,6 +1,6 @@
 ghost use Rattle.std.specs.Prelude.{◌≡◌, [], IfOk, OnOk, OnErr, Contains};
 
-use crate::key_sets::KeySet;
+use crate::key_sets::{KeySet, insert};
 use crate::keys::Key;
 use names::Entity;
 use std::alloc::{AllocError, Global};
@@ -10,16 +10,18 @@ use std::marker::Model;
 /// these, by name or by another key. Contracts see it as the two lists, each in order of telling. What it was told stands
 /// on the heap, since most monitors of a search are told nothing and stand side by side.
 pub struct LinkMonitor<K: Key = Entity> {
-    bases: KeySet<K>,
-    members: KeySet<K>,
+    bases: Option<Box<KeySet<K>>>,
+    members: Option<Box<KeySet<K>>>,
+    alloc: Global,
 }
 
 impl<K: Key> Model for LinkMonitor<K> {
     ghost use Rattle.monitors.specs.LinkMonitor.{LinkToldBy};
+    ghost use Rattle.monitors.specs.Made.{keys_in};
 
     ghost Value = { LinkToldBy K };
 
-    ghost view = { λ m. record { bases = m.bases; members = m.members } };
+    ghost view = { λ m. record { bases = keys_in m.bases; members = keys_in m.members } };
 }
 
 // By hand, so that who holds one drops it by one call, whose proof stands here.
@@ -28,6 +30,7 @@ impl<K: Key> Drop for LinkMonitor<K> {
         let LinkMonitor {
             bases: _bases,
             members: _members,
+            alloc: _alloc,
         } = self;
     }
 }
@@ -40,8 +43,9 @@ impl<K: Key> LinkMonitor<K> {
         ensures { result ≡ record { bases = []; members = [] } }
     {
         LinkMonitor {
-            bases: KeySet::new(alloc),
-            members: KeySet::new(alloc),
+            bases: None,
+            members: None,
+            alloc,
         }
     }
 
@@ -52,7 +56,7 @@ impl<K: Key> LinkMonitor<K> {
         ensures growth { OnErr result (Contains self.old.bases base → ⊥) }
         ensures unchanged { OnErr result (self.new ≡ self.old) }
     {
-        self.bases.insert(base)
+        insert(&mut self.bases, self.alloc, base)
     }
 
     /// Hears that the entity is in the role which a member of the base gives it, and answers whether that is new: by
@@ -65,6 +69,6 @@ impl<K: Key> LinkMonitor<K> {
         ensures unchanged { OnErr result (self.new ≡ self.old) }
     {
         let _base = base;
-        self.members.insert(who)
+        insert(&mut self.members, self.alloc, who)
     }
 }
