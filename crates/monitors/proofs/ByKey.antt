@@ -18,14 +18,14 @@ of_nobody (suc n) (suc p) = of_nobody n p
 
 -- an entity's line, or if it has none, one of no teller
 module _ (found : Option Tellers) (none line : Tellers) (nobody : none.told ≡ replicate 8 false) (is : line ≡ unwrap_or found none) where
-  pub tellers_on : (p : ℕ) → get_or line.told p false ≡ is_among p found
+  tellers_on : (p : ℕ) → get_or line.told p false ≡ is_among p found
   tellers_on p = by found is
     where
       by : (o : Option Tellers) → line ≡ unwrap_or o none → get_or line.told p false ≡ is_among p o
       by None same = ap (λ (t : Tellers). get_or t.told p false) same ∙ ap (λ told. get_or told p false) nobody ∙ of_nobody 8 p
       by (Some t) same = ap (λ (t : Tellers). get_or t.told p false) same
 
-  pub found_line : (p : ℕ) → get_or line.told p false ≡ true → found ≡ Some line
+  found_line : (p : ℕ) → get_or line.told p false ≡ true → found ≡ Some line
   found_line p there = by found is (sym (tellers_on p) ∙ there)
     where
       by : (o : Option Tellers) → line ≡ unwrap_or o none → is_among p o ≡ true → o ≡ Some line
@@ -71,7 +71,7 @@ module _ {K : Type 0} (eq : K → K → Bool) (laws : IsEquivalence eq) (exact :
       ]
 
   -- a line that says that the part told the entity stands as it is
-  pub line_stands : (es : List (K × Tellers)) (who : K) (t : Tellers) → lookup (eq who) es ≡ Some t → insert_entry eq es who t ≡ es
+  line_stands : (es : List (K × Tellers)) (who : K) (t : Tellers) → lookup (eq who) es ≡ Some t → insert_entry eq es who t ≡ es
   line_stands [] who t found = cc
   line_stands (e ∷ es) who t found = by (eq who e.0) refl (line_stands es who t)
     where
@@ -94,7 +94,7 @@ module _ {K : Type 0} (eq : K → K → Bool) (laws : IsEquivalence eq) (exact :
     named_line : (name : K → List ℕ) → TellsApart name (who ∷ keys_of es) → (p : ℕ) → is_teller (named name es) p (name who) ≡ is_among p (lookup (eq who) es)
     named_line name apart p = ap (is_among p) (named_lookup eq laws exact name es who apart)
 
-    pub heard_already : is_among part (lookup (eq who) es) ≡ true → HearsByName before before part who false
+    heard_already : is_among part (lookup (eq who) es) ≡ true → HearsByName before before part who false
     heard_already there name apart = told_already parts (named name es) (are name apart) part (name who) (named_line name apart part ∙ there)
 
     pub never_heard : is_among part (lookup (eq who) es) ≡ false → IsUntold before part who
@@ -114,14 +114,28 @@ module _ {K : Type 0} (eq : K → K → Bool) (laws : IsEquivalence eq) (exact :
         absent = absent;
       }
 
-      pub heard_new : HearsByName before (record { parts = parts; lines = after }) part who (u.count == parts)
+      heard_new : HearsByName before (record { parts = parts; lines = after }) part who (u.count == parts)
       heard_new name apart =
           subst (λ ls. HearsPart (seen parts (named name es)) (seen parts ls) part (name who) (u.count == parts)) (sym (named_insert eq laws exact name es who u apart)) (tells_last (adds name apart))
 
-      pub table_still : IsTable parts after
+      table_still : IsTable parts after
       table_still = record {
         few = table.few;
         tellers = λ name apart.
             let also : TellsApart name (who ∷ keys_of es) = λ a b x y. apart a b (now_known es who u a x) (now_known es who u b y) in
             subst (AreTellers parts) (sym (named_insert eq laws exact name es who u also)) (still_tellers (adds name also));
       }
+
+    -- the line of the entity was t, or one of no teller where it had none, and is u now
+    pub heard : (none t u : Tellers) (last : Bool) → none.told ≡ replicate 8 false → t ≡ unwrap_or (lookup (eq who) es) none → part < parts → (get_or t.told part false ≡ true → (last ≡ false) × (u ≡ t)) →
+        (get_or t.told part false ≡ false → (last ≡ (u.count == parts)) × (u.told ≡ set t.told part true)) → HearsByName before (record { parts = parts; lines = insert_entry eq es who u }) part who last × IsTable parts (insert_entry eq es who u)
+    heard none t u last nobody is below again new = by (get_or t.told part false) refl
+      where
+        by : (b : Bool) → get_or t.told part false ≡ b → HearsByName before (record { parts = parts; lines = insert_entry eq es who u }) part who last × IsTable parts (insert_entry eq es who u)
+        by true told =
+            let found = found_line (lookup (eq who) es) none t nobody is part told in
+            let stands = ap (insert_entry eq es who) (again told).1 ∙ line_stands es who t found in
+            rw (stands, (again told).0) (heard_already (ap (is_among part) found ∙ told), table)
+        by false untold =
+            let on = tellers_on (lookup (eq who) es) none t nobody is in
+            rw (new untold).0 (heard_new t u on (new untold).1 below untold, table_still t u on (new untold).1 below untold)

@@ -4,3 +4,4 @@ pub mod TableLemmas
 pub mod CountLemmas
 pub mod KeyLemmas
 pub mod ByKey
+pub mod MadeLemmas

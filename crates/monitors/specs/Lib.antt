@@ -1,4 +1,4 @@
 pub mod LinkMonitor
 pub mod MeetMonitor
 pub mod Keys
-pub mod Memories
+pub mod Made

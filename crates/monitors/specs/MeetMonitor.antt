@@ -75,6 +75,10 @@ pub record MeetLines (K : Type 0) : Type 0 where
   pub lines : List (K × Tellers)
 
 module _ {K : Type 0} where
+  -- so many parts, with these lines
+  abbrev pub lines_of : ℕ → List (K × Tellers) → MeetLines K
+  lines_of parts lines = record { parts = parts; lines = lines }
+
   -- two of these keys don't stand for one name
   abbrev pub TellsApart : (K → List ℕ) → List K → Type 0
   TellsApart name keys = (a b : K) → Contains keys a → Contains keys b → name a ≡ name b → a ≡ b

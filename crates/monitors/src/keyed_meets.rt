@@ -1,45 +1,64 @@
-ghost use Rattle.std.specs.Prelude.{◌≡◌, ◌<◌, ◌≤◌, ℕ, [], IfOk, OnOk, OnErr};
-ghost use Rattle.monitors.specs.MeetMonitor.{HearsByName, IsUntold, HasKeysOf, IsTable};
-ghost use Rattle.monitors.specs.Memories.{lines_of, meet_told};
+ghost use Rattle.std.specs.Prelude.{◌≡◌, ◌<◌, ◌≤◌, [], IfOk, OnErr};
+ghost use Rattle.monitors.specs.MeetMonitor.{lines_of, HearsByName, IsUntold, HasKeysOf, IsTable};
 
 use crate::keys::Key;
+use crate::making::{Empty, make};
 use crate::tellers::Tellers;
 use indexmap::IndexMap;
 use std::alloc::{AllocError, Global};
 use std::marker::Model;
 
-/// What an intersection keeps of what it was told: the number of its parts, and once it is told something, for each entity the
-/// parts that told it.
-#[derive(Drop)]
-enum MeetMemory<K: Key> {
-    Untold(u8),
-    Told(u8, Box<IndexMap<K, Tellers>>),
+/// For each entity that an intersection was told of, by its key, the parts that told it.
+struct MeetTable<K: Key> {
+    lines: IndexMap<K, Tellers>,
+}
+
+// By hand, so that who holds one drops it by one call, whose proof stands here.
+impl<K: Key> Drop for MeetTable<K> {
+    fn drop(self) {
+        let MeetTable { lines: _lines } = self;
+    }
+}
+
+impl<K: Key> Empty for MeetTable<K> {
+    ghost use Rattle.std.specs.Prelude.{◌≡◌, []};
+
+    ghost IsEmpty = { λ t. t.lines.entries ≡ [] };
+
+    fn empty(alloc: Global) -> Self {
+        MeetTable {
+            lines: IndexMap::new(alloc),
+        }
+    }
 }
 
 /// What an intersection of 2 to 8 parts was told: for each entity, by its key, the parts that told it. Contracts say what it
 /// hears by the names that the keys stand for, whichever these are. What it was told stands on the heap, since most monitors
 /// of a search are told nothing and stand side by side.
 pub struct KeyedMeet<K: Key> {
-    memory: MeetMemory<K>,
+    parts: u8,
+    told: Option<Box<MeetTable<K>>>,
     alloc: Global,
 }
 
 impl<K: Key> Model for KeyedMeet<K> {
+    ghost use Rattle.std.specs.Prelude.{[]};
+    ghost use Rattle.monitors.specs.Made.{made_or};
     ghost use Rattle.monitors.specs.MeetMonitor.{MeetLines, IsTable};
-    ghost use Rattle.monitors.specs.Memories.{meet_told};
 
     ghost Value = { MeetLines K };
 
-    ghost view = { λ m. meet_told m.memory };
+    ghost view = { λ m. record { parts = m.parts; lines = made_or [] (λ t. t.lines.entries) m.told } };
 
-    ghost invariant = { λ m. IsTable (meet_told m.memory).parts (meet_told m.memory).lines };
+    ghost invariant = { λ m. IsTable m.parts (made_or [] (λ t. t.lines.entries) m.told) };
 }
 
 // By hand, so that who holds one drops it by one call, whose proof stands here.
 impl<K: Key> Drop for KeyedMeet<K> {
     fn drop(self) {
         let KeyedMeet {
-            memory: _memory,
+            parts: _parts,
+            told: _told,
             alloc: _alloc,
         } = self;
     }
@@ -55,7 +74,8 @@ impl<K: Key> KeyedMeet<K> {
         ensures { result ≡ record { parts = parts; lines = [] } }
     {
         KeyedMeet {
-            memory: MeetMemory::Untold(parts),
+            parts,
+            told: None,
             alloc,
         }
     }
@@ -69,24 +89,12 @@ impl<K: Key> KeyedMeet<K> {
         ensures growth { OnErr result (IsUntold self.old part who) }
         ensures unchanged { OnErr result (self.new ≡ self.old) }
     {
-        make_table(&mut self.memory, self.alloc)?;
-        match &mut self.memory {
-            MeetMemory::Told(parts, told) => hear(told, *parts, part, who),
-            MeetMemory::Untold(_parts) => unreachable!(),
+        make(&mut self.told, self.alloc)?;
+        match &mut self.told {
+            Some(table) => hear(&mut table.lines, self.parts, part, who),
+            None => unreachable!(),
         }
     }
-}
-
-/// Makes the table of an intersection, with no line, where there is none.
-fn make_table<K: Key>(memory: &mut MeetMemory<K>, alloc: Global) -> Result<(), AllocError>
-    ensures made { OnOk result ((parts : ℕ) → memory.new ≡ MeetMemory.Untold parts → ⊥) }
-    ensures lacking { OnErr result ((meet_told memory.old).lines ≡ []) }
-    ensures told { meet_told memory.new ≡ meet_told memory.old }
-{
-    if let MeetMemory::Untold(parts) = memory {
-        *memory = MeetMemory::Told(*parts, Box::new(alloc, IndexMap::new(alloc))?);
-    }
-    Ok(())
 }
 
 /// Hears in a table of the tellers of entities what `KeyedMeet::part_told` hears.
@@ -105,9 +113,5 @@ fn hear<K: Key>(
     ensures table { IsTable parts told.new.entries }
 {
     let line = told.entry(who)?.or_insert(Tellers::none());
-    if line.has(part) {
-        return Ok(false);
-    }
-    *line = line.with(part);
-    Ok(line.count() == parts)
+    Ok(line.hear(part, parts))
 }

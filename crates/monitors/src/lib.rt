@@ -11,6 +11,7 @@ mod key_sets;
 mod keyed_meets;
 mod keys;
 mod link_monitors;
+mod making;
 mod meet_monitors;
 mod tellers;
 

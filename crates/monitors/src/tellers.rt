@@ -1,7 +1,7 @@
-ghost use Rattle.std.specs.Prelude.{◌≡◌, ◌<◌, false, true, filter, length, slice_index_or, slice_set, replicate};
+ghost use Rattle.std.specs.Prelude.{◌≡◌, ◌<◌, false, true, filter, length, nat_eq, slice_index_or, slice_set, replicate};
 
 /// Which of up to 8 parts of an intersection told an entity, and how many did. Parts are counted from 0.
-#[derive(Clone, Copy)]
+#[derive(Drop)]
 pub struct Tellers {
     told: [bool; 8],
     count: u8,
@@ -20,32 +20,21 @@ impl Tellers {
         }
     }
 
-    /// Whether the part told it.
-    pub fn has(&self, part: u8) -> bool
+    /// Hears that the part told it, and answers whether that is new and so many parts have told it with this.
+    pub fn hear(&mut self, part: u8, parts: u8) -> bool
         requires { part < 8 }
-        ensures { result ≡ slice_index_or self.now.told part false }
+        ensures again { slice_index_or self.old.told part false ≡ true → (result ≡ false) × (self.new ≡ self.old) }
+        ensures new { slice_index_or self.old.told part false ≡ false → (result ≡ nat_eq self.new.count parts) × (self.new.told ≡ slice_set self.old.told part true) }
     {
-        self.told[part as usize]
-    }
-
-    /// How many parts told it.
-    pub fn count(&self) -> u8
-        ensures { result ≡ self.now.count }
-    {
-        self.count
-    }
-
-    /// These and one more part.
-    pub fn with(self, part: u8) -> Self
-        requires part { part < 8 }
-        requires new { slice_index_or self.told part false ≡ false }
-        ensures { result.told ≡ slice_set self.told part true }
-    {
+        if self.told[part as usize] {
+            return false;
+        }
         let mut told = self.told;
         told[part as usize] = true;
-        Tellers {
+        *self = Tellers {
             told,
             count: self.count + 1,
-        }
+        };
+        self.count == parts
     }
 }
