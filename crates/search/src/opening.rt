@@ -1,5 +1,5 @@
 //! How a node opens, at its first Ask: an entity is its own solution, any other expression asks.
-ghost use Rattle.std.specs.Prelude.{◌≡◌, ◌+◌, ◌<◌, ◌≤◌, length, option_copied, OnOk};
+ghost use Rattle.std.specs.Prelude.{◌≡◌, ◌<◌, ◌≤◌, length, option_copied, OnOk};
 ghost use Rattle.names.specs.declared.roles.Role.{Role};
 ghost use Rattle.credential_text.specs.declared.exprs.Expr.{Expr};
 ghost use Rattle.snapshots.specs.Span.{role_rows, span_of};
@@ -18,26 +18,8 @@ use std::alloc::{AllocError, Global};
 /// For the bodies of so many rows room is made as they are asked.
 const FEW_ROWS: u64 = 16;
 
-// Makes room for the nodes of the rows' bodies at once, unless the last of these has a node already.
-fn make_room(
-    found: &mut Findings,
-    snapshot: &Snapshot,
-    span: Span,
-    count: u64,
-) -> Result<(), AllocError>
-    requires span { (role : Role) × (span ≡ span_of snapshot.now.vaults role) }
-    requires rows { span.lo + count ≡ span.hi }
-    requires some { 0 < count }
-    ensures { found.new ≡ found.old }
-{
-    let last = snapshot.row(span, count - 1);
-    match found.graph().node(&last.body) {
-        Some(_node) => Ok(()),
-        None => found.reserve(count),
-    }
-}
-
-// A role asks the body of each of its rows.
+// A role asks the body of each of its rows. Where they are many, room is made for the nodes of all bodies at once, unless the
+// last of these has a node already.
 fn ask_rows(
     alloc: Global,
     found: &mut Findings,
@@ -49,8 +31,13 @@ fn ask_rows(
         → AsksEach found.old (row_asks (role_rows snapshot.now.vaults role)) found.new) }
 {
     let count = span.hi - span.lo;
-    if count > FEW_ROWS {
-        make_room(found, snapshot, span, count)?;
+    if count > FEW_ROWS
+        && found
+            .graph()
+            .node(&snapshot.row(span, count - 1).body)
+            .is_none()
+    {
+        found.reserve(count)?;
     }
     for place in 0..count {
         let row = snapshot.row(span, place);

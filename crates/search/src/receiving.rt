@@ -20,18 +20,6 @@ use scholten_core::Parent;
 use snapshots::{Snapshot, Span};
 use std::alloc::{AllocError, Global};
 
-// The node that sent a letter.
-fn sender(from: Parent) -> u64
-    requires { (m : ℕ) × (from ≡ Parent.Node m) }
-    ensures { from ≡ Parent.Node result }
-{
-    match from {
-        Parent::Node(node) => node,
-        Parent::Environment => unreachable!(),
-        Parent::Neutral => unreachable!(),
-    }
-}
-
 // A node is asked on a port: at its first Ask it opens; then the asker listens to it. The asked role's node was opened by
 // the environment.
 fn asked(
@@ -56,6 +44,7 @@ fn asked(
 }
 
 // The receiver of the letter receives it, with the rows that its finisher looked up, and puts what it sends into the list.
+// The environment's letter opens it, and a node's asks it or tells it something.
 pub(crate) fn receive(
     alloc: Global,
     found: &mut Findings,
@@ -72,15 +61,12 @@ pub(crate) fn receive(
     ensures { OnOk result (Answers snapshot.now.vaults (progress found.old.graph found.old.monitors []) found.new
         held.now.from held.now.to (load_at found.old.graph.nodes held.now.load)) }
 {
+    let Parent::Node(sender) = held.from else {
+        return open(alloc, found, snapshot, held.to, looked_up);
+    };
     match held.load {
-        Load::Start => open(alloc, found, snapshot, held.to, looked_up),
-        Load::Ask(port) => {
-            let asker = sender(held.from);
-            asked(alloc, found, snapshot, held.to, asker, port, looked_up)
-        }
-        Load::Tell(port, who) => {
-            let teller = sender(held.from);
-            take_in(alloc, found, held.to, teller, port, who)
-        }
+        Load::Ask(port) => asked(alloc, found, snapshot, held.to, sender, port, looked_up),
+        Load::Tell(port, who) => take_in(alloc, found, held.to, sender, port, who),
+        Load::Start => unreachable!(),
     }
 }

@@ -21,9 +21,7 @@ use crate::members::solutions_in_order;
 use crate::outcomes::{Finished, Status};
 use crate::queries::{Hint, Need, Query, Task};
 use crate::receiving::receive;
-use crate::stages::{
-    NumberedStage, Stage, deliver, held_letter, hold, nothing_moves, send, wait_again,
-};
+use crate::stages::{NumberedStage, Stage, deliver, held_letter, hold, nothing_moves, send};
 use crate::tables::Tables;
 use cred_graph::{Graph, Port};
 use names::{Entity, Role};
@@ -149,20 +147,20 @@ impl Search {
     pub fn waiting(&self) -> u64
         ensures { result ≡ length (waiting_in self.now.stage) }
     {
-        match &self.stage {
-            NumberedStage::Running(running) => running.waiting(),
-            NumberedStage::Spent | NumberedStage::Broken => 0,
-        }
+        let NumberedStage::Running(running) = &self.stage else {
+            return 0;
+        };
+        running.waiting()
     }
 
     /// How many signals are under way.
     pub fn signals(&self) -> u64
         ensures { result ≡ length (signals_in self.now.stage) }
     {
-        match &self.stage {
-            NumberedStage::Running(running) => running.signals(),
-            NumberedStage::Spent | NumberedStage::Broken => 0,
-        }
+        let NumberedStage::Running(running) = &self.stage else {
+            return 0;
+        };
+        running.signals()
     }
 
     /// What the search has come to.
@@ -230,7 +228,10 @@ impl Search {
         let Some(_held) = held_letter(&self.stage, letter) else {
             return false;
         };
-        wait_again(&mut self.stage, letter);
+        let NumberedStage::Running(running) = &mut self.stage else {
+            unreachable!()
+        };
+        running.put_back(letter);
         true
     }
 

@@ -1,9 +1,9 @@
 //! Where a search stands, and the steps of its computation.
-ghost use Rattle.std.specs.Prelude.{◌≡◌, ◌≤◌, ◌↔◌, false, List, None, slice_get, IsTrue, IfSome, MatchOption};
+ghost use Rattle.std.specs.Prelude.{◌≡◌, ◌≤◌, ◌↔◌, List, None, slice_get, IsTrue, IfSome, MatchOption};
 ghost use Rattle.scholten_core.specs.declared.letters.Letter.{Letter};
 ghost use Rattle.scholten_core.specs.Computation.{Computation, IsHeld};
 ghost use Rattle.search.specs.Net.{Said};
-ghost use Rattle.search.specs.Stage.{waiting_in, signals_in, held_in, HoldsLetter, Holds, stage_marked, Sends, Delivers};
+ghost use Rattle.search.specs.Stage.{waiting_in, held_in, HoldsLetter, Holds, Sends, Delivers};
 ghost use Rattle.search.specs.Stage.{IsQuiet, NoneHeld};
 ghost use Rattle.search.specs.Search.{IsOutstanding};
 ghost use Rattle.credential_text.specs.declared.exprs.Expr.{Expr};
@@ -92,17 +92,6 @@ pub(crate) fn hold(stage: &mut NumberedStage, place: u64) -> Option<(u64, Held<L
     Some((number, held))
 }
 
-// The held letter of that number waits again.
-pub(crate) fn wait_again(stage: &mut NumberedStage, number: u64)
-    requires { (nodes : List Expr) × (c : Computation Said) × (stage_at nodes stage.old ≡ Stage.Running c) × IsHeld c number }
-    ensures waits { (nodes : List Expr) → stage_at nodes stage.new ≡ stage_marked number false (stage_at nodes stage.old) }
-    ensures loads { (nodes : List Expr) → IsStage nodes stage.old → IsStage nodes stage.new }
-{
-    if let NumberedStage::Running(running) = stage {
-        running.put_back(number);
-    }
-}
-
 // The held letter of that number is finished, and what its receiver answers is sent, where the work limit allows it.
 pub(crate) fn send(
     stage: &mut NumberedStage,
@@ -158,11 +147,8 @@ pub(crate) fn nothing_moves(stage: &NumberedStage) -> bool
     ensures settled { (nodes : List Expr) → IsQuiet (stage_at nodes stage.now) → NoneHeld (stage_at nodes stage.now)
         → IsOutstanding (stage_at nodes stage.now) → ⊥ }
 {
-    match stage {
-        NumberedStage::Running(running) => {
-            running.is_complete() || (running.waiting() == 0 && running.signals() == 0)
-        }
-        NumberedStage::Spent => true,
-        NumberedStage::Broken => true,
-    }
+    let NumberedStage::Running(running) = stage else {
+        return true;
+    };
+    running.is_complete() || (running.waiting() == 0 && running.signals() == 0)
 }

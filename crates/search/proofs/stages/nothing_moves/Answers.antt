@@ -1,9 +1,12 @@
 -- Where no letter is left and no signal is under way, nothing is outstanding.
-use Rattle.std.proofs.Common.{List, ◌∙◌, ◌↔◌, IsTrue, true, refl, subst, sym, arith, eq-eqb}
+use Rattle.std.proofs.Common.{ℕ, List, ◌≡◌, ◌∙◌, refl, sym, arith, eq-eqb}
 use Rattle.std.proofs.lemmas.Map.Views.{exact_unsigned_eq}
 use Rattle.credential_text.specs.declared.exprs.Expr.{Expr}
+use Rattle.scholten_core.specs.Computation.{Computation}
+use Rattle.search.specs.declared.letters.Load.{Load}
 use Rattle.search.specs.declared.stages.NumberedStage.{NumberedStage}
-use Rattle.search.specs.Stage.{IsQuiet, NoneHeld}
+use Rattle.search.specs.declared.stages.NumberedStage.TheVariants as numbered_stage
+use Rattle.search.specs.Stage.{IsQuiet}
 use Rattle.search.specs.Search.{IsOutstanding}
 use Rattle.search.specs.Numbered.{stage_at}
 use Rattle.search.proofs.Numbered.{none_waits, waits_none, no_signal, signals_none, settles_shown}
@@ -35,18 +38,14 @@ pub returns-else-waiting-eq0-clause-settled : goal.returns-else-waiting-eq0-clau
 returns-else-waiting-eq0-clause-settled c =
     λ (nodes : List Expr). settles_shown nodes c.args.stage.now c.in-Running.running c.in-Running.is (λ letters signals. c.is_complete.ensures.complete.0 (c.is_complete.ensures.never_stuck letters signals))
 
-pub returns-in-Spent-clause-quiet : goal.returns-in-Spent-clause-quiet
-returns-in-Spent-clause-quiet c =
-    λ (nodes : List Expr). subst (λ (st : NumberedStage). IsTrue true ↔ IsQuiet (stage_at nodes st)) (sym c.in-Spent.is) (λ yes. (refl, refl), λ quiet. refl)
+-- where nothing runs nothing moves, and nothing is outstanding
+not_running : (nodes : List Expr) (st : NumberedStage) → ((d : Computation (Load ℕ)) → st ≡ numbered_stage.Running d → ⊥) → IsQuiet (stage_at nodes st) × (IsOutstanding (stage_at nodes st) → ⊥)
+not_running nodes (numbered_stage.Running d) never = absurd (never d refl)
+not_running nodes numbered_stage.Spent never = ((refl, refl), λ outstanding. outstanding)
+not_running nodes numbered_stage.Broken never = ((refl, refl), λ outstanding. outstanding)
 
-pub returns-in-Spent-clause-settled : goal.returns-in-Spent-clause-settled
-returns-in-Spent-clause-settled c =
-    λ (nodes : List Expr). subst (λ (st : NumberedStage). IsQuiet (stage_at nodes st) → NoneHeld (stage_at nodes st) → IsOutstanding (stage_at nodes st) → ⊥) (sym c.in-Spent.is) (λ quiet none outstanding. outstanding)
-
-pub returns-in-Broken-clause-quiet : goal.returns-in-Broken-clause-quiet
-returns-in-Broken-clause-quiet c =
-    λ (nodes : List Expr). subst (λ (st : NumberedStage). IsTrue true ↔ IsQuiet (stage_at nodes st)) (sym c.in-Broken.is) (λ yes. (refl, refl), λ quiet. refl)
-
-pub returns-in-Broken-clause-settled : goal.returns-in-Broken-clause-settled
-returns-in-Broken-clause-settled c =
-    λ (nodes : List Expr). subst (λ (st : NumberedStage). IsQuiet (stage_at nodes st) → NoneHeld (stage_at nodes st) → IsOutstanding (stage_at nodes st) → ⊥) (sym c.in-Broken.is) (λ quiet none outstanding. outstanding)
+pub returns-in_default : goal.returns-in_default
+returns-in_default c = record {
+  quiet = λ nodes. (λ yes. (not_running nodes c.args.stage.now c.in_default.not-Running).0, λ quiet. refl);
+  settled = λ nodes quiet none outstanding. (not_running nodes c.args.stage.now c.in_default.not-Running).1 outstanding;
+}
