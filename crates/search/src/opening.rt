@@ -13,19 +13,14 @@ use crate::solving::solve;
 use cred_graph::{Port, Reason};
 use credential_text::{Expr, Part};
 use snapshots::{Snapshot, Span};
-use std::alloc::{AllocError, Global};
+use std::alloc::AllocError;
 
 /// For the bodies of so many rows room is made as they are asked.
 const FEW_ROWS: u64 = 16;
 
 // A role asks the body of each of its rows. Where they are many, room is made for the nodes of all bodies at once, unless the
 // last of these has a node already.
-fn ask_rows(
-    alloc: Global,
-    found: &mut Findings,
-    snapshot: &Snapshot,
-    span: Span,
-) -> Result<(), AllocError>
+fn ask_rows(found: &mut Findings, snapshot: &Snapshot, span: Span) -> Result<(), AllocError>
     requires { (role : Role) × (span ≡ span_of snapshot.now.vaults role) }
     ensures { OnOk result ((role : Role) → span ≡ span_of snapshot.now.vaults role
         → AsksEach found.old (row_asks (role_rows snapshot.now.vaults role)) found.new) }
@@ -41,18 +36,18 @@ fn ask_rows(
     }
     for place in 0..count {
         let row = snapshot.row(span, place);
-        ask(alloc, found, &row.body, Port::Body)?;
+        ask(found, &row.body, Port::Body)?;
     }
     Ok(())
 }
 
 // An intersection asks each of its parts.
-fn ask_parts(alloc: Global, found: &mut Findings, parts: &[Part]) -> Result<(), AllocError>
+fn ask_parts(found: &mut Findings, parts: &[Part]) -> Result<(), AllocError>
     requires { length parts.now ≤ 8 }
     ensures { OnOk result (AsksEach found.old (part_asks 0 parts.now) found.new) }
 {
     for (place, part) in parts.iter().enumerate() {
-        ask(alloc, found, &part.expr(), Port::Part(place as u8))?;
+        ask(found, &part.expr(), Port::Part(place as u8))?;
     }
     Ok(())
 }
@@ -60,7 +55,6 @@ fn ask_parts(alloc: Global, found: &mut Findings, parts: &[Part]) -> Result<(), 
 // The node opens. Where the rows of a role stand is sought in the snapshot, unless that was looked up before. Only the parts
 // of an intersection are copied.
 pub(crate) fn open(
-    alloc: Global,
     found: &mut Findings,
     snapshot: &Snapshot,
     node: u64,
@@ -81,15 +75,15 @@ pub(crate) fn open(
                 Some(span) => *span,
                 None => snapshot.find(role),
             };
-            ask_rows(alloc, found, snapshot, span)
+            ask_rows(found, snapshot, span)
         }
         Expr::Link(base, _name) => {
             let base = Expr::Rol(*base);
-            ask(alloc, found, &base, Port::Base)
+            ask(found, &base, Port::Base)
         }
         Expr::Meet(parts) => {
             let parts = parts.try_clone()?;
-            ask_parts(alloc, found, parts.as_slice())
+            ask_parts(found, parts.as_slice())
         }
     }
 }

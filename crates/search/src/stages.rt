@@ -1,11 +1,9 @@
 //! Where a search stands, and the steps of its computation.
-ghost use Rattle.std.specs.Prelude.{◌≡◌, ◌≤◌, ◌↔◌, List, None, slice_get, IsTrue, IfSome, MatchOption};
+ghost use Rattle.std.specs.Prelude.{◌≡◌, ◌≤◌, List, None, slice_get, IfSome, MatchOption};
 ghost use Rattle.scholten_core.specs.declared.letters.Letter.{Letter};
 ghost use Rattle.scholten_core.specs.Computation.{Computation, IsHeld};
 ghost use Rattle.search.specs.Net.{Said};
 ghost use Rattle.search.specs.Stage.{waiting_in, held_in, HoldsLetter, Holds, Sends, Delivers};
-ghost use Rattle.search.specs.Stage.{IsQuiet, NoneHeld};
-ghost use Rattle.search.specs.Search.{IsOutstanding};
 ghost use Rattle.credential_text.specs.declared.exprs.Expr.{Expr};
 ghost use Rattle.search.specs.Numbered.{IsLoad, IsStage, held_at, stage_at};
 
@@ -139,16 +137,4 @@ pub(crate) fn deliver(stage: &mut NumberedStage, found: &mut Findings, place: u6
         found.give_back();
     }
     true
-}
-
-// Whether nothing moves before a held letter comes back: no letter waits and no signal is under way.
-pub(crate) fn nothing_moves(stage: &NumberedStage) -> bool
-    ensures quiet { (nodes : List Expr) → IsTrue result ↔ IsQuiet (stage_at nodes stage.now) }
-    ensures settled { (nodes : List Expr) → IsQuiet (stage_at nodes stage.now) → NoneHeld (stage_at nodes stage.now)
-        → IsOutstanding (stage_at nodes stage.now) → ⊥ }
-{
-    let NumberedStage::Running(running) = stage else {
-        return true;
-    };
-    running.is_complete() || (running.waiting() == 0 && running.signals() == 0)
 }

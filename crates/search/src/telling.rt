@@ -14,7 +14,7 @@ use crate::solving::solve;
 use cred_graph::{Graph, Port, Reason};
 use credential_text::Expr;
 use names::Role;
-use std::alloc::{AllocError, Global};
+use std::alloc::AllocError;
 
 // The role that the member of its base gives to the linked role at the node.
 fn given_role(graph: &Graph, node: u64, base: u32) -> Expr
@@ -34,7 +34,7 @@ fn given_role(graph: &Graph, node: u64, base: u32) -> Expr
 
 // A linked role hears a member of its base; where that is new, it asks the member's role.
 #[inline(never)]
-fn told_base(alloc: Global, found: &mut Findings, node: u64, base: u32) -> Result<(), AllocError>
+fn told_base(found: &mut Findings, node: u64, base: u32) -> Result<(), AllocError>
     requires entity { IsEntity found.old.graph.nodes base }
     requires link { (r : Role) × (name : List ℕ) × IsNode found.old.graph node (exprs.Link r name) }
     requires monitor { (x : LinkTold) × (slice_get found.old.monitors node ≡ Some (Monitor.Link x)) }
@@ -47,13 +47,12 @@ fn told_base(alloc: Global, found: &mut Findings, node: u64, base: u32) -> Resul
         return Ok(());
     }
     let role = given_role(found.graph(), node, base);
-    ask(alloc, found, &role, Port::Via(base))
+    ask(found, &role, Port::Via(base))
 }
 
 // The node is told on a port, by the node that it listens to, that the entity is a member. Of an intersection it is a
 // solution once the last part has told it.
 pub(crate) fn take_in(
-    alloc: Global,
     found: &mut Findings,
     node: u64,
     from: u64,
@@ -74,7 +73,7 @@ pub(crate) fn take_in(
             solve(found, node, who, Reason::Body(body))
         }
         Port::Via(base) => solve(found, node, who, Reason::Via(base)),
-        Port::Base => told_base(alloc, found, node, who),
+        Port::Base => told_base(found, node, who),
         Port::Part(part) => {
             let NumberedMonitor::Meet(told) = &mut found.monitors[node as usize] else {
                 unreachable!()
