@@ -32,23 +32,20 @@ from_environment rows net Neutral to fits = absurd fits
 from_environment rows net Environment to fits = refl
 from_environment rows net (Node m) to fits = absurd fits
 
-from_asker : (rows : List Credential) (net : Net) (from : Parent) (to : ℕ) (p : Port (List ℕ)) → LetterFits rows net from to (load.Ask p) → (m : ℕ) × (from ≡ Node m)
-from_asker rows net Neutral to p fits = absurd fits
-from_asker rows net Environment to p fits = absurd fits
-from_asker rows net (Node m) to p fits = (m, refl)
+start_of : (rows : List Credential) (net : Net) (from : Parent) (to : ℕ) (l : Load (List ℕ)) → LetterFits rows net from to l → ((m : ℕ) → from ≡ Node m → ⊥) → l ≡ load.Start
+start_of rows net from to load.Start fits never = refl
+start_of rows net Neutral to (load.Ask p) fits never = absurd fits
+start_of rows net Environment to (load.Ask p) fits never = absurd fits
+start_of rows net (Node m) to (load.Ask p) fits never = absurd (never m refl)
+start_of rows net Neutral to (load.Tell p who) fits never = absurd fits
+start_of rows net Environment to (load.Tell p who) fits never = absurd fits
+start_of rows net (Node m) to (load.Tell p who) fits never = absurd (never m refl)
 
-from_teller : (rows : List Credential) (net : Net) (from : Parent) (to : ℕ) (p : Port (List ℕ)) (who : List ℕ) → LetterFits rows net from to (load.Tell p who) → (m : ℕ) × (from ≡ Node m)
-from_teller rows net Neutral to p who fits = absurd fits
-from_teller rows net Environment to p who fits = absurd fits
-from_teller rows net (Node m) to p who fits = (m, refl)
+pub starts : {rows : List Credential} {asked : Role} {g : GraphState} {ms : List Monitor} {rest : List Sent} {from : Parent} {to : ℕ} {l : Load (List ℕ)} → Awaits rows asked g ms rest from to l → ((m : ℕ) → from ≡ Node m → ⊥) → l ≡ load.Start
+starts {rows} {asked} {g} {ms} {rest} {from} {to} {l} awaits never = start_of rows (net_at (progress g ms []) rest to) from to l (awaited_fits awaits) never
 
-pub asker_is : {rows : List Credential} {asked : Role} {g : GraphState} {ms : List Monitor} {rest : List Sent} {from : Parent} {to : ℕ} {l : Load (List ℕ)} → Awaits rows asked g ms rest from to l → (p : Port (List ℕ)) → l ≡ load.Ask p → (m : ℕ) × (from ≡ Node m)
-asker_is {rows} {asked} {g} {ms} {rest} {from} {to} {l} awaits p is =
-    from_asker rows (net_at (progress g ms []) rest to) from to p (awaited_fits (awaits_as awaits from (load.Ask p) refl is))
-
-pub teller_is : {rows : List Credential} {asked : Role} {g : GraphState} {ms : List Monitor} {rest : List Sent} {from : Parent} {to : ℕ} {l : Load (List ℕ)} → Awaits rows asked g ms rest from to l → (p : Port (List ℕ)) (who : List ℕ) → l ≡ load.Tell p who → (m : ℕ) × (from ≡ Node m)
-teller_is {rows} {asked} {g} {ms} {rest} {from} {to} {l} awaits p who is =
-    from_teller rows (net_at (progress g ms []) rest to) from to p who (awaited_fits (awaits_as awaits from (load.Tell p who) refl is))
+pub no_start : {rows : List Credential} {asked : Role} {g : GraphState} {ms : List Monitor} {rest : List Sent} {from : Parent} {to : ℕ} {l : Load (List ℕ)} → Awaits rows asked g ms rest from to l → (m : ℕ) → from ≡ Node m → l ≡ load.Start → ⊥
+no_start {rows} {asked} {g} {ms} {rest} {from} {to} {l} awaits m by is = awaited_fits (awaits_as awaits (Node m) load.Start by is)
 
 pub asker_in : {rows : List Credential} {asked : Role} {g : GraphState} {ms : List Monitor} {rest : List Sent} {from : Parent} {to : ℕ} {l : Load (List ℕ)} → Awaits rows asked g ms rest from to l → (p : Port (List ℕ)) (m : ℕ) → l ≡ load.Ask p → from ≡ Node m → m < length g.nodes
 asker_in {rows} {asked} {g} {ms} {rest} {from} {to} {l} awaits p m is by =

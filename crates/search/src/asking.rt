@@ -31,7 +31,7 @@ fn monitor_for(alloc: Global, expr: &Expr) -> NumberedMonitor
 
 // The number of the expression's node, which is added with its monitor if it isn't there.
 #[inline(always)]
-pub(crate) fn node_for(alloc: Global, found: &mut Findings, expr: &Expr) -> Result<u64, AllocError>
+pub(crate) fn node_for(found: &mut Findings, expr: &Expr) -> Result<u64, AllocError>
     ensures given { IfOk result (λ to. (new : Bool) × NodeGiven found.old.graph found.new.graph expr.now to new
         × (found.new.outs ≡ found.old.outs)
         × (found.new.monitors ≡ (if new then found.old.monitors ++ new_monitor expr.now ∷ [] else found.old.monitors))) }
@@ -42,20 +42,16 @@ pub(crate) fn node_for(alloc: Global, found: &mut Findings, expr: &Expr) -> Resu
         return Ok(node);
     }
     found.monitors.reserve(1)?;
-    found.monitors.push_reserved(monitor_for(alloc, expr));
+    let monitor = monitor_for(*found.monitors.allocator(), expr);
+    found.monitors.push_reserved(monitor);
     Ok(node)
 }
 
 // Sends an Ask on the port to the node of the expression.
-pub(crate) fn ask(
-    alloc: Global,
-    found: &mut Findings,
-    expr: &Expr,
-    port: Port<u32>,
-) -> Result<(), AllocError>
+pub(crate) fn ask(found: &mut Findings, expr: &Expr, port: Port<u32>) -> Result<(), AllocError>
     requires { IsPort found.old.graph.nodes port }
     ensures { OnOk result (AsksFor found.old found.new expr.now (port_at found.old.graph.nodes port)) }
 {
-    let node = node_for(alloc, found, expr)?;
+    let node = node_for(found, expr)?;
     found.send(node, Load::Ask(port))
 }

@@ -106,14 +106,14 @@ impl Findings {
     }
 
     // What a search for the role has found before its first letter is received: the role's node.
-    pub(crate) fn first(&mut self, alloc: Global, role: Role) -> Result<(), AllocError>
+    pub(crate) fn first(&mut self, role: Role) -> Result<(), AllocError>
         requires { self.old ≡ progress empty_graph [] [] }
         ensures found { OnOk result (self.new
             ≡ progress (record { nodes = exprs.Rol role ∷ []; listeners = [] ∷ []; solutions = [] }) (Monitor.Plain ∷ []) []) }
         ensures laws { OnOk result (IsGraph self.new.graph) }
     {
         self.reserve(FIRST_NODES)?;
-        node_for(alloc, self, &Expr::Rol(role))?;
+        node_for(self, &Expr::Rol(role))?;
         Ok(())
     }
 

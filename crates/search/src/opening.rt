@@ -1,5 +1,5 @@
 //! How a node opens, at its first Ask: an entity is its own solution, any other expression asks.
-ghost use Rattle.std.specs.Prelude.{◌≡◌, ◌+◌, ◌<◌, ◌≤◌, length, option_copied, OnOk};
+ghost use Rattle.std.specs.Prelude.{◌≡◌, ◌<◌, ◌≤◌, length, option_copied, OnOk};
 ghost use Rattle.names.specs.declared.roles.Role.{Role};
 ghost use Rattle.credential_text.specs.declared.exprs.Expr.{Expr};
 ghost use Rattle.snapshots.specs.Span.{role_rows, span_of};
@@ -13,59 +13,41 @@ use crate::solving::solve;
 use cred_graph::{Port, Reason};
 use credential_text::{Expr, Part};
 use snapshots::{Snapshot, Span};
-use std::alloc::{AllocError, Global};
+use std::alloc::AllocError;
 
 /// For the bodies of so many rows room is made as they are asked.
 const FEW_ROWS: u64 = 16;
 
-// Makes room for the nodes of the rows' bodies at once, unless the last of these has a node already.
-fn make_room(
-    found: &mut Findings,
-    snapshot: &Snapshot,
-    span: Span,
-    count: u64,
-) -> Result<(), AllocError>
-    requires span { (role : Role) × (span ≡ span_of snapshot.now.vaults role) }
-    requires rows { span.lo + count ≡ span.hi }
-    requires some { 0 < count }
-    ensures { found.new ≡ found.old }
-{
-    let last = snapshot.row(span, count - 1);
-    match found.graph().node(&last.body) {
-        Some(_node) => Ok(()),
-        None => found.reserve(count),
-    }
-}
-
-// A role asks the body of each of its rows.
-fn ask_rows(
-    alloc: Global,
-    found: &mut Findings,
-    snapshot: &Snapshot,
-    span: Span,
-) -> Result<(), AllocError>
+// A role asks the body of each of its rows. Where they are many, room is made for the nodes of all bodies at once, unless the
+// last of these has a node already.
+fn ask_rows(found: &mut Findings, snapshot: &Snapshot, span: Span) -> Result<(), AllocError>
     requires { (role : Role) × (span ≡ span_of snapshot.now.vaults role) }
     ensures { OnOk result ((role : Role) → span ≡ span_of snapshot.now.vaults role
         → AsksEach found.old (row_asks (role_rows snapshot.now.vaults role)) found.new) }
 {
     let count = span.hi - span.lo;
-    if count > FEW_ROWS {
-        make_room(found, snapshot, span, count)?;
+    if count > FEW_ROWS
+        && found
+            .graph()
+            .node(&snapshot.row(span, count - 1).body)
+            .is_none()
+    {
+        found.reserve(count)?;
     }
     for place in 0..count {
         let row = snapshot.row(span, place);
-        ask(alloc, found, &row.body, Port::Body)?;
+        ask(found, &row.body, Port::Body)?;
     }
     Ok(())
 }
 
 // An intersection asks each of its parts.
-fn ask_parts(alloc: Global, found: &mut Findings, parts: &[Part]) -> Result<(), AllocError>
+fn ask_parts(found: &mut Findings, parts: &[Part]) -> Result<(), AllocError>
     requires { length parts.now ≤ 8 }
     ensures { OnOk result (AsksEach found.old (part_asks 0 parts.now) found.new) }
 {
     for (place, part) in parts.iter().enumerate() {
-        ask(alloc, found, &part.expr(), Port::Part(place as u8))?;
+        ask(found, &part.expr(), Port::Part(place as u8))?;
     }
     Ok(())
 }
@@ -73,7 +55,6 @@ fn ask_parts(alloc: Global, found: &mut Findings, parts: &[Part]) -> Result<(), 
 // The node opens. Where the rows of a role stand is sought in the snapshot, unless that was looked up before. Only the parts
 // of an intersection are copied.
 pub(crate) fn open(
-    alloc: Global,
     found: &mut Findings,
     snapshot: &Snapshot,
     node: u64,
@@ -94,15 +75,15 @@ pub(crate) fn open(
                 Some(span) => *span,
                 None => snapshot.find(role),
             };
-            ask_rows(alloc, found, snapshot, span)
+            ask_rows(found, snapshot, span)
         }
         Expr::Link(base, _name) => {
             let base = Expr::Rol(*base);
-            ask(alloc, found, &base, Port::Base)
+            ask(found, &base, Port::Base)
         }
         Expr::Meet(parts) => {
             let parts = parts.try_clone()?;
-            ask_parts(alloc, found, parts.as_slice())
+            ask_parts(found, parts.as_slice())
         }
     }
 }

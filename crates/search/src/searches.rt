@@ -21,9 +21,7 @@ use crate::members::solutions_in_order;
 use crate::outcomes::{Finished, Status};
 use crate::queries::{Hint, Need, Query, Task};
 use crate::receiving::receive;
-use crate::stages::{
-    NumberedStage, Stage, deliver, held_letter, hold, nothing_moves, send, wait_again,
-};
+use crate::stages::{NumberedStage, Stage, deliver, held_letter, hold, send};
 use crate::tables::Tables;
 use cred_graph::{Graph, Port};
 use names::{Entity, Role};
@@ -118,7 +116,7 @@ impl Search {
         ensures { IfOk result (λ s. IsNew s query work (arc_value snapshot)) }
     {
         let Tables { mut found } = tables;
-        found.first(alloc, query.role())?;
+        found.first(query.role())?;
         let running = Diffusion::start(alloc, 0, Load::Start)?;
         let _ports: Option<Port> = None;
         Ok(Search {
@@ -149,20 +147,20 @@ impl Search {
     pub fn waiting(&self) -> u64
         ensures { result ≡ length (waiting_in self.now.stage) }
     {
-        match &self.stage {
-            NumberedStage::Running(running) => running.waiting(),
-            NumberedStage::Spent | NumberedStage::Broken => 0,
-        }
+        let NumberedStage::Running(running) = &self.stage else {
+            return 0;
+        };
+        running.waiting()
     }
 
     /// How many signals are under way.
     pub fn signals(&self) -> u64
         ensures { result ≡ length (signals_in self.now.stage) }
     {
-        match &self.stage {
-            NumberedStage::Running(running) => running.signals(),
-            NumberedStage::Spent | NumberedStage::Broken => 0,
-        }
+        let NumberedStage::Running(running) = &self.stage else {
+            return 0;
+        };
+        running.signals()
     }
 
     /// What the search has come to.
@@ -231,7 +229,10 @@ impl Search {
         let Some(_held) = held_letter(&self.stage, letter) else {
             return false;
         };
-        wait_again(&mut self.stage, letter);
+        let NumberedStage::Running(running) = &mut self.stage else {
+            unreachable!()
+        };
+        running.put_back(letter);
         true
     }
 
@@ -277,10 +278,10 @@ impl Search {
         ensures receives { Receives self.old self.new letter (letter_in (held_at self.old.graph.nodes held.now)) result }
         ensures settles { Settles self.old self.new }
     {
-        let _asker = self.snapshot.asker();
+        let snapshot: &Snapshot = &self.snapshot;
+        let _asker = snapshot.asker();
         self.found.clear();
-        let received = receive(self.alloc, &mut self.found, &self.snapshot, held, looked_up);
-        match received {
+        match receive(&mut self.found, snapshot, held, looked_up) {
             Ok(()) => send(&mut self.stage, self.work, letter, &mut self.found),
             Err(_refusal) => {
                 self.stage = NumberedStage::Broken;
@@ -306,7 +307,10 @@ impl Search {
         ensures quiet { IsTrue result ↔ IsQuiet self.now.stage }
         ensures settled { IsQuiet self.now.stage → NoneHeld self.now.stage → IsOutstanding self.now.stage → ⊥ }
     {
-        nothing_moves(&self.stage)
+        let NumberedStage::Running(running) = &self.stage else {
+            return true;
+        };
+        running.is_complete() || (running.waiting() == 0 && running.signals() == 0)
     }
 
     /// Whether the search is completed. Then it holds no letter, and nothing changes it again.

@@ -1,11 +1,9 @@
 //! Where a search stands, and the steps of its computation.
-ghost use Rattle.std.specs.Prelude.{◌≡◌, ◌≤◌, ◌↔◌, false, List, None, slice_get, IsTrue, IfSome, MatchOption};
+ghost use Rattle.std.specs.Prelude.{◌≡◌, ◌≤◌, List, None, slice_get, IfSome, MatchOption};
 ghost use Rattle.scholten_core.specs.declared.letters.Letter.{Letter};
 ghost use Rattle.scholten_core.specs.Computation.{Computation, IsHeld};
 ghost use Rattle.search.specs.Net.{Said};
-ghost use Rattle.search.specs.Stage.{waiting_in, signals_in, held_in, HoldsLetter, Holds, stage_marked, Sends, Delivers};
-ghost use Rattle.search.specs.Stage.{IsQuiet, NoneHeld};
-ghost use Rattle.search.specs.Search.{IsOutstanding};
+ghost use Rattle.search.specs.Stage.{waiting_in, held_in, HoldsLetter, Holds, Sends, Delivers};
 ghost use Rattle.credential_text.specs.declared.exprs.Expr.{Expr};
 ghost use Rattle.search.specs.Numbered.{IsLoad, IsStage, held_at, stage_at};
 
@@ -92,17 +90,6 @@ pub(crate) fn hold(stage: &mut NumberedStage, place: u64) -> Option<(u64, Held<L
     Some((number, held))
 }
 
-// The held letter of that number waits again.
-pub(crate) fn wait_again(stage: &mut NumberedStage, number: u64)
-    requires { (nodes : List Expr) × (c : Computation Said) × (stage_at nodes stage.old ≡ Stage.Running c) × IsHeld c number }
-    ensures waits { (nodes : List Expr) → stage_at nodes stage.new ≡ stage_marked number false (stage_at nodes stage.old) }
-    ensures loads { (nodes : List Expr) → IsStage nodes stage.old → IsStage nodes stage.new }
-{
-    if let NumberedStage::Running(running) = stage {
-        running.put_back(number);
-    }
-}
-
 // The held letter of that number is finished, and what its receiver answers is sent, where the work limit allows it.
 pub(crate) fn send(
     stage: &mut NumberedStage,
@@ -150,19 +137,4 @@ pub(crate) fn deliver(stage: &mut NumberedStage, found: &mut Findings, place: u6
         found.give_back();
     }
     true
-}
-
-// Whether nothing moves before a held letter comes back: no letter waits and no signal is under way.
-pub(crate) fn nothing_moves(stage: &NumberedStage) -> bool
-    ensures quiet { (nodes : List Expr) → IsTrue result ↔ IsQuiet (stage_at nodes stage.now) }
-    ensures settled { (nodes : List Expr) → IsQuiet (stage_at nodes stage.now) → NoneHeld (stage_at nodes stage.now)
-        → IsOutstanding (stage_at nodes stage.now) → ⊥ }
-{
-    match stage {
-        NumberedStage::Running(running) => {
-            running.is_complete() || (running.waiting() == 0 && running.signals() == 0)
-        }
-        NumberedStage::Spent => true,
-        NumberedStage::Broken => true,
-    }
 }

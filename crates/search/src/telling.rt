@@ -1,13 +1,12 @@
 //! How a node takes in what it is told.
-ghost use Rattle.std.specs.Prelude.{◌≡◌, ◌<◌, ℕ, List, Some, length, slice_get, IfOk, OnOk};
+ghost use Rattle.std.specs.Prelude.{◌≡◌, ◌<◌, ℕ, List, Some, length, slice_get, OnOk};
 ghost use Rattle.names.specs.declared.roles.Role.{Role};
 ghost use Rattle.credential_text.specs.declared.exprs.Expr.TheVariants as exprs;
 ghost use Rattle.cred_graph.specs.Graph.{IsNode};
 ghost use Rattle.cred_graph.specs.Numbers.{IsEntity, IsPort, entity_at, port_at};
 ghost use Rattle.monitors.specs.LinkMonitor.{LinkTold};
-ghost use Rattle.monitors.specs.MeetMonitor.{MeetTold};
 ghost use Rattle.search.specs.declared.findings.Monitor.TheVariants as Monitor;
-ghost use Rattle.search.specs.Answers.{BaseHeard, PartHeard, TellsBase, MayTakeIn, TakesIn};
+ghost use Rattle.search.specs.Answers.{TellsBase, MayTakeIn, TakesIn};
 
 use crate::asking::ask;
 use crate::findings::{Findings, NumberedMonitor};
@@ -15,35 +14,7 @@ use crate::solving::solve;
 use cred_graph::{Graph, Port, Reason};
 use credential_text::Expr;
 use names::Role;
-use std::alloc::{AllocError, Global};
-
-// The monitor of a linked role hears a member of its base, and answers whether that is new.
-fn hear_base(found: &mut Findings, node: u64, base: u32) -> Result<bool, AllocError>
-    requires entity { IsEntity found.old.graph.nodes base }
-    requires monitor { (x : LinkTold) × (slice_get found.old.monitors node ≡ Some (Monitor.Link x)) }
-    ensures { IfOk result (λ new. BaseHeard found.old.monitors found.new.monitors node (entity_at found.old.graph.nodes base) new
-        × (found.new ≡ record found.old { monitors = found.new.monitors })) }
-{
-    match &mut found.monitors[node as usize] {
-        NumberedMonitor::Link(told) => told.base_told(base),
-        NumberedMonitor::Plain => unreachable!(),
-        NumberedMonitor::Meet(_told) => unreachable!(),
-    }
-}
-
-// The monitor of an intersection hears that a part told the entity, and answers whether it is the last.
-fn hear_part(found: &mut Findings, node: u64, part: u8, who: u32) -> Result<bool, AllocError>
-    requires entity { IsEntity found.old.graph.nodes who }
-    requires monitor { (x : MeetTold) × (slice_get found.old.monitors node ≡ Some (Monitor.Meet x)) × (part < x.parts) }
-    ensures { IfOk result (λ last. PartHeard found.old.monitors found.new.monitors node part (entity_at found.old.graph.nodes who) last
-        × (found.new ≡ record found.old { monitors = found.new.monitors })) }
-{
-    match &mut found.monitors[node as usize] {
-        NumberedMonitor::Meet(told) => told.part_told(part, who),
-        NumberedMonitor::Plain => unreachable!(),
-        NumberedMonitor::Link(_told) => unreachable!(),
-    }
-}
+use std::alloc::AllocError;
 
 // The role that the member of its base gives to the linked role at the node.
 fn given_role(graph: &Graph, node: u64, base: u32) -> Expr
@@ -63,23 +34,25 @@ fn given_role(graph: &Graph, node: u64, base: u32) -> Expr
 
 // A linked role hears a member of its base; where that is new, it asks the member's role.
 #[inline(never)]
-fn told_base(alloc: Global, found: &mut Findings, node: u64, base: u32) -> Result<(), AllocError>
+fn told_base(found: &mut Findings, node: u64, base: u32) -> Result<(), AllocError>
     requires entity { IsEntity found.old.graph.nodes base }
     requires link { (r : Role) × (name : List ℕ) × IsNode found.old.graph node (exprs.Link r name) }
     requires monitor { (x : LinkTold) × (slice_get found.old.monitors node ≡ Some (Monitor.Link x)) }
     ensures { OnOk result (TellsBase found.old found.new node (entity_at found.old.graph.nodes base)) }
 {
-    if !hear_base(found, node, base)? {
+    let NumberedMonitor::Link(told) = &mut found.monitors[node as usize] else {
+        unreachable!()
+    };
+    if !told.base_told(base)? {
         return Ok(());
     }
     let role = given_role(found.graph(), node, base);
-    ask(alloc, found, &role, Port::Via(base))
+    ask(found, &role, Port::Via(base))
 }
 
 // The node is told on a port, by the node that it listens to, that the entity is a member. Of an intersection it is a
 // solution once the last part has told it.
 pub(crate) fn take_in(
-    alloc: Global,
     found: &mut Findings,
     node: u64,
     from: u64,
@@ -100,9 +73,12 @@ pub(crate) fn take_in(
             solve(found, node, who, Reason::Body(body))
         }
         Port::Via(base) => solve(found, node, who, Reason::Via(base)),
-        Port::Base => told_base(alloc, found, node, who),
+        Port::Base => told_base(found, node, who),
         Port::Part(part) => {
-            if !hear_part(found, node, part, who)? {
+            let NumberedMonitor::Meet(told) = &mut found.monitors[node as usize] else {
+                unreachable!()
+            };
+            if !told.part_told(part, who)? {
                 return Ok(());
             }
             solve(found, node, who, Reason::Parts)

@@ -17,8 +17,8 @@ invariant_of-found-in_err-reserve c =
 
 pub invariant_of-found-2 : goal.invariant_of-found-2
 invariant_of-found-2 c =
-    subst (λ (ms : List NumberedMonitor). AreNumbered c.node_of.new.self ms c.found.inside.outs.items) (sym (c.push_reserved.ensures.items ∙ ap (λ (ms : List NumberedMonitor). ms ++ c.monitor_for.result ∷ []) c.reserve.ensures.items))
-    (numbered_with_monitor c.node_of.new.self c.found.inside.monitors.items c.monitor_for.result c.found.inside.outs.items (c.monitor_for.ensures.numbers c.node_of.new.self.nodes)
+    subst (λ (ms : List NumberedMonitor). AreNumbered c.node_of.new.self ms c.found.inside.outs.items) (sym (c.push_reserved.ensures.items ∙ ap (λ (ms : List NumberedMonitor). ms ++ c.monitor_for-monitor.result ∷ []) c.reserve.ensures.items))
+    (numbered_with_monitor c.node_of.new.self c.found.inside.monitors.items c.monitor_for-monitor.result c.found.inside.outs.items (c.monitor_for-monitor.ensures.numbers c.node_of.new.self.nodes)
     (numbered_given c.found.inside.graph c.node_of.new.self c.args.expr.now c.in_ok-node.node c.in_ok-node.is_new c.found.inside.monitors.items c.found.inside.outs.items c.in_ok-node.ensures.ok c.node_of.ensures.graph c.found.invariant))
 
 pub returns-then-not-is_new-clause-given : goal.returns-then-not-is_new-clause-given
@@ -28,6 +28,6 @@ returns-then-not-is_new-clause-given c =
 
 pub returns-clause-given : goal.returns-clause-given
 returns-clause-given c =
-    node_added c.args.found.now c.found.inside.graph c.node_of.new.self c.found.inside.monitors.items c.push_reserved.new.self.items c.monitor_for.result c.found.inside.outs.items c.args.expr.now c.in_ok-node.node c.found.view_is c.found.invariant
+    node_added c.args.found.now c.found.inside.graph c.node_of.new.self c.found.inside.monitors.items c.push_reserved.new.self.items c.monitor_for-monitor.result c.found.inside.outs.items c.args.expr.now c.in_ok-node.node c.found.view_is c.found.invariant
     (subst (NodeGiven c.found.inside.graph c.node_of.new.self c.args.expr.now c.in_ok-node.node) c.if-not-is_new.false c.in_ok-node.ensures.ok)
-    (c.push_reserved.ensures.items ∙ ap (λ (ms : List NumberedMonitor). ms ++ c.monitor_for.result ∷ []) c.reserve.ensures.items) (c.monitor_for.ensures.same c.node_of.new.self.nodes)
+    (c.push_reserved.ensures.items ∙ ap (λ (ms : List NumberedMonitor). ms ++ c.monitor_for-monitor.result ∷ []) c.reserve.ensures.items) (c.monitor_for-monitor.ensures.same c.node_of.new.self.nodes)

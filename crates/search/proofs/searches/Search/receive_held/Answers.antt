@@ -31,28 +31,28 @@ in_words c = held_at c.self.inside.found.graph.nodes c.args.held.now
 in_hand : (c : After-clear) → HoldsLetter (the_view c.self.inside).stage c.args.letter (in_words c)
 in_hand c = subst (λ (x : SearchState). HoldsLetter x.stage c.args.letter (held_at x.graph.nodes c.args.held.now)) (sym c.self.view_is) c.requires.held
 
-pub receive-received-requires-clause-load : goal.receive-received-requires-clause-load
-receive-received-requires-clause-load c =
+pub receive-requires-clause-load : goal.receive-requires-clause-load
+receive-requires-clause-load c =
     subst (λ (x : Progress). IsLoad x.graph.nodes c.args.held.now.load) (sym c.clear.ensures)
     (subst (λ (x : SearchState). IsLoad x.graph.nodes c.args.held.now.load) (sym c.self.view_is) c.requires.load)
 
-pub receive-received-requires-clause-span : goal.receive-received-requires-clause-span
-receive-received-requires-clause-span c = λ e at.
+pub receive-requires-clause-span : goal.receive-requires-clause-span
+receive-requires-clause-span c = λ e at.
     let to = c.args.held.now.to in
     let span = subst (λ (x : SearchState). (e' : Expr) → IsNode x.graph to e' → IsSpanFor x.snapshot.vaults e' (option_copied c.args.looked_up)) (sym c.self.view_is) c.requires.span in
-    subst (λ (v : SnapshotState). IsSpanFor v.vaults e (option_copied c.args.looked_up)) (sym c.deref-2.ensures) (span e (subst (λ (x : Progress). IsNode x.graph to e) c.clear.ensures at))
+    subst (λ (v : SnapshotState). IsSpanFor v.vaults e (option_copied c.args.looked_up)) (sym c.deref-snapshot.ensures) (span e (subst (λ (x : Progress). IsNode x.graph to e) c.clear.ensures at))
 
-pub receive-received-requires-clause-none : goal.receive-received-requires-clause-none
-receive-received-requires-clause-none c = ap (λ (x : Progress). x.outs) c.clear.ensures
+pub receive-requires-clause-none : goal.receive-requires-clause-none
+receive-requires-clause-none c = ap (λ (x : Progress). x.outs) c.clear.ensures
 
-pub receive-received-requires-clause-awaits : goal.receive-received-requires-clause-awaits
-receive-received-requires-clause-awaits c =
-    let after = (goal.at.receive-received-requires-clause-awaits c).After-clear in
+pub receive-requires-clause-awaits : goal.receive-requires-clause-awaits
+receive-requires-clause-awaits c =
+    let after = (goal.at.receive-requires-clause-awaits c).After-clear in
     let h = in_words after in
     let held = in_hand after in (
       asked_role c.self.inside.query,
       sent_of held.running.letters,
-      subst (λ (v : SnapshotState). Awaits (credentials v.vaults) (asked_role c.self.inside.query) c.clear.new.self.graph c.clear.new.self.monitors (sent_of held.running.letters) h.from h.to (load_at c.clear.new.self.graph.nodes c.args.held.now.load)) (sym c.deref-2.ensures)
+      subst (λ (v : SnapshotState). Awaits (credentials v.vaults) (asked_role c.self.inside.query) c.clear.new.self.graph c.clear.new.self.monitors (sent_of held.running.letters) h.from h.to (load_at c.clear.new.self.graph.nodes c.args.held.now.load)) (sym c.deref-snapshot.ensures)
           (subst (λ (x : Progress). Awaits (credentials (the_view c.self.inside).snapshot.vaults) (asked_role c.self.inside.query) x.graph x.monitors (sent_of held.running.letters) h.from h.to (load_at x.graph.nodes c.args.held.now.load)) (sym c.clear.ensures)
           (held_awaits (the_view c.self.inside) c.self.invariant.0.rules c.args.letter h held)),
     )
@@ -63,31 +63,31 @@ send-requires c =
     (c.self.inside.found.graph.nodes, held.running, held.runs, held.held, (c.self.invariant.0.rules held.running held.runs).within)
 
 -- the receipt's row, by what the search reads and in words
-row : (c : After-send) → Answers (the_view c.self.inside).snapshot.vaults (progress c.self.inside.found.graph c.self.inside.found.monitors []) c.receive-received.new.found c.args.held.now.from c.args.held.now.to (load_at c.self.inside.found.graph.nodes c.args.held.now.load)
+row : (c : After-send) → Answers (the_view c.self.inside).snapshot.vaults (progress c.self.inside.found.graph c.self.inside.found.monitors []) c.receive.new.found c.args.held.now.from c.args.held.now.to (load_at c.self.inside.found.graph.nodes c.args.held.now.load)
 row c =
-    let t = c.receive-received.new.found in
+    let t = c.receive.new.found in
     let k = c.args.held.now in
-    subst (λ (v : SnapshotState). Answers v.vaults (progress c.self.inside.found.graph c.self.inside.found.monitors []) t k.from k.to (load_at c.self.inside.found.graph.nodes k.load)) c.deref-2.ensures
-    (subst (λ (x : Progress). Answers c.deref-2.result.now.vaults (progress x.graph x.monitors []) t k.from k.to (load_at x.graph.nodes k.load)) c.clear.ensures c.in-Ok.ensures)
+    subst (λ (v : SnapshotState). Answers v.vaults (progress c.self.inside.found.graph c.self.inside.found.monitors []) t k.from k.to (load_at c.self.inside.found.graph.nodes k.load)) c.deref-snapshot.ensures
+    (subst (λ (x : Progress). Answers c.deref-snapshot.result.now.vaults (progress x.graph x.monitors []) t k.from k.to (load_at x.graph.nodes k.load)) c.clear.ensures c.in-Ok.ensures)
 
 -- nodes were added alone
-more : (c : After-send) → HasMore c.self.inside.found.graph.nodes c.receive-received.new.found.graph.nodes
+more : (c : After-send) → HasMore c.self.inside.found.graph.nodes c.receive.new.found.graph.nodes
 more c =
     let s = the_view c.self.inside in
     let h = held_at c.self.inside.found.graph.nodes c.args.held.now in
     let held = subst (λ (x : SearchState). HoldsLetter x.stage c.args.letter (held_at x.graph.nodes c.args.held.now)) (sym c.self.view_is) c.requires.held in
-    answers_more s.snapshot.vaults (progress s.graph s.monitors []) c.receive-received.new.found h.from h.to h.load (node_in (held_awaits s c.self.invariant.0.rules c.args.letter h held)) (row c)
+    answers_more s.snapshot.vaults (progress s.graph s.monitors []) c.receive.new.found h.from h.to h.load (node_in (held_awaits s c.self.invariant.0.rules c.args.letter h held)) (row c)
 
 -- what was sent, by what the stage is seen as
-sends : (c : After-send) → Sends (the_view c.self.inside).stage (stage_at c.receive-received.new.found.graph.nodes c.send.new.stage) (the_view c.self.inside).work c.args.letter c.receive-received.new.found.outs c.send.result
+sends : (c : After-send) → Sends (the_view c.self.inside).stage (stage_at c.receive.new.found.graph.nodes c.send.new.stage) (the_view c.self.inside).work c.args.letter c.receive.new.found.outs c.send.result
 sends c =
-    let nodes = c.receive-received.new.found.graph.nodes in
-    subst (λ (st : Stage). Sends st (stage_at nodes c.send.new.stage) c.self.inside.work c.args.letter c.receive-received.new.found.outs c.send.result)
+    let nodes = c.receive.new.found.graph.nodes in
+    subst (λ (st : Stage). Sends st (stage_at nodes c.send.new.stage) c.self.inside.work c.args.letter c.receive.new.found.outs c.send.result)
     (more_stage_same c.self.inside.found.graph.nodes nodes c.self.inside.stage (more c) c.self.invariant.1) c.send.ensures.sends
 
 -- what a search is seen as once the answers are sent
 abbrev sent_as : After-send → SearchState
-sent_as c = record (the_view c.self.inside) { graph = c.receive-received.new.found.graph; monitors = c.receive-received.new.found.monitors; stage = stage_at c.receive-received.new.found.graph.nodes c.send.new.stage }
+sent_as c = record (the_view c.self.inside) { graph = c.receive.new.found.graph; monitors = c.receive.new.found.monitors; stage = stage_at c.receive.new.found.graph.nodes c.send.new.stage }
 
 sent_is : (c : After-send) → record (the_view c.self.inside) { graph = c.send.new.found.graph; monitors = c.send.new.found.monitors; stage = stage_at c.send.new.found.graph.nodes c.send.new.stage } ≡ sent_as c
 sent_is c = λ i. record (the_view c.self.inside) { graph = c.send.ensures.findings.0 i; monitors = c.send.ensures.findings.1 i; stage = stage_at (c.send.ensures.findings.0 i).nodes c.send.new.stage }
@@ -98,15 +98,15 @@ held_of c = subst (λ (x : SearchState). HoldsLetter x.stage c.args.letter (held
 kept : (c : After-send) → IsKept (sent_as c)
 kept c =
     let s = the_view c.self.inside in
-    let t = c.receive-received.new.found in
-    let ordered = subst (λ (v : SnapshotState). IsOrdered v.vaults) c.deref.ensures c.asker-asker.ensures.ordered in
+    let t = c.receive.new.found in
+    let ordered = subst (λ (v : SnapshotState). IsOrdered v.vaults) c.deref-snapshot.ensures c.asker-asker.ensures.ordered in
     sent_kept s c.args.letter (held_at c.self.inside.found.graph.nodes c.args.held.now) (held_of c) t.graph t.monitors t.outs (row c) c.self.invariant.0 ordered (sent_as c).stage c.send.result (sends c)
 
 pub invariant_of-self : goal.invariant_of-self
 invariant_of-self c =
     let after = (goal.at.invariant_of-self c).After-send in
     let old = c.self.inside.found.graph.nodes in
-    let new = c.receive-received.new.found.graph.nodes in (
+    let new = c.receive.new.found.graph.nodes in (
       subst IsKept (sym (sent_is after)) (kept after),
       subst (λ (g : GraphState). IsStage g.nodes c.send.new.stage) (sym c.send.ensures.findings.0) (c.send.ensures.loads (more_stage old new c.self.inside.stage (more after) c.self.invariant.1)),
     )
@@ -115,7 +115,7 @@ pub returns-in-Ok-clause-receives : goal.returns-in-Ok-clause-receives
 returns-in-Ok-clause-receives c =
     let after = (goal.at.returns-in-Ok-clause-receives c).After-send in
     let s = the_view c.self.inside in
-    let t = c.receive-received.new.found in
+    let t = c.receive.new.found in
     let received = sent_receives s c.args.letter (held_at c.self.inside.found.graph.nodes c.args.held.now) (held_of after) t.graph t.monitors t.outs (row after) (sent_as after).stage c.send.result (sends after) in
     subst (λ (x : SearchState). Receives x (record s { graph = c.send.new.found.graph; monitors = c.send.new.found.monitors; stage = stage_at c.send.new.found.graph.nodes c.send.new.stage }) c.args.letter (letter_in (held_at x.graph.nodes c.args.held.now)) c.send.result) c.self.view_is
     (subst (λ (x : SearchState). Receives s x c.args.letter (letter_in (held_at c.self.inside.found.graph.nodes c.args.held.now)) c.send.result) (sym (sent_is after)) received)
@@ -134,6 +134,6 @@ returns-in-Err-clause-settles c =
     let after = (goal.at.returns-in-Err-clause-settles c).After-clear in
     let s = the_view c.self.inside in
     let h = in_words after in
-    let t : SearchState = record s { graph = c.receive-received.new.found.graph; monitors = c.receive-received.new.found.monitors; stage = stage.Broken } in
+    let t : SearchState = record s { graph = c.receive.new.found.graph; monitors = c.receive.new.found.monitors; stage = stage.Broken } in
     settles c.self.view_is (same_question s t.graph t.monitors stage.Broken) (broken_kept t refl)
     (held_outstanding s.stage c.args.letter (letter_in h) (held_letter_is s.stage c.args.letter h (in_hand after)))

@@ -5,8 +5,8 @@ use Rattle.search.specs.Stage.{waiting_in}
 use Rattle.search.proofs.Numbered.{waiting_count}
 use Rattle.search.proofs.searches.Search.waiting.Goals as goal
 
-pub returns-in-Running : goal.returns-in-Running
-returns-in-Running c =
+pub returns : goal.returns
+returns c =
     c.waiting.ensures
     ∙ sym (waiting_count c.self.inside.found.graph.nodes c.self.inside.stage c.in-Running.running c.in-Running.is)
     ∙ ap (λ (s : SearchState). length (waiting_in s.stage)) c.self.view_is
