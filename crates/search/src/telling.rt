@@ -5,8 +5,9 @@ ghost use Rattle.credential_text.specs.declared.exprs.Expr.TheVariants as exprs;
 ghost use Rattle.cred_graph.specs.Graph.{IsNode};
 ghost use Rattle.cred_graph.specs.Numbers.{IsEntity, IsPort, entity_at, port_at};
 ghost use Rattle.monitors.specs.LinkMonitor.{LinkTold};
+ghost use Rattle.monitors.specs.MeetMonitor.{MeetTold};
 ghost use Rattle.search.specs.declared.findings.Monitor.TheVariants as Monitor;
-ghost use Rattle.search.specs.Answers.{TellsBase, MayTakeIn, TakesIn};
+ghost use Rattle.search.specs.Answers.{TellsLast, TellsBase, TellsPart, MayTakeIn, TakesIn};
 
 use crate::asking::ask;
 use crate::findings::{Findings, NumberedMonitor};
@@ -50,8 +51,24 @@ fn told_base(found: &mut Findings, node: u64, base: u32) -> Result<(), AllocErro
     ask(found, &role, Port::Via(base))
 }
 
-// The node is told on a port, by the node that it listens to, that the entity is a member. Of an intersection it is a
-// solution once the last part has told it.
+// An intersection hears that a part told the entity; with the last part it is a solution.
+fn told_part(found: &mut Findings, node: u64, part: u8, who: u32) -> Result<(), AllocError>
+    requires node { node < length found.old.graph.nodes }
+    requires entity { IsEntity found.old.graph.nodes who }
+    requires monitor { (x : MeetTold) × (slice_get found.old.monitors node ≡ Some (Monitor.Meet x)) × (part < x.parts) }
+    requires last { TellsLast found.old.graph found.old.monitors node part (entity_at found.old.graph.nodes who) }
+    ensures { OnOk result (TellsPart found.old found.new node part (entity_at found.old.graph.nodes who)) }
+{
+    let NumberedMonitor::Meet(told) = &mut found.monitors[node as usize] else {
+        unreachable!()
+    };
+    if !told.part_told(part, who)? {
+        return Ok(());
+    }
+    solve(found, node, who, Reason::Parts)
+}
+
+// The node is told on a port, by the node that it listens to, that the entity is a member.
 pub(crate) fn take_in(
     found: &mut Findings,
     node: u64,
@@ -74,14 +91,6 @@ pub(crate) fn take_in(
         }
         Port::Via(base) => solve(found, node, who, Reason::Via(base)),
         Port::Base => told_base(found, node, who),
-        Port::Part(part) => {
-            let NumberedMonitor::Meet(told) = &mut found.monitors[node as usize] else {
-                unreachable!()
-            };
-            if !told.part_told(part, who)? {
-                return Ok(());
-            }
-            solve(found, node, who, Reason::Parts)
-        }
+        Port::Part(part) => told_part(found, node, part, who),
     }
 }
