@@ -105,16 +105,15 @@ impl Findings {
         }
     }
 
-    // What a search for the role has found before its first letter is received: the role's node.
-    pub(crate) fn first(&mut self, role: Role) -> Result<(), AllocError>
+    // What a search for the role has found before its first letter is received: the role's node, whose number it answers.
+    pub(crate) fn first(&mut self, role: Role) -> Result<u64, AllocError>
         requires { self.old ≡ progress empty_graph [] [] }
         ensures found { OnOk result (self.new
             ≡ progress (record { nodes = exprs.Rol role ∷ []; listeners = [] ∷ []; solutions = [] }) (Monitor.Plain ∷ []) []) }
         ensures laws { OnOk result (IsGraph self.new.graph) }
     {
         self.reserve(FIRST_NODES)?;
-        node_for(self, &Expr::Rol(role))?;
-        Ok(())
+        node_for(self, &Expr::Rol(role))
     }
 
     // The graph. Each entity that a listener's port names has a node.

@@ -79,9 +79,7 @@ pub(crate) fn hold(stage: &mut NumberedStage, place: u64) -> Option<(u64, Held<L
         return None;
     }
     let number = running.take(place);
-    let Some(letter) = running.letter(number) else {
-        return None;
-    };
+    let letter = running.letter(number).unwrap();
     let held = Held {
         from: letter.from,
         to: letter.to,

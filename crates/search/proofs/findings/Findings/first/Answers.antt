@@ -1,4 +1,5 @@
 use Rattle.std.proofs.Common.{◌≡◌, ◌∙◌, ◌++◌, ◌∷◌, [], ℕ, true, false, None, Some, ap, subst, slice_get}
+use Rattle.std.proofs.lemmas.Result.{IfOk-weaker}
 use Rattle.names.specs.declared.roles.Role.{Role}
 use Rattle.credential_text.specs.declared.exprs.Expr.TheVariants.{Rol}
 use Rattle.cred_graph.specs.Graph.{empty_graph}
@@ -18,4 +19,7 @@ one_node s t role n none (true, given, outs, monitors) =
 one_node s t role n none (false, given, outs, monitors) = let clash : None ≡ Some (Rol role) = subst (λ (x : Progress). slice_get x.graph.nodes n ≡ Some (Rol role)) none given.0 in cc
 
 pub returns-clause-found : goal.returns-clause-found
-returns-clause-found c = one_node c.reserve.new.self c.node_for.new.found c.args.role c.in_ok-node_for.field-0 (c.reserve.ensures ∙ c.requires) c.in_ok-node_for.ensures.given
+returns-clause-found c =
+    let s = c.reserve.new.self in
+    let t = c.node_for.new.found in
+    IfOk-weaker c.node_for.result (HasNode s t (Rol c.args.role)) (λ n. t ≡ progress (first_graph c.args.role) (Plain ∷ []) []) (λ n given. one_node s t c.args.role n (c.reserve.ensures ∙ c.requires) given) c.node_for.ensures.given
