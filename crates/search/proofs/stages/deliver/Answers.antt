@@ -9,7 +9,8 @@ use Rattle.search.specs.declared.stages.NumberedStage.TheVariants as numbered_st
 use Rattle.search.specs.declared.stages.Stage.{Stage}
 use Rattle.search.specs.Stage.{signals_in, Delivers}
 use Rattle.search.specs.Numbered.{IsStage, load_at, stage_at}
-use Rattle.search.proofs.Numbered.{shown, shows}
+use Rattle.search.specs.Answers.{Progress}
+use Rattle.search.proofs.Numbered.{AreLetters, loads_shown, shown, shows}
 use Rattle.search.proofs.stages.deliver.Goals as goal
 use Rattle.search.proofs.stages.deliver.Goals.{After-signal}
 
@@ -38,20 +39,32 @@ delivers c nodes =
       delivers-named (load_at nodes) d c.signal.new.self c.args.place c.signal.ensures,
     )
 
-pub returns-then-is_complete-clause-delivers : goal.returns-then-is_complete-clause-delivers
-returns-then-is_complete-clause-delivers c =
-    λ nodes. subst (λ (e : Computation (Load ℕ)). Delivers (stage_at nodes c.args.stage.now) (stage_at nodes (numbered_stage.Running e)) c.args.place true) (sym c.give_back.ensures) (delivers (goal.at.returns-then-is_complete-clause-delivers c).After-signal nodes)
+loads : (c : After-signal) (nodes : List Expr) → IsStage nodes c.args.stage.now → IsStage nodes (numbered_stage.Running c.signal.new.self)
+loads c nodes are = subst (AreLetters nodes) (sym c.signal.ensures.letters) (loads_shown nodes c.args.stage.now c.in-Running.running c.in-Running.is are)
 
-pub returns-else-is_complete-clause-delivers : goal.returns-else-is_complete-clause-delivers
-returns-else-is_complete-clause-delivers c = delivers (goal.at.returns-else-is_complete-clause-delivers c).After-signal
+pub returns-then-is_complete : goal.returns-then-is_complete
+returns-then-is_complete c =
+    let at = (goal.at.returns-then-is_complete c).After-signal in record {
+      delivers = λ nodes. subst (λ (e : Computation (Load ℕ)). Delivers (stage_at nodes c.args.stage.now) (stage_at nodes (numbered_stage.Running e)) c.args.place true) (sym c.give_back.ensures) (delivers at nodes);
+      findings = (ap (λ (s : Progress). s.graph) c.give_back-then-is_complete.ensures, ap (λ (s : Progress). s.monitors) c.give_back-then-is_complete.ensures);
+      loads = λ nodes are. subst (λ (e : Computation (Load ℕ)). IsStage nodes (numbered_stage.Running e)) (sym c.give_back.ensures) (loads at nodes are);
+    }
 
-pub returns-then-place-signals-clause-delivers : goal.returns-then-place-signals-clause-delivers
-returns-then-place-signals-clause-delivers c =
-    λ (nodes : List Expr).
-    let st = c.args.stage.now in (
-      subst (λ (n : ℕ). n ≤ c.args.place) (c.signals.ensures ∙ sym (ap (λ (s : Stage). length (signals_in s)) (shows nodes st c.in-Running.running c.in-Running.is))) c.if-place-signals.true,
-      ap (stage_at nodes) (sym c.in-Running.is),
-    )
+pub returns-else-is_complete : goal.returns-else-is_complete
+returns-else-is_complete c =
+    let at = (goal.at.returns-else-is_complete c).After-signal in
+    record { delivers = delivers at; findings = (refl, refl); loads = loads at }
 
-pub returns-then-place-signals-clause-loads : goal.returns-then-place-signals-clause-loads
-returns-then-place-signals-clause-loads c = λ (nodes : List Expr). subst (IsStage nodes) c.in-Running.is
+pub returns-then-place-signals : goal.returns-then-place-signals
+returns-then-place-signals c = record {
+  delivers = λ nodes.
+      let st = c.args.stage.now in (
+        subst (λ (n : ℕ). n ≤ c.args.place) (c.signals.ensures ∙ sym (ap (λ (s : Stage). length (signals_in s)) (shows nodes st c.in-Running.running c.in-Running.is))) c.if-place-signals.true,
+        ap (stage_at nodes) (sym c.in-Running.is),
+      );
+  findings = (refl, refl);
+  loads = λ nodes. subst (IsStage nodes) c.in-Running.is;
+}
+
+pub signal-requires : goal.signal-requires
+signal-requires c = subst (λ (n : ℕ). c.args.place < n) c.signals.ensures c.if-place-signals.false
