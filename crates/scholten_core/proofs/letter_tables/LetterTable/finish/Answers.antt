@@ -1,4 +1,4 @@
-use Rattle.std.proofs.Common.{◌≡◌, ◌+◌, ◌==◌, not, filter, ap, ◌∙◌, arith}
+use Rattle.std.proofs.Common.{◌≡◌, ◌+◌, ◌==◌, not, filter, refl, ap, ◌∙◌, arith}
 use Rattle.indexmap.specs.IndexMap.{set_value_at}
 use Rattle.scholten_core.specs.LetterTable.{IsTable, standing}
 use Rattle.scholten_core.proofs.Standing.{HoldsAt, holds_at, key_within, length-numbered_le, number_found, standing-hole}
@@ -46,13 +46,17 @@ invariant_of-self g c = holed g (goal.at.invariant_of-self g c).After-empty
 pub invariant_of-self-else-behind-len : goal.invariant_of-self-else-behind-len
 invariant_of-self-else-behind-len g c = holed g (goal.at.invariant_of-self-else-behind-len g c).After-empty
 
-pub returns-then-behind-len-clause-letters : goal.returns-then-behind-len-clause-letters
-returns-then-behind-len-clause-letters g c =
-    rw (← c.self.view_is) (c.pop_holes.ensures.letters ∙ gone g (goal.at.returns-then-behind-len-clause-letters g c).After-empty)
+pub returns-then-behind-len : goal.returns-then-behind-len
+returns-then-behind-len g c =
+    rw (← c.self.view_is) (record {
+      letters = c.pop_holes.ensures.letters ∙ gone g (goal.at.returns-then-behind-len g c).After-empty;
+      sent = c.pop_holes.ensures.sent;
+      room = c.pop_holes.ensures.room;
+    })
 
-pub returns-else-behind-len-clause-letters : goal.returns-else-behind-len-clause-letters
-returns-else-behind-len-clause-letters g c =
-    rw (← c.self.view_is) (gone g (goal.at.returns-else-behind-len-clause-letters g c).After-empty)
+pub returns-else-behind-len : goal.returns-else-behind-len
+returns-else-behind-len g c =
+    rw (← c.self.view_is) (record { letters = gone g (goal.at.returns-else-behind-len g c).After-empty; sent = refl; room = omega arith })
 
 pub pair_mut-slot-requires : goal.pair_mut-slot-requires
 pair_mut-slot-requires g c =

@@ -1,7 +1,6 @@
-use Rattle.std.proofs.Common.{◌≡◌, Some, false, map, option_map, ap, ◌∙◌, arith}
+use Rattle.std.proofs.Common.{◌≡◌, Some, false, option_map, refl, ap, ◌∙◌, arith}
 use Rattle.scholten_core.specs.declared.letters.Letter.{Letter}
 use Rattle.scholten_core.specs.LetterTable.{standing}
-use Rattle.scholten_core.specs.Step.{mark}
 use Rattle.indexmap.specs.IndexMap.{set_value_at}
 use Rattle.scholten_core.proofs.Standing.{HoldsAt, holds_at, key_within, length-numbered_le, number_found, slot_value, standing-change}
 use Rattle.scholten_core.proofs.Tables.{put_back, waits-le-sent}
@@ -44,13 +43,15 @@ invariant_of-self g c =
     let one = slot g after in
     rw (written g after, c.min-self-inside.ensures, c.max-self-inside.ensures) (put_back _ _ _ _ _ _ c.self.invariant c.unwrap-at.result c.args.number one.letter one.there one.held)
 
-pub returns-clause-letters : goal.returns-clause-letters
-returns-clause-letters g c =
-    let after = (goal.at.returns-clause-letters g c).After-hold in
+pub returns : goal.returns
+returns g c =
+    let after = (goal.at.returns g c).After-hold in
     let one = slot g after in
-    ap (λ w. standing (set_value_at c.self.inside.letters.entries c.unwrap-at.result w)) (written g after)
-    ∙ standing-change (λ x. record x { held = false }) 0 c.self.inside.letters.entries c.self.inside.sent c.unwrap-at.result c.args.number one.letter c.self.invariant.numbers one.there
-    ∙ ap (λ s. map (mark c.args.number false) s.letters) c.self.view_is
+    let entries = c.self.inside.letters.entries in
+    rw (← c.self.view_is) (record {
+      letters = ap (λ w. standing (set_value_at entries c.unwrap-at.result w)) (written g after) ∙ standing-change (λ x. record x { held = false }) 0 entries c.self.inside.sent c.unwrap-at.result c.args.number one.letter c.self.invariant.numbers one.there;
+      sent = refl;
+    })
 
 pub pair_mut-slot-requires : goal.pair_mut-slot-requires
 pair_mut-slot-requires g c =
