@@ -1,6 +1,7 @@
 //! The table of the letters that wait or are held.
-ghost use Rattle.std.specs.Prelude.{◌≡◌, ◌+◌, ◌-◌, ◌<◌, ◌≤◌, ◌==◌, false, is_none, option_map, slice_get, take, unwrap_or};
-ghost use Rattle.indexmap.specs.IndexMap.{index_map_len};
+ghost use Rattle.std.specs.Prelude.{◌≡◌, ◌+◌, ◌-◌, ◌<◌, ◌≤◌, ◌==◌, false, Option, Some, is_none, option_map, slice_get, take, unwrap_or};
+ghost use Rattle.indexmap.specs.IndexMap.{index_map_len, set_value_at};
+ghost use Rattle.scholten_core.specs.declared.letters.Letter.{Letter};
 ghost use Rattle.scholten_core.specs.LetterTable.{count, does_wait, IsPlaceOf, WaitsAt};
 
 use crate::letters::Letter;
@@ -99,6 +100,17 @@ fn place_in_index<P>(letters: &Numbered<P>, number: u64) -> Option<usize>
     ensures { IsPlaceOf letters.now.entries number result }
 {
     letters.get_index_of(&number)
+}
+
+// The letter at a place is held from now on, or waits again. Answers its number.
+#[inline(always)]
+fn hold<P>(letters: &mut Numbered<P>, at: usize, held: bool) -> u64
+    requires { at < index_map_len letters.old }
+    ensures { (o : Option (Letter P)) × (slice_get letters.old.entries at ≡ Some (result, o)) × (letters.new.entries ≡ set_value_at letters.old.entries at (option_map (λ (l : Letter P). record l { held = held }) o)) }
+{
+    let (number, slot) = letters.pair_mut(at);
+    slot.hold(held);
+    *number
 }
 
 // Where the waiting letter at that place stands, sought from a place on before which none waits.
@@ -230,9 +242,7 @@ impl<P: Drop> LetterTable<P> {
         self.last = if follow == 0 { at } else { self.last };
         self.hand = at;
         self.waits -= 1;
-        let (number, slot) = self.letters.pair_mut(at);
-        slot.hold(true);
-        *number
+        hold(&mut self.letters, at, true)
     }
 
     /// The held letter of that number waits again.
@@ -242,8 +252,7 @@ impl<P: Drop> LetterTable<P> {
         ensures sent { self.new.sent ≡ self.old.sent }
     {
         let at = place_of(&self.letters, self.hand, number).unwrap();
-        let (_, slot) = self.letters.pair_mut(at);
-        slot.hold(false);
+        hold(&mut self.letters, at, false);
         self.waits += 1;
         self.first = self.first.min(at);
         self.last = self.last.max(at + 1);

@@ -13,7 +13,7 @@ unwrap-at-requires g c =
     number_found c.self.inside.sent c.self.inside.letters.entries c.self.invariant.numbers c.args.number held c.place_of.result c.place_of.ensures
 
 -- the held letter of the number
-slot : (g : Over) (c : After-empty g) → HoldsAt c.self.inside.letters.entries c.args.number c.unwrap-at.result
+slot : (g : Over) (c : After-empty g) → HoldsAt c.self.inside.letters.entries c.args.number c.unwrap-at.result c.pair_mut-slot.result.1.now
 slot g c =
     let held = rw (← c.self.view_is) at c.requires in
     holds_at c.self.inside.sent c.self.inside.letters.entries c.self.invariant.numbers c.args.number c.unwrap-at.result c.pair_mut-slot.result.0.now c.pair_mut-slot.result.1.now held (rw c.unwrap-at.ensures at c.place_of.ensures) c.pair_mut-slot.ensures.value
