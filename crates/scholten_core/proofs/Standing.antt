@@ -66,6 +66,12 @@ module _ {X : Type 0} where
   key_get (l ∷ ls) zero m x at = ap (λ o. option_map (λ (e : ℕ × X). e.0) o) at
   key_get (l ∷ ls) (suc i) m x at = key_get ls i m x at
 
+  -- the entry of a number
+  pub entry_of_key : (ls : List (ℕ × X)) (i k : ℕ) → slice_get (keys_of ls) i ≡ Some k → (x : X) × (slice_get ls i ≡ Some (k, x))
+  entry_of_key [] i k at = absurd (none-some _ at)
+  entry_of_key (l ∷ ls) zero k at = (l.1, ap (λ n. Some (n, l.1)) (same_Some _ _ at))
+  entry_of_key (l ∷ ls) (suc i) k at = entry_of_key ls i k at
+
   -- the number that is found at a place stands there
   pub key_there : (k : ℕ) (ls : List (ℕ × X)) → IfSome (position (nat_eq k) (keys_of ls)) (λ i. slice_get (keys_of ls) i ≡ Some k)
   key_there k ls =
