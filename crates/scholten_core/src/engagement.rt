@@ -38,9 +38,7 @@ fn make_place(nodes: &mut Vec<Option<Engagement>>, node: u64) -> Result<(), Allo
     if place < nodes.len() {
         return Ok(());
     }
-    let Some(count) = place.checked_add(1) else {
-        return Err(AllocError);
-    };
+    let count = place.saturating_add(1);
     if count > nodes.capacity() {
         nodes.reserve((count - nodes.len()).max(FEW))?;
     }
@@ -83,7 +81,7 @@ fn pay(nodes: &mut Vec<Option<Engagement>>, node: u64) -> Option<Parent>
     requires { 0 < deficit_kept nodes.old.items node }
     ensures { Pays nodes.old.items nodes.new.items node result }
 {
-    let engaged = engaged_at(nodes, node)?;
+    let engaged = engaged_at(nodes, node).unwrap();
     if engaged.deficit > 1 {
         nodes[node as usize] = Some(Engagement {
             parent: engaged.parent,

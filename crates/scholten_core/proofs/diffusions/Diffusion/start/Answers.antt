@@ -24,8 +24,8 @@ pub invariant_of-result : goal.invariant_of-result
 invariant_of-result g c =
     subst (λ d. IsKept d 1 c.new-3.result.items) (sym (first g c)) (started_kept c.args.root c.args.load c.new-3.result.items c.new-3.ensures.items)
 
-pub returns-clause-sound : goal.returns-clause-sound
-returns-clause-sound g c = sound _ (invariant_of-result g c).settled
+pub returns : goal.returns
+returns g c = record { started = first g c; sound = sound _ (invariant_of-result g c).settled }
 
 pub returns-in_err-letters : goal.returns-in_err-letters
 returns-in_err-letters g c =

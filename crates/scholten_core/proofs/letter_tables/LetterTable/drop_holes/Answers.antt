@@ -1,4 +1,4 @@
-use Rattle.std.proofs.Common.{◌≡◌, filter, is_some, rules}
+use Rattle.std.proofs.Common.{◌≡◌, filter, is_some, refl, rules}
 use Rattle.std.proofs.lemmas.Map.Made.{filter_same_pairs}
 use Rattle.scholten_core.proofs.Counts.{standing-full}
 use Rattle.scholten_core.proofs.Tables.{dropped}
@@ -14,7 +14,7 @@ invariant_of-self g c =
     let after = (goal.at.invariant_of-self g c).After-retain in
     rw (c.len-self-inside.ensures.len, kept g after) (dropped _ _ _ _ _ _ c.self.invariant)
 
-pub returns-clause-letters : goal.returns-clause-letters
-returns-clause-letters g c =
-    let after = (goal.at.returns-clause-letters g c).After-retain in
-    rw (kept g after, ← c.self.view_is) (standing-full c.self.inside.letters.entries)
+pub returns : goal.returns
+returns g c =
+    let after = (goal.at.returns g c).After-retain in
+    rw (kept g after, ← c.self.view_is) (record { letters = standing-full c.self.inside.letters.entries; sent = refl })

@@ -1,4 +1,4 @@
-use Rattle.std.proofs.Common.{◌≡◌, ◌+◌, ◌++◌, ◌∷◌, [], Some, not, nat_eq, ap, ◌∙◌, arith}
+use Rattle.std.proofs.Common.{◌≡◌, ◌+◌, ◌++◌, ◌∷◌, [], Some, not, nat_eq, refl, ap, ◌∙◌, arith}
 use Rattle.indexmap.proofs.CallerLemmas.{insert_entry-new}
 use Rattle.scholten_core.specs.LetterTable.{standing}
 use Rattle.scholten_core.proofs.Standing.{absent, standing-append}
@@ -25,12 +25,17 @@ invariant_of-self g c =
     let after = (goal.at.invariant_of-self g c).After-unwrap in
     rw (c.len-self-inside.ensures.len, added g after) (pushed _ _ _ _ _ _ c.self.invariant (Some c.args.letter) (ap not c.requires.waits))
 
-pub returns-clause-letters : goal.returns-clause-letters
-returns-clause-letters g c =
-    let after = (goal.at.returns-clause-letters g c).After-unwrap in
-    ap standing (added g after)
-    ∙ standing-append c.self.inside.letters.entries ((c.self.inside.sent + 1, Some c.args.letter) ∷ [])
-    ∙ ap (λ s. s.letters ++ (s.sent + 1, c.args.letter) ∷ []) c.self.view_is
+pub returns : goal.returns
+returns g c =
+    let after = (goal.at.returns g c).After-unwrap in
+    rw (← c.self.view_is) (record {
+      letters = ap standing (added g after) ∙ standing-append c.self.inside.letters.entries ((c.self.inside.sent + 1, Some c.args.letter) ∷ []);
+      sent = refl;
+      room = c.insert.ensures.spare;
+    })
+
+pub full-requires : goal.full-requires
+full-requires g c = c.requires.from
 
 pub overflow_add-self : goal.overflow_add-self
 overflow_add-self g c =

@@ -1,4 +1,5 @@
 use Rattle.std.proofs.Common.{◌+◌, ◌++◌, ◌∷◌, [], ◌∙◌, false, refl, sym, ap, append_assoc, arith}
+use Rattle.std.proofs.lemmas.List.{append-nil, nil_from_length}
 use Rattle.scholten_core.specs.Step.{numbered}
 use Rattle.scholten_core.proofs.letter_tables.LetterTable.send.Goals as goal
 
@@ -30,4 +31,14 @@ loop-to-preserved g c =
       sent = omega (arith, c.push.ensures.sent, c.in-Some.ensures.len, before.sent);
       room = omega (arith, c.push.ensures.room, c.in-Some.ensures.len, before.room);
       numbers = omega (arith, c.push.ensures.sent, c.in-Some.ensures.len, before.numbers);
+    }
+
+pub returns : goal.returns
+returns g c =
+    let before = c.loop-to.invariant in
+    let none = nil_from_length c.loop-to.outs.items (omega (arith, c.in_default.ensures.len, c.in_default.ensures.cases, c.loop-to.outs.ok)) in
+    record {
+      letters = sym (append-nil c.loop-to.self.letters) ∙ ap (λ items. c.loop-to.self.letters ++ numbered c.args.from (c.loop-to.self.sent + 1) items) (sym none) ∙ before.letters;
+      sent = omega (arith, before.sent, c.in_default.ensures.cases);
+      emptied = sym c.in_default.ensures.items ∙ none;
     }
