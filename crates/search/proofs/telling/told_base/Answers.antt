@@ -1,7 +1,7 @@
 -- The monitor that hears is the one at the node; where the member is new its role is asked.
 use Rattle.std.proofs.Common.{◌≡◌, ◌∙◌, ap, arith, inl, inr, refl, sym, subst, ℕ, List, Some, set, slice_get}
 use Rattle.std.proofs.lemmas.Option.{same_Some, slice_get_within}
-use Rattle.std.proofs.lemmas.Result.{on_ok_weaker}
+use Rattle.std.proofs.lemmas.Result.{err_from_is_err_and, on_ok_weaker}
 use Rattle.names.specs.declared.roles.Role.{Role}
 use Rattle.credential_text.specs.declared.exprs.Expr.{Expr}
 use Rattle.credential_text.specs.declared.exprs.Expr.TheVariants.{Link, Rol}
@@ -57,6 +57,11 @@ unreachable-requires c =
 pub invariant_of-found : goal.invariant_of-found
 invariant_of-found c =
     let at = goal.at.invariant_of-found c in
+    still at.After-base_told (is_entity at.After-found) (there at.After-found)
+
+pub invariant_of-found-then-not-branch : goal.invariant_of-found-then-not-branch
+invariant_of-found-then-not-branch c =
+    let at = goal.at.invariant_of-found-then-not-branch c in
     still at.After-base_told (is_entity at.After-found) (there at.After-found)
 
 pub invariant_of-found-2 : goal.invariant_of-found-2
@@ -117,3 +122,8 @@ returns c =
       ),
     ))
     c.ask.ensures
+
+pub returns-in_err-base_told : goal.returns-in_err-base_told
+returns-in_err-base_told c =
+    let p = err_from_is_err_and c.from_residual.result c.from_residual.ensures.1 in
+    rw p.1 tt

@@ -9,6 +9,7 @@ use Rattle.search.specs.declared.letters.Held.{Held}
 use Rattle.search.specs.declared.stages.Stage.{Stage}
 use Rattle.search.specs.declared.stages.Stage.TheVariants as stage
 use Rattle.search.specs.Net.{sent_of}
+use Rattle.search.specs.declared.outcomes.Finished.TheVariants.{Broken}
 use Rattle.search.specs.Answers.{Progress, progress, Answers, Awaits}
 use Rattle.search.specs.Stage.{HoldsLetter, Sends, letter_in}
 use Rattle.search.specs.Search.{SearchState, IsKept, asked_role}
@@ -137,3 +138,15 @@ returns-in-Err-clause-settles c =
     let t : SearchState = record s { graph = c.receive.new.found.graph; monitors = c.receive.new.found.monitors; stage = stage.Broken } in
     settles c.self.view_is (same_question s t.graph t.monitors stage.Broken) (broken_kept t refl)
     (held_outstanding s.stage c.args.letter (letter_in h) (held_letter_is s.stage c.args.letter h (in_hand after)))
+
+pub returns-in-Err-clause-receives : goal.returns-in-Err-clause-receives
+returns-in-Err-clause-receives c =
+    let s = the_view c.self.inside in
+    let t = c.receive.new.found in
+    subst (λ (x : SearchState). Receives x (record s { graph = t.graph; monitors = t.monitors; stage = stage.Broken }) c.args.letter (letter_in (held_at x.graph.nodes c.args.held.now)) Broken) c.self.view_is
+    (refl, same_question s t.graph t.monitors stage.Broken)
+
+pub invariant_of-self-in-Err : goal.invariant_of-self-in-Err
+invariant_of-self-in-Err c =
+    let t = c.receive.new.found in
+    (broken_kept (record (the_view c.self.inside) { graph = t.graph; monitors = t.monitors; stage = stage.Broken }) refl, tt)
