@@ -1,5 +1,5 @@
 -- Finite maps from numbers to parents
-use Rattle.std.proofs.Common.{◌≡◌, ◌≢◌, ℕ, ◌+◌, ◌≤◌, ◌==◌, Bool, true, false, cond, List, [], ◌∷◌, Some, None, map, count_by, sum_by, is_some, refl, sym, ap, ◌∙◌, arith, eq-eqb, ne_eqb, Less, Equal, Greater}
+use Rattle.std.proofs.Common.{◌≡◌, ◌≢◌, ℕ, ◌+◌, ◌≤◌, ◌==◌, Bool, true, false, cond, List, [], ◌∷◌, Some, None, map, count_by, sum_by, is_some, refl, sym, ap, ◌∙◌, arith, eq-eqb, ne_eqb, true≢false, Less, Equal, Greater}
 use Rattle.std.specs.Ordering.{nat_cmp, is_eq}
 use Rattle.std.specs.Cmp.{nat_cmp_total, unsigned_tied}
 use Rattle.std.specs.FinMap as fin
@@ -15,7 +15,7 @@ pub one_or_other : (m n : ℕ) {C : Type 0} → (m ≡ n → C) → (m ≢ n →
 one_or_other m n {C} one other =
     elim (m == n) as (λ b. (m == n) ≡ b → C) [
       | true ↦ λ e. one (exact_unsigned_eq m n e)
-      | false ↦ λ e. other (λ same. cc (ap (λ x. m == x) same, eq-eqb m m refl))
+      | false ↦ λ e. other (λ same. true≢false (sym (eq-eqb m n same) ∙ e))
     ] refl
 
 module _ (m : FinMap nat_cmp Parent) (k : ℕ) where

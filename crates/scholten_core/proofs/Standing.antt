@@ -66,6 +66,12 @@ module _ {X : Type 0} where
   key_get (l ∷ ls) zero m x at = ap (λ o. option_map (λ (e : ℕ × X). e.0) o) at
   key_get (l ∷ ls) (suc i) m x at = key_get ls i m x at
 
+  -- the entry of a number
+  pub entry_of_key : (ls : List (ℕ × X)) (i k : ℕ) → slice_get (keys_of ls) i ≡ Some k → (x : X) × (slice_get ls i ≡ Some (k, x))
+  entry_of_key [] i k at = absurd (none-some _ at)
+  entry_of_key (l ∷ ls) zero k at = (l.1, ap (λ n. Some (n, l.1)) (same_Some _ _ at))
+  entry_of_key (l ∷ ls) (suc i) k at = entry_of_key ls i k at
+
   -- the number that is found at a place stands there
   pub key_there : (k : ℕ) (ls : List (ℕ × X)) → IfSome (position (nat_eq k) (keys_of ls)) (λ i. slice_get (keys_of ls) i ≡ Some k)
   key_there k ls =
@@ -155,10 +161,11 @@ module _ {P : Type 0} where
       sym (ap (λ b. cond (not b) ((m, x) ∷ rest) rest) other ∙ ap (λ r. (m, x) ∷ r) (sym (standing-hole m es high i k l rising.1 at)))
 
   -- what stands where a held letter's number is found
-  pub record HoldsAt (es : List (ℕ × Option (Letter P))) (k i : ℕ) : Type 0 where
+  pub record HoldsAt (es : List (ℕ × Option (Letter P))) (k i : ℕ) (v : Option (Letter P)) : Type 0 where
     pub letter : Letter P
     pub there : slice_get es i ≡ Some (k, Some letter)
     pub held : letter.held ≡ true
+    pub value : v ≡ Some letter
 
   -- the number of the entry at a place stands there among the numbers
   pub number_there : (k : ℕ) (es : List (ℕ × Option (Letter P))) (i : ℕ) → unwrap_or (option_map (λ (e : ℕ × Option (Letter P)). e.0 == k) (slice_get es i)) false ≡ true → slice_get (keys_of es) i ≡ Some k
@@ -182,15 +189,12 @@ module _ {P : Type 0} where
         let looked = lookup-standing k 0 es sent rising ∙ ap letter_in (lookup_at 0 es sent i k v rising slot_is) in
         subst (λ (o : Option (Letter P)). IsSomeAnd o (λ l. IsTrue l.held)) looked is_held
 
-    pub holds_at : HoldsAt es k i
+    pub holds_at : HoldsAt es k i v
     holds_at =
-        elim v as (λ o. slice_get es i ≡ Some (k, o) → IsSomeAnd o (λ l. IsTrue l.held) → HoldsAt es k i) [
+        elim v as (λ o. slice_get es i ≡ Some (k, o) → IsSomeAnd o (λ l. IsTrue l.held) → HoldsAt es k i o) [
           | None ↦ λ _ isnt. absurd isnt
-          | Some l ↦ λ there held. record { letter = l; there = there; held = held }
+          | Some l ↦ λ there held. record { letter = l; there = there; held = held; value = refl }
         ] slot_is slot_held
-
-    pub slot_value : v ≡ Some holds_at.letter
-    slot_value = ap (λ (e : ℕ × Option (Letter P)). e.1) (same_Some _ _ (sym slot_is ∙ holds_at.there))
 
   -- so the number is found
   pub number_found : (sent : ℕ) (es : List (ℕ × Option (Letter P))) → IsNumbered 0 es sent → (k : ℕ) → IsHeldIn (standing es) k → (place : Option ℕ) → IsPlaceOf es k place → is_some place ≡ true

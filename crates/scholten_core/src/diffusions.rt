@@ -216,7 +216,10 @@ impl<P: Drop> Diffusion<P> {
     pub fn deficit(&self, node: u64) -> u64
         ensures { result ≡ deficit_of self.now (Parent.Node node) }
     {
-        engaged_at(&self.nodes, node).map_or(0, |engaged| engaged.deficit)
+        match engaged_at(&self.nodes, node) {
+            Some(engaged) => engaged.deficit,
+            None => 0,
+        }
     }
 
     /// Who engaged a node.

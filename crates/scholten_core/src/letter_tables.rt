@@ -1,6 +1,7 @@
 //! The table of the letters that wait or are held.
-ghost use Rattle.std.specs.Prelude.{◌≡◌, ◌+◌, ◌-◌, ◌<◌, ◌≤◌, ◌==◌, false, is_none, option_map, slice_get, take, unwrap_or};
-ghost use Rattle.indexmap.specs.IndexMap.{index_map_len};
+ghost use Rattle.std.specs.Prelude.{◌≡◌, ◌+◌, ◌-◌, ◌<◌, ◌≤◌, ◌==◌, false, Option, None, Some, is_none, option_copied, option_map, slice_get, take, unwrap_or};
+ghost use Rattle.indexmap.specs.IndexMap.{index_map_len, set_value_at, spare, values};
+ghost use Rattle.scholten_core.specs.declared.letters.Letter.{Letter};
 ghost use Rattle.scholten_core.specs.LetterTable.{count, does_wait, IsPlaceOf, WaitsAt};
 
 use crate::letters::Letter;
@@ -99,6 +100,37 @@ fn place_in_index<P>(letters: &Numbered<P>, number: u64) -> Option<usize>
     ensures { IsPlaceOf letters.now.entries number result }
 {
     letters.get_index_of(&number)
+}
+
+// The letter at a place, if it isn't a hole.
+#[inline(always)]
+fn letter_at<P>(letters: &Numbered<P>, at: usize) -> Option<&Letter<P>>
+    requires { at < index_map_len letters.now }
+    ensures { slice_get (values letters.now) at ≡ Some (option_copied result) }
+{
+    letters[at].letter()
+}
+
+// The letter at a place is held from now on, or waits again. Answers its number.
+#[inline(always)]
+fn hold<P>(letters: &mut Numbered<P>, at: usize, held: bool) -> u64
+    requires { at < index_map_len letters.old }
+    ensures { (o : Option (Letter P)) × (slice_get letters.old.entries at ≡ Some (result, o)) × (letters.new.entries ≡ set_value_at letters.old.entries at (option_map (λ (l : Letter P). record l { held = held }) o)) }
+{
+    let (number, slot) = letters.pair_mut(at);
+    slot.hold(held);
+    *number
+}
+
+// The letter at a place is a hole from now on.
+#[inline(always)]
+fn leave_hole<P>(letters: &mut Numbered<P>, at: usize)
+    requires { at < index_map_len letters.old }
+    ensures hole { letters.new.entries ≡ set_value_at letters.old.entries at None }
+    ensures room { spare letters.new ≡ spare letters.old }
+{
+    let (_, slot) = letters.pair_mut(at);
+    slot.empty();
 }
 
 // Where the waiting letter at that place stands, sought from a place on before which none waits.
@@ -214,7 +246,7 @@ impl<P: Drop> LetterTable<P> {
         ensures { option_copied result ≡ lookup (λ n. n == number) self.now.letters }
     {
         let at = place_of(&self.letters, self.hand, number)?;
-        self.letters[at].letter()
+        letter_at(&self.letters, at)
     }
 
     /// Takes the waiting letter at that place, in order of number, and answers its number.
@@ -230,9 +262,7 @@ impl<P: Drop> LetterTable<P> {
         self.last = if follow == 0 { at } else { self.last };
         self.hand = at;
         self.waits -= 1;
-        let (number, slot) = self.letters.pair_mut(at);
-        slot.hold(true);
-        *number
+        hold(&mut self.letters, at, true)
     }
 
     /// The held letter of that number waits again.
@@ -242,8 +272,7 @@ impl<P: Drop> LetterTable<P> {
         ensures sent { self.new.sent ≡ self.old.sent }
     {
         let at = place_of(&self.letters, self.hand, number).unwrap();
-        let (_, slot) = self.letters.pair_mut(at);
-        slot.hold(false);
+        hold(&mut self.letters, at, false);
         self.waits += 1;
         self.first = self.first.min(at);
         self.last = self.last.max(at + 1);
@@ -323,8 +352,7 @@ impl<P: Drop> LetterTable<P> {
         ensures room { self.old.room ≤ self.new.room }
     {
         let at = place_of(&self.letters, self.hand, number).unwrap();
-        let (_, slot) = self.letters.pair_mut(at);
-        slot.empty();
+        leave_hole(&mut self.letters, at);
         self.holes += 1;
         let behind = at + 1;
         self.hand = behind;

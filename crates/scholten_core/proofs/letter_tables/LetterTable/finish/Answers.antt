@@ -1,63 +1,75 @@
-use Rattle.std.proofs.Common.{◌≡◌, ◌+◌, ◌==◌, not, filter, refl, ap, ◌∙◌, arith}
+use Rattle.std.proofs.Common.{◌≡◌, ◌+◌, ◌==◌, Some, None, not, filter, refl, ap, ◌∙◌, arith}
+use Rattle.std.specs.List.{slice_get}
+use Rattle.std.specs.Map.{keys_of}
 use Rattle.indexmap.specs.IndexMap.{set_value_at}
 use Rattle.scholten_core.specs.LetterTable.{IsTable, standing}
-use Rattle.scholten_core.proofs.Standing.{HoldsAt, holds_at, key_within, length-numbered_le, number_found, standing-hole}
+use Rattle.scholten_core.proofs.Standing.{HoldsAt, entry_of_key, holds_at, key_within, length-numbered_le, number_found, standing-hole}
 use Rattle.scholten_core.proofs.Tables.{holes-le-sent, left_hole}
 use Rattle.scholten_core.proofs.letter_tables.LetterTable.finish.Given.{Over}
 use Rattle.scholten_core.proofs.letter_tables.LetterTable.finish.Goals as goal
-use Rattle.scholten_core.proofs.letter_tables.LetterTable.finish.Goals.{After-empty}
+use Rattle.scholten_core.proofs.letter_tables.LetterTable.finish.Goals.{After-unwrap-at}
 
 pub unwrap-at-requires : goal.unwrap-at-requires
 unwrap-at-requires g c =
     let held = rw (← c.self.view_is) at c.requires in
     number_found c.self.inside.sent c.self.inside.letters.entries c.self.invariant.numbers c.args.number held c.place_of.result c.place_of.ensures
 
+-- the number stands at the place
+key : (g : Over) (c : After-unwrap-at g) → slice_get (keys_of c.self.inside.letters.entries) c.unwrap-at.result ≡ Some c.args.number
+key g c = rw c.unwrap-at.ensures at c.place_of.ensures
+
 -- the held letter of the number
-slot : (g : Over) (c : After-empty g) → HoldsAt c.self.inside.letters.entries c.args.number c.unwrap-at.result
+slot : (g : Over) (c : After-unwrap-at g) → HoldsAt c.self.inside.letters.entries c.args.number c.unwrap-at.result (entry_of_key c.self.inside.letters.entries c.unwrap-at.result c.args.number (key g c)).0
 slot g c =
     let held = rw (← c.self.view_is) at c.requires in
-    holds_at c.self.inside.sent c.self.inside.letters.entries c.self.invariant.numbers c.args.number c.unwrap-at.result c.pair_mut-slot.result.0.now c.pair_mut-slot.result.1.now held (rw c.unwrap-at.ensures at c.place_of.ensures) c.pair_mut-slot.ensures.value
+    let entry = entry_of_key c.self.inside.letters.entries c.unwrap-at.result c.args.number (key g c) in
+    holds_at c.self.inside.sent c.self.inside.letters.entries c.self.invariant.numbers c.args.number c.unwrap-at.result c.args.number entry.0 held (key g c) entry.1
 
 pub overflow_add-self : goal.overflow_add-self
 overflow_add-self g c =
-    let one = slot g (goal.at.overflow_add-self g c).After-empty in
+    let one = slot g (goal.at.overflow_add-self g c).After-unwrap-at in
     omega (arith, holes-le-sent _ _ _ _ _ _ (left_hole _ _ _ _ _ _ c.self.invariant c.unwrap-at.result c.args.number one.letter one.there one.held), c.self.ranges)
 
 pub overflow_add-behind : goal.overflow_add-behind
 overflow_add-behind g c =
-    let within = key_within c.args.number c.self.inside.letters.entries c.unwrap-at.result (rw c.unwrap-at.ensures at c.place_of.ensures) in
+    let within = key_within c.args.number c.self.inside.letters.entries c.unwrap-at.result (key g (goal.at.overflow_add-behind g c).After-unwrap-at) in
     omega (arith, within, length-numbered_le 0 c.self.inside.letters.entries c.self.inside.sent c.self.invariant.numbers, c.self.ranges)
 
 -- the table with the hole
-holed : (g : Over) (c : After-empty g) → IsTable c.self.inside.sent c.self.inside.waits (c.self.inside.holes + 1) c.self.inside.first c.self.inside.last (set_value_at c.self.inside.letters.entries c.unwrap-at.result c.empty.new.self)
+holed : (g : Over) (c : After-unwrap-at g) → IsTable c.self.inside.sent c.self.inside.waits (c.self.inside.holes + 1) c.self.inside.first c.self.inside.last (set_value_at c.self.inside.letters.entries c.unwrap-at.result None)
 holed g c =
     let one = slot g c in
-    rw c.empty.ensures (left_hole _ _ _ _ _ _ c.self.invariant c.unwrap-at.result c.args.number one.letter one.there one.held)
+    left_hole _ _ _ _ _ _ c.self.invariant c.unwrap-at.result c.args.number one.letter one.there one.held
 
 -- the letter is gone, and no other
-gone : (g : Over) (c : After-empty g) → standing (set_value_at c.self.inside.letters.entries c.unwrap-at.result c.empty.new.self) ≡ filter (λ x. not (x.0 == c.args.number)) (standing c.self.inside.letters.entries)
+gone : (g : Over) (c : After-unwrap-at g) → standing (set_value_at c.self.inside.letters.entries c.unwrap-at.result None) ≡ filter (λ x. not (x.0 == c.args.number)) (standing c.self.inside.letters.entries)
 gone g c =
     let one = slot g c in
-    ap (λ w. standing (set_value_at c.self.inside.letters.entries c.unwrap-at.result w)) c.empty.ensures ∙ standing-hole 0 c.self.inside.letters.entries c.self.inside.sent c.unwrap-at.result c.args.number one.letter c.self.invariant.numbers one.there
+    standing-hole 0 c.self.inside.letters.entries c.self.inside.sent c.unwrap-at.result c.args.number one.letter c.self.invariant.numbers one.there
 
 pub invariant_of-self : goal.invariant_of-self
-invariant_of-self g c = holed g (goal.at.invariant_of-self g c).After-empty
+invariant_of-self g c = rw c.leave_hole.ensures.hole (holed g (goal.at.invariant_of-self g c).After-unwrap-at)
 
 pub invariant_of-self-else-behind-len : goal.invariant_of-self-else-behind-len
-invariant_of-self-else-behind-len g c = holed g (goal.at.invariant_of-self-else-behind-len g c).After-empty
+invariant_of-self-else-behind-len g c =
+    rw c.leave_hole.ensures.hole (holed g (goal.at.invariant_of-self-else-behind-len g c).After-unwrap-at)
 
 pub returns-then-behind-len : goal.returns-then-behind-len
 returns-then-behind-len g c =
     rw (← c.self.view_is) (record {
-      letters = c.pop_holes.ensures.letters ∙ gone g (goal.at.returns-then-behind-len g c).After-empty;
+      letters = c.pop_holes.ensures.letters ∙ ap standing c.leave_hole.ensures.hole ∙ gone g (goal.at.returns-then-behind-len g c).After-unwrap-at;
       sent = c.pop_holes.ensures.sent;
-      room = c.pop_holes.ensures.room;
+      room = omega (arith, c.pop_holes.ensures.room, c.leave_hole.ensures.room);
     })
 
 pub returns-else-behind-len : goal.returns-else-behind-len
 returns-else-behind-len g c =
-    rw (← c.self.view_is) (record { letters = gone g (goal.at.returns-else-behind-len g c).After-empty; sent = refl; room = omega arith })
+    rw (← c.self.view_is) (record {
+      letters = ap standing c.leave_hole.ensures.hole ∙ gone g (goal.at.returns-else-behind-len g c).After-unwrap-at;
+      sent = refl;
+      room = omega (arith, c.leave_hole.ensures.room);
+    })
 
-pub pair_mut-slot-requires : goal.pair_mut-slot-requires
-pair_mut-slot-requires g c =
-    key_within c.args.number c.self.inside.letters.entries c.unwrap-at.result (rw c.unwrap-at.ensures at c.place_of.ensures)
+pub leave_hole-requires : goal.leave_hole-requires
+leave_hole-requires g c =
+    key_within c.args.number c.self.inside.letters.entries c.unwrap-at.result (key g (goal.at.leave_hole-requires g c).After-unwrap-at)

@@ -8,8 +8,8 @@ returns-in_err-at g c =
 
 pub returns : goal.returns
 returns g c =
-    rw (← c.self.view_is) (c.letter.ensures ∙ letter_there c.self.inside.sent c.args.number c.in_ok-at.at c.self.inside.letters.entries c.index.result.now c.self.invariant.numbers c.in_ok-at.ensures c.index.ensures)
+    rw (← c.self.view_is) (letter_there c.self.inside.sent c.args.number c.in_ok-at.at c.self.inside.letters.entries (option_copied c.letter_at.result) c.self.invariant.numbers c.in_ok-at.ensures c.letter_at.ensures)
 
-pub index-requires : goal.index-requires
-index-requires g c =
+pub letter_at-requires : goal.letter_at-requires
+letter_at-requires g c =
     key_within c.args.number c.self.inside.letters.entries c.in_ok-at.at c.in_ok-at.ensures

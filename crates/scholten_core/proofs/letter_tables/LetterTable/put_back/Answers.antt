@@ -2,7 +2,7 @@ use Rattle.std.proofs.Common.{◌≡◌, Some, false, option_map, refl, ap, ◌�
 use Rattle.scholten_core.specs.declared.letters.Letter.{Letter}
 use Rattle.scholten_core.specs.LetterTable.{standing}
 use Rattle.indexmap.specs.IndexMap.{set_value_at}
-use Rattle.scholten_core.proofs.Standing.{HoldsAt, holds_at, key_within, length-numbered_le, number_found, slot_value, standing-change}
+use Rattle.scholten_core.proofs.Standing.{HoldsAt, holds_at, key_within, length-numbered_le, number_found, standing-change}
 use Rattle.scholten_core.proofs.Tables.{put_back, waits-le-sent}
 use Rattle.scholten_core.proofs.letter_tables.LetterTable.put_back.Given.{Over}
 use Rattle.scholten_core.proofs.letter_tables.LetterTable.put_back.Goals as goal
@@ -19,17 +19,15 @@ overflow_add-at g c =
     omega (arith, within, length-numbered_le 0 c.self.inside.letters.entries c.self.inside.sent c.self.invariant.numbers, c.self.ranges)
 
 -- the held letter of the number
-slot : (g : Over) (c : After-hold g) → HoldsAt c.self.inside.letters.entries c.args.number c.unwrap-at.result
+slot : (g : Over) (c : After-hold g) → HoldsAt c.self.inside.letters.entries c.args.number c.unwrap-at.result c.hold.ensures.0
 slot g c =
     let held = rw (← c.self.view_is) at c.requires in
-    holds_at c.self.inside.sent c.self.inside.letters.entries c.self.invariant.numbers c.args.number c.unwrap-at.result c.pair_mut-slot.result.0.now c.pair_mut-slot.result.1.now held (rw c.unwrap-at.ensures at c.place_of.ensures) c.pair_mut-slot.ensures.value
+    holds_at c.self.inside.sent c.self.inside.letters.entries c.self.invariant.numbers c.args.number c.unwrap-at.result c.hold.result c.hold.ensures.0 held (rw c.unwrap-at.ensures at c.place_of.ensures) c.hold.ensures.1
 
 -- what is written there
-written : (g : Over) (c : After-hold g) → c.hold.new.self ≡ Some (record (slot g c).letter { held = false })
-unfolding slot
+written : (g : Over) (c : After-hold g) → c.hold.new.letters.entries ≡ set_value_at c.self.inside.letters.entries c.unwrap-at.result (Some (record (slot g c).letter { held = false }))
 written g c =
-    let held = rw (← c.self.view_is) at c.requires in
-    c.hold.ensures ∙ ap (option_map (λ (l : Letter _). record l { held = false })) (slot_value c.self.inside.sent c.self.inside.letters.entries c.self.invariant.numbers c.args.number c.unwrap-at.result c.pair_mut-slot.result.0.now c.pair_mut-slot.result.1.now held (rw c.unwrap-at.ensures at c.place_of.ensures) c.pair_mut-slot.ensures.value)
+    c.hold.ensures.2 ∙ ap (λ o. set_value_at c.self.inside.letters.entries c.unwrap-at.result (option_map (λ (l : Letter _). record l { held = false }) o)) (slot g c).value
 
 pub overflow_add-self : goal.overflow_add-self
 overflow_add-self g c =
@@ -49,10 +47,10 @@ returns g c =
     let one = slot g after in
     let entries = c.self.inside.letters.entries in
     rw (← c.self.view_is) (record {
-      letters = ap (λ w. standing (set_value_at entries c.unwrap-at.result w)) (written g after) ∙ standing-change (λ x. record x { held = false }) 0 entries c.self.inside.sent c.unwrap-at.result c.args.number one.letter c.self.invariant.numbers one.there;
+      letters = ap standing (written g after) ∙ standing-change (λ x. record x { held = false }) 0 entries c.self.inside.sent c.unwrap-at.result c.args.number one.letter c.self.invariant.numbers one.there;
       sent = refl;
     })
 
-pub pair_mut-slot-requires : goal.pair_mut-slot-requires
-pair_mut-slot-requires g c =
+pub hold-requires : goal.hold-requires
+hold-requires g c =
     key_within c.args.number c.self.inside.letters.entries c.unwrap-at.result (rw c.unwrap-at.ensures at c.place_of.ensures)

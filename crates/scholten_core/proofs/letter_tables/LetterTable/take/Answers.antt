@@ -37,18 +37,19 @@ pub overflow_add-self : goal.overflow_add-self
 overflow_add-self g c =
     omega (arith, waits_within c.self.inside.letters.entries c.args.place c.seek-at.result c.seek-at.ensures, length-numbered_le 0 c.self.inside.letters.entries c.self.inside.sent c.self.invariant.numbers, c.self.ranges)
 
-pub pair_mut-slot-requires : goal.pair_mut-slot-requires
-pair_mut-slot-requires g c =
+pub hold-requires : goal.hold-requires
+hold-requires g c =
     waits_within c.self.inside.letters.entries c.args.place c.seek-at.result c.seek-at.ensures
 
 -- the waiting letter
-slot : (g : Over) (c : After-hold g) → WaitingLetter c.self.inside.letters.entries c.seek-at.result c.pair_mut-slot.result.0.now c.pair_mut-slot.result.1.now
+slot : (g : Over) (c : After-hold g) → WaitingLetter c.self.inside.letters.entries c.seek-at.result c.hold.result c.hold.ensures.0
 slot g c =
-    letter_waiting c.self.inside.letters.entries c.args.place c.seek-at.result c.pair_mut-slot.result.0.now c.pair_mut-slot.result.1.now c.seek-at.ensures c.pair_mut-slot.ensures.value
+    letter_waiting c.self.inside.letters.entries c.args.place c.seek-at.result c.hold.result c.hold.ensures.0 c.seek-at.ensures c.hold.ensures.1
 
 -- what is written there
-written : (g : Over) (c : After-hold g) → c.hold.new.self ≡ Some (record (slot g c).letter { held = true })
-written g c = c.hold.ensures ∙ ap (option_map (λ (l : Letter _). record l { held = true })) (slot g c).value
+written : (g : Over) (c : After-hold g) → c.hold.new.letters.entries ≡ set_value_at c.self.inside.letters.entries c.seek-at.result (Some (record (slot g c).letter { held = true }))
+written g c =
+    c.hold.ensures.2 ∙ ap (λ o. set_value_at c.self.inside.letters.entries c.seek-at.result (option_map (λ (l : Letter _). record l { held = true }) o)) (slot g c).value
 
 low : (g : Over) (c : After-hold g) → (c.if-place-eq0.self ≡ c.self.inside.first) ⊎ ((c.if-place-eq0.self ≡ c.seek-at.result + 1) × (c.args.place ≡ 0))
 low g c =
@@ -63,7 +64,7 @@ invariant_of-self g c =
     let after = (goal.at.invariant_of-self g c).After-hold in
     let one = slot g after in
     let within = inside g (goal.at.invariant_of-self g c).After-self in
-    rw (written g after) (taken _ _ _ _ _ _ c.self.invariant c.seek-at.result c.pair_mut-slot.result.0.now one.letter one.there c.args.place c.seek-at.ensures.place_is one.waits _ _ (low g after) (high g after within))
+    rw (written g after) (taken _ _ _ _ _ _ c.self.invariant c.seek-at.result c.hold.result one.letter one.there c.args.place c.seek-at.ensures.place_is one.waits _ _ (low g after) (high g after within))
 
 pub returns : goal.returns
 returns g c =
@@ -71,9 +72,9 @@ returns g c =
     let one = slot g after in
     let entries = c.self.inside.letters.entries in
     let at = c.seek-at.result in
-    let k = c.pair_mut-slot.result.0.now in
+    let k = c.hold.result in
     rw (← c.self.view_is) (record {
       waited = (one.letter, ap (slice_get (waiting_in (standing entries))) (sym c.seek-at.ensures.place_is) ∙ waiting-at at entries k one.letter one.there one.waits);
-      letters = ap (λ w. standing (set_value_at entries at w)) (written g after) ∙ standing-change (λ x. record x { held = true }) 0 entries c.self.inside.sent at k one.letter c.self.invariant.numbers one.there;
+      letters = ap standing (written g after) ∙ standing-change (λ x. record x { held = true }) 0 entries c.self.inside.sent at k one.letter c.self.invariant.numbers one.there;
       sent = refl;
     })
