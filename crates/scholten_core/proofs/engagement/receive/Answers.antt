@@ -1,58 +1,70 @@
-use Rattle.std.proofs.Common.{◌≡◌, ◌+◌, ◌<◌, None, Some, Ok, Err, OnErr, length, option_map, refl, sym, ap, ◌∙◌, arith}
+use Rattle.std.proofs.Common.{◌≡◌, ◌+◌, ◌<◌, None, Some, length, option_map, refl, sym, ap, ◌∙◌, arith}
 use Rattle.std.proofs.lemmas.List.{get_or-set_other, get_or-set_same}
 use Rattle.std.proofs.lemmas.Option.{none-some}
+use Rattle.std.proofs.lemmas.Result.{err_from_is_err_and}
 use Rattle.scholten_core.specs.declared.engagement.Engagement.{Engagement}
 use Rattle.scholten_core.specs.Kept.{engagement_of}
 use Rattle.scholten_core.proofs.Paid.{engaged_within, count_of}
 use Rattle.scholten_core.proofs.engagement.receive.Goals as goal
 
-pub returns-in_err-make_place-clause-growth : goal.returns-in_err-make_place-clause-growth
-returns-in_err-make_place-clause-growth c =
-    let neutral : engagement_of c.args.nodes.now.items c.args.to ≡ None =
-    sym c.engaged_at.ensures ∙ c.in_default.is in
-    elim c.from_residual.result as
-    (λ r. OnErr r ((engagement_of c.args.nodes.now.items c.args.to ≡ None) × (0 < c.args.count))) [
-      | Ok _ ↦ tt
-      | Err _ ↦ (neutral, omega arith)
-    ]
+pub returns-in_err-make_place : goal.returns-in_err-make_place
+returns-in_err-make_place c =
+    let p = err_from_is_err_and c.from_residual.result c.from_residual.ensures.1 in
+    rw p.1 (record {
+      received = tt;
+      growth = (sym c.engaged_at.ensures ∙ c.in_default.is, omega arith);
+      unchanged = c.in_err-make_place.ensures.unchanged;
+    })
 
-pub returns-clause-received : goal.returns-clause-received
-returns-clause-received c =
+pub returns : goal.returns
+returns c =
     let nodes = c.make_place.new.nodes.items in
     let neutral : None ≡ engagement_of c.args.nodes.now.items c.args.to =
     sym c.in_default.is ∙ c.engaged_at.ensures in
     let within : c.args.to < length nodes = omega (arith, c.in_ok-make_place.ensures.place) in
     record {
-      same = λ n other. get_or-set_other nodes c.args.to n _ _ other ∙ c.in_ok-make_place.ensures.same n;
-      engaged = λ e there. absurd (none-some e (neutral ∙ there));
-      anew = λ none some. (refl, get_or-set_same nodes c.args.to _ _ within);
-      idle = λ none nothing. absurd (omega (arith, nothing));
+      received = record {
+        same = λ n other. get_or-set_other nodes c.args.to n _ _ other ∙ c.in_ok-make_place.ensures.same n;
+        engaged = λ e there. absurd (none-some e (neutral ∙ there));
+        anew = λ none some. (refl, get_or-set_same nodes c.args.to _ _ within);
+        idle = λ none nothing. absurd (omega (arith, nothing));
+      };
+      growth = tt;
+      unchanged = tt;
     }
 
-pub returns-in-Some-clause-received : goal.returns-in-Some-clause-received
-returns-in-Some-clause-received c =
+pub returns-in-Some : goal.returns-in-Some
+returns-in-Some c =
     let nodes = c.args.nodes.now.items in
     let found : Some c.in-Some.engaged ≡ engagement_of nodes c.args.to =
     sym c.in-Some.is ∙ c.engaged_at.ensures in
     let within = engaged_within nodes c.args.to c.in-Some.engaged found in
     let more : Engagement → Engagement = λ x. record x { deficit = x.deficit + c.args.count } in
     record {
-      same = λ n other. get_or-set_other nodes c.args.to n _ None other;
-      engaged = λ e there.
-          (refl, get_or-set_same nodes c.args.to _ None within ∙ ap (option_map more) (found ∙ there));
-      anew = λ none some. absurd (none-some c.in-Some.engaged (sym none ∙ sym found));
-      idle = λ none nothing. absurd (none-some c.in-Some.engaged (sym none ∙ sym found));
+      received = record {
+        same = λ n other. get_or-set_other nodes c.args.to n _ None other;
+        engaged = λ e there.
+            (refl, get_or-set_same nodes c.args.to _ None within ∙ ap (option_map more) (found ∙ there));
+        anew = λ none some. absurd (none-some c.in-Some.engaged (sym none ∙ sym found));
+        idle = λ none nothing. absurd (none-some c.in-Some.engaged (sym none ∙ sym found));
+      };
+      growth = tt;
+      unchanged = tt;
     }
 
-pub returns-then-count-eq0-clause-received : goal.returns-then-count-eq0-clause-received
-returns-then-count-eq0-clause-received c =
+pub returns-then-count-eq0 : goal.returns-then-count-eq0
+returns-then-count-eq0 c =
     let neutral : None ≡ engagement_of c.args.nodes.now.items c.args.to =
     sym c.in_default.is ∙ c.engaged_at.ensures in
     record {
-      same = λ n other. refl;
-      engaged = λ e there. absurd (none-some e (neutral ∙ there));
-      anew = λ none some. absurd (omega (arith, some, c.if-count-eq0.true));
-      idle = λ none nothing. (refl, none);
+      received = record {
+        same = λ n other. refl;
+        engaged = λ e there. absurd (none-some e (neutral ∙ there));
+        anew = λ none some. absurd (omega (arith, some, c.if-count-eq0.true));
+        idle = λ none nothing. (refl, none);
+      };
+      growth = tt;
+      unchanged = tt;
     }
 
 pub overflow_add-engaged : goal.overflow_add-engaged

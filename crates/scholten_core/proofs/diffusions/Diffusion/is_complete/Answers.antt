@@ -4,20 +4,15 @@ use Rattle.scholten_core.specs.declared.parents.Parent.TheVariants.{Environment}
 use Rattle.scholten_core.proofs.Complete.{complete, ended, never_stuck, sound}
 use Rattle.scholten_core.proofs.diffusions.Diffusion.is_complete.Goals as goal
 
-pub returns-clause-environment : goal.returns-clause-environment
-returns-clause-environment g c =
+pub returns : goal.returns
+returns g c =
+    let settled = c.self.invariant.settled in
     let counts = c.self.invariant.counts Environment in
-    rw (← c.self.view_is) (λ h. sym counts ∙ exact_unsigned_eq c.self.inside.environment 0 h, λ e. eq-eqb c.self.inside.environment 0 (counts ∙ e))
-
-pub returns-clause-complete : goal.returns-clause-complete
-returns-clause-complete g c =
-    let counts = c.self.invariant.counts Environment in
-    rw (← c.self.view_is) (λ h. complete _ c.self.invariant.settled (sym counts ∙ exact_unsigned_eq c.self.inside.environment 0 h), λ e. eq-eqb c.self.inside.environment 0 (counts ∙ ended _ c.self.invariant.settled e))
-
-pub returns-clause-never_stuck : goal.returns-clause-never_stuck
-returns-clause-never_stuck g c =
-    let counts = c.self.invariant.counts Environment in
-    rw (← c.self.view_is) (λ no_letters no_signals. eq-eqb c.self.inside.environment 0 (counts ∙ ended _ c.self.invariant.settled (never_stuck _ c.self.invariant.settled no_letters no_signals)))
-
-pub returns-clause-sound : goal.returns-clause-sound
-returns-clause-sound g c = rw (← c.self.view_is) (sound _ c.self.invariant.settled)
+    let none = exact_unsigned_eq c.self.inside.environment 0 in
+    let yes = eq-eqb c.self.inside.environment 0 in
+    rw (← c.self.view_is) (record {
+      environment = (λ h. sym counts ∙ none h, λ e. yes (counts ∙ e));
+      complete = (λ h. complete _ settled (sym counts ∙ none h), λ e. yes (counts ∙ ended _ settled e));
+      never_stuck = λ no_letters no_signals. yes (counts ∙ ended _ settled (never_stuck _ settled no_letters no_signals));
+      sound = sound _ settled;
+    })

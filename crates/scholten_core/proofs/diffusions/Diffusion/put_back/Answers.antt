@@ -10,9 +10,8 @@ pub invariant_of-self : goal.invariant_of-self
 invariant_of-self g c =
     marked_kept c.self.inside.letters c.put_back.new.self c.self.inside.signals.items c.self.inside.environment c.self.inside.nodes.items c.self.invariant c.args.number false c.put_back.ensures.letters c.put_back.ensures.sent
 
-pub returns-clause-waits : goal.returns-clause-waits
-returns-clause-waits g c =
-    rw (← c.self.view_is) (marked_is c.self.inside.letters c.put_back.new.self c.self.inside.signals.items c.self.inside.environment c.self.inside.nodes.items c.self.invariant c.args.number false c.put_back.ensures.letters c.put_back.ensures.sent)
-
-pub returns-clause-sound : goal.returns-clause-sound
-returns-clause-sound g c = sound _ (invariant_of-self g c).settled
+pub returns : goal.returns
+returns g c = record {
+  waits = rw (← c.self.view_is) (marked_is c.self.inside.letters c.put_back.new.self c.self.inside.signals.items c.self.inside.environment c.self.inside.nodes.items c.self.invariant c.args.number false c.put_back.ensures.letters c.put_back.ensures.sent);
+  sound = sound _ (invariant_of-self g c).settled;
+}
