@@ -1,15 +1,16 @@
 //! What is done to a search by who works for the hall: its steps are made in a row, and its letters are handed in.
 ghost use Rattle.std.specs.Prelude.{◌≡◌, ◌+◌, ◌++◌, ◌∷◌, ◌<◌, ◌≤◌, List, ℕ, [], length, map, vec_len, vec_capacity};
-ghost use Rattle.std.specs.Prelude.{true, None, Some, is_ok};
+ghost use Rattle.std.specs.Prelude.{true, None, Some, is_ok, option_copied};
 ghost use Rattle.std.specs.List.{AllWithin};
 ghost use Rattle.std.specs.Arc.{arc_value};
 ghost use Rattle.search.specs.declared.queries.Hint.TheVariants as hint;
+ghost use Rattle.search.specs.Finish.{need_for};
 ghost use Rattle.hall.specs.Batches.{IsEmpty, IsLookedUp, IsLookedUpIn, taken_of, Visits, MakesStep, HandsInAs, HandsInEach, GoesOn};
 ghost use Rattle.hall.specs.Batches.{CarriesOn};
 
 use crate::batches::{Batch, HeldLetter, NamedSearch};
 use crate::standings::{CarriedOn, Went};
-use names::Entity;
+use names::{Entity, Role};
 use search::{Finished, Hint, Need, Search};
 use std::alloc::AllocError;
 
@@ -130,31 +131,31 @@ fn make_step(search: &mut Search, of: &NamedSearch, held_letters: &mut Vec<HeldL
         search.signal(0);
         return true;
     }
-    let Some((letter, need)) = search.take_letter(0) else {
+    let Some(letter) = search.take_number(0) else {
         return false;
     };
     search.kept();
-    note(held_letters, letter, need);
+    note(held_letters, letter, search.rows_needed(letter));
     true
 }
 
-/// Puts the letter behind the others. Where it needs nothing, no role is copied.
+/// Puts the letter behind the others, which needs the rows of this role, or none.
 #[inline(always)]
-fn note(held_letters: &mut Vec<HeldLetter>, letter: u64, need: Need)
+fn note(held_letters: &mut Vec<HeldLetter>, letter: u64, role: Option<&Role>)
     requires space { vec_len held_letters.old < vec_capacity held_letters.old }
     ensures items { held_letters.new.items
-        ≡ held_letters.old.items ++ record { letter = letter; need = need; hint = hint.Nothing } ∷ [] }
+        ≡ held_letters.old.items ++ record { letter = letter; need = need_for (option_copied role.entry); hint = hint.Nothing } ∷ [] }
     ensures len { vec_len held_letters.new ≡ vec_len held_letters.old + 1 }
     ensures capacity { vec_capacity held_letters.new ≡ vec_capacity held_letters.old }
 {
     let hint = Hint::Nothing;
-    match need {
-        Need::Rows(role) => held_letters.push_reserved(HeldLetter {
+    match role {
+        Some(role) => held_letters.push_reserved(HeldLetter {
             letter,
-            need: Need::Rows(role),
+            need: Need::Rows(*role),
             hint,
         }),
-        Need::Nothing => held_letters.push_reserved(HeldLetter {
+        None => held_letters.push_reserved(HeldLetter {
             letter,
             need: Need::Nothing,
             hint,

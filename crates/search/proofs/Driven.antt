@@ -31,7 +31,7 @@ data IsReceipt (held t : SearchState) (number : ℕ) : Type 0 where
 
 module _ (s held t : SearchState) (number : ℕ) (need : Need) (takes : Takes s held 0 number need) where
   -- the letter that was taken needs what it was taken for
-  same_need : (l : Letter (Load (List ℕ))) (other : Need) → held_in held.stage number ≡ Some l → Needs held l other → other ≡ need
+  pub same_need : (l : Letter (Load (List ℕ))) (other : Need) → held_in held.stage number ≡ Some l → Needs held l other → other ≡ need
   same_need l other is (f, there, so) =
       let both : Some l ≡ Some (record takes.letter { held = true }) = sym is ∙ takes.holds.held in
       let same : l ≡ record takes.letter { held = true } = cc in

@@ -89,7 +89,8 @@ impl Search {
     ghost use Rattle.search.specs.Search.{SearchState, IsNew, IsOutstanding, IsCompleted, rows_of, asked_role, net_of};
     ghost use Rattle.search.specs.Search.{SameQuestion, Settles, settled_of};
     ghost use Rattle.search.specs.Stage.{HoldsLetter, letter_in, waiting_in, signals_in, held_in, stage_marked, Delivers};
-    ghost use Rattle.search.specs.Finish.{IsSpanFor, need_for, need_of, Takes, TakesHeld, Receives, Finishes};
+    ghost use Rattle.search.specs.Finish.{IsSpanFor, need_for, need_of, Needs, Takes, TakesHeld, Receives, Finishes};
+    ghost use Rattle.search.specs.declared.queries.Need.{Need as NeedOf};
 
     /// A search over the snapshot that may send so many letters, at least one. One letter, to the asked role, waits.
     pub fn open(
@@ -201,6 +202,31 @@ impl Search {
             return None;
         };
         Some((number, Need::of(role_needed(self.graph(), &held))))
+    }
+
+    /// Takes the waiting letter at that place, in order of sending: its number. `rows_needed` tells what it needs, and copies
+    /// nothing.
+    #[inline(always)]
+    pub fn take_number(&mut self, place: u64) -> Option<u64>
+        ensures taken { MatchOption result ((slice_get (waiting_in self.old.stage) place ≡ None) × (self.new ≡ self.old))
+            (λ n. (need : NeedOf) × Takes self.old self.new place n need) }
+        ensures settles { Settles self.old self.new }
+    {
+        let Some((number, _held)) = self.take_held(place) else {
+            return None;
+        };
+        Some(number)
+    }
+
+    /// The role whose rows the held letter of that number needs, if it needs any.
+    #[inline(always)]
+    pub fn rows_needed(&self, letter: u64) -> Option<&Role>
+        ensures { (l : Letter Said) → held_in self.now.stage letter ≡ Some l → Needs self.now l (need_for (option_copied result)) }
+    {
+        let Some(held) = held_letter(&self.stage, letter) else {
+            return None;
+        };
+        role_needed(self.found.graph(), &held)
     }
 
     /// Takes the waiting letter at that place, in order of sending. Want of memory changes nothing.
