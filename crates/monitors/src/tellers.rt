@@ -24,7 +24,8 @@ impl Tellers {
     pub fn hear(&mut self, part: u8, parts: u8) -> bool
         requires { part < 8 }
         ensures again { slice_index_or self.old.told part false ≡ true → (result ≡ false) × (self.new ≡ self.old) }
-        ensures new { slice_index_or self.old.told part false ≡ false → (result ≡ nat_eq self.new.count parts) × (self.new.told ≡ slice_set self.old.told part true) }
+        ensures new { slice_index_or self.old.told part false ≡ false
+            → (result ≡ nat_eq self.new.count parts) × (self.new.told ≡ slice_set self.old.told part true) }
     {
         if self.told[part as usize] {
             return false;

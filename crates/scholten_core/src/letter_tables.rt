@@ -1,5 +1,6 @@
 //! The table of the letters that wait or are held.
-ghost use Rattle.std.specs.Prelude.{◌≡◌, ◌+◌, ◌-◌, ◌<◌, ◌≤◌, ◌==◌, false, Option, None, Some, is_none, option_copied, option_map, slice_get, take, unwrap_or};
+ghost use Rattle.std.specs.Prelude.{◌≡◌, ◌+◌, ◌-◌, ◌<◌, ◌≤◌, ◌==◌, false, is_none, slice_get, take, unwrap_or};
+ghost use Rattle.std.specs.Prelude.{Option, None, Some, option_copied, option_map};
 ghost use Rattle.indexmap.specs.IndexMap.{index_map_len, set_value_at, spare, values};
 ghost use Rattle.scholten_core.specs.declared.letters.Letter.{Letter};
 ghost use Rattle.scholten_core.specs.LetterTable.{count, does_wait, IsPlaceOf, WaitsAt};
@@ -115,7 +116,8 @@ fn letter_at<P>(letters: &Numbered<P>, at: usize) -> Option<&Letter<P>>
 #[inline(always)]
 fn hold<P>(letters: &mut Numbered<P>, at: usize, held: bool) -> u64
     requires { at < index_map_len letters.old }
-    ensures { (o : Option (Letter P)) × (slice_get letters.old.entries at ≡ Some (result, o)) × (letters.new.entries ≡ set_value_at letters.old.entries at (option_map (λ (l : Letter P). record l { held = held }) o)) }
+    ensures { (o : Option (Letter P)) × (slice_get letters.old.entries at ≡ Some (result, o))
+        × (letters.new.entries ≡ set_value_at letters.old.entries at (option_map (λ (l : Letter P). record l { held = held }) o)) }
 {
     let (number, slot) = letters.pair_mut(at);
     slot.hold(held);

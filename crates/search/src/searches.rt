@@ -218,12 +218,15 @@ impl Search {
         Some(number)
     }
 
-    /// The role whose rows the held letter of that number needs, if it needs any.
+    /// The role whose rows the held letter of that number needs, if it needs any. None where it isn't held.
     #[inline(always)]
     pub fn rows_needed(&self, letter: u64) -> Option<&Role>
-        ensures { (l : Letter Said) → held_in self.now.stage letter ≡ Some l → Needs self.now l (need_for (option_copied result)) }
+        ensures needs { (l : Letter Said) → held_in self.now.stage letter ≡ Some l
+            → Needs self.now l (need_for (option_copied result)) }
+        ensures none { held_in self.now.stage letter ≡ None → result ≡ None }
     {
-        let Some(held) = held_letter(&self.stage, letter) else {
+        let in_hand = held_letter(&self.stage, letter);
+        let Some(held) = in_hand else {
             return None;
         };
         role_needed(self.found.graph(), &held)

@@ -38,7 +38,7 @@ returns-clause-made c =
     let (needed, takes) = c.in-Some.ensures.taken in
     let need = need_for (option_copied c.rows_needed.result) in
     let one : HeldLetter = record { letter = c.in-Some.letter; need = need; hint = Nothing } in
-    let same : need ≡ needed = same_need s t t c.in-Some.letter needed takes _ need takes.holds.held (c.rows_needed.ensures _ takes.holds.held) in
+    let same : need ≡ needed = same_need s t t c.in-Some.letter needed takes _ need takes.holds.held (c.rows_needed.ensures.needs _ takes.holds.held) in
     inr (
       taken_of of one,
       (subst (λ (n : Need). Takes s t 0 c.in-Some.letter n) (sym same) takes, refl, refl, c.requires.reads, c.in-Some.ensures.settles, c.kept.ensures.sound),
