@@ -16,6 +16,21 @@ pub(crate) struct HeldLetter {
     pub(crate) hint: Hint,
 }
 
+impl HeldLetter {
+    ghost use Rattle.search.specs.Finish.{right_hint};
+
+    /// Looks up what the letter needs.
+    #[inline(always)]
+    fn look_up(&mut self, snapshot: &Snapshot)
+        ensures { self.new ≡ record self.old { hint = right_hint snapshot.now.vaults self.old.need } }
+    {
+        match &self.need {
+            Need::Rows(role) => self.hint = Hint::Rows(snapshot.find(role)),
+            Need::Nothing => self.hint = Hint::Nothing,
+        }
+    }
+}
+
 /// A search as its keeper names it, and what it reads.
 #[derive(Drop)]
 pub(crate) struct NamedSearch {
@@ -29,7 +44,7 @@ pub(crate) struct NamedSearch {
 pub struct Batch {
     pub(crate) of: Option<NamedSearch>,
     pub(crate) held_letters: Vec<HeldLetter>,
-    looked: usize,
+    pub(crate) looked: usize,
 }
 
 impl Model for Batch {
@@ -89,12 +104,12 @@ impl Batch {
         ensures { self.new ≡ record self.old { looked = self.old.looked + 1 } }
     {
         let Some(of) = &self.of else { unreachable!() };
-        let held_letter = &mut self.held_letters[self.looked];
-        held_letter.hint = held_letter.need.look_up(&of.snapshot);
+        self.held_letters[self.looked].look_up(&of.snapshot);
         self.looked += 1;
     }
 
     /// Lets the letters go, once their search has them back or is there no longer.
+    #[inline(never)]
     pub fn let_go(&mut self)
         ensures empty { IsEmpty self.new }
         ensures room { self.new.room ≡ self.old.room }

@@ -78,6 +78,7 @@ impl Tenants {
     }
 
     /// The tenant's search of the number, to go on with. The order of refusals: 62, 51.
+    #[inline(always)]
     pub(crate) fn opened_mut(&mut self, who: &Entity, number: u64) -> Result<&mut Opened, Fault>
         ensures* lends { sem 𝓛 (LendsSearch self.entry who.now number result) }
         ensures here { IfOk result (λ opened. search_of number (get self.old who.now) ≡ Some opened.now) }

@@ -71,32 +71,42 @@ pub(crate) fn carry_on(search: &mut Search, most: usize, batch: &mut Batch) -> C
     ensures looked { batch.new.looked ≡ 0 }
     ensures room { batch.new.room ≡ batch.old.room }
 {
-    let Some((who, number)) = batch.search() else {
-        unreachable!()
-    };
     let finished = hand_in(search, batch, false);
-    batch.let_go();
-    let went = go_on(search, who, number, most, batch);
+    let went = go_on(search, most, batch);
     CarriedOn { finished, went }
 }
 
-/// Visits the search, whose letters were handed in, where anything is left to do.
+/// Lets the letters of the search go, which were handed in, and takes others of it where anything is left to do. The batch
+/// names the search already, so its name isn't copied.
 #[inline(always)]
-fn go_on(search: &mut Search, who: Entity, number: u64, most: usize, batch: &mut Batch) -> Went
-    requires empty { IsEmpty batch.old }
+fn go_on(search: &mut Search, most: usize, batch: &mut Batch) -> Went
+    requires named { batch.old.of ≡ None → ⊥ }
     requires space { most ≤ batch.old.room }
-    ensures went { GoesOn who number most search.old result search.new batch.new.letters }
+    ensures went { (who : List ℕ) (k : ℕ) → batch.old.of ≡ Some (who, k)
+        → GoesOn who k most search.old result search.new batch.new.letters }
     ensures bound { length batch.new.letters ≤ most }
     ensures looked { batch.new.looked ≡ 0 }
     ensures room { batch.new.room ≡ batch.old.room }
 {
     if search.is_quiet() {
+        batch.let_go();
         return Went::Nowhere;
     }
-    match visit(search, who, number, most, batch) {
-        Ok(()) => Went::On,
-        Err(_refused) => Went::NoMemory,
+    let Ok(snapshot) = search.snapshot().clone() else {
+        batch.let_go();
+        return Went::NoMemory;
+    };
+    batch.held_letters.clear();
+    batch.looked = 0;
+    let Some(of) = &mut batch.of else {
+        unreachable!()
+    };
+    of.snapshot = snapshot;
+    take_each(search, of, most, &mut batch.held_letters);
+    if batch.held_letters.is_empty() {
+        batch.let_go();
     }
+    Went::On
 }
 
 /// Makes up to so many steps of the search, which the letters that are taken are of.

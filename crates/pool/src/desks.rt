@@ -15,7 +15,7 @@ ghost use Rattle.pool.specs.Workers.{IsFound, IsHandIn, WasStopped};
 
 use crate::bells::Bells;
 use crate::faults::{DeskFault, Told};
-use crate::notices::Notice;
+use crate::notices::WorkNotice;
 use crate::passes::Pass;
 use crate::rooms::{PARTS, Room, read_off, verdict_on};
 use crate::verdicts::{Gathered, Ticket, Verdict};
@@ -304,8 +304,8 @@ impl<L: Ledger> Desk<L> {
         if may_go_on && !room.stopped {
             return self.carry_on(rt, room, &who, number, turn, batch);
         }
-        let (HandedIn { finished, .. }, notice) = room.hand_in(batch);
-        notice.ring(&self.over, &self.work);
+        let (HandedIn { finished, .. }, notice) = room.hand_in(&who, number, batch);
+        notice.ring(&self.over);
         let found = self.take_turn(rt, room, turn, batch);
         Visited { finished, found }
     }
@@ -340,11 +340,11 @@ impl<L: Ledger> Desk<L> {
                 Found::Work
             }
             Went::Nowhere => {
-                notice.ring(&self.over, &self.work);
+                notice.ring(&self.over);
                 self.take_turn(rt, room, turn, batch)
             }
             Went::NoMemory => {
-                notice.ring(&self.over, &self.work);
+                notice.ring(&self.over);
                 Found::NoMemory
             }
         };
@@ -359,11 +359,11 @@ impl<L: Ledger> Desk<L> {
         ensures empty { IsEmpty batch.new }
         ensures space { batch.new.room ≡ batch.old.room }
     {
-        let Some(_search) = batch.search() else {
+        let Some((who, number)) = batch.search() else {
             return 0;
         };
-        let (handed_in, notice) = self.enter(rt).hand_in(batch);
-        notice.ring(&self.over, &self.work);
+        let (handed_in, notice) = self.enter(rt).hand_in(&who, number, batch);
+        notice.ring(&self.over);
         handed_in.finished
     }
 
@@ -422,7 +422,7 @@ impl<L: Ledger> Desk<L> {
         ensures space { batch.new.room ≡ batch.old.room }
     {
         room.kept();
-        let Ok((standing, notice)) = room.visit(*who, number, batch) else {
+        let Ok((standing, notice)) = room.visit(who, number, batch) else {
             return Found::NoMemory;
         };
         self.give_back(room, standing, turn, notice);
@@ -431,12 +431,13 @@ impl<L: Ledger> Desk<L> {
 
     /// Gives the lock back after steps of a search, which stands so now. Wakes whom that concerns, and one worker more if one
     /// sleeps and something is left.
+    #[inline(always)]
     fn give_back(
         &self,
         room: MutexGuard<'_, Room<L>>,
         standing: Standing,
         turn: u64,
-        notice: Notice,
+        notice: WorkNotice<'_>,
     ) {
         let is_left = room.has_sleepers()
             && (matches!(standing, Standing::Moves) || !room.is_idle(turn));
@@ -444,7 +445,7 @@ impl<L: Ledger> Desk<L> {
         if is_left {
             self.work.notify_one();
         }
-        notice.ring(&self.over, &self.work);
+        notice.ring(&self.over);
     }
 }
 

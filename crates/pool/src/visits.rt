@@ -2,7 +2,7 @@
 ghost use Rattle.std.specs.Prelude.{◌≡◌, ◌≤◌, ◌↔◌, ◌⊎◌, false, true, None, Some, IsTrue, IfSome, IfOk, is_ok, length};
 ghost use Rattle.hall.specs.Batches.{IsEmpty, IsLookedUp, AreOf};
 
-use crate::notices::{Concern, Notice};
+use crate::notices::WorkNotice;
 use crate::rooms::Room;
 use hall::{Batch, Fault, HandedIn, Standing, Went};
 use names::Entity;
@@ -60,68 +60,72 @@ impl<L: Ledger> Room<L> {
     /// One visit of a worker: up to so many steps of the search, signals first, then letters that it takes. Answers how the
     /// search stands then, and whom that concerns.
     #[inline(always)]
-    pub(crate) fn visit(
+    pub(crate) fn visit<'a>(
         &mut self,
-        who: Entity,
+        who: &'a Entity,
         number: u64,
         batch: &mut Batch,
-    ) -> Result<(Standing, Notice), Fault>
-        requires left { SearchIsQuiet self.old.hall who number → ⊥ }
+    ) -> Result<(Standing, WorkNotice<'a>), Fault>
+        requires left { SearchIsQuiet self.old.hall who.now number → ⊥ }
         requires empty { IsEmpty batch.old }
         requires space { BATCH ≤ batch.old.room }
-        ensures visited { IsVisited who number BATCH self.old.hall (is_ok result) self.new.hall batch.new.letters }
-        ensures stands { IfOk result (λ r. StandsAt self.new.hall who number r.0) }
-        ensures notice { IfOk result (λ r. r.1 ≡ concern_of (Some (who, number)) r.0) }
+        ensures visited { IsVisited who.now number BATCH self.old.hall (is_ok result) self.new.hall batch.new.letters }
+        ensures stands { IfOk result (λ r. StandsAt self.new.hall who.now number r.0) }
+        ensures notice { IfOk result (λ r. r.1 ≡ concern_of who.now number r.0) }
         ensures room { self.new ≡ record self.old { hall = self.new.hall } }
         ensures looked { batch.new.looked ≡ 0 }
         ensures space { batch.new.room ≡ batch.old.room }
     {
-        let standing = self.hall.visit(who, number, BATCH, batch)?;
-        let concern = Concern::of_work(Some((who, number)), standing);
-        Ok((standing, Notice::of(concern)))
+        let standing = self.hall.visit(*who, number, BATCH, batch)?;
+        Ok((standing, WorkNotice::of(who, number, standing)))
     }
 
-    /// Hands in all that a worker holds, and answers how many letters are finished, how their search stands, and whom that
-    /// concerns. After a stop they are given back.
+    /// Hands in all that a worker holds, of that search, and answers how many letters are finished, how their search stands, and
+    /// whom that concerns. After a stop they are given back.
     #[inline(always)]
-    pub(crate) fn hand_in(&mut self, batch: &mut Batch) -> (HandedIn, Notice)
-        requires { IsLookedUp batch.old }
+    pub(crate) fn hand_in<'a>(
+        &mut self,
+        who: &'a Entity,
+        number: u64,
+        batch: &mut Batch,
+    ) -> (HandedIn, WorkNotice<'a>)
+        requires looked_up { IsLookedUp batch.old }
+        requires of { batch.old.of ≡ Some (who.now, number) }
         ensures handed_in { AreHandedIn self.old.stopped self.old.hall batch.old.letters result.0.finished self.new.hall }
         ensures stands { StandsNamed self.new.hall batch.old.of result.0.standing }
-        ensures notice { result.1 ≡ concern_of batch.old.of result.0.standing }
+        ensures notice { result.1 ≡ concern_of who.now number result.0.standing }
         ensures room { self.new ≡ record self.old { hall = self.new.hall } }
         ensures most { result.0.finished ≤ length batch.old.letters }
         ensures empty { IsEmpty batch.new }
         ensures space { batch.new.room ≡ batch.old.room }
     {
-        let search = batch.search();
         let handed_in = self.hall.hand_in(batch, self.stopped);
-        let concern = Concern::of_work(search, handed_in.standing);
-        (handed_in, Notice::of(concern))
+        (handed_in, WorkNotice::of(who, number, handed_in.standing))
     }
+
     /// Hands in all that a worker holds, of that search, and goes on with it by up to so many steps, where anything of it is
     /// left to do then. Answers the same, and how the search went on.
     #[inline(always)]
-    pub(crate) fn carry_on(
+    pub(crate) fn carry_on<'a>(
         &mut self,
-        who: &Entity,
+        who: &'a Entity,
         number: u64,
         batch: &mut Batch,
-    ) -> (HandedIn, Went, Notice)
+    ) -> (HandedIn, Went, WorkNotice<'a>)
         requires looked_up { IsLookedUp batch.old }
         requires of { batch.old.of ≡ Some (who.now, number) }
         requires letters { AreOf (Some (who.now, number)) batch.old.letters }
         requires space { BATCH ≤ batch.old.room }
         ensures carried_on { IsCarriedOn who.now number BATCH self.old.hall batch.old.letters
             result.0.finished result.1 self.new.hall batch.new.letters }
-        ensures notice { result.2 ≡ concern_of (Some (who.now, number)) result.0.standing }
+        ensures notice { result.2 ≡ concern_of who.now number result.0.standing }
         ensures room { self.new ≡ record self.old { hall = self.new.hall } }
         ensures most { result.0.finished ≤ length batch.old.letters }
         ensures looked { batch.new.looked ≡ 0 }
         ensures space { batch.new.room ≡ batch.old.room }
     {
         let (handed_in, went) = self.hall.carry_on(who, number, BATCH, batch);
-        let concern = Concern::of_work(Some((*who, number)), handed_in.standing);
-        (handed_in, went, Notice::of(concern))
+        let notice = WorkNotice::of(who, number, handed_in.standing);
+        (handed_in, went, notice)
     }
 }

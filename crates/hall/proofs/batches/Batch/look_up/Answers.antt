@@ -14,8 +14,8 @@ unreachable-requires c =
     let none : b.looked < 0 = subst (λ (o : Option NamedSearch). b.looked < length (letters_of o b.held_letters.items)) c.in_default.is within in
     omega (arith, none)
 
-pub index_mut-held_letter-requires : goal.index_mut-held_letter-requires
-index_mut-held_letter-requires c =
+pub index_mut-requires : goal.index_mut-requires
+index_mut-requires c =
     let b = c.self.inside in
     let within = within_held b.of c.in-Some.of b.held_letters.items b.looked c.in-Some.is (subst (λ (x : BatchState). x.looked < length x.letters) (sym c.self.view_is) c.requires) in
     omega (arith, within, b.held_letters.ok.0)
@@ -25,24 +25,24 @@ returns c =
     let es = c.self.inside.held_letters.items in
     let n = c.self.inside.looked in
     let room = vec_capacity c.self.inside.held_letters in
-    let e = c.index_mut-held_letter.result.now in
+    let e = c.index_mut.result.now in
     let hint : Hint = right_hint c.deref.result.now.vaults e.need in
     let within : n < length es = within_held c.self.inside.of c.in-Some.of es n c.in-Some.is (subst (λ (b : BatchState). b.looked < length b.letters) (sym c.self.view_is) c.requires) in
-    let changed = with_hint c.in-Some.of es n room e hint c.index_mut-held_letter.ensures.value within in
-    rw (c.look_up-held_letter.ensures)
+    let changed = with_hint c.in-Some.of es n room e hint c.index_mut.ensures.value within in
+    rw (c.look_up.ensures)
     (subst (λ (b : BatchState). batch c.self.inside.of changed (n + 1) room ≡ record b { looked = b.looked + 1 }) c.self.view_is
     (subst (λ (o : Option NamedSearch). batch o changed (n + 1) room ≡ record (batch o es n room) { looked = n + 1 }) (sym c.in-Some.is)
-    (looked_up_batch c.in-Some.of es n room e hint c.index_mut-held_letter.ensures.value within)))
+    (looked_up_batch c.in-Some.of es n room e hint c.index_mut.ensures.value within)))
 
 pub invariant_of-self : goal.invariant_of-self
 invariant_of-self c =
     let es = c.self.inside.held_letters.items in
     let n = c.self.inside.looked in
     let room = vec_capacity c.self.inside.held_letters in
-    let e = c.index_mut-held_letter.result.now in
+    let e = c.index_mut.result.now in
     let hint : Hint = right_hint c.deref.result.now.vaults e.need in
     let within : n < length es = within_held c.self.inside.of c.in-Some.of es n c.in-Some.is (subst (λ (b : BatchState). b.looked < length b.letters) (sym c.self.view_is) c.requires) in
     let right = ap (λ (s : SnapshotState). right_hint s.vaults e.need) c.deref.ensures in
-    rw (c.look_up-held_letter.ensures)
-    (subst (λ (o : Option NamedSearch). IsBatch o (with_hint c.in-Some.of es n room e hint c.index_mut-held_letter.ensures.value within) (n + 1)) (sym c.in-Some.is)
-    (looked_up_more c.in-Some.of es n room e hint c.index_mut-held_letter.ensures.value within right (subst (λ (o : Option NamedSearch). IsBatch o es n) c.in-Some.is c.self.invariant)))
+    rw (c.look_up.ensures)
+    (subst (λ (o : Option NamedSearch). IsBatch o (with_hint c.in-Some.of es n room e hint c.index_mut.ensures.value within) (n + 1)) (sym c.in-Some.is)
+    (looked_up_more c.in-Some.of es n room e hint c.index_mut.ensures.value within right (subst (λ (o : Option NamedSearch). IsBatch o es n) c.in-Some.is c.self.invariant)))

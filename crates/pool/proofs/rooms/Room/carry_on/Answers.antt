@@ -19,7 +19,7 @@ returns g c =
     let did = c.carry_on-went in record {
       carried_on = subst (λ (r : RoomState). IsCarriedOn c.args.who.now c.args.number BATCH r.hall c.args.batch.now.letters did.result.0.finished did.result.1 did.new.self did.new.batch.letters)
           c.self.view_is did.ensures.carried_on;
-      notice = c.of.ensures ∙ c.of_work-concern.ensures;
+      notice = c.of-notice.ensures;
       room = ap (λ (r : RoomState). record r { hall = did.new.self }) c.self.view_is;
       most = did.ensures.most;
       looked = did.ensures.looked;

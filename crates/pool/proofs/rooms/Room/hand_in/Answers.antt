@@ -1,6 +1,5 @@
 use Rattle.std.proofs.Common.{◌∙◌, ap, length, sym, subst}
 use Rattle.hall.specs.Visits.{AreHandedIn}
-use Rattle.pool.specs.Notices.{concern_of}
 use Rattle.pool.specs.Rooms.{RoomState}
 use Rattle.pool.proofs.Visiting.{handed_in_journal}
 use Rattle.pool.proofs.rooms.Room.hand_in.Goals as goal
@@ -21,7 +20,7 @@ returns g c =
     let did = c.hand_in-handed_in in record {
       handed_in = subst (λ (r : RoomState). AreHandedIn r.stopped r.hall c.args.batch.now.letters did.result.finished did.new.self) c.self.view_is did.ensures.handed_in;
       stands = did.ensures.stands;
-      notice = c.of.ensures ∙ c.of_work-concern.ensures ∙ ap (λ search. concern_of search did.result.standing) c.search-search.ensures.is;
+      notice = c.of.ensures;
       room = ap (λ (r : RoomState). record r { hall = did.new.self }) c.self.view_is;
       most = did.ensures.most;
       empty = did.ensures.empty;
