@@ -1,7 +1,7 @@
 #!/usr/bin/env bash
-# Tests of the launcher `rtsearch`, over a small tree of crates with a stand-in for the toolchain's `rt`, which locks what
-# `rt` locks, notes when it begins and ends, and leaves what `rt` would leave. Nothing is proved here. One line for each
-# test; the last line is `N passed, M failed`.
+# Tests of the launcher `rtsearch`, over a small tree of crates with a stand-in for the toolchain, whose prover notes when it
+# begins and ends, and leaves what the real one would leave. Nothing is proved here. One line for each test; the last line is
+# `N passed, M failed`.
 set -u
 root=$(cd "$(dirname "${BASH_SOURCE[0]}")/.." && pwd)
 work=$(mktemp -d)
@@ -15,7 +15,7 @@ make_tree() {
     tree=$work/tree
     log=$work/log
     rm -rf "$tree" "$log" "$work"/hold.* "$work"/refuse.*
-    mkdir -p "$tree/.git"
+    mkdir -p "$tree"
     cp -r "$root/launch" "$root/rtsearch" "$tree/"
     printf '%s\n' '# a tree of crates' 'low: thiserror' 'left: low' 'alone:' 'right may_wait=1: low indexmap' \
         'top: low left right' 'rtsearch: top alone clap' >"$tree/crates.txt"
@@ -27,39 +27,59 @@ make_tree() {
     : >"$log"
 }
 
+# A toolchain whose `rt` tells where it stands, and looks, and whose prover and linker leave what the real ones would.
 make_stand_in() {
-    mkdir "$work/bin"
+    mkdir -p "$work/bin" "$work/kit/bin"
     cat >"$work/bin/rt" <<'END'
 #!/usr/bin/env bash
-name=$(basename "$PWD")
-for it in $(sed -n 's/^\([a-z]*\).*:.*/\1/p' ../../crates.txt | sort); do
-    exec {lock}<"../$it"
-    flock "$lock"
+case $1 in
+    doc) echo "$STAND_IN/kit/START-HERE.md" ;;
+    version) cat "$STAND_IN/kit/version" ;;
+    try)
+        echo "look ${PWD##*/} $*" >>"$STAND_IN/log"
+        echo "looked"
+        exit 6
+        ;;
+esac
+END
+    cat >"$work/kit/bin/rattle" <<'END'
+#!/usr/bin/env bash
+words="$*"
+while [ $# -gt 0 ]; do
+    case $1 in
+        --crate-name) name=$2 ;;
+        --jobs) jobs=$2 ;;
+        -o) to=$2 ;;
+        --extern)
+            if [[ $2 == */crates/* && ! -e "${2#*=}/proved" ]]; then
+                echo "${2%%=*} is not there"
+                exit 1
+            fi
+            ;;
+    esac
+    shift
 done
-for it in $(sed -n "s/^$name[ :][^:]*:*//p" ../../crates.txt); do
-    if [ -d "../$it" ] && [ ! -f "../$it/out/rlib/stamp" ]; then
-        echo "$it is not there"
-        exit 1
-    fi
-done
-mkdir -p out && echo "half a proof" >out/kept
-echo "begin $name $*" >>"$STAND_IN/log"
+echo "begin $name $jobs $words" >>"$STAND_IN/log"
 while [ -e "$STAND_IN/hold.$name" ]; do sleep 0.02; done
 if [ -e "$STAND_IN/refuse.$name" ]; then
     echo "$name has a hole"
     exit 1
 fi
 echo "end $name" >>"$STAND_IN/log"
-if [ "$1" = run ]; then
-    # (it tells each lock that it was left with)
-    printf '#!/bin/sh\necho "program: $*"\nls -l /proc/$$/fd | grep "crates/[a-z]*$"\ncat\nexit 7\n' >"out/$name"
-    chmod +x "out/$name"
-    exit 2
-fi
-mkdir -p out/rlib && cat src/* >out/rlib/stamp
+case $to in
+    *.o) cat src/* >"$to" ;;
+    *) mkdir -p "$to" && cat src/* >"$to/proved" ;;
+esac
 END
-    printf '#!/bin/sh\necho 4\n' >"$work/bin/nproc"
-    chmod +x "$work/bin/"*
+    cat >"$work/kit/bin/rattle-link" <<'END'
+#!/usr/bin/env bash
+while [ "$1" != -o ]; do shift; done
+# (the program tells each file of the repository that it was left with)
+printf '#!/bin/sh\necho "program: $*"\nls -l /proc/$$/fd | grep "crates/[a-z]*/out/proved"\ncat\nexit 7\n' >"$2"
+chmod +x "$2"
+END
+    echo "a kit" >"$work/kit/version"
+    chmod +x "$work/bin/"* "$work/kit/bin/"*
 }
 
 # Runs the launcher, with what it prints in $out and $said, its status in $status.
@@ -105,9 +125,16 @@ builds_each_crate_once_and_runs_the_program() {
     launch script x
     [ "$status" -eq 7 ] && [ "$(cat "$out")" = "program: script x" ] &&
         [ "$(ended)" = "alone left low right rtsearch top " ] && [ "$(begun)" = "$(ended)" ] &&
-        [ "$(grep -c ' begins, with [1-4] job' "$said")" -eq 6 ] &&
-        [ "$(grep -c '^rtsearch: [0-9]*:[0-9][0-9] [a-z]* is proved$' "$said")" -eq 6 ] &&
-        [ -z "$(find "$tree/.git/rooms" -mindepth 1 -type d -o -name crates.txt)" ] && [ -f "$tree/.git/rooms/MODULE.bazel" ]
+        [ "$(grep -c '^rtsearch: [0-9]*:[0-9][0-9] [a-z]* begins, with [1-4] jobs\?$' "$said")" -eq 6 ] &&
+        [ "$(grep -c '^rtsearch: [0-9]*:[0-9][0-9] [a-z]* is proved$' "$said")" -eq 6 ]
+}
+
+# Each is proved from nothing, over the statements of those below, and nothing but the program is compiled.
+keeps_statements_alone() {
+    make_tree
+    launch
+    [ "$(grep -c ' --statements -o ' "$log")" -eq 5 ] && ! grep -q -- --incremental "$log" &&
+        [ "$(grep -c ' --toolchain .*rtsearch.o$' "$log")" -eq 1 ]
 }
 
 proves_side_by_side() {
@@ -137,7 +164,10 @@ starts_again_within_a_second() {
     [ "$best" -lt 1000 ]
 }
 
-# goes_on_after SIGNAL STATUS: the crate that was being proved is proved again, and no other.
+is_alone() { ! pgrep -f "$work/kit/bin/rattle" >/dev/null; }
+
+# goes_on_after SIGNAL STATUS: the prover ends with the launcher; then the crate that was being proved is proved again, and no
+# other.
 goes_on_after() {
     local launcher
     make_tree
@@ -148,15 +178,11 @@ goes_on_after() {
     kill "-$1" "$launcher"
     wait "$launcher" 2>/dev/null
     status=$?
-    [ "$status" -eq "$2" ] || return 1
-    if [ "$1" != KILL ]; then
-        # what was kept of the crate stands in its own folder again
-        [ -f "$tree/crates/top/out/kept" ] && [ ! -e "$tree/.git/rooms/top" ] || return 1
-    fi
+    [ "$status" -eq "$2" ] && wait_for is_alone || return 1
     rm -f "$work/hold.top"
     : >"$log"
     launch
-    [ "$status" -eq 7 ] && [ -f "$tree/crates/top/out/kept" ] && [[ "$(begun)" =~ ^"rtsearch "(top )?$ ]]
+    [ "$status" -eq 7 ] && [ "$(begun)" = "rtsearch top " ]
 }
 
 builds_what_stands_on_a_change() {
@@ -202,11 +228,57 @@ two_at_once_build_once() {
         [ "$(begun)" = "alone left low right rtsearch top " ]
 }
 
-builds_in_turn_without_rooms() {
+proves_nothing_where_no_source_says_something_else() {
     make_tree
-    rmdir "$tree/.git"
     launch
-    [ "$status" -eq 7 ] && [ "$(ended)" = "alone left low right rtsearch top " ]
+    : >"$log"
+    touch "$tree/crates/low/src/lib.rt"
+    launch
+    [ "$status" -eq 7 ] && [ ! -s "$log" ] || return 1
+    echo "fn changed" >"$tree/crates/top/src/lib.rt"
+    touch "$work/refuse.top"
+    launch
+    [ "$status" -eq 125 ] || return 1
+    echo "fn top" >"$tree/crates/top/src/lib.rt"
+    rm "$work/refuse.top"
+    : >"$log"
+    launch
+    [ "$status" -eq 7 ] && [ "$(begun)" = "rtsearch top " ]
+}
+
+builds_all_for_another_toolchain() {
+    make_tree
+    launch
+    : >"$log"
+    echo "another kit" >"$work/kit/version"
+    touch "$tree/crates.txt"
+    launch
+    echo "a kit" >"$work/kit/version"
+    [ "$status" -eq 7 ] && [ "$(begun)" = "alone left low right rtsearch top " ]
+}
+
+# A look says that nothing is proved, leaves nothing, is never what runs without the word, and runs beside a build.
+looks_before_the_proof() {
+    local launcher
+    make_tree
+    launch --unproved script x
+    [ "$status" -eq 6 ] && [ "$(cat "$out")" = looked ] && grep -q 'NOT PROVED' "$said" &&
+        [ "$(cat "$log")" = "look rtsearch try -- script x" ] && [ ! -e "$tree/crates/rtsearch/out" ] || return 1
+    : >"$log"
+    launch script x
+    [ "$status" -eq 7 ] && [ "$(cat "$out")" = "program: script x" ] && ! grep -q '^look' "$log" && ! grep -q 'NOT PROVED' "$said" || return 1
+    launch --unproved script x
+    [ "$status" -eq 6 ] && grep -q 'NOT PROVED' "$said" || return 1
+    echo "fn changed" >"$tree/crates/low/src/lib.rt"
+    touch "$work/hold.low"
+    : >"$log"
+    STAND_IN=$work PATH="$work/bin:$PATH" "$tree/rtsearch" >/dev/null 2>&1 </dev/null &
+    launcher=$!
+    wait_for has_begun low
+    launch --unproved script x
+    rm "$work/hold.low"
+    wait "$launcher"
+    [ "$status" -eq 6 ] && [ "$(cat "$out")" = looked ]
 }
 
 shows_why_the_program_is_not_proved() {
@@ -259,13 +331,17 @@ tells_which_folder_cannot_be_written() {
 make_stand_in
 tell "each crate is built once, and the program runs" builds_each_crate_once_and_runs_the_program
 tell "two crates over one other are proved side by side" proves_side_by_side
+tell "a crate leaves its statements alone" keeps_statements_alone
 tell "a second start takes less than a second" starts_again_within_a_second
-tell "an interrupted build goes on" goes_on_after TERM 143
+tell "a build that is ended goes on" goes_on_after TERM 143
+tell "a build whose terminal is closed goes on" goes_on_after HUP 129
 tell "a build whose launcher was killed goes on" goes_on_after KILL 137
 tell "a change in the middle builds what stands on it" builds_what_stands_on_a_change
 tell "a change that came meanwhile is built next" sees_a_change_that_came_meanwhile
 tell "two launchers at once build once" two_at_once_build_once
-tell "with no .git the crates are built in turn" builds_in_turn_without_rooms
+tell "where no source says something else nothing is proved" proves_nothing_where_no_source_says_something_else
+tell "another toolchain proves all" builds_all_for_another_toolchain
+tell "a look before the proof" looks_before_the_proof
 tell "a crate that isn't proved is told, and the rest is kept" shows_why_a_crate_is_not_proved
 tell "a program that isn't proved isn't run, though an older one is there" shows_why_the_program_is_not_proved
 tell "no toolchain" tells_that_there_is_no_toolchain

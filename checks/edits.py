@@ -1,0 +1,219 @@
+#!/usr/bin/env python3
+"""Tries the wrong bodies of crates/NAME/must-fail/: the prover has to refuse each of them.
+
+  checks/edits.py [--over FOLDER] [NAME..]    those of these crates, or of all
+
+A function is proved by its own contract and by those of what it calls, so whether a wrong body is refused doesn't depend on
+what stands in other bodies. So the edits of a crate are applied to one copy of it, all that turn different functions at
+once, and one process proves the functions that they turn. Each of these has to be refused by a goal of its own: that
+something which it calls isn't proved is no refusal, nor is a name that a proof lacks. What isn't refused so is tried again
+alone. An edit that turns no function's body, but a definition or a type, has a line `# at FUNCTION`, is tried alone, and has
+to be refused there. `rt ci` and `rt must-fail NAME` try each edit in a process of its own, which loads the crates below each time.
+
+The crates below are taken from FOLDER/crates/NAME/out/rlib, where `rt ci` left what it proved; without the option they are
+built here first. One line for each edit; the last line is `N passed, M failed`."""
+import argparse
+import concurrent.futures
+import dataclasses
+import difflib
+import os
+import pathlib
+import re
+import shutil
+import subprocess
+import sys
+import tempfile
+
+ROOT = pathlib.Path(__file__).resolve().parent.parent
+sys.path.insert(0, str(ROOT / "launch"))
+from build import PARTS, Build, Toolchain, free_memory, memory_of, read_crates
+
+FUNCTION = re.compile(r"(\s*)(?:pub(?:\([^)]*\))? )?(?:const )?fn (\w+)")
+IMPL = re.compile(r"impl(?:<.*?>)? (?:(?:\w+::)*(\w+)(?:<.*>)? for )?(?:\w+::)*(\w+)")
+ITEM = re.compile(r"(pub(\([^)]*\))? )?(static|const|struct|enum|trait|mod|use) |\}")
+MISSING_NAME = re.compile(r"has no field|is not in scope|has no `|was not admitted")
+
+
+@dataclasses.dataclass(frozen=True)
+class Hunk:
+    """Lines of a file, and what an edit puts in their place."""
+
+    path: str
+    begin: int
+    end: int
+    lines: tuple
+
+    def meets(self, other):
+        return self.path == other.path and self.begin <= other.end and other.begin <= self.end
+
+
+@dataclasses.dataclass
+class Edit:
+    """A wrong body: what it replaces, and the functions at one of which it has to be refused."""
+
+    name: str
+    hunks: list
+    functions: set
+    is_alone: bool = False
+
+    def fits_beside(self, other):
+        """Whether each of the two would be refused as it is alone."""
+        is_apart = not self.functions & other.functions and not self.is_alone and not other.is_alone
+        return is_apart and not any(mine.meets(its) for mine in self.hunks for its in other.hunks)
+
+
+class BadEdit(Exception):
+    """Why an edit can't be tried."""
+
+
+def function_at(path, lines, at):
+    """The function that has this line, as the prover names it below its crate, or None."""
+    modules = [it for it in pathlib.PurePath(path).with_suffix("").parts[1:] if it not in ("lib", "main", "mod")]
+    for above in range(at, -1, -1):
+        found = FUNCTION.match(lines[above])
+        if found:
+            impl = next(it for it in map(IMPL.match, reversed(lines[:above])) if it) if found[1] else None
+            return "::".join([*modules, *([impl[2] + (impl[1] or "")] if impl else []), found[2]])
+        if above < at and ITEM.match(lines[above]):
+            return None
+    return None
+
+
+def changed(before, after):
+    """The runs of lines in which two texts differ."""
+    runs = difflib.SequenceMatcher(None, before, after, autojunk=False).get_opcodes()
+    return [(begin, end, tuple(after[first:last])) for kind, begin, end, first, last in runs if kind != "equal"]
+
+
+def read_edit(folder, file):
+    """Reads an edit of the crate in that folder: lines `file:`, and pairs of `old:` and `new:`, each applied to what those
+    before it made."""
+    path, old, texts, places = "", None, {}, set()
+    for line in file.read_text().split("\n"):
+        word, _, rest = line.partition(" ")
+        if word == "file:":
+            path = rest.strip()
+        elif line.startswith("# at "):
+            places.add(line[len("# at ") :].strip())
+        elif word == "old:":
+            old = rest
+        elif word == "new:":
+            text = texts.get(path) or (folder / path).read_text()
+            if not old or text.count(old) != 1:
+                raise BadEdit(f"an `old:` text is in {path} {text.count(old or ' ')} times, and not once")
+            texts[path], old = text.replace(old, rest), None
+    hunks, functions = [], set()
+    for path, text in texts.items():
+        before = (folder / path).read_text().split("\n")
+        for begin, end, lines in changed(before, text.split("\n")):
+            hunks.append(Hunk(path, begin, end, lines))
+            functions.add(function_at(path, before, begin))
+    functions.discard(None)
+    if not hunks:
+        raise BadEdit("it changes nothing")
+    if not places and not functions:
+        raise BadEdit("it turns no function's body, so it needs a line `# at FUNCTION`")
+    return Edit(file.stem, hunks, places or functions, bool(places))
+
+
+def rounds_of(edits):
+    """Shares out a crate's edits, so that those of one round can be tried at once."""
+    rounds = []
+    for edit in edits:
+        fitting = next((it for it in rounds if all(edit.fits_beside(other) for other in it)), None)
+        if fitting:
+            fitting.append(edit)
+        else:
+            rounds.append([edit])
+    return rounds
+
+
+def copy_with(edits, folder, room):
+    """Copies the crate's sources to the room, with these edits applied."""
+    for part in PARTS:
+        if (folder / part).is_dir():
+            shutil.copytree(folder / part, room / part)
+    hunks = sorted((it for edit in edits for it in edit.hunks), key=lambda it: it.begin, reverse=True)
+    for path in {it.path for it in hunks}:
+        lines = (room / path).read_text().split("\n")
+        for it in hunks:
+            if it.path == path:
+                lines[it.begin : it.end] = it.lines
+        (room / path).write_text("\n".join(lines))
+
+
+def try_at_once(crate, edits, toolchain):
+    """Tries edits of a crate in one copy of it, and returns for each whether it is refused, and a text."""
+    functions = sorted(it for edit in edits for it in edit.functions)
+    words = [*toolchain.prover("check", crate), *(word for it in functions for word in ("--only", it))]
+    with tempfile.TemporaryDirectory(prefix="edits-") as room:
+        copy_with(edits, crate.folder, pathlib.Path(room))
+        how = {"cwd": room, "stdin": subprocess.DEVNULL, "stdout": subprocess.PIPE, "stderr": subprocess.STDOUT, "errors": "replace"}
+        said = subprocess.run(words, **how).stdout.splitlines()
+    if not said or not said[-1].startswith("only="):
+        why = next((it for it in said if "error" in it), said[-1] if said else "nothing was said")
+        return [(False, f"BAD EDIT: the prover doesn't come to its end: {why[:300]}") for _ in edits]
+    return [judge(crate, edit, said) for edit in edits]
+
+
+def judge(crate, edit, said):
+    """Whether the prover, which said this, refused the edit, and a text."""
+    verdicts = {}
+    for function in sorted(edit.functions):
+        begin = f"fn {crate.name}::{function}: "
+        verdict = next((it[len(begin) :] for it in said if it.startswith(begin)), "nothing was said of it")
+        folder = "./proofs/" + function.replace("::", "/") + "/"
+        goals = [it for it in said if it.startswith(folder) and ": error" in it]
+        if not verdict.startswith("not proved") or goals and all(map(MISSING_NAME.search, goals)):
+            verdicts[function] = verdict + f" (a name is missing: {goals[0][:160]})" * bool(goals)
+        elif goals or "; it calls" not in verdict:
+            return True, f"refused at {function}" + f": {goals[0][len(folder):][:160]}" * bool(goals)
+        else:
+            verdicts[function] = verdict
+    return False, "NOT REFUSED: " + "; ".join(f"{function} is {it}" for function, it in verdicts.items())
+
+
+def try_round(crate, edits, toolchain):
+    """Tries a round of a crate's edits; and alone what wasn't refused in it."""
+    told = try_at_once(crate, edits, toolchain)
+    if len(edits) > 1:
+        told = [it if it[0] else try_at_once(crate, [edit], toolchain)[0] for edit, it in zip(edits, told)]
+    return [(well, f"{crate.name}/{edit.name}: {text}") for edit, (well, text) in zip(edits, told)]
+
+
+def main():
+    parser = argparse.ArgumentParser(description=__doc__, formatter_class=argparse.RawDescriptionHelpFormatter)
+    parser.add_argument("--over", type=pathlib.Path, metavar="FOLDER")
+    parser.add_argument("crates", nargs="*", metavar="NAME")
+    given = parser.parse_args()
+    toolchain, crates = Toolchain(), read_crates()
+    wanted = [it for it in crates if it.name in given.crates or not given.crates]
+    if given.over is None:
+        Build([it for it in crates if any(it in each.below for each in wanted)], toolchain).all()
+    else:
+        for it in crates:
+            it.left = given.over.resolve() / "crates" / it.name / "out" / "rlib" / f"{it.name}.rlib"
+    told, rounds = [], []
+    for crate in wanted:
+        edits = []
+        for file in sorted((crate.folder / "must-fail").glob("*.edit")):
+            try:
+                edits.append(read_edit(crate.folder, file))
+            except (BadEdit, OSError) as why:
+                told.append((False, f"{crate.name}/{file.stem}: BAD EDIT: {why}"))
+        rounds += [(crate, it) for it in rounds_of(edits)]
+    # the longest first
+    rounds.sort(key=lambda it: (len(it[1]) == 1, -sum(file.stat().st_size for file in it[0].files())))
+    lanes = max(1, min(len(os.sched_getaffinity(0)), free_memory() // memory_of(crates[-1], 1)))
+    with concurrent.futures.ThreadPoolExecutor(lanes) as pool:
+        for tried in pool.map(lambda it: try_round(*it, toolchain), rounds):
+            told += tried
+    for _, text in sorted(told, key=lambda it: it[1]):
+        print(f"edits: {text}")
+    failed = sum(not well for well, _ in told)
+    print(f"{len(told) - failed} passed, {failed} failed")
+    return 1 if failed else 0
+
+
+if __name__ == "__main__":
+    sys.exit(main())
