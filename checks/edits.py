@@ -10,12 +10,14 @@ something which it calls isn't proved is no refusal, nor is a name that a proof 
 alone. An edit that turns no function's body, but a definition or a type, has a line `# at FUNCTION`, is tried alone, and has
 to be refused there. `rt ci` and `rt must-fail NAME` try each edit in a process of its own, which loads the crates below each time.
 
-The crates below are taken from FOLDER/crates/NAME/out/rlib, where `rt ci` left what it proved; without the option they are
-built here first. One line for each edit; the last line is `N passed, M failed`."""
+The crates below are taken from FOLDER/crates/NAME/out/rlib, as `rt ci` leaves them while it goes on there and writes what it says
+to FOLDER/said; a crate's edits begin once those below it are proved. Without the option these are built here first. One line for
+each edit; the last line is `N passed, M failed`."""
 import argparse
 import concurrent.futures
 import dataclasses
 import difflib
+import itertools
 import os
 import pathlib
 import re
@@ -23,6 +25,7 @@ import shutil
 import subprocess
 import sys
 import tempfile
+import time
 
 ROOT = pathlib.Path(__file__).resolve().parent.parent
 sys.path.insert(0, str(ROOT / "launch"))
@@ -173,12 +176,31 @@ def judge(crate, edit, said):
     return False, "NOT REFUSED: " + "; ".join(f"{function} is {it}" for function, it in verdicts.items())
 
 
-def try_round(crate, edits, toolchain):
-    """Tries a round of a crate's edits; and alone what wasn't refused in it."""
+def try_round(crate, edits, toolchain, gate):
+    """Tries a round of a crate's edits, once the crates below are proved; and alone what wasn't refused in it."""
+    if not gate.waits_for(crate.below):
+        return [(False, f"{crate.name}/{edit.name}: not tried: a crate below isn't proved") for edit in edits]
     told = try_at_once(crate, edits, toolchain)
     if len(edits) > 1:
         told = [it if it[0] else try_at_once(crate, [edit], toolchain)[0] for edit, it in zip(edits, told)]
     return [(well, f"{crate.name}/{edit.name}: {text}") for edit, (well, text) in zip(edits, told)]
+
+
+class Gate:
+    """What `rt ci` has said so far, where it goes on beside this."""
+
+    def __init__(self, said):
+        self.said = said
+
+    def waits_for(self, crates):
+        """Waits until these crates are proved, and returns whether they are."""
+        while True:
+            lines = self.said.read_text(errors="replace").splitlines() if self.said else []
+            if not self.said or {f"rt: {it.name} proved" for it in crates} <= {*lines}:
+                return True
+            if lines and re.fullmatch(r"\d+ passed, \d+ failed", lines[-1]):
+                return False
+            time.sleep(1)
 
 
 def main():
@@ -188,12 +210,13 @@ def main():
     given = parser.parse_args()
     toolchain, crates = Toolchain(), read_crates()
     wanted = [it for it in crates if it.name in given.crates or not given.crates]
+    gate = Gate(given.over / "said" if given.over else None)
     if given.over is None:
         Build([it for it in crates if any(it in each.below for each in wanted)], toolchain).all()
     else:
         for it in crates:
             it.left = given.over.resolve() / "crates" / it.name / "out" / "rlib" / f"{it.name}.rlib"
-    told, rounds = [], []
+    told, rounds, all_told = [], [], []
     for crate in wanted:
         edits = []
         for file in sorted((crate.folder / "must-fail").glob("*.edit")):
@@ -202,16 +225,16 @@ def main():
             except (BadEdit, OSError) as why:
                 told.append((False, f"{crate.name}/{file.stem}: BAD EDIT: {why}"))
         rounds += [(crate, it) for it in rounds_of(edits)]
-    # the longest first
-    rounds.sort(key=lambda it: (len(it[1]) == 1, -sum(file.stat().st_size for file in it[0].files())))
-    lanes = max(1, min(len(os.sched_getaffinity(0)), free_memory() // memory_of(crates[-1], 1)))
+    # (lowest crates first, as they come; beside `rt ci` by half of the processors and of the memory)
+    share = 2 if given.over else 1
+    lanes = max(1, min(len(os.sched_getaffinity(0)), free_memory() // memory_of(crates[-1], 1)) // share)
     with concurrent.futures.ThreadPoolExecutor(lanes) as pool:
-        for tried in pool.map(lambda it: try_round(*it, toolchain), rounds):
-            told += tried
-    for _, text in sorted(told, key=lambda it: it[1]):
-        print(f"edits: {text}")
-    failed = sum(not well for well, _ in told)
-    print(f"{len(told) - failed} passed, {failed} failed")
+        for tried in itertools.chain([told], pool.map(lambda it: try_round(*it, toolchain, gate), rounds)):
+            for _, text in tried:
+                print(f"edits: {text}", flush=True)
+            all_told += tried
+    failed = sum(not well for well, _ in all_told)
+    print(f"{len(all_told) - failed} passed, {failed} failed")
     return 1 if failed else 0
 
 
