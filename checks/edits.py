@@ -11,8 +11,8 @@ alone. An edit that turns no function's body, but a definition or a type, has a 
 to be refused there. `rt ci` and `rt must-fail NAME` try each edit in a process of its own, which loads the crates below each time.
 
 The crates below are taken from FOLDER/crates/NAME/out/rlib, as `rt ci` leaves them while it goes on there and writes what it says
-to FOLDER/said; a crate's edits begin once those below it are proved. Without the option these are built here first. One line for
-each edit; the last line is `N passed, M failed`."""
+to FOLDER/said, which ends with a line `ended`; a crate's edits begin once those below it are proved. Without the option these are
+built here first. One line for each edit; the last line is `N passed, M failed`."""
 import argparse
 import concurrent.futures
 import dataclasses
@@ -29,7 +29,7 @@ import time
 
 ROOT = pathlib.Path(__file__).resolve().parent.parent
 sys.path.insert(0, str(ROOT / "launch"))
-from build import PARTS, Build, Toolchain, free_memory, memory_of, read_crates
+from build import PARTS, Build, Stopped, Toolchain, alone, free_memory, memory_of, read_crates
 
 FUNCTION = re.compile(r"(\s*)(?:pub(?:\([^)]*\))? )?(?:const )?fn (\w+)")
 IMPL = re.compile(r"impl(?:<.*?>)? (?:(?:\w+::)*(\w+)(?:<.*>)? for )?(?:\w+::)*(\w+)")
@@ -70,13 +70,16 @@ class BadEdit(Exception):
 
 
 def function_at(path, lines, at):
-    """The function that has this line, as the prover names it below its crate, or None."""
-    modules = [it for it in pathlib.PurePath(path).with_suffix("").parts[1:] if it not in ("lib", "main", "mod")]
+    """The function that has this line, or None: by its module, or, since the prover names a method by its type's module, by its
+    type, which an impl's trait follows."""
     for above in range(at, -1, -1):
         found = FUNCTION.match(lines[above])
+        if found and found[1]:
+            impl = next(it for it in map(IMPL.match, reversed(lines[:above])) if it)
+            return f"{impl[2]}{impl[1] or ''}::{found[2]}"
         if found:
-            impl = next(it for it in map(IMPL.match, reversed(lines[:above])) if it) if found[1] else None
-            return "::".join([*modules, *([impl[2] + (impl[1] or "")] if impl else []), found[2]])
+            modules = [it for it in pathlib.PurePath(path).with_suffix("").parts[1:] if it not in ("lib", "main", "mod")]
+            return "::".join([*modules, found[2]])
         if above < at and ITEM.match(lines[above]):
             return None
     return None
@@ -159,26 +162,35 @@ def try_at_once(crate, edits, toolchain):
     return [judge(crate, edit, said) for edit in edits]
 
 
+def verdicts_of(crate, function, said):
+    """What the prover said of a function and of the closures in it: for each its path, and the verdict."""
+    *owners, name = function.split("::")
+    is_method = owners and owners[-1][0].isupper()
+    modules, owner = (r"(?:\w+::)*", owners[-1] + "::") if is_method else ("".join(f"{it}::" for it in owners), "")
+    line = re.compile(rf"fn {crate.name}::({modules}(?:fn::)?{owner}{name}(?:::\S+)?): (.*)")
+    return [found.groups() for found in map(line.match, said) if found]
+
+
 def judge(crate, edit, said):
     """Whether the prover, which said this, refused the edit, and a text."""
-    verdicts = {}
+    others = []
     for function in sorted(edit.functions):
-        begin = f"fn {crate.name}::{function}: "
-        verdict = next((it[len(begin) :] for it in said if it.startswith(begin)), "nothing was said of it")
-        folder = "./proofs/" + function.replace("::", "/") + "/"
-        goals = [it for it in said if it.startswith(folder) and ": error" in it]
-        if not verdict.startswith("not proved") or goals and all(map(MISSING_NAME.search, goals)):
-            verdicts[function] = verdict + f" (a name is missing: {goals[0][:160]})" * bool(goals)
-        elif goals or "; it calls" not in verdict:
-            return True, f"refused at {function}" + f": {goals[0][len(folder):][:160]}" * bool(goals)
-        else:
-            verdicts[function] = verdict
-    return False, "NOT REFUSED: " + "; ".join(f"{function} is {it}" for function, it in verdicts.items())
+        for path, verdict in verdicts_of(crate, function, said) or [(function, "nothing was said of it")]:
+            # (a definition is refused by the lemmas that speak of it)
+            folder = "./proofs/" if edit.is_alone else "./proofs/" + path.replace("::", "/") + "/"
+            goals = [it[len(folder) :][:160] for it in said if it.startswith(folder) and ": error" in it]
+            goals += re.findall(r"`search` did not prove .*", verdict)
+            if verdict.startswith("not proved") and "; it calls" not in verdict:
+                goals = goals or ["a goal of its own"]
+            if goals and not all(map(MISSING_NAME.search, goals)):
+                return True, f"refused at {path}: {goals[0]}"
+            others.append(": ".join([f"{path} is {verdict}", *goals[:1]]))
+    return False, "NOT REFUSED: " + "; ".join(others)
 
 
 def try_round(crate, edits, toolchain, gate):
     """Tries a round of a crate's edits, once the crates below are proved; and alone what wasn't refused in it."""
-    if not gate.waits_for(crate.below):
+    if gate and not gate.waits_for(crate.below):
         return [(False, f"{crate.name}/{edit.name}: not tried: a crate below isn't proved") for edit in edits]
     told = try_at_once(crate, edits, toolchain)
     if len(edits) > 1:
@@ -187,7 +199,7 @@ def try_round(crate, edits, toolchain, gate):
 
 
 class Gate:
-    """What `rt ci` has said so far, where it goes on beside this."""
+    """What `rt ci`, which goes on beside this, has said so far."""
 
     def __init__(self, said):
         self.said = said
@@ -195,12 +207,25 @@ class Gate:
     def waits_for(self, crates):
         """Waits until these crates are proved, and returns whether they are."""
         while True:
-            lines = self.said.read_text(errors="replace").splitlines() if self.said else []
-            if not self.said or {f"rt: {it.name} proved" for it in crates} <= {*lines}:
+            lines = self.said.read_text(errors="replace").splitlines()
+            if {f"rt: {it.name} proved" for it in crates} <= {*lines}:
                 return True
-            if lines and re.fullmatch(r"\d+ passed, \d+ failed", lines[-1]):
+            if lines[-1:] == ["ended"]:
                 return False
             time.sleep(1)
+
+
+def edits_of(crate):
+    """The crate's edits, and a verdict and a text for each file that is none."""
+    edits, bad = [], []
+    for file in sorted((crate.folder / "must-fail").glob("*")):
+        try:
+            if file.suffix != ".edit":
+                raise BadEdit("its name doesn't end in .edit")
+            edits.append(read_edit(crate.folder, file))
+        except (BadEdit, OSError) as why:
+            bad.append((False, f"{crate.name}/{file.stem}: BAD EDIT: {why}"))
+    return edits, bad
 
 
 def main():
@@ -210,33 +235,34 @@ def main():
     given = parser.parse_args()
     toolchain, crates = Toolchain(), read_crates()
     wanted = [it for it in crates if it.name in given.crates or not given.crates]
-    gate = Gate(given.over / "said" if given.over else None)
     if given.over is None:
-        Build([it for it in crates if any(it in each.below for each in wanted)], toolchain).all()
+        with alone(crates[-1]):
+            Build([it for it in crates if any(it in each.below for each in wanted)], toolchain).all()
     else:
         for it in crates:
             it.left = given.over.resolve() / "crates" / it.name / "out" / "rlib" / f"{it.name}.rlib"
-    told, rounds, all_told = [], [], []
+    rounds, told = [], []
     for crate in wanted:
-        edits = []
-        for file in sorted((crate.folder / "must-fail").glob("*.edit")):
-            try:
-                edits.append(read_edit(crate.folder, file))
-            except (BadEdit, OSError) as why:
-                told.append((False, f"{crate.name}/{file.stem}: BAD EDIT: {why}"))
+        edits, bad = edits_of(crate)
         rounds += [(crate, it) for it in rounds_of(edits)]
+        told += bad
     # (lowest crates first, as they come; beside `rt ci` by half of the processors and of the memory)
-    share = 2 if given.over else 1
+    gate, share = (Gate(given.over / "said"), 2) if given.over else (None, 1)
     lanes = max(1, min(len(os.sched_getaffinity(0)), free_memory() // memory_of(crates[-1], 1)) // share)
+    passed = failed = 0
     with concurrent.futures.ThreadPoolExecutor(lanes) as pool:
         for tried in itertools.chain([told], pool.map(lambda it: try_round(*it, toolchain, gate), rounds)):
-            for _, text in tried:
+            for is_refused, text in tried:
                 print(f"edits: {text}", flush=True)
-            all_told += tried
-    failed = sum(not well for well, _ in all_told)
-    print(f"{len(all_told) - failed} passed, {failed} failed")
+                passed, failed = passed + is_refused, failed + (not is_refused)
+    print(f"{passed} passed, {failed} failed")
     return 1 if failed else 0
 
 
 if __name__ == "__main__":
-    sys.exit(main())
+    try:
+        sys.exit(main())
+    except Stopped as why:
+        print(f"edits: {why}")
+        print("0 passed, 1 failed")
+        sys.exit(1)

@@ -8,6 +8,7 @@ crates that it had not ended.
 
 Where the program can't be built it isn't run, and the status is 127 if there is no `rt`, 126 if a folder can't be written,
 and 125 if a crate isn't proved."""
+import contextlib
 import fcntl
 import hashlib
 import os
@@ -269,11 +270,9 @@ def make_room(crate):
         raise Stopped(126, f"what is proved is kept in {crate.proved}, which can't be written") from None
 
 
-def build():
-    """Builds the program where it has to be, and returns where it is."""
-    toolchain = Toolchain()
-    crates = read_crates()
-    program = crates[-1]
+@contextlib.contextmanager
+def alone(program):
+    """Holds what keeps other builds out."""
     make_room(program)
     with open(program.proved / "lock", "w", encoding="utf-8") as lock:
         try:
@@ -281,6 +280,14 @@ def build():
         except BlockingIOError:
             tell("waiting for another build of this program")
             fcntl.flock(lock, fcntl.LOCK_EX)
+        yield
+
+
+def build():
+    """Builds the program where it has to be, and returns where it is."""
+    toolchain, crates = Toolchain(), read_crates()
+    program = crates[-1]
+    with alone(program):
         began = time.time()
         Build(crates, toolchain).all()
         # a source that changed meanwhile is newer
