@@ -7,8 +7,9 @@ A function is proved by its own contract and by those of what it calls, so wheth
 what stands in other bodies. So the edits of a crate are applied to one copy of it, all that turn different functions at
 once, and one process proves the functions that they turn. Each of these has to be refused by a goal of its own: that
 something which it calls isn't proved is no refusal, nor is a name that a proof lacks. What isn't refused so is tried again
-alone. An edit that turns no function's body, but a definition or a type, has a line `# at FUNCTION`, is tried alone, and has
-to be refused there. `rt ci` and `rt must-fail NAME` try each edit in a process of its own, which loads the crates below each time.
+alone, and so is at once what changes a line outside functions. An edit that turns no function's body, but a definition or a
+type, has a line `# at FUNCTION`, and has to be refused there. `rt ci` and `rt must-fail NAME` try each edit in a process of its
+own, which loads the crates below each time.
 
 The crates below are taken from FOLDER/crates/NAME/out/rlib, as `rt ci` leaves them while it goes on there and writes what it says
 to FOLDER/said, which ends with a line `ended`; a crate's edits begin once those below it are proved. Without the option these are
@@ -28,6 +29,7 @@ import tempfile
 import time
 
 ROOT = pathlib.Path(__file__).resolve().parent.parent
+sys.dont_write_bytecode = True
 sys.path.insert(0, str(ROOT / "launch"))
 from build import PARTS, Build, Stopped, Toolchain, alone, free_memory, memory_of, read_crates
 
@@ -114,12 +116,11 @@ def read_edit(folder, file):
         for begin, end, lines in changed(before, text.split("\n")):
             hunks.append(Hunk(path, begin, end, lines))
             functions.add(function_at(path, before, begin))
-    functions.discard(None)
     if not hunks:
         raise BadEdit("it changes nothing")
-    if not places and not functions:
+    if not places and functions == {None}:
         raise BadEdit("it turns no function's body, so it needs a line `# at FUNCTION`")
-    return Edit(file.stem, hunks, places or functions, bool(places))
+    return Edit(file.stem, hunks, places or functions - {None}, bool(places) or None in functions)
 
 
 def rounds_of(edits):
@@ -176,7 +177,7 @@ def judge(crate, edit, said):
     others = []
     for function in sorted(edit.functions):
         for path, verdict in verdicts_of(crate, function, said) or [(function, "nothing was said of it")]:
-            # (a definition is refused by the lemmas that speak of it)
+            # (alone, so that every goal is its own: a definition is refused by the lemmas that speak of it)
             folder = "./proofs/" if edit.is_alone else "./proofs/" + path.replace("::", "/") + "/"
             goals = [it[len(folder) :][:160] for it in said if it.startswith(folder) and ": error" in it]
             goals += re.findall(r"`search` did not prove .*", verdict)

@@ -25,7 +25,6 @@ ROOT = pathlib.Path(__file__).resolve().parent.parent
 PROGRAM = "rtsearch"
 PARTS = ("src", "specs", "proofs")
 MOST_JOBS = 4  # of one crate: more was never measured
-BEHIND = 2  # how nice the crates are that have time
 TARGET = "x86_64-unknown-linux-gnu"
 
 
@@ -139,13 +138,9 @@ class Provers:
         how = {"stdin": subprocess.PIPE, "stdout": subprocess.DEVNULL, "stderr": subprocess.DEVNULL}
         self.guard = subprocess.Popen(["sh", "-c", "read _; kill -9 0"], preexec_fn=os.setpgrp, **how)
 
-    def start(self, command, folder, log, nice=0):
-        def join():
-            os.setpgid(0, self.guard.pid)
-            os.nice(nice)
-
+    def start(self, command, folder, log):
         how = {"cwd": folder, "stdin": subprocess.DEVNULL, "stdout": log, "stderr": subprocess.STDOUT}
-        return subprocess.Popen(command, preexec_fn=join, **how)
+        return subprocess.Popen(command, preexec_fn=lambda: os.setpgid(0, self.guard.pid), **how)
 
     def end(self):
         self.guard.stdin.close()
@@ -155,10 +150,10 @@ class Provers:
 class Run:
     """A crate that is being proved: of which sources, with how many jobs, and what the prover says."""
 
-    def __init__(self, crate, jobs, nice, toolchain, provers):
+    def __init__(self, crate, jobs, toolchain, provers):
         self.crate, self.jobs, self.sources = crate, jobs, crate.sum(toolchain.version)
         self.log = tempfile.TemporaryFile("w+", errors="replace")
-        self.process = provers.start(toolchain.build(crate, jobs), crate.folder, self.log, nice)
+        self.process = provers.start(toolchain.build(crate, jobs), crate.folder, self.log)
 
 
 class Build:
@@ -186,29 +181,29 @@ class Build:
 
     def begin_what_fits(self):
         """Begins the crates that wait for nothing more: the one with the longest chain above it with as many jobs as there are
-        processors, the others, which have time, with two, or what those that run leave, and behind it."""
+        processors, the others, which have time, with what those that run leave, or one."""
         running = [it.crate for it in self.runs]
         blocked = {*self.waiting, *running}
         ready = sorted((it for it in self.waiting if not blocked & {*it.below}), key=lambda it: -it.weight)
         for it in ready:
             is_first = all(it.weight > other.weight for other in running)
             left = processors() - sum(each.jobs for each in self.runs)
-            jobs = processors() if is_first else min(max(2, left), processors())
+            jobs = processors() if is_first else max(1, left)
             while jobs > 1 and memory_of(it, jobs) > self.free():
                 jobs -= 1
             if running and memory_of(it, jobs) > self.free():
                 break
-            self.begin(it, jobs, 0 if is_first else BEHIND)
+            self.begin(it, jobs)
             running.append(it)
 
     def free(self):
         return self.memory - sum(memory_of(it.crate, it.jobs) for it in self.runs)
 
-    def begin(self, crate, jobs, nice):
+    def begin(self, crate, jobs):
         self.say(f"{crate.name} begins, with {jobs} job{'s' * (jobs > 1)}")
         crate.stamp.unlink()
         self.waiting.remove(crate)
-        self.runs.append(Run(crate, jobs, nice, self.toolchain, self.provers))
+        self.runs.append(Run(crate, jobs, self.toolchain, self.provers))
 
     def next_that_ends(self):
         while True:
