@@ -165,6 +165,7 @@ starts_again_within_a_second() {
 }
 
 is_alone() { ! pgrep -f "$work/kit/bin/rattle" >/dev/null; }
+is_proved() { grep -q " $1 is proved\$" "$work/first"; }
 
 # goes_on_after SIGNAL STATUS: the prover ends with the launcher; then the crate that was being proved is proved again, and no
 # other.
@@ -172,9 +173,9 @@ goes_on_after() {
     local launcher
     make_tree
     touch "$work/hold.top"
-    STAND_IN=$work PATH="$work/bin:$PATH" "$tree/rtsearch" >/dev/null 2>&1 </dev/null &
+    STAND_IN=$work PATH="$work/bin:$PATH" "$tree/rtsearch" >/dev/null 2>"$work/first" </dev/null &
     launcher=$!
-    wait_for has_begun top
+    wait_for has_begun top && wait_for is_proved alone || return 1
     kill "-$1" "$launcher"
     wait "$launcher" 2>/dev/null
     status=$?

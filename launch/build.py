@@ -100,6 +100,8 @@ class Toolchain:
             raise Stopped(127, "the program has to be built first, and the toolchain's command rt is not on the path")
         self.kit = pathlib.Path(self.said_by("doc")).parent
         self.version = self.said_by("version")
+        if not (self.kit / "bin" / "rattle").exists():
+            raise Stopped(127, f"the toolchain's command rt tells of no prover: there is no {self.kit}/bin/rattle")
 
     @staticmethod
     def said_by(word):
@@ -171,6 +173,7 @@ class Build:
         """Proves all that has to be."""
         for it in self.waiting:
             make_room(it)
+            it.stamp.unlink()
         if self.waiting:
             count = f"{len(self.waiting)} of {len(self.crates)} crates"
             tell(f"proving {count} before the program can run: all of them take some 11 minutes on four idle cores")
@@ -201,7 +204,6 @@ class Build:
 
     def begin(self, crate, jobs):
         self.say(f"{crate.name} begins, with {jobs} job{'s' * (jobs > 1)}")
-        crate.stamp.unlink()
         self.waiting.remove(crate)
         self.runs.append(Run(crate, jobs, self.toolchain, self.provers))
 
