@@ -180,9 +180,9 @@ def judge(crate, edit, said):
             # (alone, so that every goal is its own: a definition is refused by the lemmas that speak of it)
             folder = "./proofs/" if edit.is_alone else "./proofs/" + path.replace("::", "/") + "/"
             goals = [it[len(folder) :][:160] for it in said if it.startswith(folder) and ": error" in it]
-            goals += re.findall(r"`search` did not prove .*", verdict)
-            if verdict.startswith("not proved") and "; it calls" not in verdict:
-                goals = goals or ["a goal of its own"]
+            if "it calls" not in verdict:
+                goals += re.findall(r"`search` did not prove .*", verdict)
+                goals += ["no proof of a goal"] if verdict.startswith("not proved") and not goals else []
             if goals and not all(map(MISSING_NAME.search, goals)):
                 return True, f"refused at {path}: {goals[0]}"
             others.append(": ".join([f"{path} is {verdict}", *goals[:1]]))
