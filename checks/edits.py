@@ -16,6 +16,7 @@ to FOLDER/said, which ends with a line `ended`; a crate's edits begin once those
 built here first. One line for each edit; the last line is `N passed, M failed`."""
 import argparse
 import concurrent.futures
+import contextlib
 import dataclasses
 import difflib
 import itertools
@@ -26,6 +27,7 @@ import shutil
 import subprocess
 import sys
 import tempfile
+import threading
 import time
 
 ROOT = pathlib.Path(__file__).resolve().parent.parent
@@ -191,29 +193,43 @@ def judge(crate, edit, said):
 
 def try_round(crate, edits, toolchain, gate):
     """Tries a round of a crate's edits, once the crates below are proved; and alone what wasn't refused in it."""
-    if gate and not gate.waits_for(crate.below):
-        return [(False, f"{crate.name}/{edit.name}: not tried: a crate below isn't proved") for edit in edits]
-    told = try_at_once(crate, edits, toolchain)
-    if len(edits) > 1:
-        told = [it if it[0] else try_at_once(crate, [edit], toolchain)[0] for edit, it in zip(edits, told)]
+    with gate.lane(crate.below) as are_proved:
+        if not are_proved:
+            return [(False, f"{crate.name}/{edit.name}: not tried: a crate below isn't proved") for edit in edits]
+        told = try_at_once(crate, edits, toolchain)
+        if len(edits) > 1:
+            told = [it if it[0] else try_at_once(crate, [edit], toolchain)[0] for edit, it in zip(edits, told)]
     return [(well, f"{crate.name}/{edit.name}: {text}") for edit, (well, text) in zip(edits, told)]
 
 
 class Gate:
-    """What `rt ci`, which goes on beside this, has said so far."""
+    """What `rt ci`, which goes on beside this, has said so far; None where all is proved. While it goes on it has half of the lanes."""
 
-    def __init__(self, said):
-        self.said = said
+    def __init__(self, said, lanes):
+        self.said, self.lanes, self.running, self.turn = said, lanes, 0, threading.Lock()
 
-    def waits_for(self, crates):
-        """Waits until these crates are proved, and returns whether they are."""
-        while True:
-            lines = self.said.read_text(errors="replace").splitlines()
-            if {f"rt: {it.name} proved" for it in crates} <= {*lines}:
-                return True
-            if lines[-1:] == ["ended"]:
+    def begins(self, crates):
+        """Whether these crates are proved and there is a lane, which then is taken; None where they won't be."""
+        lines = self.said.read_text(errors="replace").splitlines() if self.said else ["ended"]
+        has_ended = lines[-1:] == ["ended"]
+        if self.said and not {f"rt: {it.name} proved" for it in crates} <= {*lines}:
+            return None if has_ended else False
+        with self.turn:
+            if self.running >= (self.lanes if has_ended else max(1, self.lanes // 2)):
                 return False
-            time.sleep(1)
+            self.running += 1
+            return True
+
+    @contextlib.contextmanager
+    def lane(self, crates):
+        """Waits for these crates and for a lane, and gives whether the crates are proved."""
+        while (begun := self.begins(crates)) is False:
+            time.sleep(0.5)
+        try:
+            yield begun is True
+        finally:
+            with self.turn:
+                self.running -= begun is True
 
 
 def edits_of(crate):
@@ -247,9 +263,9 @@ def main():
         edits, bad = edits_of(crate)
         rounds += [(crate, it) for it in rounds_of(edits)]
         told += bad
-    # (lowest crates first, as they come; beside `rt ci` by half of the processors and of the memory)
-    gate, share = (Gate(given.over / "said"), 2) if given.over else (None, 1)
-    lanes = max(1, min(len(os.sched_getaffinity(0)), free_memory() // memory_of(crates[-1], 1)) // share)
+    # (lowest crates first, as they come)
+    lanes = max(1, min(len(os.sched_getaffinity(0)), free_memory() // memory_of(crates[-1], 1)))
+    gate = Gate(given.over / "said" if given.over else None, lanes)
     passed = failed = 0
     with concurrent.futures.ThreadPoolExecutor(lanes) as pool:
         for tried in itertools.chain([told], pool.map(lambda it: try_round(*it, toolchain, gate), rounds)):
