@@ -1,37 +1,57 @@
 #!/usr/bin/env bash
-# How long a tenant waits for its `sees` while another is told long replies without a pause: the members of a role of so many
-# as the first argument says (90,000), and a proof of so many steps as the second says (60,000). Prints the microseconds of a
-# `sees` at the 50th and at the 99th of 100 and of the longest one, beside how long a long reply took, of as many as the third
-# argument says (1,000). A fourth argument names another built program to be measured beside. It needs a C compiler.
+# How long a tenant waits for its `sees` while others have much to be done: one polls the members of a role of so many as the
+# first argument says (90,000), is told its vault of so many rows, searches that role, or puts a row into that vault while a
+# search holds it; one has a proof of so many steps as the second says (60,000), or follows that chain; and one has a search of
+# 11,500 letters for each of so many roles as the third says (200), or ends such searches. Prints the microseconds of a `sees` at
+# the 50th and at the 99th of 100 and of the longest one, of so many as the fourth argument says (1,000) or as the other needs,
+# and how long the other's line took on the average, and the longest. Further arguments name other built programs to be measured
+# beside. With the word `busy` in front two processes that only compute go on meanwhile. It needs a C compiler.
 . "$(dirname "$0")/common.sh"
 
+busy=
+if [ "${1-}" = busy ]; then
+    busy=yes
+    shift
+fi
 members=${1:-90000}
 steps=${2:-60000}
-asked=${3:-1000}
+roles=${3:-200}
+asked=${4:-1000}
 program=$(built_program)
 cc -O2 -pthread -o "$work/client" "$root/bench/held_up/client.c"
-printf '%s\n' 'tenant Wide word 100000 10 10 1000000 10 10000000' 'tenant Chain word 100000 10 10 1000000 10 10000000' \
-    'tenant Short word' begin > "$work/roster"
+printf '%s\n' 'tenant Wide word 100000 10 10 1000000 1000000 10000000' 'tenant Chain word 100000 10 10 1000000 1000000 10000000' \
+    'tenant Dense word 100000 10 64 1000000 1000000 10000000' 'tenant Short word' begin > "$work/roster"
+
+# as the launcher has it
+export MALLOC_ARENA_MAX=1 MALLOC_MMAP_THRESHOLD_=33554432 MALLOC_TRIM_THRESHOLD_=134217728
+
+# compute: goes on until it is ended.
+compute() { while :; do :; done; }
 
 # waits PROGRAM: a line for each of what others say meanwhile.
 waits() {
     local port
     rm -f "$work/said"
     mkfifo "$work/said"
-    "$1" serve --sessions 3 --accept 3 < "$work/roster" > "$work/said" &
+    "$1" serve --sessions 4 --accept 4 < "$work/roster" > "$work/said" &
+    server=$!
     exec 3< "$work/said"
     read -r port <&3
-    "$work/client" "${port##*:}" "$members" "$steps" "$asked" > "$work/waited"
+    "$work/client" "${port##*:}" "$members" "$steps" "$asked" "$roles"
     cat <&3 > "$work/rest"
-    wait
-    paste -d ' ' <(printf '%s\n' nothing members proof) "$work/waited"
+    wait "$server"
 }
 
-row='%-10s %12s %12s %12s %16s\n'
-for each in "$program" "${@:4}"; do
+if [ -n "$busy" ]; then
+    compute & first=$!
+    compute & second=$!
+    trap 'kill "$first" "$second"; rm -rf "$work"' EXIT
+fi
+row='%-24s %10s %10s %12s %16s %14s\n'
+for each in "$program" "${@:5}"; do
     echo "$each" | sed "s|^$root/||"
     # shellcheck disable=SC2059
-    printf "$row" 'meanwhile' '50th, us' '99th, us' 'longest, us' 'long reply, us'
+    printf "$row" 'meanwhile' '50th, us' '99th, us' 'longest, us' 'their line, us' 'longest, us'
     waits "$each" | while read -r figures; do
         # shellcheck disable=SC2059,SC2086
         printf "$row" $figures

@@ -38,6 +38,7 @@ from build import PARTS, Build, Stopped, Toolchain, alone, free_memory, memory_o
 FUNCTION = re.compile(r"(\s*)(?:pub(?:\([^)]*\))? )?(?:const )?fn (\w+)")
 IMPL = re.compile(r"impl(?:<.*?>)? (?:(?:\w+::)*(\w+)(?:<.*>)? for )?(?:\w+::)*(\w+)")
 ITEM = re.compile(r"(pub(\([^)]*\))? )?(static|const|struct|enum|trait|mod|use) |\}")
+PROVED = re.compile(r"rt: (\w+) (?:proved$|is kept:)")  # kept: the same files were proved over the same libraries before
 MISSING_NAME = re.compile(r"has no field|is not in scope|has no `|was not admitted")
 
 
@@ -212,7 +213,8 @@ class Gate:
         """Whether these crates are proved and there is a lane, which then is taken; None where they won't be."""
         lines = self.said.read_text(errors="replace").splitlines() if self.said else ["ended"]
         has_ended = lines[-1:] == ["ended"]
-        if self.said and not {f"rt: {it.name} proved" for it in crates} <= {*lines}:
+        proved = {found[1] for found in map(PROVED.match, lines) if found}
+        if self.said and not {it.name for it in crates} <= proved:
             return None if has_ended else False
         with self.turn:
             if self.running >= (self.lanes if has_ended else max(1, self.lanes // 2)):

@@ -75,7 +75,7 @@ END
 #!/usr/bin/env bash
 while [ "$1" != -o ]; do shift; done
 # (the program tells each file of the repository that it was left with)
-printf '#!/bin/sh\necho "program: $*"\nls -l /proc/$$/fd | grep "crates/[a-z]*/out/proved"\ncat\nexit 7\n' >"$2"
+printf '#!/bin/sh\necho "program: $*"\n[ "$1" != memory ] || echo "$MALLOC_ARENA_MAX $MALLOC_MMAP_THRESHOLD_ $MALLOC_TRIM_THRESHOLD_"\nls -l /proc/$$/fd | grep "crates/[a-z]*/out/proved"\ncat\nexit 7\n' >"$2"
 chmod +x "$2"
 END
     echo "a kit" >"$work/kit/version"
@@ -127,6 +127,17 @@ builds_each_crate_once_and_runs_the_program() {
         [ "$(ended)" = "alone left low right rtsearch top " ] && [ "$(begun)" = "$(ended)" ] &&
         [ "$(grep -c '^rtsearch: [0-9]*:[0-9][0-9] [a-z]* begins, with [1-4] jobs\?$' "$said")" -eq 6 ] &&
         [ "$(grep -c '^rtsearch: [0-9]*:[0-9][0-9] [a-z]* is proved$' "$said")" -eq 6 ]
+}
+
+# Right behind a build, and later. Who runs the program may say otherwise.
+tells_how_to_keep_memory() {
+    local given
+    make_tree
+    for given in '' '' MALLOC_ARENA_MAX=2; do
+        as=(env ${given:+"$given"})
+        launch memory
+        tail -n +2 "$out"
+    done | tr '\n' ' ' | grep -qx '1 33554432 134217728 1 33554432 134217728 2 33554432 134217728 '
 }
 
 # Each is proved from nothing, over the statements of those below, and nothing but the program is compiled.
@@ -333,6 +344,7 @@ make_stand_in
 tell "each crate is built once, and the program runs" builds_each_crate_once_and_runs_the_program
 tell "two crates over one other are proved side by side" proves_side_by_side
 tell "a crate leaves its statements alone" keeps_statements_alone
+tell "the program is told how to keep memory, where nobody says otherwise" tells_how_to_keep_memory
 tell "a second start takes less than a second" starts_again_within_a_second
 tell "a build that is ended goes on" goes_on_after TERM 143
 tell "a build whose terminal is closed goes on" goes_on_after HUP 129

@@ -34,16 +34,19 @@ class Runner:
     """Runs the program with one allocation refused, or none where its number is 0."""
 
     def __init__(self, folder):
-        self.library, self.count = folder / "refuse.so", folder / "count"
+        self.library, self.count, self.bytes = folder / "refuse.so", folder / "count", folder / "bytes"
         subprocess.run(["cc", "-O1", "-shared", "-fPIC", "-o", self.library, ROOT / "checks/refuse.c"], check=True)
 
     def run(self, script, number):
-        env = dict(os.environ, REFUSE=str(number), REFUSE_COUNT=str(self.count), LD_PRELOAD=str(self.library))
+        env = dict(os.environ, REFUSE=str(number), REFUSE_COUNT=str(self.count), REFUSE_BYTES=str(self.bytes), LD_PRELOAD=str(self.library))
         ran = subprocess.run([PROGRAM, "script"], input=script, stdout=subprocess.PIPE, env=env, timeout=60)
         return ran.returncode, ran.stdout.decode("ascii").splitlines()
 
     def allocations(self):
         return int(self.count.read_text())
+
+    def bytes_asked_for(self):
+        return int(self.bytes.read_text())
 
 
 class Script:

@@ -18,15 +18,15 @@ Each run has to end by itself, within a minute. One allocation is refused in it,
 - One search is broken, since memory was refused to a letter that was handed in: its waits and polls say `broken`. Every
   other search is answered as ever, and the status is 0.
 - A worker ended, since memory was refused to a letter that it was to take, or to it as it began: the status is 1, and no
-  `served` line comes. Where it was the only one, nobody goes on with the searches: a `wait` for one that hasn't come to its
-  end says `working`, and so does each later one for it. Where there is another, all searches are answered as ever, unless
-  that other one couldn't be started: then too waits say `working`.
+  `served` line comes. Where it was the only one, or the other one couldn't be started, the service ends: a `wait` for a
+  search that hasn't come to its end says `working`, and from some time on no session has a reply any more. Where there is
+  another, all searches are answered as ever.
 
 After each of them every other line has to be answered as it follows from that: where `ask` was refused the next search has
-its number, and a proof of a search that is broken, or that nobody goes on with, is refused as 52. A `poll` may always say
-`working` where nobody has waited for the search. What a line is answered is taken from tenants.py and rt0.py, a second,
-plain reading of the protocol; of a proof any is taken that is one. Prints how many allocations were refused, and how the
-runs ended; the last line is `N passed, M failed`, a sweep each."""
+its number, and a proof of a search that is broken is refused as 52. A `poll` may always say `working` where nobody has
+waited for the search. What a line is answered is taken from tenants.py and rt0.py, a second, plain reading of the protocol;
+of a proof any is taken that is one. Prints how many allocations were refused, and how the runs ended; the last line is
+`N passed, M failed`, a sweep each."""
 import contextlib
 import copy
 import os
@@ -200,11 +200,14 @@ class Judge:
         self.halls = [hall]
         self.events = Counter()  # how often a line was answered by 90, a search by `broken`, and by `working`
         self.closed = set()
+        self.is_over = False  # whether a session was ended behind its first reply, as by a service that ends
 
     def takes(self, name, line, reply):
         """Whether this may be the reply to the line."""
         if reply is None:
             return self.takes_none(name, line)
+        if self.is_over:
+            return False
         if line.startswith(("poll", "proof")):
             self.halls += self.settled(name, line)  # the workers may have come to its end meanwhile
         before = copy.deepcopy(self.halls)
@@ -217,12 +220,12 @@ class Judge:
         return line.startswith(("wait", "poll")) and reply in (["broken"], ["working"]) and self.takes_unanswered(name, line, reply[0])
 
     def takes_none(self, name, line):
-        """A session is closed before its first reply, and stays so."""
-        if name in self.closed:
-            return True
-        if not line.startswith("hello"):
-            return False
-        self.closed.add(name)
+        """A session is closed before its first reply, and stays so; or the service ends, and nobody has a reply any more."""
+        if name not in self.closed:
+            if line.startswith("hello"):
+                self.closed.add(name)
+            else:
+                self.is_over = True
         return True
 
     def takes_memory(self, name, line):
@@ -239,15 +242,12 @@ class Judge:
         return halls
 
     def takes_unanswered(self, name, line, reply):
-        """The search that the line is about is broken, or nobody goes on with it."""
+        """The search that the line is about is broken, or nobody goes on with it, since the service ends."""
         for hall in self.halls:
             search = search_of(hall, name, line)
             if search is None or search.waited or search.broken:
                 return False
-            if reply == "broken":
-                search.broken = True
-            else:
-                search.settle = lambda: None  # it stays as it is
+            search.broken = reply == "broken"
         self.events[reply] += 1
         return True
 
@@ -258,10 +258,13 @@ class Judge:
             return "otherwise"
         seen = {**self.events, **({"closed": len(self.closed)} if self.closed else {})}
         if status == 0:
-            return next(iter(seen), "ample") if seen in ({}, {"lacked": 1}, {"broken": 1}, {"closed": 1}) else "otherwise"
+            is_right = not self.is_over and seen in ({}, {"lacked": 1}, {"broken": 1}, {"closed": 1})
+            return next(iter(seen), "ample") if is_right else "otherwise"
         if seen == {"closed": accept}:
             return "before"
-        return next(iter(seen), "unseen") if set(seen) <= {"working"} else "otherwise"
+        if self.is_over or self.events["working"]:
+            return "over" if set(seen) <= {"working", "closed"} else "otherwise"
+        return "unseen" if not seen else "otherwise"
 
 
 def ending(runner, ran):
@@ -287,7 +290,7 @@ ENDINGS = {
     "closed": "with a session that was closed before its first reply",
     "lacked": "with 90 at one line",
     "broken": "with a broken search",
-    "working": "with waits that said working",
+    "over": "with sessions that ended as the service did",
     "unseen": "with status 1 alone, a worker having ended after all was answered or beside another",
     "otherwise": "otherwise",
 }

@@ -1,36 +1,46 @@
 #!/usr/bin/env python3
 """Whether strangers can stop the proved program as a server, `rtsearch serve`: peers that connect and say nothing, that come
-and go, or that are gone while their session waits. All over 127.0.0.1, with few connections, in less than a minute.
+and go, or that are gone while their session waits. All over 127.0.0.1, with few connections. What has to come soon is tried
+up to five times, since a machine that does more is late: nobody is soon once who isn't ever.
 
   checks/strangers.py
 
 - Few descriptors: 20 silent peers connect to a server that may have 13 descriptors. A tenant is answered meanwhile, and
-  another one once they are gone. A server without a descriptor for its listener ends at once.
+  another one within half a second once they are gone, so the pauses between failed accepts are short. They are there: at many
+  looks no thread of the server runs or waits for a processor. A server without a descriptor for its listener ends at once.
+- Few threads: a server that can't start one of its threads, the first or the last worker or session, refuses peers, cuts
+  those that it has, and ends within a second, with status 1.
 - Idle peers: 8 silent peers have all 8 sessions of a server with `--idle 1`; they are cut, and a ninth peer is served. So is
-  one cut that stops within its hello, and one that takes no replies; one that waits for a long search isn't.
+  one cut that stops within its hello, and one that takes no replies, a second and two writes after it took its last byte; one
+  that waits for a long search isn't, nor one that takes its replies slowly.
 - Half-open peers: one that has said its last reads all its replies. Where a peer closes or resets while its session waits
-  for a search, that session is over within a second of the search's end.
+  for a search, that session is over within a second of the search's end. One that has sent 500,000 bytes behind its `quit`
+  reads `bye`, and then the end.
 - Passers-by: 200 connections come and go while each of 1,000 requests of a tenant is answered.
 - A closed listener: a server refuses peers once it has its last connection. One whose listener is at fault refuses them too;
-  it tells its waits `working`, ends its other sessions at their next line, and then itself, with status 1.
+  it tells four that wait `working` and cuts these sessions before their peers speak, ends its other sessions, also of peers that
+  say nothing or take nothing, and then itself within a second, with status 1.
 
-It prints a line for each, and last `N passed, M failed`; the status is 1 where one failed. It is part of ./check."""
+It prints a line for each, and last `N passed, M failed`; the status is 1 where one failed. It needs a C compiler, for
+checks/refuse_threads.c, and is part of ./check."""
 import array
 import contextlib
 import ctypes
 import fcntl
 import os
+import pathlib
 import random
 import resource
 import socket
 import struct
 import subprocess
 import sys
+import tempfile
 import termios
 import threading
 import time
 
-from peers import PATIENCE, ROOT, Server, Wrong, want
+from peers import PATIENCE, ROOT, Peer, Server, Wrong, want
 
 PROGRAM = ROOT / "crates/rtsearch/out/rtsearch"
 ROSTER = "tenant A a 100000 1 64 1000000 10000 100000000\ntenant B b\nbegin\n"
@@ -49,12 +59,30 @@ def until(holds, what):
         time.sleep(0.01)
 
 
+def soon(seconds_of, most, what, tries=5):
+    """How many seconds it takes at the least of so many tries, which has to be less than so many."""
+    least = PATIENCE
+    for _ in range(tries):
+        least = min(least, seconds_of())
+        if least < most:
+            return least
+    raise Wrong(f"{what} takes {least:.2f} seconds")
+
+
 def is_cut(peer):
     """Whether nothing more comes, and the connection ends."""
     try:
         return peer.socket.recv(1) == b""
     except ConnectionResetError:
         return True
+
+
+def ends(peer):
+    """Whether the connection ends, whatever comes before that."""
+    with contextlib.suppress(ConnectionResetError):
+        while peer.socket.recv(1 << 20):
+            pass
+    return True
 
 
 def reset(peer):
@@ -107,36 +135,117 @@ def no_descriptor():
         want((process.stdout.read(), process.wait(PATIENCE)), (b"", 1), "a server without a descriptor for its listener")
 
 
-def few_descriptors(silent=20, most=13):
+def rests(process):
+    """Whether none of its threads runs, or waits for a processor."""
+    threads = f"/proc/{process.pid}/task"
+    states = [pathlib.Path(f"{threads}/{thread}/stat").read_text().rpartition(")")[2].split()[0] for thread in os.listdir(threads)]
+    return "R" not in states
+
+
+def share_of_rest(process, looks=60):
+    """How often of so many looks, a hundredth of a second apart, it rests."""
+    rested = 0
+    for _ in range(looks):
+        time.sleep(0.01)
+        rested += rests(process)
+    return rested / looks
+
+
+def after_silent_peers(silent, most):
+    """How many seconds a peer waits that comes once silent peers have gone, which took all descriptors."""
     with Server(ROSTER, silent + 2) as server:
         resource.prlimit(server.process.pid, resource.RLIMIT_NOFILE, (most, most))
         with server.peer() as tenant:
             greet(tenant, "A")
             strangers = [server.peer() for _ in range(silent)]
             until(lambda: len(os.listdir(f"/proc/{server.process.pid}/fd")) == most, "the server has all descriptors that it may have")
+            rested = []
             for number in (1, 2):
-                time.sleep(0.5)
+                rested.append(share_of_rest(server.process))
                 ask_and_wait(tenant, "A", number, "a tenant beside silent peers")
             for stranger in strangers:
                 stranger.__exit__()
+        left = time.monotonic()
         with server.peer() as tenant:
             greet(tenant, "B")
+            came = time.monotonic() - left
             ask_and_wait(tenant, "B", 1, "a tenant after silent peers")
+    want(max(rested) > 0.1, True, f"the server pauses between accepts that fail: it rests for {max(rested):.2f} of the time")
+    return came
+
+
+def few_descriptors(silent=20, most=13):
+    soon(lambda: after_silent_peers(silent, most), 0.5, "a pause between accepts")
     no_descriptor()
     return f"{silent} silent peers and {most} descriptors: a tenant is answered beside them, and another one after them"
+
+
+# few threads
+
+
+def lacks_thread(library, environment, what):
+    """How long after its refusal a server has ended that can't start this thread. Meanwhile two peers have connected."""
+    environment = dict(os.environ, LD_PRELOAD=library, REFUSE_AFTER="300", **environment)
+    with subprocess.Popen([PROGRAM, "serve"], stdin=subprocess.PIPE, stdout=subprocess.PIPE, env=environment) as process:
+        process.stdin.write(ROSTER.encode("ascii"))
+        process.stdin.close()
+        port = int(process.stdout.readline().rpartition(b":")[2])
+        with Peer(port) as silent, Peer(port) as greeted:
+            greeted.say("hello A a")
+            time.sleep(0.3)
+            began = time.monotonic()
+            until(lambda: process.poll() is not None, f"a server without {what} ends")
+            seconds = time.monotonic() - began
+            want((process.stdout.read(), process.wait()), (b"", 1), f"a server without {what}")
+            want(ends(silent) and ends(greeted), True, f"the peers of a server without {what} are cut")
+    with contextlib.suppress(ConnectionRefusedError):
+        Peer(port).__exit__()
+        raise Wrong(f"the port is open though {what} couldn't be started")
+    return seconds
+
+
+def few_threads(workers=4, sessions=8):
+    with tempfile.TemporaryDirectory() as folder:
+        library = f"{folder}/refuse_threads.so"
+        subprocess.run(["cc", "-O1", "-shared", "-fPIC", "-o", library, ROOT / "checks/refuse_threads.c"], check=True)
+        lacks = [
+            ({"REFUSE_FIRST": "1"}, "a thread for its workers"),
+            ({"REFUSE_OTHERS": "1"}, "its first worker"),
+            ({"REFUSE_OTHERS": str(workers)}, "its last worker"),
+            ({"REFUSE_FIRST": "2"}, "its first session"),
+            ({"REFUSE_FIRST": str(1 + sessions)}, "its last session"),
+        ]
+        after = [soon(lambda: lacks_thread(library, *thread), 1, f"the end of a server without {thread[1]}") for thread in lacks]
+    return f"a server that lacks one of {len(after)} threads ends with its sessions {1000 * max(after):.0f} ms after that at most"
 
 
 # idle peers
 
 
-def takes_nothing(server):
-    """Asks for more than can be on its way, and takes nothing of it, until it can't ask any more."""
-    with server.peer() as peer:
+def takes_nothing():
+    """Asks for more than can be on its way, and takes nothing of it, until it can't ask any more. How long that is."""
+    with Server(ROSTER, 1, "--idle", "1") as server, server.peer() as peer:
         greet(peer, "A")
         peer.socket.settimeout(PATIENCE)
+        began = time.monotonic()
         with contextlib.suppress(BrokenPipeError, ConnectionResetError):
             while True:
                 peer.send(b"vault\n" * 1000)
+        return time.monotonic() - began
+
+
+def takes_slowly(server, times=24, a_second=400_000):
+    """Asks for more than can be on its way, and takes so many bytes a second of it."""
+    with server.peer() as peer:
+        greet(peer, "A")
+        peer.send(b"vault\n" * 300)
+        for _ in range(times):
+            time.sleep(0.25)
+            left = a_second // 4
+            while left > 0:
+                piece = peer.socket.recv(left)
+                want(piece != b"", True, "a peer that takes its replies slowly isn't cut")
+                left -= len(piece)
 
 
 def idle_peers(silent=8):
@@ -149,7 +258,7 @@ def idle_peers(silent=8):
             ask_and_wait(ninth, "B", 1, "the ninth peer")
         for stranger in strangers:
             want(is_cut(stranger), True, "a silent peer is cut")
-        want(0.9 < served < 10, True, f"the ninth peer is served in its time, after {served:.1f} seconds")
+        want(0.9 < served, True, f"a silent peer has its second: the ninth is served after {served:.1f}")
         with server.peer() as peer:
             peer.send(b"hel")
             want(is_cut(peer), True, "a peer that stops within its hello is cut")
@@ -160,8 +269,13 @@ def idle_peers(silent=8):
             began = time.monotonic()
             want(peer.ask("wait 1")[0].split()[0], "members", "a wait that is longer than peers may be idle")
             waited = time.monotonic() - began
-        takes_nothing(server)
-    return f"{silent} silent peers are cut after a second, and a ninth is served after {served:.1f}; a peer that waits for {waited:.1f} isn't cut"
+        takes_slowly(server)
+    taken = soon(takes_nothing, 2, "the end of a peer that takes nothing")
+    want(0.9 < taken, True, f"a peer that takes nothing has its second: it is cut after {taken:.1f}")
+    return (
+        f"{silent} silent peers are cut after a second, and a ninth is served after {served:.1f}; one that takes nothing is cut after "
+        f"{taken:.1f}; one that waits for {waited:.1f} isn't cut, nor one that takes slowly"
+    )
 
 
 # half-open peers
@@ -174,6 +288,14 @@ def last_word():
         put_chain(peer)
         peer.send(b"ask A.c0 E7\nwait 1\nsees")
         want(peer.rest().decode("ascii"), "search 1\nyes\nsees A\n", "a peer that has said its last")
+
+
+def says_more_than_quit(server, more=500_000):
+    """A peer has sent more behind its last line, which nobody reads."""
+    with server.peer() as peer:
+        sender = peer.send_beside(b"hello A a\nquit\n" + b"x" * more)
+        want(peer.lines.read().decode("ascii"), "hello A\nbye\n", "a peer that has sent more behind its quit")
+        sender.join()
 
 
 def gone(leave):
@@ -198,12 +320,17 @@ def gone(leave):
             return time.monotonic() - ended
 
 
-def half_open():
+def half_open(goodbyes=5):
     last_word()
-    after = [gone(lambda peer: None), gone(reset)]
-    want(max(after) < 1, True, f"the places of peers that have gone are free within a second, after {after}")
+    with Server(ROSTER, goodbyes) as server:
+        for _ in range(goodbyes):
+            says_more_than_quit(server)
+    after = [soon(lambda: gone(leave), 1, "the place of a peer that has gone") for leave in (lambda peer: None, reset)]
     milliseconds = " and ".join(f"{1000 * seconds:.0f}" for seconds in after)
-    return f"a peer that has said its last reads all; one that closes and one that resets in a wait leave their places {milliseconds} ms after its end"
+    return (
+        f"a peer that has said its last reads all, and so do {goodbyes} that send more behind their quit; one that closes and one that "
+        f"resets in a wait leave their places {milliseconds} ms after its end"
+    )
 
 
 # passers-by
@@ -248,51 +375,69 @@ def passers_by(count=200, requests=1000):
 # a closed listener
 
 
-def listener_of(process):
-    """The server's listener, also in the hands of this process; None where the system doesn't lend it."""
+def lent_sockets(process):
+    """The server's sockets, also in the hands of this process; none where the system doesn't lend them."""
     call = ctypes.CDLL(None, use_errno=True).syscall
     with open(os.pidfd_open(process.pid), "rb", buffering=0) as there:
         for number in sorted(map(int, os.listdir(f"/proc/{process.pid}/fd"))):
             ours = call(PIDFD_GETFD, there.fileno(), number, 0)
             if ours < 0:
-                return None
+                return
             if os.path.realpath(f"/proc/self/fd/{ours}").rpartition("/")[2].startswith("socket:"):
-                lent = socket.socket(fileno=ours)
-                if lent.getsockopt(socket.SOL_SOCKET, socket.SO_ACCEPTCONN):
-                    return lent
-                lent.close()
+                yield socket.socket(fileno=ours)
             else:
                 os.close(ours)
-    raise Wrong("the server has no listener")
+
+
+def listener_of(process):
+    """The server's listener, also in the hands of this process; None where the system doesn't lend it."""
+    lent = list(lent_sockets(process))
+    listeners = [each for each in lent if each.getsockopt(socket.SOL_SOCKET, socket.SO_ACCEPTCONN)]
+    for each in lent:
+        if each not in listeners:
+            each.close()
+    if lent and not listeners:
+        raise Wrong("the server has no listener")
+    return listeners[0] if listeners else None
+
+
+def lends():
+    """Whether the system lends a server's listener."""
+    with Server(ROSTER, 1) as server, server.peer():
+        lent = listener_of(server.process)
+        if lent is not None:
+            lent.close()
+        return lent is not None
 
 
 def at_fault():
-    """The listener is told not to wait for connections any more, which is a fault of its own. Whether that could be tried."""
+    """The listener is told not to wait for connections any more, which is a fault of its own. After how many seconds all ends."""
     server = Server(ROSTER, 1_000_000)
     try:
         lent = listener_of(server.process)
-        if lent is None:
-            return False
-        with server.peer() as waits, server.peer() as reads, server.peer() as silent:
-            greet(waits, "A")
-            greet(reads, "B")
-            put_chain(waits, 9000)
-            want(waits.ask("who A.c0"), ["search 1"], "a long search")
-            waits.say("wait 1")
+        with contextlib.ExitStack() as peers:
+            reads, silent, full, *wait = [peers.enter_context(server.peer()) for _ in range(7)]
+            for peer, name in zip([reads, full, *wait], "BAAAAA"):
+                greet(peer, name)
+            put_chain(wait[0], 9000)
+            want(wait[0].ask("who A.c0"), ["search 1"], "a long search")
+            full.send(b"vault\n" * 500)
+            for peer in wait:
+                peer.say("wait 1")
             time.sleep(0.1)
             lent.setblocking(False)
             lent.close()
             until(lambda: is_refused(server), "peers are refused once the listener is at fault")
-            want(server.process.poll(), None, "the server's sessions go on")
-            want(waits.reply(), ["working"], "a wait at the stop")
-            for peer in (waits, reads):
-                with contextlib.suppress(ConnectionError):
-                    peer.say("sees")
-                want(is_cut(peer), True, "a session that reads ends at its next line")
-            want(server.process.poll(), None, "a session whose peer says nothing goes on")
-            silent.__exit__()
-        want((server.process.stdout.read(), server.process.wait(PATIENCE)), (b"", 1), "the server's end")
-        return True
+            began = time.monotonic()
+            for peer in wait:
+                want(peer.reply(), ["working"], "a wait at the stop")
+                want(is_cut(peer), True, "a session that comes to read after the stop ends before its peer speaks")
+            for peer in (reads, silent):
+                want(is_cut(peer), True, "a session that reads ends")
+            want((server.process.stdout.read(), server.process.wait(PATIENCE)), (b"", 1), "the server's end")
+            ended = time.monotonic()
+            want(ends(full), True, "a session whose peer takes nothing ends")
+        return ended - began
     finally:
         server.process.kill()
         server.process.wait()
@@ -303,14 +448,17 @@ def closed_listener():
         greet(last, "A")
         until(lambda: is_refused(server), "peers are refused after the last connection")
         ask_and_wait(last, "A", 1, "the last connection")
-    tried = at_fault()
-    faulty = "and so are they where the listener is at fault" if tried else "a listener at fault wasn't tried: the system lends none"
+    faulty = "a listener at fault wasn't tried: the system lends none"
+    if lends():
+        after = soon(at_fault, 1, "the end of a server whose listener is at fault")
+        faulty = f"and so are they where the listener is at fault, and all ends after {1000 * after:.0f} ms"
     return f"peers are refused after the last connection, {faulty}"
 
 
 def main():
     checks = {
         "few descriptors": few_descriptors,
+        "few threads": few_threads,
         "idle peers": idle_peers,
         "half-open peers": half_open,
         "passers-by": passers_by,

@@ -26,6 +26,8 @@ PROGRAM = "rtsearch"
 PARTS = ("src", "specs", "proofs")
 MOST_JOBS = 4  # of one crate: more was never measured
 TARGET = "x86_64-unknown-linux-gnu"
+# how the C library keeps the program's memory, as the launcher has it
+MEMORY = {"MALLOC_ARENA_MAX": "1", "MALLOC_MMAP_THRESHOLD_": "33554432", "MALLOC_TRIM_THRESHOLD_": "134217728"}
 
 
 class Stopped(Exception):
@@ -296,6 +298,8 @@ def main():
     signal.signal(signal.SIGTERM, lambda *_: sys.exit(143))
     signal.signal(signal.SIGHUP, lambda *_: sys.exit(129))
     program = build()
+    for name, value in MEMORY.items():
+        os.environ.setdefault(name, value)
     os.execv(program, [str(program), *sys.argv[1:]])
 
 

@@ -93,3 +93,12 @@ fault_round (Some (before, after)) = or_then (head_fault (trim before)) (body_fa
 -- too long, no arrow, then the faults of the head, then those of the body
 abbrev pub refusal : List ℕ → Option CredFault
 refusal text = if nat_lt 4096 (length text) then Some faults.Long else fault_round (split_arrow text)
+
+-- several parts stand after the arrow
+abbrev pub several_after : Option (List ℕ × List ℕ) → Bool
+several_after None = false
+several_after (Some (before, after)) = nat_lt 1 (length (part_texts after))
+
+-- the text has an arrow, and several parts behind it
+abbrev pub has_parts : List ℕ → Bool
+has_parts text = several_after (split_arrow text)

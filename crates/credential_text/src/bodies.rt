@@ -1,4 +1,4 @@
-ghost use Rattle.std.specs.Prelude.{◌≡◌, ◌≢◌, ◌<◌, ◌≤◌, ◌||◌, not, nat_lt, length, take, Some, None, IfOk, IfErr, IsErrOf};
+ghost use Rattle.std.specs.Prelude.{◌≡◌, ◌≢◌, ◌<◌, ◌≤◌, ◌||◌, not, nat_lt, length, take, Some, None, IfOk, IfErr, OnErr, IsErrOf};
 ghost use Rattle.std.specs.List.{list_any};
 ghost use Rattle.names.specs.Name.{IsName};
 ghost use Rattle.names.specs.Fault.{name_fault, or_then};
@@ -93,6 +93,7 @@ fn expr_of(alloc: Global, parts: &[Part]) -> Result<Expr, AllocError>
     requires few { length parts.now ≤ 8 }
     ensures parts { IfOk result (λ e. expr_parts e ≡ parts.now) }
     ensures range { IfOk result (λ e. HasPartsInRange e) }
+    ensures growth { OnErr result (1 < length parts.now) }
 {
     if let [part] = parts {
         return Ok(part.expr());
@@ -102,11 +103,12 @@ fn expr_of(alloc: Global, parts: &[Part]) -> Result<Expr, AllocError>
 }
 
 /// The expression that the text after the arrow spells in a credential whose head has this owner. The parts are all
-/// read before any memory is taken.
+/// read before any memory is taken, and one part takes none.
 pub fn read_body(alloc: Global, owner: &Entity, body: &[u8]) -> Result<Expr, CredFault>
     ensures body { IfOk result (λ e. ReadsBody owner.now body.now e) }
     ensures refused { IfErr result (λ f. f ≢ faults.Memory → body_fault owner.now body.now ≡ Some f) }
     ensures memory_last { IsErrOf result faults.Memory → body_fault owner.now body.now ≡ None }
+    ensures growth { IsErrOf result faults.Memory → 1 < length (part_texts body.now) }
 {
     if is_blank(body) {
         return Err(CredFault::BodyEmpty);

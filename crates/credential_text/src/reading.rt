@@ -1,8 +1,8 @@
-ghost use Rattle.std.specs.Prelude.{◌≡◌, ◌≢◌, ◌≤◌, length, Some, None, IfOk, IfErr, IsErrOf, MatchOption};
+ghost use Rattle.std.specs.Prelude.{◌≡◌, ◌≢◌, ◌≤◌, length, Some, None, IfOk, IfErr, IsErrOf, IsTrue, MatchOption};
 ghost use Rattle.names.specs.Role.{SpellsRole};
 ghost use Rattle.credential_text.specs.declared.faults.CredFault.TheVariants as faults;
 ghost use Rattle.credential_text.specs.Spelling.{Spells};
-ghost use Rattle.credential_text.specs.Refusal.{split_arrow, head_fault, refusal};
+ghost use Rattle.credential_text.specs.Refusal.{split_arrow, head_fault, refusal, has_parts};
 
 use crate::bodies::read_body;
 use crate::credentials::Credential;
@@ -37,11 +37,13 @@ fn read_head(head: &[u8]) -> Result<Role, CredFault>
     }
 }
 
-/// The credential that the text spells, or the first fault of the text. Want of memory comes last.
+/// The credential that the text spells, or the first fault of the text. Want of memory comes last, and only where the body has
+/// several parts.
 pub fn read_credential(alloc: Global, text: &[u8]) -> Result<Credential, CredFault>
     ensures read { IfOk result (λ c. Spells text.now c × (length text.now ≤ 4096)) }
     ensures refused { IfErr result (λ f. f ≢ faults.Memory → refusal text.now ≡ Some f) }
     ensures memory_last { IsErrOf result faults.Memory → refusal text.now ≡ None }
+    ensures growth { IsErrOf result faults.Memory → IsTrue (has_parts text.now) }
 {
     if text.len() > MOST_BYTES {
         return Err(CredFault::Long);

@@ -1,5 +1,5 @@
 -- A change of a tenant: the limits, then the journal's own refusals, then want of memory.
-use Rattle.std.proofs.Common.{Bool, true, false, ◌≡◌, ◌∙◌, ◌+◌, ◌++◌, ◌∷◌, [], ℕ, List, length, ap, sym, refl, subst, Option, Some, None, option_map, unwrap_or}
+use Rattle.std.proofs.Common.{Bool, true, false, ◌≡◌, ◌∙◌, ◌+◌, ◌++◌, ◌∷◌, [], ℕ, List, length, ap, sym, refl, Option, Some, None, option_map, unwrap_or}
 use Rattle.std.proofs.lemmas.List.{length-append}
 use Rattle.std.specs.FinMap.{get}
 use Rattle.vaults.specs.declared.changes.Change.{Change}
@@ -13,9 +13,8 @@ use Rattle.hall.specs.declared.faults.Fault.TheVariants.{Memory}
 use Rattle.hall.specs.declared.calls.requests.Request.TheVariants.{Alter}
 use Rattle.hall.specs.declared.calls.replies.Reply.TheVariants.{Counted, Refused}
 use Rattle.hall.specs.Fault.{vault_fault}
-use Rattle.hall.specs.Account.{alter_refusal}
-use Rattle.hall.specs.Answers.{refuses, grants, lacks}
-use Rattle.hall.specs.Hall.{Tenant, HallState, account, AnswersTo, IsServed}
+use Rattle.hall.specs.Answers.{alter_refusal, refuses, grants, lacks}
+use Rattle.hall.specs.Hall.{Tenant, HallState, account, IsServed}
 use Rattle.hall.proofs.Polled.{answered_by}
 
 -- what failed revokes nothing, where a revocation doesn't fail
@@ -43,8 +42,7 @@ module _ (h : HallState) (who : List ℕ) (change : Change) (t : Tenant) (here :
             refused_alter f (within ∙ ap (option_map vault_fault) due
             ∙ ap Some (sym (is ∙ ap vault_fault own ∙ ap (λ (p : Option VaultFault). vault_fault (unwrap_or p vault.Memory)) due)))
         by None none =
-            subst (λ (e : Fault). IsServed h who (Alter change) (Refused e) h)
-            (sym (is ∙ ap vault_fault own ∙ ap (λ (p : Option VaultFault). vault_fault (unwrap_or p vault.Memory)) none))
+            rw (is ∙ ap vault_fault own ∙ ap (λ (p : Option VaultFault). vault_fault (unwrap_or p vault.Memory)) none)
             (answered_by h who t here (Alter change) (Refused Memory) (lacks (clear none) (may none)) refl)
 
     -- a change that is entered
@@ -52,8 +50,8 @@ module _ (h : HallState) (who : List ℕ) (change : Change) (t : Tenant) (here :
         after ≡ h.journal ++ record { tenant = who; change = change } ∷ [] → n ≡ length (entries_of who after) →
         IsServed h who (Alter change) (Counted n) (record { journal = after; tenants = h.tenants })
     accepted n after none entered counted = record {
-      answers = subst (λ (o : Option Tenant). AnswersTo h who (option_map (account h.journal who) o) (Alter change) (Counted n) (option_map (account after who) o))
-          (sym here) (account after who t, refl, grants (clear none) (ap Counted number, ap (λ (es : List Entry). record (account h.journal who t) { entries = es }) own));
+      answers = rw here
+          (account after who t, refl, grants (clear none) (ap Counted number, ap (λ (es : List Entry). record (account h.journal who t) { entries = es }) own));
       after = ap (λ (j : List Entry). record h { journal = j }) entered;
     }
       where

@@ -1,46 +1,50 @@
--- Letters of a batch: which they are, how they are taken in a row, and how they are handed in.
-use Rattle.std.proofs.Common.{◌≡◌, ◌∙◌, ◌+◌, ◌++◌, ◌∷◌, ◌<◌, ℕ, Bool, true, false, List, [], length, map, get_or, take, ap, sym, subst, refl, inl, inr, arith, None, Some, Option, option_map, if◌then◌else◌}
-use Rattle.std.specs.Prelude.{slice_get, slice_set}
-use Rattle.std.specs.List.{AllWithin}
+-- Letters of a batch: which they are, how they are looked up, and how they are taken and handed in one after another.
+use Rattle.std.proofs.Common.{subst₂, ◌≡◌, ◌∙◌, ◌+◌, ◌++◌, ◌∷◌, ◌<◌, ◌≤◌, ◌⊎◌, ℕ, Bool, true, false, List, [], length, map, get_or, take, ap, sym, subst, refl, inl, inr, arith, None, Some, Option, option_map, if◌then◌else◌, length-append, cond}
+use Rattle.std.specs.Prelude.{slice_get, slice_set, count_by, IsTrue, ◌↔◌}
+use Rattle.std.specs.List.{filter_map}
 use Rattle.std.proofs.Math.Seq.{map-set_same}
 use Rattle.std.proofs.lemmas.Bool.{cases_eq}
-use Rattle.std.proofs.lemmas.List.{map_more, length-map, length-set, get_or-set_same, get_or-set_other}
-use Rattle.std.proofs.lemmas.List.Elements.{All-map}
-use Rattle.std.proofs.lemmas.Option.{same_Some, slice_get-map}
-use Rattle.hall.specs.declared.batches.HeldLetter.{HeldLetter}
-use Rattle.hall.specs.declared.batches.NamedSearch.{NamedSearch}
-use Rattle.search.specs.declared.queries.Hint.{Hint}
-use Rattle.scholten_core.specs.declared.letters.Letter.{Letter}
+use Rattle.std.proofs.lemmas.List.{map_more, map-append, length-set, get_or-set_same, get_or-set_other}
+use Rattle.std.proofs.lemmas.List.Elements.{filter_map-append}
+use Rattle.std.proofs.lemmas.List.Sums.{sum_by-append}
+use Rattle.std.proofs.lemmas.Option.{slice_get-map}
 use Rattle.std.specs.Arc.{arc_value}
-use Rattle.search.specs.Finish.{right_hint}
-use Rattle.search.specs.Net.{Said}
-use Rattle.search.specs.Stage.{held_in, stage_marked}
-use Rattle.search.specs.Search.{SearchState}
-use Rattle.hall.specs.Batches.{TakenLetter, BatchState, IsBatch, IsLookedUp, IsLookedUpIn, IsNextLetter, AreOf, name_of, taken_of, letters_of}
-use Rattle.hall.specs.Batches.{MakesStep, WorksOn, HandsInAs, HandsInEach, PutsBack}
+use Rattle.scholten_core.specs.declared.letters.Letter.{Letter}
+use Rattle.search.specs.declared.{queries.Hint.Hint, queries.Need.Need, stages.Stage.Stage}
+use Rattle.search.specs.{Finish.right_hint, Net.Said, Search.SearchState, Search.IsSoundStage, Stage.held_in, Stage.stage_marked, Stage.Delivers}
+use Rattle.hall.specs.declared.batches.{HeldLetter.HeldLetter, NamedSearch.NamedSearch}
+use Rattle.hall.specs.declared.calls.steps.{Step.Step, Stepped.Stepped}
+use Rattle.search.specs.declared.outcomes.Finished.{Finished}
+use Rattle.search.specs.declared.outcomes.Finished.TheVariants as finished
+use Rattle.hall.specs.Steps.{StepsEach, PutsBack, finish_answer, gave_back}
+use Rattle.hall.specs.Batches.{Named, BatchState, batch_of, IsBatch, IsLookedUpIn, IsNextLetter, named, letter_of}
+use Rattle.hall.specs.Work.{HandsIn, GoesOn, handing_in, going_on, went_on, is_done}
+use Rattle.hall.specs.Working.{HandsInOne, MakesStep}
+use Rattle.hall.proofs.InRow.{each_more}
 
 -- what a batch of these fields is
 abbrev pub batch : Option NamedSearch → List HeldLetter → ℕ → ℕ → BatchState
-batch of es looked room = record { of = option_map name_of of; letters = letters_of of es; looked = looked; room = room }
+batch of es looked room = record { of = option_map named of; letters = map letter_of es; looked = looked; room = room }
 
--- the letters are of the batch's search
-pub all_of : (of : NamedSearch) (es : List HeldLetter) → AreOf (Some (name_of of)) (map (taken_of of) es)
-all_of of es = All-map (λ (l : TakenLetter). (l.who ≡ of.who) × (l.number ≡ of.number)) (taken_of of) es (λ k d within. (refl, refl))
+-- a batch of letters that were just taken
+pub filled : (o : Option NamedSearch) (of : Named) (es : List HeldLetter) (has room : ℕ) → option_map named o ≡ Some of → (es ≡ [] → ⊥) → has ≡ room →
+    batch o es 0 has ≡ batch_of of (map letter_of es) room
+filled o of [] has room is some same = absurd (some refl)
+filled o of (e ∷ es) has room is some same = λ i. record { of = is i; letters = map letter_of (e ∷ es); looked = 0; room = same i }
 
-pub none_in : (of : Option NamedSearch) (es : List HeldLetter) (looked : ℕ) → IsBatch of es looked → letters_of of es ≡ [] → es ≡ []
-none_in None es looked is none = is.0
-none_in (Some of) [] looked is none = refl
-none_in (Some of) (e ∷ es) looked is none = cc
+pub filled_none : (of : Named) (es : List HeldLetter) (has room : ℕ) → es ≡ [] → has ≡ room → batch None es 0 has ≡ batch_of of (map letter_of es) room
+filled_none of [] has room none same = λ i. record { of = None; letters = []; looked = 0; room = same i }
+filled_none of (e ∷ es) has room none same = cc
 
 -- the letter that is looked up next
-pub next_letter : (of : Option NamedSearch) (es : List HeldLetter) (looked room : ℕ) (e : HeldLetter) → slice_get es looked ≡ Some e → IsBatch of es looked →
+pub next_letter : (of : Option NamedSearch) (es : List HeldLetter) (looked room : ℕ) (e : HeldLetter) → slice_get es looked ≡ Some e →
     IsNextLetter (batch of es looked room) e.letter
-next_letter None es looked room e at is = let clash : None ≡ Some e = subst (λ (xs : List HeldLetter). slice_get xs looked ≡ Some e) is.0 at in cc
-next_letter (Some of) es looked room e at is = (taken_of of e, slice_get-map (taken_of of) es looked ∙ ap (option_map (taken_of of)) at, refl, refl)
+next_letter of es looked room e at = (e.need, slice_get-map letter_of es looked ∙ ap (option_map letter_of) at)
 
-pub within_held : (o : Option NamedSearch) (of : NamedSearch) (es : List HeldLetter) (n : ℕ) → o ≡ Some of → n < length (letters_of o es) → n < length es
-within_held None of es n is within = cc
-within_held (Some other) of es n is within = let long = length-map es (taken_of other) in omega (arith, within, long)
+-- where a letter is left to look up a search is named
+pub names_one : (o : Option NamedSearch) (es : List HeldLetter) (looked : ℕ) → IsBatch o es looked → looked < length es → o ≡ None → ⊥
+names_one None es looked is within none = omega (arith, within, ap length is.0)
+names_one (Some of) es looked is within none = cc
 
 module _ (of : NamedSearch) (es : List HeldLetter) (looked room : ℕ) (e : HeldLetter) (hint : Hint) (at : e ≡ get_or es looked e) (within : looked < length es) where
   abbrev pub with_hint : List HeldLetter
@@ -49,37 +53,19 @@ module _ (of : NamedSearch) (es : List HeldLetter) (looked room : ℕ) (e : Held
   -- what is looked up for a letter changes none
   pub looked_up_batch : batch (Some of) with_hint (looked + 1) room ≡ record (batch (Some of) es looked room) { looked = looked + 1 }
   looked_up_batch =
-      ap (λ (ls : List TakenLetter). record (batch (Some of) es looked room) { letters = ls; looked = looked + 1 })
-      (map-set_same (taken_of of) es looked (record e { hint = hint }) e (ap (taken_of of) at))
+      ap (λ (ls : List (ℕ × Need)). record (batch (Some of) es looked room) { letters = ls; looked = looked + 1 })
+      (map-set_same letter_of es looked (record e { hint = hint }) e (ap letter_of at))
 
   -- the letter has its right hint then, as those before it
   pub looked_up_more : hint ≡ right_hint (arc_value of.snapshot).vaults e.need → IsBatch (Some of) es looked → IsBatch (Some of) with_hint (looked + 1)
   looked_up_more right is = (
+    λ none. omega (arith, within, length-set es looked (record e { hint = hint }), ap length none),
     omega (arith, length-set es looked (record e { hint = hint }), within),
     λ k d first below. elim (cases_eq k looked) [
       | inl same ↦ subst (IsLookedUpIn of) (sym (ap (λ j. get_or with_hint j d) same ∙ get_or-set_same es looked (record e { hint = hint }) d within)) right
-      | inr other ↦ subst (IsLookedUpIn of) (sym (get_or-set_other es looked k (record e { hint = hint }) d other)) (is.1 k d first (omega (arith, below, other)))
+      | inr other ↦ subst (IsLookedUpIn of) (sym (get_or-set_other es looked k (record e { hint = hint }) d other)) (is.2 k d first (omega (arith, below, other)))
     ],
   )
-
--- the letters of a search, and what is said of them by a batch that has them
-module _ (of : NamedSearch) (o : Option NamedSearch) (es : List HeldLetter) (looked room : ℕ) (b : BatchState) (is : batch o es looked room ≡ b) (some : o ≡ Some of) where
-  pub its_letters : map (taken_of of) es ≡ b.letters
-  its_letters = ap (λ (x : Option NamedSearch). letters_of x es) (sym some) ∙ ap (λ (x : BatchState). x.letters) is
-
-  pub all_looked_up : IsBatch o es looked → IsLookedUp b → AllWithin (IsLookedUpIn of) es 0 (length es)
-  all_looked_up kept all =
-      let inside = subst (λ (x : Option NamedSearch). IsBatch x es looked) some kept in
-      let every : looked ≡ length es = ap (λ (x : BatchState). x.looked) is ∙ all ∙ ap length (sym its_letters) ∙ length-map es (taken_of of) in
-      subst (AllWithin (IsLookedUpIn of) es 0) every inside.1
-
-  -- what is handed in is handed in by the batch's name
-  pub hands_in : (back : Bool) (s t : SearchState) (n : ℕ) (read : List HeldLetter) → read ≡ es → HandsInEach of.who of.number back s (map (taken_of of) read) n t →
-      (who : List ℕ) (k : ℕ) → b.of ≡ Some (who, k) → HandsInEach who k back s b.letters n t
-  hands_in back s t n read reads hands who k named =
-      let same = ap (option_map name_of) (sym some) ∙ ap (λ (x : BatchState). x.of) is ∙ named in
-      subst (λ (m : List ℕ × ℕ). HandsInEach m.0 m.1 back s b.letters n t) (same_Some (name_of of) (who, k) same)
-      (subst (λ (ls : List TakenLetter). HandsInEach of.who of.number back s ls n t) (ap (map (taken_of of)) reads ∙ its_letters) hands)
 
 -- by what the search answered
 pub puts_back : (s t : SearchState) (number : ℕ) (back : Bool) → (back ≡ false → held_in s.stage number ≡ None) → (back ≡ false → t ≡ s) →
@@ -88,18 +74,84 @@ pub puts_back : (s t : SearchState) (number : ℕ) (back : Bool) → (back ≡ f
 puts_back s t number false held same waits = (held refl, same refl)
 puts_back s t number true held same waits = waits refl
 
+-- a search that delivered a signal runs soundly
+pub delivered_sound : (old new : Stage) → Delivers old new 0 true → IsSoundStage new
+delivered_sound old new (c, d, ran, runs, there, delivers) = subst IsSoundStage (sym runs) delivers.sound
+
+-- nothing was done yet
+pub none_made : (s : SearchState) (name : List ℕ × ℕ) → GoesOn (StepsEach s s) name 0 ⊥ []
+none_made s name = record { moves = []; steps = refl; taken = refl; within = omega arith; whole = inl refl }
+
+pub none_handed_in : (s : SearchState) (back : Bool) (of : Named) → HandsIn (StepsEach s s) back of [] 0
+none_handed_in s back of = record { answers = []; steps = refl; count = refl }
+
+exactly : (n m : ℕ) → (n ≡ m) ⊎ ⊥ → n ≡ m
+exactly n m (inl is) = is
+exactly n m (inr none) = absurd none
+
 -- one step more
-pub one_more : (who : List ℕ) (k : ℕ) (s : SearchState) (n : ℕ) (before holds : List TakenLetter) (middle t : SearchState) → WorksOn who k s n before middle →
-    MakesStep who k before holds middle true t → WorksOn who k s (n + 1) holds t
-one_more who k s n before holds middle t works (inl (signals, same)) = subst (λ (ls : List TakenLetter). WorksOn who k s (n + 1) ls t) (sym same) (WorksOn.signal works signals)
-one_more who k s n before holds middle t works (inr (job, takes, is)) = subst (λ (ls : List TakenLetter). WorksOn who k s (n + 1) ls t) (sym is) (WorksOn.letter works takes)
+pub one_more : (s m t : SearchState) (name : List ℕ × ℕ) (n : ℕ) (held holds : List (ℕ × Need)) → GoesOn (StepsEach s m) name n ⊥ held →
+    MakesStep m true t held holds → GoesOn (StepsEach s t) name (n + 1) ⊥ holds
+one_more s m t name n held holds so_far (move, steps, is) = record {
+  moves = so_far.moves ++ move ∷ [];
+  steps = subst₂ (StepsEach s t) (sym (map-append (going_on name) so_far.moves (move ∷ []))) (sym (map-append went_on so_far.moves (move ∷ [])))
+      (each_more s m t (map (going_on name) so_far.moves) (map went_on so_far.moves) (going_on name move) (went_on move) so_far.steps (steps name));
+  taken = is ∙ ap (λ ls. ls ++ filter_map (λ o. o) (move ∷ [])) so_far.taken ∙ sym (filter_map-append (λ o. o) so_far.moves (move ∷ []));
+  within = omega (arith, exactly (length so_far.moves) n so_far.whole, length-append so_far.moves (move ∷ []));
+  whole = inl (omega (arith, exactly (length so_far.moves) n so_far.whole, length-append so_far.moves (move ∷ [])));
+}
+
+-- the steps were as many as were asked for, or nothing is left
+pub all_made : (s t : SearchState) (name : List ℕ × ℕ) (n most : ℕ) (left : Type 0) (letters : List (ℕ × Need)) → GoesOn (StepsEach s t) name n ⊥ letters →
+    n ≤ most → (n ≡ most) ⊎ left → GoesOn (StepsEach s t) name most left letters
+all_made s t name n most left letters made within whole = record {
+  moves = made.moves;
+  steps = made.steps;
+  taken = made.taken;
+  within = omega (arith, made.within, within);
+  whole = by whole;
+}
+  where
+    by : (n ≡ most) ⊎ left → (length made.moves ≡ most) ⊎ left
+    by (inl all) = inl (exactly (length made.moves) n made.whole ∙ all)
+    by (inr none) = inr none
 
 -- one letter more
-pub one_handed_in : (of : NamedSearch) (back : Bool) (s : SearchState) (es : List HeldLetter) (i : ℕ) (e : HeldLetter) (n : ℕ) (middle : SearchState) (finished : Bool) (t : SearchState) →
-    i < length es → e ≡ get_or es i e → HandsInEach of.who of.number back s (map (taken_of of) (take i es)) n middle →
-    HandsInAs of.who of.number back middle (taken_of of e) finished t →
-    HandsInEach of.who of.number back s (map (taken_of of) (take (i + 1) es)) (if finished then n + 1 else n) t
-one_handed_in of back s es i e n middle finished t within at before hands =
-    subst (λ (ls : List TakenLetter). HandsInEach of.who of.number back s ls (if finished then n + 1 else n) t)
-    (sym (map_more (taken_of of) es i e within ∙ ap (λ (x : HeldLetter). map (taken_of of) (take i es) ++ taken_of of x ∷ []) (sym at)))
-    (HandsInEach.letter (taken_of of e) finished before hands)
+counted : (xs : List Stepped) (x : Stepped) (done : Bool) → done ≡ is_done x → count_by is_done (xs ++ x ∷ []) ≡ (if done then count_by is_done xs + 1 else count_by is_done xs)
+counted xs x true is =
+    let all = sum_by-append (λ (y : Stepped). cond (is_done y) 1 0) xs (x ∷ []) in
+    let one : ◌≡◌ {A = ℕ} (cond (is_done x) 1 0) 1 = ap (λ (b : Bool). cond b 1 0) (sym is) in
+    omega (arith, all, one)
+counted xs x false is =
+    let all = sum_by-append (λ (y : Stepped). cond (is_done y) 1 0) xs (x ∷ []) in
+    let none : ◌≡◌ {A = ℕ} (cond (is_done x) 1 0) 0 = ap (λ (b : Bool). cond b 1 0) (sym is) in
+    omega (arith, all, none)
+
+pub one_handed_in : (of : NamedSearch) (back : Bool) (s m t : SearchState) (es : List HeldLetter) (i : ℕ) (e : HeldLetter) (n : ℕ) (done : Bool) →
+    i < length es → e ≡ get_or es i e → HandsIn (StepsEach s m) back (named of) (map letter_of (take i es)) n →
+    HandsInOne back (named of) m (letter_of e) done t →
+    HandsIn (StepsEach s t) back (named of) (map letter_of (take (i + 1) es)) (if done then n + 1 else n)
+one_handed_in of back s m t es i e n done within at before (answer, steps, is) = record {
+  answers = before.answers ++ answer ∷ [];
+  steps = subst (λ (ls : List (ℕ × Need)). StepsEach s t (map (handing_in back (named of)) ls) (before.answers ++ answer ∷ []))
+      (sym (map_more letter_of es i e within ∙ ap (λ (x : HeldLetter). map letter_of (take i es) ++ letter_of x ∷ []) (sym at)))
+      (subst (λ (steps : List Step). StepsEach s t steps (before.answers ++ answer ∷ [])) (sym (map-append (handing_in back (named of)) (map letter_of (take i es)) (letter_of e ∷ [])))
+      (each_more s m t (map (handing_in back (named of)) (map letter_of (take i es))) before.answers (handing_in back (named of) (letter_of e)) answer before.steps steps));
+  count = ap (λ (k : ℕ). if done then k + 1 else k) before.count ∙ sym (counted before.answers answer done is);
+}
+
+isnt : (done : Bool) → (IsTrue done → ⊥) → done ≡ false
+isnt true never = absurd (never refl)
+isnt false never = refl
+
+-- what is given back isn't done, and a letter is where its search says so
+pub given_back : (back : Bool) → false ≡ is_done (gave_back back)
+given_back true = refl
+given_back false = refl
+
+pub done_by : (told : Finished) (done : Bool) → IsTrue done ↔ (told ≡ finished.Done) → done ≡ is_done (finish_answer told)
+done_by finished.Done done is = is.1 refl
+done_by finished.BadHint done is = isnt done (λ yes. cc (is.0 yes))
+done_by finished.Spent done is = isnt done (λ yes. cc (is.0 yes))
+done_by finished.Broken done is = isnt done (λ yes. cc (is.0 yes))
+done_by finished.NotHeld done is = isnt done (λ yes. cc (is.0 yes))

@@ -1,9 +1,11 @@
 -- A step of a search, a letter that is taken, and a search that is driven, as a hall has them.
-use Rattle.std.proofs.Common.{◌≡◌, ◌∙◌, ℕ, List, ap, sym, refl, subst, subst₂, inl, inr, Option, Some, None, Result, Ok}
-use Rattle.std.specs.Option.{MatchOption}
+use Rattle.std.proofs.Common.{◌≡◌, ◌∙◌, ℕ, List, ap, sym, refl, subst, subst₂, inl, slice_get, IfSome, Option, Some, None, Result, Ok}
 use Rattle.std.specs.FinMap.{get}
-use Rattle.search.specs.Search.{SearchState, settled_of}
-use Rattle.search.specs.Stage.{IsQuiet}
+use Rattle.std.specs.Arc.{arc_value}
+use Rattle.search.specs.declared.queries.Task.{Task}
+use Rattle.search.specs.Search.{SearchState, Settles, IsSoundStage, settled_of}
+use Rattle.search.specs.Stage.{IsQuiet, waiting_in}
+use Rattle.search.specs.Finish.{Takes}
 use Rattle.hall.specs.declared.faults.Fault.{Fault}
 use Rattle.hall.specs.declared.calls.answers.Answer.{Answer}
 use Rattle.hall.specs.declared.calls.requests.Request.TheVariants.{Poll}
@@ -11,48 +13,20 @@ use Rattle.hall.specs.declared.calls.replies.Reply.TheVariants.{Answered, Refuse
 use Rattle.hall.specs.declared.calls.steps.Step.{Step}
 use Rattle.hall.specs.declared.calls.steps.Step.TheVariants.{Take}
 use Rattle.hall.specs.declared.calls.steps.Stepped.{Stepped}
+use Rattle.hall.specs.declared.calls.steps.Stepped.TheVariants.{Gone}
 use Rattle.hall.specs.declared.calls.steps.Stepped.TheVariants as stepped
 use Rattle.hall.specs.Steps.{StepsSearch}
 use Rattle.hall.specs.Answers.{answer_of}
 use Rattle.hall.specs.Run.{waits}
 use Rattle.hall.specs.Hall.{Running, Tenant, HallState, search_of, search_at, with_search, step_name, step_search, StepsAt, IsStepped}
 use Rattle.hall.specs.Hall.{Drives, CarriesOut, IsServed, told_as}
-use Rattle.hall.specs.Visits.{TakenLetter, IsTaken, IsJobOrNone, SearchIsQuiet}
-use Rattle.hall.specs.Kept.{IsNowhere, IsToldOf, DrivesTo, TakesJob}
+use Rattle.hall.specs.Work.{TakenLetter, IsTaken, IsJobOrNone, SearchIsQuiet}
+use Rattle.hall.specs.Kept.{IsNowhere, IsToldOf, DrivesTo, TakesTask}
 use Rattle.hall.proofs.Telling.{works}
 use Rattle.hall.proofs.Polled.{none_there, polled_there}
 use Rattle.hall.proofs.Viewed.{nowhere_polled}
-use Rattle.hall.proofs.Placed.{found_after}
-
--- what becomes of a hall where its search of that number, if there is one, goes on so
-abbrev pub Moves : HallState → List ℕ → ℕ → Type 0 → (SearchState → SearchState → Type 0) → HallState → Type 0
-Moves h who k gone goes new =
-    MatchOption (search_at h who k) (gone × (new ≡ h))
-    (λ r. (s : SearchState) × goes r.search s × (new ≡ with_search h who k (record r { search = s })))
-
--- by what is found under that number
-pub moves_at : (h : HallState) (who : List ℕ) (k : ℕ) (gone : Type 0) (goes : SearchState → SearchState → Type 0) (new : HallState)
-    (o : Option Running) → search_at h who k ≡ o →
-    MatchOption o (gone × (new ≡ h)) (λ r. (s : SearchState) × goes r.search s × (new ≡ with_search h who k (record r { search = s }))) →
-    Moves h who k gone goes new
-moves_at h who k gone goes new o is =
-    subst
-    (λ (p : Option Running).
-    MatchOption p (gone × (new ≡ h)) (λ r. (s : SearchState) × goes r.search s × (new ≡ with_search h who k (record r { search = s }))))
-    (sym is)
-
-pub steps_as : (h : HallState) (made : Step) (who : List ℕ) (k : ℕ) → who ≡ step_name made → k ≡ step_search made → (answer : Stepped) (new : HallState) →
-    Moves h who k (answer ≡ stepped.Gone) (λ s t. StepsSearch s made answer t) new → IsStepped h made answer new
-steps_as h made who k named numbered answer new moves =
-    by (search_at h (step_name made) (step_search made))
-    (subst₂ (λ (n : List ℕ) (m : ℕ). Moves h n m (answer ≡ stepped.Gone) (λ s t. StepsSearch s made answer t) new) named numbered moves)
-  where
-    by : (o : Option Running) →
-        MatchOption o ((answer ≡ stepped.Gone) × (new ≡ h))
-        (λ r. (s : SearchState) × StepsSearch r.search made answer s × (new ≡ with_search h (step_name made) (step_search made) (record r { search = s }))) →
-        StepsAt h o made answer new
-    by None moves = moves
-    by (Some r) moves = moves
+use Rattle.hall.proofs.Placed.{found_after, put_back}
+use Rattle.hall.proofs.InRow.{stepped_there}
 
 module _ (h : HallState) (who : List ℕ) (k : ℕ) where
   -- a name that is no tenant's, and a number of no search
@@ -65,80 +39,76 @@ module _ (h : HallState) (who : List ℕ) (k : ℕ) where
   pub nowhere_driven : (f : Fault) → IsNowhere k (get h.tenants who) f → CarriesOut h who (waits k) (Refused f) h
   nowhere_driven f is = (h, none_driven (none_there h who k f is), nowhere_polled h who k f is)
 
-  -- the search that is found is polled
-  polled_at : (r : Running) → search_at h who k ≡ Some r → (told : Result Answer Fault) → IsToldOf (settled_of r.search) told →
-      IsServed h who (Poll k) (told_as Answered told) h
-  polled_at r at told is = by (get h.tenants who) refl
-    where
-      by : (o : Option Tenant) → get h.tenants who ≡ o → IsServed h who (Poll k) (told_as Answered told) h
-      by None none = let clash : None ≡ Some r = sym (ap (search_of k) none) ∙ at in cc
-      by (Some t) here = polled_there h who k t here r (sym (ap (search_of k) here) ∙ at) told is
+  -- no step of such a search does anything
+  pub gone : (made : Step) → who ≡ step_name made → k ≡ step_search made → search_at h who k ≡ None → IsStepped h made Gone h
+  gone made whose number none =
+      subst (λ (o : Option Running). StepsAt h o made Gone h) (sym (subst₂ (λ (n : List ℕ) (m : ℕ). search_at h n m ≡ None) whose number none)) (refl, refl)
 
-module _ (h : HallState) (who : List ℕ) (k : ℕ) (new : HallState) where
-  -- by whether there is one
-  pub moved : (gone : Type 0) (goes : SearchState → SearchState → Type 0) (P : Type 0) → Moves h who k gone goes new →
-      (search_at h who k ≡ None → gone → new ≡ h → P) →
-      ((r : Running) (s : SearchState) → search_at h who k ≡ Some r → goes r.search s → new ≡ with_search h who k (record r { search = s }) → P) → P
-  moved gone goes P moves nowhere there = by (search_at h who k) refl moves
-    where
-      by : (o : Option Running) → search_at h who k ≡ o →
-          MatchOption o (gone × (new ≡ h)) (λ r. (s : SearchState) × goes r.search s × (new ≡ with_search h who k (record r { search = s }))) → P
-      by None none (is, same) = nowhere none is same
-      by (Some r) at (s, does, is) = there r s at does is
+  module _ (r : Running) (at : search_at h who k ≡ Some r) where
+    -- a search that is found there and quiet is so in the hall
+    pub quiet_in : IsQuiet r.search.stage → SearchIsQuiet h who k
+    quiet_in quiet q found =
+        let both : Some r ≡ Some q = sym at ∙ found in
+        let same : r ≡ q = cc in
+        subst (λ (x : Running). IsQuiet x.search.stage) same quiet
+
+    -- the search that is found is polled
+    polled_at : (told : Result Answer Fault) → IsToldOf (settled_of r.search) told → IsServed h who (Poll k) (told_as Answered told) h
+    polled_at told is = by (get h.tenants who) refl
+      where
+        by : (o : Option Tenant) → get h.tenants who ≡ o → IsServed h who (Poll k) (told_as Answered told) h
+        by None none = let clash : None ≡ Some r = sym (ap (search_of k) none) ∙ at in cc
+        by (Some t) here = polled_there h who k t here r (sym (ap (search_of k) here) ∙ at) told is
+
+module _ (h : HallState) (who : List ℕ) (k : ℕ) (r : Running) (at : search_at h who k ≡ Some r) (s : Running) (opened : s.opened_at ≡ r.opened_at) (new : HallState)
+    (is : new ≡ with_search h who k s) where
+  -- the search was lent, and what was left of it is in its place
+  pub left_as : new ≡ with_search h who k (record r { search = s.search })
+  left_as = is ∙ (λ i. with_search h who k (record { opened_at = opened i; search = s.search }))
+
+  -- one that is left as it was leaves the hall so
+  pub left_so : s.search ≡ r.search → new ≡ h
+  left_so same = left_as ∙ (λ i. with_search h who k (record r { search = same i })) ∙ put_back h who k r at
+
+  pub found_left : search_at new who k ≡ Some s
+  found_left = ap (λ (g : HallState). search_at g who k) is ∙ found_after h who k r at s
 
   -- a search that is driven, and told of
-  module _ (r : Running) (at : search_at h who k ≡ Some r) (s : SearchState) (is : new ≡ with_search h who k (record r { search = s }))
-      (told : Result Answer Fault) (drives : DrivesTo r.search told s) where
+  module _ (told : Result Answer Fault) (drives : DrivesTo r.search told s.search) where
     pub drives_as : CarriesOut h who (waits k) (told_as Answered told) new
     drives_as = (
       new,
       subst (λ (o : Option Running). Drives h who k o new) (sym at) (
-        s,
+        s.search,
         drives.driven,
         (drives.quiet, drives.sound),
-        (λ held. (drives.none_held held, λ nothing. drives.settled held (works s (sym (ap answer_of nothing))))),
-        is,
+        (λ held. (drives.none_held held, λ nothing. drives.settled held (works s.search (sym (ap answer_of nothing))))),
+        left_as,
       ),
-      subst (λ (g : HallState). IsServed g who (Poll k) (told_as Answered told) g) (sym is)
-          (polled_at (with_search h who k (record r { search = s })) who k (record r { search = s }) (found_after h who k r at (record r { search = s })) told drives.tells),
+      polled_at new who k s found_left told drives.tells,
     )
 
     pub drives_quiet : SearchIsQuiet new who k
-    drives_quiet =
-        subst (λ (g : HallState). SearchIsQuiet g who k) (sym is)
-        (λ q found.
-        let now : Some (record r { search = s }) ≡ Some q = sym (found_after h who k r at (record r { search = s })) ∙ found in
-        let same : record r { search = s } ≡ q = cc in
-        subst (λ (x : Running). IsQuiet x.search.stage) same drives.quiet)
+    drives_quiet = quiet_in new who k s found_left drives.quiet
 
   -- a letter that is taken, with the job that it gives
-  pub takes_as : {E : Type 0} (place : ℕ) (told : Result (Option TakenLetter) E) (job : Option TakenLetter) → told ≡ Ok job →
-      Moves h who k (told ≡ Ok None) (λ s u. TakesJob who k place s told u) new → IsTaken h who k place job new
-  takes_as {E} place told job well moves =
-      moved (told ≡ Ok None) (λ s u. TakesJob who k place s told u) (IsTaken h who k place job new) moves
-      (λ none is same. (
-        stepped.Gone,
-        subst (λ (o : Option Running). StepsAt h o (Take who k place) stepped.Gone new) (sym none) (refl, same),
-        subst (IsJobOrNone h who k stepped.Gone) (sym (no_job told well is)) (inr refl),
-      ))
-      (λ r s at takes is. there job r s at (subst (λ (q : Result (Option TakenLetter) E). TakesJob who k place r.search q s) well takes) is)
-    where
-      no_job : (q : Result (Option TakenLetter) E) → q ≡ Ok job → q ≡ Ok None → job ≡ None
-      no_job q is none = cc (is, none)
+  taken : (place : ℕ) (answer : Stepped) (job : Option TakenLetter) → ((name : List ℕ × ℕ) → StepsSearch r.search (Take name.0 name.1 place) answer s.search) →
+      IsJobOrNone h who k answer job → IsTaken h who k place job new
+  taken place answer job steps is_job = (answer, stepped_there h (Take who k place) answer new who k r s.search refl refl at (steps (who, k)) left_as, is_job)
 
-      made : (answer : Stepped) (r : Running) (s : SearchState) → search_at h who k ≡ Some r → StepsSearch r.search (Take who k place) answer s →
-          new ≡ with_search h who k (record r { search = s }) → IsStepped h (Take who k place) answer new
-      made answer r s at steps is = subst (λ (o : Option Running). StepsAt h o (Take who k place) answer new) (sym at) (s, steps, is)
+  pub none_taken : (place : ℕ) → ((name : List ℕ × ℕ) → StepsSearch r.search (Take name.0 name.1 place) stepped.Nothing s.search) → IsTaken h who k place None new
+  none_taken place steps = taken place stepped.Nothing None steps (inl refl)
 
-      there : (job : Option TakenLetter) (r : Running) (s : SearchState) → search_at h who k ≡ Some r → TakesJob {E = E} who k place r.search (Ok job) s →
-          new ≡ with_search h who k (record r { search = s }) → IsTaken h who k place job new
-      there None r s at (none, same, sound) is = (
-        stepped.Nothing,
-        made stepped.Nothing r s at (record { is_made = (None, (none, same), refl); settles = inl (ap settled_of same); sound = sound }) is,
-        inl refl,
-      )
-      there (Some j) r s at (takes, whose, number, snapshot, settles, sound) is = (
-        stepped.Took j.letter j.need,
-        made (stepped.Took j.letter j.need) r s at (record { is_made = (Some (j.letter, j.need), takes, refl); settles = settles; sound = sound }) is,
-        record { tenant = whose; search = number; took = refl; reads = (r, at, snapshot) },
-      )
+  pub job_taken : (place : ℕ) (job : TakenLetter) → job.who ≡ who → job.number ≡ k → job.snapshot ≡ r.search.snapshot →
+      ((name : List ℕ × ℕ) → StepsSearch r.search (Take name.0 name.1 place) (stepped.Took job.letter job.need) s.search) → IsTaken h who k place (Some job) new
+  job_taken place job whose number reads steps =
+      taken place (stepped.Took job.letter job.need) (Some job) steps (record { tenant = whose; search = number; took = refl; reads = (r, at, reads) })
+
+-- what a search answers to a take is what its taker is told
+pub task_taken : (place : ℕ) (s t : SearchState) (o : Option Task) → (o ≡ None → (slice_get (waiting_in s.stage) place ≡ None) × (t ≡ s)) →
+    IfSome o (λ task. Takes s t place task.letter task.need) → IfSome o (λ task. arc_value task.snap ≡ s.snapshot) → Settles s t → IsSoundStage t.stage →
+    TakesTask place s (Ok o) t
+task_taken place s t None none takes reads settles sound =
+    ((none refl).1, λ name. record { is_made = (None, none refl, refl); settles = settles; sound = sound })
+task_taken place s t (Some task) none takes reads settles sound =
+    (reads, λ name. record { is_made = (Some (task.letter, task.need), takes, refl); settles = settles; sound = sound })

@@ -1,18 +1,14 @@
 -- A search has an answer exactly where it is completed.
 use Rattle.std.proofs.Common.{◌↔◌, refl}
-use Rattle.search.specs.Ending.{Settled, Nothing, Yes, No, Members, Spent, Broken}
+use Rattle.search.specs.Ending.{Settled, Members}
 use Rattle.search.specs.Search.{IsAnswered, status_of, SearchState, IsCompleted, settled_of}
 use Rattle.search.proofs.Answered.{answers_as}
 use Rattle.hall.specs.Answers.{IsAnswer}
 
 -- a search has an answer exactly where its status is one
 answer_by_status : (s : Settled) → IsAnswer s ↔ IsAnswered (status_of s)
-answer_by_status Nothing = (λ is. is, λ is. is)
-answer_by_status Yes = (λ is. is, λ is. is)
-answer_by_status No = (λ is. is, λ is. is)
 answer_by_status (Members names) = (λ is. is, λ is. is)
-answer_by_status Spent = (λ is. is, λ is. is)
-answer_by_status Broken = (λ is. is, λ is. is)
+answer_by_status s = (λ is. is, λ is. is)
 
 -- and so exactly where it is completed
 pub answer_completed : (s : SearchState) → IsAnswer (settled_of s) ↔ IsCompleted s.stage

@@ -1,5 +1,5 @@
 -- Finite maps as tables of entries hold them: what the calls of a table do to the map that it stands for.
-use Rattle.std.proofs.Common.{◌≡◌, ◌∙◌, ℕ, Bool, true, false, cond, ◌+◌, List, [], ◌∷◌, length, slice_get, Option, Some, None, MatchOption, is_some, option_map, sym, ap, refl, subst, arith}
+use Rattle.std.proofs.Common.{◌≡◌, ◌∙◌, ℕ, Bool, true, false, cond, ◌+◌, List, [], ◌∷◌, length, slice_get, Option, Some, None, MatchOption, is_some, option_map, sym, ap, refl, arith}
 use Rattle.std.specs.declared.cmp.Ordering.{Ordering}
 use Rattle.std.specs.Ordering.{eq_by_cmp}
 use Rattle.std.specs.Cmp.{eq_by_cmp_equiv}
@@ -7,7 +7,9 @@ use Rattle.std.specs.FinMap.{get, insert, remove, len, from_entries, find, get-f
 use Rattle.std.specs.List.{AllByRecursion, IsDistinct}
 use Rattle.std.specs.Map.{keys_of, lookup}
 use Rattle.std.proofs.lemmas.Map.Keys.{IsDistinct-head, IsDistinct-tail}
+use Rattle.std.proofs.lemmas.List.Elements.{All-contains, All-from_recursion}
 use Rattle.std.proofs.lemmas.Map.Entries.{lookup_from_place}
+use Rattle.std.proofs.lemmas.Map.Views.{Contains-from_lookup}
 use Rattle.std.proofs.lemmas.Option.{same_Some, none-some, slice_get-map}
 use Rattle.std.specs.Cmp.{IsEquivalence}
 use Rattle.indexmap.specs.IndexMap.{IndexMap, Updates, IsUnique, values, with_value_at}
@@ -80,18 +82,9 @@ module _ {K : Type 0} {R : K → K → Ordering} (o : IsExactOrder R) (eq : K �
   -- what holds of each entry holds of what a key has
   pub all_found : {X : Type 0} (P : K × X → Type 0) (es : List (K × X)) → AllByRecursion P es → (k : K) (v : X) →
       get (from_entries {R = R} es) k ≡ Some v → P (k, v)
-  all_found {X} P es all k v there = by es all (sym (looked_up es k) ∙ there)
-    where
-      at : (f : K × X) (found : Option X) → P f → (found ≡ Some v → P (k, v)) → (b : Bool) → eq k f.0 ≡ b → cond b (Some f.1) found ≡ Some v → P (k, v)
-      at f found holds later true same is =
-          let key : f.0 ≡ k = sym (same_from_tied o k f.0 (agree k f.0 ∙ same)) in
-          let value : f.1 ≡ v = cc in
-          subst P (λ i. (key i, value i)) holds
-      at f found holds later false other is = later is
-
-      by : (fs : List (K × X)) → AllByRecursion P fs → lookup (eq k) fs ≡ Some v → P (k, v)
-      by [] all is = cc
-      by (f ∷ fs) all is = at f (lookup (eq k) fs) all.0 (by fs all.1) (eq k f.0) refl is
+  all_found P es all k v there =
+      All-contains P es (k, v) (All-from_recursion P es all)
+      (Contains-from_lookup (λ x y same. same_from_tied o x y (agree x y ∙ same)) k v es (sym (looked_up es k) ∙ there))
 
   absent : {X : Type 0} (k : K) (es : List (K × X)) → AllByRecursion (λ y. eq k y ≡ false) (keys_of es) → lookup (eq k) es ≡ None
   absent k [] apart = refl

@@ -3,12 +3,11 @@ pub mod Altering
 pub mod AtHand
 pub mod Carrying
 pub mod Completed
+pub mod Continued
 pub mod Distinct
-pub mod Elements
 pub mod Indexed
 pub mod Maps
 pub mod Members
-pub mod NamedMaps
 pub mod Opening
 pub mod Picked
 pub mod Placed
@@ -25,8 +24,7 @@ pub mod Telling
 pub mod Truths
 pub mod Unsettled
 pub mod Viewed
-pub mod Visiting
-pub mod HandingIn
-pub mod GoingOn
-pub mod Working
+pub mod Visited
+pub mod Ended
+pub mod InRow
 pub mod laws

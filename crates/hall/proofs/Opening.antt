@@ -6,7 +6,7 @@ use Rattle.vaults.specs.Journal.{view}
 use Rattle.snapshots.specs.Snapshot.{SnapshotState}
 use Rattle.search.specs.declared.queries.Query.{Query}
 use Rattle.search.specs.Search.{SearchState, IsNew}
-use Rattle.hall.specs.Account.{Account, seek_refusal}
+use Rattle.hall.specs.Answers.{Account, seek_refusal}
 use Rattle.hall.specs.Steps.{just_opened}
 
 -- a search over the snapshot just taken is a search just opened

@@ -1,7 +1,9 @@
 -- The step that is picked goes on with a search, and there is one where anything of a search can go on.
-use Rattle.std.proofs.Common.{◌≡◌, ◌∙◌, ◌↔◌, ◌≤◌, ◌==◌, ◌⊎◌, ◌||◌, inl, inr, [], ◌∷◌, ℕ, List, length, ap, sym, refl, subst, Option, Some, None, option_map, slice_get, true, false, Bool, cond}
-use Rattle.std.specs.List.{AllByRecursion, list_any}
+use Rattle.std.proofs.Common.{◌≡◌, ◌≢◌, ◌∙◌, ◌↔◌, ◌≤◌, ◌==◌, ◌⊎◌, inl, inr, [], ◌∷◌, ℕ, List, length, ap, refl, subst, Option, Some, None, option_map, slice_get, true, false, Bool, cond, arith}
+use Rattle.std.specs.{List.AllByRecursion, List.list_any, Option.option_map_or}
 use Rattle.std.proofs.lemmas.Bool.Decides.{Decides-eqb}
+use Rattle.std.proofs.lemmas.List.Elements.{All-contains, All-from_recursion}
+use Rattle.std.proofs.lemmas.Map.Views.{Contains-from_any, exact_unsigned_eq}
 use Rattle.indexmap.specs.IndexMap.{get as numbers_of}
 use Rattle.indexmap.specs.IndexSet.{IndexSet}
 use Rattle.names.specs.Name.{is_same}
@@ -17,58 +19,49 @@ use Rattle.search.specs.Ending.{Nothing}
 use Rattle.search.specs.Search.{found, come_to, SearchState, settled_of}
 use Rattle.search.specs.Stage.{waiting_in, signals_in, IsQuiet}
 use Rattle.hall.specs.declared.calls.steps.Step.{Step}
-use Rattle.hall.specs.declared.calls.steps.Step.TheVariants as step
-use Rattle.hall.specs.Steps.{TakesAt, Signals, took, signalled}
-use Rattle.hall.specs.Hall.{Running, HallState, search_at, step_name, step_search, StepsAt}
-use Rattle.hall.specs.Visits.{SearchIsQuiet, NothingToDo, MadeProgress, CanBeMade}
+use Rattle.hall.specs.declared.calls.steps.Stepped.TheVariants as stepped
+use Rattle.hall.specs.Steps.{TakesAt, Signals}
+use Rattle.hall.specs.Hall.{Running, HallState, search_at, step_name, step_search}
+use Rattle.hall.specs.Work.{SearchIsQuiet, NothingToDo, MadeProgress, CanBeMade}
 use Rattle.hall.specs.Kept.{IsNext, IsUnsettled, Index, IsIn, IsIndexed}
 use Rattle.hall.proofs.Indexed.{looked_up, all_found}
 use Rattle.hall.proofs.Stays.{quiet}
-use Rattle.hall.proofs.Working.{first_none, none_long}
 use Rattle.hall.proofs.laws.HallChanges.{tenant_of}
 
-module _ (old new : SearchState) (place : ℕ) (first : place ≡ 0) where
+first_none : {X : Type 0} (xs : List X) → slice_get xs 0 ≡ None → xs ≡ []
+first_none [] none = refl
+first_none (x ∷ xs) none = cc
+
+-- a list that isn't longer than nothing is empty
+none_long : {X : Type 0} (xs : List X) → length xs ≤ 0 → xs ≡ []
+none_long [] short = refl
+none_long (x ∷ xs) short = absurd (omega (arith, short))
+
+module _ (old new : SearchState) where
   -- where a letter waits, the first one is taken
-  took_one : (got : Option (ℕ × Need)) → (waiting_in old.stage ≡ [] → ⊥) → TakesAt old place got new → MadeProgress (took got)
-  took_one None waits (none, same) = absurd (waits (first_none (waiting_in old.stage) (ap (slice_get (waiting_in old.stage)) (sym first) ∙ none)))
+  took_one : (got : Option (ℕ × Need)) → waiting_in old.stage ≢ [] → TakesAt old 0 got new →
+      MadeProgress (option_map_or (λ l. stepped.Took l.0 l.1) got stepped.Nothing)
+  took_one None waits (none, same) = absurd (waits (first_none (waiting_in old.stage) none))
   took_one (Some got) waits takes = tt
 
   -- where a signal is under way, the oldest is delivered
-  delivered_one : (delivered : Bool) → (signals_in old.stage ≡ [] → ⊥) → Signals old place delivered new → MadeProgress (signalled delivered)
-  delivered_one false waits signals =
-      absurd (waits (none_long (signals_in old.stage) (subst (λ (n : ℕ). length (signals_in old.stage) ≤ n) first signals.delivers.0)))
+  delivered_one : (delivered : Bool) → signals_in old.stage ≢ [] → Signals old 0 delivered new →
+      MadeProgress (cond delivered stepped.Signalled stepped.Nothing)
+  delivered_one false waits signals = absurd (waits (none_long (signals_in old.stage) signals.delivers.0))
   delivered_one true waits signals = tt
 
--- a search that a step goes on with isn't still
-moves : (who : List ℕ) (k : ℕ) (s : SearchState) (made : Step) → IsNext who k s made → IsQuiet s.stage → ⊥
-moves who k s (step.Take name number place) (named, numbered, first, waits) still = waits still.0
-moves who k s (step.Signal name number place) (named, numbered, first, waits) still = waits still.1
-moves who k s (step.GiveBack name number letter) next still = next
-moves who k s (step.Finish name number letter hint) next still = next
-
 module _ (h : HallState) (who : List ℕ) (k : ℕ) (r : Running) (at : search_at h who k ≡ Some r) where
-  runs : (name : List ℕ) (number : ℕ) → name ≡ who → number ≡ k → search_at h name number ≡ Some r
-  runs name number named numbered = ap (λ (n : List ℕ). search_at h n number) named ∙ ap (search_at h who) numbered ∙ at
-
   -- the step that goes on with a search takes a letter or delivers a signal
   goes_on : (made : Step) → IsNext who k r.search made → CanBeMade h made
-  goes_on (step.Take name number place) (named, numbered, first, waits) answer new stepped =
-      let (u, steps, is) = subst (λ (o : Option Running). StepsAt h o (step.Take name number place) answer new) (runs name number named numbered) stepped in
-      let (got, takes, told) = steps.is_made in
-      subst MadeProgress (sym told) (took_one r.search u place first got waits takes)
-  goes_on (step.Signal name number place) (named, numbered, first, waits) answer new stepped =
-      let (u, steps, is) = subst (λ (o : Option Running). StepsAt h o (step.Signal name number place) answer new) (runs name number named numbered) stepped in
-      let (delivered, signals, told) = steps.is_made in
-      subst MadeProgress (sym told) (delivered_one r.search u place first delivered waits signals)
-  goes_on (step.GiveBack name number letter) next answer new stepped = absurd next
-  goes_on (step.Finish name number letter hint) next answer new stepped = absurd next
+  goes_on made (inl (is, waits)) answer new =
+      rw (is, at) (λ made_so. let (got, takes, told) = made_so.1.is_made in rw told (took_one r.search made_so.0 got waits takes))
+  goes_on made (inr (is, waits)) answer new =
+      rw (is, at) (λ made_so. let (got, signals, told) = made_so.1.is_made in rw told (delivered_one r.search made_so.0 got waits signals))
 
   -- and something of its search is left to do
   is_left : (made : Step) → IsNext who k r.search made → SearchIsQuiet h (step_name made) (step_search made) → ⊥
-  is_left (step.Take name number place) next quiet = moves who k r.search (step.Take name number place) next (quiet r (runs name number next.0 next.1))
-  is_left (step.Signal name number place) next quiet = moves who k r.search (step.Signal name number place) next (quiet r (runs name number next.0 next.1))
-  is_left (step.GiveBack name number letter) next quiet = next
-  is_left (step.Finish name number letter hint) next quiet = next
+  is_left made (inl (is, waits)) = rw is (λ quiet. waits (quiet r at).0)
+  is_left made (inr (is, waits)) = rw is (λ quiet. waits (quiet r at).1)
 
 -- a search that has come to something has nothing left to do
 rests_at : (st : Stage) (g : GraphState) (q : Query) → (come_to st g q ≡ Nothing) ⊎ IsQuiet st
@@ -80,18 +73,13 @@ rests_at (stage.Running c) g q = by (outstanding c == 0) refl
 rests_at stage.Spent g q = inr (refl, refl)
 rests_at stage.Broken g q = inr (refl, refl)
 
-rests : (s : SearchState) → IsUnsettled s ⊎ IsQuiet s.stage
+pub rests : (s : SearchState) → IsUnsettled s ⊎ IsQuiet s.stage
 unfolding settled_of
 rests s = rests_at s.stage s.graph s.query
 
 -- what holds of all numbers holds of one that is found among them
 each : (P : ℕ → Type 0) (k : ℕ) (ks : List ℕ) → AllByRecursion P ks → list_any (λ q. k == q) ks ≡ true → P k
-each P k [] all there = cc
-each P k (q ∷ ks) all there = one (k == q) refl (each P k ks all.1) there
-  where
-    one : (b : Bool) → (k == q) ≡ b → (list_any (λ q. k == q) ks ≡ true → P k) → (b || list_any (λ q. k == q) ks) ≡ true → P k
-    one true same rest there = subst P (sym ((Decides-eqb k q).0 same)) all.0
-    one false apart rest there = rest there
+each P k ks all there = All-contains P ks k (All-from_recursion P ks all) (Contains-from_any exact_unsigned_eq k ks there)
 
 -- where nothing of any search of the index is left to do, nothing is
 pub nothing_left : {S Z : Type 0} (index : Index S Z) (h : HallState) → IsIndexed index h →
@@ -122,26 +110,19 @@ module _ (h : HallState) (who : List ℕ) (k : ℕ) where
       let same : s ≡ r.search = cc in
       subst (λ (x : SearchState). IsQuiet x.stage) same still
 
--- the step goes on with one of the tenant's searches
-abbrev pub IsNextOf : HallState → List ℕ → Step → Type 0
-IsNextOf h who made = (k : ℕ) × (r : Running) × (search_at h who k ≡ Some r) × IsNext who k r.search made
-
--- the step that goes on with a search that is there
-pub next_there : (h : HallState) (who : List ℕ) (k : ℕ) (s : SearchState) (made : Step) → Some s ≡ option_map (λ (r : Running). r.search) (search_at h who k) → IsNext who k s made →
-    IsNextOf h who made
-next_there h who k s made found next = by (search_at h who k) refl found
+-- a step that goes on with a search that is found makes progress, and something of that search is left
+pub picked : (h : HallState) (who : List ℕ) (k : ℕ) (s : SearchState) (made : Step) →
+    Some s ≡ option_map (λ (r : Running). r.search) (search_at h who k) → IsNext who k s made →
+    CanBeMade h made × (SearchIsQuiet h (step_name made) (step_search made) → ⊥)
+picked h who k s made found next = by (search_at h who k) refl found
   where
-    by : (o : Option Running) → search_at h who k ≡ o → Some s ≡ option_map (λ (r : Running). r.search) o → IsNextOf h who made
-    by None none found = cc
-    by (Some r) at found = let same : s ≡ r.search = cc found in (k, r, at, subst (λ (x : SearchState). IsNext who k x made) same next)
-
--- what is picked of a hall
-module _ (h : HallState) (who : List ℕ) (made : Step) (next : IsNextOf h who made) where
-  pub picked_progress : CanBeMade h made
-  picked_progress = let (k, r, at, is) = next in goes_on h who k r at made is
-
-  pub picked_left : SearchIsQuiet h (step_name made) (step_search made) → ⊥
-  picked_left = let (k, r, at, is) = next in is_left h who k r at made is
+    by : (o : Option Running) → search_at h who k ≡ o → Some s ≡ option_map (λ (r : Running). r.search) o →
+        CanBeMade h made × (SearchIsQuiet h (step_name made) (step_search made) → ⊥)
+    by None at found = cc
+    by (Some r) at found =
+        let same : s ≡ r.search = cc found in
+        let is = subst (λ (x : SearchState). IsNext who k x made) same next in
+        (goes_on h who k r at made is, is_left h who k r at made is)
 
 pub picked_some : (h : HallState) (made : Step) → (SearchIsQuiet h (step_name made) (step_search made) → ⊥) → (Some made ≡ None) ↔ NothingToDo h
 picked_some h made left = (λ none. clash none, λ nothing. absurd (left (nothing (step_name made) (step_search made))))

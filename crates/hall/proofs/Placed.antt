@@ -1,5 +1,5 @@
 -- A hall where a tenant became another one, and where one of its searches goes on.
-use Rattle.std.proofs.Common.{◌≡◌, ◌∙◌, ℕ, List, ap, sym, refl, subst₂, Option, Some, option_map}
+use Rattle.std.proofs.Common.{◌≡◌, ◌∙◌, ℕ, List, ap, refl, Some}
 use Rattle.std.specs.Ordering.{nat_cmp}
 use Rattle.std.specs.FinMap.{FinMap, get, insert}
 use Rattle.names.specs.Name.{name_order}
@@ -7,9 +7,8 @@ use Rattle.vaults.specs.Journal.{marked_view}
 use Rattle.vaults.proofs.Orders.{names_exact}
 use Rattle.hall.specs.declared.calls.requests.Request.{Request}
 use Rattle.hall.specs.declared.calls.replies.Reply.{Reply}
-use Rattle.hall.specs.Account.{Account}
 use Rattle.hall.specs.Answers.{sight, Answers}
-use Rattle.hall.specs.Hall.{Running, Tenant, HallState, account, changed_by, with_tenant, with_search, search_of, search_at, hall_after, AnswersTo, IsServed}
+use Rattle.hall.specs.Hall.{Running, Tenant, HallState, account, with_tenant, with_search, search_of, search_at, hall_after, IsServed}
 use Rattle.hall.proofs.Maps.{numbers_exact, get_inserted, insert_again, insert_twice}
 use Rattle.hall.proofs.laws.HallChanges.{changed_here, tenant_of}
 
@@ -19,7 +18,7 @@ put h who t = record h { tenants = insert h.tenants who t }
 
 module _ (h : HallState) (who : List ℕ) (t u : Tenant) (here : get h.tenants who ≡ Some t) where
   pub put_changed : (change : Tenant → Tenant) → u ≡ change t → put h who u ≡ with_tenant h who change
-  put_changed change is = ap (put h who) is ∙ sym (ap (changed_by h who change) here)
+  put_changed change is = rw (is, here)
 
   -- a tenant that is as it was changes nothing
   pub put_again : u ≡ t → put h who u ≡ h
@@ -32,10 +31,7 @@ module _ (h : HallState) (who : List ℕ) (t u : Tenant) (here : get h.tenants w
       Answers who (sight (marked_view h.journal who) q) (account h.journal who t) q told (account h.journal who u) →
       put h who u ≡ hall_after h who q told → IsServed h who q told (put h who u)
   served_as q told answers after = record {
-    answers = subst₂ (λ (o p : Option Account). AnswersTo h who o q told p)
-        (sym (ap (option_map (account h.journal who)) here))
-        (sym (ap (option_map (account h.journal who)) (get_inserted names_exact h.tenants who u)))
-        (account h.journal who u, refl, answers);
+    answers = rw (here, get_inserted names_exact h.tenants who u) (account h.journal who u, refl, answers);
     after = after;
   }
 
@@ -51,19 +47,15 @@ module _ (h : HallState) (who : List ℕ) (k : ℕ) (r : Running) (at : search_a
   pub put_back : with_search h who k r ≡ h
   put_back =
       let (t, found, there) = tenant_of h who k r at in
-      sym (put_changed h who t (record t { searches = insert t.searches k r }) found (λ v. record v { searches = insert v.searches k r }) refl)
-      ∙ put_again h who t (record t { searches = insert t.searches k r }) found
-      (ap (λ (m : FinMap nat_cmp Running). record t { searches = m }) (insert_again numbers_exact t.searches k r there))
+      rw found (put_again h who t (record t { searches = insert t.searches k r }) found
+      (ap (λ (m : FinMap nat_cmp Running). record t { searches = m }) (insert_again numbers_exact t.searches k r there)))
 
   -- of two searches that are put there the later stays
   pub put_twice : (p q : Running) → with_search (with_search h who k p) who k q ≡ with_search h who k q
   put_twice p q =
       let (t, found, there) = tenant_of h who k r at in
       let first : Tenant = record t { searches = insert t.searches k p } in
-      let both : Tenant = record t { searches = insert (insert t.searches k p) k q } in
-      let last : Tenant = record t { searches = insert t.searches k q } in
-      ap (λ (g : HallState). with_search g who k q) (sym (put_changed h who t first found (λ v. record v { searches = insert v.searches k p }) refl))
-      ∙ sym (put_changed (put h who first) who first both (get_inserted names_exact h.tenants who first) (λ v. record v { searches = insert v.searches k q }) refl)
-      ∙ ap (λ (m : FinMap name_order Tenant). record h { tenants = m }) (insert_twice names_exact h.tenants who first both)
-      ∙ ap (put h who) (ap (λ (m : FinMap nat_cmp Running). record t { searches = m }) (insert_twice numbers_exact t.searches k p q))
-      ∙ put_changed h who t last found (λ v. record v { searches = insert v.searches k q }) refl
+      rw (found, get_inserted names_exact h.tenants who first)
+      (ap (λ (m : FinMap name_order Tenant). record h { tenants = m })
+      (insert_twice names_exact h.tenants who first (record t { searches = insert (insert t.searches k p) k q })
+      ∙ ap (λ (m : FinMap nat_cmp Running). insert h.tenants who (record t { searches = m })) (insert_twice numbers_exact t.searches k p q)))

@@ -1,5 +1,5 @@
 -- A poll, and a name that is no tenant's, answered by an account.
-use Rattle.std.proofs.Common.{◌≡◌, ◌∙◌, ℕ, List, ap, sym, refl, subst, Option, Some, None, option_map, Result, Ok, Err}
+use Rattle.std.proofs.Common.{◌≡◌, ◌∙◌, ℕ, List, ap, sym, refl, Option, Some, None, option_map, Result, Ok, Err}
 use Rattle.std.specs.FinMap.{get}
 use Rattle.search.specs.Search.{settled_of}
 use Rattle.hall.specs.declared.faults.Fault.{Fault}
@@ -10,26 +10,20 @@ use Rattle.hall.specs.declared.calls.answers.Answer.{Answer}
 use Rattle.hall.specs.declared.calls.replies.Reply.{Reply}
 use Rattle.hall.specs.declared.calls.replies.Reply.TheVariants.{Answered, Refused}
 use Rattle.vaults.specs.Journal.{marked_view}
-use Rattle.hall.specs.Account.{Account}
-use Rattle.hall.specs.Answers.{sight, Answers, refuses, grants, lacks}
-use Rattle.hall.specs.Hall.{Running, Tenant, HallState, seen, account, search_of, search_at, hall_after, AnswersTo, IsServed, told_as}
+use Rattle.hall.specs.Answers.{sight, Answers, IsClear, refuses, grants, lacks}
+use Rattle.hall.specs.Hall.{Running, Tenant, HallState, seen, account, search_of, search_at, hall_after, IsServed, told_as}
 use Rattle.hall.specs.Kept.{IsNowhere, IsToldOf}
 use Rattle.hall.proofs.Maps.{numbers_exact, get_mapped}
 
 -- a refusal changes nothing
 pub refused_after : (h : HallState) (who : List ℕ) (q : Request) (f : Fault) → hall_after h who q (Refused f) ≡ h
 refused_after h who (request.Alter change) f = refl
-refused_after h who (request.Seek query) f = refl
-refused_after h who (request.Poll k) f = refl
-refused_after h who (request.Close k) f = refl
-refused_after h who request.Vault f = refl
-refused_after h who request.Sees f = refl
-refused_after h who (request.Proof k member) f = refl
+refused_after h who _ f = refl
 
 -- a name that is no tenant's is refused
 pub nobody_refused : (h : HallState) (who : List ℕ) (q : Request) → get h.tenants who ≡ None → IsServed h who q (Refused NoTenant) h
 nobody_refused h who q none = record {
-  answers = subst (λ (o : Option Account). AnswersTo h who o q (Refused NoTenant) o) (sym (ap (option_map (account h.journal who)) none)) (refl, refl);
+  answers = rw none (refl, refl);
   after = sym (refused_after h who q NoTenant);
 }
 
@@ -37,7 +31,7 @@ nobody_refused h who q none = record {
 pub answered_by : (h : HallState) (who : List ℕ) (t : Tenant) → get h.tenants who ≡ Some t → (q : Request) (told : Reply) →
     Answers who (sight (marked_view h.journal who) q) (account h.journal who t) q told (account h.journal who t) → hall_after h who q told ≡ h → IsServed h who q told h
 answered_by h who t here q told answers after = record {
-  answers = subst (λ (o : Option Account). AnswersTo h who o q told o) (sym (ap (option_map (account h.journal who)) here)) (account h.journal who t, refl, answers);
+  answers = rw here (account h.journal who t, refl, answers);
   after = sym after;
 }
 
@@ -50,23 +44,19 @@ none_there h who k f is = by (get h.tenants who) is
     by (Some t) (is, none) = none
 
 module _ (h : HallState) (who : List ℕ) (k : ℕ) (t : Tenant) (here : get h.tenants who ≡ Some t) where
-  asked_there : (r : Running) → get t.searches k ≡ Some r → get (account h.journal who t).searches k ≡ Some (seen r)
-  asked_there r at = get_mapped numbers_exact seen t.searches k ∙ ap (option_map seen) at
+  pub asked_of : (o : Option Running) → get t.searches k ≡ o → get (account h.journal who t).searches k ≡ option_map seen o
+  asked_of o at = get_mapped numbers_exact seen t.searches k ∙ ap (option_map seen) at
 
   pub polled_nowhere : get t.searches k ≡ None → IsServed h who (request.Poll k) (Refused NoSuchSearch) h
   polled_nowhere none =
-      answered_by h who t here (request.Poll k) (Refused NoSuchSearch) (refuses NoSuchSearch (get_mapped numbers_exact seen t.searches k ∙ ap (option_map seen) none, refl)) refl
+      answered_by h who t here (request.Poll k) (Refused NoSuchSearch) (refuses NoSuchSearch (asked_of None none, refl)) refl
+
+  clear : (r : Running) → get t.searches k ≡ Some r → IsClear who (account h.journal who t) (request.Poll k)
+  clear r at f due = let clash : Some (seen r) ≡ None = sym (asked_of (Some r) at) ∙ due.0 in cc
 
   pub polled_there : (r : Running) → get t.searches k ≡ Some r → (told : Result Answer Fault) → IsToldOf (settled_of r.search) told →
       IsServed h who (request.Poll k) (told_as Answered told) h
   polled_there r at (Ok answer) is =
-      answered_by h who t here (request.Poll k) (Answered answer) (grants (λ f due. clear due.0) (seen r, asked_there r at, ap Answered is, refl)) refl
-    where
-      clear : get (account h.journal who t).searches k ≡ None → ⊥
-      clear none = let clash : Some (seen r) ≡ None = sym (asked_there r at) ∙ none in cc
+      answered_by h who t here (request.Poll k) (Answered answer) (grants (clear r at) (seen r, asked_of (Some r) at, ap Answered is, refl)) refl
   polled_there r at (Err f) (is, (names, lists)) =
-      subst (λ (g : Fault). IsServed h who (request.Poll k) (Refused g) h) (sym is)
-      (answered_by h who t here (request.Poll k) (Refused Memory) (lacks (λ f due. clear due.0) (seen r, names, asked_there r at, lists)) refl)
-    where
-      clear : get (account h.journal who t).searches k ≡ None → ⊥
-      clear none = let clash : Some (seen r) ≡ None = sym (asked_there r at) ∙ none in cc
+      rw is (answered_by h who t here (request.Poll k) (Refused Memory) (lacks (clear r at) (seen r, names, asked_of (Some r) at, lists)) refl)

@@ -1,6 +1,6 @@
 -- A step of a search goes on with one question, and what is known of a search just opened.
 use Rattle.std.proofs.Common.{refl, ◌+◌, ◌==◌, ℕ, Bool, true, false, cond, List, [], ◌∷◌, ◌≡◌, ap, Option, Some, None, ne_eqb, arith}
-use Rattle.vaults.specs.Journal.{Vault, credentials}
+use Rattle.vaults.specs.Journal.{Vault}
 use Rattle.search.specs.declared.queries.Query.{Query}
 use Rattle.search.specs.declared.queries.Hint.{Hint}
 use Rattle.search.specs.declared.queries.Need.{Need}
@@ -12,7 +12,7 @@ use Rattle.credential_text.specs.declared.exprs.Expr.TheVariants.{Rol}
 use Rattle.search.specs.declared.letters.Load.{Load}
 use Rattle.search.specs.declared.letters.Load.TheVariants as load
 use Rattle.search.specs.declared.stages.Stage.{Stage}
-use Rattle.search.specs.Ending.{Settled, Nothing, MaySettle, asked_role}
+use Rattle.search.specs.Ending.{Settled, Nothing, asked_role}
 use Rattle.search.specs.Search.{found, SearchState, SameQuestion, settled_of}
 use Rattle.search.specs.Finish.{Finishes}
 use Rattle.search.specs.Stage.{if_held, NoneHeld}
@@ -20,12 +20,7 @@ use Rattle.scholten_core.specs.declared.parents.Parent.TheVariants.{Environment}
 use Rattle.hall.specs.declared.calls.steps.Step.{Step}
 use Rattle.hall.specs.declared.calls.steps.Step.TheVariants as step
 use Rattle.hall.specs.declared.calls.steps.Stepped.{Stepped}
-use Rattle.hall.specs.Steps.{just_opened, TakesAt, PutsBack, IsMade, StepsSearch}
-
--- the search goes on with its question, and may settle
-pub record SearchGoesOn (old new : SearchState) : Type 0 where
-  pub question : SameQuestion old new
-  pub settles : MaySettle old.work (credentials old.snapshot.vaults) old.query (settled_of old) (settled_of new)
+use Rattle.hall.specs.Steps.{just_opened, TakesAt, PutsBack, IsMade, StepsSearch, SearchGoesOn}
 
 -- another stage is no other question
 pub staged : (old new : SearchState) (at : Stage) → new ≡ record old { stage = at } → SameQuestion old new

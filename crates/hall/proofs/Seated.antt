@@ -1,5 +1,5 @@
 -- What the tables of a hall find: a tenant by its name, and its searches by their numbers.
-use Rattle.std.proofs.Common.{◌≡◌, ◌∙◌, ◌==◌, ℕ, true, List, slice_get, Option, None, Some, MatchOption, ap, sym, subst}
+use Rattle.std.proofs.Common.{◌≡◌, ◌∙◌, ◌==◌, ℕ, true, List, slice_get, None, Some, ap, sym}
 use Rattle.std.specs.FinMap.{get, insert, from_entries}
 use Rattle.std.specs.Cmp.{unsigned_tied}
 use Rattle.std.specs.Ordering.{nat_cmp}
@@ -26,14 +26,12 @@ module _ {S : Type 0} (m : IndexMap (List ℕ) Tenant S) (tenants : Tenants) (vi
   pub seat_named : (at : ℕ) (name : List ℕ) (t : Tenant) → IsPlaceOf (is_same who) m.entries at → Some (name, t) ≡ slice_get m.entries at →
       table.get is_same m name ≡ Some t → get tenants who ≡ Some t
   seat_named at name t place entry value =
-      let same : is_same who name ≡ true =
-      subst (λ (o : Option (List ℕ × Tenant)). MatchOption o (table.get is_same m who ≡ None) (λ e. is_same who e.0 ≡ true)) (sym entry) place in
+      let same : is_same who name ≡ true = rw (← entry) at place in
       seat_found ∙ ap (table.get is_same m) (same_from_tied names_exact who name (is_same_tied who name ∙ same)) ∙ value
 
   -- and where none stands there the name is nobody's
   pub seat_lacks : (at : ℕ) → IsPlaceOf (is_same who) m.entries at → None ≡ slice_get m.entries at → get tenants who ≡ None
-  seat_lacks at place entry =
-      seat_found ∙ subst (λ (o : Option (List ℕ × Tenant)). MatchOption o (table.get is_same m who ≡ None) (λ e. is_same who e.0 ≡ true)) (sym entry) place
+  seat_lacks at place entry = seat_found ∙ (rw (← entry) at place)
 
   module _ (at : ℕ) (t : Tenant) (unique : IsUnique is_same m) (place : IsPlaceOf (is_same who) m.entries at) (value : slice_get (values m) at ≡ Some t) where
     -- so it is the one at the name's place

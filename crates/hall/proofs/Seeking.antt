@@ -11,8 +11,7 @@ use Rattle.hall.specs.declared.faults.Fault.TheVariants.{NoSuchSearch, Memory}
 use Rattle.hall.specs.declared.calls.requests.Request.TheVariants.{Seek, Close}
 use Rattle.hall.specs.declared.calls.replies.Reply.TheVariants.{Opened, Closed, Refused}
 use Rattle.hall.specs.Steps.{just_opened}
-use Rattle.hall.specs.Account.{Asked, seek_refusal}
-use Rattle.hall.specs.Answers.{opened, refuses, grants, lacks}
+use Rattle.hall.specs.Answers.{Asked, seek_refusal, opened, refuses, grants, lacks}
 use Rattle.hall.specs.Hall.{Running, Tenant, HallState, seen, account, beginning, IsServed, told_as}
 use Rattle.hall.proofs.Maps.{numbers_exact, get_removed, get_mapped, mapped_insert, mapped_remove}
 use Rattle.hall.proofs.SearchSteps.{nothing_yet}
@@ -33,7 +32,7 @@ seen_beginning h who query work = λ i. record {
 module _ (h : HallState) (who : List ℕ) (t u : Tenant) (here : get h.tenants who ≡ Some t) where
   -- where nothing changed, what is answered by the account of before is served
   unmoved : (q : _) (told : _) → IsServed h who q told h → u ≡ t → IsServed h who q told (put h who u)
-  unmoved q told served same = subst (IsServed h who q told) (sym (put_again h who t u here same)) served
+  unmoved q told served same = rw (put_again h who t u here same) served
 
   pub sought : (query : Query) (r : Result ℕ Fault) → OnOk r (seek_refusal (account h.journal who t) ≡ None) → IfOk r (λ n. n ≡ t.opens + 1) →
       IfOk r (λ n. u ≡ opening h.journal who query n t) → IfErr r (λ f. f ≡ unwrap_or (seek_refusal (account h.journal who t)) Memory) → OnErr r (u ≡ t) →
@@ -60,10 +59,10 @@ module _ (h : HallState) (who : List ℕ) (t u : Tenant) (here : get h.tenants w
           answered_by h who t here (Seek query) (Refused f)
           (refuses f (due ∙ ap Some (sym (refused ∙ ap (λ (o : Option Fault). unwrap_or o Memory) due)))) refl
       by None none =
-          subst (λ (e : Fault). IsServed h who (Seek query) (Refused e) h) (sym (refused ∙ ap (λ (o : Option Fault). unwrap_or o Memory) none))
+          rw (refused ∙ ap (λ (o : Option Fault). unwrap_or o Memory) none)
           (answered_by h who t here (Seek query) (Refused Memory) (lacks (λ g due. let clash : None ≡ Some g = sym none ∙ due in cc) tt) refl)
 
-  pub ended : (k : ℕ) (r : Result (Unit {0}) Fault) → OnOk r (get t.searches k ≡ None → ⊥) → OnOk r (u ≡ closing k t) →
+  pub ended : {X : Type 0} (k : ℕ) (r : Result X Fault) → OnOk r (get t.searches k ≡ None → ⊥) → OnOk r (u ≡ closing k t) →
       IfErr r (λ f. (f ≡ NoSuchSearch) × (get t.searches k ≡ None)) → OnErr r (u ≡ t) →
       IsServed h who (Close k) (told_as (λ done. Closed) r) (put h who u)
   ended k (Ok done) there is refused unchanged =
@@ -84,7 +83,7 @@ module _ (h : HallState) (who : List ℕ) (t u : Tenant) (here : get h.tenants w
       (refuses f (get_mapped numbers_exact seen t.searches k ∙ ap (option_map seen) refused.1, refused.0)) refl) unchanged
 
 -- a search that is ended, or wasn't there, isn't there any more
-pub ended_is_gone : (t u : Tenant) (k : ℕ) (r : Result (Unit {0}) Fault) → OnOk r (u ≡ closing k t) → IfErr r (λ f. (f ≡ NoSuchSearch) × (get t.searches k ≡ None)) → OnErr r (u ≡ t) →
+pub ended_is_gone : {X : Type 0} (t u : Tenant) (k : ℕ) (r : Result X Fault) → OnOk r (u ≡ closing k t) → IfErr r (λ f. (f ≡ NoSuchSearch) × (get t.searches k ≡ None)) → OnErr r (u ≡ t) →
     get u.searches k ≡ None
 ended_is_gone t u k (Ok done) is refused unchanged = ap (λ (v : Tenant). get v.searches k) is ∙ get_removed numbers_exact t.searches k
 ended_is_gone t u k (Err f) is refused unchanged = ap (λ (v : Tenant). get v.searches k) unchanged ∙ refused.1

@@ -5,7 +5,7 @@ use Rattle.rt0_rules.proofs.LawLemmas.{members_are_one}
 use Rattle.rt0_rules.proofs.WorkLaws.{within_does_not_exceed}
 use Rattle.search.specs.declared.queries.Query.{Query}
 use Rattle.search.specs.declared.queries.Query.TheVariants.{Ask, Who}
-use Rattle.search.specs.Ending.{Settled, Nothing, Yes, No, Members, Spent, Broken, IsTruth, IsEnding, answers, spends, breaks, MaySettle, asked_role}
+use Rattle.search.specs.Ending.{Settled, Nothing, Yes, No, Members, Broken, IsTruth, IsEnding, answers, spends, breaks, MaySettle, asked_role}
 
 -- what may happen between two moments may happen twice over
 pub settles_twice : (limit : ℕ) (C : List Credential) (q : Query) (a b c : Settled) → MaySettle limit C q a b → MaySettle limit C q b c → MaySettle limit C q a c
@@ -25,29 +25,8 @@ truth_unique C (Ask role who) Yes Yes h k = refl
 truth_unique C (Ask role who) Yes No h k = absurd (k h)
 truth_unique C (Ask role who) No Yes h k = absurd (h k)
 truth_unique C (Ask role who) No No h k = refl
-truth_unique C (Ask role who) Yes Nothing h k = absurd k
-truth_unique C (Ask role who) Yes (Members names) h k = absurd k
-truth_unique C (Ask role who) Yes Spent h k = absurd k
-truth_unique C (Ask role who) Yes Broken h k = absurd k
-truth_unique C (Ask role who) No Nothing h k = absurd k
-truth_unique C (Ask role who) No (Members names) h k = absurd k
-truth_unique C (Ask role who) No Spent h k = absurd k
-truth_unique C (Ask role who) No Broken h k = absurd k
-truth_unique C (Ask role who) Nothing b h k = absurd h
-truth_unique C (Ask role who) (Members names) b h k = absurd h
-truth_unique C (Ask role who) Spent b h k = absurd h
-truth_unique C (Ask role who) Broken b h k = absurd h
 truth_unique C (Who role) (Members names) (Members others) h k = ap Members (members_are_one C role names others h k)
-truth_unique C (Who role) (Members names) Nothing h k = absurd k
-truth_unique C (Who role) (Members names) Yes h k = absurd k
-truth_unique C (Who role) (Members names) No h k = absurd k
-truth_unique C (Who role) (Members names) Spent h k = absurd k
-truth_unique C (Who role) (Members names) Broken h k = absurd k
-truth_unique C (Who role) Nothing b h k = absurd h
-truth_unique C (Who role) Yes b h k = absurd h
-truth_unique C (Who role) No b h k = absurd h
-truth_unique C (Who role) Spent b h k = absurd h
-truth_unique C (Who role) Broken b h k = absurd h
+truth_unique C q a b h k = search
 
 -- and within one limit one end, but for want of memory
 pub ending_unique : (limit : ℕ) (C : List Credential) (q : Query) (a b : Settled) → IsEnding limit C q a → IsEnding limit C q b → a ≢ Broken → b ≢ Broken → a ≡ b

@@ -1,5 +1,5 @@
 -- An index of the searches that may still go on, beside the hall that has them.
-use Rattle.std.proofs.Common.{◌≡◌, ◌∙◌, ◌==◌, ◌⊎◌, ℕ, Bool, true, false, cond, List, [], ◌∷◌, length, ap, sym, refl, subst, inl, inr, arith, Option, Some, None, Result, Ok, Err, is_some}
+use Rattle.std.proofs.Common.{◌≡◌, ◌∙◌, ◌==◌, ℕ, Bool, true, false, cond, List, [], ◌∷◌, length, ap, sym, refl, subst, inl, inr, arith, Option, Some, None, is_some}
 use Rattle.std.specs.FinMap.{get}
 use Rattle.std.specs.List.{list_any}
 use Rattle.std.proofs.lemmas.Bool.{false≢true}
@@ -13,47 +13,21 @@ use Rattle.indexmap.specs.IndexSet.{IndexSet, contains}
 use Rattle.indexmap.specs.IndexSet as set
 use Rattle.search.specs.declared.queries.Query.{Query}
 use Rattle.search.specs.Search.{SearchState, Settles, settled_of}
-use Rattle.search.specs.Finish.{IsDriven}
-use Rattle.hall.specs.Batches.{TakenLetter, WorksOn, HandsInEach}
 use Rattle.hall.specs.declared.calls.requests.Request.{Request}
 use Rattle.hall.specs.declared.calls.requests.Request.TheVariants.{Seek}
 use Rattle.hall.specs.declared.calls.replies.Reply.{Reply}
 use Rattle.hall.specs.declared.calls.replies.Reply.TheVariants.{Opened}
 use Rattle.hall.specs.Hall.{Running, Tenant, HallState, with_search, search_of, search_at, IsServed}
-use Rattle.hall.specs.Kept.{TakesJob, IsUnsettled, Index, IsIn, Lists, KeepsBut, ListsUnsettled}
+use Rattle.hall.specs.Kept.{IsUnsettled, Index, IsIn, Lists, KeepsBut, ListsUnsettled}
 use Rattle.hall.proofs.Maps.{get_inserted}
 use Rattle.hall.proofs.Placed.{put, found_after}
 use Rattle.hall.proofs.laws.HallChanges.{replaced_each, inserted_each}
 use Rattle.hall.proofs.laws.HallRequests.{requested_each}
-use Rattle.hall.proofs.laws.HallSteps.{drives_on}
 
 -- a search that has come to nothing yet had before
 pub unsettled_before : (s t : SearchState) → Settles s t → IsUnsettled t → IsUnsettled s
 unsettled_before s t (inl same) nothing = sym same ∙ nothing
 unsettled_before s t (inr ends) nothing = ends.0
-
--- through steps in a row too
-pub unsettled_before_driven : (s t : SearchState) → IsDriven s t → IsUnsettled t → IsUnsettled s
-unsettled_before_driven s t driven = unsettled_before s t (drives_on s t driven).settles
-
-pub unsettled_before_work : (who : List ℕ) (k : ℕ) (s : SearchState) (n : ℕ) (letters : List TakenLetter) (t : SearchState) → WorksOn who k s n letters t → IsUnsettled t → IsUnsettled s
-unsettled_before_work who k s n letters t WorksOn.nothing unsettled = unsettled
-unsettled_before_work who k s n letters t (WorksOn.signal {n = m} {taken = before} {middle} works first) unsettled =
-    unsettled_before_work who k s m before middle works (unsettled_before middle t first.settles unsettled)
-unsettled_before_work who k s n letters t (WorksOn.letter {n = m} {taken = before} {job} {middle} works takes) unsettled =
-    unsettled_before_work who k s m before middle works (unsettled_before middle t takes.4 unsettled)
-
-pub unsettled_before_hands : (who : List ℕ) (k : ℕ) (back : Bool) (s : SearchState) (letters : List TakenLetter) (n : ℕ) (t : SearchState) → HandsInEach who k back s letters n t →
-    IsUnsettled t → IsUnsettled s
-unsettled_before_hands who k back s letters n t HandsInEach.nothing unsettled = unsettled
-unsettled_before_hands who k back s letters n t (HandsInEach.letter {before} {n = m} {middle} one done hands last) unsettled =
-    unsettled_before_hands who k back s before m middle hands (unsettled_before middle t last.3 unsettled)
-
-pub unsettled_before_taken : {E : Type 0} (who : List ℕ) (k place : ℕ) (s : SearchState) (told : Result (Option TakenLetter) E) (t : SearchState) →
-    TakesJob who k place s told t → IsUnsettled t → IsUnsettled s
-unsettled_before_taken who k place s (Ok None) t (none, same, sound) unsettled = subst IsUnsettled same unsettled
-unsettled_before_taken who k place s (Ok (Some job)) t takes unsettled = unsettled_before s t takes.4 unsettled
-unsettled_before_taken who k place s (Err f) t same unsettled = subst IsUnsettled same unsettled
 
 module _ {Z : Type 0} (numbers : IndexSet ℕ Z) where
   -- a number that is put in beside others
@@ -71,27 +45,21 @@ module _ {Z : Type 0} (numbers : IndexSet ℕ Z) where
 module _ {S Z : Type 0} where
   -- where the numbers of one tenant are changed, the index keeps what these have, and all of the others
   changed : (old new : Index S Z) (who : List ℕ) (numbers : Option (IndexSet ℕ Z)) (out : ℕ → Type 0) → Updates is_same old new who numbers →
-      ((k : ℕ) → Lists old who k → out k ⊎ IsIn k numbers) → KeepsBut (λ name k. (name ≡ who) × out k) old new
-  changed old new who numbers out updates here name k listed = by (is_same who name) refl
+      ((k : ℕ) → (out k → ⊥) → Lists old who k → IsIn k numbers) → KeepsBut (λ name k. (name ≡ who) × out k) old new
+  changed old new who numbers out updates here name k stays listed = by (is_same who name) refl
     where
-      at : who ≡ name → out k ⊎ IsIn k numbers → ((name ≡ who) × out k) ⊎ Lists new name k
-      at is (inl left) = inl (sym is, left)
-      at is (inr stays) = inr (subst (λ (n : List ℕ). Lists new n k) is (subst (IsIn k) (sym updates.1) stays))
-
-      by : (b : Bool) → is_same who name ≡ b → ((name ≡ who) × out k) ⊎ Lists new name k
-      by false apart = inr (subst (IsIn k) (sym (updates.2 name apart)) listed)
+      by : (b : Bool) → is_same who name ≡ b → Lists new name k
+      by false apart = subst (IsIn k) (sym (updates.2 name apart)) listed
       by true same =
           let is : who ≡ name = same_from_is_same who name same in
-          at is (here k (subst (λ (n : List ℕ). Lists old n k) (sym is) listed))
+          subst (λ (n : List ℕ). Lists new n k) is (subst (IsIn k) (sym updates.1)
+          (here k (λ left. stays (sym is, left)) (subst (λ (n : List ℕ). Lists old n k) (sym is) listed)))
 
   -- where one tenant has more numbers, the index keeps all
   pub grown : (old new : Index S Z) (who : List ℕ) (numbers : IndexSet ℕ Z) → Updates is_same old new who (Some numbers) →
       ((k : ℕ) → Lists old who k → contains (◌==◌) numbers k ≡ true) → KeepsBut (λ name k. ⊥) old new
-  grown old new who numbers updates here name k listed = by (changed old new who (Some numbers) (λ j. ⊥) updates (λ j there. inr (here j there)) name k listed)
-    where
-      by : ((name ≡ who) × ⊥) ⊎ Lists new name k → ⊥ ⊎ Lists new name k
-      by (inl left) = absurd left.1
-      by (inr stays) = inr stays
+  grown old new who numbers updates here name k stays =
+      changed old new who (Some numbers) (λ j. ⊥) updates (λ j out. here j) name k (λ out. out.1)
 
   module _ (old new : Index S Z) (who : List ℕ) (before after : IndexSet ℕ Z) (k : ℕ) (there : table.get is_same old who ≡ Some before)
       (writes : WritesThrough is_same (is_same who) old after new) (takes : set.Updates (◌==◌) before after k false) where
@@ -100,11 +68,11 @@ module _ {S Z : Type 0} where
 
     -- a number of a tenant is taken out
     pub left : KeepsBut (λ name j. (name ≡ who) × (j ≡ k)) old new
-    left = changed old new who (Some after) (λ j. j ≡ k) updates (λ j listed. by j (subst (IsIn j) there listed) (k == j) refl)
+    left = changed old new who (Some after) (λ j. j ≡ k) updates (λ j other listed. by j other (subst (IsIn j) there listed) (k == j) refl)
       where
-        by : (j : ℕ) → contains (◌==◌) before j ≡ true → (b : Bool) → (k == j) ≡ b → (j ≡ k) ⊎ IsIn j (Some after)
-        by j listed true same = inl (sym ((Decides-eqb k j).0 same))
-        by j listed false apart = inr (takes.2 j apart ∙ listed)
+        by : (j : ℕ) → (j ≡ k → ⊥) → contains (◌==◌) before j ≡ true → (b : Bool) → (k == j) ≡ b → IsIn j (Some after)
+        by j other listed true same = absurd (other (sym ((Decides-eqb k j).0 same)))
+        by j other listed false apart = takes.2 j apart ∙ listed
 
     -- and isn't there any more
     pub gone : Lists new who k → ⊥
@@ -112,29 +80,19 @@ module _ {S Z : Type 0} where
 
     -- and the tenant, where it was the last
     pub left_empty : (last : Index S Z) → length after.keys ≡ 0 → Updates is_same new last who None → KeepsBut (λ name j. (name ≡ who) × (j ≡ k)) old last
-    left_empty last empty drops name j listed = by (left name j listed)
+    left_empty last empty drops name j stays listed =
+        changed new last who None (λ i. ⊥) drops (λ i out among. none after.keys i empty (subst (IsIn i) updates.1 among)) name j
+        (λ out. out.1) (left name j stays listed)
       where
         none : (keys : List ℕ) (i : ℕ) → length keys ≡ 0 → list_any (λ q. i == q) keys ≡ true → ⊥
         none [] i short there = cc
         none (q ∷ keys) i short there = omega (arith, short)
 
-        again : ((name ≡ who) × ⊥) ⊎ Lists last name j → ((name ≡ who) × (j ≡ k)) ⊎ Lists last name j
-        again (inl out) = absurd out.1
-        again (inr stays) = inr stays
-
-        by : ((name ≡ who) × (j ≡ k)) ⊎ Lists new name j → ((name ≡ who) × (j ≡ k)) ⊎ Lists last name j
-        by (inl out) = inl out
-        by (inr stays) =
-            again (changed new last who None (λ i. ⊥) drops (λ i listed. absurd (none after.keys i empty (subst (IsIn i) updates.1 listed))) name j stays)
-
   -- what is left out need not be in the index
   pub still_listed : (old new : Index S Z) (h : HallState) (out : List ℕ → ℕ → Type 0) → KeepsBut out old new → ListsUnsettled old h →
       ((name : List ℕ) (k : ℕ) (r : Running) → out name k → search_at h name k ≡ Some r → IsUnsettled r.search → ⊥) → ListsUnsettled new h
-  still_listed old new h out keeps listed settled name t k r found at unsettled = by (keeps name k (listed name t k r found at unsettled))
-    where
-      by : out name k ⊎ Lists new name k → Lists new name k
-      by (inl left) = absurd (settled name k r left (ap (search_of k) found ∙ at) unsettled)
-      by (inr stays) = stays
+  still_listed old new h out keeps listed settled name t k r found at unsettled =
+      keeps name k (λ left. settled name k r left (ap (search_of k) found ∙ at) unsettled) (listed name t k r found at unsettled)
 
   -- a search that was ended is left out
   pub listed_ended : (old new : Index S Z) (h : HallState) (who : List ℕ) (k : ℕ) (u : Tenant) → get u.searches k ≡ None →
@@ -142,9 +100,7 @@ module _ {S Z : Type 0} where
   listed_ended old new h who k u gone keeps listed =
       still_listed old new (put h who u) (λ name j. (name ≡ who) × (j ≡ k)) keeps listed
       (λ name j r out at unsettled.
-      let clash : Some r ≡ None =
-      sym at ∙ ap (λ (n : List ℕ). search_at (put h who u) n j) out.0 ∙ ap (search_at (put h who u) who) out.1
-      ∙ ap (search_of k) (get_inserted names_exact h.tenants who u) ∙ gone in
+      let clash : None ≡ Some r = rw (out.0, out.1, get_inserted names_exact h.tenants who u, gone) at at in
       cc)
 
   -- a search that goes on is left out where it has settled
@@ -156,9 +112,7 @@ module _ {S Z : Type 0} where
       (replaced_each (λ name t j x. IsUnsettled x.search → Lists old name j) h who k r q (λ t m j x here. here) at
       (λ t here unsettled. here (before unsettled)) listed)
       (λ name j x out found unsettled.
-      let both : Some q ≡ Some x =
-      sym (found_after h who k r at q) ∙ sym (ap (λ (n : List ℕ). search_at (with_search h who k q) n k) out.0)
-      ∙ sym (ap (search_at (with_search h who k q) name) out.1) ∙ found in
+      let both : Some q ≡ Some x = rw (out.0, out.1, found_after h who k r at q) at found in
       let same : q ≡ x = cc in
       out.2 (ap (λ (y : Running). settled_of y.search) same ∙ unsettled))
     where
@@ -178,8 +132,4 @@ listed_requested index old new who q told served listed opened =
 -- what is left out may be said to be so for a reason
 pub out_with : {S Z : Type 0} (old new : Index S Z) (who : List ℕ) (k : ℕ) (reason : Type 0) → KeepsBut (λ name j. (name ≡ who) × (j ≡ k)) old new → reason →
     KeepsBut (λ name j. (name ≡ who) × (j ≡ k) × reason) old new
-out_with old new who k reason keeps why name j listed = by (keeps name j listed)
-  where
-    by : ((name ≡ who) × (j ≡ k)) ⊎ Lists new name j → ((name ≡ who) × (j ≡ k) × reason) ⊎ Lists new name j
-    by (inl out) = inl (out.0, out.1, why)
-    by (inr stays) = inr stays
+out_with old new who k reason keeps why name j stays = keeps name j (λ out. stays (out.0, out.1, why))

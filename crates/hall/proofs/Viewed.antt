@@ -1,5 +1,5 @@
 -- What a tenant is told of its view, and of a proof, by its account.
-use Rattle.std.proofs.Common.{◌≡◌, ◌∙◌, ℕ, List, ap, sym, refl, subst, inl, inr, Option, Some, None, option_map, Result}
+use Rattle.std.proofs.Common.{◌≡◌, ◌∙◌, ℕ, List, ap, sym, refl, inl, inr, Option, Some, None, option_map, Result}
 use Rattle.std.specs.FinMap.{get}
 use Rattle.credential_text.specs.declared.credentials.Credential.{Credential}
 use Rattle.rt0_rules.specs.Membership.{IsMember}
@@ -23,13 +23,11 @@ use Rattle.hall.specs.declared.calls.replies.Reply.{Reply}
 use Rattle.hall.specs.declared.calls.replies.Reply.TheVariants.{Refused}
 use Rattle.hall.specs.declared.calls.replies.Reply.TheVariants as reply
 use Rattle.hall.specs.Fault.{proof_fault}
-use Rattle.hall.specs.Account.{Asked}
 use Rattle.hall.specs.Answers.{RefusesProof, refuses, grants, lacks}
 use Rattle.hall.specs.Hall.{Running, Tenant, HallState, seen, account, search_of, search_at, IsServed, IsToldOver, told_as}
 use Rattle.hall.specs.Kept.{IsNowhere, IsToldOf}
-use Rattle.hall.proofs.Maps.{numbers_exact, get_mapped}
 use Rattle.hall.proofs.Completed.{answer_completed}
-use Rattle.hall.proofs.Polled.{nobody_refused, answered_by, polled_nowhere, polled_there}
+use Rattle.hall.proofs.Polled.{nobody_refused, answered_by, asked_of, polled_nowhere, polled_there}
 use Rattle.hall.proofs.laws.HallChanges.{tenant_of}
 
 module _ (h : HallState) (who : List ℕ) (t : Tenant) (here : get h.tenants who ≡ Some t) where
@@ -51,14 +49,11 @@ module _ (h : HallState) (who : List ℕ) (t : Tenant) (here : get h.tenants who
   nothing_polled k none = polled_nowhere h who k t here (sym (ap (search_of k) here) ∙ none)
 
   module _ (k : ℕ) (member : List ℕ) where
-    asked_of : (o : Option Running) → get t.searches k ≡ o → get (account h.journal who t).searches k ≡ option_map seen o
-    asked_of o at = get_mapped numbers_exact seen t.searches k ∙ ap (option_map seen) at
-
     -- a refusal that is due
     refused_for : (o : Option Running) → get t.searches k ≡ o → (f : Fault) → RefusesProof (option_map seen o) member f →
         IsServed h who (request.Proof k member) (Refused f) h
     refused_for o at f due =
-        answered_by h who t here (request.Proof k member) (Refused f) (refuses f (subst (λ (o : Option Asked). RefusesProof o member f) (sym (asked_of o at)) due)) refl
+        answered_by h who t here (request.Proof k member) (Refused f) (refuses f (rw (asked_of h who k t here o at) due)) refl
 
     pub nothing_proved : search_at h who k ≡ None → IsServed h who (request.Proof k member) (Refused NoSuchSearch) h
     nothing_proved none = refused_for None (sym (ap (search_of k) here) ∙ none) NoSuchSearch refl
@@ -67,7 +62,7 @@ module _ (h : HallState) (who : List ℕ) (t : Tenant) (here : get h.tenants who
       -- where there is a proof no refusal is due
       clear : IsCompleted r.search.stage → IsMember (rows_of r.search) member (asked_role r.search.query) → (f : Fault) →
           RefusesProof (get (account h.journal who t).searches k) member f → ⊥
-      clear done is_member f due = by (subst (λ (o : Option Asked). RefusesProof o member f) (asked_of (Some r) at) due)
+      clear done is_member f due = by (rw (asked_of h who k t here (Some r) at) at due)
         where
           by : RefusesProof (Some (seen r)) member f → ⊥
           by (inl (e, working)) = working ((answer_completed r.search).1 done)
@@ -77,7 +72,7 @@ module _ (h : HallState) (who : List ℕ) (t : Tenant) (here : get h.tenants who
           IsServed h who (request.Proof k member) (reply.Proof steps) h
       proof_told steps done proves =
           answered_by h who t here (request.Proof k member) (reply.Proof steps)
-          (grants (clear done (sound (rows_of r.search) (asked_role r.search.query) member steps proves)) (seen r, steps, asked_of (Some r) at, proves, refl, refl)) refl
+          (grants (clear done (sound (rows_of r.search) (asked_role r.search.query) member steps proves)) (seen r, steps, asked_of h who k t here (Some r) at, proves, refl, refl)) refl
 
       pub proof_refused : (f : ProofFault) → WhyRefused r.search member f → IsServed h who (request.Proof k member) (Refused (proof_fault f)) h
       proof_refused faults.NotDone why = refused_for (Some r) at NotDone (inl (refl, λ answered. why ((answer_completed r.search).0 answered)))
@@ -88,21 +83,19 @@ module _ (h : HallState) (who : List ℕ) (t : Tenant) (here : get h.tenants who
 pub polled_over : (s : SearchState) (told : Result Answer Fault) → IsToldOf (settled_of s) told → IsToldOver s request.Poll (told_as reply.Answered told)
 polled_over s told is h who k r at same =
     let (t, found, there) = tenant_of h who k r at in
-    polled_there h who k t found r there told (subst (λ (x : SearchState). IsToldOf (settled_of x) told) (sym same) is)
+    polled_there h who k t found r there told (rw same is)
 
 module _ (s : SearchState) (member : List ℕ) where
   pub proved_over : (steps : List ProofStep) → IsCompleted s.stage → IsProof (rows_of s) (asked_role s.query) member steps →
       IsToldOver s (λ k. request.Proof k member) (reply.Proof steps)
   proved_over steps done proves h who k r at same =
       let (t, found, there) = tenant_of h who k r at in
-      proof_told h who t found k member r there steps (subst (λ (x : SearchState). IsCompleted x.stage) (sym same) done)
-      (subst (λ (x : SearchState). IsProof (rows_of x) (asked_role x.query) member steps) (sym same) proves)
+      proof_told h who t found k member r there steps (rw same done) (rw same proves)
 
   pub unproved_over : (f : ProofFault) (g : Fault) → g ≡ proof_fault f → WhyRefused s member f → IsToldOver s (λ k. request.Proof k member) (Refused g)
   unproved_over f g is why h who k r at same =
       let (t, found, there) = tenant_of h who k r at in
-      subst (λ (x : Fault). IsServed h who (request.Proof k member) (Refused x) h) (sym is)
-      (proof_refused h who t found k member r there f (subst (λ (x : SearchState). WhyRefused x member f) (sym same) why))
+      rw is (proof_refused h who t found k member r there f (rw same why))
 
 -- a hall that has the search serves what is told over it
 pub served_over : (h : HallState) (who : List ℕ) (k : ℕ) (s : SearchState) (wanted : ℕ → Request) (told : Reply) →
@@ -127,5 +120,5 @@ pub nowhere_polled : (h : HallState) (who : List ℕ) (k : ℕ) (f : Fault) → 
 nowhere_polled h who k f is = by (get h.tenants who) refl is
   where
     by : (o : Option Tenant) → get h.tenants who ≡ o → IsNowhere k o f → IsServed h who (request.Poll k) (Refused f) h
-    by None none why = subst (λ (g : Fault). IsServed h who (request.Poll k) (Refused g) h) (sym why) (nobody_refused h who (request.Poll k) none)
-    by (Some t) here (why, none) = subst (λ (g : Fault). IsServed h who (request.Poll k) (Refused g) h) (sym why) (polled_nowhere h who k t here none)
+    by None none why = rw why (nobody_refused h who (request.Poll k) none)
+    by (Some t) here (why, none) = rw why (polled_nowhere h who k t here none)

@@ -1,12 +1,22 @@
--- What answers a request of one tenant: its own account, and what it has in sight, alone.
-use Rattle.std.specs.Prelude.{◌≡◌, ◌⊎◌, ℕ, ◌+◌, false, List, [], ◌∷◌, ◌++◌, length, map, Option, None, Some}
-use Rattle.std.specs.FinMap.{get, insert, remove}
+-- What one tenant has, and what answers a request of it: its own account, and what it has in sight, alone. No letter stands here.
+use Rattle.std.specs.Prelude.{◌≡◌, ◌⊎◌, ℕ, ◌+◌, nat_le, false, List, [], ◌∷◌, ◌++◌, length, map, find, Option, None, Some, if◌then◌else◌, option_map}
+use Rattle.std.specs.Option.{option_or}
+use Rattle.std.specs.Ordering.{nat_cmp}
+use Rattle.std.specs.FinMap.{FinMap, empty, get, insert, remove, len}
+use Rattle.quotas.specs.Quota.{Quota}
+use Rattle.names.specs.Name.{is_same}
 use Rattle.rt0_rules.specs.Membership.{IsMember}
+use Rattle.vaults.specs.declared.changes.Change.{Change}
+use Rattle.vaults.specs.declared.changes.Change.TheVariants.{Upload, Grant, GrantAll}
+use Rattle.vaults.specs.declared.changes.Entry.{Entry}
 use Rattle.vaults.specs.declared.marks.Seen.{Seen}
-use Rattle.vaults.specs.Journal.{Vault, Marked, vault, unmarked, seen_of, credentials, revokes}
+use Rattle.vaults.specs.Journal.{Vault, Marked, vault, grant_count, refusal, unmarked, seen_of, credentials, revokes}
+use Rattle.search.specs.declared.queries.Query.{Query}
+pub use Rattle.search.specs.declared.queries.Query.TheVariants.{Ask, Who}
 use Rattle.search.specs.Ending.{Settled, Nothing, Yes, No, Members, Spent, Broken, asked_role}
 use Rattle.proof_trees.specs.declared.steps.Step.{Step as ProofStep}
 use Rattle.proof_trees.specs.Proof.{IsProof}
+pub use Rattle.proof_trees.specs.Text.{proof_text}
 use Rattle.hall.specs.declared.faults.Fault.{Fault}
 use Rattle.hall.specs.declared.faults.Fault.TheVariants as fault
 use Rattle.hall.specs.declared.calls.requests.Request.{Request}
@@ -15,7 +25,47 @@ use Rattle.hall.specs.declared.calls.answers.Answer.{Answer}
 use Rattle.hall.specs.declared.calls.answers.Answer.TheVariants as answer
 use Rattle.hall.specs.declared.calls.replies.Reply.{Reply}
 use Rattle.hall.specs.declared.calls.replies.Reply.TheVariants as reply
-use Rattle.hall.specs.Account.{Asked, Account, alter_refusal, seek_refusal}
+use Rattle.hall.specs.Fault.{vault_fault}
+
+-- a search that has not ended: what was asked, over which view, and what it has come to
+pub record Asked : Type 0 where
+  pub query : Query
+  pub view : List Vault
+  pub settled : Settled
+
+-- a tenant's limits, its entries of the journal, how many searches it opened, and those that it has not ended, by number
+pub record Account : Type 0 where
+  pub limits : Quota
+  pub entries : List Entry
+  pub opens : ℕ
+  pub searches : FinMap nat_cmp Asked
+
+-- a tenant that has done nothing
+abbrev pub new_account : Quota → Account
+new_account limits = record { limits = limits; entries = []; opens = 0; searches = empty }
+
+-- what a name of a roster begins with
+abbrev pub start_of : List ℕ → List (List ℕ × Quota) → Option Account
+start_of name roster = option_map (λ row. new_account row.1) (find (λ row. is_same row.0 name) roster)
+
+-- the limit on credentials or on grants that a change has reached
+abbrev pub kind_full : Account → List ℕ → Change → Option Fault
+kind_full a tenant (Upload c) = if nat_le a.limits.creds (length (vault a.entries tenant)) then Some fault.Creds else None
+kind_full a tenant (Grant reader) = if nat_le a.limits.grants (grant_count a.entries tenant) then Some fault.Grants else None
+kind_full a tenant GrantAll = if nat_le a.limits.grants (grant_count a.entries tenant) then Some fault.Grants else None
+kind_full a tenant _ = None
+
+-- the refusal that a change is due: that of all changes, that of its kind, then the journal's own
+abbrev pub alter_refusal : Account → List ℕ → Change → Option Fault
+alter_refusal a tenant change =
+    if nat_le a.limits.changes (length a.entries) then Some fault.Changes
+    else option_or (kind_full a tenant change) (option_map vault_fault (refusal a.entries tenant change))
+
+-- the refusal that an opening is due
+abbrev pub seek_refusal : Account → Option Fault
+seek_refusal a =
+    if nat_le a.limits.searches (len a.searches) then Some fault.Searches
+    else (if nat_le a.limits.opens a.opens then Some fault.Opens else None)
 
 -- what a request looks at of what others hold: the vaults that its tenant reads, or their names with the marks
 pub record Sight : Type 0 where
@@ -39,12 +89,10 @@ answer_of Broken = answer.Broken
 
 -- the query is answered
 abbrev pub IsAnswer : Settled → Type 0
-IsAnswer Nothing = ⊥
 IsAnswer Yes = Unit {0}
 IsAnswer No = Unit {0}
 IsAnswer (Members names) = Unit {0}
-IsAnswer Spent = ⊥
-IsAnswer Broken = ⊥
+IsAnswer _ = ⊥
 
 -- the search isn't there, has no answer, or the entity is no member
 abbrev pub RefusesProof : Option Asked → List ℕ → Fault → Type 0
@@ -59,9 +107,8 @@ Refuses tenant a (request.Alter change) f = alter_refusal a tenant change ≡ So
 Refuses tenant a (request.Seek query) f = seek_refusal a ≡ Some f
 Refuses tenant a (request.Poll k) f = (get a.searches k ≡ None) × (f ≡ fault.NoSuchSearch)
 Refuses tenant a (request.Close k) f = (get a.searches k ≡ None) × (f ≡ fault.NoSuchSearch)
-Refuses tenant a request.Vault f = ⊥
-Refuses tenant a request.Sees f = ⊥
 Refuses tenant a (request.Proof k who) f = RefusesProof (get a.searches k) who f
+Refuses tenant a _ f = ⊥
 
 -- the account with one more search, of the next number, which has come to nothing yet
 abbrev pub opened : Account → Asked → Account
@@ -86,12 +133,9 @@ Grants tenant sees a (request.Proof k who) told b =
 -- memory may lack for each request but a revocation and an ending, and for a poll only where it lists members
 abbrev pub MayLack : Account → Request → Type 0
 MayLack a (request.Alter change) = revokes change ≡ false
-MayLack a (request.Seek query) = Unit {0}
 MayLack a (request.Poll k) = (s : Asked) × (names : List (List ℕ)) × (get a.searches k ≡ Some s) × (s.settled ≡ Members names)
 MayLack a (request.Close k) = ⊥
-MayLack a request.Vault = Unit {0}
-MayLack a request.Sees = Unit {0}
-MayLack a (request.Proof k who) = Unit {0}
+MayLack a _ = Unit {0}
 
 -- no refusal is due
 abbrev pub IsClear : List ℕ → Account → Request → Type 0

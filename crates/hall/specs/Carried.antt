@@ -4,25 +4,14 @@ use Rattle.std.specs.Arc.{arc_value}
 use Rattle.hall.specs.declared.carried.Carried.{Carried}
 use Rattle.hall.specs.declared.carried.Carried.TheVariants.{Own, Lent, Moving}
 use Rattle.search.specs.declared.queries.Query.TheVariants.{Who}
-use Rattle.search.specs.declared.stages.Stage.TheVariants as stage
 use Rattle.search.specs.Search.{SearchState, IsCompleted}
+use Rattle.hall.specs.Steps.{just_opened}
 
--- what stands for a search where there is none
-pub no_search : SearchState
-no_search = record {
-  query = Who (record { owner = []; name = [] });
-  work = 0;
-  snapshot = record { asker = []; vaults = [] };
-  graph = record { nodes = []; listeners = []; solutions = [] };
-  monitors = [];
-  stage = stage.Broken;
-}
-
--- the search that is carried
+-- the search that is carried; what stands for it where there is none is never seen
 abbrev pub carried_search : Carried → SearchState
 carried_search (Own s) = s
 carried_search (Lent shared) = arc_value shared
-carried_search Moving = no_search
+carried_search Moving = just_opened [] [] (Who (record { owner = []; name = [] })) 0
 
 -- there is a search, and one that is shared is completed
 abbrev pub IsCarried : Carried → Type 0

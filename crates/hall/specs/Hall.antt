@@ -1,7 +1,8 @@
 -- A whole hall, with how its searches stand: each event is what one account is answered, or a step of one search.
 use Rattle.std.specs.Prelude.{◌≡◌, ◌≢◌, ℕ, ◌≤◌, List, [], ◌∷◌, ◌++◌, length, map, take, Option, None, Some, Result, Ok, Err, option_map}
+use Rattle.std.specs.Option.{option_map_or}
 use Rattle.std.specs.Ordering.{nat_cmp}
-use Rattle.std.specs.FinMap.{FinMap, empty, get, insert, remove, entries, from_entries}
+use Rattle.std.specs.FinMap.{FinMap, empty, get, insert, remove, entries, from_entries, from_sorted}
 use Rattle.quotas.specs.Quota.{Quota}
 use Rattle.names.specs.Name.{name_order}
 use Rattle.vaults.specs.declared.changes.Entry.{Entry}
@@ -24,8 +25,7 @@ use Rattle.hall.specs.declared.calls.steps.Stepped.TheVariants.{Gone}
 use Rattle.hall.specs.declared.calls.events.Event.{Event}
 use Rattle.hall.specs.declared.calls.events.Event.TheVariants as event
 use Rattle.hall.specs.Steps.{just_opened, StepsSearch}
-use Rattle.hall.specs.Account.{Asked, Account}
-use Rattle.hall.specs.Answers.{sight, Answers}
+use Rattle.hall.specs.Answers.{Asked, Account, sight, Answers}
 use Rattle.hall.specs.Run.{Deed, asks, waits, Told}
 
 -- a search, with the journal's length at its opening
@@ -58,7 +58,7 @@ account journal name t = record {
   limits = t.limits;
   entries = entries_of name journal;
   opens = t.opens;
-  searches = from_entries (map (λ e. (e.0, seen e.1)) (entries t.searches));
+  searches = from_sorted (map (λ e. (e.0, seen e.1)) (entries t.searches));
 }
 
 -- the account of a name, where it is a tenant's
@@ -66,12 +66,9 @@ abbrev pub account_of : HallState → List ℕ → Option Account
 account_of h name = option_map (account h.journal name) (get h.tenants name)
 
 -- the tenant of that name is changed, if there is one
-abbrev pub changed_by : HallState → List ℕ → (Tenant → Tenant) → Option Tenant → HallState
-changed_by h name change None = h
-changed_by h name change (Some t) = record h { tenants = insert h.tenants name (change t) }
-
 abbrev pub with_tenant : HallState → List ℕ → (Tenant → Tenant) → HallState
-with_tenant h name change = changed_by h name change (get h.tenants name)
+with_tenant h name change =
+    record h { tenants = option_map_or (λ t. insert h.tenants name (change t)) (get h.tenants name) h.tenants }
 
 -- the tenant's search of that number, if it has not ended
 abbrev pub search_of : ℕ → Option Tenant → Option Running

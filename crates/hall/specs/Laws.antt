@@ -19,8 +19,7 @@ use Rattle.hall.specs.declared.calls.answers.Answer.TheVariants.{Working, Broken
 use Rattle.hall.specs.declared.calls.events.Event.{Event}
 use Rattle.hall.specs.declared.calls.replies.Reply.{Reply}
 use Rattle.hall.specs.declared.calls.replies.Reply.TheVariants.{Opened, Answered, Proof, Refused}
-use Rattle.hall.specs.Account.{Account, new_account, start_of}
-use Rattle.hall.specs.Answers.{Sight, answer_of, Refuses, Answers}
+use Rattle.hall.specs.Answers.{Account, new_account, start_of, Sight, answer_of, Refuses, Answers}
 use Rattle.hall.specs.Run.{asks, request_of, Told, told_in, told_to, Turn, When, any_time, at_waits, IsRun, IsRunOf, IsExact}
 use Rattle.hall.specs.Hall.{HallState, account_of, Happens, Run, AreDone, IsSound, new_hall}
 

@@ -1,14 +1,12 @@
 pub mod Carried
 pub mod Batches
 pub mod Fault
-pub mod Query
-pub mod Text
-pub mod Account
 pub mod Answers
 pub mod Run
 pub mod Hall
 pub mod Laws
-pub mod Visits
+pub mod Work
+pub mod Working
 pub mod Steps
 pub mod Kept
 pub mod Lending

@@ -14,8 +14,7 @@ use Rattle.hall.specs.declared.calls.replies.Reply.{Reply}
 use Rattle.hall.specs.declared.calls.replies.Reply.TheVariants.{Counted, Refused}
 use Rattle.hall.specs.declared.calls.events.Event.{Event}
 use Rattle.hall.specs.declared.calls.events.Event.TheVariants as event
-use Rattle.hall.specs.Account.{Asked, Account, start_of}
-use Rattle.hall.specs.Answers.{Sight, sight, Answers}
+use Rattle.hall.specs.Answers.{Asked, Account, start_of, Sight, sight, Answers}
 
 -- a request, or a wait for the search of this number
 pub data Deed : Type 0 where

@@ -1,25 +1,21 @@
--- A search as a hall sees it: as it is opened, and what a step does to it.
-use Rattle.std.specs.Prelude.{◌≡◌, ℕ, Bool, true, false, List, [], ◌∷◌, Option, None, Some, slice_get}
+-- A search as a hall sees it: as it is opened, what a step does to it, and what steps in a row do.
+use Rattle.std.specs.Prelude.{◌≡◌, ℕ, Bool, true, false, List, [], ◌∷◌, Option, None, Some, slice_get, if◌then◌else◌}
+use Rattle.std.specs.Option.{option_map_or}
 use Rattle.credential_text.specs.declared.exprs.Expr.TheVariants.{Rol}
-use Rattle.vaults.specs.Journal.{Vault}
-use Rattle.scholten_core.specs.Step.{started}
+use Rattle.vaults.specs.Journal.{Vault, credentials}
+use Rattle.scholten_core.specs.{declared.letters.Letter.Letter, Step.started}
+use Rattle.search.specs.declared.{queries.Query.Query, queries.Need.Need, outcomes.Finished.Finished}
+use Rattle.search.specs.{Net.Said, Ending.asked_role, Ending.MaySettle, Finish.Takes, Finish.Finishes}
+use Rattle.search.specs.Search.{SearchState, SameQuestion, Settles, IsSoundStage}
+use Rattle.search.specs.Stage.{waiting_in, held_in, stage_marked, Delivers}
+use Rattle.hall.specs.declared.calls.steps.{Step.Step, Stepped.Stepped}
 use Rattle.search.specs.declared.letters.Load.TheVariants as load
 use Rattle.search.specs.declared.findings.Monitor.TheVariants as monitor
-use Rattle.search.specs.declared.queries.Query.{Query}
-use Rattle.search.specs.declared.queries.Need.{Need}
-use Rattle.search.specs.declared.outcomes.Finished.{Finished}
 use Rattle.search.specs.declared.outcomes.Finished.TheVariants as finished
 use Rattle.search.specs.declared.stages.Stage.TheVariants as stage
 pub use Rattle.search.specs.Search.{found}
-use Rattle.search.specs.Ending.{asked_role}
 unfoldable pub use Rattle.search.specs.Search.{settled_of}
-use Rattle.search.specs.Search.{SearchState, SameQuestion, Settles, IsSoundStage}
-use Rattle.search.specs.Stage.{waiting_in, Delivers}
-use Rattle.search.specs.Finish.{Takes, Finishes}
-pub use Rattle.hall.specs.Batches.{PutsBack}
-use Rattle.hall.specs.declared.calls.steps.Step.{Step}
 use Rattle.hall.specs.declared.calls.steps.Step.TheVariants as step
-use Rattle.hall.specs.declared.calls.steps.Stepped.{Stepped}
 use Rattle.hall.specs.declared.calls.steps.Stepped.TheVariants as stepped
 
 -- a search of the asker over its view, which may send so many letters: one letter, to the asked role, waits
@@ -38,6 +34,12 @@ abbrev pub TakesAt : SearchState → ℕ → Option (ℕ × Need) → SearchStat
 TakesAt old place None new = (slice_get (waiting_in old.stage) place ≡ None) × (new ≡ old)
 TakesAt old place (Some got) new = Takes old new place got.0 got.1
 
+-- the held letter of a number waits again, where it is held
+abbrev pub PutsBack : SearchState → ℕ → Bool → SearchState → Type 0
+PutsBack old number false new = (held_in old.stage number ≡ None) × (new ≡ old)
+PutsBack old number true new =
+    ((l : Letter Said) × (held_in old.stage number ≡ Some l)) × (new ≡ record old { stage = stage_marked number false old.stage })
+
 -- the signal at a place is delivered, where there is one
 pub record Signals (old : SearchState) (place : ℕ) (delivered : Bool) (new : SearchState) : Type 0 where
   pub delivers : Delivers old.stage new.stage place delivered
@@ -45,17 +47,9 @@ pub record Signals (old : SearchState) (place : ℕ) (delivered : Bool) (new : S
   pub monitors : new.monitors ≡ old.monitors
   pub question : SameQuestion old new
 
-abbrev pub took : Option (ℕ × Need) → Stepped
-took None = stepped.Nothing
-took (Some got) = stepped.Took got.0 got.1
-
 abbrev pub gave_back : Bool → Stepped
 gave_back true = stepped.Back
 gave_back false = stepped.NotHeld
-
-abbrev pub signalled : Bool → Stepped
-signalled true = stepped.Signalled
-signalled false = stepped.Nothing
 
 abbrev pub finish_answer : Finished → Stepped
 finish_answer finished.Done = stepped.Done
@@ -66,13 +60,28 @@ finish_answer finished.NotHeld = stepped.NotHeld
 
 -- the step is made, and answered so
 abbrev pub IsMade : SearchState → Step → Stepped → SearchState → Type 0
-IsMade old (step.Take name k place) answer new = (got : Option (ℕ × Need)) × TakesAt old place got new × (answer ≡ took got)
+IsMade old (step.Take name k place) answer new =
+    (got : Option (ℕ × Need)) × TakesAt old place got new × (answer ≡ option_map_or (λ l. stepped.Took l.0 l.1) got stepped.Nothing)
 IsMade old (step.GiveBack name k letter) answer new = (back : Bool) × PutsBack old letter back new × (answer ≡ gave_back back)
 IsMade old (step.Finish name k letter hint) answer new = (f : Finished) × Finishes old new letter hint f × (answer ≡ finish_answer f)
-IsMade old (step.Signal name k place) answer new = (delivered : Bool) × Signals old place delivered new × (answer ≡ signalled delivered)
+IsMade old (step.Signal name k place) answer new =
+    (delivered : Bool) × Signals old place delivered new × (answer ≡ (if delivered then stepped.Signalled else stepped.Nothing))
 
 -- a step of a search; where it comes to an end by that, it is the right one, and where it still runs its computation is sound
 pub record StepsSearch (old : SearchState) (made : Step) (answer : Stepped) (new : SearchState) : Type 0 where
   pub is_made : IsMade old made answer new
   pub settles : Settles old new
   pub sound : IsSoundStage new.stage
+
+-- one step after another, each answered so
+abbrev pub StepsEach : SearchState → SearchState → List Step → List Stepped → Type 0
+StepsEach old new [] [] = new ≡ old
+StepsEach old new (made ∷ more) (answer ∷ answers) =
+    (middle : SearchState) × StepsSearch old made answer middle × StepsEach middle new more answers
+StepsEach old new [] (answer ∷ answers) = ⊥
+StepsEach old new (made ∷ more) [] = ⊥
+
+-- the search goes on with its question, and may settle
+pub record SearchGoesOn (old new : SearchState) : Type 0 where
+  pub question : SameQuestion old new
+  pub settles : MaySettle old.work (credentials old.snapshot.vaults) old.query (settled_of old) (settled_of new)

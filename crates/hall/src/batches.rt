@@ -48,14 +48,14 @@ pub struct Batch {
 }
 
 impl Model for Batch {
-    ghost use Rattle.std.specs.Prelude.{option_map, vec_capacity};
-    ghost use Rattle.hall.specs.Batches.{BatchState, IsBatch, letters_of, name_of};
+    ghost use Rattle.std.specs.Prelude.{map, option_map, vec_capacity};
+    ghost use Rattle.hall.specs.Batches.{BatchState, IsBatch, letter_of, named};
 
     ghost Value = { BatchState };
 
     ghost view = { λ b. record {
-      of = option_map name_of b.of;
-      letters = letters_of b.of b.held_letters.items;
+      of = option_map named b.of;
+      letters = map letter_of b.held_letters.items;
       looked = b.looked;
       room = vec_capacity b.held_letters;
     } };
@@ -64,7 +64,8 @@ impl Model for Batch {
 }
 
 impl Batch {
-    ghost use Rattle.hall.specs.Batches.{AreOf, IsEmpty, IsLookedUp, IsNextLetter};
+    ghost use Rattle.std.specs.Prelude.{None, option_map};
+    ghost use Rattle.hall.specs.Batches.{IsEmpty, IsLookedUp, IsNextLetter, name_of};
 
     /// No letter, with room for so many.
     pub fn make(alloc: Global, room: usize) -> Result<Batch, AllocError>
@@ -81,8 +82,8 @@ impl Batch {
 
     /// Whose search the letters are of, and its number.
     pub fn search(&self) -> Option<(Entity, u64)>
-        ensures is { result ≡ self.now.of }
-        ensures letters { AreOf result self.now.letters }
+        ensures is { result ≡ option_map name_of self.now.of }
+        ensures empty { result ≡ None → IsEmpty self.now }
     {
         match &self.of {
             Some(of) => Some((of.who, of.number)),

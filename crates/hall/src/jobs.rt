@@ -14,7 +14,7 @@ pub struct Job {
 
 impl Model for Job {
     ghost use Rattle.std.specs.Arc.{arc_value};
-    ghost use Rattle.hall.specs.Visits.{TakenLetter};
+    ghost use Rattle.hall.specs.Work.{TakenLetter};
 
     ghost Value = { TakenLetter };
 

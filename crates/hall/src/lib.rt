@@ -2,14 +2,15 @@
 //! runs.
 //!
 //! A `Hall` is seen as its journal and its tenants by name (`specs/Hall.antt`). A request is answered by one tenant's account and
-//! what it has in sight, alone (`specs/Account.antt`, `specs/Answers.antt`), and a step goes to one search. `specs/Run.antt` says
+//! what it has in sight, alone (`specs/Answers.antt`), and a step goes to one search. `specs/Run.antt` says
 //! what a run is to one tenant, and `specs/Laws.antt` what holds of all runs: answers are true, refusals come first, and two
-//! worlds that agree for a tenant tell it the same. `specs/Visits.antt` is for those who work for a hall.
+//! worlds that agree for a tenant tell it the same. `specs/Work.antt` is for those who work for a hall.
 #![tactic(auto)]
 
 mod batches;
 mod calls;
 mod carried;
+mod ends;
 mod faults;
 mod hands;
 mod jobs;
@@ -17,24 +18,27 @@ mod lists;
 mod opened;
 mod picking;
 mod registry;
+mod remains;
 mod run_laws;
 mod running;
 mod seats;
-mod standings;
 mod tenants;
 mod visits;
+mod working;
 
 pub use batches::Batch;
 pub use calls::{Answer, Event, Reply, Request, Step, Stepped};
+pub use ends::Ends;
 pub use faults::Fault;
 pub use jobs::Job;
 pub use lists::{Listed, Names, Rows, Sights};
 pub use opened::{proof_of, told_of};
 pub use proof_trees::{Proof, write_proof};
 pub use registry::Hall;
+pub use remains::Remains;
 pub use run_laws::{
     answers_are_true, refusals_come_first, runs_are_allowed, scripts_are_exact,
     scripts_are_isolated, two_worlds,
 };
 pub use search::Query;
-pub use standings::{HandedIn, Standing, Went};
+pub use visits::{Next, Order, Visit};

@@ -1,13 +1,46 @@
 //! The lists that a reply holds.
 ghost use Rattle.std.specs.Prelude.{◌≡◌};
+ghost use Rattle.vaults.specs.Version.{version_rows};
 
-use credential_text::Credential;
 use names::Entity;
 use std::marker::Model;
-use vaults::Seen;
+use std::sync::Arc;
+use vaults::{Row, Seen, Version};
 
-/// Credentials, as a reply tells them.
-pub type Rows = Listed<Credential>;
+/// Credentials, as a reply tells them: the rows of a vault, which are shared and not copied. Seen as their list.
+#[derive(Drop)]
+pub struct Rows {
+    version: Option<Arc<Version>>,
+}
+
+impl Model for Rows {
+    ghost use Rattle.std.specs.Prelude.{List};
+    ghost use Rattle.vaults.specs.Version.{version_rows};
+    ghost use Rattle.credential_text.specs.declared.credentials.Credential.{Credential};
+
+    ghost Value = { List Credential };
+
+    ghost view = { λ r. version_rows r.version };
+}
+
+impl Rows {
+    /// The rows of a version of a vault, or no row.
+    pub(crate) fn new(version: Option<Arc<Version>>) -> Rows
+        ensures { result ≡ version_rows version }
+    {
+        Rows { version }
+    }
+
+    /// The rows, in order.
+    pub fn as_slice(&self) -> &[Row]
+        ensures { result.now ≡ self.now }
+    {
+        match &self.version {
+            Some(version) => version.rows(),
+            None => &[],
+        }
+    }
+}
 
 /// Names of entities, as a reply tells them.
 pub type Names = Listed<Entity>;

@@ -1,21 +1,24 @@
 //! A search that was opened and not ended: its steps, what one of its tenant's calls does to it, and what is told of it.
 ghost use Rattle.std.specs.Prelude.{◌≡◌, MatchOption};
 ghost use Rattle.search.specs.{Stage.IsQuiet, Search.SearchState, Search.IsCompleted, Search.Settles};
-ghost use Rattle.hall.specs.Carried.{IsCarried, carried_search};
 ghost use Rattle.hall.specs.declared.calls.requests.Request.TheVariants as request;
 ghost use Rattle.hall.specs.declared.calls.replies.Reply.TheVariants as reply;
 ghost use Rattle.hall.specs.Hall.{IsToldOver, told_as};
-ghost use Rattle.hall.specs.{Kept.DrivesTo, Kept.IsToldOf, Kept.IsNext, Steps.settled_of, Steps.IsMade};
+ghost use Rattle.hall.specs.{Kept.DrivesTo, Kept.IsToldOf, Kept.IsNext, Steps.settled_of, Steps.IsMade, Steps.StepsSearch};
 
+use crate::batches::Batch;
 use crate::calls::{Answer, Step, Stepped};
 use crate::carried::Carried;
 use crate::faults::Fault;
 use crate::lists::Names;
+use crate::visits::Order;
+use crate::working::{Went, work};
 use names::Entity;
 use proof_trees::Proof;
-use search::{Finished, Search, Status};
-use std::alloc::Global;
+use search::{Finished, Search, Status, Task};
+use std::alloc::{AllocError, Global};
 use std::marker::Model;
+use std::sync::Arc;
 
 /// A search, with the journal's length at its opening.
 #[derive(Drop)]
@@ -38,6 +41,90 @@ impl Model for Opened {
     ghost view = { λ o. record { opened_at = o.opened_at; search = carried_search o.carried } };
 
     ghost invariant = { λ o. IsCarried o.carried };
+}
+
+impl Opened {
+    ghost use Rattle.std.specs.Prelude.{◌≤◌};
+    ghost use Rattle.std.specs.Arc.{arc_value};
+    ghost use Rattle.hall.specs.Batches.{IsLookedUp, name_of};
+    ghost use Rattle.hall.specs.Kept.{Continues, TakesTask, IsShared};
+    ghost use Rattle.hall.specs.Working.{WorksThrough};
+
+    /// Makes the step. A completed search stays as it is.
+    pub(crate) fn step(&mut self, step: &Step) -> Stepped
+        ensures stepped { StepsSearch self.old.search step.now result self.new.search }
+        ensures continues { Continues self.old self.new }
+    {
+        let stepped = match &mut self.carried {
+            Carried::Own(search) => make(search, step),
+            _ => unmoved(step),
+        };
+        self.carried.search().kept();
+        stepped
+    }
+
+    /// Takes the waiting letter at the place, where there is one.
+    pub(crate) fn take(&mut self, place: u64) -> Result<Option<Task>, AllocError>
+        ensures taken { TakesTask place self.old.search result self.new.search }
+        ensures continues { Continues self.old self.new }
+    {
+        let Carried::Own(search) = &mut self.carried else {
+            self.carried.search().kept();
+            return Ok(None);
+        };
+        let task = search.take(place)?;
+        search.kept();
+        Ok(task)
+    }
+
+    /// Carries the search on until nothing more of it can be, and tells what it has come to.
+    pub(crate) fn drive(&mut self) -> Result<Answer, Fault>
+        ensures driven { DrivesTo self.old.search result self.new.search }
+        ensures continues { Continues self.old self.new }
+    {
+        if let Carried::Own(search) = &mut self.carried {
+            search.drive();
+        }
+        let search = self.carried.search();
+        search.kept();
+        told_of(search)
+    }
+
+    /// The search, shared from now on, where it is completed. Memory may lack the first time.
+    pub(crate) fn share(&mut self, alloc: Global) -> Result<Option<Arc<Search>>, AllocError>
+        ensures shared { IsShared arc_value self.old.search result }
+        ensures same { self.new ≡ self.old }
+    {
+        if !self.carried.search().is_completed() {
+            return Ok(None);
+        }
+        Ok(Some(self.carried.lend(alloc)?))
+    }
+
+    /// Hands in the letters of the batch, which are of this search under that name, and goes on with it where that is asked and
+    /// anything of it is left to do. Answers how many letters are done, and how it went on.
+    #[inline(always)]
+    pub(crate) fn work(
+        &mut self,
+        who: &Entity,
+        number: u64,
+        order: Order,
+        most: usize,
+        batch: &mut Batch,
+    ) -> (u64, Went)
+        requires looked_up { IsLookedUp batch.old }
+        requires of { MatchOption batch.old.of (Unit {0}) (λ of. name_of of ≡ (who.now, number)) }
+        requires space { most ≤ batch.old.room }
+        ensures worked { WorksThrough order most (who.now, number) self.old.search batch.old result.0 result.1 self.new.search batch.new }
+        ensures continues { Continues self.old self.new }
+    {
+        let Carried::Own(search) = &mut self.carried else {
+            self.carried.search().kept();
+            batch.let_go();
+            return (0, Went::Nowhere);
+        };
+        work(search, who, number, order, most, batch)
+    }
 }
 
 /// What is told of the search: in each hall that has it, a poll of it is answered so. Memory may lack for a list alone.
@@ -63,20 +150,6 @@ pub fn proof_of(alloc: Global, search: &Search, member: &Entity) -> Result<Proof
     Ok(proof_trees::proof_of(alloc, search, member)?)
 }
 
-/// Carries the search on until nothing more of it can be, and tells what it has come to.
-pub(crate) fn drive(carried: &mut Carried) -> Result<Answer, Fault>
-    requires { IsCarried carried.old }
-    ensures driven { DrivesTo (carried_search carried.old) result (carried_search carried.new) }
-    ensures carried { IsCarried carried.new }
-{
-    if let Carried::Own(search) = carried {
-        search.drive();
-    }
-    let search = carried.search();
-    search.kept();
-    told_of(search)
-}
-
 /// The step that goes on with the tenant's search of the number, if there is one: the oldest signal first.
 pub(crate) fn next_step(search: &Search, who: Entity, number: u64) -> Option<Step>
     ensures { MatchOption result (IsQuiet search.now.stage) (IsNext who number search.now) }
@@ -91,7 +164,7 @@ pub(crate) fn next_step(search: &Search, who: Entity, number: u64) -> Option<Ste
 }
 
 /// What becomes of a step of a completed search, which stays as it is.
-pub(crate) fn unmoved(step: &Step) -> Stepped
+fn unmoved(step: &Step) -> Stepped
     ensures { (s : SearchState) → IsCompleted s.stage → IsMade s step.now result s }
 {
     match step {
@@ -101,7 +174,7 @@ pub(crate) fn unmoved(step: &Step) -> Stepped
 }
 
 /// Makes the step of the search.
-pub(crate) fn make(search: &mut Search, step: &Step) -> Stepped
+fn make(search: &mut Search, step: &Step) -> Stepped
     ensures made { IsMade search.old step.now result search.new }
     ensures settles { Settles search.old search.new }
 {

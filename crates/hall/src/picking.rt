@@ -2,17 +2,27 @@
 ghost use Rattle.std.specs.Prelude.{◌≡◌, ◌≤◌, ◌↔◌, None, IfSome, OnOk, MatchOption};
 ghost use Rattle.std.specs.List.{AllByRecursion};
 ghost use Rattle.{search.specs.Search.IsSoundStage, hall.specs.Hall.step_name, hall.specs.Hall.step_search};
-ghost use Rattle.hall.specs.Visits.{SearchIsQuiet, NothingToDo, CanBeMade, Stands};
-ghost use Rattle.hall.specs.Kept.{IsUnsettled, Lists, KeepsBut};
+ghost use Rattle.hall.specs.Work.{SearchIsQuiet, NothingToDo, CanBeMade};
+ghost use Rattle.hall.specs.Kept.{IsUnsettled, Lists, KeepsBut, Stands};
 
 use crate::calls::Step;
 use crate::opened::next_step;
 use crate::registry::Hall;
-use crate::standings::Standing;
 use indexmap::{IndexMap, IndexSet};
 use names::Entity;
 use search::{Search, Status};
 use std::alloc::AllocError;
+
+/// How a search stands once somebody has worked on it.
+#[derive(Clone, Copy)]
+pub(crate) enum Standing {
+    /// A letter of it waits, or a signal is under way.
+    Moves,
+    /// It goes on once a letter that is held comes back.
+    Rests,
+    /// It has come to its end.
+    Over,
+}
 
 /// By each tenant that has any, the numbers of its searches that may still go on. Others may stand among them.
 pub(crate) type Busy = IndexMap<Entity, IndexSet<u64>>;

@@ -5,17 +5,14 @@ ghost use Rattle.hall.specs.declared.calls.requests.Request.TheVariants as reque
 ghost use Rattle.hall.specs.declared.calls.replies.Reply.TheVariants as reply;
 ghost use Rattle.hall.specs.Hall.{IsSound, IsServed, IsStepped, CarriesOut, told_as, new_hall, search_at};
 
-use crate::batches::Batch;
 use crate::calls::{Answer, Step, Stepped};
-use crate::carried::Carried;
 use crate::faults::Fault;
 use crate::jobs::Job;
 use crate::lists::{Rows, Sights};
-use crate::opened::{drive, make, proof_of, told_of, unmoved};
-use crate::picking::{Busy, leave, settle};
-use crate::standings::{CarriedOn, HandedIn, Standing, Went};
+use crate::opened::{Opened, proof_of, told_of};
+use crate::picking::{Busy, Standing, leave, settle};
+use crate::remains::Remains;
 use crate::tenants::Tenants;
-use crate::visits::{carry_on, hand_in, visit};
 use indexmap::IndexMap;
 use names::Entity;
 use proof_trees::Proof;
@@ -68,11 +65,12 @@ impl Drop for Hall {
 
 impl Hall {
     ghost use Rattle.hall.specs.declared.calls.steps.Step.TheVariants as step;
-    ghost use Rattle.std.specs.Prelude.{◌≤◌, MatchOption, is_ok};
-    ghost use Rattle.{std.specs.Arc.arc_value, hall.specs.Run.waits};
-    ghost use Rattle.hall.specs.Batches.{IsEmpty, IsLookedUp, AreOf};
-    ghost use Rattle.hall.specs.Visits.{IsTaken, IsVisited, StandsAt, StandsNamed, AreHandedIn, IsCarriedOn, SearchIsQuiet};
-    ghost use Rattle.hall.specs.Visits.{IsCompletedAt, NoneIsCompletedAt};
+    ghost use Rattle.std.specs.Prelude.{MatchOption};
+    ghost use Rattle.{std.specs.Arc.arc_value, search.specs.Search.SearchState, hall.specs.Run.waits};
+    ghost use Rattle.hall.specs.Hall.{Running};
+    ghost use Rattle.std.specs.Borrow.{MutBor};
+    ghost use Rattle.hall.specs.{Kept.Continues, Kept.LetterWaits, Lending.LendsTo};
+    ghost use Rattle.hall.specs.Work.{IsTaken, SearchIsQuiet, IsCompletedAt, NoneIsCompletedAt};
 
     /// The hall of these tenants, where nothing was done yet.
     pub fn make(alloc: Global, roster: Vec<(Entity, Limits)>) -> Result<Hall, Fault>
@@ -164,18 +162,28 @@ impl Hall {
     pub fn end(&mut self, who: Entity, number: u64) -> Result<(), Fault>
         ensures served { IsServed self.old who (request.Close number) (told_as (λ u. reply.Closed) result) self.new }
     {
-        let seat = self.tenants.seat_mut(&who)?;
-        leave(&mut self.busy, &who, number);
-        seat.end(number, &mut self.spare)
+        let remains = self.close(who, number)?;
+        remains.leave_tables(&mut self.spare);
+        Ok(())
     }
 
-    /// The credentials that the tenant issues and holds, in order.
+    /// Ends the tenant's search of the number, and hands out what is left of it. That may take long to drop, so who keeps others
+    /// from the hall meanwhile can do it later. It takes no memory.
+    pub fn close(&mut self, who: Entity, number: u64) -> Result<Remains, Fault>
+        ensures served { IsServed self.old who (request.Close number) (told_as (λ r. reply.Closed) result) self.new }
+    {
+        let seat = self.tenants.seat_mut(&who)?;
+        leave(&mut self.busy, &who, number);
+        seat.end(number)
+    }
+
+    /// The credentials that the tenant issues and holds, in order. None of them is copied: the book shares them.
     pub fn vault(&mut self, who: Entity) -> Result<Rows, Fault>
         ensures served { IsServed self.old who request.Vault (told_as reply.Vault result) self.new }
     {
         let _seat = self.tenants.seat(who)?;
-        let rows = self.book.copy_of_vault(who)?;
-        Ok(Rows::new(rows))
+        let version = self.book.version_of(who)?;
+        Ok(Rows::new(version))
     }
 
     /// The names whose vaults the tenant reads, its own among them, in order, each with the mark whether every tenant reads it.
@@ -193,147 +201,54 @@ impl Hall {
         ensures { IsStepped self.old step result self.new }
     {
         let (who, number) = step.search();
-        let Ok(opened) = self.tenants.opened_mut(&who, number) else {
-            return Stepped::Gone;
-        };
-        let Carried::Own(search) = &mut opened.carried else {
-            return unmoved(&step);
-        };
-        let stepped = make(search, &step);
-        settle(&mut self.busy, &who, number, search);
-        stepped
+        match self.lend(&who, number, &mut (), |opened, _none| opened.step(&step)) {
+            Ok((stepped, _standing)) => stepped,
+            Err(_nowhere) => Stepped::Gone,
+        }
     }
 
-    /// Takes the waiting letter at a place of the tenant's search of the number, with what it is to be looked up in.
+    /// Takes the waiting letter at a place of the tenant's search of the number, with what it is to be looked up in. Memory may
+    /// lack to share that.
     pub fn take(&mut self, who: Entity, number: u64, place: u64) -> Result<Option<Job>, Fault>
         ensures taken { IfOk result (λ job. IsTaken self.old who number place job self.new) }
         ensures only_memory { IfErr result (λ f. f ≡ Fault.Memory) }
         ensures unchanged { OnErr result (self.new ≡ self.old) }
+        ensures waits { OnErr result (LetterWaits self.old who number place) }
     {
-        let Ok(opened) = self.tenants.opened_mut(&who, number) else {
+        let Ok((taken, _standing)) = self.lend(
+            &who,
+            number,
+            &mut (),
+            |opened, _none| opened.take(place),
+        ) else {
             return Ok(None);
         };
-        let Carried::Own(search) = &mut opened.carried else {
-            return Ok(None);
-        };
-        let task = search.take(place)?;
-        search.kept();
-        let Some(task) = task else {
-            return Ok(None);
-        };
-        Ok(Some(Job { who, number, task }))
+        match taken {
+            Ok(Some(task)) => Ok(Some(Job { who, number, task })),
+            Ok(None) => Ok(None),
+            Err(AllocError) => Err(Fault::Memory),
+        }
     }
 
-    /// Makes up to so many steps of the tenant's search of the number, one after another: delivers the oldest signal, or
-    /// else takes the first letter that waits, as long as there is either. The search is looked up once. The batch has the
-    /// letters then, and the answer is how the search stands. Where there is no memory to share what it reads, nothing is done.
-    pub fn visit(
-        &mut self,
-        who: Entity,
-        number: u64,
-        most: usize,
-        batch: &mut Batch,
-    ) -> Result<Standing, Fault>
-        requires empty { IsEmpty batch.old }
-        requires space { most ≤ batch.old.room }
-        ensures visited { IsVisited who number most self.old (is_ok result) self.new batch.new.letters }
-        ensures stands { IfOk result (StandsAt self.new who number) }
-        ensures only_memory { IfErr result (λ f. f ≡ Fault.Memory) }
-        ensures bound { length batch.new.letters ≤ most }
-        ensures looked { batch.new.looked ≡ 0 }
-        ensures room { batch.new.room ≡ batch.old.room }
-    {
-        let Ok(opened) = self.tenants.opened_mut(&who, number) else {
-            return Ok(Standing::Over);
-        };
-        let Carried::Own(search) = &mut opened.carried else {
-            return Ok(Standing::Over);
-        };
-        visit(search, who, number, most, batch)?;
-        Ok(settle(&mut self.busy, &who, number, search))
-    }
-
-    /// Finishes the letters of the batch in the order in which they were taken, each with its right hint, and answers how
-    /// many are done and how their search stands. Or gives all of them back. Their search is looked up once.
-    pub fn hand_in(&mut self, batch: &mut Batch, back: bool) -> HandedIn
-        requires { IsLookedUp batch.old }
-        ensures handed_in { AreHandedIn back self.old batch.old.letters result.finished self.new }
-        ensures stands { StandsNamed self.new batch.old.of result.standing }
-        ensures most { result.finished ≤ length batch.old.letters }
-        ensures empty { IsEmpty batch.new }
-        ensures room { batch.new.room ≡ batch.old.room }
-    {
-        let handed_in = match batch.search() {
-            Some((who, number)) => self.hand_in_to(who, number, batch, back),
-            None => HandedIn {
-                finished: 0,
-                standing: Standing::Over,
-            },
-        };
-        batch.let_go();
-        handed_in
-    }
-
-    /// Hands the letters in to the tenant's search of the number, which they are of.
-    fn hand_in_to(&mut self, who: Entity, number: u64, batch: &Batch, back: bool) -> HandedIn
-        requires looked_up { IsLookedUp batch.now }
-        requires of { batch.now.of ≡ Some (who, number) }
-        requires letters { AreOf (Some (who, number)) batch.now.letters }
-        ensures handed_in { AreHandedIn back self.old batch.now.letters result.finished self.new }
-        ensures stands { StandsAt self.new who number result.standing }
-        ensures most { result.finished ≤ length batch.now.letters }
-    {
-        let nothing = HandedIn {
-            finished: 0,
-            standing: Standing::Over,
-        };
-        let Ok(opened) = self.tenants.opened_mut(&who, number) else {
-            return nothing;
-        };
-        let Carried::Own(search) = &mut opened.carried else {
-            return nothing;
-        };
-        let finished = hand_in(search, batch, back);
-        let standing = settle(&mut self.busy, &who, number, search);
-        HandedIn { finished, standing }
-    }
-
-    /// Hands the letters of the batch in as `hand_in` does, and goes on with their search, which is the tenant's of this number, as
-    /// `visit` does, where anything of it is left to do then. The search is looked up once.
-    pub fn carry_on(
+    /// Lends the tenant's search of the number to what is done to it, beside something of who does it. Tells then how the search
+    /// stands, and takes it out of those that may still go on where it has come to its end. The order of refusals: 62, 51.
+    #[inline(always)]
+    pub(crate) fn lend<A, T, F: FnOnce(&mut Opened, &mut A) -> T>(
         &mut self,
         who: &Entity,
         number: u64,
-        most: usize,
-        batch: &mut Batch,
-    ) -> (HandedIn, Went)
-        requires looked_up { IsLookedUp batch.old }
-        requires of { batch.old.of ≡ Some (who.now, number) }
-        requires letters { AreOf (Some (who.now, number)) batch.old.letters }
-        requires space { most ≤ batch.old.room }
-        ensures carried_on { IsCarriedOn who.now number most self.old batch.old.letters
-            result.0.finished result.1 self.new batch.new.letters }
-        ensures stands { StandsAt self.new who.now number result.0.standing }
-        ensures most { result.0.finished ≤ length batch.old.letters }
-        ensures bound { length batch.new.letters ≤ most }
-        ensures looked { batch.new.looked ≡ 0 }
-        ensures room { batch.new.room ≡ batch.old.room }
+        beside: &mut A,
+        does: F,
+    ) -> Result<(T, Standing), Fault>
+        requires callable { (lent : MutBor Running) (had : MutBor A) → had.now ≡ beside.old → F.pre does lent had }
+        requires continues { (lent : MutBor Running) (had : MutBor A) (told : T) (left : MutBor Running) (has : MutBor A)
+            → F.post does lent had told left has → Continues lent.now left.now }
+        ensures { LendsTo (F.post does) self.old who.now number beside.old result self.new beside.new }
     {
-        let nothing = HandedIn {
-            finished: 0,
-            standing: Standing::Over,
-        };
-        let Ok(opened) = self.tenants.opened_mut(who, number) else {
-            batch.let_go();
-            return (nothing, Went::Nowhere);
-        };
-        let Carried::Own(search) = &mut opened.carried else {
-            batch.let_go();
-            return (nothing, Went::Nowhere);
-        };
-        let CarriedOn { finished, went } = carry_on(search, most, batch);
-        let standing = settle(&mut self.busy, who, number, search);
-        (HandedIn { finished, standing }, went)
+        let opened = self.tenants.opened_mut(who, number)?;
+        let told = does(opened, beside);
+        let standing = settle(&mut self.busy, who, number, opened.carried.search());
+        Ok((told, standing))
     }
 
     /// Finishes the letter of the job with what was looked up.
@@ -358,10 +273,10 @@ impl Hall {
         ensures driven { CarriesOut self.old who (waits number) (told_as reply.Answered result) self.new }
         ensures quiet { SearchIsQuiet self.new who number }
     {
-        let opened = self.tenants.opened_mut(&who, number)?;
-        let told = drive(&mut opened.carried);
-        settle(&mut self.busy, &who, number, opened.carried.search());
-        told
+        match self.lend(&who, number, &mut (), |opened, _none| opened.drive()) {
+            Ok((told, _standing)) => told,
+            Err(nowhere) => Err(nowhere),
+        }
     }
 
     /// The tenant's search of the number, if it has not ended.
@@ -379,14 +294,13 @@ impl Hall {
     pub fn completed(&mut self, who: Entity, number: u64) -> Result<Option<Arc<Search>>, AllocError>
         ensures completed { IfOk result (λ r. MatchOption r (NoneIsCompletedAt self.old who number)
             (λ shared. IsCompletedAt self.old who number (arc_value shared))) }
+        ensures lacks { OnErr result ((s : SearchState) × IsCompletedAt self.old who number s) }
         ensures same { self.new ≡ self.old }
     {
-        let Ok(opened) = self.tenants.opened_mut(&who, number) else {
-            return Ok(None);
-        };
-        if !opened.carried.search().is_completed() {
-            return Ok(None);
+        let alloc = self.alloc;
+        match self.lend(&who, number, &mut (), |opened, _none| opened.share(alloc)) {
+            Ok((shared, _standing)) => shared,
+            Err(_nowhere) => Ok(None),
         }
-        Ok(Some(opened.carried.lend(self.alloc)?))
     }
 }

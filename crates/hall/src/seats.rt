@@ -3,7 +3,7 @@ ghost use Rattle.std.specs.Prelude.{◌≡◌, ◌≢◌, ◌+◌, ◌<◌, None
 ghost use Rattle.std.specs.FinMap.{get, insert, remove, len};
 ghost use Rattle.vaults.specs.Journal.{entries_of, vault, grant_count, refusal, view};
 ghost use Rattle.hall.specs.declared.faults.Fault.TheVariants as faults;
-ghost use Rattle.hall.specs.{Fault.vault_fault, Account.alter_refusal, Account.seek_refusal};
+ghost use Rattle.hall.specs.{Fault.vault_fault, Answers.alter_refusal, Answers.seek_refusal};
 ghost use Rattle.hall.specs.Hall.{account, beginning, new_tenant};
 ghost use Rattle.hall.specs.Kept.{Lists, KeepsBut};
 
@@ -11,6 +11,7 @@ use crate::carried::Carried;
 use crate::faults::Fault;
 use crate::opened::Opened;
 use crate::picking::{Busy, enter};
+use crate::remains::Remains;
 use indexmap::IndexMap;
 use names::Entity;
 use quotas::{Limits, Used};
@@ -121,9 +122,8 @@ impl Seat {
         Ok(number)
     }
 
-    /// Ends the search of the number. Where there is none the refusal is 51. Where nobody else has the search, its tables are
-    /// spare then.
-    pub(crate) fn end(&mut self, number: u64, spare: &mut Tables) -> Result<(), Fault>
+    /// Ends the search of the number, and hands out what is left of it. Where there is none the refusal is 51.
+    pub(crate) fn end(&mut self, number: u64) -> Result<Remains, Fault>
         ensures there { OnOk result (get self.old.searches number ≢ None) }
         ensures ended { OnOk result (self.new ≡ record self.old { searches = remove self.old.searches number }) }
         ensures refused { IfErr result (λ f. (f ≡ faults.NoSuchSearch) × (get self.old.searches number ≡ None)) }
@@ -132,8 +132,7 @@ impl Seat {
         let Some(ended) = self.searches.swap_remove(&number) else {
             return Err(Fault::NoSuchSearch);
         };
-        leave_tables(ended, spare);
-        Ok(())
+        Ok(Remains::of(ended))
     }
 
     /// What the tenant uses of its limits, by its account.
@@ -176,17 +175,4 @@ fn begin(
         opened_at: book.journal_len(),
         carried,
     })
-}
-
-/// Ends the search. Where nobody else has it, its tables are spare.
-fn leave_tables(ended: Opened, spare: &mut Tables) {
-    let Opened {
-        opened_at: _,
-        carried,
-    } = ended;
-    match carried {
-        Carried::Own(search) => *spare = search.into_tables(),
-        Carried::Lent(_shared) => {}
-        Carried::Moving => {}
-    }
 }

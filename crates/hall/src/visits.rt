@@ -1,217 +1,152 @@
-//! What is done to a search by who works for the hall: its steps are made in a row, and its letters are handed in.
-ghost use Rattle.std.specs.Prelude.{◌≡◌, ◌+◌, ◌++◌, ◌∷◌, ◌<◌, ◌≤◌, List, ℕ, [], length, map, vec_len, vec_capacity};
-ghost use Rattle.std.specs.Prelude.{true, None, Some, is_ok, option_copied};
-ghost use Rattle.std.specs.List.{AllWithin};
-ghost use Rattle.std.specs.Arc.{arc_value};
-ghost use Rattle.search.specs.declared.queries.Hint.TheVariants as hint;
-ghost use Rattle.search.specs.Finish.{need_for};
-ghost use Rattle.hall.specs.Batches.{IsEmpty, IsLookedUp, IsLookedUpIn, taken_of, Visits, MakesStep, HandsInAs, HandsInEach, GoesOn};
-ghost use Rattle.hall.specs.Batches.{CarriesOn};
+//! Visits of somebody who works for a hall: what he asks for, and what came of it.
+ghost use Rattle.std.specs.Prelude.{◌≡◌, ◌≤◌, ◌+◌, [], length, MatchOption};
+ghost use Rattle.hall.specs.Batches.{IsEmpty, IsLookedUp, name_of};
+ghost use Rattle.hall.specs.Work.{IsVisit, GoesOnAs, TellsEnds};
 
-use crate::batches::{Batch, HeldLetter, NamedSearch};
-use crate::standings::{CarriedOn, Went};
-use names::{Entity, Role};
-use search::{Finished, Hint, Need, Search};
-use std::alloc::AllocError;
+use crate::batches::Batch;
+use crate::ends::Ends;
+use crate::picking::Standing;
+use crate::registry::Hall;
+use names::Entity;
 
-/// Makes up to so many steps, one after another: delivers the oldest signal, or else takes the first letter that waits, as
-/// long as there is either. The batch has the letters then, under the name that the search has in the hall. Nothing is done
-/// where memory to share the snapshot is refused.
-pub(crate) fn visit(
-    search: &mut Search,
-    who: Entity,
-    number: u64,
-    most: usize,
-    batch: &mut Batch,
-) -> Result<(), AllocError>
-    requires empty { IsEmpty batch.old }
-    requires space { most ≤ batch.old.room }
-    ensures visited { Visits who number most search.old (is_ok result) search.new batch.new.letters }
-    ensures bound { length batch.new.letters ≤ most }
-    ensures looked { batch.new.looked ≡ 0 }
-    ensures room { batch.new.room ≡ batch.old.room }
-{
-    let of = NamedSearch {
-        who,
-        number,
-        snapshot: search.snapshot().clone()?,
-    };
-    take_each(search, &of, most, &mut batch.held_letters);
-    if !batch.held_letters.is_empty() {
-        batch.of = Some(of);
-    }
-    Ok(())
+/// What is to be done with the letters of a batch, and then.
+#[derive(Clone, Copy)]
+pub enum Order {
+    /// They are finished. Then steps are made of their search, or, where nothing of that is left to do, of the one whose turn it is.
+    GoOn,
+    /// They are finished. Then steps are made of the search whose turn it is.
+    TakeTurn,
+    /// They are finished, and no step is made.
+    HandIn,
+    /// They wait again, and no step is made.
+    GiveBack,
 }
 
-/// Finishes the letters, each with its right hint and in the order in which they were taken, and answers how many are
-/// done. Or lets each of them wait again.
-pub(crate) fn hand_in(search: &mut Search, batch: &Batch, back: bool) -> u64
-    requires { IsLookedUp batch.now }
-    ensures handed_in { (who : List ℕ) → (k : ℕ) → batch.now.of ≡ Some (who, k)
-        → HandsInEach who k back search.old batch.now.letters result search.new }
-    ensures nothing { batch.now.of ≡ None → (search.new ≡ search.old) × (result ≡ 0) }
-    ensures most { result ≤ length batch.now.letters }
-{
-    match &batch.of {
-        Some(of) => hand_in_each(search, of, &batch.held_letters, back),
-        None => 0,
+impl Order {
+    ghost use Rattle.hall.specs.Work.{gives_back};
+
+    /// Whether the letters are given back.
+    pub(crate) fn gives_back(self) -> bool
+        ensures { result ≡ gives_back self }
+    {
+        matches!(self, Order::GiveBack)
     }
 }
 
-/// Finishes the letters as `hand_in` does, and goes on as `visit` does, where anything is left to do then. The batch has the
-/// letters that this takes, under the name that those before had.
-pub(crate) fn carry_on(search: &mut Search, most: usize, batch: &mut Batch) -> CarriedOn
-    requires looked_up { IsLookedUp batch.old }
-    requires named { batch.old.of ≡ None → ⊥ }
-    requires space { most ≤ batch.old.room }
-    ensures carried_on { (who : List ℕ) (k : ℕ) → batch.old.of ≡ Some (who, k)
-        → CarriesOn who k most search.old batch.old.letters result search.new batch.new.letters }
-    ensures most { result.finished ≤ length batch.old.letters }
-    ensures bound { length batch.new.letters ≤ most }
-    ensures looked { batch.new.looked ≡ 0 }
-    ensures room { batch.new.room ≡ batch.old.room }
-{
-    let finished = hand_in(search, batch, false);
-    let went = go_on(search, most, batch);
-    CarriedOn { finished, went }
+/// What came of a visit to a hall.
+#[derive(Clone, Copy)]
+pub struct Visit {
+    /// How many of the letters are finished.
+    pub finished: u64,
+    /// How it went on.
+    pub next: Next,
 }
 
-/// Lets the letters of the search go, which were handed in, and takes others of it where anything is left to do. The batch
-/// names the search already, so its name isn't copied.
-#[inline(always)]
-fn go_on(search: &mut Search, most: usize, batch: &mut Batch) -> Went
-    requires named { batch.old.of ≡ None → ⊥ }
-    requires space { most ≤ batch.old.room }
-    ensures went { (who : List ℕ) (k : ℕ) → batch.old.of ≡ Some (who, k)
-        → GoesOn who k most search.old result search.new batch.new.letters }
-    ensures bound { length batch.new.letters ≤ most }
-    ensures looked { batch.new.looked ≡ 0 }
-    ensures room { batch.new.room ≡ batch.old.room }
-{
-    if search.is_quiet() {
-        batch.let_go();
-        return Went::Nowhere;
-    }
-    let Ok(snapshot) = search.snapshot().clone() else {
-        batch.let_go();
-        return Went::NoMemory;
-    };
-    batch.held_letters.clear();
-    batch.looked = 0;
-    let Some(of) = &mut batch.of else {
-        unreachable!()
-    };
-    of.snapshot = snapshot;
-    take_each(search, of, most, &mut batch.held_letters);
-    if batch.held_letters.is_empty() {
-        batch.let_go();
-    }
-    Went::On
+/// How a visit went on once the letters were handed in.
+#[derive(Clone, Copy)]
+pub enum Next {
+    /// Steps were made of a search.
+    Worked {
+        /// Whether anything of it is left to do.
+        left: bool,
+    },
+    /// Nothing of any search is left to do.
+    Idle,
+    /// Something is left, and there was no memory to share what its search reads: no step was made.
+    NoMemory,
+    /// No step was asked for.
+    Unasked,
 }
 
-/// Makes up to so many steps of the search, which the letters that are taken are of.
-fn take_each(search: &mut Search, of: &NamedSearch, most: usize, held_letters: &mut Vec<HeldLetter>)
-    requires reads { arc_value of.now.snapshot ≡ search.old.snapshot }
-    requires empty { held_letters.old.items ≡ [] }
-    requires space { most ≤ vec_capacity held_letters.old }
-    ensures visited { Visits of.now.who of.now.number most search.old true search.new
-        (map (taken_of of.now) held_letters.new.items) }
-    ensures bound { vec_len held_letters.new ≤ most }
-    ensures capacity { vec_capacity held_letters.new ≡ vec_capacity held_letters.old }
-{
-    for _step in 0..most {
-        if !make_step(search, of, held_letters) {
-            break;
+impl Hall {
+    ghost use Rattle.hall.specs.Working.{WorksOnOne, TellsMore};
+
+    /// A visit of somebody who works for the hall. The letters of the batch are handed in as the order says. Then, where it asks
+    /// for that, at most so many steps are made of one search: each delivers its oldest signal, or else takes its first letter
+    /// that waits, as long as there is either. The batch has the letters then. The turn chooses among the searches that may go
+    /// on; a search is looked up once. The searches that come to their ends by it are told.
+    pub fn work(
+        &mut self,
+        turn: u64,
+        order: Order,
+        most: usize,
+        batch: &mut Batch,
+        ends: &mut Ends,
+    ) -> Visit
+        requires looked_up { IsLookedUp batch.old }
+        requires space { most ≤ batch.old.room }
+        requires told { ends.old ≡ [] }
+        ensures visit { IsVisit order most self.old batch.old result self.new batch.new }
+        ensures ends { TellsEnds self.old self.new ends.new }
+    {
+        let Some((who, number)) = batch.search() else {
+            let next = self.take_turn(turn, order, most, batch, ends);
+            return Visit { finished: 0, next };
+        };
+        let (finished, next) = self.work_on(&who, number, order, most, batch, ends);
+        let next = match next {
+            Some(next) => next,
+            None => self.take_turn(turn, order, most, batch, ends),
+        };
+        Visit { finished, next }
+    }
+
+    /// Makes steps of the search whose turn it is, where steps are asked for.
+    fn take_turn(
+        &mut self,
+        turn: u64,
+        order: Order,
+        most: usize,
+        batch: &mut Batch,
+        ends: &mut Ends,
+    ) -> Next
+        requires empty { IsEmpty batch.old }
+        requires space { most ≤ batch.old.room }
+        requires told { length ends.old ≤ 1 }
+        ensures next { GoesOnAs order most batch.old.room self.old None result self.new batch.new }
+        ensures ends { TellsMore self.old self.new ends.old ends.new }
+    {
+        let (Order::GoOn | Order::TakeTurn) = order else {
+            return Next::Unasked;
+        };
+        let Some(step) = self.pick(turn) else {
+            return Next::Idle;
+        };
+        let (who, number) = step.search();
+        let (_none, next) = self.work_on(&who, number, Order::GoOn, most, batch, ends);
+        let Some(next) = next else { unreachable!() };
+        next
+    }
+
+    /// Hands the letters of the batch in to the tenant's search of the number, which they are of, and goes on with it where that
+    /// is asked and anything of it is left to do. Answers how many letters are finished, and how it went on, if it did.
+    fn work_on(
+        &mut self,
+        who: &Entity,
+        number: u64,
+        order: Order,
+        most: usize,
+        batch: &mut Batch,
+        ends: &mut Ends,
+    ) -> (u64, Option<Next>)
+        requires looked_up { IsLookedUp batch.old }
+        requires of { MatchOption batch.old.of (Unit {0}) (λ of. name_of of ≡ (who.now, number)) }
+        requires space { most ≤ batch.old.room }
+        requires told { length ends.old ≤ 1 }
+        ensures works { WorksOnOne order most self.old (who.now, number) batch.old result.0 result.1 self.new batch.new }
+        ensures ends { TellsMore self.old self.new ends.old ends.new }
+        ensures told { length ends.new ≤ length ends.old + 1 }
+    {
+        let lent = self.lend(who, number, batch, |opened, batch| {
+            opened.work(who, number, order, most, batch)
+        });
+        let Ok(((finished, went), standing)) = lent else {
+            batch.let_go();
+            return (0, None);
+        };
+        if let Standing::Over = standing {
+            ends.put(who, number);
         }
+        (finished, went.next(standing))
     }
-}
-
-/// Makes a step of the search, and tells whether there was one to make.
-#[inline(always)]
-fn make_step(search: &mut Search, of: &NamedSearch, held_letters: &mut Vec<HeldLetter>) -> bool
-    requires reads { arc_value of.now.snapshot ≡ search.old.snapshot }
-    requires space { vec_len held_letters.old < vec_capacity held_letters.old }
-    ensures made { MakesStep of.now.who of.now.number (map (taken_of of.now) held_letters.old.items)
-        (map (taken_of of.now) held_letters.new.items) search.old result search.new }
-    ensures reads { search.new.snapshot ≡ search.old.snapshot }
-    ensures bound { vec_len held_letters.new ≤ vec_len held_letters.old + 1 }
-    ensures capacity { vec_capacity held_letters.new ≡ vec_capacity held_letters.old }
-{
-    if search.signals() > 0 {
-        search.signal(0);
-        return true;
-    }
-    let Some(letter) = search.take_number(0) else {
-        return false;
-    };
-    search.kept();
-    note(held_letters, letter, search.rows_needed(letter));
-    true
-}
-
-/// Puts the letter behind the others, which needs the rows of this role, or none.
-#[inline(always)]
-fn note(held_letters: &mut Vec<HeldLetter>, letter: u64, role: Option<&Role>)
-    requires space { vec_len held_letters.old < vec_capacity held_letters.old }
-    ensures items { held_letters.new.items
-        ≡ held_letters.old.items ++ record { letter = letter; need = need_for (option_copied role.entry); hint = hint.Nothing } ∷ [] }
-    ensures len { vec_len held_letters.new ≡ vec_len held_letters.old + 1 }
-    ensures capacity { vec_capacity held_letters.new ≡ vec_capacity held_letters.old }
-{
-    let hint = Hint::Nothing;
-    match role {
-        Some(role) => held_letters.push_reserved(HeldLetter {
-            letter,
-            need: Need::Rows(*role),
-            hint,
-        }),
-        None => held_letters.push_reserved(HeldLetter {
-            letter,
-            need: Need::Nothing,
-            hint,
-        }),
-    }
-}
-
-/// Hands in the letters of the search, one after another.
-fn hand_in_each(
-    search: &mut Search,
-    of: &NamedSearch,
-    held_letters: &[HeldLetter],
-    back: bool,
-) -> u64
-    requires { AllWithin (IsLookedUpIn of.now) held_letters.now 0 (length held_letters.now) }
-    ensures handed_in { HandsInEach of.now.who of.now.number back search.old
-        (map (taken_of of.now) held_letters.now) result search.new }
-    ensures most { result ≤ length held_letters.now }
-{
-    let mut finished = 0;
-    for held_letter in held_letters {
-        if hand_in_letter(search, of, held_letter, back) {
-            finished += 1;
-        }
-    }
-    finished
-}
-
-/// Finishes the letter with what was looked up for it, and tells whether it is done. Or lets it wait again.
-#[inline(always)]
-fn hand_in_letter(
-    search: &mut Search,
-    of: &NamedSearch,
-    held_letter: &HeldLetter,
-    back: bool,
-) -> bool
-    requires { IsLookedUpIn of.now held_letter.now }
-    ensures { HandsInAs of.now.who of.now.number back search.old (taken_of of.now held_letter.now) result search.new }
-{
-    let _who = &of.who;
-    if back {
-        search.put_back(held_letter.letter);
-        search.kept();
-        return false;
-    }
-    let finished = search.finish(held_letter.letter, held_letter.hint);
-    search.kept();
-    finished == Finished::Done
 }

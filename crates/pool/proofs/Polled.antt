@@ -8,13 +8,12 @@ use Rattle.vaults.specs.Journal.{credentials}
 use Rattle.search.specs.Search.{status_of, SearchState, settled_of}
 use Rattle.search.specs.declared.outcomes.Status.TheVariants as status
 use Rattle.search.specs.declared.queries.Query.{Query}
-use Rattle.search.specs.Ending.{Settled, Nothing, Yes, No, Members, Spent, Broken, IsTruth, answers, spends, breaks, MaySettle}
+use Rattle.search.specs.Ending.{Settled, Nothing, Yes, No, Members, IsTruth, answers, spends, breaks, MaySettle}
 use Rattle.hall.specs.declared.calls.answers.Answer.{Answer}
 use Rattle.hall.specs.declared.calls.answers.Answer.TheVariants.{Working}
 use Rattle.hall.specs.declared.calls.requests.Request.TheVariants.{Poll}
 use Rattle.hall.specs.declared.calls.replies.Reply.TheVariants.{Answered}
-use Rattle.hall.specs.Account.{Asked}
-use Rattle.hall.specs.Answers.{answer_of}
+use Rattle.hall.specs.Answers.{Asked, answer_of}
 use Rattle.hall.specs.Hall.{Running, Tenant, HallState, search_of, search_at, seen, IsSound, IsServed}
 use Rattle.hall.proofs.Maps.{numbers_exact, get_mapped}
 use Rattle.pool.specs.declared.verdicts.Verdict.{Verdict}
@@ -26,12 +25,10 @@ use Rattle.pool.specs.Served.{IsServedAt, IsVerdictOf, IsPolledAt, GoesOnWaiting
 use Rattle.pool.proofs.Served.{granted}
 
 truth_told : (C : List Credential) (q : Query) (s : Settled) → IsTruth C q s → IsTrueWhereCompleted C q (answer_of s)
-truth_told C q Nothing is = tt
 truth_told C q Yes is = is
 truth_told C q No is = is
 truth_told C q (Members names) is = is
-truth_told C q Spent is = tt
-truth_told C q Broken is = tt
+truth_told C q s is = tt
 
 ending_told : (limit : ℕ) (C : List Credential) (q : Query) (s : Settled) → MaySettle limit C q Nothing s → IsTrueWhereCompleted C q (answer_of s)
 ending_told limit C q s (inl is) = subst (λ (t : Settled). IsTrueWhereCompleted C q (answer_of t)) (sym is) tt
@@ -134,11 +131,7 @@ module _ (at : RoomState) (old new : PassState) (who : List ℕ) (h : HallState)
 -- nothing yet is told of a search at work
 at_work : (s : Settled) → answer_of s ≡ Working → status_of s ≡ status.Working
 at_work Nothing is = refl
-at_work Yes is = cc
-at_work No is = cc
-at_work (Members names) is = cc
-at_work Spent is = cc
-at_work Broken is = cc
+at_work s is = cc
 
 works_on : (o : Option Running) (v : Verdict) → IsSomeAnd o (λ r. IsVerdictOf r v) → v.answer ≡ Working → IsSomeAnd o (λ r. status_of (settled_of r.search) ≡ status.Working)
 works_on None v told working = told

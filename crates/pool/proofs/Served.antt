@@ -8,11 +8,9 @@ use Rattle.hall.specs.declared.calls.requests.Request.{Request}
 use Rattle.hall.specs.declared.calls.requests.Request.TheVariants as request
 use Rattle.hall.specs.declared.calls.replies.Reply.{Reply}
 use Rattle.hall.specs.declared.calls.replies.Reply.TheVariants.{Counted, Opened, Closed, Refused}
-use Rattle.hall.specs.Account.{Account}
-use Rattle.hall.specs.Answers.{sight, Grants, Answers, refuses, grants, lacks}
+use Rattle.hall.specs.Answers.{Account, sight, Grants, Answers, refuses, grants, lacks}
 use Rattle.hall.specs.Hall.{HallState, Tenant, account, account_of, AnswersTo, hall_after, IsServed}
 use Rattle.pool.specs.Passes.{PassState, length_after, pass_after}
-use Rattle.pool.proofs.Kept.{changed_journal}
 
 -- the tenant of that name is told this, by its account
 pub record IsGranted (h : HallState) (who : List ℕ) (q : Request) (told : Reply) : Type 0 where
@@ -53,8 +51,8 @@ pass_seeing old seen _ other = refl
 -- the hall's journal is longer where a change was counted, and else the same
 same_journal : (h : HallState) (who : List ℕ) (q : Request) (told : Reply) → ((n : ℕ) → told ≡ Counted n → ⊥) → (hall_after h who q told).journal ≡ h.journal
 same_journal h who (request.Alter change) (Counted n) other = absurd (other n refl)
-same_journal h who (request.Seek query) (Opened n) other = changed_journal h who _ (get h.tenants who)
-same_journal h who (request.Close k) Closed other = changed_journal h who _ (get h.tenants who)
+same_journal h who (request.Seek query) (Opened n) other = refl
+same_journal h who (request.Close k) Closed other = refl
 same_journal h who _ _ other = refl
 
 pub journal_after : (h new : HallState) (who : List ℕ) (q : Request) (told : Reply) → IsServed h who q told new → length new.journal ≡ length_after (length h.journal) told

@@ -13,7 +13,7 @@ use Rattle.hall.specs.declared.calls.replies.Reply.{Reply}
 use Rattle.hall.specs.declared.calls.replies.Reply.TheVariants.{Answered, Refused}
 use Rattle.hall.specs.Answers.{answer_of}
 use Rattle.hall.specs.Hall.{HallState, Running, search_at, IsServed, IsToldOver}
-use Rattle.hall.specs.Visits.{IsCompletedAt}
+use Rattle.hall.specs.Work.{IsCompletedAt}
 use Rattle.pool.specs.declared.faults.DeskFault.{DeskFault}
 use Rattle.pool.specs.declared.faults.DeskFault.TheVariants.{Hall, Rewound, PassesOut, NoThread}
 use Rattle.pool.specs.declared.verdicts.Verdict.{Verdict}

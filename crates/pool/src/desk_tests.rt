@@ -2,6 +2,7 @@
 mod acts;
 mod calls;
 mod gates;
+mod gathers;
 mod lives;
 mod plays;
 mod rows;

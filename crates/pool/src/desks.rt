@@ -1,27 +1,25 @@
-ghost use Rattle.std.specs.Prelude.{◌≡◌, ◌↔◌, ◌+◌, ◌≤◌, false, length, map, vec_len, IfOk, IfErr, IfSome, IfNone, OnOk, OnErr, Contains};
+ghost use Rattle.std.specs.Prelude.{◌≡◌, ◌↔◌, ◌+◌, ◌≤◌, false, [], length, map, vec_len, IfOk, IfErr, IfSome, IfNone, OnOk, OnErr, Contains};
 ghost use Rattle.std.specs.List.{IsDistinct};
 ghost use Rattle.std.specs.Sync.Mutex.{mutex_guard_value};
 ghost use Rattle.names.specs.Name.{is_same};
 ghost use Rattle.hall.specs.declared.calls.requests.Request.TheVariants as request;
 ghost use Rattle.hall.specs.declared.calls.replies.Reply.TheVariants as reply;
-ghost use Rattle.hall.specs.Visits.{SearchIsQuiet};
-ghost use Rattle.hall.specs.Batches.{IsEmpty, IsLookedUp, AreOf};
+ghost use Rattle.hall.specs.Batches.{IsEmpty, IsLookedUp};
 ghost use Rattle.pool.specs.Laws.{CountsAreSeen, NumbersAreCounted, VaultsAreOwn, SightsAreOwn, VerdictsAreOwn};
 ghost use Rattle.pool.specs.Passes.{shares_of};
-ghost use Rattle.pool.specs.Rooms.{IsKept};
+ghost use Rattle.pool.specs.Rooms.{IsKept, IsIdle};
 ghost use Rattle.pool.specs.Refusals.{IsPassRefusal};
 ghost use Rattle.pool.specs.Served.{IsAnswered, IsPolled, IsPolledAt, IsWaited, IsAdmitted, IsGathered, MoreAreOut};
-ghost use Rattle.pool.specs.Workers.{IsFound, IsHandIn, WasStopped};
+ghost use Rattle.pool.specs.Workers.{IsFound, IsHandIn, found_by};
 
 use crate::bells::Bells;
 use crate::faults::{DeskFault, Told};
-use crate::notices::WorkNotice;
 use crate::passes::Pass;
-use crate::rooms::{PARTS, Room, read_off, verdict_on};
+use crate::rooms::{PARTS, Room, Served, read_off, verdict_on};
 use crate::verdicts::{Gathered, Ticket, Verdict};
 use crate::visits::{BATCH, Found, Visited};
 use hall::{
-    Batch, Fault, Hall, HandedIn, Proof, Query, Reply, Request, Rows, Sights, Standing, Went,
+    Batch, Ends, Fault, Hall, Next, Order, Proof, Query, Reply, Request, Rows, Sights, Visit,
 };
 use names::Entity;
 use quotas::Limits;
@@ -32,7 +30,8 @@ use std::sync::{Condvar, Mutex, MutexGuard, Wait};
 use std::thread;
 use vaults::Change;
 
-/// How often a call tries the lock before its thread sleeps for it: to be woken takes longer than most have the lock.
+/// How often a thread tries the lock before it sleeps for it, and lets others run in between: to be woken takes longer than most
+/// have the lock.
 const TRIES: usize = 16;
 
 /// A hall under one lock, with the ledger of the accepted changes of which passes were told. The type `L` names the
@@ -45,6 +44,8 @@ pub struct Desk<L: Ledger> {
     over: Bells,
     /// Where workers wait for something to do.
     pub(crate) work: Condvar,
+    /// Held by one of those who sleep for the room, until it has that. A worker that goes on alone waits for it before each visit.
+    next: Mutex<()>,
     /// Held by the worker that finishes many letters in each row of visits, where no gate may wait.
     line: Mutex<()>,
 }
@@ -65,6 +66,7 @@ impl<L: Ledger> Drop for Desk<L> {
             room: _room,
             over: _over,
             work: _work,
+            next: _next,
             line: _line,
         } = self;
     }
@@ -91,24 +93,45 @@ impl<L: Ledger> Desk<L> {
             room: Mutex::new(Room::new(hall, blank)),
             over,
             work: Condvar::new(),
+            next: Mutex::new(()),
             line: Mutex::new(()),
         })
     }
 
-    /// Takes the lock, after some tries by sleep. Each time the ledger's total is the journal's length, and the hall is sound.
+    /// For a call: takes the lock, after some tries by sleep. While a worker goes on alone it sleeps at once where others have the
+    /// lock, and the first who sleeps is let in before that worker's next visit. Each time the ledger's total is the journal's
+    /// length, and the hall is sound.
     fn enter<R: Wait>(&self, rt: &R) -> MutexGuard<'_, Room<L>>
         ensures { IsKept (mutex_guard_value result) }
     {
-        for _ in 0..TRIES {
+        if let Some(room) = self.room.try_lock() {
+            room.kept();
+            return room;
+        }
+        let one_goes_on_alone = self.line.try_lock().is_none();
+        self.enter_after(rt, if one_goes_on_alone { 0 } else { TRIES })
+    }
+
+    /// Takes the lock, after so many tries by sleep.
+    fn enter_after<R: Wait>(&self, rt: &R, tries: usize) -> MutexGuard<'_, Room<L>>
+        ensures { IsKept (mutex_guard_value result) }
+    {
+        for _ in 0..tries {
             if let Some(room) = self.room.try_lock() {
                 room.kept();
                 return room;
             }
             thread::yield_now();
         }
+        let _next = self.next.try_lock();
         let room = self.room.lock(rt);
         room.kept();
         room
+    }
+
+    /// For a worker that goes on alone, before it visits again: who sleeps for the lock and holds `next` has it first.
+    pub(crate) fn let_in<R: Wait>(&self, rt: &R) {
+        let _next = self.next.lock(rt);
     }
 
     /// A new pass of a tenant, told of no change yet. Refused as 62 to a stranger, and as 90 where 2^32 passes are out.
@@ -138,8 +161,14 @@ impl<L: Ledger> Desk<L> {
         let served = room.serve(pass, request);
         drop(room);
         match served {
-            Ok((reply, notice)) => {
+            Ok(served) => {
+                let Served {
+                    reply,
+                    notice,
+                    remains,
+                } = served;
                 notice.ring(&self.over, &self.work);
+                drop(remains);
                 Ok(reply)
             }
             Err(fault) => Err(fault),
@@ -280,172 +309,132 @@ impl<L: Ledger> Desk<L> {
 
     /// For a worker: hands in the letters that it holds, and makes steps by which it takes others. It goes on with the
     /// search of its letters, if it may and something is left of that, or with the one that has its turn, once there is
-    /// something to do.
+    /// something to do. Who waits for a search that has come to its end is woken.
     pub(crate) fn visit<R: Wait>(
         &self,
         rt: &R,
         turn: u64,
         may_go_on: bool,
         batch: &mut Batch,
+        ends: &mut Ends,
     ) -> Visited
         requires looked_up { IsLookedUp batch.old }
         requires space { BATCH ≤ batch.old.room }
-        ensures handed_in { IsHandIn batch.old.letters result.finished }
-        ensures most { result.finished ≤ length batch.old.letters }
-        ensures found { IsFound result.found batch.new.letters }
-        ensures looked { batch.new.looked ≡ 0 }
-        ensures space { batch.new.room ≡ batch.old.room }
+        requires told { ends.old ≡ [] }
+        ensures handed_in { IsHandIn batch.old result.finished }
+        ensures found { IsFound batch.old.room result.found batch.new }
+        ensures told { ends.new ≡ [] }
     {
-        let mut room = self.enter(rt);
-        let Some((who, number)) = batch.search() else {
-            let found = self.take_turn(rt, room, turn, batch);
-            return Visited { finished: 0, found };
+        let order = if may_go_on {
+            Order::GoOn
+        } else {
+            Order::TakeTurn
         };
-        if may_go_on && !room.stopped {
-            return self.carry_on(rt, room, &who, number, turn, batch);
+        let mut room = self.enter_after(rt, TRIES);
+        let visit = room.work(turn, order, batch, ends);
+        let Next::Idle = visit.next else {
+            return Visited {
+                finished: visit.finished,
+                found: self.give_back(room, turn, visit.next, ends),
+            };
+        };
+        self.tell(ends);
+        let mut room = self.sleep(rt, room, turn, batch);
+        let Visit { next, .. } = room.work(turn, Order::TakeTurn, batch, ends);
+        Visited {
+            finished: visit.finished,
+            found: self.give_back(room, turn, next, ends),
         }
-        let (HandedIn { finished, .. }, notice) = room.hand_in(&who, number, batch);
-        notice.ring(&self.over);
-        let found = self.take_turn(rt, room, turn, batch);
-        Visited { finished, found }
     }
 
-    /// Hands in the letters, which are of that search, and goes on with it, or with the one that has its turn where nothing of
-    /// it is left.
-    fn carry_on<'a, R: Wait>(
+    /// Sleeps until there is something to do, or the desk was stopped. Who does holds no letter.
+    fn sleep<'a, R: Wait>(
         &'a self,
         rt: &R,
         mut room: MutexGuard<'a, Room<L>>,
-        who: &Entity,
-        number: u64,
         turn: u64,
-        batch: &mut Batch,
-    ) -> Visited
-        requires goes_on { (mutex_guard_value room).stopped ≡ false }
-        requires looked_up { IsLookedUp batch.old }
-        requires of { batch.old.of ≡ Some (who.now, number) }
-        requires letters { AreOf (Some (who.now, number)) batch.old.letters }
-        requires space { BATCH ≤ batch.old.room }
-        ensures handed_in { IsHandIn batch.old.letters result.finished }
-        ensures most { result.finished ≤ length batch.old.letters }
-        ensures found { IsFound result.found batch.new.letters }
-        ensures looked { batch.new.looked ≡ 0 }
-        ensures space { batch.new.room ≡ batch.old.room }
+        batch: &Batch,
+    ) -> MutexGuard<'a, Room<L>>
+        requires { IsEmpty batch.now }
+        ensures busy { IsIdle (mutex_guard_value result) → ⊥ }
+        ensures kept { IsKept (mutex_guard_value result) }
     {
+        let _none = batch;
+        room.falls_asleep();
+        let mut room = self.work.wait_while(rt, room, |room| room.is_idle(turn));
+        room.wakes_up();
         room.kept();
-        let (HandedIn { finished, standing }, went, notice) = room.carry_on(who, number, batch);
-        let found = match went {
-            Went::On => {
-                self.give_back(room, standing, turn, notice);
-                Found::Work
-            }
-            Went::Nowhere => {
-                notice.ring(&self.over);
-                self.take_turn(rt, room, turn, batch)
-            }
-            Went::NoMemory => {
-                notice.ring(&self.over);
-                Found::NoMemory
-            }
-        };
-        Visited { finished, found }
+        room
     }
 
-    /// For a worker that will wait for something else: hands in the letters that it holds, and answers how many of them are
-    /// finished.
-    pub(crate) fn hand_in<R: Wait>(&self, rt: &R, batch: &mut Batch) -> u64
-        requires { IsLookedUp batch.old }
-        ensures handed_in { IsHandIn batch.old.letters result }
+    /// Gives the lock back after a visit that went on so. Wakes who waits for a search that has come to its end, and one worker
+    /// more if one sleeps and something is left.
+    #[inline(always)]
+    fn give_back(
+        &self,
+        room: MutexGuard<'_, Room<L>>,
+        turn: u64,
+        next: Next,
+        ends: &mut Ends,
+    ) -> Found
+        ensures found { result ≡ found_by next }
+        ensures told { ends.new ≡ [] }
+    {
+        let (found, moves) = match next {
+            Next::Worked { left } => (Found::Work, left),
+            Next::NoMemory => (Found::NoMemory, false),
+            Next::Idle | Next::Unasked => (Found::Stopped, false),
+        };
+        let is_left = found == Found::Work && room.has_sleepers() && (moves || !room.is_idle(turn));
+        drop(room);
+        if is_left {
+            self.work.notify_one();
+        }
+        self.tell(ends);
+        found
+    }
+
+    /// Wakes who waits for these searches.
+    #[inline(always)]
+    fn tell(&self, ends: &mut Ends)
+        ensures { ends.new ≡ [] }
+    {
+        while let Some((who, number)) = ends.take() {
+            self.over.of(&who, number).notify_all();
+        }
+    }
+
+    /// For a worker that finishes many letters, where no gate may wait: it hands in what it holds, and goes on alone once the one
+    /// that has the line gives it up. Answers how many letters are finished too.
+    pub(crate) fn stand_in_line<R: Wait>(
+        &self,
+        rt: &R,
+        batch: &mut Batch,
+        ends: &mut Ends,
+    ) -> (u64, MutexGuard<'_, ()>)
+        requires looked_up { IsLookedUp batch.old }
+        requires space { BATCH ≤ batch.old.room }
+        requires told { ends.old ≡ [] }
+        ensures handed_in { IsHandIn batch.old result.0 }
         ensures empty { IsEmpty batch.new }
         ensures space { batch.new.room ≡ batch.old.room }
+        ensures told { ends.new ≡ [] }
     {
-        let Some((who, number)) = batch.search() else {
-            return 0;
-        };
-        let (handed_in, notice) = self.enter(rt).hand_in(&who, number, batch);
-        notice.ring(&self.over);
-        handed_in.finished
+        let visit = self
+            .enter_after(rt, TRIES)
+            .work(0, Order::HandIn, batch, ends);
+        self.tell(ends);
+        (visit.finished, self.take_line(rt, batch))
     }
 
-    /// For a worker that finishes many letters, where no gate may wait: it goes on alone once the one that has the line gives
-    /// it up. It holds no letter, since that one may need it. It wakes a worker first, since what was handed in may be all that
-    /// there is to do, and the one that has the line may sleep for want of that.
-    pub(crate) fn stand_in_line<R: Wait>(&self, rt: &R, batch: &Batch) -> MutexGuard<'_, ()>
+    /// Waits for the line. Who does holds no letter, since the one that has it may need that. A worker is woken first, since what
+    /// was handed in may be all that there is to do, and the one that has the line may sleep for want of that.
+    fn take_line<R: Wait>(&self, rt: &R, batch: &Batch) -> MutexGuard<'_, ()>
         requires { IsEmpty batch.now }
     {
         let _none = batch;
         self.work.notify_one();
         self.line.lock(rt)
-    }
-
-    /// Makes steps of the search that has its turn, once there is something to do.
-    fn take_turn<'a, R: Wait>(
-        &'a self,
-        rt: &R,
-        mut room: MutexGuard<'a, Room<L>>,
-        turn: u64,
-        batch: &mut Batch,
-    ) -> Found
-        requires empty { IsEmpty batch.old }
-        requires space { BATCH ≤ batch.old.room }
-        ensures found { IsFound result batch.new.letters }
-        ensures looked { batch.new.looked ≡ 0 }
-        ensures space { batch.new.room ≡ batch.old.room }
-    {
-        if let Some((who, number)) = room.pick(turn) {
-            return self.make_steps(room, &who, number, turn, batch);
-        }
-        room.falls_asleep();
-        let mut room = self.work.wait_while(rt, room, |room| room.is_idle(turn));
-        room.wakes_up();
-        let Some((who, number)) = room.pick(turn) else {
-            return Found::Stopped;
-        };
-        self.make_steps(room, &who, number, turn, batch)
-    }
-
-    /// Makes steps of the search, and gives the lock back.
-    fn make_steps(
-        &self,
-        mut room: MutexGuard<'_, Room<L>>,
-        who: &Entity,
-        number: u64,
-        turn: u64,
-        batch: &mut Batch,
-    ) -> Found
-        requires goes_on { (mutex_guard_value room).stopped ≡ false }
-        requires left { SearchIsQuiet (mutex_guard_value room).hall who.now number → ⊥ }
-        requires empty { IsEmpty batch.old }
-        requires space { BATCH ≤ batch.old.room }
-        ensures found { IsFound result batch.new.letters }
-        ensures looked { batch.new.looked ≡ 0 }
-        ensures space { batch.new.room ≡ batch.old.room }
-    {
-        room.kept();
-        let Ok((standing, notice)) = room.visit(who, number, batch) else {
-            return Found::NoMemory;
-        };
-        self.give_back(room, standing, turn, notice);
-        Found::Work
-    }
-
-    /// Gives the lock back after steps of a search, which stands so now. Wakes whom that concerns, and one worker more if one
-    /// sleeps and something is left.
-    #[inline(always)]
-    fn give_back(
-        &self,
-        room: MutexGuard<'_, Room<L>>,
-        standing: Standing,
-        turn: u64,
-        notice: WorkNotice<'_>,
-    ) {
-        let is_left = room.has_sleepers()
-            && (matches!(standing, Standing::Moves) || !room.is_idle(turn));
-        drop(room);
-        if is_left {
-            self.work.notify_one();
-        }
-        notice.ring(&self.over);
     }
 }
 

@@ -3,6 +3,7 @@ ghost use Rattle.std.specs.Prelude.{◌≡◌, ◌↔◌, ◌+◌, ◌<◌, true
 ghost use Rattle.std.specs.Arc.{arc_value};
 ghost use Rattle.search.specs.Search.{settled_of};
 ghost use Rattle.hall.specs.Answers.{answer_of};
+ghost use Rattle.hall.specs.Hall.{IsServed, told_as};
 ghost use Rattle.pool.specs.Passes.{IsSeenAt, shares_of};
 ghost use Rattle.pool.specs.Rooms.{IsKept};
 ghost use Rattle.pool.specs.Notices.{request_concern};
@@ -13,7 +14,7 @@ use crate::faults::{DeskFault, Told};
 use crate::notices::{Concern, Notice};
 use crate::passes::Pass;
 use crate::verdicts::{Gathered, Verdict};
-use hall::{Fault, Hall, Reply, Request, proof_of, told_of};
+use hall::{Fault, Hall, Remains, Reply, Request, proof_of, told_of};
 use names::Entity;
 use search::{Search, Status};
 use std::alloc::Global;
@@ -26,6 +27,15 @@ pub const PARTS: u64 = (1 << 32) + 1;
 
 /// How many passes may be out at once.
 const MOST_OUT: u64 = 1 << 32;
+
+/// What came of a request.
+pub(crate) struct Served {
+    pub(crate) reply: Reply,
+    /// Whom it concerns.
+    pub(crate) notice: Notice,
+    /// What is left of a search that was ended: it may take long to drop, so that is done once the lock is given back.
+    pub(crate) remains: Option<Remains>,
+}
 
 /// The hall, the ledger of accepted changes, and what stands of it with no pass that is out. And how many workers wait for
 /// something to do, so that nobody is woken where none sleeps; contracts don't see that.
@@ -126,16 +136,20 @@ impl<L: Ledger> Room<L> {
 
     /// Serves the request of the pass's tenant, and tells whom that concerns. Where the hall accepts a change, the pass is told
     /// of one change more.
-    pub(crate) fn serve(&mut self, pass: &mut Pass<L>, request: Request) -> Told<(Reply, Notice)>
-        ensures answered { IsAnsweredAt (λ r. r.0) self.old self.new pass.old pass.new request result }
-        ensures notice { IfOk result (λ r. r.1 ≡ request_concern pass.old.tenant request) }
+    pub(crate) fn serve(&mut self, pass: &mut Pass<L>, request: Request) -> Told<Served>
+        ensures answered { IsAnsweredAt (λ s. s.reply) self.old self.new pass.old pass.new request result }
+        ensures notice { IfOk result (λ s. s.notice ≡ request_concern pass.old.tenant request) }
     {
         self.show(pass)?;
         let who = pass.tenant();
         let concern = Concern::of_request(who, &request);
-        let reply = self.hall.ask(who, request)?;
+        let (reply, remains) = ask(&mut self.hall, who, request)?;
         pass.hear(&mut self.book, &reply, self.hall.journal_len());
-        Ok((reply, Notice::of(concern)))
+        Ok(Served {
+            reply,
+            notice: Notice::of(concern),
+            remains,
+        })
     }
 
     /// Where the request reads a completed search of the pass's tenant, that search: it doesn't change any more, so the reply
@@ -249,6 +263,19 @@ impl<L: Ledger> Room<L> {
     {
         self.stopped = true;
         Notice::of(Concern::Everybody)
+    }
+}
+
+/// Has the hall serve the request. What is left of a search that ends by it is handed out.
+fn ask(hall: &mut Hall, who: Entity, request: Request) -> Result<(Reply, Option<Remains>), Fault>
+    ensures served { IsServed hall.old who request (told_as (λ r. r.0) result) hall.new }
+{
+    match request {
+        Request::Close(number) => {
+            let remains = hall.close(who, number)?;
+            Ok((Reply::Closed, Some(remains)))
+        }
+        other => Ok((hall.ask(who, other)?, None)),
     }
 }
 

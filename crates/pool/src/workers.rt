@@ -1,14 +1,16 @@
 //! Workers: threads that take letters, look up outside the lock, and hand in.
-ghost use Rattle.std.specs.Prelude.{ℕ, List, ◌≡◌, ◌≤◌, IfOk, IfErr, IfSome, vec_len, vec_capacity};
+ghost use Rattle.std.specs.Prelude.{ℕ, List, ◌≡◌, ◌≤◌, IfOk, IfErr, MatchResult, vec_len, vec_capacity};
+ghost use Rattle.std.specs.Result.{result_ok};
 ghost use Rattle.pool.specs.Refusals.{IsWorkRefusal};
-ghost use Rattle.hall.specs.Batches.{IsLookedUp};
-ghost use Rattle.pool.specs.Workers.{AreLetThrough, WasStopped, done_by_both, IsDoneBy, DoneBy};
+ghost use Rattle.hall.specs.Batches.{IsEmpty, IsLookedUp};
+ghost use Rattle.pool.specs.Workers.{AreLetThrough, WasStopped, LackedMemory, done_by_both, IsDoneBy, DoneBy};
 
 use crate::desks::Desk;
 use crate::faults::{DeskFault, Told};
 use crate::visits::{BATCH, Found};
-use hall::{Batch, Fault};
+use hall::{Batch, Ends, Fault};
 use names::Entity;
+use std::alloc::AllocError;
 use std::sync::Wait;
 use std::sync::ledger::Ledger;
 use std::thread::{self, JoinHandle, Threads};
@@ -39,14 +41,11 @@ impl Gate for NoGate {
     fn pass(&self, _who: &Entity, _search: u64, _letter: u64) {}
 }
 
-/// How many letters a worker finished, or nothing where memory was refused to it.
-type Worked = Option<u64>;
-
 /// Passes the gate with each letter, and looks up what it needs.
 fn look_up_all<G: Gate>(gate: &G, batch: &mut Batch)
     requires { batch.old.looked ≡ 0 }
     ensures looked_up { IsLookedUp batch.new }
-    ensures let_through { AreLetThrough G.LetThrough batch.new.letters }
+    ensures let_through { AreLetThrough G.LetThrough batch.new }
     ensures same { batch.new ≡ record batch.old { looked = batch.new.looked } }
 {
     let Some((who, number)) = batch.search() else {
@@ -61,11 +60,33 @@ fn look_up_all<G: Gate>(gate: &G, batch: &mut Batch)
 /// How many visits in a row a worker begins at one search, whose letters its processor has at hand then.
 const IN_A_ROW: u64 = 8;
 
-/// Works until the desk is stopped, or memory is refused; then another goes on. The searches take turns, for each from another.
-fn work<L: Ledger, G: Gate, R: Wait>(rt: &R, desk: &Desk<L>, gate: &G, mut turn: u64) -> Worked
-    ensures { IfSome result (λ finished. WasStopped) }
+/// Works until the desk is stopped, or memory is refused; then another goes on. The searches take turns, for each from another. Answers
+/// how many letters the worker finished.
+fn work<L: Ledger, G: Gate, R: Wait>(
+    rt: &R,
+    desk: &Desk<L>,
+    gate: &G,
+    turn: u64,
+) -> Result<u64, AllocError>
+    ensures { IfOk result (λ finished. WasStopped) }
 {
-    let mut batch = Batch::make(desk.alloc, BATCH).ok()?;
+    let batch = Batch::make(desk.alloc, BATCH)?;
+    work_with(batch, rt, desk, gate, turn)
+}
+
+/// The same, with room for the letters.
+fn work_with<L: Ledger, G: Gate, R: Wait>(
+    mut batch: Batch,
+    rt: &R,
+    desk: &Desk<L>,
+    gate: &G,
+    mut turn: u64,
+) -> Result<u64, AllocError>
+    requires empty { IsEmpty batch }
+    requires room { BATCH ≤ batch.room }
+    ensures { MatchResult result (λ finished. WasStopped) (λ refused. LackedMemory) }
+{
+    let mut ends = Ends::none();
     let mut finished = 0u64;
     let mut found = Found::Work;
     let mut line = None;
@@ -73,7 +94,10 @@ fn work<L: Ledger, G: Gate, R: Wait>(rt: &R, desk: &Desk<L>, gate: &G, mut turn:
         let before = finished;
         for visit in 0..IN_A_ROW {
             look_up_all(gate, &mut batch);
-            let visited = desk.visit(rt, turn, visit > 0, &mut batch);
+            if line.is_some() {
+                desk.let_in(rt);
+            }
+            let visited = desk.visit(rt, turn, visit > 0, &mut batch, &mut ends);
             finished = finished.saturating_add(visited.finished);
             found = visited.found;
             if found != Found::Work {
@@ -85,27 +109,35 @@ fn work<L: Ledger, G: Gate, R: Wait>(rt: &R, desk: &Desk<L>, gate: &G, mut turn:
             line = None;
         } else if line.is_none() && !G::MAY_WAIT {
             look_up_all(gate, &mut batch);
-            finished = finished.saturating_add(desk.hand_in(rt, &mut batch));
-            line = Some(desk.stand_in_line(rt, &batch));
+            let (done, alone) = desk.stand_in_line(rt, &mut batch, &mut ends);
+            finished = finished.saturating_add(done);
+            line = Some(alone);
         }
     }
     desk.work.notify_one();
     batch.destroy_empty();
-    (found != Found::NoMemory).then_some(finished)
+    ends.destroy_empty();
+    match found {
+        Found::NoMemory => Err(AllocError),
+        _ => Ok(finished),
+    }
 }
 
 /// What both did.
-fn both(all: Worked, one: Worked) -> Worked
-    ensures { result ≡ done_by_both all one }
+fn both(all: Result<u64, AllocError>, one: Result<u64, AllocError>) -> Result<u64, AllocError>
+    ensures { result_ok result ≡ done_by_both (result_ok all) (result_ok one) }
 {
-    Some(all?.saturating_add(one?))
+    Ok(all?.saturating_add(one?))
 }
 
 /// Waits for all workers, and adds up what they did.
-fn join_all<R: Threads>(rt: &R, handles: Vec<JoinHandle<Worked>>) -> Worked
-    ensures { IsDoneBy (vec_len handles) result }
+fn join_all<R: Threads>(
+    rt: &R,
+    handles: Vec<JoinHandle<Result<u64, AllocError>>>,
+) -> Result<u64, AllocError>
+    ensures { IsDoneBy (vec_len handles) (result_ok result) }
 {
-    let mut all = Some(0);
+    let mut all = Ok(0);
     for handle in handles {
         all = both(all, handle.join(rt));
     }
@@ -139,14 +171,14 @@ pub fn run_workers<L: Ledger + Send + Sync, G: Gate, R: Threads + Wait + Sync>(
             for worker in 0..n {
                 let Ok(handle) = scope.spawn(move || work(rt, desk, gate, worker)) else {
                     desk.stop(rt);
-                    join_all(rt, handles);
+                    let _worked = join_all(rt, handles);
                     return Err(DeskFault::NoThread);
                 };
                 handles.push_reserved(handle);
             }
             match join_all(rt, handles) {
-                Some(all) => Ok(all),
-                None => Err(DeskFault::Hall(Fault::Memory)),
+                Ok(all) => Ok(all),
+                Err(AllocError) => Err(DeskFault::Hall(Fault::Memory)),
             }
         },
     )

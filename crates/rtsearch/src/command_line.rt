@@ -57,7 +57,8 @@ fn serve_line<'a>(alloc: Global) -> Result<Command<'a>, AllocError>
     let connections = value_parser!(u64).range(1..=1_000_000);
     let seconds = value_parser!(u64).range(1..=86_400);
     let accept = "Ends after so many connections";
-    let idle = "Ends a session whose peer has sent nothing for so many seconds";
+    let idle =
+        "Ends a session whose peer sends nothing, or takes nothing of a reply, for so many seconds";
     usual_line(alloc)?
         .arg(number_option(alloc, "accept", accept, connections))?
         .arg(number_option(alloc, "idle", idle, seconds))

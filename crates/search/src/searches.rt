@@ -232,14 +232,19 @@ impl Search {
         role_needed(self.found.graph(), &held)
     }
 
-    /// Takes the waiting letter at that place, in order of sending. Want of memory changes nothing.
+    /// Takes the waiting letter at that place, in order of sending. Want of memory changes nothing, and comes only where a
+    /// letter waits there.
     pub fn take(&mut self, place: u64) -> Result<Option<Task>, AllocError>
         ensures none { IfOk result (λ r. r ≡ None → (slice_get (waiting_in self.old.stage) place ≡ None) × (self.new ≡ self.old)) }
         ensures task { IfOk result (λ r. IfSome r (λ t. Takes self.old self.new place t.letter t.need)) }
         ensures snapshot { IfOk result (λ r. IfSome r (λ t. arc_value t.snap ≡ self.old.snapshot)) }
         ensures settles { Settles self.old self.new }
         ensures unchanged { OnErr result (self.new ≡ self.old) }
+        ensures waits { OnErr result (place < length (waiting_in self.old.stage)) }
     {
+        if place >= self.waiting() {
+            return Ok(None);
+        }
         let snap = self.snapshot.clone()?;
         let Some((letter, need)) = self.take_letter(place) else {
             return Ok(None);

@@ -8,7 +8,6 @@ use Rattle.hall.specs.declared.calls.replies.Reply.{Reply}
 use Rattle.hall.specs.Answers.{sight}
 use Rattle.hall.specs.Run.{Deed, request_of, Told, entered, Turn, told_to, any_time, at_waits}
 use Rattle.hall.specs.Laws.{Agree, same, proofs, first_early, second_early, IsSameDeed}
-use Rattle.hall.proofs.Elements.{zip_mapped}
 use Rattle.service.specs.declared.commands.Command.{Command}
 use Rattle.service.specs.declared.refusals.Refusal.{Refusal}
 use Rattle.service.specs.declared.refusals.Refusal.TheVariants as refusal
@@ -16,6 +15,14 @@ use Rattle.service.specs.Command.{form_of, Reads}
 use Rattle.service.specs.Outcome.{Outcome, nobody, refused, served, outcome_text, IsSaid, deed_of, told_in}
 use Rattle.service.specs.Laws.{own_outcomes, turns_of, ArePrintedAlike}
 use Rattle.service.proofs.CommandLemmas.{one_reading}
+
+-- lists that are related place by place
+zip_mapped : {X Y V W : Type 0} (R : X → Y → Type 0) (S : V → W → Type 0) (f : X → V) (g : Y → W) → ((x : X) (y : Y) → R x y → S (f x) (g y)) →
+    (xs : List X) (ys : List Y) → AllZip R xs ys → AllZip S (map f xs) (map g ys)
+zip_mapped R S f g over [] [] zip = tt
+zip_mapped R S f g over [] (y ∷ ys) zip = absurd zip
+zip_mapped R S f g over (x ∷ xs) [] zip = absurd zip
+zip_mapped R S f g over (x ∷ xs) (y ∷ ys) zip = (over x y zip.0, zip_mapped R S f g over xs ys zip.1)
 
 -- the same but for the reply
 abbrev pub AreOneLine : Outcome → Outcome → Type 0

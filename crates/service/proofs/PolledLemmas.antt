@@ -1,16 +1,15 @@
 -- A wait taken as a poll: what a tenant is told in a script is a run whose searches may settle at any time.
-use Rattle.std.proofs.Common.{◌≡◌, ◌≢◌, ◌⊎◌, ℕ, List, [], ◌∷◌, map, refl, sym, ap, ◌∙◌, subst, Option, Some, None, inl, inr}
+use Rattle.std.proofs.Common.{◌≡◌, ℕ, List, [], ◌∷◌, map, refl, sym, ap, ◌∙◌, subst, Option, Some, None}
 use Rattle.std.specs.List.{AllZip, AllByRecursion}
-use Rattle.std.specs.FinMap.{get, insert}
+use Rattle.std.specs.FinMap.{get}
 use Rattle.hall.specs.declared.faults.Fault.TheVariants.{NoTenant}
 use Rattle.hall.specs.declared.calls.requests.Request.{Request}
 use Rattle.hall.specs.declared.calls.replies.Reply.{Reply}
 use Rattle.hall.specs.declared.calls.replies.Reply.TheVariants.{Refused}
-use Rattle.hall.specs.Account.{Asked, Account, start_of}
-use Rattle.hall.specs.Answers.{Sight}
+use Rattle.hall.specs.Answers.{Asked, Account, start_of, Sight}
 use Rattle.hall.specs.Run.{Deed, asks, waits, request_of, Turn, any_time, at_waits, GoesOn, Between, Ends, IsTaken, IsRun, IsRunOf}
 use Rattle.hall.specs.Laws.{Agree, same, HasMemory, IsSameDeed}
-use Rattle.hall.proofs.Maps.{numbers_exact, one_or_other, get_inserted, get_insert_other}
+use Rattle.hall.proofs.Maps.{numbers_exact, each_inserted}
 use Rattle.hall.proofs.laws.HallTurns.{goes_itself}
 use Rattle.hall.proofs.laws.Worlds.{two_worlds}
 use Rattle.service.specs.Roster.{tenant_of}
@@ -27,16 +26,11 @@ between_same a b is = subst (Between any_time a) (sym is) (refl, λ k. goes_itse
 ends_between : (a b : Account) (k : ℕ) (o : Option Asked) → get a.searches k ≡ o → Ends a k o b → Between any_time a b
 ends_between a b k None at is = between_same a b is
 ends_between a b k (Some s) at (settled, ended, may, is) =
-    subst (Between any_time a) (sym is) (refl, λ j. by j (one_or_other numbers_exact j k))
-  where
-    new : Asked
-    new = record s { settled = settled }
-
-    by : (j : ℕ) → (j ≡ k) ⊎ (j ≢ k) → GoesOn a.limits.work (get a.searches j) (get (insert a.searches k new) j)
-    by j (inl here) =
-        subst (λ (i : ℕ). GoesOn a.limits.work (get a.searches i) (get (insert a.searches k new) i)) (sym here)
-        (rw (at, get_inserted numbers_exact a.searches k new) (settled, may, refl))
-    by j (inr apart) = rw (get_insert_other numbers_exact a.searches k new j apart) (goes_itself a.limits.work (get a.searches j))
+    rw is (
+      refl,
+      each_inserted numbers_exact (λ j o. GoesOn a.limits.work (get a.searches j) o) a.searches k (record s { settled = settled })
+          (rw at (settled, may, refl)) (λ j apart. goes_itself a.limits.work (get a.searches j)),
+    )
 
 run_polled : (tenant : List ℕ) (a c : Account) (turns : List Turn) → IsRun at_waits tenant a turns c → IsRun any_time tenant a (map polled turns) c
 run_polled tenant a c [] run = between_same a c run

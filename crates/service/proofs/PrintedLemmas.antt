@@ -7,8 +7,7 @@ use Rattle.hall.specs.declared.calls.answers.Answer.{Answer}
 use Rattle.hall.specs.declared.calls.answers.Answer.TheVariants as answer
 use Rattle.hall.specs.declared.calls.replies.Reply.{Reply}
 use Rattle.hall.specs.declared.calls.replies.Reply.TheVariants as reply
-use Rattle.hall.specs.Account.{Account}
-use Rattle.hall.specs.Answers.{Sight, answer_of, Answers, Grants, MayLack}
+use Rattle.hall.specs.Answers.{Account, Sight, answer_of, Answers, Grants, MayLack}
 use Rattle.hall.specs.Run.{Deed, asks, waits}
 use Rattle.hall.specs.Hall.{HallState, account_of, hall_after, AnswersTo, IsServed, CarriesOut}
 use Rattle.hall.proofs.Members.{members_lack}

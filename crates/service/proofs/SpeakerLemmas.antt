@@ -3,7 +3,8 @@ use Rattle.std.proofs.Common.{◌≡◌, ℕ, Bool, true, false, cond, List, [],
 use Rattle.std.specs.Prelude.{is_some, ◌&&◌, ◌||◌}
 use Rattle.std.specs.List.{list_any}
 use Rattle.std.specs.Ordering.{eq_by_cmp}
-use Rattle.std.specs.FinMap.{get, get-empty, get-insert}
+use Rattle.std.specs.Option.{option_map_or}
+use Rattle.std.specs.FinMap.{get, insert, get-empty, get-insert}
 use Rattle.std.proofs.lemmas.Cmp.{nat_list_cmp_total, nat_list_eq_equiv}
 use Rattle.names.specs.Name.{name_order, is_name, is_same}
 use Rattle.names.proofs.SameNames.{same_from_is_same, is_same_tied}
@@ -13,10 +14,9 @@ use Rattle.hall.specs.declared.calls.requests.Request.{Request}
 use Rattle.hall.specs.declared.calls.requests.Request.TheVariants as request
 use Rattle.hall.specs.declared.calls.replies.Reply.{Reply}
 use Rattle.hall.specs.declared.calls.replies.Reply.TheVariants.{Refused}
-use Rattle.hall.specs.Account.{Account}
-use Rattle.hall.specs.Answers.{Sight, Answers, Grants}
+use Rattle.hall.specs.Answers.{Account, Sight, Answers, Grants}
 use Rattle.hall.specs.Run.{Deed, asks, waits, Told}
-use Rattle.hall.specs.Hall.{Running, Tenant, HallState, account_of, changed_by, with_tenant, search_at, hall_after, AnswersTo, IsServed, Drives, CarriesOut, AreDone, new_tenant, new_hall}
+use Rattle.hall.specs.Hall.{Running, Tenant, HallState, account_of, with_tenant, search_at, hall_after, AnswersTo, IsServed, Drives, CarriesOut, AreDone, new_tenant, new_hall}
 use Rattle.hall.proofs.Polled.{refused_after}
 use Rattle.hall.proofs.laws.HallChanges.{changed_here, changed_elsewhere}
 use Rattle.service.specs.Outcome.{is_speaker, speaks}
@@ -29,7 +29,7 @@ has-changed : (h : HallState) (name : List ℕ) (change : Tenant → Tenant) →
 has-changed h name change who = by (is_same name who) refl
   where
     own : (o : Option Tenant) → get h.tenants name ≡ o → is_some (get (with_tenant h name change).tenants name) ≡ is_some (get h.tenants name)
-    own None none = ap (λ (o : Option Tenant). is_some (get (changed_by h name change o).tenants name)) none
+    own None none = ap (λ (o : Option Tenant). is_some (get (option_map_or (λ t. insert h.tenants name (change t)) o h.tenants) name)) none
     own (Some t) there = ap is_some (changed_here h name change t there) ∙ sym (ap is_some there)
 
     by : (b : Bool) → is_same name who ≡ b → is_some (get (with_tenant h name change).tenants who) ≡ is_some (get h.tenants who)

@@ -3,8 +3,7 @@ use Rattle.std.specs.Prelude.{◌≡◌, ◌≢◌, ◌⊎◌, ℕ, Bool, false,
 use Rattle.std.specs.List.{list_any, before_first, after_first, flat_map, AllZip, AllByRecursion}
 use Rattle.names.specs.Name.{is_same}
 use Rattle.hall.specs.declared.calls.{requests.Request.Request, replies.Reply.TheVariants.Proof}
-use Rattle.hall.specs.Account.{Account, start_of}
-use Rattle.hall.specs.Answers.{Sight}
+use Rattle.hall.specs.Answers.{Account, start_of, Sight}
 use Rattle.hall.specs.Run.{Turn, request_of, told_to, any_time}
 use Rattle.hall.specs.Laws.{Agree, HasMemory, ProveTheSame}
 use Rattle.service.specs.declared.refusals.Refusal.TheVariants.{Memory}

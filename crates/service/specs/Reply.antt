@@ -9,7 +9,7 @@ use Rattle.hall.specs.declared.calls.answers.Answer.TheVariants.{Working, Yes, N
 use Rattle.hall.specs.declared.calls.replies.Reply.{Reply}
 use Rattle.hall.specs.declared.calls.replies.Reply.TheVariants as reply
 use Rattle.hall.specs.Fault.{fault_number}
-use Rattle.hall.specs.Text.{proof_text}
+use Rattle.hall.specs.Answers.{proof_text}
 use Rattle.service.specs.declared.refusals.Refusal.{Refusal}
 use Rattle.service.specs.declared.replies.Speaker.{Speaker, TheVariants.Nobody, TheVariants.Tenant, TheVariants.Peer}
 use Rattle.service.specs.Refusal.{text_of, refusal_number}

@@ -5,6 +5,7 @@
 //! what it has in sight (`specs/Laws.antt`). `serve_session` is one connection (`specs/Session.antt`), `serve` all of them.
 #![tactic(auto)]
 
+mod arrivals;
 mod commands;
 mod connections;
 mod conversations;
@@ -13,6 +14,7 @@ mod fakes;
 mod faults;
 mod laws;
 mod lines;
+mod peers;
 mod refusals;
 mod replies;
 mod rosters;

@@ -1,5 +1,5 @@
 //! Replies: the room for the lines of one, and its lines. Only a vault, lists of names and a proof may take memory.
-ghost use Rattle.std.specs.Prelude.{◌≡◌, ◌≤◌, ◌+◌, ◌++◌, [], length, codes, map, vec_len, vec_capacity, decimal, IfOk, OnOk, OnErr};
+ghost use Rattle.std.specs.Prelude.{◌≡◌, ◌≤◌, ◌+◌, ◌++◌, [], ◌∷◌, length, filter, nat_lt, codes, map, vec_len, vec_capacity, decimal, IfOk, OnOk, OnErr};
 ghost use Rattle.std.specs.{List.flat_map, Io.KnownBytes.Appends};
 ghost use Rattle.service.specs.Reply.{front_of, line_after, error_text, listed, seen_text, text_lines, lines_after, IsLong, IsFilled};
 ghost use Rattle.{service.specs.Session.session_line, service.specs.Written.WritesFront, credential_text.specs.Spelling.canonical};
@@ -12,7 +12,7 @@ use names::texts::cut;
 use std::alloc::{AllocError, Global};
 use std::io::Write;
 use std::marker::Model;
-use vaults::Seen;
+use vaults::{Row, Seen};
 
 /// Who a reply is for: in a script the tenant that the line names, if it names one, and in a session the peer.
 #[derive(Clone, Copy)]
@@ -241,26 +241,36 @@ fn write_steps(room: &mut Room, who: &Speaker, proof: &Proof) -> Result<(), Allo
 fn write_lines(room: &mut Room, who: &Speaker, text: &[u8]) -> Result<(), AllocError>
     ensures { OnOk result (room.new ≡ room.old ++ flat_map (line_after (front_of who.now)) (text_lines text.now)) }
 {
-    let (line, rest) = cut(text, b'\n');
-    if !line.is_empty() {
-        room.extend_front(who)?;
-        room.extend(line)?;
-        room.extend(b"\n")?;
+    let mut left = Some(text);
+    while let Some(lines) = left {
+        let (line, rest) = cut(lines, b'\n');
+        write_line(room, who, line)?;
+        left = rest;
     }
-    match rest {
-        Some(rest) => write_lines(room, who, rest),
-        None => Ok(()),
+    Ok(())
+}
+
+/// Appends the line, where something stands in it.
+fn write_line(room: &mut Room, who: &Speaker, line: &[u8]) -> Result<(), AllocError>
+    ensures { OnOk result (room.new ≡ room.old
+        ++ flat_map (line_after (front_of who.now)) (filter (λ line. nat_lt 0 (length line)) (line.now ∷ []))) }
+{
+    if line.is_empty() {
+        return Ok(());
     }
+    room.extend_front(who)?;
+    room.extend(line)?;
+    room.extend(b"\n")
 }
 
 /// How many credentials there are, and a line for each.
-fn write_vault(room: &mut Room, who: &Speaker, rows: &[Credential]) -> Result<(), AllocError>
+fn write_vault(room: &mut Room, who: &Speaker, rows: &[Row]) -> Result<(), AllocError>
     ensures { OnOk result (room.new ≡ lines_after (front_of who.now) (Reply.Vault rows.now)) }
 {
     fill_counted(room, who, b"vault ", rows.len() as u64);
     for row in rows {
         room.extend_front(who)?;
-        room.extend_by(row)?;
+        room.extend_by(row.credential())?;
         room.extend(b"\n")?;
     }
     Ok(())

@@ -1,10 +1,12 @@
 //! The service: connections that are answered, and the workers beside them.
-ghost use Rattle.std.specs.Prelude.{◌≡◌, ◌≤◌, ◌⊎◌, ◌↔◌, ◌++◌, Some, Err, length, decimal, IsOk, IfOk, IfErr, OnOk, OnErr};
+ghost use Rattle.std.specs.Prelude.{◌≡◌, ◌≤◌, ◌⊎◌, ◌↔◌, ◌++◌, Some, Ok, Err, length, decimal, IsOk, IfOk, IfErr, OnOk, OnErr};
 ghost use Rattle.std.specs.Io.KnownBytes.{Appends};
 ghost use Rattle.service.specs.Served.{Answered, ServeWrote, WithPort, listening_line};
 ghost use Rattle.service.specs.{Roster.names_of, Session.session_line, Written.WritesFront};
 
-use crate::connections::{Service, answer_connections};
+use crate::arrivals::arrivals_at;
+use crate::connections::{Service, answer_connections, end_all};
+use crate::conversations::SessionEnd;
 use crate::faults::ServeFault;
 use crate::replies::{Room, Speaker, WriteFault, fill_counted, write_reply};
 use crate::rosters::Roster;
@@ -35,8 +37,8 @@ pub struct ServeOptions {
 
 /// Serves the roster's tenants, who have done nothing yet, to the peers that connect to the listener. Once the listener's
 /// port is known a line tells it. After the last connection has been answered another line tells how many there were. On a
-/// fault nothing more is accepted, waits for searches end, each session ends where it reads, and the fault is told once the
-/// open sessions have ended. Where all workers lacked memory, waits end too and the sessions go on; that is told at the end.
+/// fault, also where a thread can't be started or all workers lacked memory, nothing more is accepted, waits for searches
+/// end, each session ends where it reads or its peer takes nothing, and the fault is told once all have ended.
 pub fn serve<R: Threads + Wait + Clock + Sync, W: Write>(
     rt: &R,
     alloc: Global,
@@ -112,8 +114,13 @@ struct AtDesk<'a, L: Ledger, R> {
 }
 
 impl<L: Ledger, R: Wait> Service for AtDesk<'_, L, R> {
-    fn answer<I: Read + Drop, W: Write>(&self, alloc: Global, reader: I, writer: &mut W) {
-        let _end = serve_session(self.rt, alloc, self.desk, self.roster, reader, writer);
+    fn answer<I: Read + Drop, W: Write>(
+        &self,
+        alloc: Global,
+        reader: I,
+        writer: &mut W,
+    ) -> SessionEnd {
+        serve_session(self.rt, alloc, self.desk, self.roster, reader, writer)
     }
 
     fn stop(&self) {
@@ -121,8 +128,8 @@ impl<L: Ledger, R: Wait> Service for AtDesk<'_, L, R> {
     }
 }
 
-/// Runs the workers while the connections are answered, until the desk is stopped. Where all of them end sooner, for want of
-/// memory, nobody goes on with the searches: then their thread stops the desk, so that no session waits for one.
+/// Runs the workers while the connections are answered, until the desk is stopped. Where one can't be started, or all end
+/// sooner for want of memory, their thread ends the service.
 fn answer_beside_workers<L: Ledger + Send + Sync, R: Threads + Wait + Clock + Sync>(
     rt: &R,
     alloc: Global,
@@ -133,33 +140,55 @@ fn answer_beside_workers<L: Ledger + Send + Sync, R: Threads + Wait + Clock + Sy
 ) -> Result<u64, ServeFault>
     ensures { Answered options.accept result }
 {
+    let (entrance, arrivals) = arrivals_at(alloc, listener, options)?;
+    let arrivals = &arrivals;
     thread::scope(
         thread::scope_env(),
         rt,
-        |scope| -> Result<u64, ServeFault>
+        move |scope| -> Result<u64, ServeFault>
             ensures { Answered options.accept result }
         {
             let Ok(working) = scope.spawn(move || {
                 let worked = run_workers(rt, desk, options.workers.clamp(1, 64), &NoGate);
-                desk.stop(rt);
+                if worked.is_err() {
+                    end_all(rt, service, arrivals);
+                }
                 worked
             }) else {
                 return Err(ServeFault::NoThread);
             };
-            let answered = answer_connections(rt, alloc, service, listener, options);
+            let answered = answer_connections(
+                rt,
+                alloc,
+                service,
+                entrance,
+                arrivals,
+                options.accept,
+            );
             desk.stop(rt);
-            let worked = worked_well(working.join(rt));
-            let count = answered?;
-            worked?;
-            Ok(count)
+            first_fault(worked_well(working.join(rt)), answered)
         },
     )
+}
+
+/// How many connections were answered, or the fault of the workers, which ends the connections too, or else that of these.
+fn first_fault(
+    worked: Result<(), ServeFault>,
+    answered: Result<u64, ServeFault>,
+) -> Result<u64, ServeFault>
+    ensures workers { IfErr worked (λ why. result ≡ Err why) }
+    ensures connections { OnOk worked (IfErr answered (λ why. result ≡ Err why)) }
+    ensures count { IfOk answered (λ count. OnOk worked (result ≡ Ok count)) }
+{
+    worked?;
+    answered
 }
 
 /// The fault of the workers, if there was one.
 fn worked_well(worked: Result<u64, DeskFault>) -> Result<(), ServeFault>
     ensures well { IsOk result ↔ IsOk worked }
     ensures why { IfErr result (λ why. (why ≡ ServeFault.NoThread) ⊎ (why ≡ ServeFault.Memory)) }
+    ensures same { IfErr result (λ why. (why ≡ ServeFault.NoThread) ↔ (worked ≡ Err DeskFault.NoThread)) }
 {
     match worked {
         Ok(_letters) => Ok(()),

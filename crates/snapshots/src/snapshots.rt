@@ -95,8 +95,7 @@ impl Snapshot {
         if !is_vaults_below(&self.vaults, &role.owner, span.vault, steps) {
             return false;
         }
-        steps.tick();
-        let rows = rows_at(&self.vaults, &role.owner, span.vault);
+        let rows = steps.rows_at(&self.vaults, &role.owner, span.vault);
         let lo = is_rows_until(rows, role, Cut::Before, span.lo, steps);
         let hi = is_rows_until(rows, role, Cut::Through, span.hi, steps);
         both(lo, hi)
@@ -136,7 +135,7 @@ fn vaults_below(vaults: &[Holding], owner: &Entity) -> u64
 }
 
 /// The rows of the owner's vault, which stands at this place if it stands anywhere.
-fn rows_at<'a>(vaults: &'a [Holding], owner: &Entity, place: u64) -> &'a [Row]
+pub(crate) fn rows_at<'a>(vaults: &'a [Holding], owner: &Entity, place: u64) -> &'a [Row]
     requires ordered { IsOrdered vaults.now }
     requires place { place ≡ place_of vaults.now owner.now }
     ensures rows { result.now ≡ rows_of vaults.now owner.now }
@@ -186,8 +185,7 @@ fn owner_passes_below<L: Ledger>(
     if place == 0 {
         return true;
     }
-    steps.tick();
-    vaults[place - 1].owner().compare(owner).is_lt()
+    steps.is_below(&vaults[place - 1], owner)
 }
 
 fn owner_fails_at<L: Ledger>(
@@ -203,6 +201,5 @@ fn owner_fails_at<L: Ledger>(
     if place == vaults.len() {
         return true;
     }
-    steps.tick();
-    !vaults[place].owner().compare(owner).is_lt()
+    !steps.is_below(&vaults[place], owner)
 }

@@ -40,7 +40,7 @@ impl Cut {
     }
 
     /// Whether the row stands before the cut.
-    fn passes(self, role: &Role, row: &Row) -> bool
+    pub(crate) fn passes(self, role: &Role, row: &Row) -> bool
         ensures { result ≡ is_cut self role.now row.now }
     {
         self.is_behind(row.credential().head.compare(role))
@@ -128,8 +128,7 @@ fn passes_below<L: Ledger>(
     if place == 0 {
         return true;
     }
-    steps.tick();
-    cut.passes(role, &rows[place - 1])
+    steps.passes(cut, role, &rows[place - 1])
 }
 
 /// Whether the row at the place, if there is one, stands behind the cut.
@@ -147,8 +146,7 @@ fn fails_at<L: Ledger>(
     if place == rows.len() {
         return true;
     }
-    steps.tick();
-    !cut.passes(role, &rows[place])
+    !steps.passes(cut, role, &rows[place])
 }
 
 /// Whether both hold.

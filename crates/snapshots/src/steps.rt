@@ -1,9 +1,18 @@
 ghost use Rattle.std.specs.Prelude.{◌≡◌, ◌+◌, ◌<◌};
+ghost use Rattle.snapshots.specs.Snapshot.{IsOrdered};
+ghost use Rattle.snapshots.specs.Span.{is_below, is_cut, place_of, rows_of};
+ghost use Rattle.std.specs.List.Sorted.{IsStrictlySortedBy};
+ghost use Rattle.credential_text.specs.Credential.{credential_order};
 
+use crate::holdings::Holding;
+use crate::snapshots::rows_at;
+use crate::spans::Cut;
+use names::{Entity, Role};
 use std::marker::Model;
 use std::sync::ledger::{Book, Ledger, Share};
+use vaults::Row;
 
-/// A count of comparisons, which takes no bytes. Seen as a number.
+/// A count of comparisons, which takes no bytes. Seen as a number. What checks a span compares by its methods alone.
 #[derive(Drop)]
 pub struct Steps<L: Ledger> {
     book: Book<L>,
@@ -30,9 +39,44 @@ impl<L: Ledger> Steps<L> {
     }
 
     /// One step more.
-    pub fn tick(&mut self)
+    fn tick(&mut self)
         ensures { self.new ≡ self.old + 1 }
     {
         self.book.add(&mut self.share, 1);
+    }
+
+    /// Whether the row stands before the cut.
+    pub(crate) fn passes(&mut self, cut: Cut, role: &Role, row: &Row) -> bool
+        ensures passes { result ≡ is_cut cut role.now row.now }
+        ensures counted { self.new ≡ self.old + 1 }
+    {
+        self.tick();
+        cut.passes(role, row)
+    }
+
+    /// Whether the vault stands before those of the owner.
+    pub(crate) fn is_below(&mut self, holding: &Holding, owner: &Entity) -> bool
+        ensures below { result ≡ is_below owner.now holding.now }
+        ensures counted { self.new ≡ self.old + 1 }
+    {
+        self.tick();
+        holding.owner().compare(owner).is_lt()
+    }
+
+    /// The rows of the owner's vault, which stands at this place if it stands anywhere.
+    pub(crate) fn rows_at<'a>(
+        &mut self,
+        vaults: &'a [Holding],
+        owner: &Entity,
+        place: u64,
+    ) -> &'a [Row]
+        requires ordered { IsOrdered vaults.now }
+        requires place { place ≡ place_of vaults.now owner.now }
+        ensures rows { result.now ≡ rows_of vaults.now owner.now }
+        ensures sorted { IsStrictlySortedBy credential_order (rows_of vaults.now owner.now) }
+        ensures counted { self.new ≡ self.old + 1 }
+    {
+        self.tick();
+        rows_at(vaults, owner, place)
     }
 }

@@ -1,5 +1,5 @@
 -- What a journal owes: the bytes of the entries that take back what stands.
-use Rattle.std.specs.Prelude.{ℕ, Bool, true, false, not, ◌+◌, ◌*◌, ◌≤◌, ◌≡◌, ◌&&◌, List, [], ◌∷◌, length, if◌then◌else◌}
+use Rattle.std.specs.Prelude.{ℕ, Bool, true, false, not, ◌+◌, ◌*◌, ◌<◌, ◌≤◌, ◌≡◌, ◌&&◌, List, [], ◌∷◌, length, if◌then◌else◌}
 use Rattle.std.specs.List.{list_any}
 use Rattle.names.specs.Name.{is_same, IsName}
 use Rattle.vaults.specs.declared.changes.Change.{Change}
@@ -46,3 +46,16 @@ pub record IsPrepared (who : List ℕ) (change : Change) (draft : List ℕ) (roo
   pub tenant_named : IsName who
   pub change_named : HasNames change
   pub makes : gives change ≡ true → len + (room + 2 * (length who + length (subject_of change) + 5)) ≤ capacity
+
+-- the change is about a credential, whose text is written before it is entered
+abbrev pub has_text : Change → Bool
+has_text (Upload c) = true
+has_text (Withdraw c) = true
+has_text (Grant reader) = false
+has_text (Revoke reader) = false
+has_text GrantAll = false
+has_text RevokeAll = false
+
+-- the tenant's change gives something, and there isn't the room that it has to be prepared with
+abbrev pub LacksRoom : List ℕ → Change → ℕ → ℕ → ℕ → Type 0
+LacksRoom who change room len capacity = (gives change ≡ true) × (capacity < len + (room + 2 * (length who + length (subject_of change) + 5)))

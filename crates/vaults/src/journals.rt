@@ -1,9 +1,9 @@
-ghost use Rattle.std.specs.Prelude.{◌≡◌, ℕ, List, [], ◌∷◌, ◌++◌, ◌+◌, ◌-◌, ◌<◌, ◌≤◌, ◌^◌, true, false, None, IsOk, OnOk, IfOk};
+ghost use Rattle.std.specs.Prelude.{◌≡◌, ℕ, List, [], ◌∷◌, ◌++◌, ◌+◌, ◌-◌, ◌<◌, ◌≤◌, ◌^◌, true, false, None, ◌⊎◌, IsOk, OnOk, OnErr, IfOk};
 ghost use Rattle.std.specs.Prelude.{length, vec_len, vec_capacity, if◌then◌else◌};
 ghost use Rattle.vaults.specs.Kept.{Kept, kind_of, subject_of, drafted, framed, row_bytes, HasNames};
 ghost use Rattle.vaults.specs.KeptOnce.{kept_prop};
 ghost use Rattle.vaults.specs.Journal.{refusal, revokes};
-ghost use Rattle.vaults.specs.Owed.{owed, gives, IsPrepared};
+ghost use Rattle.vaults.specs.Owed.{owed, gives, has_text, IsPrepared, LacksRoom};
 
 use crate::changes::Change;
 use crate::entries::Entries;
@@ -53,6 +53,8 @@ impl Journal {
         ensures prepared { OnOk result
             (IsPrepared who.now change.now self.new.draft.items self.new.room (vec_len self.new.bytes) (vec_capacity self.new.bytes)) }
         ensures revocable { revokes change.now ≡ true → IsOk result }
+        ensures growth { OnErr result ((has_text change.now ≡ true)
+            ⊎ LacksRoom who.now change.now self.old.room (vec_len self.old.bytes) (vec_capacity self.old.bytes)) }
     {
         let subject = draft_subject(&mut self.draft, change)?;
         let row = who.bytes().len() + subject + 5;
@@ -92,6 +94,7 @@ fn draft_subject(draft: &mut Vec<u8>, change: &Change) -> Result<usize, AllocErr
     ensures names { OnOk result (HasNames change.now) }
     ensures size { IfOk result (λ n. n ≡ length (subject_of change.now)) }
     ensures revocable { revokes change.now ≡ true → IsOk result }
+    ensures growth { OnErr result (has_text change.now ≡ true) }
 {
     match change {
         Change::Upload(credential) | Change::Withdraw(credential) => {

@@ -1,4 +1,4 @@
-ghost use Rattle.std.specs.Prelude.{◌≡◌, ◌<◌, ◌^◌, [], length, OnOk, OnErr, IfOk};
+ghost use Rattle.std.specs.Prelude.{◌≡◌, ◌<◌, ◌^◌, [], false, length, OnOk, OnErr, IfOk};
 ghost use Rattle.std.specs.List.{list_any};
 ghost use Rattle.std.specs.BTreeSet.{insert_key};
 ghost use Rattle.std.specs.Ordering.{eq_by_cmp};
@@ -57,6 +57,7 @@ impl NameSet {
     pub fn add(&mut self, name: &Entity) -> Result<(), AllocError>
         ensures added { OnOk result (self.new ≡ insert_key name_order self.old name.now) }
         ensures unchanged { OnErr result (self.new ≡ self.old) }
+        ensures growth { OnErr result (list_any (eq_by_cmp name_order name.now) self.old ≡ false) }
     {
         if let Err(place) = place_of(&self.names, name) {
             self.names.insert(place, *name)?;

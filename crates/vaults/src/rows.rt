@@ -11,19 +11,21 @@ ghost use Rattle.vaults.specs.InOrder.{without, IsPlace};
 use credential_text::Credential;
 use std::alloc::{AllocError, Global};
 use std::marker::Model;
+use std::sync::Arc;
 
-/// A row of a vault: a credential that moves as one address. Seen as the credential.
+/// A row of a vault: a credential that moves as one address, and that the versions which have it share. Seen as the credential.
 #[derive(Drop)]
 pub struct Row {
-    held: Box<Credential>,
+    held: Arc<Credential>,
 }
 
 impl Model for Row {
+    ghost use Rattle.std.specs.Arc.{arc_value};
     ghost use Rattle.credential_text.specs.declared.credentials.Credential.{Credential};
 
     ghost Value = { Credential };
 
-    ghost view = { λ r. r.held.value };
+    ghost view = { λ r. arc_value r.held };
 }
 
 impl Row {
@@ -32,7 +34,15 @@ impl Row {
         ensures { IfOk result (λ r. r ≡ credential.now) }
     {
         let copy = credential.try_clone()?;
-        let held = Box::new(alloc, copy)?;
+        let held = Arc::new(alloc, copy)?;
+        Ok(Row { held })
+    }
+
+    /// The row once more: the credential isn't copied.
+    pub(crate) fn again(&self) -> Result<Row, AllocError>
+        ensures { IfOk result (λ r. r ≡ self.now) }
+    {
+        let held = Arc::try_clone(&self.held)?;
         Ok(Row { held })
     }
 

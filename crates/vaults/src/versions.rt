@@ -66,7 +66,7 @@ impl Clone for Version {
         let alloc = *self.rows.allocator();
         let mut rows = Vec::with_capacity(alloc, self.rows.len())?;
         for row in &self.rows {
-            rows.push_reserved(Row::of(alloc, row.credential())?);
+            rows.push_reserved(row.again()?);
         }
         Ok(Version { rows })
     }

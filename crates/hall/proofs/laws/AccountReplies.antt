@@ -1,12 +1,10 @@
 -- What accounts that are alike reply to one request: replies that agree, and accounts that are alike again.
-use Rattle.std.proofs.Common.{ℕ, ◌+◌, List, [], ◌∷◌, ◌++◌, length, nat_le, ◌≡◌, ◌≢◌, ◌∙◌, inl, inr, sym, ap, refl, subst, subst₂, Option, Some, None, if◌then◌else◌}
-use Rattle.std.specs.FinMap.{get, insert}
+use Rattle.std.proofs.Common.{ℕ, ◌+◌, List, nat_le, ◌≡◌, ◌≢◌, ◌∙◌, inl, inr, sym, refl, Option, Some, None, if◌then◌else◌}
+use Rattle.std.specs.FinMap.{get}
 use Rattle.credential_text.specs.declared.credentials.Credential.{Credential}
-use Rattle.rt0_rules.specs.Membership.{IsMember}
 use Rattle.quotas.specs.Quota.{Quota}
 use Rattle.vaults.specs.declared.changes.Change.{Change}
-use Rattle.vaults.specs.declared.changes.Entry.{Entry}
-use Rattle.vaults.specs.Journal.{Vault, vault, credentials}
+use Rattle.vaults.specs.Journal.{credentials}
 use Rattle.search.specs.declared.queries.Query.{Query}
 use Rattle.search.specs.Ending.{Settled, Nothing, Broken, MaySettle, asked_role}
 use Rattle.proof_trees.specs.declared.steps.Step.{Step as ProofStep}
@@ -18,9 +16,9 @@ use Rattle.hall.specs.declared.calls.answers.Answer.TheVariants as answer
 use Rattle.hall.specs.declared.calls.requests.Request.{Request}
 use Rattle.hall.specs.declared.calls.requests.Request.TheVariants as request
 use Rattle.hall.specs.declared.calls.replies.Reply.{Reply}
-use Rattle.hall.specs.declared.calls.replies.Reply.TheVariants.{Counted, Opened, Answered, Vault as ShowsVault, Proof, Refused}
-use Rattle.hall.specs.Account.{Asked, Account, alter_refusal, seek_refusal}
-use Rattle.hall.specs.Answers.{Sight, answer_of, IsAnswer, RefusesProof, Refuses, Grants, opened, IsClear, Answers, refuses, grants, lacks}
+use Rattle.hall.specs.declared.calls.replies.Reply.TheVariants.{Answered, Proof, Refused}
+use Rattle.hall.specs.Answers.{Asked, Account, alter_refusal, seek_refusal}
+use Rattle.hall.specs.Answers.{Sight, answer_of, RefusesProof, Refuses, Grants, IsClear, Answers, refuses, grants, lacks}
 use Rattle.hall.specs.Run.{When, any_time, at_waits}
 use Rattle.hall.specs.Laws.{ProveTheSame, works, no_proof_yet, proof_later, Agree, same, proofs, first_early, second_early}
 use Rattle.hall.proofs.Maps.{numbers_exact, same_len}
@@ -30,9 +28,6 @@ use Rattle.hall.proofs.laws.AccountsAlike.{Like, BothHave, neither, both, both_p
 -- memory was there, and no search that was asked for was broken by its want
 abbrev pub IsWhole : Reply → Type 0
 IsWhole told = (told ≢ Refused fault.Memory) × (told ≢ Answered answer.Broken)
-
-agree_same : (when : When) (told other : Reply) → told ≡ other → Agree when told other
-agree_same when told other e = subst (Agree when told) e same
 
 prove_back : {first second : List ProofStep} → ProveTheSame first second → ProveTheSame second first
 prove_back p = record { credentials = p.credentials; role = p.role; who = p.who; one = p.other; other = p.one }
@@ -47,52 +42,39 @@ agree_back (second_early w early) = first_early w early
 told_agree : (when : When) (limit : ℕ) (C : List Credential) (q : Query) (x y : Settled) → Like when limit C q x y → x ≢ Broken →
     y ≢ Broken →
     Agree when (Answered (answer_of x)) (Answered (answer_of y))
-told_agree at_waits limit C q x y e whole intact = agree_same at_waits _ _ (ap (λ (s : Settled). Answered (answer_of s)) e)
-told_agree any_time limit C q x y (inl e) whole intact = agree_same any_time _ _ (ap (λ (s : Settled). Answered (answer_of s)) e)
+told_agree at_waits limit C q x y e whole intact = rw e same
+told_agree any_time limit C q x y (inl e) whole intact = rw e same
 told_agree any_time limit C q x y (inr h) whole intact = by h.0 h.1
   where
     by : MaySettle limit C q Nothing x → MaySettle limit C q Nothing y →
         Agree any_time (Answered (answer_of x)) (Answered (answer_of y))
-    by (inl e) k =
-        subst (λ (s : Settled). Agree any_time (Answered (answer_of s)) (Answered (answer_of y))) (sym e) (first_early refl works)
-    by (inr f) (inl e) =
-        subst (λ (s : Settled). Agree any_time (Answered (answer_of x)) (Answered (answer_of s))) (sym e)
-        (second_early refl works)
-    by (inr f) (inr g) =
-        agree_same any_time _ _ (ap (λ (s : Settled). Answered (answer_of s)) (ending_unique limit C q x y f.1 g.1 whole intact))
+    by (inl e) k = rw e (first_early refl works)
+    by (inr f) (inl e) = rw e (second_early refl works)
+    by (inr f) (inr g) = rw (ending_unique limit C q x y f.1 g.1 whole intact) same
 
 polls_agree : (when : When) (limit : ℕ) (o p : Option Asked) (s t : Asked) → BothHave when limit o p → o ≡ Some s → p ≡ Some t →
     IsWhole (Answered (answer_of s.settled)) → IsWhole (Answered (answer_of t.settled)) →
     Agree when (Answered (answer_of s.settled)) (Answered (answer_of t.settled))
 polls_agree when limit _ _ s t neither e f whole intact = cc
 polls_agree when limit _ _ s t (both query view x y like) e f whole intact =
-    let is : x ≡ s.settled = ap (λ (a : Asked). a.settled) (some_same e) in
-    let are : y ≡ t.settled = ap (λ (a : Asked). a.settled) (some_same f) in
-    subst₂ (λ (u v : Settled). Agree when (Answered (answer_of u)) (Answered (answer_of v))) is are
-    (told_agree when limit (credentials view) query x y like
-    (λ broken. whole.1 (ap (λ (u : Settled). Answered (answer_of u)) (sym is ∙ broken)))
-    (λ broken. intact.1 (ap (λ (u : Settled). Answered (answer_of u)) (sym are ∙ broken))))
-  where
-    some_same : {a b : Asked} → Some a ≡ Some b → a ≡ b
-    some_same h = cc
+    let is : s ≡ record { query = query; view = view; settled = x } = (cc) in
+    let are : t ≡ record { query = query; view = view; settled = y } = (cc) in
+    rw (is, are) (told_agree when limit (credentials view) query x y like
+    (λ broken. whole.1 (rw is (rw broken))) (λ broken. intact.1 (rw are (rw broken))))
 
 -- a refusal of a proof in one world, and what the other tells
 refused_proofs : (when : When) (limit : ℕ) (o p : Option Asked) (who : List ℕ) (f g : Fault) → BothHave when limit o p →
     RefusesProof o who f → RefusesProof p who g →
     Agree when (Refused f) (Refused g)
-refused_proofs when limit _ _ who f g neither e h = agree_same when _ _ (ap Refused (e ∙ sym h))
-refused_proofs when limit _ _ who f g (both query view x y like) (inl early) (inl also) =
-    agree_same when _ _ (ap Refused (early.0 ∙ sym also.0))
-refused_proofs when limit _ _ who f g (both query view x y like) (inr none) (inr also) =
-    agree_same when _ _ (ap Refused (none.0 ∙ sym also.0))
-refused_proofs at_waits limit _ _ who f g (both query view x y like) (inl early) (inr none) =
-    absurd (early.1 (subst IsAnswer (sym like) none.1))
-refused_proofs at_waits limit _ _ who f g (both query view x y like) (inr none) (inl early) =
-    absurd (early.1 (subst IsAnswer like none.1))
+refused_proofs when limit _ _ who f g neither e h = rw (e, h) same
+refused_proofs when limit _ _ who f g (both query view x y like) (inl early) (inl also) = rw (early.0, also.0) same
+refused_proofs when limit _ _ who f g (both query view x y like) (inr none) (inr also) = rw (none.0, also.0) same
+refused_proofs at_waits limit _ _ who f g (both query view x y like) (inl early) (inr none) = absurd (early.1 (rw like none.1))
+refused_proofs at_waits limit _ _ who f g (both query view x y like) (inr none) (inl early) = absurd (early.1 (rw like at none.1))
 refused_proofs any_time limit _ _ who f g (both query view x y like) (inl early) (inr none) =
-    subst₂ (λ (a b : Fault). Agree any_time (Refused a) (Refused b)) (sym early.0) (sym none.0) (first_early refl no_proof_yet)
+    rw (early.0, none.0) (first_early refl no_proof_yet)
 refused_proofs any_time limit _ _ who f g (both query view x y like) (inr none) (inl early) =
-    subst₂ (λ (a b : Fault). Agree any_time (Refused a) (Refused b)) (sym none.0) (sym early.0) (second_early refl no_proof_yet)
+    rw (none.0, early.0) (second_early refl no_proof_yet)
 
 refused_proved : (when : When) (limit : ℕ) (o p : Option Asked) (who : List ℕ) (f : Fault) (t : Asked) (steps : List ProofStep) →
     BothHave when limit o p →
@@ -101,14 +83,12 @@ refused_proved : (when : When) (limit : ℕ) (o p : Option Asked) (who : List �
     Agree when (Refused f) (Proof steps)
 refused_proved when limit _ _ who f t steps neither due clear at is = cc
 refused_proved at_waits limit _ _ who f t steps (both query view x y like) (inl early) clear at is =
-    absurd (clear fault.NotDone (inl (refl, λ done. early.1 (subst IsAnswer (sym like) done))))
+    absurd (clear fault.NotDone (inl (refl, λ done. early.1 (rw like done))))
 refused_proved any_time limit _ _ who f t steps (both query view x y like) (inl early) clear at is =
-    subst (λ (a : Fault). Agree any_time (Refused a) (Proof steps)) (sym early.0) (first_early refl proof_later)
+    rw early.0 (first_early refl proof_later)
 refused_proved when limit _ _ who f t steps (both query view x y like) (inr none) clear at is =
-    let the_query : t.query ≡ query = (cc) in
-    let the_view : t.view ≡ view = (cc) in
-    absurd (none.2 (subst₂ (λ (v : List Vault) (q : Query). IsMember (credentials v) who (asked_role q)) the_view the_query
-    (proved_member (credentials t.view) (asked_role t.query) who steps is)))
+    let same_search : t ≡ record { query = query; view = view; settled = y } = (cc) in
+    absurd (none.2 (proved_member (credentials view) (asked_role query) who steps (rw same_search at is)))
 
 proved_both : (when : When) (limit : ℕ) (o p : Option Asked) (who : List ℕ) (s t : Asked) (steps more : List ProofStep) →
     BothHave when limit o p → o ≡ Some s → p ≡ Some t →
@@ -116,24 +96,12 @@ proved_both : (when : When) (limit : ℕ) (o p : Option Asked) (who : List ℕ) 
     Agree when (Proof steps) (Proof more)
 proved_both when limit _ _ who s t steps more neither e f is are = cc
 proved_both when limit _ _ who s t steps more (both query view x y like) e f is are =
-    let the_query : t.query ≡ s.query = (cc) in
-    let the_view : t.view ≡ s.view = (cc) in
-    proofs record {
-      credentials = credentials s.view;
-      role = asked_role s.query;
-      who = who;
-      one = is;
-      other = subst₂ (λ (v : List Vault) (q : Query). IsProof (credentials v) (asked_role q) who more) the_view the_query are;
-    }
+    let one : s ≡ record { query = query; view = view; settled = x } = (cc) in
+    let other : t ≡ record { query = query; view = view; settled = y } = (cc) in
+    proofs record { credentials = credentials view; role = asked_role query; who = who; one = rw one at is; other = rw other at are }
 
 -- one refusal at most is due
 pub refused_once : (tenant : List ℕ) (a : Account) (q : Request) (f g : Fault) → Refuses tenant a q f → Refuses tenant a q g → f ≡ g
-refused_once tenant a (request.Alter change) f g e h = cc
-refused_once tenant a (request.Seek query) f g e h = cc
-refused_once tenant a (request.Poll k) f g e h = e.1 ∙ sym h.1
-refused_once tenant a (request.Close k) f g e h = e.1 ∙ sym h.1
-refused_once tenant a request.Vault f g e h = absurd e
-refused_once tenant a request.Sees f g e h = absurd e
 refused_once tenant a (request.Proof k who) f g e h = by (get a.searches k) e h
   where
     by : (o : Option Asked) → RefusesProof o who f → RefusesProof o who g → f ≡ g
@@ -142,6 +110,9 @@ refused_once tenant a (request.Proof k who) f g e h = by (get a.searches k) e h
     by (Some s) (inl is) (inr are) = absurd (is.1 are.1)
     by (Some s) (inr is) (inl are) = absurd (are.1 is.1)
     by (Some s) (inr is) (inr are) = is.0 ∙ sym are.0
+refused_once tenant a request.Vault f g e h = absurd e
+refused_once tenant a request.Sees f g e h = absurd e
+refused_once tenant a q f g e h = cc
 
 -- accounts that are alike
 module _ (when : When) (limit : ℕ) (tenant : List ℕ) (a b : Account) (alike : AreAlike when limit a b) where
@@ -174,76 +145,55 @@ module _ (when : When) (limit : ℕ) (tenant : List ℕ) (a b : Account) (alike 
   both_refused (request.Proof k who) f g due also =
       refused_proofs when limit (get a.searches k) (get b.searches k) who f g (alike.searches k) due also
   both_refused q f g due also =
-      let one : f ≡ g = refused_once tenant b q f g (refused_over q f (λ k who e. cc) due) also in
-      agree_same when (Refused f) (Refused g) (ap Refused one)
+      rw (refused_once tenant b q f g (refused_over q f (λ k who e. cc) due) also) same
 
   -- one is refused, the other granted what was asked for
   refused_granted : (sees : Sight) (d : Account) (q : Request) (f : Fault) (other : Reply) → Refuses tenant a q f →
       IsClear tenant b q → Grants tenant sees b q other d → Agree when (Refused f) other × AreAlike when limit a d
-  refused_granted sees d (request.Proof k who) f other due clear (t, steps, at, is, e, are) = (
-    subst (Agree when (Refused f)) (sym e)
-        (refused_proved when limit (get a.searches k) (get b.searches k) who f t steps (alike.searches k) due clear at is),
-    subst (AreAlike when limit a) (sym are) alike,
-  )
+  refused_granted sees d (request.Proof k who) f other due clear (t, steps, at, is, e, are) =
+      rw (e, are) (refused_proved when limit (get a.searches k) (get b.searches k) who f t steps (alike.searches k) due clear at is, alike)
   refused_granted sees d q f other due clear given = absurd (clear f (refused_over q f (λ k who e. cc) due))
-
-  -- an opening is alike in both
-  opened_alike : (s : Asked) → BothHave when limit (Some s) (Some s) → AreAlike when limit (opened a s) (opened b s)
-  opened_alike s same_search = record {
-    work = alike.work;
-    limits = alike.limits;
-    entries = alike.entries;
-    opens = ap (λ n. n + 1) alike.opens;
-    searches = λ k.
-        subst (λ n. BothHave when limit (get (opened a s).searches k) (get (insert b.searches (n + 1) s) k)) (sym alike.opens)
-        (both_inserted when limit a.searches b.searches alike.searches (a.opens + 1) s s same_search k);
-  }
 
   -- both are granted what was asked for
   granted_both : (sees : Sight) (c d : Account) (q : Request) (told other : Reply) → Grants tenant sees a q told c →
       Grants tenant sees b q other d → IsWhole told → IsWhole other → Agree when told other × AreAlike when limit c d
-  granted_both sees c d (request.Alter change) told other (e, is) (f, are) whole intact = (
-    agree_same when told other (e ∙ ap (λ (es : List Entry). Counted (length es + 1)) (sym alike.entries) ∙ sym f),
-    subst₂ (AreAlike when limit) (sym is) (sym are) record {
-      work = alike.work;
-      limits = alike.limits;
-      entries = ap (λ (es : List Entry). es ++ record { tenant = tenant; change = change } ∷ []) alike.entries;
-      opens = alike.opens;
-      searches = alike.searches;
-    },
-  )
-  granted_both sees c d (request.Seek query) told other (e, is) (f, are) whole intact = (
-    agree_same when told other (e ∙ ap (λ n. Opened (n + 1)) (sym alike.opens) ∙ sym f),
-    subst₂ (AreAlike when limit) (sym is) (sym are)
-        (opened_alike (record { query = query; view = sees.vaults; settled = Nothing }) (both_itself when limit (Some _))),
-  )
-  granted_both sees c d (request.Poll k) told other (s, at, e, is) (t, there, f, are) whole intact = (
-    subst₂ (Agree when) (sym e) (sym f)
-        (polls_agree when limit (get a.searches k) (get b.searches k) s t (alike.searches k) at there
-        (subst IsWhole e whole) (subst IsWhole f intact)),
-    subst₂ (AreAlike when limit) (sym is) (sym are) alike,
-  )
-  granted_both sees c d (request.Close k) told other (e, is) (f, are) whole intact = (
-    agree_same when told other (e ∙ sym f),
-    subst₂ (AreAlike when limit) (sym is) (sym are) record {
-      work = alike.work;
-      limits = alike.limits;
-      entries = alike.entries;
-      opens = alike.opens;
-      searches = both_removed when limit a.searches b.searches alike.searches k;
-    },
-  )
-  granted_both sees c d request.Vault told other (e, is) (f, are) whole intact = (
-    agree_same when told other (e ∙ ap (λ (es : List Entry). ShowsVault (vault es tenant)) (sym alike.entries) ∙ sym f),
-    subst₂ (AreAlike when limit) (sym is) (sym are) alike,
-  )
-  granted_both sees c d request.Sees told other (e, is) (f, are) whole intact =
-      (agree_same when told other (e ∙ sym f), subst₂ (AreAlike when limit) (sym is) (sym are) alike)
-  granted_both sees c d (request.Proof k who) told other (s, ps, at, is, e, left) (t, qs, there, are, f, also) whole intact = (
-    subst₂ (Agree when) (sym e) (sym f)
-        (proved_both when limit (get a.searches k) (get b.searches k) who s t ps qs (alike.searches k) at there is are),
-    subst₂ (AreAlike when limit) (sym left) (sym also) alike,
-  )
+  granted_both sees c d (request.Alter change) told other (e, is) (f, are) whole intact =
+      rw (e, f, is, are, alike.entries) (
+        same,
+        record { work = alike.work; limits = alike.limits; entries = refl; opens = alike.opens; searches = alike.searches },
+      )
+  granted_both sees c d (request.Seek query) told other (e, is) (f, are) whole intact =
+      rw (e, f, is, are, alike.opens) (
+        same,
+        record {
+          work = alike.work;
+          limits = alike.limits;
+          entries = alike.entries;
+          opens = refl;
+          searches = both_inserted when limit a.searches b.searches alike.searches (a.opens + 1) _ _ (both_itself when limit (Some _));
+        },
+      )
+  granted_both sees c d (request.Poll k) told other (s, at, e, is) (t, there, f, are) whole intact =
+      rw (e, f, is, are) (
+        polls_agree when limit (get a.searches k) (get b.searches k) s t (alike.searches k) at there (rw e at whole) (rw f at intact),
+        alike,
+      )
+  granted_both sees c d (request.Close k) told other (e, is) (f, are) whole intact =
+      rw (e, f, is, are) (
+        same,
+        record {
+          work = alike.work;
+          limits = alike.limits;
+          entries = alike.entries;
+          opens = alike.opens;
+          searches = both_removed when limit a.searches b.searches alike.searches k;
+        },
+      )
+  granted_both sees c d request.Vault told other (e, is) (f, are) whole intact = (rw (e, f, alike.entries) same, rw (is, are) alike)
+  granted_both sees c d request.Sees told other (e, is) (f, are) whole intact = rw (e, f, is, are) (same, alike)
+  granted_both sees c d (request.Proof k who) told other (s, ps, at, is, e, left) (t, qs, there, are, f, also) whole intact =
+      rw (e, f, left, also)
+      (proved_both when limit (get a.searches k) (get b.searches k) who s t ps qs (alike.searches k) at there is are, alike)
 
 -- from accounts that are alike the replies agree, and leave accounts that are alike
 pub replies_agree : (when : When) (limit : ℕ) (tenant : List ℕ) (sees : Sight) (a b c d : Account) (q : Request)

@@ -1,5 +1,5 @@
 -- Accounts that are alike in two worlds, and what keeps them so.
-use Rattle.std.proofs.Common.{ℕ, List, ◌≡◌, ◌≢◌, ◌∙◌, ◌⊎◌, inl, inr, sym, ap, refl, subst, subst₂, Option, Some, None, is_some}
+use Rattle.std.proofs.Common.{ℕ, List, ◌≡◌, ◌∙◌, inl, inr, sym, ap, refl, subst, subst₂, Option, Some, None, is_some}
 use Rattle.std.specs.Ordering.{nat_cmp}
 use Rattle.std.specs.FinMap.{FinMap, get, insert, remove}
 use Rattle.credential_text.specs.declared.credentials.Credential.{Credential}
@@ -7,9 +7,9 @@ use Rattle.quotas.specs.Quota.{Quota}
 use Rattle.vaults.specs.Journal.{Vault, credentials}
 use Rattle.search.specs.declared.queries.Query.{Query}
 use Rattle.search.specs.Ending.{Settled}
-use Rattle.hall.specs.Account.{Asked, Account}
+use Rattle.hall.specs.Answers.{Asked, Account}
 use Rattle.hall.specs.Run.{When, any_time, at_waits, GoesOn, Between}
-use Rattle.hall.proofs.Maps.{numbers_exact, one_or_other, get_inserted, get_insert_other, get_removed, get_remove_other}
+use Rattle.hall.proofs.Maps.{numbers_exact, each_inserted, each_removed, get_inserted, get_insert_other, get_removed, get_remove_other}
 use Rattle.hall.proofs.Truths.{AreLike, like_settles}
 
 -- what one search has come to in the two worlds: where searches settle at waits alone, the same
@@ -61,34 +61,21 @@ both_go_on : (limit : ℕ) (o p m n : Option Asked) → BothHave any_time limit 
     BothHave any_time limit m n
 both_go_on limit _ _ m n neither e f = subst₂ (BothHave any_time limit) (sym e) (sym f) neither
 both_go_on limit _ _ m n (both query view x y like) (u, may, e) (v, might, f) =
-    subst₂ (BothHave any_time limit) (sym e) (sym f) (both query view u v
-    (like_settles limit (credentials view) query x y u v like may might))
+    rw (e, f) (both query view u v (like_settles limit (credentials view) query x y u v like may might))
 
 -- the same number put in or taken out in both
 module _ (when : When) (limit : ℕ) (m n : FinMap nat_cmp Asked) (alike : (k : ℕ) → BothHave when limit (get m k) (get n k))
     (k : ℕ) where
   pub both_inserted : (s t : Asked) → BothHave when limit (Some s) (Some t) → (j : ℕ) →
       BothHave when limit (get (insert m k s) j) (get (insert n k t) j)
-  both_inserted s t here j = by (one_or_other numbers_exact j k)
-    where
-      by : (j ≡ k) ⊎ (j ≢ k) → BothHave when limit (get (insert m k s) j) (get (insert n k t) j)
-      by (inl same) =
-          subst (λ i. BothHave when limit (get (insert m k s) i) (get (insert n k t) i)) (sym same)
-          (subst₂ (BothHave when limit) (sym (get_inserted numbers_exact m k s)) (sym (get_inserted numbers_exact n k t)) here)
-      by (inr apart) =
-          subst₂ (BothHave when limit) (sym (get_insert_other numbers_exact m k s j apart))
-          (sym (get_insert_other numbers_exact n k t j apart)) (alike j)
+  both_inserted s t here =
+      each_inserted numbers_exact (λ j o. BothHave when limit o (get (insert n k t) j)) m k s
+      (rw (get_inserted numbers_exact n k t) here) (λ j apart. rw (get_insert_other numbers_exact n k t j apart) (alike j))
 
   pub both_removed : (j : ℕ) → BothHave when limit (get (remove m k) j) (get (remove n k) j)
-  both_removed j = by (one_or_other numbers_exact j k)
-    where
-      by : (j ≡ k) ⊎ (j ≢ k) → BothHave when limit (get (remove m k) j) (get (remove n k) j)
-      by (inl same) =
-          subst (λ i. BothHave when limit (get (remove m k) i) (get (remove n k) i)) (sym same)
-          (subst₂ (BothHave when limit) (sym (get_removed numbers_exact m k)) (sym (get_removed numbers_exact n k)) neither)
-      by (inr apart) =
-          subst₂ (BothHave when limit) (sym (get_remove_other numbers_exact m k j apart))
-          (sym (get_remove_other numbers_exact n k j apart)) (alike j)
+  both_removed =
+      each_removed numbers_exact (λ j o. BothHave when limit o (get (remove n k) j)) m k
+      (rw (get_removed numbers_exact n k) neither) (λ j apart. rw (get_remove_other numbers_exact n k j apart) (alike j))
 
 -- the same account in two worlds
 pub record AreAlike (when : When) (limit : ℕ) (a b : Account) : Type 0 where

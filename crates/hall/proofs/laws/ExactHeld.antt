@@ -39,11 +39,9 @@ driven_free : (old new : HallState) (name : List ℕ) (k : ℕ) → IsFree old �
 driven_free old new name k free = by (search_at old name k) refl
   where
     by : (o : Option Running) → search_at old name k ≡ o → Drives old name k o new → IsFree new
-    by None none is = subst IsFree (sym is) free
+    by None none is = rw is free
     by (Some r) at (s, driven, quiet, settles, is) =
-        subst IsFree (sym is)
-        (replaced_each HoldsNone old name k r (record r { search = s }) (λ t m j u here. here) at
-        (λ t held. (settles held).0) free)
+        rw is (replaced_each HoldsNone old name k r (record r { search = s }) (λ t m j u here. here) at (λ t held. (settles held).0) free)
 
 pub carried_free : (old new : HallState) (name : List ℕ) (deed : Deed) (told : Reply) → IsFree old →
     CarriesOut old name deed told new → IsFree new

@@ -1,17 +1,16 @@
 -- From a new hall on, what a tenant is told is a run of its own turns, in which searches settle at its waits alone.
-use Rattle.std.proofs.Common.{◌≡◌, ◌∙◌, ℕ, Bool, true, false, cond, List, [], ◌∷◌, map, find, Option, Some, option_map, sym, ap}
-use Rattle.std.proofs.Common.{refl, subst}
+use Rattle.std.proofs.Common.{◌≡◌, ◌∙◌, ℕ, Bool, true, false, cond, List, [], ◌∷◌, map, find, Some, option_map, ap}
+use Rattle.std.proofs.Common.{refl}
 use Rattle.std.specs.FinMap.{FinMap, get-from_entries, find as find_entry}
 use Rattle.std.specs.Ordering.{nat_cmp}
 use Rattle.names.specs.Name.{is_same, name_order}
 use Rattle.names.proofs.SameNames.{same_from_is_same, is_same_tied}
 use Rattle.quotas.specs.Quota.{Quota}
-use Rattle.vaults.specs.declared.changes.Entry.{Entry}
 use Rattle.vaults.proofs.Elements.{tied_both_ways}
 use Rattle.vaults.proofs.Orders.{names_exact}
 use Rattle.hall.specs.declared.calls.requests.Request.TheVariants.{Poll}
 use Rattle.hall.specs.declared.calls.replies.Reply.{Reply}
-use Rattle.hall.specs.Account.{Asked, Account, new_account, start_of}
+use Rattle.hall.specs.Answers.{Asked, new_account, start_of}
 use Rattle.hall.specs.Run.{Deed, asks, waits, Told, entered, told_to, at_waits, IsRunOf}
 use Rattle.hall.specs.Hall.{HallState, seen, account, account_of, CarriesOut, AreDone, IsSound, new_tenant, new_hall}
 use Rattle.hall.specs.Laws.{ScriptsAreExact}
@@ -48,17 +47,13 @@ carried_other old new name (waits k) told other (middle, drives, served) apart =
 done_exact : (tenant : List ℕ) (old new : HallState) (told : List Told) → IsSound old → IsFree old → AreDone old told new →
     IsRunOf at_waits tenant (account_of old tenant) (told_to tenant old.journal told) (account_of new tenant)
 done_exact tenant old new [] sound free done =
-    subst (λ (h : HallState). IsRunOf at_waits tenant (account_of old tenant) [] (account_of h tenant)) (sym done)
-    (empty_run at_waits tenant (account_of old tenant))
+    rw done (empty_run at_waits tenant (account_of old tenant))
 done_exact tenant old new (t ∷ more) sound free (middle, carried, done) =
     done_first at_waits tenant old.journal t (account_of old tenant) (account_of middle tenant) (account_of new tenant)
     (told_to tenant (entered old.journal t) more)
-    (λ same. subst (λ (n : List ℕ). TurnsTo n (account_of old n) (turn_at n old.journal t) (account_of middle n))
-    (same_from_is_same t.tenant tenant same)
-    (carried_own old middle t.tenant t.deed t.reply sound free carried))
+    (λ same. rw (← same_from_is_same t.tenant tenant same) (carried_own old middle t.tenant t.deed t.reply sound free carried))
     (carried_other old middle t.tenant t.deed t.reply tenant carried)
-    (subst (λ (j : List Entry). IsRunOf at_waits tenant (account_of middle tenant) (told_to tenant j more)
-    (account_of new tenant)) (carried_journal old middle t.tenant t.deed t.reply carried)
+    (rw (← carried_journal old middle t.tenant t.deed t.reply carried)
     (done_exact tenant middle new more (carried_sound old middle t.tenant t.deed t.reply sound carried)
     (carried_free old middle t.tenant t.deed t.reply free carried) done))
 
@@ -93,7 +88,5 @@ started name roster =
 pub scripts_exact : ScriptsAreExact
 scripts_exact roster new told done tenant = (
   account_of new tenant,
-  subst (λ (o : Option Account). IsRunOf at_waits tenant o (told_to tenant [] told) (account_of new tenant))
-      (started tenant roster)
-      (done_exact tenant (new_hall roster) new told (new_sound roster) (new_free roster) done),
+  rw (← started tenant roster) (done_exact tenant (new_hall roster) new told (new_sound roster) (new_free roster) done),
 )

@@ -4,12 +4,11 @@ use Rattle.std.specs.FinMap.{get, insert}
 use Rattle.names.specs.Name.{is_same}
 use Rattle.hall.specs.declared.calls.requests.Request.TheVariants.{Poll}
 use Rattle.hall.specs.declared.calls.replies.Reply.{Reply}
-use Rattle.hall.specs.Account.{Asked, Account}
+use Rattle.hall.specs.Answers.{Account}
 use Rattle.hall.specs.Run.{waits, Ends}
-use Rattle.hall.specs.Hall.{Running, Tenant, HallState, seen, account, account_of, search_of, search_at, AnswersTo, IsServed}
+use Rattle.hall.specs.Hall.{Running, Tenant, HallState, seen, account, account_of, search_of, search_at, IsServed}
 use Rattle.hall.specs.Hall.{Drives, IsSound}
 use Rattle.hall.proofs.Maps.{numbers_exact, get_mapped}
-use Rattle.hall.proofs.laws.HallChanges.{changed_journal}
 use Rattle.hall.proofs.laws.HallSteps.{drives_on}
 use Rattle.hall.proofs.laws.HallTurns.{TurnsTo, done_told, turn_at}
 use Rattle.hall.proofs.laws.HallAccounts.{other_account, own_account, own_ends}
@@ -21,9 +20,7 @@ module _ (old middle : HallState) (name : List ℕ) (k : ℕ) (drives : Drives o
     where
       by : (o : Option Running) → Drives old name k o middle → middle.journal ≡ old.journal
       by None is = ap (λ (h : HallState). h.journal) is
-      by (Some r) (s, driven, quiet, settles, is) =
-          ap (λ (h : HallState). h.journal) is
-          ∙ changed_journal old name (λ t. record t { searches = insert t.searches k (record r { search = s }) })
+      by (Some r) (s, driven, quiet, settles, is) = ap (λ (h : HallState). h.journal) is
 
   pub driven_other : (other : List ℕ) → is_same name other ≡ false → account_of middle other ≡ account_of old other
   driven_other other apart = by (search_at old name k) drives
@@ -31,8 +28,7 @@ module _ (old middle : HallState) (name : List ℕ) (k : ℕ) (drives : Drives o
       by : (o : Option Running) → Drives old name k o middle → account_of middle other ≡ account_of old other
       by None is = ap (λ (h : HallState). account_of h other) is
       by (Some r) (s, driven, quiet, settles, is) =
-          ap (λ (h : HallState). account_of h other) is
-          ∙ other_account old name other (λ t. record t { searches = insert t.searches k (record r { search = s }) }) apart
+          rw is (other_account old name other (λ t. record t { searches = insert t.searches k (record r { search = s }) }) apart)
 
   nobody_driven : get old.tenants name ≡ None → middle ≡ old
   nobody_driven none = subst (λ (o : Option Tenant). Drives old name k (search_of k o) middle) none drives
@@ -49,14 +45,13 @@ module _ (old middle : HallState) (name : List ℕ) (k : ℕ) (drives : Drives o
       by None none is =
           let gone : get t.searches k ≡ None = sym (ap (search_of k) found) ∙ none in (
             account old.journal name t,
-            ap (λ (h : HallState). account_of h name) is ∙ ap (option_map (account old.journal name)) found,
-            subst (λ (o : Option Asked). Ends (account old.journal name t) k o (account old.journal name t))
-                (sym (get_mapped numbers_exact seen t.searches k ∙ ap (option_map seen) gone)) refl,
+            rw (is, found),
+            rw (get_mapped numbers_exact seen t.searches k, gone),
           )
       by (Some r) at (s, driven, quiet, settles, is) =
           let goes = drives_on r.search s driven in (
             account old.journal name (record t { searches = insert t.searches k (record r { search = s }) }),
-            ap (λ (h : HallState). account_of h name) is ∙ own_account old name k r s sound at goes t found,
+            rw is (own_account old name k r s sound at goes t found),
             own_ends old name k r s sound at goes t found (settles (free_at old name k r free at)).1,
           )
 
@@ -68,12 +63,8 @@ module _ (old middle : HallState) (name : List ℕ) (k : ℕ) (drives : Drives o
       by : (o : Option Tenant) → get old.tenants name ≡ o →
           TurnsTo name (option_map (account old.journal name) o) (turn_at name old.journal (done_told name (waits k) told))
           (account_of new name)
-      by None none =
-          subst (λ (a : Option Account). AnswersTo middle name a (Poll k) told (account_of new name))
-          (ap (λ (h : HallState). account_of h name) (nobody_driven none) ∙ ap (option_map (account old.journal name)) none)
-          served.answers
+      by None none = rw (nobody_driven none, none) at served.answers
       by (Some t) found =
           let (m, is, ends) = driven_ends sound free t found in
-          let (b, after, answers) =
-          subst (λ (a : Option Account). AnswersTo middle name a (Poll k) told (account_of new name)) is served.answers in
+          let (b, after, answers) = rw is at served.answers in
           (b, after, (m, ends, answers))

@@ -1,38 +1,33 @@
 -- What happens to the account of a tenant where one of its searches goes on, and where another's does.
-use Rattle.std.proofs.Common.{◌≡◌, ◌≢◌, ◌∙◌, ◌⊎◌, ℕ, Bool, true, false, List, Option, Some, option_map, inl, inr, sym, ap, refl}
-use Rattle.std.proofs.Common.{subst, subst₂}
+use Rattle.std.proofs.Common.{◌≡◌, ◌≢◌, ◌∙◌, ℕ, Bool, true, false, List, Some, option_map, sym, ap, refl}
+use Rattle.std.proofs.Common.{subst}
 use Rattle.std.specs.Ordering.{nat_cmp}
 use Rattle.std.specs.FinMap.{FinMap, get, insert}
 use Rattle.names.specs.Name.{is_same}
 use Rattle.names.proofs.SameNames.{same_from_is_same}
-use Rattle.vaults.specs.declared.changes.Entry.{Entry}
-use Rattle.vaults.specs.Journal.{entries_of, credentials}
+use Rattle.vaults.specs.Journal.{credentials}
 use Rattle.search.specs.Ending.{Nothing, MaySettle}
 use Rattle.search.specs.Search.{SearchState, settled_of}
-use Rattle.hall.specs.Account.{Asked, Account}
+use Rattle.hall.specs.Answers.{Asked}
 use Rattle.hall.specs.Run.{any_time, GoesOn, Ends}
 use Rattle.hall.specs.Hall.{Running, Tenant, HallState, seen, account, account_of, with_tenant, with_search, search_of, search_at}
 use Rattle.hall.specs.Hall.{IsSound}
-use Rattle.hall.proofs.Maps.{numbers_exact, one_or_other, get_inserted, get_insert_other, get_mapped, mapped_insert}
-use Rattle.hall.proofs.SearchSteps.{SearchGoesOn}
-use Rattle.hall.proofs.laws.HallChanges.{changed_here, changed_elsewhere, changed_journal, tenant_of}
+use Rattle.hall.proofs.Maps.{numbers_exact, each_inserted, get_mapped, mapped_insert}
+use Rattle.hall.specs.Steps.{SearchGoesOn}
+use Rattle.hall.proofs.laws.HallChanges.{changed_here, changed_elsewhere, tenant_of}
 use Rattle.hall.proofs.laws.HallRequests.{same_account}
 use Rattle.hall.proofs.laws.HallTurns.{goes_itself, BetweenOf, nothing_between}
 
 -- the account of a tenant that was changed
 changed_account : (h : HallState) (name : List ℕ) (change : Tenant → Tenant) (t : Tenant) → get h.tenants name ≡ Some t →
     account_of (with_tenant h name change) name ≡ Some (account h.journal name (change t))
-changed_account h name change t found =
-    ap (λ (j : List Entry). option_map (account j name) (get (with_tenant h name change).tenants name))
-    (changed_journal h name change)
-    ∙ ap (option_map (account h.journal name)) (changed_here h name change t found)
+changed_account h name change t found = ap (option_map (account h.journal name)) (changed_here h name change t found)
 
 -- and of another
 pub other_account : (h : HallState) (name other : List ℕ) (change : Tenant → Tenant) → is_same name other ≡ false →
     account_of (with_tenant h name change) other ≡ account_of h other
 other_account h name other change apart =
-    same_account h (with_tenant h name change) other (changed_elsewhere h name change other apart)
-    (ap (entries_of other) (changed_journal h name change))
+    same_account h (with_tenant h name change) other (changed_elsewhere h name change other apart) refl
 
 -- a search of a hall that goes on
 module _ (h : HallState) (name : List ℕ) (k : ℕ) (r : Running) (s : SearchState) (sound : IsSound h)
@@ -54,41 +49,24 @@ module _ (h : HallState) (name : List ℕ) (k : ℕ) (r : Running) (s : SearchSt
 
     settles_within :
         MaySettle t.limits.work (credentials r.search.snapshot.vaults) r.search.query (settled_of r.search) (settled_of s)
-    settles_within =
-        let (least, most, whole) = sound name t k r found there in
-        subst
-        (λ (n : ℕ). MaySettle n (credentials r.search.snapshot.vaults) r.search.query (settled_of r.search) (settled_of s))
-        whole.work goes.settles
+    settles_within = rw (← (sound name t k r found there).2.work) goes.settles
 
     -- each search of the account goes on
     each_goes : (j : ℕ) →
         GoesOn t.limits.work (get (account h.journal name t).searches j)
         (get (account h.journal name (record t { searches = searches_after t })).searches j)
     each_goes j =
-        subst₂ (GoesOn t.limits.work) (sym (get_mapped numbers_exact seen t.searches j))
-        (sym (get_mapped numbers_exact seen (searches_after t) j)) (by (one_or_other numbers_exact j k))
-      where
-        by : (j ≡ k) ⊎ (j ≢ k) →
-            GoesOn t.limits.work (option_map seen (get t.searches j)) (option_map seen (get (searches_after t) j))
-        by (inl same) =
-            subst₂ (λ (o p : Option Running). GoesOn t.limits.work (option_map seen o) (option_map seen p))
-            (sym (ap (get t.searches) same ∙ there))
-            (sym (ap (get (searches_after t)) same ∙ get_inserted numbers_exact t.searches k next))
-            (settled_of s, settles_within, ap Some seen_next)
-        by (inr apart) =
-            subst (λ (p : Option Running). GoesOn t.limits.work (option_map seen (get t.searches j)) (option_map seen p))
-            (sym (get_insert_other numbers_exact t.searches k next j apart))
-            (goes_itself t.limits.work (option_map seen (get t.searches j)))
+        rw (get_mapped numbers_exact seen t.searches j, get_mapped numbers_exact seen (searches_after t) j)
+        (each_inserted numbers_exact (λ i o. GoesOn t.limits.work (option_map seen (get t.searches i)) (option_map seen o)) t.searches k next
+        (rw there (settled_of s, settles_within, ap Some seen_next))
+        (λ i apart. goes_itself t.limits.work (option_map seen (get t.searches i))) j)
 
     -- a search that came to an end
     pub own_ends : settled_of s ≢ Nothing →
         Ends (account h.journal name t) k (get (account h.journal name t).searches k)
         (account h.journal name (record t { searches = searches_after t }))
     own_ends ended =
-        subst
-        (λ (o : Option Asked).
-        Ends (account h.journal name t) k o (account h.journal name (record t { searches = searches_after t })))
-        (sym (get_mapped numbers_exact seen t.searches k ∙ ap (option_map seen) there)) (
+        rw (get_mapped numbers_exact seen t.searches k, there) (
           settled_of s,
           ended,
           settles_within,
@@ -103,9 +81,7 @@ module _ (h : HallState) (name : List ℕ) (k : ℕ) (r : Running) (s : SearchSt
   own_between : BetweenOf any_time (account_of h name) (account_of (with_search h name k next) name)
   own_between =
       let (t, found, is) = tenant_of h name k r at in
-      subst (λ (o : Option Account). BetweenOf any_time o (account_of (with_search h name k next) name))
-      (sym (ap (option_map (account h.journal name)) found))
-      (account h.journal name (record t { searches = searches_after t }), own_account t found, (refl, each_goes t found))
+      rw (own_account t found, found) (account h.journal name (record t { searches = searches_after t }), refl, (refl, each_goes t found))
 
   -- to each tenant at most one of its searches settled
   pub goes_between : (tenant : List ℕ) → BetweenOf any_time (account_of h tenant) (account_of (with_search h name k next) tenant)

@@ -11,11 +11,10 @@ use Rattle.hall.specs.declared.calls.requests.Request.{Request}
 use Rattle.hall.specs.declared.calls.requests.Request.TheVariants as request
 use Rattle.hall.specs.declared.calls.replies.Reply.{Reply}
 use Rattle.hall.specs.declared.calls.replies.Reply.TheVariants.{Counted, Opened, Closed}
-use Rattle.hall.specs.Account.{Account}
-use Rattle.hall.specs.Answers.{Sight, Answers, refuses, grants, lacks}
-use Rattle.hall.specs.Run.{Deed, asks, waits, Told, entered}
+use Rattle.hall.specs.Answers.{Account, Sight, Answers, refuses, grants, lacks}
+use Rattle.hall.specs.Run.{Deed, asks, Told, entered}
 use Rattle.hall.specs.Hall.{Running, Tenant, HallState, account, account_of, beginning, hall_after}
-use Rattle.hall.proofs.laws.HallChanges.{EachSearch, EachOf, changed_each, changed_elsewhere, changed_journal, removed_each}
+use Rattle.hall.proofs.laws.HallChanges.{EachSearch, EachOf, changed_each, changed_elsewhere, removed_each}
 
 -- a tenant with one search more, which is opened now
 abbrev pub opening : List Entry → List ℕ → Query → ℕ → Tenant → Tenant
@@ -39,29 +38,17 @@ module _ (h : HallState) (name : List ℕ) where
   pub requested_journal : (q : Request) (told : Reply) →
       (hall_after h name q told).journal ≡ entered h.journal (record { tenant = name; deed = asks q; reply = told })
   requested_journal (request.Alter change) (Counted n) = refl
-  requested_journal (request.Alter change) _ = refl
-  requested_journal (request.Seek query) (Opened n) = changed_journal h name (opening h.journal name query n)
-  requested_journal (request.Seek query) _ = refl
-  requested_journal (request.Poll k) told = refl
-  requested_journal (request.Close k) Closed = changed_journal h name (closing k)
-  requested_journal (request.Close k) _ = refl
-  requested_journal request.Vault told = refl
-  requested_journal request.Sees told = refl
-  requested_journal (request.Proof k who) told = refl
+  requested_journal (request.Seek query) (Opened n) = refl
+  requested_journal (request.Close k) Closed = refl
+  requested_journal _ told = refl
 
   requested_elsewhere : (q : Request) (told : Reply) (other : List ℕ) → is_same name other ≡ false →
       get (hall_after h name q told).tenants other ≡ get h.tenants other
   requested_elsewhere (request.Alter change) (Counted n) other apart = refl
-  requested_elsewhere (request.Alter change) _ other apart = refl
   requested_elsewhere (request.Seek query) (Opened n) other apart =
       changed_elsewhere h name (opening h.journal name query n) other apart
-  requested_elsewhere (request.Seek query) _ other apart = refl
-  requested_elsewhere (request.Poll k) told other apart = refl
   requested_elsewhere (request.Close k) Closed other apart = changed_elsewhere h name (closing k) other apart
-  requested_elsewhere (request.Close k) _ other apart = refl
-  requested_elsewhere request.Vault told other apart = refl
-  requested_elsewhere request.Sees told other apart = refl
-  requested_elsewhere (request.Proof k who) told other apart = refl
+  requested_elsewhere _ told other apart = refl
 
   -- what holds of each search holds of each after a request, where it does of one just opened and of those beside one that ended
   pub requested_each : (P : List ℕ → Tenant → ℕ → Running → Type 0) (q : Request) (told : Reply) → EachSearch P h →
@@ -70,17 +57,11 @@ module _ (h : HallState) (name : List ℕ) where
       ((k : ℕ) (t : Tenant) → get h.tenants name ≡ Some t → EachOf (P name (closing k t)) t.searches) →
       EachSearch P (hall_after h name q told)
   requested_each P (request.Alter change) (Counted n) each opens stays = each
-  requested_each P (request.Alter change) _ each opens stays = each
   requested_each P (request.Seek query) (Opened n) each opens stays =
       changed_each P h name (opening h.journal name query n) each (λ t found. opens query n t refl refl found)
-  requested_each P (request.Seek query) _ each opens stays = each
-  requested_each P (request.Poll k) told each opens stays = each
   requested_each P (request.Close k) Closed each opens stays =
       changed_each P h name (closing k) each (λ t found. removed_each (P name (closing k t)) t.searches k (stays k t found))
-  requested_each P (request.Close k) _ each opens stays = each
-  requested_each P request.Vault told each opens stays = each
-  requested_each P request.Sees told each opens stays = each
-  requested_each P (request.Proof k who) told each opens stays = each
+  requested_each P _ told each opens stays = each
 
 -- the journal after something was done: it has grown at most
 pub entered_more : (journal : List Entry) (t : Told) → (more : List Entry) × (entered journal t ≡ journal ++ more)
@@ -89,8 +70,7 @@ entered_more journal t = by t.deed t.reply
     by : (deed : Deed) (told : Reply) →
         (more : List Entry) × (entered journal (record { tenant = t.tenant; deed = deed; reply = told }) ≡ journal ++ more)
     by (asks (request.Alter change)) (Counted n) = (record { tenant = t.tenant; change = change } ∷ [], refl)
-    by (asks q) told = ([], sym (append-nil journal))
-    by (waits k) told = ([], sym (append-nil journal))
+    by _ told = ([], sym (append-nil journal))
 
 -- and by no entry of another tenant
 entered_elsewhere : (journal : List Entry) (t : Told) (other : List ℕ) → is_same t.tenant other ≡ false →
@@ -103,8 +83,7 @@ entered_elsewhere journal t other apart = by t.deed t.reply
         let e : Entry = record { tenant = t.tenant; change = change } in
         entries_push journal e other ∙ ap (λ (b : Bool). entries_of other journal ++ cond b (e ∷ []) []) apart
         ∙ append-nil (entries_of other journal)
-    by (asks q) told = refl
-    by (waits k) told = refl
+    by _ told = refl
 
 -- a request of another tenant leaves the account
 pub requested_account : (h : HallState) (name : List ℕ) (q : Request) (told : Reply) (other : List ℕ) →

@@ -1,21 +1,18 @@
 -- To each tenant a run of a hall is a run of its own turns, in which searches settle at any time.
-use Rattle.std.proofs.Common.{◌≡◌, ◌∙◌, ℕ, false, List, [], ◌∷◌, Option, Some, None, sym, ap, refl, subst}
-use Rattle.std.specs.FinMap.{insert}
+use Rattle.std.proofs.Common.{◌≡◌, ◌∙◌, ℕ, false, List, [], ◌∷◌, Option, Some, None, ap, refl}
 use Rattle.names.specs.Name.{is_same}
 use Rattle.names.proofs.SameNames.{same_from_is_same}
-use Rattle.vaults.specs.declared.changes.Entry.{Entry}
 use Rattle.hall.specs.declared.calls.requests.Request.{Request}
 use Rattle.hall.specs.declared.calls.replies.Reply.{Reply}
 use Rattle.hall.specs.declared.calls.steps.Step.{Step}
 use Rattle.hall.specs.declared.calls.steps.Stepped.{Stepped}
 use Rattle.hall.specs.declared.calls.events.Event.TheVariants as event
-use Rattle.hall.specs.Account.{Account}
-use Rattle.hall.specs.Run.{asks, Told, told_in, entered, told_to, any_time, IsRunOf}
+use Rattle.hall.specs.Answers.{Account}
+use Rattle.hall.specs.Run.{asks, Told, told_in, entered, told_to, any_time}
 use Rattle.hall.specs.Hall.{Running, HallState, account_of, search_at, AnswersTo, IsServed, StepsAt, IsStepped, step_name}
 use Rattle.hall.specs.Hall.{step_search, IsSound}
 use Rattle.hall.specs.Laws.{RunsAreAllowed}
 use Rattle.hall.proofs.SearchSteps.{step_goes_on}
-use Rattle.hall.proofs.laws.HallChanges.{changed_journal}
 use Rattle.hall.proofs.laws.HallRequests.{requested_journal, requested_account}
 use Rattle.hall.proofs.laws.HallSound.{events_keep}
 use Rattle.hall.proofs.laws.HallTurns.{BetweenOf, nothing_between, later_run, empty_run, TurnsTo, done_told, turn_at, done_first}
@@ -44,16 +41,13 @@ served_other old new name q told tenant served apart =
     ap (λ (h : HallState). account_of h tenant) served.after ∙ requested_account old name q told tenant apart
 
 -- a step leaves the journal
-stepped_journal : (old new : HallState) (made : Step) (answer : Stepped) → IsStepped old made answer new →
+pub stepped_journal : (old new : HallState) (made : Step) (answer : Stepped) → IsStepped old made answer new →
     new.journal ≡ old.journal
 stepped_journal old new made answer = by (search_at old (step_name made) (step_search made))
   where
     by : (o : Option Running) → StepsAt old o made answer new → new.journal ≡ old.journal
     by None steps = ap (λ (h : HallState). h.journal) steps.1
-    by (Some r) (s, steps, after) =
-        ap (λ (h : HallState). h.journal) after
-        ∙ changed_journal old (step_name made)
-        (λ t. record t { searches = insert t.searches (step_search made) (record r { search = s }) })
+    by (Some r) (s, steps, after) = ap (λ (h : HallState). h.journal) after
 
 -- and to each tenant at most one of its searches settles by it
 stepped_between : (old new : HallState) (made : Step) (answer : Stepped) (tenant : List ℕ) → IsSound old →
@@ -63,33 +57,26 @@ stepped_between old new made answer tenant sound = by (search_at old (step_name 
   where
     by : (o : Option Running) → search_at old (step_name made) (step_search made) ≡ o → StepsAt old o made answer new →
         BetweenOf any_time (account_of old tenant) (account_of new tenant)
-    by None none steps =
-        subst (λ (h : HallState). BetweenOf any_time (account_of old tenant) (account_of h tenant)) (sym steps.1)
-        (nothing_between any_time (account_of old tenant))
+    by None none steps = rw steps.1 (nothing_between any_time (account_of old tenant))
     by (Some r) at (s, steps, after) =
-        subst (λ (h : HallState). BetweenOf any_time (account_of old tenant) (account_of h tenant)) (sym after)
-        (goes_between old (step_name made) (step_search made) r s sound at (step_goes_on r.search s made answer steps) tenant)
+        rw after (goes_between old (step_name made) (step_search made) r s sound at (step_goes_on r.search s made answer steps) tenant)
 
 pub runs_allowed : RunsAreAllowed
 runs_allowed old new [] [] sound run tenant =
-    subst (λ (h : HallState). IsRunOf any_time tenant (account_of old tenant) [] (account_of h tenant)) (sym run)
-    (empty_run any_time tenant (account_of old tenant))
+    rw run (empty_run any_time tenant (account_of old tenant))
 runs_allowed old new [] (told ∷ replies) sound run tenant = absurd run
 runs_allowed old new (e ∷ events) [] sound run tenant = absurd run
 runs_allowed old new (event.Request name q ∷ events) (told ∷ replies) sound (after, served, run) tenant =
     let t : Told = done_told name (asks q) told in
     done_first any_time tenant old.journal t (account_of old tenant) (account_of after tenant) (account_of new tenant)
     (told_to tenant (entered old.journal t) (told_in events replies))
-    (λ same. subst (λ (n : List ℕ). TurnsTo n (account_of old n) (turn_at n old.journal t) (account_of after n))
-    (same_from_is_same name tenant same) (served_own old after name q told served))
+    (λ same. rw (← same_from_is_same name tenant same) (served_own old after name q told served))
     (served_other old after name q told tenant served)
-    (subst (λ (j : List Entry). IsRunOf any_time tenant (account_of after tenant) (told_to tenant j (told_in events replies))
-    (account_of new tenant)) (served_journal old after name q told served)
+    (rw (← served_journal old after name q told served)
     (runs_allowed after new events replies (events_keep old after (event.Request name q) told sound served) run tenant))
 runs_allowed old new (event.Step made ∷ events) (told ∷ replies) sound (after, (answer, is, stepped), run) tenant =
     later_run any_time tenant (account_of old tenant) (account_of after tenant) (account_of new tenant)
     (told_to tenant old.journal (told_in events replies))
     (stepped_between old after made answer tenant sound stepped)
-    (subst (λ (j : List Entry). IsRunOf any_time tenant (account_of after tenant) (told_to tenant j (told_in events replies))
-    (account_of new tenant)) (stepped_journal old after made answer stepped)
+    (rw (← stepped_journal old after made answer stepped)
     (runs_allowed after new events replies (events_keep old after (event.Step made) told sound (answer, is, stepped)) run tenant))

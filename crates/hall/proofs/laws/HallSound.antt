@@ -1,7 +1,7 @@
 -- What holds of every hall holds of a new one, and is kept by each request, by each step, and where a search carries itself on.
-use Rattle.std.proofs.Common.{[], ◌≡◌, ◌∙◌, ◌≤◌, ◌+◌, ℕ, List, ◌++◌, length, Option, Some, None, option_map, inl, sym, ap}
+use Rattle.std.proofs.Common.{[], ◌≡◌, ◌∙◌, ◌≤◌, ◌+◌, ℕ, List, ◌++◌, length, Option, Some, None, inl, sym, ap}
 use Rattle.std.proofs.Common.{refl, subst, subst₂, arith, length-append, le_refl}
-use Rattle.std.specs.FinMap.{get, insert}
+use Rattle.std.specs.FinMap.{get}
 use Rattle.std.proofs.lemmas.List.{take-append-le, take_all}
 use Rattle.quotas.specs.Quota.{Quota}
 use Rattle.vaults.specs.declared.changes.Entry.{Entry}
@@ -12,7 +12,7 @@ use Rattle.scholten_core.proofs.Complete.{settled_started, sound as first_sound}
 use Rattle.search.specs.declared.letters.Load.TheVariants.{Start}
 use Rattle.search.specs.declared.queries.Query.{Query}
 use Rattle.search.specs.Ending.{Nothing, MaySettle}
-use Rattle.search.specs.Search.{SearchState, SameQuestion, IsSoundStage, settled_of}
+use Rattle.search.specs.Search.{SearchState, IsSoundStage, settled_of}
 use Rattle.hall.specs.declared.calls.requests.Request.{Request}
 use Rattle.hall.specs.declared.calls.requests.Request.TheVariants as request
 use Rattle.hall.specs.declared.calls.replies.Reply.{Reply}
@@ -20,18 +20,17 @@ use Rattle.hall.specs.declared.calls.replies.Reply.TheVariants.{Opened}
 use Rattle.hall.specs.declared.calls.steps.Step.{Step}
 use Rattle.hall.specs.declared.calls.steps.Stepped.{Stepped}
 use Rattle.hall.specs.declared.calls.events.Event.TheVariants as event
-use Rattle.hall.specs.Steps.{just_opened}
-use Rattle.hall.specs.Account.{Account}
+use Rattle.hall.specs.Steps.{just_opened, SearchGoesOn}
 use Rattle.hall.specs.Run.{Deed, asks, waits}
-use Rattle.hall.specs.Hall.{Running, Tenant, HallState, account, account_of, with_search, search_at, beginning, hall_after}
-use Rattle.hall.specs.Hall.{AnswersTo, IsServed, StepsAt, IsStepped, step_name, step_search, Drives, CarriesOut}
+use Rattle.hall.specs.Hall.{Running, Tenant, HallState, with_search, search_at, beginning, hall_after}
+use Rattle.hall.specs.Hall.{IsServed, StepsAt, IsStepped, step_name, step_search, Drives, CarriesOut}
 use Rattle.hall.specs.Hall.{IsSoundSearch, IsSound}
 use Rattle.hall.specs.Laws.{NewHallsAreSound, EventsKeepSoundness}
-use Rattle.hall.proofs.laws.HallChanges.{EachSearch, EachOf, changed_journal, inserted_each, replaced_each, new_each}
+use Rattle.hall.proofs.laws.HallChanges.{EachSearch, EachOf, inserted_each, replaced_each, new_each}
 use Rattle.hall.proofs.laws.HallSteps.{drives_on}
 use Rattle.hall.proofs.laws.HallRequests.{opening, requested_journal, requested_each, entered_more, opened_next}
 use Rattle.hall.proofs.Truths.{settles_twice}
-use Rattle.hall.proofs.SearchSteps.{SearchGoesOn, step_goes_on, nothing_yet}
+use Rattle.hall.proofs.SearchSteps.{step_goes_on, nothing_yet}
 
 -- what holds of a tenant's search in a hall of this journal
 abbrev SoundIn : List Entry → List ℕ → Tenant → ℕ → Running → Type 0
@@ -82,25 +81,21 @@ told_next : (old new : HallState) (name : List ℕ) (query : Query) (told : Repl
     IsServed old name (request.Seek query) told new →
     (n : ℕ) (t : Tenant) → told ≡ Opened n → get old.tenants name ≡ Some t → n ≡ t.opens + 1
 told_next old new name query told served n t said found =
-    let (b, is, answers) =
-    subst (λ (o : Option Account). AnswersTo old name o (request.Seek query) told (account_of new name))
-    (ap (option_map (account old.journal name)) found) served.answers in
+    let (b, is, answers) = rw found at served.answers in
     opened_next answers n said
 
 pub served_sound : (old new : HallState) (name : List ℕ) (q : Request) (told : Reply) → IsSound old →
     IsServed old name q told new → IsSound new
-served_sound old new name q told sound served = subst IsSound (sym served.after) here
-  where
-    here : IsSound (hall_after old name q told)
-    here =
-        let (more, grown) = entered_more old.journal (record { tenant = name; deed = asks q; reply = told }) in
-        subst (λ (j : List Entry). EachSearch (SoundIn j) (hall_after old name q told))
-        (sym (requested_journal old name q told ∙ grown))
-        (all_grown old.journal more (hall_after old name q told)
-        (requested_each old name (SoundIn old.journal) q told sound
-        (λ query n t is said found. opening_sound old name query n t sound found
-        (told_next old new name query told (subst (λ (r : Request). IsServed old name r told new) is served) n t said found))
-        (λ k t found j r at. sound name t j r found at)))
+served_sound old new name q told sound served =
+    let (more, grown) = entered_more old.journal (record { tenant = name; deed = asks q; reply = told }) in
+    rw served.after
+    (subst (λ (j : List Entry). EachSearch (SoundIn j) (hall_after old name q told))
+    (sym (requested_journal old name q told ∙ grown))
+    (all_grown old.journal more (hall_after old name q told)
+    (requested_each old name (SoundIn old.journal) q told sound
+    (λ query n t is said found. opening_sound old name query n t sound found
+    (told_next old new name query told (rw is at served) n t said found))
+    (λ k t found j r at. sound name t j r found at))))
 
 -- a search that goes on
 search_goes : (journal : List Entry) (name : List ℕ) (limits : Quota) (r : Running) (s : SearchState) →
@@ -111,39 +106,28 @@ search_goes journal name limits r s goes computation sound = record {
   asker = ap (λ (x : SnapshotState). x.asker) goes.question.snapshot ∙ sound.asker;
   view = ap (λ (x : SnapshotState). x.vaults) goes.question.snapshot ∙ sound.view;
   work = goes.question.work ∙ sound.work;
-  settled = settles_on limits.work r.search s goes.question
+  settled = subst₂ (λ (x : SnapshotState) (q : Query). MaySettle limits.work (credentials x.vaults) q Nothing (settled_of s))
+      (sym goes.question.snapshot) (sym goes.question.query)
       (settles_twice limits.work (credentials r.search.snapshot.vaults) r.search.query
-      Nothing (settled_of r.search) (settled_of s) sound.settled
-      (subst (λ (n : ℕ). MaySettle n (credentials r.search.snapshot.vaults) r.search.query (settled_of r.search) (settled_of s))
-      sound.work goes.settles));
+      Nothing (settled_of r.search) (settled_of s) sound.settled (rw (← sound.work) goes.settles));
   computation = computation;
 }
-  where
-    settles_on : (limit : ℕ) (old new : SearchState) → SameQuestion old new →
-        MaySettle limit (credentials old.snapshot.vaults) old.query Nothing (settled_of s) →
-        MaySettle limit (credentials new.snapshot.vaults) new.query Nothing (settled_of s)
-    settles_on limit old new same may =
-        subst₂ (λ (x : SnapshotState) (q : Query). MaySettle limit (credentials x.vaults) q Nothing (settled_of s))
-        (sym same.snapshot) (sym same.query) may
 
 pub goes_sound : (h : HallState) (name : List ℕ) (k : ℕ) (r : Running) (s : SearchState) → IsSound h →
     search_at h name k ≡ Some r → SearchGoesOn r.search s → IsSoundStage s.stage →
     IsSound (with_search h name k (record r { search = s }))
 goes_sound h name k r s sound at goes computation =
-    subst (λ (j : List Entry). EachSearch (SoundIn j) (with_search h name k (record r { search = s })))
-    (sym (changed_journal h name (λ t. record t { searches = insert t.searches k (record r { search = s }) })))
-    (replaced_each (SoundIn h.journal) h name k r (record r { search = s }) (λ t m j u here. here) at
-    (λ t here. (here.0, here.1, search_goes h.journal name t.limits r s goes computation here.2)) sound)
+    replaced_each (SoundIn h.journal) h name k r (record r { search = s }) (λ t m j u here. here) at
+    (λ t here. (here.0, here.1, search_goes h.journal name t.limits r s goes computation here.2)) sound
 
 pub stepped_sound : (old new : HallState) (made : Step) (answer : Stepped) → IsSound old → IsStepped old made answer new → IsSound new
 stepped_sound old new made answer sound = by (search_at old (step_name made) (step_search made)) refl
   where
     by : (o : Option Running) → search_at old (step_name made) (step_search made) ≡ o → StepsAt old o made answer new →
         IsSound new
-    by None none steps = subst IsSound (sym steps.1) sound
+    by None none steps = rw steps.1 sound
     by (Some r) at (s, steps, after) =
-        subst IsSound (sym after)
-        (goes_sound old (step_name made) (step_search made) r s sound at (step_goes_on r.search s made answer steps) steps.sound)
+        rw after (goes_sound old (step_name made) (step_search made) r s sound at (step_goes_on r.search s made answer steps) steps.sound)
 
 pub events_keep : EventsKeepSoundness
 events_keep old new (event.Request name q) told sound served = served_sound old new name q told sound served
@@ -154,9 +138,8 @@ driven_sound : (old new : HallState) (name : List ℕ) (k : ℕ) → IsSound old
 driven_sound old new name k sound = by (search_at old name k) refl
   where
     by : (o : Option Running) → search_at old name k ≡ o → Drives old name k o new → IsSound new
-    by None none is = subst IsSound (sym is) sound
-    by (Some r) at (s, driven, rests, settles, is) =
-        subst IsSound (sym is) (goes_sound old name k r s sound at (drives_on r.search s driven) rests.1)
+    by None none is = rw is sound
+    by (Some r) at (s, driven, rests, settles, is) = rw is (goes_sound old name k r s sound at (drives_on r.search s driven) rests.1)
 
 -- a deed that was carried out keeps what holds of every hall
 pub carried_sound : (old new : HallState) (name : List ℕ) (deed : Deed) (told : Reply) → IsSound old →

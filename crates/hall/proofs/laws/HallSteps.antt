@@ -7,7 +7,8 @@ use Rattle.search.specs.Ending.{Settled, MaySettle}
 use Rattle.search.specs.Search.{SearchState, SameQuestion, settled_of}
 use Rattle.search.specs.Finish.{IsDriven}
 use Rattle.hall.proofs.Truths.{settles_twice}
-use Rattle.hall.proofs.SearchSteps.{SearchGoesOn, staged, finish_keeps}
+use Rattle.hall.specs.Steps.{SearchGoesOn}
+use Rattle.hall.proofs.SearchSteps.{staged, finish_keeps}
 
 -- what a search may come to depends on its question alone
 settles_from : (old new : SearchState) (a b : Settled) → SameQuestion old new →
@@ -17,10 +18,10 @@ settles_from old new a b same may =
     subst (λ (x : SnapshotState). MaySettle old.work (credentials x.vaults) old.query a b) same.snapshot
     (subst₂ (λ (n : ℕ) (q : Query). MaySettle n (credentials new.snapshot.vaults) q a b) same.work same.query may)
 
-goes_nowhere : (s : SearchState) → SearchGoesOn s s
+pub goes_nowhere : (s : SearchState) → SearchGoesOn s s
 goes_nowhere s = record { question = record { query = refl; work = refl; snapshot = refl }; settles = inl refl }
 
-goes_twice : (s t u : SearchState) → SearchGoesOn s t → SearchGoesOn t u → SearchGoesOn s u
+pub goes_twice : (s t u : SearchState) → SearchGoesOn s t → SearchGoesOn t u → SearchGoesOn s u
 goes_twice s t u first second = record {
   question = record {
     query = second.question.query ∙ first.question.query;

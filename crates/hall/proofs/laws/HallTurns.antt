@@ -1,5 +1,5 @@
 -- A tenant's run may begin with one turn more, or by waiting.
-use Rattle.std.proofs.Common.{◌≡◌, ◌∙◌, ℕ, Bool, true, false, cond, List, [], ◌∷◌, ◌++◌, Option, Some, None, inl, ap, refl, subst}
+use Rattle.std.proofs.Common.{◌≡◌, ◌∙◌, ℕ, Bool, true, false, cond, List, [], ◌∷◌, ◌++◌, Option, Some, None, inl, ap, refl}
 use Rattle.std.specs.FinMap.{get}
 use Rattle.names.specs.Name.{is_same}
 use Rattle.vaults.specs.declared.changes.Entry.{Entry}
@@ -7,8 +7,7 @@ use Rattle.vaults.specs.Journal.{marked_view, credentials}
 use Rattle.hall.specs.declared.faults.Fault.TheVariants.{NoTenant}
 use Rattle.hall.specs.declared.calls.replies.Reply.{Reply}
 use Rattle.hall.specs.declared.calls.replies.Reply.TheVariants.{Refused}
-use Rattle.hall.specs.Account.{Asked, Account}
-use Rattle.hall.specs.Answers.{sight}
+use Rattle.hall.specs.Answers.{Asked, Account, sight}
 use Rattle.hall.specs.Run.{Deed, request_of, Told, Turn, turn_of, When, any_time, at_waits}
 use Rattle.hall.specs.Run.{GoesOn, Between, IsTaken, IsRun, IsRunOf}
 use Rattle.hall.proofs.Truths.{settles_twice}
@@ -18,12 +17,10 @@ goes_itself limit None = refl
 goes_itself limit (Some s) = (s.settled, inl refl, refl)
 
 goes_again : (limit : ℕ) (o p q : Option Asked) → GoesOn limit o p → GoesOn limit p q → GoesOn limit o q
-goes_again limit None p q first second = subst (λ (x : Option Asked). GoesOn limit x q) first second
-goes_again limit (Some s) p q (settled, may, is) second = later (subst (λ (x : Option Asked). GoesOn limit x q) is second)
-  where
-    later : GoesOn limit (Some (record s { settled = settled })) q → GoesOn limit (Some s) q
-    later (finally, more, also) =
-        (finally, settles_twice limit (credentials s.view) s.query s.settled settled finally may more, also)
+goes_again limit None p q first second = rw first at second
+goes_again limit (Some s) p q (settled, may, is) second =
+    let (finally, more, also) = rw is at second in
+    (finally, settles_twice limit (credentials s.view) s.query s.settled settled finally may more, also)
 
 between_itself : (when : When) (a : Account) → Between when a a
 between_itself at_waits a = refl
@@ -34,7 +31,7 @@ between_twice at_waits a b c first second = second ∙ first
 between_twice any_time a b c (is, goes) (also, more) = (
   also ∙ ap (λ (x : Account). record x { searches = c.searches }) is,
   λ k. goes_again a.limits.work (get a.searches k) (get b.searches k) (get c.searches k) (goes k)
-      (subst (λ (n : ℕ). GoesOn n (get b.searches k) (get c.searches k)) (ap (λ (x : Account). x.limits.work) is) (more k)),
+      (rw (ap (λ (x : Account). x.limits.work) is) at (more k)),
 )
 
 -- what happens between two turns, of a name that may be no tenant's
@@ -53,10 +50,9 @@ run_later when tenant a b c (turn ∷ more) between run = (run.0, run.1, between
 
 pub later_run : (when : When) (tenant : List ℕ) (o p end : Option Account) (turns : List Turn) → BetweenOf when o p →
     IsRunOf when tenant p turns end → IsRunOf when tenant o turns end
-later_run when tenant None p end turns gone run = subst (λ (x : Option Account). IsRunOf when tenant x turns end) gone run
+later_run when tenant None p end turns gone run = rw gone at run
 later_run when tenant (Some a) p end turns (b, is, between) run =
-    let rest : IsRunOf when tenant (Some b) turns end = subst (λ (x : Option Account). IsRunOf when tenant x turns end) is run in
-    (rest.0, rest.1, run_later when tenant a b rest.0 turns between rest.2)
+    let (c, ends, rest) = rw is at run in (c, ends, run_later when tenant a b c turns between rest)
 
 -- where nothing is done the account stays
 pub empty_run : (when : When) (tenant : List ℕ) (o : Option Account) → IsRunOf when tenant o [] o
@@ -71,12 +67,9 @@ TurnsTo tenant (Some a) turn after = (b : Account) × (after ≡ Some b) × IsTa
 turn_first : (when : When) (tenant : List ℕ) (o after end : Option Account) (turn : Turn) (more : List Turn) →
     TurnsTo tenant o turn after → IsRunOf when tenant after more end →
     IsRunOf when tenant o (turn ∷ more) end
-turn_first when tenant None after end turn more turns run =
-    let rest : IsRunOf when tenant None more end = subst (λ (x : Option Account). IsRunOf when tenant x more end) turns.1 run in
-    ((turns.0, rest.0), rest.1)
+turn_first when tenant None after end turn more turns run = let rest = rw turns.1 at run in ((turns.0, rest.0), rest.1)
 turn_first when tenant (Some a) after end turn more (b, is, taken) run =
-    let rest : IsRunOf when tenant (Some b) more end = subst (λ (x : Option Account). IsRunOf when tenant x more end) is run in
-    (rest.0, rest.1, (a, b, between_itself when a, taken, rest.2))
+    let rest = rw is at run in (rest.0, rest.1, (a, b, between_itself when a, taken, rest.2))
 
 -- what was done, as it is told
 abbrev pub done_told : List ℕ → Deed → Reply → Told
@@ -97,4 +90,4 @@ done_first when tenant journal t o after end more own other run = by (is_same t.
   where
     by : (b : Bool) → is_same t.tenant tenant ≡ b → IsRunOf when tenant o (cond b (turn_at tenant journal t ∷ []) [] ++ more) end
     by true same = turn_first when tenant o after end (turn_at tenant journal t) more (own same) run
-    by false apart = subst (λ (x : Option Account). IsRunOf when tenant x more end) (other apart) run
+    by false apart = rw (other apart) at run

@@ -1,46 +1,26 @@
 -- Each reply of a run that begins with nothing done is right.
-use Rattle.std.proofs.Common.{ℕ, List, [], ◌∷◌, ◌++◌, ◌≡◌, ◌∙◌, inl, inr, sym, ap, refl, subst, subst₂, Option, Some, None, append-nil, append_assoc}
+use Rattle.std.proofs.Common.{ℕ, List, [], ◌∷◌, ◌++◌, ◌≡◌, ◌∙◌, inl, inr, sym, refl, subst, subst₂, Option, Some, None, append-nil, append_assoc, arith}
 use Rattle.std.specs.FinMap.{get}
 use Rattle.credential_text.specs.declared.credentials.Credential.{Credential}
 use Rattle.rt0_rules.specs.Membership.{IsMember}
 use Rattle.vaults.specs.Journal.{Vault, credentials}
 use Rattle.search.specs.declared.queries.Query.{Query}
-use Rattle.search.specs.Ending.{Settled, Nothing, Yes, No, Members, Spent, Broken, IsEnding, asked_role}
+use Rattle.search.specs.Ending.{Settled, IsEnding, asked_role}
 use Rattle.proof_trees.specs.Proof.{IsProof}
 use Rattle.hall.specs.declared.faults.Fault.{Fault}
-use Rattle.hall.specs.declared.calls.answers.Answer.{Answer}
-use Rattle.hall.specs.declared.calls.answers.Answer.TheVariants as answer
 use Rattle.hall.specs.declared.calls.requests.Request.{Request}
 use Rattle.hall.specs.declared.calls.requests.Request.TheVariants as request
 use Rattle.hall.specs.declared.calls.replies.Reply.{Reply}
 use Rattle.hall.specs.declared.calls.replies.Reply.TheVariants.{Refused}
-use Rattle.hall.specs.Account.{Asked, Account, new_account}
-use Rattle.hall.specs.Answers.{Sight, answer_of, RefusesProof, Answers, refuses, grants, lacks}
+use Rattle.hall.specs.Answers.{Asked, Account, new_account, Sight, answer_of, RefusesProof, Answers, refuses, grants, lacks}
 use Rattle.hall.specs.Run.{Deed, asks, waits, request_of, Turn, When, IsTaken, IsRun}
 use Rattle.hall.specs.Laws.{OfOpening, IsRight, AnswersAreTrue}
 use Rattle.hall.proofs.Truths.{came_to_end}
 use Rattle.hall.proofs.laws.RightOpenings.{Knows, knows_nothing, between_knows, ends_knows, taken_knows}
 
 -- what was told says what the search has come to
-settled_by : Answer → Settled
-settled_by answer.Working = Nothing
-settled_by answer.Yes = Yes
-settled_by answer.No = No
-settled_by (answer.Members names) = Members names
-settled_by answer.Spent = Spent
-settled_by answer.Broken = Broken
-
-told_settled : (s : Settled) → settled_by (answer_of s) ≡ s
-unfolding settled_by
-told_settled Nothing = refl
-told_settled Yes = refl
-told_settled No = refl
-told_settled (Members names) = refl
-told_settled Spent = refl
-told_settled Broken = refl
-
 same_answer : (x y : Settled) → answer_of x ≡ answer_of y → x ≡ y
-same_answer x y e = sym (told_settled x) ∙ ap settled_by e ∙ told_settled y
+same_answer x y e = grind arith
 
 -- an account of which it is known which turn opened each search
 module _ (limit : ℕ) (before : List Turn) (a : Account) (knows : Knows limit before a) where

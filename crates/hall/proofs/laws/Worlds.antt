@@ -1,5 +1,5 @@
 -- The law of two worlds, and that scripts are isolated by it.
-use Rattle.std.proofs.Common.{ℕ, List, [], ◌∷◌, ◌≡◌, ◌≢◌, ◌∙◌, inl, inr, sym, ap, refl, subst, subst₂, Option, Some, None}
+use Rattle.std.proofs.Common.{ℕ, List, [], ◌∷◌, ◌≡◌, ◌≢◌, ◌∙◌, inl, inr, sym, ap, refl, Option, Some, None}
 use Rattle.std.specs.List.{AllZip, AllByRecursion}
 use Rattle.std.specs.FinMap.{get}
 use Rattle.credential_text.specs.declared.credentials.Credential.{Credential}
@@ -10,8 +10,7 @@ use Rattle.hall.specs.declared.faults.Fault.TheVariants.{NoTenant}
 use Rattle.hall.specs.declared.calls.requests.Request.TheVariants.{Poll}
 use Rattle.hall.specs.declared.calls.replies.Reply.{Reply}
 use Rattle.hall.specs.declared.calls.replies.Reply.TheVariants.{Answered, Refused}
-use Rattle.hall.specs.Account.{Asked, Account, start_of}
-use Rattle.hall.specs.Answers.{Sight, answer_of, Answers, refuses, grants, lacks}
+use Rattle.hall.specs.Answers.{Asked, Account, start_of, Sight, answer_of, Answers, refuses, grants, lacks}
 use Rattle.hall.specs.Run.{Deed, asks, waits, Turn, told_to, When, at_waits, Ends, IsTaken, IsRun, IsRunOf}
 use Rattle.hall.specs.Laws.{Agree, same, HasMemory, IsSameDeed, TwoWorlds, ScriptsAreIsolated}
 use Rattle.hall.proofs.Maps.{numbers_exact, get_inserted}
@@ -51,19 +50,16 @@ waits_alike when limit k tenant sees a b m n c d told other alike first second a
     by (get a.searches k) (get b.searches k) (alike.searches k) first second
   where
     by : (o p : Option Asked) → BothHave when limit o p → Ends a k o m → Ends b k p n → AreAlike when limit m n
-    by _ _ neither e f = subst₂ (AreAlike when limit) (sym e) (sym f) alike
+    by _ _ neither e f = rw (e, f) alike
     by _ _ (both query view x y like) (u, some, may, e) (v, more, might, f) =
         let left : Asked = record { query = query; view = view; settled = u } in
         let right : Asked = record { query = query; view = view; settled = v } in
         let one : u ≡ v =
         ends_same limit (credentials view) query x y u v (weakly_like when limit (credentials view) query x y like)
-        (subst (λ l. MaySettle l (credentials view) query x u) alike.work may)
-        (subst (λ l. MaySettle l (credentials view) query y v) (other_work alike) might) some more
-        (not_broken tenant sees m c k left told (ap (λ (z : Account). get z.searches k) e
-        ∙ get_inserted numbers_exact a.searches k left) answered whole)
-        (not_broken tenant sees n d k right other (ap (λ (z : Account). get z.searches k) f
-        ∙ get_inserted numbers_exact b.searches k right) also intact) in
-        subst₂ (AreAlike when limit) (sym e) (sym f) record {
+        (rw (← alike.work) may) (rw (← other_work alike) might) some more
+        (not_broken tenant sees m c k left told (rw e (get_inserted numbers_exact a.searches k left)) answered whole)
+        (not_broken tenant sees n d k right other (rw f (get_inserted numbers_exact b.searches k right)) also intact) in
+        rw (e, f) record {
           work = alike.work;
           limits = alike.limits;
           entries = alike.entries;
@@ -97,7 +93,7 @@ runs_agree when limit tenant a b c d (s ∷ first) (t ∷ second) alike (x, u, e
     (y, v, also, took, rest) deeds memory more =
     let now : Agree when s.reply t.reply × AreAlike when limit u v =
     turns_agree when limit tenant s.sees s.deed x y u v s.reply t.reply (between_alike when limit a b x y alike early also) taken
-    (subst₂ (λ sees deed. IsTaken tenant y sees deed t.reply v) (sym deeds.0.0) (sym deeds.0.1) took) memory.0 more.0 in
+    (rw (deeds.0.0, deeds.0.1) took) memory.0 more.0 in
     (now.0, runs_agree when limit tenant u v c d first second now.1 run rest deeds.1 memory.1 more.1)
 
 pub two_worlds : TwoWorlds
@@ -113,7 +109,7 @@ refused_same [] [] deeds one two = tt
 refused_same [] (t ∷ second) deeds one two = absurd deeds
 refused_same (s ∷ first) [] deeds one two = absurd deeds
 refused_same (s ∷ first) (t ∷ second) deeds one two =
-    (subst₂ (Agree at_waits) (sym one.0) (sym two.0) same, refused_same first second deeds.1 one.1 two.1)
+    (rw (one.0, two.0) same, refused_same first second deeds.1 one.1 two.1)
 
 runs_of_agree : (tenant : List ℕ) (o p end other_end : Option Account) (first second : List Turn) → o ≡ p →
     IsRunOf at_waits tenant o first end →
@@ -125,8 +121,7 @@ runs_of_agree tenant None (Some b) end other_end first second e one two deeds me
 runs_of_agree tenant (Some a) None end other_end first second e one two deeds memory more = cc
 runs_of_agree tenant (Some a) (Some b) end other_end first second e one two deeds memory more =
     let start : b ≡ a = (cc) in
-    two_worlds at_waits tenant a one.0 two.0 first second one.2
-    (subst (λ (x : Account). IsRun at_waits tenant x second two.0) start two.2) deeds memory more
+    two_worlds at_waits tenant a one.0 two.0 first second one.2 (rw start at two.2) deeds memory more
 
 pub scripts_isolated : ScriptsAreIsolated
 scripts_isolated tenant roster others told more exact also same_start deeds memory has =

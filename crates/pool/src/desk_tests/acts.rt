@@ -9,7 +9,7 @@ use std::alloc::Global;
 use std::mem;
 use std::sync::Wait;
 use std::sync::ledger::Ledger;
-use vaults::{Change, Seen};
+use vaults::{Change, Row, Seen};
 
 /// What is asked of a desk.
 #[derive(Clone, Copy)]
@@ -169,9 +169,9 @@ fn waited<L: Ledger, R: Wait>(
     }
 }
 
-fn rows_told(rows: &[Credential], credential: &Credential) -> Told {
+fn rows_told(rows: &[Row], credential: &Credential) -> Told {
     match rows {
-        [first, ..] => Told::Rows(rows.len(), first.compare(credential).is_eq()),
+        [first, ..] => Told::Rows(rows.len(), first.credential().compare(credential).is_eq()),
         [] => Told::Rows(0, false),
     }
 }

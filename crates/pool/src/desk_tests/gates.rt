@@ -19,6 +19,11 @@ pub(super) enum Way<'a> {
     End(&'a AtomicBool),
     /// It counts it, at the place of its number.
     Count(&'a [AtomicU64]),
+    /// As `Meet`, of workers whose gate may not wait: one of them goes on alone once it finishes letters by the hundred. At first
+    /// letters none does yet.
+    MeetFirst(&'a Meeting),
+    /// As `Count`, of such workers.
+    CountAlone(&'a [AtomicU64]),
 }
 
 /// Where the first letters of so many searches meet.
@@ -69,16 +74,30 @@ impl<L: Ledger + Send + Sync, R: Wait + Clock + Sync> Gate for Doorway<'_, L, R>
 
     fn pass(&self, who: &Entity, search: u64, letter: u64) {
         match self.way {
-            Way::Meet(meeting) if letter == 1 => meeting.meet(self.rt),
+            Way::Meet(meeting) | Way::MeetFirst(meeting) if letter == 1 => meeting.meet(self.rt),
             Way::End(over) if search == 1 && letter == 1 => {
                 end_first(self.rt, self.desk, *who, over)
             }
-            Way::Count(counts) => {
+            Way::Count(counts) | Way::CountAlone(counts) => {
                 if let Some(count) = counts.get(letter as usize) {
                     count.fetch_add(1, Ordering::SeqCst);
                 }
             }
             _ => {}
         }
+    }
+}
+
+/// The same gate for workers who rely on it that no pass waits.
+#[derive(Drop)]
+pub(super) struct Passage<'a, L: Ledger, R>(pub(super) Doorway<'a, L, R>);
+
+impl<L: Ledger + Send + Sync, R: Wait + Clock + Sync> Gate for Passage<'_, L, R> {
+    const MAY_WAIT: bool = false;
+
+    ghost LetThrough = { λ who search letter. Unit {0} };
+
+    fn pass(&self, who: &Entity, search: u64, letter: u64) {
+        self.0.pass(who, search, letter)
     }
 }

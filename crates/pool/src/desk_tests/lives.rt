@@ -196,3 +196,21 @@ fn letters_that_a_gate_holds_and_counts(rt: HostRuntime) -> Result<(), Break> {
     let counts: [AtomicU64; 82] = array::from_fn(|_| AtomicU64::new(0));
     held_and_counted(&rt, rt.alloc(), &meeting, &over, &counts)
 }
+
+/// Workers whose gate may not wait share searches that are small: the first letters of four searches meet, so that no worker does
+/// all, and of 40 members each of the 81 letters passes once.
+#[test]
+fn small_searches_of_workers_whose_gate_may_not_wait(rt: HostRuntime) -> Result<(), Break> {
+    let meeting = Meeting {
+        searches: 4,
+        came: AtomicU64::new(0),
+        left: AtomicBool::new(false),
+    };
+    let counts: [AtomicU64; 82] = array::from_fn(|_| AtomicU64::new(0));
+    played(&rt, rt.alloc(), &FOUR_SEARCHES, Way::MeetFirst(&meeting))?;
+    played(&rt, rt.alloc(), &FORTY_MEMBERS, Way::CountAlone(&counts))?;
+    if meeting.left.load(Ordering::SeqCst) || !passed_once(&counts) {
+        return Err(Break::WrongAnswer);
+    }
+    Ok(())
+}

@@ -4,7 +4,7 @@ ghost use Rattle.std.specs.List.{IsDistinct};
 ghost use Rattle.names.specs.Name.{is_same};
 
 use super::acts::{Act, Told, answer_to};
-use super::gates::{Doorway, Way};
+use super::gates::{Doorway, Passage, Way};
 use crate::tests_below::limits_of;
 use crate::{Desk, DeskFault, PARTS, Pass, run_workers};
 use names::Entity;
@@ -150,7 +150,12 @@ fn work<L: Ledger + Send + Sync, R: Threads + Wait + Clock + Sync>(
     way: Way<'_>,
 ) -> Result<u64, DeskFault> {
     let gate = Doorway { rt, desk, way };
-    let worked = run_workers(rt, desk, workers.clamp(1, 64), &gate);
+    let worked = match way {
+        Way::MeetFirst(_) | Way::CountAlone(_) => {
+            run_workers(rt, desk, workers.clamp(1, 64), &Passage(gate))
+        }
+        _ => run_workers(rt, desk, workers.clamp(1, 64), &gate),
+    };
     desk.stop(rt);
     worked
 }

@@ -1,10 +1,12 @@
-//! Faults, lists, the laws, jobs, whole runs of events, a linked role, public reading, and halls compared with the plain program.
+//! Faults, lists, the laws, jobs, whole runs of events, one of 1,001 too, a linked role, public reading, and halls compared with
+//! the plain program.
 mod acts;
 mod deeds;
 mod explained;
 mod jobs;
 mod letters;
 mod linked_roles;
+mod long_runs;
 mod public_reading;
 mod runs;
 mod worlds;

@@ -490,3 +490,34 @@ fn a_held_version_stays(rt: HostRuntime) -> Result<(), CredFault> {
     assert!(rt; stays_from_its_first_row(rt.alloc(), &mut book)?);
     Ok(())
 }
+
+/// The longest text of a credential: its head and eight linked roles, of names of 64 bytes each.
+fn longest(alloc: Global) -> Result<Vec<u8>, CredFault> {
+    let mut text = Vec::new(alloc);
+    for place in 0..26u64 {
+        let before: &[u8] = match place {
+            0 => b"",
+            2 => b" <- ",
+            _ if place % 3 == 2 => b" & ",
+            _ => b".",
+        };
+        text.extend_from_slice(before)?;
+        text.extend_from_slice(&[b'A'; 64])?;
+    }
+    Ok(text)
+}
+
+/// Whether the credential of this text is entered, and read back.
+fn is_kept(alloc: Global, book: &mut Book, text: &[u8]) -> Result<bool, CredFault> {
+    let owner = [b'A'; 64];
+    let is_entered = answers(alloc, book, Entity::read(&owner)?, &Put(text), 1)?;
+    Ok(is_entered && reads_back(alloc, book, &[(&owner, Put(text))])?)
+}
+
+#[test]
+fn the_longest_credential_is_read_back(rt: HostRuntime) -> Result<(), CredFault> {
+    let mut book = Book::new(rt.alloc());
+    let text = longest(rt.alloc())?;
+    assert!(rt; text.len() == 1_706 && is_kept(rt.alloc(), &mut book, &text)?);
+    Ok(())
+}

@@ -1,5 +1,7 @@
 use super::*;
+use crossbeam_channel::{Receiver, bounded};
 use std::cell::Cell;
+use std::io;
 use std::net::SocketAddr;
 
 /// Fails by these numbers of the system, one after the other, and then gives connections, which are counted.

@@ -15,6 +15,13 @@ returns-in_err-count-clause-memory_last c =
     let memory : first_part_fault c.args.owner.now (part_texts c.args.body.now) ≡ Some faults.Memory = cc (p.1, p.2, e, fault) in
     absurd (no_part_memory c.args.owner.now (part_texts c.args.body.now) memory)
 
+pub returns-in_err-count-clause-growth : goal.returns-in_err-count-clause-growth
+returns-in_err-count-clause-growth c =
+    let p = err_from_is_err_and c.from_residual.result c.from_residual.ensures.1 in
+    λ e.
+    let fault : first_part_fault c.args.owner.now (part_texts c.args.body.now) ≡ Some c.in_err-count.field-0.0 = c.in_err-count.ensures.refused in
+    absurd (no_part_memory c.args.owner.now (part_texts c.args.body.now) (cc (p.1, p.2, e, fault)))
+
 pub expr_of-requires-clause-some : goal.expr_of-requires-clause-some
 expr_of-requires-clause-some c = some_read c.args.owner.now c.args.body.now _ c.in_ok-count.ensures.parts
 

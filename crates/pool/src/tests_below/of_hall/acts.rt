@@ -5,7 +5,7 @@ use hall::{Answer, Event, Fault, Hall, Proof, Query, Reply, Request, Step, Stepp
 use names::{Entity, Role};
 use search::{Hint, Need};
 use std::alloc::Global;
-use vaults::{Change, Seen};
+use vaults::{Change, Row as Held, Seen};
 
 /// What a tenant asks of a hall, or what is done for its search; a step names the number of the search first.
 pub(super) enum Act {
@@ -140,9 +140,9 @@ fn is_spelled(alloc: Global, credential: &Credential, text: &[u8]) -> Result<boo
 }
 
 /// Whether these are the credentials that the texts spell, in this order.
-fn are_spelled(alloc: Global, rows: &[Credential], wanted: &[&str]) -> Result<bool, CredFault> {
+fn are_spelled(alloc: Global, rows: &[Held], wanted: &[&str]) -> Result<bool, CredFault> {
     for (row, text) in rows.iter().zip(wanted) {
-        if !is_spelled(alloc, row, text.as_bytes())? {
+        if !is_spelled(alloc, row.credential(), text.as_bytes())? {
             return Ok(false);
         }
     }

@@ -1,7 +1,7 @@
 //! What is done with a hall and found of it, as a table writes it: events, and calls that no event stands for.
 use super::acts::{Row, Told, came_to, run};
 use super::{entity, four_tenants};
-use hall::{Answer, Batch, Fault, Hall, Step, Stepped, told_of};
+use hall::{Answer, Batch, Ends, Fault, Hall, Next, Order, Step, Stepped, told_of};
 use names::Entity;
 use quotas::Limits;
 use search::{Hint, Search};
@@ -87,15 +87,43 @@ fn others_are_wrong(hall: &mut Hall, a: Entity) -> bool {
     are
 }
 
-/// Whether a visit of one step takes the letter of this number of A's first search, which is then given back.
-fn visits(alloc: Global, hall: &mut Hall, a: Entity, letter: u64) -> Result<bool, Fault> {
+/// Gives back what the batch holds, if it is looked up, and tells whether no step was made then, and no letter finished.
+fn gives_back(hall: &mut Hall, batch: &mut Batch) -> bool {
+    if batch.next().is_some() {
+        return false;
+    }
+    let mut ends = Ends::none();
+    let given = hall.work(0, Order::GiveBack, 0, batch, &mut ends);
+    let none_ends = ends.is_empty();
+    tell(ends);
+    matches!(given.next, Next::Unasked) && given.finished == 0 && none_ends
+}
+
+/// Tells nobody of these searches.
+fn tell(mut ends: Ends) {
+    while let Some((_who, _number)) = ends.take() {}
+    ends.destroy_empty();
+}
+
+/// Whether a visit of one step takes the letter of this number of A's first search, which another one gives back.
+fn visits(alloc: Global, hall: &mut Hall, letter: u64) -> Result<bool, Fault> {
     let mut batch = Batch::make(alloc, 1)?;
-    let told = hall.visit(a, 1, 1, &mut batch);
+    let mut ends = Ends::none();
+    let taken = hall.work(0, Order::TakeTurn, 1, &mut batch, &mut ends);
+    let none_ends = ends.is_empty();
+    tell(ends);
     let number = batch.next();
+    if number.is_some() {
+        batch.look_up();
+    }
+    let is_back = gives_back(hall, &mut batch);
     batch.let_go();
     batch.destroy_empty();
-    told?;
-    Ok(number == Some(letter) && matches!(hall.step(Step::GiveBack(a, 1, letter)), Stepped::Back))
+    match taken.next {
+        Next::NoMemory => Err(Fault::Memory),
+        Next::Worked { left } => Ok(is_back && !left && none_ends && number == Some(letter)),
+        Next::Idle | Next::Unasked => Ok(false),
+    }
 }
 
 /// Whether the turn picks the letter of this search that waits first.
@@ -147,7 +175,7 @@ fn goes(alloc: Global, hall: &mut Hall, a: Entity, deed: &Deed) -> Result<bool, 
         Deed::Jobs => moves_jobs(hall, a),
         Deed::Unseen => Ok(hall.search(a, 1).is_none()),
         Deed::OneHint => Ok(others_are_wrong(hall, a)),
-        Deed::Visit(letter) => visits(alloc, hall, a, *letter),
+        Deed::Visit(letter) => visits(alloc, hall, *letter),
         Deed::Unshared(who) => is_unshared(hall, who),
         Deed::Shared => is_shared(hall, a),
         Deed::Journal(length) => Ok(hall.journal_len() == *length),

@@ -13,4 +13,4 @@ returns c =
     subst (λ (es : List HeldLetter). slice_get es c.self.inside.looked ≡ Some c.in_ok-held_letter.held_letter.now) c.deref.ensures.value
     (slice_get_read c.deref.result.now _ c.self.inside.looked c.in_ok-held_letter.held_letter.now refl found.3.0 found.1) in
     subst (λ (b : BatchState). IsNextLetter b c.in_ok-held_letter.held_letter.now.letter) c.self.view_is
-    (next_letter c.self.inside.of c.self.inside.held_letters.items c.self.inside.looked (vec_capacity c.self.inside.held_letters) c.in_ok-held_letter.held_letter.now at c.self.invariant)
+    (next_letter c.self.inside.of c.self.inside.held_letters.items c.self.inside.looked (vec_capacity c.self.inside.held_letters) c.in_ok-held_letter.held_letter.now at)

@@ -1,10 +1,10 @@
-use Rattle.std.proofs.Common.{◌≡◌, ◌∙◌, Option, Some, None, Result, Ok, Err, IfOk, IfErr, ap, sym}
+use Rattle.std.proofs.Common.{◌≡◌, Option, Some, None, Result, Ok, Err, IfOk, IfErr, ap, sym}
 use Rattle.std.specs.Prelude.{is_ok, is_some}
 use Rattle.std.specs.Borrow.{Bor}
 use Rattle.std.specs.FinMap.{get}
 use Rattle.hall.specs.declared.faults.Fault.{Fault}
 use Rattle.hall.specs.declared.faults.Fault.TheVariants.{NoTenant}
-use Rattle.hall.specs.Hall.{Tenant, HallState}
+use Rattle.hall.specs.Hall.{Tenant}
 use Rattle.hall.proofs.registry.Hall.has.Goals as goal
 
 -- a seat is found where the name is a tenant's
@@ -15,6 +15,5 @@ found (Err f) o here nobody = ap is_some (sym nobody.1)
 
 pub returns : goal.returns
 returns c =
-    c.is_ok.ensures.value
-    ∙ found c.seat.result (get c.self.inside.tenants c.args.who) c.seat.ensures.here c.seat.ensures.nobody
-    ∙ ap (λ (h : HallState). is_some (get h.tenants c.args.who)) c.self.view_is
+    rw (c.is_ok.ensures.value, ← c.self.view_is)
+    (found c.seat.result (get c.self.inside.tenants c.args.who) c.seat.ensures.here c.seat.ensures.nobody)

@@ -2,7 +2,7 @@ use Rattle.std.proofs.Common.{refl, subst}
 use Rattle.std.specs.List.{AllByRecursion}
 use Rattle.std.proofs.lemmas.Iterator.Consumers.{YieldsList-from_rest}
 use Rattle.std.proofs.lemmas.List.Elements.{All-push}
-use Rattle.hall.specs.Visits.{SearchIsQuiet}
+use Rattle.hall.specs.Work.{SearchIsQuiet}
 use Rattle.hall.specs.Kept.{IsIndexed}
 use Rattle.hall.proofs.Picked.{nothing_left, picked_some}
 use Rattle.hall.proofs.Rounds.{whole_round}

@@ -1,6 +1,6 @@
 use Rattle.std.proofs.Common.{All}
 use Rattle.std.specs.List.{AllByRecursion}
-use Rattle.hall.specs.Visits.{SearchIsQuiet}
+use Rattle.hall.specs.Work.{SearchIsQuiet}
 use Rattle.hall.proofs.registry.Hall.pick.Given as goal
 
 -- the searches of the tenants so far are quiet

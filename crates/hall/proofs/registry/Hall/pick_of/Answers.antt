@@ -1,10 +1,9 @@
 use Rattle.std.proofs.lemmas.Iterator.{YieldsList-from_slice}
 use Rattle.std.proofs.lemmas.List.Elements.{All-push}
-use Rattle.hall.specs.Visits.{SearchIsQuiet}
-use Rattle.hall.proofs.Picked.{IsNextOf, none_still, one_still, next_there, picked_progress, picked_left}
+use Rattle.hall.specs.Work.{SearchIsQuiet}
+use Rattle.hall.proofs.Picked.{none_still, one_still, picked}
 use Rattle.hall.proofs.Rounds.{whole_round}
 use Rattle.hall.proofs.registry.Hall.pick_of.Goals as goal
-use Rattle.hall.proofs.registry.Hall.pick_of.Goals.{In-Some-next_step}
 
 pub loop-number-preserved-in_default : goal.loop-number-preserved-in_default
 loop-number-preserved-in_default c =
@@ -16,14 +15,10 @@ loop-number-preserved c =
     All-push (λ k. SearchIsQuiet c.args.self.now c.args.who k.now) c.loop-number.yielded c.in-Some.field-0 c.loop-number.invariant
     (one_still c.args.self.now c.args.who c.in-Some.field-0.now c.in-Some-search.search.now c.in-Some-search.ensures c.in_default-next_step.ensures)
 
--- the search that goes on
-next : (c : In-Some-next_step) → IsNextOf c.args.self.now c.args.who c.in-Some-next_step.step
-next c =
-    next_there c.args.self.now c.args.who c.in-Some.field-0.now c.in-Some-search.search.now c.in-Some-next_step.step c.in-Some-search.ensures c.in-Some-next_step.ensures
-
 pub returns-in-Some-next_step : goal.returns-in-Some-next_step
 returns-in-Some-next_step c =
-    (picked_progress c.args.self.now c.args.who c.in-Some-next_step.step (next c), picked_left c.args.self.now c.args.who c.in-Some-next_step.step (next c))
+    picked c.args.self.now c.args.who c.in-Some.field-0.now c.in-Some-search.search.now c.in-Some-next_step.step
+    c.in-Some-search.ensures c.in-Some-next_step.ensures
 
 pub returns : goal.returns
 returns c =

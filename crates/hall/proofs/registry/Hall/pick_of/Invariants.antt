@@ -1,5 +1,5 @@
 use Rattle.std.proofs.Common.{All}
-use Rattle.hall.specs.Visits.{SearchIsQuiet}
+use Rattle.hall.specs.Work.{SearchIsQuiet}
 use Rattle.hall.proofs.registry.Hall.pick_of.Given as goal
 
 -- the searches so far are quiet

@@ -10,12 +10,12 @@ use Rattle.hall.proofs.Viewed.{vault_told, vault_lacks}
 use Rattle.hall.proofs.registry.Hall.vault.Goals as goal
 
 -- the book is the same as before, and so is the hall
-pub returns-in_err-rows : goal.returns-in_err-rows
-returns-in_err-rows c =
+pub returns-in_err-version : goal.returns-in_err-version
+returns-in_err-version c =
     let h : HallState = hall_of c.self.inside.book c.self.inside.tenants in
-    let p = err_from_is_err_and c.from_residual-in_err-rows.result c.from_residual-in_err-rows.ensures.1 in
-    rw (p.1, p.2, c.in_err-rows.ensures.only_memory, ← c.self.view_is) record {
-      served = subst (λ (j : List Entry). IsServed h c.args.who Vault (reply.Refused Memory) (hall_of j c.self.inside.tenants)) (sym c.copy_of_vault.ensures.same)
+    let p = err_from_is_err_and c.from_residual-in_err-version.result c.from_residual-in_err-version.ensures.1 in
+    rw (p.1, p.2, c.in_err-version.ensures.only_memory, ← c.self.view_is) record {
+      served = subst (λ (j : List Entry). IsServed h c.args.who Vault (reply.Refused Memory) (hall_of j c.self.inside.tenants)) (sym c.version_of.ensures.same)
           (vault_lacks h c.args.who c.in_ok-_seat._seat.now c.in_ok-_seat.ensures.here);
     }
 
@@ -23,6 +23,6 @@ pub returns : goal.returns
 returns c =
     let h : HallState = hall_of c.self.inside.book c.self.inside.tenants in
     rw (← c.self.view_is) record {
-      served = subst (λ (j : List Entry). IsServed h c.args.who Vault (reply.Vault c.new.result) (hall_of j c.self.inside.tenants)) (sym c.copy_of_vault.ensures.same)
-          (vault_told h c.args.who c.in_ok-_seat._seat.now c.in_ok-_seat.ensures.here c.new.result (c.new.ensures ∙ c.in_ok-rows.ensures.rows));
+      served = subst (λ (j : List Entry). IsServed h c.args.who Vault (reply.Vault c.new.result) (hall_of j c.self.inside.tenants)) (sym c.version_of.ensures.same)
+          (vault_told h c.args.who c.in_ok-_seat._seat.now c.in_ok-_seat.ensures.here c.new.result (c.new.ensures ∙ c.in_ok-version.ensures.rows));
     }

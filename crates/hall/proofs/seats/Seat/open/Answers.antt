@@ -2,7 +2,7 @@ use Rattle.std.proofs.Common.{rules, ◌≡◌, ◌∙◌, ◌==◌, ◌+◌, �
 use Rattle.std.proofs.lemmas.Result.{err_from_is_err_and}
 use Rattle.std.specs.Cmp.{unsigned_tied}
 use Rattle.std.specs.FinMap.{insert, from_entries}
-use Rattle.hall.specs.Account.{seek_refusal}
+use Rattle.hall.specs.Answers.{seek_refusal}
 use Rattle.hall.specs.Hall.{Tenant, account, beginning}
 use Rattle.hall.proofs.Maps.{numbers_exact}
 use Rattle.hall.proofs.Indexed.{inserted}

@@ -10,7 +10,7 @@ returns-in-Some g c =
     (subst (λ (s : SearchState). IsReadAs s c.args.request c.read_off.result) c.deref.ensures c.read_off.ensures)
 
 pub returns-in-Ok : goal.returns-in-Ok
-returns-in-Ok g c = served_later _ _ c.args.pass.now _ _ c.args.request (Ok c.in-Ok.reply) (c.lent.ensures.pass c.in_default.is) c.in-Ok.ensures.answered
+returns-in-Ok g c = served_later _ _ c.args.pass.now _ _ c.args.request (Ok c.in-Ok.served.reply) (c.lent.ensures.pass c.in_default.is) c.in-Ok.ensures.answered
 
 pub returns-in-Err : goal.returns-in-Err
 returns-in-Err g c = served_later _ _ c.args.pass.now _ _ c.args.request (Err c.in-Err.fault) (c.lent.ensures.pass c.in_default.is) c.in-Err.ensures.answered

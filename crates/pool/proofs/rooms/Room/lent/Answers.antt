@@ -3,7 +3,7 @@ use Rattle.search.specs.Search.{SearchState}
 use Rattle.hall.specs.declared.calls.requests.Request.{Request}
 use Rattle.hall.specs.declared.calls.requests.Request.TheVariants.{Poll, Proof}
 use Rattle.hall.specs.Hall.{HallState}
-use Rattle.hall.specs.Visits.{IsCompletedAt}
+use Rattle.hall.specs.Work.{IsCompletedAt}
 use Rattle.pool.specs.Rooms.{RoomState, IsKept}
 use Rattle.pool.specs.Passes.{IsSeenAt}
 use Rattle.pool.specs.Served.{Reads}

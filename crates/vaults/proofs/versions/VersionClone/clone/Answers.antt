@@ -9,8 +9,8 @@ use Rattle.vaults.proofs.versions.VersionClone.clone.Goals as goal
 pub loop-row-preserved : goal.loop-row-preserved
 loop-row-preserved c = record {
   copied = c.push_reserved.ensures.items
-      ∙ ap (λ (l : List Credential). l ++ c.in_ok-of.field-0 ∷ []) c.loop-row.invariant.copied
-      ∙ ap (λ (x : Credential). take c.loop-row.row-index c.deref-row-items.result.now ++ x ∷ []) (c.in_ok-of.ensures ∙ c.credential.ensures ∙ c.row-item.is)
+      ∙ ap (λ (l : List Credential). l ++ c.in_ok-again.field-0 ∷ []) c.loop-row.invariant.copied
+      ∙ ap (λ (x : Credential). take c.loop-row.row-index c.deref-row-items.result.now ++ x ∷ []) (c.in_ok-again.ensures ∙ c.row-item.is)
       ∙ sym (take_at_read c.deref-row-items.result.now c.loop-row.row-index c.row-item.result c.loop-row-test.true).1;
   room = omega (arith, c.loop-row.invariant.room, c.push_reserved.ensures.capacity);
 }

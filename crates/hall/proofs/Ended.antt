@@ -1,0 +1,134 @@
+-- Which searches come to their ends from one hall to another, and of which it is told.
+use Rattle.std.proofs.Common.{◌≡◌, ◌∙◌, ◌⊎◌, ◌∷◌, ◌++◌, ℕ, List, [], ap, sym, subst, refl, inl, inr, Option, Some, None}
+use Rattle.std.specs.Prelude.{IsSomeAnd, Contains}
+use Rattle.std.proofs.lemmas.List.{append-nil, append_assoc}
+use Rattle.std.proofs.lemmas.List.Elements.{Contains-append_left, Contains-append_right, Contains-append_cases}
+use Rattle.rt0_rules.proofs.Elements.{Contains-none, Contains-first, Contains-cons_cases}
+use Rattle.hall.specs.declared.picking.Standing.{Standing}
+use Rattle.hall.specs.declared.picking.Standing.TheVariants.{Moves, Rests, Over}
+use Rattle.hall.specs.Hall.{HallState, Running, search_of, search_at, with_search}
+use Rattle.hall.specs.Kept.{IsUnsettled, Stands}
+use Rattle.hall.specs.Work.{StillWorks, TellsEnds}
+use Rattle.hall.specs.Working.{TellsMore}
+use Rattle.hall.proofs.Placed.{found_after, put_back, put_twice}
+use Rattle.hall.proofs.laws.HallChanges.{replaced_each, tenant_of}
+
+abbrev Name : Type 0
+Name = List ℕ × ℕ
+
+-- a search works where it is there and has come to nothing yet
+at_work : (h : HallState) (name : Name) (r : Running) → search_at h name.0 name.1 ≡ Some r → IsUnsettled r.search → StillWorks h name
+at_work h name r at unsettled = subst (λ (o : Option Running). IsSomeAnd o (λ x. IsUnsettled x.search)) (sym at) unsettled
+
+who_works : (h : HallState) (name : Name) → StillWorks h name → (r : Running) × (search_at h name.0 name.1 ≡ Some r) × IsUnsettled r.search
+who_works h name = by (search_at h name.0 name.1) refl
+  where
+    by : (o : Option Running) → search_at h name.0 name.1 ≡ o → IsSomeAnd o (λ x. IsUnsettled x.search) →
+        (r : Running) × (search_at h name.0 name.1 ≡ Some r) × IsUnsettled r.search
+    by None none works = absurd works
+    by (Some r) at unsettled = (r, at, unsettled)
+
+-- none that isn't there does
+pub none_works : (h : HallState) (name : Name) → search_at h name.0 name.1 ≡ None → StillWorks h name → ⊥
+none_works h name none works = subst (λ (o : Option Running). IsSomeAnd o (λ x. IsUnsettled x.search)) none works
+
+-- where one search goes on, what holds of it and of those before holds of each
+each_after : (P : Name → Running → Type 0) (h : HallState) (who : List ℕ) (k : ℕ) (r s : Running) → search_at h who k ≡ Some r → P (who, k) s →
+    ((name : Name) (q : Running) → search_at h name.0 name.1 ≡ Some q → P name q) →
+    (name : Name) (q : Running) → search_at (with_search h who k s) name.0 name.1 ≡ Some q → P name q
+each_after P h who k r s at this each name q found =
+    let (t, here, there) = tenant_of (with_search h who k s) name.0 name.1 q found in
+    replaced_each (λ n t j x. P (n, j) x) h who k r s (λ t m j x holds. holds) at (λ t holds. this)
+    (λ n u j x known is. each (n, j) x (ap (search_of j) known ∙ is)) name.0 t name.1 q here there
+
+-- it is told where the search is over
+abbrev pub told_of : Standing → Name → List Name
+told_of Over name = name ∷ []
+told_of Moves name = []
+told_of Rests name = []
+
+pub told_none : (standing : Standing) (name : Name) → (standing ≡ Over → ⊥) → told_of standing name ≡ []
+told_none Over name isnt = absurd (isnt refl)
+told_none Moves name isnt = refl
+told_none Rests name isnt = refl
+
+-- nothing happened
+nothing_ends : (h : HallState) → TellsEnds h h []
+nothing_ends h = record { each = λ name works. inl works; over = λ name told. absurd (Contains-none name told); none_again = λ name works. works }
+
+module _ (h : HallState) (who : List ℕ) (k : ℕ) (r : Running) (at : search_at h who k ≡ Some r) (s : Running) (before : IsUnsettled s.search → IsUnsettled r.search)
+    (standing : Standing) (stands : Stands s.search standing) where
+  abbrev after : HallState
+  after = with_search h who k s
+
+  abbrev told : List Name
+  told = told_of standing (who, k)
+
+  found : search_at after who k ≡ Some s
+  found = found_after h who k r at s
+
+  -- one search goes on, and is told of where it is over
+  ends_there : TellsEnds h after told
+  ends_there = record {
+    each = λ name works.
+        let (q, is, unsettled) = who_works h name works in
+        each_after (λ n x. IsUnsettled x.search → StillWorks after n ⊎ Contains told n) after who k s r found (λ u. this standing stands refl)
+        (λ n x is u. inl (at_work after n x is u)) name q (subst (λ (g : HallState). search_at g name.0 name.1 ≡ Some q) (sym back) is) unsettled;
+    over = λ name tells. over_by standing stands refl name tells;
+    none_again = λ name works.
+        let (q, is, unsettled) = who_works after name works in
+        each_after (λ n x. IsUnsettled x.search → StillWorks h n) h who k r s at (λ u. at_work h (who, k) r at (before u)) (λ n x is u. at_work h n x is u) name q is unsettled;
+  }
+    where
+      back : with_search after who k r ≡ h
+      back = put_twice h who k r at s r ∙ put_back h who k r at
+
+      this : (so : Standing) → Stands s.search so → standing ≡ so → StillWorks after (who, k) ⊎ Contains told (who, k)
+      this Over over is = inr (subst (λ (x : Standing). Contains (told_of x (who, k)) (who, k)) (sym is) (Contains-first (who, k) []))
+      this Moves (unsettled, busy) is = inl (at_work after (who, k) s found unsettled)
+      this Rests (unsettled, quiet) is = inl (at_work after (who, k) s found unsettled)
+
+      over_by : (so : Standing) → Stands s.search so → standing ≡ so → (name : Name) → Contains told name → StillWorks after name → ⊥
+      over_by Over over is name tells works =
+          let same : (who, k) ≡ name = elim (Contains-cons_cases (who, k) [] name (subst (λ (x : Standing). Contains (told_of x (who, k)) name) is tells)) [
+            | inl one ↦ one
+            | inr none ↦ absurd (Contains-none name none)
+          ] in
+          let (q, there, unsettled) = who_works after (who, k) (subst (StillWorks after) (sym same) works) in
+          let both : Some s ≡ Some q = sym found ∙ there in
+          let one : s ≡ q = cc in
+          over (subst (λ (x : Running). IsUnsettled x.search) (sym one) unsettled)
+      over_by Moves stands is name tells works = Contains-none name (subst (λ (x : Standing). Contains (told_of x (who, k)) name) is tells)
+      over_by Rests stands is name tells works = Contains-none name (subst (λ (x : Standing). Contains (told_of x (who, k)) name) is tells)
+
+-- one after another
+ends_both : (a b c : HallState) (x y : List Name) → TellsEnds a b x → TellsEnds b c y → TellsEnds a c (x ++ y)
+ends_both a b c x y first second = record {
+  each = λ name works. elim (first.each name works) [
+    | inl on ↦ elim (second.each name on) [ inl still ↦ inl still | inr told ↦ inr (Contains-append_right x y name told) ]
+    | inr told ↦ inr (Contains-append_left x y name told)
+  ];
+  over = λ name told works. elim (Contains-append_cases x y name told) [
+    | inl early ↦ first.over name early (second.none_again name works)
+    | inr late ↦ second.over name late works
+  ];
+  none_again = λ name works. first.none_again name (second.none_again name works);
+}
+
+-- the same behind what was told before
+pub tells_none : (old new : HallState) (before later : List Name) → new ≡ old → later ≡ before → TellsMore old new before later
+tells_none old new before later same none =
+    ([], none ∙ sym (append-nil before), subst (λ (h : HallState). TellsEnds old h []) (sym same) (nothing_ends old))
+
+pub tells_both : (a b c : HallState) (x y z : List Name) → TellsMore a b x y → TellsMore b c y z → TellsMore a c x z
+tells_both a b c x y z (told, is, ends) (more, then, late) =
+    (told ++ more, then ∙ ap (λ (l : List Name). l ++ more) is ∙ append_assoc x told more, ends_both a b c told more ends late)
+
+pub tells_there : (old new : HallState) (who : List ℕ) (k : ℕ) (r : Running) → search_at old who k ≡ Some r → (s : Running) → (IsUnsettled s.search → IsUnsettled r.search) →
+    (standing : Standing) → Stands s.search standing → new ≡ with_search old who k s → (before later : List Name) → later ≡ before ++ told_of standing (who, k) →
+    TellsMore old new before later
+tells_there old new who k r at s before standing stands is before_told later more =
+    (told_of standing (who, k), more, subst (λ (h : HallState). TellsEnds old h (told_of standing (who, k))) (sym is) (ends_there old who k r at s before standing stands))
+
+pub tells_all : (old new : HallState) (before later : List Name) → before ≡ [] → TellsMore old new before later → TellsEnds old new later
+tells_all old new before later none (told, is, ends) = subst (TellsEnds old new) (sym (is ∙ ap (λ (l : List Name). l ++ told) none)) ends

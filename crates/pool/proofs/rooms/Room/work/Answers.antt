@@ -1,0 +1,31 @@
+use Rattle.std.proofs.Common.{◌≡◌, ◌∙◌, Bool, ap, cond, length, sym, subst}
+use Rattle.hall.specs.declared.visits.{Order.Order, Order.TheVariants.GiveBack}
+use Rattle.hall.specs.Work.{IsVisit, TellsEnds}
+use Rattle.pool.specs.Rooms.{RoomState}
+use Rattle.pool.specs.Workers.{order_in}
+use Rattle.pool.specs.declared.visits.TheConstants.{BATCH}
+use Rattle.pool.proofs.Visiting.{visit_journal}
+use Rattle.pool.proofs.rooms.Room.work.Goals as goal
+use Rattle.pool.proofs.rooms.Room.work.Goals.{then-self, else-self}
+
+pub invariant_of-self : goal.invariant_of-self
+invariant_of-self g c = (
+  c.self.invariant.0 ∙ ap length (sym (visit_journal c.if-self.order BATCH c.self.inside.hall c.args.batch.now c.work.result c.work.new.self c.work.new.batch c.work.ensures.visit)),
+  c.self.invariant.1,
+  c.self.invariant.2,
+  c.self.invariant.3,
+  c.self.invariant.4,
+)
+
+pub returns : goal.returns
+returns g c =
+    let ordered : c.if-self.order ≡ cond c.self.inside.stopped GiveBack c.args.order = elim c.if-self.branch [
+      | then-self w ↦ w.order-is ∙ ap (λ (b : Bool). cond b GiveBack c.args.order) (sym w.if-self.true)
+      | else-self w ↦ w.order-is ∙ ap (λ (b : Bool). cond b GiveBack c.args.order) (sym w.if-self.false)
+    ] in record {
+      visit = subst (λ (order : Order). IsVisit order BATCH c.args.self.now.hall c.args.batch.now c.work.result c.work.new.self c.work.new.batch)
+          (ordered ∙ ap (λ (r : RoomState). order_in r c.args.order) c.self.view_is)
+          (subst (λ (r : RoomState). IsVisit c.if-self.order BATCH r.hall c.args.batch.now c.work.result c.work.new.self c.work.new.batch) c.self.view_is c.work.ensures.visit);
+      ends = subst (λ (r : RoomState). TellsEnds r.hall c.work.new.self c.work.new.ends) c.self.view_is c.work.ensures.ends;
+      room = ap (λ (r : RoomState). record r { hall = c.work.new.self }) c.self.view_is;
+    }

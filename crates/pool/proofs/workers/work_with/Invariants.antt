@@ -1,0 +1,10 @@
+use Rattle.std.specs.Prelude.{◌≡◌, ◌≤◌, []}
+use Rattle.pool.specs.declared.visits.TheConstants.{BATCH}
+use Rattle.pool.proofs.workers.work_with.Given as goal
+
+abbrev pub invariant-work : goal.invariant-work
+invariant-work g l =
+    (goal.iterator-work g).can_next l.iterator' × (goal.iterator-work g).is_finite l.iterator' × (l.batch.looked ≡ 0) × (BATCH ≤ l.batch.room) × (l.ends ≡ [])
+
+abbrev pub invariant-loop-visit : goal.invariant-loop-visit
+invariant-loop-visit g l = (l.batch.looked ≡ 0) × (BATCH ≤ l.batch.room) × (l.ends ≡ [])

@@ -1,0 +1,77 @@
+//! A desk goes on where its passes are asked back too soon.
+ghost use Rattle.std.specs.Prelude.{◌≡◌};
+
+use super::acts::{Act, Told, answer_to};
+use crate::{Desk, DeskFault, NoGate, PARTS, Pass, run_workers};
+use names::Entity;
+use quotas::Limits;
+use std::alloc::Global;
+use std::marker::Brand;
+use std::rt::Clock;
+use std::sync::Wait;
+use std::sync::ledger::{Blank, Ledger};
+use std::thread;
+use std::thread::Threads;
+
+/// Whether a search that is open is carried to its end, beside one worker.
+fn is_carried_on<L: Ledger + Send + Sync, R: Threads + Wait + Clock + Sync>(
+    rt: &R,
+    alloc: Global,
+    desk: &Desk<L>,
+    pass: &mut Pass<L>,
+) -> bool {
+    thread::scope(thread::scope_env(), rt, |scope| -> bool {
+        let Ok(all) = scope.spawn(move || run_workers(rt, desk, 1, &NoGate)) else {
+            return false;
+        };
+        let told = answer_to(rt, alloc, desk, pass, Act::Wait(1));
+        desk.stop(rt);
+        all.join(rt).is_ok() && told == Told::Yes
+    })
+}
+
+/// Whether a pass comes back that is gathered while another is out, and the search of that one goes on.
+fn goes_on<L: Ledger + Send + Sync, R: Threads + Wait + Clock + Sync>(
+    rt: &R,
+    alloc: Global,
+    desk: &Desk<L>,
+    a: Entity,
+) -> bool {
+    let (Ok(mut pass), Ok(other)) = (desk.pass(rt, a), desk.pass(rt, a)) else {
+        return false;
+    };
+    let is_put = answer_to(rt, alloc, desk, &mut pass, Act::Put("A.r <- D")) == Told::Counted(1);
+    let is_open = answer_to(rt, alloc, desk, &mut pass, Act::Ask("A.r", "D")) == Told::Opened(1, 1);
+    let Ok(gathered) = vec![in alloc; other] else {
+        return false;
+    };
+    let is_refused = matches!(desk.gather(rt, gathered), Err((DeskFault::PassesOut, _)));
+    is_put && is_open && is_refused && is_carried_on(rt, alloc, desk, &mut pass)
+}
+
+/// The same at a desk of one tenant, by this ledger.
+fn at_a_desk<L: Ledger + Send + Sync, R: Threads + Wait + Clock + Sync>(
+    rt: &R,
+    alloc: Global,
+    blank: Blank,
+) -> bool
+    requires name { blank.name ≡ L.name }
+    requires parts { blank.parts ≡ L.parts }
+    requires room { blank.parts ≡ PARTS }
+{
+    let Ok(a) = Entity::read(b"A") else {
+        return false;
+    };
+    let Ok(roster) = vec![in alloc; (a, Limits::usual())] else {
+        return false;
+    };
+    match Desk::<L>::make(alloc, roster, blank) {
+        Ok(desk) => goes_on(rt, alloc, &desk, a),
+        Err(_) => false,
+    }
+}
+
+#[test]
+fn a_desk_goes_on_where_passes_are_out(rt: HostRuntime) {
+    assert!(rt; at_a_desk::<Brand, _>(&rt, rt.alloc(), Blank::new(PARTS)));
+}

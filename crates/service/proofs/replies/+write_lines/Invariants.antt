@@ -1,5 +1,0 @@
-use Rattle.std.proofs.Common.{length}
-use Rattle.service.proofs.replies.+write_lines.Given as goal
-
-abbrev pub decreases-write_lines : goal.decreases-write_lines
-decreases-write_lines l = length l.text.now
