@@ -14,7 +14,10 @@
 - Scripts: a block ```script and the table of lines and replies after it, or a block ```replies, are what the program prints.
 - Pictures: docs/pictures/NAME.svg is what checks/draw_proof makes of examples/NAME.script; peers.svg is of docs/FIGURES.md,
   crates.svg of crates.txt and docs/ARCHITECTURE.md, and search.svg of bench/trace/clinic.trace.
-- README.md has at most 6,000 bytes.
+- Sizes: each page of MOST_BYTES has at most so many. On these no sentence has more than 40 words, a name or a command in
+  backticks being one, and no paragraph or bullet more than 700 characters; tables, blocks and headings aside.
+- Figures: each script of bench/ that docs/FIGURES.md names is there, and each section with a table names what prints it: a script
+  of bench/ or checks/, or ./check.
 
 A block with no such word isn't run. The last line is `N passed, M failed`; each fault is told before it."""
 import itertools
@@ -33,7 +36,17 @@ DRAWINGS = {
     "peers": "bench/peers/draw.py < docs/FIGURES.md",
     "search": "bench/trace/draw.py < bench/trace/clinic.trace",
 }
-README_BYTES = 6000
+MOST_BYTES = {
+    "README.md": 6000,
+    "CONTRIBUTING.md": 10500,
+    "CHANGELOG.md": 4000,
+    "docs/ARCHITECTURE.md": 12500,
+    "docs/DECISIONS.md": 16500,
+    "docs/FIGURES.md": 11000,
+    "docs/PROVED.md": 15500,
+    "docs/TESTING.md": 11500,
+}
+MOST_WORDS, MOST_CHARACTERS = 40, 700
 PATIENCE = 30  # seconds
 NC = 'nc() { exec 3<>"/dev/tcp/$1/$2"; cat >&3; cat <&3; }; '  # in place of the program of that name
 
@@ -230,16 +243,55 @@ def is_answered(script, wanted):
     return compare(wanted, ran.stdout.splitlines())
 
 
+def shape_of(page):
+    """The page's size, and that of its sentences and paragraphs."""
+    if page.name in MOST_BYTES:
+        size, most = page.path.stat().st_size, MOST_BYTES[page.name]
+        yield "size", lambda: None if size <= most else f"{size:,} bytes, and not {most:,} at most"
+        for at, paragraph in enumerate(paragraphs_of(page), 1):
+            yield f"paragraph {at}", lambda paragraph=paragraph: is_short(paragraph)
+
+
+def paragraphs_of(page):
+    """The paragraphs and bullets of a page, each in one line as it is read: a link by its text, code by one word."""
+    rows = re.sub(r"<!--.*?-->|(?<=\n\n)(?:    [^\n]*\n)+", "", page.plain, flags=re.S)
+    rows = re.sub(r"^(?:#|\||!\[).*$", "", rows, flags=re.M)
+    rows = re.sub(r"^ *(?:[-*]|\d+\.) ", "\n", rows, flags=re.M)
+    for paragraph in re.split(r"\n\s*\n", rows):
+        text = " ".join(re.sub(r"!?\[([^\]]*)\]\([^)]*\)", r"\1", paragraph).split())
+        if text:
+            yield text
+
+
+def is_short(paragraph):
+    if len(paragraph) > MOST_CHARACTERS:
+        return f"{len(paragraph)} characters, from {paragraph[:60]!r} on"
+    for sentence in re.split(r"(?<=[.!?])\)?\** +", re.sub(r"`[^`]+`", "code", paragraph)):
+        if len(words := re.findall(r"\S*\w\S*", sentence)) > MOST_WORDS:
+            return f"a sentence of {len(words)} words, from {sentence[:60]!r} on"
+    return None
+
+
+def figures_of(page):
+    """Each script of bench/ that the page of figures names, in a block too, and each of its sections that has a table."""
+    if page.name == "docs/FIGURES.md":
+        for path in sorted(set(re.findall(r"\bbench/[\w./-]*\w", page.text))):
+            yield f"script {path}", lambda path=path: None if (ROOT / path).exists() else "nothing is there"
+        for section in re.split(r"^## ", page.text, flags=re.M)[1:]:
+            if re.search(r"^\|", section, flags=re.M):
+                names_one = re.search(r"\b(?:bench|checks)/\w|\./check\b", section)
+                yield f"section {section.splitlines()[0]}", lambda names_one=names_one: None if names_one else "no script prints its table"
+
+
 def checks_of(page, has_program):
     yield from links_of(page)
     yield from paths_of(page)
     yield from contracts_of(page)
+    yield from shape_of(page)
+    yield from figures_of(page)
     if has_program:
         yield from runs_of(page)
         yield from pictures_of(page)
-    if page.name == "README.md":
-        size = page.path.stat().st_size
-        yield "size", lambda: None if size <= README_BYTES else f"{size} bytes"
 
 
 def is_built():
