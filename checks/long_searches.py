@@ -1,6 +1,7 @@
 #!/usr/bin/env python3
 """Whether the workers of the proved program as a server, `rtsearch serve`, go on with every search to its end. No contract
-speaks of it: workers that all sleep while there are letters to take would meet theirs.
+speaks of it: workers that all sleep while there are letters to take would meet theirs, as where one that goes to stand in line
+wakes nobody.
 
   checks/long_searches.py [ROUNDS]        100 rounds
 
