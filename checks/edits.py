@@ -8,7 +8,7 @@ what stands in other bodies. So the edits of a crate are applied to one copy of 
 once, and one process proves the functions that they turn. Each of these has to be refused by a goal of its own: that
 something which it calls isn't proved is no refusal, nor is a name that a proof lacks. What isn't refused so is tried again
 alone, and so is at once what changes a line outside functions. An edit that turns no function's body, but a definition or a
-type, has a line `# at FUNCTION`, and has to be refused there. `rt ci` and `rt must-fail NAME` try each edit in a process of its
+type, has a line `# at FUNCTION`, and has to be refused there. Its other `#` line is for docs/EDITS.md (checks/index.py). `rt ci` and `rt must-fail NAME` try each edit in a process of its
 own, which loads the crates below each time.
 
 The crates below are taken from FOLDER/crates/NAME/out/rlib, as `rt ci` leaves them while it goes on there and writes what it says

@@ -79,7 +79,7 @@ def functions_of(file):
         elif found := TRAIT.match(line):
             owner, trait = found[1], found[1]
         elif (found := FUNCTION.match(line)) and len(found[1]) == (4 if owner else 0):
-            clauses = [it and f"`{it}`" or "unnamed" for it in re.findall(r"^ *ensures\*? ?(\w*) ?\{", "\n".join(head_of(lines, at)), flags=re.M)]
+            clauses = re.findall(r"^ *ensures\*? ?(\w*) ?\{", "\n".join(head_of(lines, at)), flags=re.M)
             yield owner, trait, bool(found[2]), found[3], clauses, comment_above(lines, at)
 
 
@@ -96,7 +96,7 @@ def contracts_of(folder):
                 module = file.stem if file.stem in modules else ""
                 is_public, shown = is_pub and (names is None or name in names or module), f"{module}::{name}".lstrip(":")
             if is_public:
-                yield f"`{shown}`", ", ".join(clauses) or "nothing", what
+                yield f"`{shown}`", ", ".join(f"`{it}`" if it else "unnamed" for it in clauses) or "nothing", what
 
 
 def edits_of(crate):
@@ -104,10 +104,15 @@ def edits_of(crate):
     for file in sorted((crate.folder / "must-fail").glob("*.edit")):
         said = [line.removeprefix("# ") for line in file.read_text().split("\n") if re.match(r"# (?!at )", line)]
         if len(said) != 1 or ": " not in said[0]:
-            raise BadSource(f"{crate.name}/{file.name}: says its wrong body in {len(said)} lines `# FUNCTION: WHAT IS WRONG`, and not in one")
+            raise BadSource(f"{crate.name}/{file.name}: has {len(said)} lines `# FUNCTION: WHAT IS WRONG`, and not one")
         function, _, what = said[0].partition(": ")
-        turned = [f"`{it}`" for it in sorted(edits.read_edit(crate.folder, file).functions)]
-        yield function, what, ", ".join(it for it in turned if it not in function and not it.endswith(f"::{function[1:]}")), f"`{file.stem}`"
+        turned = sorted(edits.read_edit(crate.folder, file).functions)
+        yield function, what, ", ".join(f"`{it}`" for it in turned if not is_named(it, function)), f"`{file.stem}`"
+
+
+def is_named(turned, function):
+    """Whether the function that is turned is the one whose meaning is, which is named without the modules that it stands in."""
+    return f"`{turned}`" in function or f"::{turned}`".endswith(f"::{function[1:]}")
 
 
 def table(heads, rows):
