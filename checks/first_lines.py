@@ -11,7 +11,7 @@
 - A service on a port that is taken ends with status 1, and says nothing but what its roster is due.
 - Its listener is at 127.0.0.1, and at no other address of this machine.
 
-Bodies that meet every contract and are refused here: the members that a session waits for come backwards; the service listens
+Wrong bodies that are refused here: the members that a session waits for come backwards; the service listens
 at all addresses.
 
 It prints a line for each, and last `N passed, M failed`; the status is 1 where one failed. It is part of ./check."""

@@ -10,7 +10,7 @@ With a NAME behind the script, a refusal that falls into that tenant's line has 
 as they are with ample memory. Without a script: three tenants of whom C must not touch the others, and long replies twice
 each. A script that makes more than 400 allocations has that many of them refused, at equal distances; with --whole all.
 
-A body that meets every contract and is refused here: after a long reply for which memory lacked no long reply has any.
+A wrong body that is refused here: after a long reply for which memory lacked no long reply has any.
 
 What lines are answered is taken from tenants.py and rt0.py, a second, plain reading of the protocol. Prints for each
 script how many allocations the program makes and how its runs ended; the last line is `N passed, M failed`, a script

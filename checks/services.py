@@ -11,7 +11,7 @@
 - Two sessions wait for each of six searches beside one worker: all twelve are answered where these are ended, and where they come
   to their ends.
 
-Bodies that meet every contract and are refused here: the desk has the usual limits, whatever the roster says; a session thread
+Wrong bodies that are refused here: the desk has the usual limits, whatever the roster says; a session thread
 ends after 1,000 connections; `--idle` is 60 seconds at most; each worker begins at one search in each of its turns; the end of
 a search wakes one of those who wait for it, or nobody.
 

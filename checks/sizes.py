@@ -10,7 +10,7 @@ another tenant with `sees` between, a private vault of 501 behind a question, se
 another tenant's, names of 63 and 64 bytes. Then sessions: a role of 1,001 rows by workers, 110,000 lines. And an opening
 over 1,000 rows makes as many allocations as one over one row, of as many bytes, for which a C compiler is needed.
 
-Bodies that meet every contract and are refused here: memory lacks, or a search is broken, from a size on or at a long name; an
+Wrong bodies that are refused here: memory lacks, or a search is broken, from a size on or at a long name; an
 opening copies the addresses of a vault's rows; a conversation ends after 100,000 lines.
 
 What is wanted comes from tenants.py and rt0.py, a second, plain reading of the protocol; of the chain, whose rounds that reading

@@ -21,7 +21,7 @@ up to five times, since a machine that does more is late: nobody is soon once wh
   it tells four that wait `working` and cuts these sessions before their peers speak, ends its other sessions, also of peers that
   say nothing or take nothing, and then itself within a second, with status 1.
 
-Bodies that meet every contract and are refused here: the pause between failed accepts grows without a bound, or there is none;
+Wrong bodies that are refused here: the pause between failed accepts grows without a bound, or there is none;
 a service goes on without a thread; a failed session ends its thread; a write of which a part was taken begins the time of
 `--idle` anew; a connection is closed over what its peer sent behind `quit`; after a fault a session waits for its peer, or
 one alone of those who wait for searches is woken.
