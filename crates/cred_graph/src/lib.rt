@@ -4,6 +4,7 @@
 //! Contracts see a `Graph` as the lists of its nodes, listeners and solutions (`specs/Graph.antt`); each call adds one element
 //! to one of them, or tells that it is there. A reason cites earlier solutions alone (`specs/Graph.antt`), so proofs that are
 //! read off the graph are well-founded. The calls by number spare the look-up of a name.
+//! Why so: docs/DECISIONS.md#cred_graph.
 #![tactic(auto)]
 
 mod graphs;

@@ -4,6 +4,7 @@
 //! `read_credential` takes exactly the spellings of `specs/Spelling.antt` and refuses others for the first reason of
 //! `specs/Refusal.antt`; `write_credential` writes the one canonical spelling. `spelling_is_exact` is the law that the two are
 //! inverse; `orders_are_total` and `equality_is_exact` are those of `compare` and `==`. Parts of an intersection take memory.
+//! Why so: docs/DECISIONS.md#credential_text.
 #![tactic(auto)]
 
 mod bodies;

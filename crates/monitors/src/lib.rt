@@ -5,6 +5,7 @@
 //! answers true exactly where something new follows from what it was told, and a repeat changes nothing. A search speaks of
 //! entities by number, and keeps `LinkMonitor<u32>` and `KeyedMeet<u32>`: what they hear is what the monitors by name hear,
 //! whatever names the numbers stand for, as long as no two of them stand for one name (`specs/MeetMonitor.antt`).
+//! Why so: docs/DECISIONS.md#monitors.
 #![tactic(auto)]
 
 mod key_sets;

@@ -4,6 +4,7 @@
 //! other text for the first reason that applies. A name is seen as the list of its bytes (`specs/Name.antt`), and `compare` is
 //! the order of these lists (`specs/Order.antt`). `names_and_orders` and `operators_are_exact` are laws of it: `==`, `<` and
 //! `compare` say one thing. A name is of one size and copied, so nothing here takes memory.
+//! Why so: docs/DECISIONS.md#names.
 #![tactic(auto)]
 
 mod cells;

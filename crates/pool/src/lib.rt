@@ -5,6 +5,7 @@
 //! (`specs/Served.antt`). A pass remembers the longest journal that it has seen, and each accepted change that was told counts
 //! once in a ledger (`specs/Passes.antt`). Whom a call or a visit has to wake is told by a `Notice` (`specs/Notices.antt`), which nobody
 //! can drop. That who is woken goes on is shown by tests, since no clause speaks of it.
+//! Why so: docs/DECISIONS.md#pool.
 #![tactic(auto)]
 
 mod bells;

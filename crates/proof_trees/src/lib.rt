@@ -4,6 +4,7 @@
 //! `IsProof` (`specs/Proof.antt`) says what a proof is. `proof_of` reads one off a completed search, or tells that the entity is no
 //! member; `check_proof` accepts exactly the proofs. The laws (`specs/Laws.antt`): what has a proof is a member, and the credentials
 //! that a proof cites are canonical.
+//! Why so: docs/DECISIONS.md#proof_trees.
 #![tactic(auto)]
 
 mod checking;

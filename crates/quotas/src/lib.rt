@@ -3,6 +3,7 @@
 //!
 //! `Limits::make` takes exactly the numbers within the ranges of `specs/Quota.antt`. The five `may_` calls refuse where a count
 //! has reached its limit, each by its own fault, and neither earlier nor later.
+//! Why so: docs/DECISIONS.md#quotas.
 #![tactic(auto)]
 
 mod faults;

@@ -5,6 +5,7 @@
 //! whatever the order of the credentials and their repeats. `work_plain` counts the letters that a search for them sends
 //! (`specs/Work.antt`), and `work_is_exact` says that this is one number. Both are for tests: they take rounds over all
 //! credentials.
+//! Why so: docs/DECISIONS.md#rt0_rules.
 #![tactic(auto)]
 
 mod asks;

@@ -3,6 +3,7 @@
 //!
 //! What it does with its arguments is said in `specs/CommandLine.antt`, and how it ends in `specs/Running.antt` and
 //! `specs/Serving.antt`.
+//! Why so: docs/DECISIONS.md#rtsearch.
 #![tactic(auto)]
 
 mod command_line;

@@ -5,6 +5,7 @@
 //! `specs/Answers.antt`, what each finish does in `specs/Finish.antt`, and what a running search keeps in `specs/Net.antt`. The
 //! promise is that of `Search::status` (`specs/Ending.antt`): a completed search tells the truth of its query over its snapshot, and
 //! is spent exactly where the work exceeds its limit. That a search is broken only where memory lacked is no contract.
+//! Why so: docs/DECISIONS.md#search.
 #![tactic(auto)]
 
 mod asking;

@@ -3,6 +3,7 @@
 //! `run_script` promises `ScriptWrote` (`specs/Written.antt`): it wrote the transcript of an exact run of the tenants' requests,
 //! or a front part of it where a device failed. By the law `scripts_are_isolated` a tenant's bytes depend on its own lines and on
 //! what it has in sight (`specs/Laws.antt`). `serve_session` is one connection (`specs/Session.antt`), `serve` all of them.
+//! Why so: docs/DECISIONS.md#service.
 #![tactic(auto)]
 
 mod arrivals;

@@ -3,6 +3,7 @@
 //! `Snapshot::take` is the tenant's view of the journal as it is then (`specs/Snapshot.antt`), and whatever becomes of the vaults,
 //! it stays. `find` tells where a role's rows stand (`specs/Span.antt`), and `span_is` whether a span is that one, by at most 8
 //! comparisons, so nobody who looks rows up has to be trusted.
+//! Why so: docs/DECISIONS.md#snapshots.
 #![tactic(auto)]
 
 mod holdings;

@@ -6,6 +6,7 @@
 //! memory. The journal is kept as bytes (`specs/Kept.antt`), with room for what takes back what stands (`specs/Owed.antt`). What a
 //! book keeps beside it, so that no call walks over it, is in `specs/Book.antt` and `specs/Page.antt`. The laws
 //! (`specs/Laws.antt`) say that a tenant's own entries decide what it holds and grants.
+//! Why so: docs/DECISIONS.md#vaults.
 #![tactic(auto)]
 
 mod blocks;
