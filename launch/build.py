@@ -26,7 +26,9 @@ PROGRAM = "rtsearch"
 PARTS = ("src", "specs", "proofs")
 MOST_JOBS = 4  # of one crate: more was never measured
 TARGET = "x86_64-unknown-linux-gnu"
-# how the C library keeps the program's memory, as the launcher has it
+# how the C library keeps the program's memory, as the launcher has it: one arena for all threads, since two took half as much again
+# where searches are large; and more than usual is kept when it is freed, since a large search takes half as much processor time again
+# where each takes its tables from the system anew
 MEMORY = {"MALLOC_ARENA_MAX": "1", "MALLOC_MMAP_THRESHOLD_": "33554432", "MALLOC_TRIM_THRESHOLD_": "134217728"}
 
 
@@ -257,6 +259,7 @@ def free_memory():
 
 def memory_of(crate, jobs):
     """The most that so many jobs take, in MB."""
+    # what a prover takes, what each crate below adds, and each further job; planned against 85 of 100 of what is free
     return 1000 + 180 * len(crate.below) + 700 * (jobs - 1)
 
 

@@ -10,7 +10,8 @@ use names::Entity;
 use std::alloc::{AllocError, Global};
 use std::marker::Model;
 
-/// So many nodes have numbers of 32 bits.
+/// So many nodes have numbers of 32 bits. Their expressions alone would take some 900 gigabytes, so a growth is refused long
+/// before.
 const MOST: usize = 1 << 32;
 
 /// The expressions of the nodes, each once and by its node's number, which has 32 bits.

@@ -1,7 +1,8 @@
 //! How much room the tables of a graph make, and keep where they give memory back. `usize::MAX` is all that a table has.
 ghost use Rattle.std.specs.Prelude.{◌≡◌, ◌-◌, ◌≤◌, ◌/◌, ◌^◌, ◌&&◌, nat_le, nat_lt, if◌then◌else◌};
 
-/// Room for so many entries is made with the first one, as many as sixteen groups of a map's index take.
+/// Room for so many entries is made with the first one, as many as sixteen groups of a map's index take. What begins smaller is
+/// moved several times in a search of a hundred letters.
 const FIRST_ROOM: usize = 144;
 
 /// A table of fewer entries grows fourfold, so that it is moved and indexed anew less often.

@@ -11,7 +11,8 @@ use std::alloc::{AllocError, Global};
 use std::hash::BuildHasherDefault;
 use std::marker::Model;
 
-/// So many listeners of a node are looked through one by one.
+/// So many listeners of a node are looked through one by one. Most nodes have no more, and never touch the table of the others.
+/// That table isn't filled with these when it is begun, so that no proof speaks of a loop or of a state in between.
 const NEAR: usize = 8;
 
 /// The listeners of each node, each once and in order of adding, and the solutions of all nodes with their reasons, in

@@ -30,8 +30,9 @@ use std::sync::{Condvar, Mutex, MutexGuard, Wait};
 use std::thread;
 use vaults::Change;
 
-/// How often a thread tries the lock before it sleeps for it, and lets others run in between: to be woken takes longer than most
-/// have the lock.
+/// How often a thread tries the lock before it sleeps for it, and lets others run in between: to be woken takes longer than
+/// most have the lock. With two tries a tenant waits less where other programs compute, and many sessions get much fewer
+/// answers.
 const TRIES: usize = 16;
 
 /// A hall under one lock, with the ledger of the accepted changes of which passes were told. The type `L` names the

@@ -25,7 +25,8 @@ pub(crate) fn engaged_at(nodes: &Vec<Option<Engagement>>, node: u64) -> Option<E
     }
 }
 
-/// Room for so many nodes at least is made where it lacks.
+/// Room for so many nodes at least is made where it lacks: what begins smaller is moved several times in a computation of a
+/// hundred letters.
 const FEW: usize = 32;
 
 // Makes a place for a node. A number for which no list of nodes can be had is want of memory.

@@ -64,10 +64,13 @@ impl Drop for Findings {
     }
 }
 
-/// A list of answers keeps no more room than this.
+/// A list of answers keeps no more room than this: that of one large answer isn't kept to the search's end, and a solution's
+/// listeners are told without a list anew for each.
 const MOST_ROOM: usize = 64;
 
-/// Room for so many nodes is made before the first one is added, as many as four groups of a map's index take.
+/// Room for so many nodes is made before the first one is added, as many as four groups of a map's index take: what begins
+/// smaller is moved several times in a search of a hundred letters, and a table of the asked role's node alone would be moved
+/// for the next.
 const FIRST_NODES: u64 = 36;
 
 /// An emptied list of monitors gives its room back where it is less than that, or more than for so many nodes.

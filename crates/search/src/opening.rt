@@ -15,7 +15,7 @@ use credential_text::{Expr, Part};
 use snapshots::{Snapshot, Span};
 use std::alloc::AllocError;
 
-/// For the bodies of so many rows room is made as they are asked.
+/// For the bodies of so many rows room is made as they are asked. For more it is made at once, so that tables grow once.
 const FEW_ROWS: u64 = 16;
 
 // A role asks the body of each of its rows. Where they are many, room is made for the nodes of all bodies at once, unless the

@@ -12,7 +12,8 @@ use std::sync::atomic::{AtomicBool, Ordering};
 use std::sync::{RwLock, Wait};
 use std::time::Duration;
 
-/// How many accepted connections wait for a session that is free. More wait in the listener.
+/// How many accepted connections wait for a session that is free. More wait in the listener. A queue without a bound would pile
+/// up descriptors.
 const QUEUED: usize = 1;
 
 /// Where a session keeps the connection that it answers, so that others can end it.

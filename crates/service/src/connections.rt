@@ -19,7 +19,8 @@ const NOT_OPEN: i32 = 9;
 
 const NO_SOCKET: i32 = 88;
 
-/// How many milliseconds pass after the first accept that failed, and how many at most after a later one.
+/// How many milliseconds pass after the first accept that failed, and how many at most after a later one. A pause needs no
+/// lock, comes to ten calls a second, and serves also where the whole system lacks descriptors.
 const FIRST_PAUSE: u64 = 1;
 
 const LONGEST_PAUSE: u64 = 100;

@@ -4,7 +4,9 @@ use std::io::{self, Error, ErrorKind, Read, Write};
 use std::net::{Shutdown, TcpStream};
 use std::time::{Clock, Duration, Instant};
 
-/// How many milliseconds one write waits for its peer. What was taken by then counts, and the next one goes on.
+/// How many milliseconds one write waits for its peer. What was taken by then counts, and the next one goes on. A writer that
+/// waits is woken only where a third of the system's buffer is free, for which a slow peer may need long; one that begins has
+/// what room there is.
 const WRITE: u64 = 250;
 
 /// For how many milliseconds, and in how many reads of how many bytes, what a peer has sent behind its last line is dropped.

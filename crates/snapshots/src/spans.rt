@@ -54,7 +54,7 @@ impl Cut {
     }
 }
 
-/// How many rows are compared at first.
+/// Among how many rows the cut is sought at first, since most roles have few.
 const FEW: usize = 16;
 
 /// How many of the owner's rows stand before the cut. Costs little where they are few, however many there are behind it.
