@@ -133,7 +133,7 @@ impl Nodes {
     }
 }
 
-/// The same expression again.
+/// A copy of the expression.
 fn copy_of(expr: &Expr) -> Result<Expr, AllocError>
     ensures same { IfOk result (λ copy. copy ≡ expr.now) }
     ensures range { HasPartsInRange expr.now }

@@ -40,7 +40,7 @@ impl Credential {
             .then_with(|| self.body.compare(&other.body))
     }
 
-    /// The same credential again. Only the copy of an intersection takes memory.
+    /// A copy of the credential. Only the copy of an intersection takes memory.
     pub fn try_clone(&self) -> Result<Credential, AllocError>
         ensures same { IfOk result (λ c. c ≡ self.now) }
         ensures growth { OnErr result (IsIntersection self.now.body) }

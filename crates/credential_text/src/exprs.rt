@@ -58,7 +58,7 @@ impl Expr {
         }
     }
 
-    /// The same expression again. Only the copy of an intersection takes memory.
+    /// A copy of the expression. Only the copy of an intersection takes memory.
     pub fn try_clone(&self) -> Result<Expr, AllocError>
         ensures same { IfOk result (λ e. e ≡ self.now) }
         ensures growth { OnErr result (IsIntersection self.now) }

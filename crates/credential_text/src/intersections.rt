@@ -134,7 +134,7 @@ impl Parts {
         self.parts.as_slice()
     }
 
-    /// The same parts again.
+    /// A copy of the parts.
     pub fn try_clone(&self) -> Result<Parts, AllocError>
         ensures { IfOk result (λ ps. ps ≡ self.now) }
     {

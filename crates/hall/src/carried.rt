@@ -50,7 +50,7 @@ impl Carried {
         }
     }
 
-    /// The same, where it can be shared, if there is memory for that.
+    /// The search, shared where there is memory for that, and else as it is.
     fn into_shared(self, alloc: Global) -> Carried
         requires carried { IsCarried self }
         requires completed { IsCompleted (carried_search self).stage }

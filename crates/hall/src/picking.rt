@@ -100,7 +100,7 @@ impl Hall {
         None
     }
 
-    /// The same among the tenant's searches of these numbers.
+    /// A step of one of the tenant's searches of these numbers. The turn picks which of them is looked at first.
     fn pick_of(&self, who: Entity, numbers: &IndexSet<u64>, turn: u64) -> Option<Step>
         ensures { MatchOption result (AllByRecursion (SearchIsQuiet self.now who) numbers.now.keys)
             (λ step. CanBeMade self.now step × (SearchIsQuiet self.now (step_name step) (step_search step) → ⊥)) }

@@ -11,8 +11,8 @@ use std::marker::Model;
 /// So many keys of a set are looked through one by one.
 const NEAR: usize = 8;
 
-/// A set of keys. Contracts see them as a list, in order of adding. The first of them stand in a list too, since most
-/// sets have few, and a table takes more memory.
+/// A set of keys. Contracts see them as a list, in order of adding. The first of them stand in a list, since most sets have
+/// few, and a table takes more memory.
 pub struct KeySet<K: Key> {
     near: Vec<K>,
     // The keys beyond the first ones.

@@ -74,7 +74,7 @@ fn work<L: Ledger, G: Gate, R: Wait>(
     work_with(batch, rt, desk, gate, turn)
 }
 
-/// The same, with room for the letters.
+/// What `work` does, once there is room for the letters.
 fn work_with<L: Ledger, G: Gate, R: Wait>(
     mut batch: Batch,
     rt: &R,

@@ -63,7 +63,7 @@ impl Draft {
         }
     }
 
-    /// The same of the expression's node.
+    /// The number of the step that claims the entity in this expression, or its solution there where none does.
     pub(crate) fn number_in(
         &self,
         graph: &Graph,

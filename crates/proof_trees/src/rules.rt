@@ -36,7 +36,7 @@ pub(crate) fn rule_for(
     }
 }
 
-/// The same of a solution by way of a member of the base.
+/// The rule of a solution by way of a member of the base, or the first premise that no step claims yet.
 fn link_rule(
     graph: &Graph,
     draft: &Draft,
@@ -62,7 +62,7 @@ fn link_rule(
     Ok(Rule::Link(base_number, role_number))
 }
 
-/// The same of a solution by every part.
+/// The rule of a solution by every part, or the first premise that no step claims yet.
 fn parts_rule(
     alloc: Global,
     graph: &Graph,

@@ -137,8 +137,8 @@ impl<P: Drop> Diffusion<P> {
         self.finish_with(number, &mut VecDeque::from_vec(outs))
     }
 
-    /// The same with letters in a list that the caller keeps: it is empty then, with the room that it had. Where memory
-    /// is refused, it is as it was too.
+    /// Finishes a held letter as `finish` does, with letters in a list that the caller keeps: it is empty then, with the room
+    /// that it had. Where memory is refused, the list stays as it is.
     pub fn finish_with(
         &mut self,
         number: u64,

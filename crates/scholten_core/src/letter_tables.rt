@@ -81,7 +81,8 @@ fn place_of<P>(letters: &Numbered<P>, hand: usize, number: u64) -> Option<usize>
     }
 }
 
-// The same, with one place tried before the table's index: where it stands if no number lacks between it and the one at hand.
+// Where the entry stands of a number that isn't at hand. One place is tried before the table's index: where it stands if no
+// number lacks between it and the one at hand.
 #[inline(always)]
 fn place_near<P>(letters: &Numbered<P>, hand: usize, number: u64) -> Option<usize>
     ensures { IsPlaceOf letters.now.entries number result }
@@ -95,7 +96,7 @@ fn place_near<P>(letters: &Numbered<P>, hand: usize, number: u64) -> Option<usiz
     place_in_index(letters, number)
 }
 
-// The same by the table's index.
+// Where the number's entry stands, by the table's index.
 #[cold]
 #[inline(never)]
 fn place_in_index<P>(letters: &Numbered<P>, number: u64) -> Option<usize>

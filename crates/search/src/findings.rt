@@ -20,7 +20,7 @@ pub enum Monitor {
     Meet(MeetMonitor),
 }
 
-/// The same with numbers for names.
+/// What a node remembers of what it was told, with numbers for names.
 #[derive(Drop)]
 pub enum NumberedMonitor {
     Plain,

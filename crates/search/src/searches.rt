@@ -105,7 +105,7 @@ impl Search {
         Search::open_in(Tables::new(alloc), alloc, snapshot, query, work)
     }
 
-    /// The same search, in these tables.
+    /// A search as `open` makes it, in these tables.
     pub fn open_in(
         tables: Tables,
         alloc: Global,

@@ -22,7 +22,7 @@ pub enum Stage {
     Broken,
 }
 
-/// The same with numbers for names.
+/// Where a search stands, with numbers for names.
 pub enum NumberedStage {
     Running(Diffusion<Load<u32>>),
     Spent,

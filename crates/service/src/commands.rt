@@ -1,4 +1,4 @@
-//! The commands of a script.
+//! The commands of scripts and sessions.
 ghost use Rattle.std.specs.Prelude.{◌≡◌, ◌≤◌, ◌⊎◌, [], ◌∷◌, None, Some, length, IfOk, IfErr};
 ghost use Rattle.credential_text.specs.{declared.faults.CredFault.CredFault, Spelling.Spells};
 ghost use Rattle.credential_text.specs.Refusal as credential;

@@ -55,7 +55,8 @@ pub fn run_script<R: Read + Drop, W: Write>(
     run_script_keeping(alloc, reader, writer, &mut None)
 }
 
-/// The same. What the tenants have at the end is kept: to drop it goes over each search that stayed open.
+/// Runs a script as `run_script` does, and keeps what the tenants have at its end: to drop it goes over each search that stayed
+/// open.
 pub fn run_script_keeping<R: Read + Drop, W: Write>(
     alloc: Global,
     reader: R,

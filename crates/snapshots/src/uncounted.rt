@@ -10,7 +10,7 @@ use std::marker::Brand;
 use std::sync::ledger::{Blank, Ledger};
 
 impl Snapshot {
-    /// The same as `span_is`, with a count that nobody reads.
+    /// Whether the span is the one that `find` gives, with comparisons that nobody counts.
     pub fn finds(&self, role: &Role, span: Span) -> bool
         ensures { IsTrue result ↔ (span ≡ span_of self.now.vaults role.now) }
     {
@@ -18,7 +18,7 @@ impl Snapshot {
     }
 }
 
-/// The same, counted in a ledger of its own.
+/// What `finds` answers, counted in a ledger of its own.
 fn compares<L: Ledger>(snapshot: &Snapshot, role: &Role, span: Span, blank: Blank) -> bool
     requires name { blank.name ≡ L.name }
     requires parts { blank.parts ≡ L.parts }

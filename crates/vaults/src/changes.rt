@@ -35,7 +35,7 @@ impl Change {
     ghost use Rattle.vaults.specs.Kept.{kind_of};
     ghost use Rattle.vaults.specs.Owed.{gives};
 
-    /// The same change again. A revocation is copied without memory.
+    /// A copy of the change. A revocation is copied without memory.
     pub fn try_clone(&self) -> Result<Change, AllocError>
         ensures copy { IfOk result (λ copy. copy ≡ self.now) }
         ensures memory { OnErr result (revokes self.now ≡ false) }

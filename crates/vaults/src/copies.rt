@@ -5,7 +5,7 @@ use crate::rows::Row;
 use credential_text::Credential;
 use std::alloc::{AllocError, Global};
 
-/// The same credentials again, each by itself.
+/// A copy of the rows' credentials, each by itself.
 pub fn copy_of(alloc: Global, rows: &[Row]) -> Result<Vec<Credential>, AllocError>
     ensures { IfOk result (λ copy. copy.items ≡ rows.now) }
 {

@@ -74,7 +74,7 @@ impl NameSet {
         }
     }
 
-    /// The same names again.
+    /// A copy of the names.
     pub fn try_clone(&self) -> Result<NameSet, AllocError>
         ensures { IfOk result (λ names. names ≡ self.now) }
     {

@@ -14,9 +14,9 @@ use std::alloc::{AllocError, Global};
 use std::marker::Model;
 use std::mem;
 
-/// The rows of a vault that nobody else holds, seen as their list: those in front, and behind them the others in blocks,
-/// the last block first. Changes part blocks off, and they are gathered where the rows are lent or shared. That takes no
-/// memory, since each change takes the room for it.
+/// The rows of a vault that nobody else holds, seen as their list: those in front, and behind them the others in blocks, the
+/// last block first. Changes part blocks off, and they are gathered where the rows are lent or shared. That takes no memory,
+/// since each upload takes the room for it first.
 #[derive(Drop)]
 pub struct OwnRows {
     rows: Vec<Row>,
