@@ -88,7 +88,7 @@ impl<L: Ledger + Send + Sync, R: Wait + Clock + Sync> Gate for Doorway<'_, L, R>
     }
 }
 
-/// The same gate for workers who rely on it that no pass waits.
+/// The gate of a scene for workers who rely on it that no pass waits.
 #[derive(Drop)]
 pub(super) struct Passage<'a, L: Ledger, R>(pub(super) Doorway<'a, L, R>);
 

@@ -49,7 +49,7 @@ fn goes_on<L: Ledger + Send + Sync, R: Threads + Wait + Clock + Sync>(
     is_put && is_open && is_refused && is_carried_on(rt, alloc, desk, &mut pass)
 }
 
-/// The same at a desk of one tenant, by this ledger.
+/// What `goes_on` answers at a desk of one tenant, by this ledger.
 fn at_a_desk<L: Ledger + Send + Sync, R: Threads + Wait + Clock + Sync>(
     rt: &R,
     alloc: Global,

@@ -71,7 +71,7 @@ fn listens(
     Ok(told == Some(graph.add_listener(n, m, port_of(port)?)?))
 }
 
-/// The same by way of the entity, by its number.
+/// Whether the second becomes a listener to the first by way of the entity, by its number, as is told.
 fn listens_by_number(
     graph: &mut Graph,
     asked: &[u8],
@@ -100,7 +100,7 @@ fn solves_itself(graph: &mut Graph, who: &[u8], is_new: bool) -> Result<bool, Cr
     Ok(graph.add_solution(n, who, Reason::Leaf)? == is_new)
 }
 
-/// The same by its number.
+/// Whether the entity becomes its own solution by its number, a new one or not.
 fn solves_by_number(graph: &mut Graph, who: &[u8], is_new: bool) -> Result<bool, CredFault> {
     let who = Entity::read(who)?;
     let Some(k) = graph.entity_number(&who) else {
@@ -294,11 +294,11 @@ enum Line {
     Node(&'static [u8], u64, bool),
     /// A listener to the first by the second, on a port.
     Listen(&'static [u8], &'static [u8], Port<&'static [u8]>, Option<bool>),
-    /// The same by way of an entity, by its number.
+    /// A listener to the first by the second, by way of an entity, by its number.
     ListenByNumber(&'static [u8], &'static [u8], &'static [u8], Option<bool>),
     /// The entity becomes its own solution.
     Itself(&'static [u8], bool),
-    /// The same by its number.
+    /// The entity becomes its own solution, by its number.
     ItselfByNumber(&'static [u8], bool),
     /// The role has the entity by a credential of which that is the body.
     Role(&'static [u8], &'static [u8], Option<bool>),
@@ -396,7 +396,7 @@ fn read_node(graph: &Graph, who: &Entity) -> u64 {
 
 static SIX: [&[u8]; 6] = [b"A", b"B", b"C", b"D", b"E", b"F"];
 
-/// The same over the nodes of all six.
+/// A sum over what can be read of the nodes of all six.
 fn read_all(graph: &Graph) -> Result<u64, CredFault> {
     let mut sum = 0;
     for name in &SIX {

@@ -39,7 +39,7 @@ fn reads(alloc: Global, text: &[u8], told: &Result<&[u8], u64>) -> Result<bool, 
     }
 }
 
-/// The same of the text with spaces behind it up to this length.
+/// What `reads` tells of the text with spaces behind it up to this length.
 fn reads_padded(
     alloc: Global,
     text: &[u8],
@@ -95,7 +95,7 @@ fn is_made(alloc: Global, bases: &[&[u8]], told: bool) -> Result<bool, CredFault
 enum Line {
     /// A text: the canonical spelling of its credential, or the number of its fault.
     Reads(&'static [u8], Result<&'static [u8], u64>),
-    /// The same with spaces behind it, up to this length.
+    /// A text that gets spaces behind it up to this length: its canonical spelling, or the number of its fault.
     Padded(&'static [u8], usize, Result<&'static [u8], u64>),
     /// A fault, its number and its text.
     Fault(CredFault, u64, &'static str),

@@ -101,7 +101,7 @@ fn hears_new_base(
     monitor.base_told(base)
 }
 
-/// The same for an entity that came by way of a base.
+/// Tells an entity by way of this base, after these. Whether it is new, and a refused telling left these told and it untold.
 fn hears_new_member(
     monitor: &mut LinkMonitor,
     earlier: &[Entity],
@@ -121,7 +121,7 @@ fn hears_new_member(
     Ok(!monitor.base_told(base)? && monitor.via_told(base, who)?)
 }
 
-/// The same for an entity that the first of two parts tells: none of them completes.
+/// Lets the first of two parts tell an entity after these, all of them again where that is refused. Whether none completes.
 fn hears_first_part(
     monitor: &mut MeetMonitor,
     earlier: &[Entity],

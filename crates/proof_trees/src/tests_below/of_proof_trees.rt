@@ -106,7 +106,7 @@ const TWO_VAULTS: &[Row] = &[
     (b"D", b"A.r <- A.r", &[4]),
 ];
 
-/// The same with another rule for the second step.
+/// As `TWO_VAULTS`, with another rule for the second step.
 const CITES_A_LATER_STEP: &[Row] = &[
     (b"B", b"A.r <- B", &[]),
     (b"B", b"A.r <- A.s", &[5]),

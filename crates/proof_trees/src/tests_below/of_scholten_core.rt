@@ -70,7 +70,7 @@ fn collect_letters(alloc: Global, nodes: &[u64]) -> Result<Vec<(u64, u64)>, Allo
     nodes.iter().map(|node| (*node, *node)).collect(alloc)
 }
 
-// The same. Where memory is refused, once more.
+// Letters to these nodes, collected once more where memory is refused.
 fn letters_to(alloc: Global, nodes: &[u64]) -> Result<Vec<(u64, u64)>, AllocError> {
     match collect_letters(alloc, nodes) {
         Ok(letters) => Ok(letters),

@@ -60,7 +60,7 @@ fn judges_all<L: Ledger>(
     Ok(true)
 }
 
-/// The same with steps that are counted from none.
+/// Whether the snapshot takes each span for the role's, with comparisons that are counted from none.
 fn judges<L: Ledger>(
     snapshot: &Snapshot,
     blank: Blank,

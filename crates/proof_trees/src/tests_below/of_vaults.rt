@@ -470,7 +470,7 @@ fn stays(alloc: Global, book: &mut Book, version: &Version) -> Result<bool, Cred
     Ok(all_so(alloc, book, &ROW_GONE)? && are_rows(alloc, version.rows(), &[b"B.s <- D"])?)
 }
 
-/// The same for a version of the vault's first row.
+/// Whether a version of the vault of `B` with its first row stays while that vault is changed.
 fn stays_from_its_first_row(alloc: Global, book: &mut Book) -> Result<bool, CredFault> {
     if !all_so(alloc, book, &FIRST_ROW)? {
         return Ok(false);

@@ -55,7 +55,7 @@ impl<R: Read> Read for Interrupted<R> {
     }
 }
 
-/// The same of an input as a whole, and of one byte a call, each interrupted once.
+/// Whether an input gives the lines as a whole, and one byte a call, each call interrupted once.
 fn gives_both_ways(
     alloc: Global,
     input: &[u8],

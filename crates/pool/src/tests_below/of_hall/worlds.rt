@@ -354,7 +354,7 @@ fn is_right(alloc: Global, world: &World<'_>, numbers: &mut u64) -> Result<bool,
     answers_each(alloc, &mut hall, world, &mut grants, numbers)
 }
 
-/// The same of a world that other numbers pick.
+/// Whether a hall of a world that these numbers pick answers rightly, with grants that the turns make.
 fn makes_right(alloc: Global, numbers: &mut u64, turns: &mut u64) -> Result<bool, Fault> {
     let tenants = four()?;
     let credentials = some_credentials(alloc, numbers).or(Err(Fault::Memory))?;
