@@ -71,6 +71,7 @@ fn at_a_desk<L: Ledger + Send + Sync, R: Threads + Wait + Clock + Sync>(
     }
 }
 
+/// A gather that is refused, since passes are out, leaves the desk as it is.
 #[test]
 fn a_desk_goes_on_where_passes_are_out(rt: HostRuntime) {
     assert!(rt; at_a_desk::<Brand, _>(&rt, rt.alloc(), Blank::new(PARTS)));

@@ -185,6 +185,8 @@ fn held_and_counted<R: Threads + Wait + Clock + Sync>(
     Ok(())
 }
 
+/// Wrong bodies that are refused here: a letter passes the gate twice; the first of a batch alone passes; at most two workers
+/// run, whatever their number.
 #[test]
 fn letters_that_a_gate_holds_and_counts(rt: HostRuntime) -> Result<(), Break> {
     let meeting = Meeting {

@@ -100,6 +100,8 @@ fn faults_and_lists(rt: HostRuntime) -> Result<(), Fault> {
     Ok(())
 }
 
+/// Each play of events is answered as it is written. Wrong bodies that are refused here: memory lacks for each `vault`, `sees`
+/// or `proof`; a pick answers as if each turn were the first.
 #[test]
 fn plays_go_as_they_are_written(rt: HostRuntime) -> Result<(), Fault> {
     let all: [&[&[Part]]; 5] = [

@@ -248,6 +248,8 @@ fn comes_of<R: Net<Listener = TcpListener, Stream = TcpStream> + Threads + Wait 
     Ok(writes(rt, alloc, listener, port, case, written))
 }
 
+/// A service while peers come, each case by its whole output. After a fault, sessions are told to stop before the listener is
+/// closed; the other way round is refused here in few runs.
 #[test]
 fn services_while_peers_come(rt: HostRuntime) {
     for case in &CASES {
