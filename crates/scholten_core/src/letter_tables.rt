@@ -37,7 +37,7 @@ pub(crate) struct LetterTable<P> {
 }
 
 /// Room for so many letters is made at first, as many as four groups of a map's index take. It doubles from there. Fourfold
-/// growth takes fewer instructions, up to an eighth a letter, and two to four times the memory.
+/// growth takes fewer instructions, up to an eighth a letter, and mostly two to four times the memory.
 const FIRST_ROOM: usize = 36;
 
 /// How many of so many entries have to be holes before these are dropped: where entries are few, to move letters costs
