@@ -8,6 +8,7 @@
 It begins at what the contract of `run_script` cites, and goes on to each definition of specs/ that one before it names.
 What stands above the mark on the page is written by hand and stays."""
 import dataclasses
+import itertools
 import pathlib
 import re
 import sys
@@ -23,12 +24,16 @@ ENGINE = ("scholten_core", "cred_graph", "monitors", "snapshots")
 
 @dataclasses.dataclass
 class Definition:
-    """A definition of specs/: its name, the comment above it, and its text."""
+    """A definition of specs/: its name, the comment above it, and its text, in which a sum's cases have comments of their own."""
 
     file: "File"
     name: str
     comment: str
     text: str
+
+    def code(self):
+        """The rows of its text that are no comments."""
+        return [row for row in self.text.splitlines() if not is_comment(row)]
 
     def parts(self):
         """The names that stand for it: its own, and those of a sum's cases."""
@@ -61,9 +66,9 @@ class File:
 
     def read_definitions(self, lines):
         for paragraph in re.split(r"\n\s*\n", "\n".join(lines)):
-            rows = paragraph.splitlines()
-            comment = [row.strip().removeprefix("--").strip() for row in rows if row.lstrip().startswith("--")]
-            body = [row for row in rows if not row.lstrip().startswith("--")]
+            above = list(itertools.takewhile(is_comment, paragraph.splitlines()))
+            comment = [row.strip().removeprefix("--").strip() for row in above]
+            body = paragraph.splitlines()[len(above) :]
             if not body or re.match(r"(unfoldable )?(pub )?(use|mod) ", body[0]):
                 continue
             if self.definitions and body[0].startswith(" ") and not self.is_indented(body[0]):
@@ -78,6 +83,10 @@ class File:
     def is_indented(row):
         """Whether the row begins a definition within a module that has parameters."""
         return bool(re.match(r"  (unfoldable |abbrev |pub )", row))
+
+
+def is_comment(row):
+    return row.lstrip().startswith("--")
 
 
 def file_of(module):
@@ -109,7 +118,7 @@ def unfold(files, start):
         if id(definition) in met:
             continue
         met[id(definition)] = definition
-        words = dict.fromkeys(WORD.findall(definition.text))
+        words = dict.fromkeys(WORD.findall("\n".join(definition.code())))
         named = (look_up(files, definition.file, word) for word in words)
         waiting.extend(reversed([other for other in named if other]))
     return list(met.values())
@@ -149,7 +158,7 @@ def count(groups):
     for file, definitions in groups:
         row = rows.setdefault(file.crate, [0, 0, 0])
         row[0] += len(definitions)
-        row[1] += sum(d.text.count("\n") + 1 for d in definitions)
+        row[1] += sum(len(d.code()) for d in definitions)
         row[2] += 1
     for crate, row in [*rows.items(), ("all", [sum(column) for column in zip(*rows.values())])]:
         print(f"{crate}: {row[0]} definitions, {row[1]} lines, {row[2]} files")
