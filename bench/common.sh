@@ -44,6 +44,26 @@ built_program() {
     echo "$root/crates/rtsearch/out/rtsearch"
 }
 
+# heading WORD..: the first two lines of a table as the page of figures has it. row WORD..: a further line.
+heading() {
+    row "$@"
+    printf '|'
+    for _ in "$@"; do printf ' --- |'; done
+    echo
+}
+row() {
+    printf '|'
+    printf ' %s |' "$@"
+    echo
+}
+
+# instructions FILE COMMAND..: how many the command takes that reads this file, by callgrind, which counts alike each time.
+instructions() {
+    read=$1
+    shift
+    valgrind --tool=callgrind --callgrind-out-file=/dev/null "$@" < "$read" 2>&1 > "$work/counted" | sed -n 's/.*Collected : //p'
+}
+
 # medians RUNS COMMAND..: runs the command so often, and prints the median of each figure that it prints.
 medians() {
     runs=$1

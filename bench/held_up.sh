@@ -47,13 +47,26 @@ if [ -n "$busy" ]; then
     compute & second=$!
     trap 'kill "$first" "$second"; rm -rf "$work"' EXIT
 fi
-row='%-24s %10s %10s %12s %16s %14s\n'
+# what others do, by the client's names for it
+named() {
+    case $1 in
+        nothing) echo 'does nothing' ;;
+        poll_of_members) echo "polls $members members" ;;
+        proof) echo "has a proof of $steps steps" ;;
+        vault) echo "is told its vault of $members rows" ;;
+        who) echo "searches a role of $members rows" ;;
+        put_into_a_held_vault) echo 'puts into that vault, which a search holds' ;;
+        ask_along_a_chain) echo "asks along a chain of $steps" ;;
+        large_search) echo "has a search of $((11500 * roles)) letters" ;;
+        end_of_a_large_search) echo 'ends such a search' ;;
+    esac
+}
+
 for each in "$program" "${@:5}"; do
-    echo "$each" | sed "s|^$root/||"
-    # shellcheck disable=SC2059
-    printf "$row" 'meanwhile' '50th, us' '99th, us' 'longest, us' 'their line, us' 'longest, us'
-    waits "$each" | while read -r figures; do
-        # shellcheck disable=SC2059,SC2086
-        printf "$row" $figures
+    [ $# -lt 5 ] || echo "$each" | sed "s|^$root/||"
+    heading "Microseconds for \`sees\` while another${busy:+, busy machine}" '50th of 100' 99th longest 'their line' longest
+    waits "$each" | while read -r name figures; do
+        # shellcheck disable=SC2086
+        row "$(named "$name")" $figures
     done
 done
