@@ -32,15 +32,16 @@ once() {
     echo "$(< "$work/worked") $(< "$work/told")"
 }
 
-heading 'Sessions that take turns' arenas kilobytes reckoned times
+times() { awk -v taken="$1" -v reckoned="$2" 'BEGIN { printf "%.2f", taken / reckoned }'; }
+
+heading 'Sessions that take turns' 'kilobytes, reckoned' 'many arenas' times 'one arena' times
 for case in 'versions 8 10000' 'versions 64 10000' 'letters 32 90000'; do
-    for arenas in many one; do
-        # shellcheck disable=SC2046,SC2086
-        set -- ${case} $(medians "$runs" once "$arenas" $case)
-        case $1 in
-            versions) what="$2, each with 64 searches over $3 credentials, a change before each" ;;
-            letters) what="$2, each with one search of $((2 * $3)) letters" ;;
-        esac
-        row "$what" "$arenas" "$4" "$5" "$(awk -v taken="$4" -v reckoned="$5" 'BEGIN { printf "%.2f", taken / reckoned }')"
-    done
+    read -r kind sessions rows <<< "$case"
+    case $kind in
+        versions) what="$sessions, each with 64 searches over $rows credentials, a change before each" ;;
+        letters) what="$sessions, each with one search of $((2 * rows)) letters" ;;
+    esac
+    # shellcheck disable=SC2046,SC2086
+    set -- $(medians "$runs" once many $case) $(medians "$runs" once one $case)
+    row "$what" "$2" "$1" "$(times "$1" "$2")" "$3" "$(times "$3" "$2")"
 done

@@ -44,7 +44,8 @@ built_program() {
     echo "$root/crates/rtsearch/out/rtsearch"
 }
 
-# heading WORD..: the first two lines of a table as the page of figures has it. row WORD..: a further line.
+# heading WORD..: the first two lines of a table as the page of figures has it. row WORD..: a further line, with a comma
+# behind the thousands of a number.
 heading() {
     row "$@"
     printf '|'
@@ -52,9 +53,7 @@ heading() {
     echo
 }
 row() {
-    printf '|'
-    printf ' %s |' "$@"
-    echo
+    { printf '|'; printf ' %s |' "$@"; echo; } | sed -E ':a; s/\b([0-9]+)([0-9]{3})\b/\1,\2/; ta'
 }
 
 # instructions FILE COMMAND..: how many the command takes that reads this file, by callgrind, which counts alike each time.

@@ -5,7 +5,7 @@
 # the same searches by 64 sessions of one tenant.
 #
 # Prints the requests in a second and the microseconds of processor time that the server took for one, of the program and of
-# the echo, which isn't asked by sessions of one tenant: zeros stand there. Each figure is the median of so many runs as the
+# the echo, which isn't asked by sessions of one tenant. Each figure is the median of so many runs as the
 # first argument says (3); the second is the number of workers (4), and further ones name other built programs, of which the
 # same is printed. It needs a C compiler.
 . "$(dirname "$0")/common.sh"
@@ -47,13 +47,19 @@ once() {
         { printf "%d %d\n", requests * 1e9 / lasted, ($1 + $2) * 1e9 / requests }' "$work/worked"
 }
 
+# in_microseconds COUNT NANOSECONDS: the two figures as they are shown; two dashes where there are none.
+in_microseconds() {
+    [ $# -gt 0 ] || set -- - -
+    awk -v count="$1" -v nanoseconds="$2" 'BEGIN { print count, nanoseconds == "-" ? "-" : sprintf("%.1f", nanoseconds / 1000) }'
+}
+
 # measure CONNECTIONS ROUNDS AHEAD ASKED WHAT
 measure() {
-    local of_program of_echo='0 0'
+    local of_program of_echo
     of_program=$(medians "$runs" once "$program" "$1" "$2" "$3" "$4")
     [ "$4" = share ] || of_echo=$(medians "$runs" once echo "$1" "$2" "$3" "$4")
     # shellcheck disable=SC2046,SC2086
-    row "$5" "$1" $(echo $of_program $of_echo | awk '{ printf "%d %.1f %d %.1f\n", $1, $2 / 1000, $3, $4 / 1000 }')
+    row "$5" "$1" $(in_microseconds $of_program) $(in_microseconds ${of_echo-})
 }
 
 for program in "$program" "${@:3}"; do

@@ -7,44 +7,73 @@ import socket
 import subprocess
 import sys
 import tempfile
+import time
 
 ROOT = pathlib.Path(__file__).resolve().parent.parent.parent
 MOST = "100000 1000 64 1000000 1000000000 4294967295"
+SETTINGS = re.findall(r'^export (MALLOC_\w+)=.*-(\d+)\}"$', (ROOT / "rtsearch").read_text(), flags=re.M)
 LONG = "".join(chr(ord("a") + place % 26) for place in range(64))
 
 
-class Service:
-    """The program as a service of so many tenants, T0 and on, with the launcher's words on memory."""
+def roster_of(tenants):
+    return "".join(f"tenant T{at} word {MOST}\n" for at in range(tenants)) + "begin\n"
 
-    def __init__(self, tenants=1, workers=4, sessions=8):
-        settings = dict(re.findall(r'^export (MALLOC_\w+)=.*-(\d+)\}"$', (ROOT / "rtsearch").read_text(), flags=re.M))
-        command = ["env", *(f"{name}={value}" for name, value in settings.items()), sys.argv[1], "serve"]
-        with tempfile.TemporaryFile("w+") as roster:
-            roster.write("".join(f"tenant T{at} word {MOST}\n" for at in range(tenants)) + "begin\n")
-            roster.seek(0)
-            words = ["--workers", str(workers), "--sessions", str(sessions)]
-            self.process = subprocess.Popen([*command, *words], stdin=roster, stdout=subprocess.PIPE, text=True)
-        self.port = int(self.process.stdout.readline().rpartition(":")[2])
+
+class Program:
+    """The program with these words, and the launcher's on memory."""
+
+    def __init__(self, words, source):
+        command = ["env", *(f"{name}={value}" for name, value in SETTINGS), sys.argv[1], *words]
+        self.process = subprocess.Popen(command, stdin=source, stdout=subprocess.PIPE, text=True)
 
     def __enter__(self):
         return self
 
     def __exit__(self, *_):
         self.process.kill()
-        self.process.wait()
-        self.process.stdout.close()
+        self.process.communicate()
+
+    def status(self, word):
+        return int(re.search(rf"{word}:\s*(\d+)", pathlib.Path(f"/proc/{self.process.pid}/status").read_text()).group(1))
 
     def bytes(self):
-        return 1024 * int(re.search(r"VmRSS:\s*(\d+)", pathlib.Path(f"/proc/{self.process.pid}/status").read_text()).group(1))
-
-    def session(self, tenant=0):
-        return Session(self.port, tenant)
+        return 1024 * self.status("RssAnon")
 
     def more(self, act):
         """How many bytes more it has after this."""
         before = self.bytes()
         act()
         return self.bytes() - before
+
+
+class Service(Program):
+    """A service of so many tenants, T0 and on."""
+
+    def __init__(self, tenants=1, workers=4, sessions=8):
+        with tempfile.TemporaryFile("w+") as roster:
+            roster.write(roster_of(tenants))
+            roster.seek(0)
+            super().__init__(["serve", "--workers", str(workers), "--sessions", str(sessions)], roster)
+        self.port = int(self.process.stdout.readline().rpartition(":")[2])
+        while self.status("Threads") < workers + sessions + 2:
+            time.sleep(0.01)
+        time.sleep(0.1)  # so that each has come to where it waits
+
+    def session(self, tenant=0):
+        return Session(self.port, tenant)
+
+
+class Script(Program):
+    """A script of so many tenants."""
+
+    def __init__(self, tenants):
+        super().__init__(["script"], subprocess.PIPE)
+        self.say([roster_of(tenants) + "T0: sees"])
+
+    def say(self, lines):
+        for line in lines:
+            print(line, file=self.process.stdin, flush=True)
+            self.process.stdout.readline()
 
 
 class Session:
@@ -126,6 +155,13 @@ def open_searches(what, tenants, lines_of, letters, each=64):
             row("a letter of it", tenants * each * letters, taken)
 
 
+def new_searches(tenants, each=64):
+    """Searches of a script, which makes no step of one before it waits for it."""
+    with Script(tenants) as script:
+        taken = script.more(lambda: script.say(f"T{at}: who T{at}.r0" for at in range(tenants) for _ in range(each)))
+        row("search as it is opened", tenants * each, taken)
+
+
 def role_of(count):
     return lambda tenant: [f"put {tenant}.r0 <- E{at}" for at in range(count)]
 
@@ -171,16 +207,16 @@ def main():
     heads = ["Held by a service", "so many", "bytes for each"]
     print(f"| {' | '.join(heads)} |\n|{' --- |' * len(heads)}")
     tenants(1000 // part)
-    changes("accepted change, names of 3 to 7 bytes", 100_000 // part, put_or_drop("doctors", "E"))
+    changes("accepted change, names of 2 to 7 bytes", 100_000 // part, put_or_drop("doctors", "E"))
     changes("names of 64 bytes", 100_000 // part, put_or_drop(LONG, LONG[:62]))
     changes("grant or revocation", 100_000 // part, lambda at: f"{'revoke' if at % 2 else 'grant'} Archive")
     credentials("credential, put in the vault's order", 90_000 // part, lambda at: f"E{at:05}")
     credentials("in no order", 90_000 // part, lambda at: f"E{at:05}", shuffled=True)
     credentials("in order, a name of 64 bytes", 90_000 // part, lambda at: f"{LONG[:59]}{at:05}")
     credentials("an intersection of 8 parts", 20_000 // part, lambda at: " & ".join(f"E{at:05}.r{place}" for place in range(8)))
+    new_searches(8)
     open_searches("one letter", 8, lambda tenant: [], 1)
     open_searches("a role of 100", 8, role_of(100 // part), 200 // part + 1)
-    open_searches("a role of 1,000", 8, role_of(1000 // part), 2000 // part + 1)
     open_searches("a chain of 1,000", 8, chain_of(1000 // part), 2000 // part + 3)
     open_searches("a role of 10,000", 2, role_of(10_000 // part), 20_000 // part + 1)
     open_searches("a role of 90,000, alone", 1, role_of(90_000 // part), 180_000 // part + 1, each=1)
