@@ -3,8 +3,9 @@
 # ./rtsearch builds where it isn't built. So who has changed something compares by one command. Nothing else should be at work:
 # instructions and bytes come out alike then as always, and times don't.
 #
-#   bench/all.sh            all tables: an hour and more
-#   bench/all.sh NAME..     these tables alone
+#   bench/all.sh                                       all tables: an hour
+#   bench/all.sh NAME..                                these tables alone
+#   bench/all.sh NAME.. | bench/write_page.py          puts them into the page, so that `git diff` compares
 #
 #   peers        the same questions to other tools                      needs swipl, clingo, pypy3 and a C++ compiler
 #   requests     a question, an upload and a withdrawal in a script     needs valgrind
@@ -20,11 +21,7 @@ peers() { "$bench/peers.sh" 3; }
 requests() { "$bench/scripts.sh" 3; }
 letters() { "$bench/visits.sh" 1000 10; }
 sessions() { "$bench/sessions.sh" 3; }
-held() {
-    "$bench/held_up.sh"
-    echo
-    "$bench/held_up.sh" busy
-}
+held() { "$bench/held_up.sh"; }
 memory() {
     "$bench/memory.sh"
     echo

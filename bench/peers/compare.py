@@ -12,7 +12,7 @@ import time
 from families import FAMILIES
 
 HERE = pathlib.Path(__file__).resolve().parent
-SIZES = [int(size) for size in os.environ.get("SIZES", "1000 10000 50000").split()]
+SIZES = [int(size) for size in os.environ.get("SIZES", "10000 50000").split()]
 MOST = "100000 1000 64 1000000 1000000000 4294967296"
 PATIENCE = 60  # seconds
 
@@ -136,7 +136,7 @@ def compare(program, folder, runs, family, size):
             continue
         whole = statistics.median(one[0][1] for one in taken)
         alone = max(0, whole - statistics.median(one[1][1] for one in taken))
-        cells.append(f"{whole:.3f}, {alone:.3f} ({statistics.median(one[0][2] for one in taken):.0f})")
+        cells.append(f"{1000 * whole:.0f}, {1000 * alone:.0f} ({statistics.median(one[0][2] for one in taken):.0f})")
     print(f"| {family.__name__} | {len(rows)} | {sum(map(len, wanted))} | {' | '.join(cells)} |", flush=True)
 
 
@@ -144,7 +144,7 @@ def main():
     program, folder = sys.argv[1], pathlib.Path(sys.argv[2])
     runs = int(sys.argv[3]) if len(sys.argv) > 3 else 3
     chosen = [family for family in FAMILIES if len(sys.argv) < 5 or family.__name__ in sys.argv[4:]]
-    heads = ["Seconds, of questions (megabytes)", "credentials", "members", *tools_of(program, folder, 0)]
+    heads = ["Milliseconds, of questions (megabytes)", "credentials", "members", *tools_of(program, folder, 0)]
     print(f"| {' | '.join(heads)} |\n|{' --- |' * len(heads)}")
     for family in chosen:
         for size in SIZES:

@@ -17,19 +17,19 @@ LINES = {
     "PyPy": ("#6d28d9", "#c4a7ff", "8 3"),
 }
 WIDTH, HEIGHT, LEFT, TOP, ACROSS = 250, 170, 46, 26, 3
-SECONDS, SIZES = (0.003, 30), (700, 70000)
+SECONDS, SIZES = (0.003, 30), (8000, 64000)
 
 
 def read_table(text):
     """The tools, and of each family the points of each tool: the number of credentials, and the seconds, where it came to an end."""
-    table = re.search(r"^(\| Seconds.*\n)\|.*\n((?:\|.*\n)*)", text, flags=re.M)
+    table = re.search(r"^(\| Milliseconds.*\n)\|.*\n((?:\|.*\n)*)", text, flags=re.M)
     tools, families = cells_of(table[1])[3:], {}
     for family, size, _, *cells in map(cells_of, table[2].splitlines()):
         points = families.setdefault(family, [[] for _ in tools])
         for place, cell in enumerate(cells):
-            seconds = re.match(r"[0-9.]+", cell)
-            if seconds:
-                points[place].append((int(size), max(float(seconds[0]), SECONDS[0])))
+            milliseconds = re.match(r"[0-9]+", cell)
+            if milliseconds:
+                points[place].append((int(size), max(int(milliseconds[0]) / 1000, SECONDS[0])))
     return tools, families
 
 
@@ -52,7 +52,7 @@ def draw_family(name, points, x, y):
     for seconds in (0.01, 0.1, 1, 10):
         (left, at), (right, _) = spot(x, y, (SIZES[0], seconds)), spot(x, y, (SIZES[1], seconds))
         yield f'<path class="grid" d="M{left:.1f} {at:.1f}H{right:.1f}"/><text class="tick" x="{left - 5:.1f}" y="{at + 4:.1f}" text-anchor="end">{seconds:g} s</text>'
-    for size in (1000, 10000, 50000):
+    for size in (10000, 50000):
         at, foot = spot(x, y, (size, SECONDS[0]))
         yield f'<text class="tick" x="{at:.1f}" y="{foot + 14:.1f}" text-anchor="middle">{size:,}</text>'
     for place, tool in enumerate(points):
