@@ -44,6 +44,25 @@ built_program() {
     echo "$root/crates/rtsearch/out/rtsearch"
 }
 
+# heading WORD..: the first two lines of a table as the page of figures has it. row WORD..: a further line, with a comma
+# behind the thousands of a number.
+heading() {
+    row "$@"
+    printf '|'
+    for _ in "$@"; do printf ' --- |'; done
+    echo
+}
+row() {
+    { printf '|'; printf ' %s |' "$@"; echo; } | sed -E ':a; s/\b([0-9]+)([0-9]{3})\b/\1,\2/; ta'
+}
+
+# instructions FILE COMMAND..: how many the command takes that reads this file, by callgrind, which counts alike each time.
+instructions() {
+    read=$1
+    shift
+    valgrind --tool=callgrind --callgrind-out-file=/dev/null "$@" < "$read" 2>&1 > "$work/counted" | sed -n 's/.*Collected : //p'
+}
+
 # medians RUNS COMMAND..: runs the command so often, and prints the median of each figure that it prints.
 medians() {
     runs=$1

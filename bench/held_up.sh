@@ -3,16 +3,11 @@
 # first argument says (90,000), is told its vault of so many rows, searches that role, or puts a row into that vault while a
 # search holds it; one has a proof of so many steps as the second says (60,000), or follows that chain; and one has a search of
 # 11,500 letters for each of so many roles as the third says (200), or ends such searches. Prints the microseconds of a `sees` at
-# the 50th and at the 99th of 100 and of the longest one, of so many as the fourth argument says (1,000) or as the other needs,
-# and how long the other's line took on the average, and the longest. Further arguments name other built programs to be measured
-# beside. With the word `busy` in front two processes that only compute go on meanwhile. It needs a C compiler.
+# the 50th and at the 99th of 100 and of the longest one, of so many as the fourth argument says (1,000) or as the other needs:
+# first where nothing else is at work, and then where two processes that only compute go on meanwhile. Further arguments name
+# other built programs, of which the same is printed. It needs a C compiler.
 . "$(dirname "$0")/common.sh"
 
-busy=
-if [ "${1-}" = busy ]; then
-    busy=yes
-    shift
-fi
 members=${1:-90000}
 steps=${2:-60000}
 roles=${3:-200}
@@ -42,18 +37,33 @@ waits() {
     wait "$server"
 }
 
-if [ -n "$busy" ]; then
+# what others do, by the client's names for it
+named() {
+    case $1 in
+        nothing) echo 'does nothing' ;;
+        poll_of_members) echo "polls $members members" ;;
+        proof) echo "has a proof of $steps steps" ;;
+        vault) echo "is told its vault of $members rows" ;;
+        who) echo "searches a role of $members rows" ;;
+        put_into_a_held_vault) echo 'puts into that vault, which a search holds' ;;
+        ask_along_a_chain) echo "asks along a chain of $steps" ;;
+        large_search) echo "has a search of $((11500 * roles)) letters" ;;
+        end_of_a_large_search) echo 'ends such a search' ;;
+    esac
+}
+
+for each in "$program" "${@:5}"; do
+    [ $# -lt 5 ] || echo "$each" | sed "s|^$root/||"
+    waits "$each" > "$work/idle"
     compute & first=$!
     compute & second=$!
     trap 'kill "$first" "$second"; rm -rf "$work"' EXIT
-fi
-row='%-24s %10s %10s %12s %16s %14s\n'
-for each in "$program" "${@:5}"; do
-    echo "$each" | sed "s|^$root/||"
-    # shellcheck disable=SC2059
-    printf "$row" 'meanwhile' '50th, us' '99th, us' 'longest, us' 'their line, us' 'longest, us'
-    waits "$each" | while read -r figures; do
-        # shellcheck disable=SC2059,SC2086
-        printf "$row" $figures
-    done
+    waits "$each" > "$work/busy"
+    kill "$first" "$second"
+    wait "$first" "$second" 2> "$work/log" || true
+    trap 'rm -rf "$work"' EXIT
+    heading "Microseconds for \`sees\` while another" '50th of 100' 99th longest 'busy: 50th' 99th longest
+    while read -r name half most longest _ _ _ busy_half busy_most busy_longest _; do
+        row "$(named "$name")" "$half" "$most" "$longest" "$busy_half" "$busy_most" "$busy_longest"
+    done < <(paste -d ' ' "$work/idle" "$work/busy")
 done

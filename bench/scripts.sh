@@ -1,21 +1,21 @@
 #!/usr/bin/env bash
-# What scripts cost through the built program.
+# What a script's questions and changes cost through the built program: the microseconds of processor time of each, and the
+# instructions, as callgrind counts them over fewer of them.
 #
-# First questions: of 10, 100 and 1,000 tenants, who ask 3,000, 10,000 and 30,000 in turn. Each tenant has the same: four
-# credentials, and the vaults of two others to read, into which each question leads. A question is asked, waited for and
-# ended, in three lines; with changes, a tenant whose vault is read takes a credential back before it, or puts it again,
-# so that the answer turns each time. Then uploads: of one tenant, in the order of its vault, against it and in no order;
-# 30,000 drops of what was put in order, in order and in none; and 10,000 uploads in no order into a vault of 10,000, once by
-# themselves and once with an opening after each 10.
+# Questions: of 10, 100 and 1,000 tenants, who ask 30,000 in turn. Each tenant has the same: four credentials, and the vaults of
+# two others to read, into which each question leads. A question is asked, waited for and ended, in three lines; with a change
+# before it, a tenant whose vault is read takes a credential back, or puts it again, so that the answer turns each time. Uploads:
+# of one tenant, in the order of its vault, against it and in no order; withdrawals of what was put in order; and uploads in no
+# order into a vault of as many, by themselves and with an opening after each ten.
 #
-# Prints for each script its lines, the milliseconds of processor time and of the clock, and of what the questions (or the
-# uploads) alone take the lines in a second of processor time and the microseconds of one. Each figure is the median of so
-# many runs as the first argument says (3); the scripts are run in turn, so that a busy machine is busy for all of them.
+# Each time is the median of so many runs as the first argument says (3), less what comes before; the scripts are run in turn, so
+# that a busy machine is busy for all of them. A second argument divides all sizes (1). It needs valgrind.
 . "$(dirname "$0")/common.sh"
 
 runs=${1:-3}
+part=${2:-1}
 program=$(built_program)
-TIMEFORMAT='%U %S %R'
+TIMEFORMAT='%U %S'
 
 # roster_of TENANTS: the roster, and what each tenant has from the start.
 roster_of() {
@@ -73,17 +73,18 @@ changes_of() {
         }'
 }
 
-# openings_of OPENINGS: 10,000 uploads in no order into a vault of 10,000, with an opening after each 10 where OPENINGS is 1.
+# openings_of ROWS UPLOADS OPENINGS: a vault of so many, and so many uploads into it in no order, with an opening after each
+# ten where OPENINGS is 1.
 openings_of() {
-    awk -v openings="$1" '
+    awk -v rows="$1" -v uploads="$2" -v openings="$3" '
         function say(command) { print "Archive: " command }
         function put(place) { say(sprintf("put Archive.staff <- E%05d", place)) }
         BEGIN {
             print "tenant Archive word 100000 1 10 1000000 10000 1000"
             print "begin"
-            for (row = 0; row < 10000; row++) put(2 * row)
-            for (row = 0; row < 10000; row++) {
-                put(row * 7919 % 10000 * 2 + 1)
+            for (row = 0; row < rows; row++) put(2 * row)
+            for (row = 0; row < uploads; row++) {
+                put(row * 7919 % rows * 2 + 1)
                 if (!openings || row % 10 != 9) continue
                 number = (row + 1) / 10
                 say("ask Archive.nobody Ada")
@@ -92,71 +93,72 @@ openings_of() {
         }'
 }
 
-# time_of NAME: runs the script of that name, and keeps the milliseconds of processor time and of the clock.
-time_of() {
-    { time "$program" script < "$work/$1.script" > "$work/replies"; } 2>&1 |
-        awk '{ print int(($1 + $2) * 1000), int($3 * 1000) }' >> "$work/$1.times"
+# whole KIND MORE COUNT, before KIND MORE COUNT: the script of so many, and what of it comes before them.
+whole() {
+    case $1 in
+        questions) roster_of "$2"; questions_of "$2" "$3" 0 ;;
+        changes) roster_of "$2"; questions_of "$2" "$3" 1 ;;
+        uploads) changes_of "$3" "$2" 0 ;;
+        drops) changes_of "$3" "$2" 1 ;;
+        openings) openings_of "$3" "$3" "$2" ;;
+    esac
+}
+before() {
+    case $1 in
+        questions | changes) roster_of "$2" ;;
+        uploads) changes_of 0 in_order 0 ;;
+        drops) changes_of "$3" in_order 0 ;;
+        openings) openings_of "$3" 0 0 ;;
+    esac
+}
+
+# each row: what it is, its kind, what the kind needs, how many are timed, and how many counted
+rows=(
+    'a question of 10 tenants|questions|10|30000|3000'
+    'of 100|questions|100|30000|3000'
+    'of 1,000|questions|1000|30000|3000'
+    'a question of 10 tenants, and a change before it|changes|10|30000|3000'
+    'of 100|changes|100|30000|3000'
+    'of 1,000|changes|1000|30000|3000'
+    'an upload, 100,000 in the order of the vault|uploads|in_order|100000|10000'
+    'against it|uploads|against_it|100000|10000'
+    'in no order|uploads|in_no_order|100000|10000'
+    'a withdrawal, 30,000 in the order of the vault|drops|in_order|30000|10000'
+    'in no order|drops|in_no_order|30000|10000'
+    'an upload, 10,000 in no order into a vault of 10,000|openings|0|10000|10000'
+    'with an opening after each ten|openings|1|10000|10000'
+)
+
+# worked FILE: the milliseconds of processor time of a script.
+worked() {
+    { time "$program" script < "$1" > "$work/replies"; } 2>&1 | awk '{ print ($1 + $2) * 1000 }'
     if grep -q error "$work/replies"; then echo "$1: a line was refused" >&2; fi
 }
 
-# median_of NAME COLUMN: the median of what was kept of it.
-median_of() {
-    cut -d ' ' -f "$2" "$work/$1.times" | sort -n | sed -n "$(((runs + 1) / 2))p"
+# scripts_of KIND MORE COUNT: writes both scripts.
+scripts_of() {
+    whole "$@" > "$work/whole.script"
+    before "$@" > "$work/before.script"
 }
 
-# print_row NAME COUNT LINES SILENT: a row of the script of that name: so many questions or uploads in so many lines, which
-# takes so many milliseconds without them.
-print_row() {
-    awk -v name="$1" -v count="$2" -v lines="$3" -v silent="$4" -v worked="$(median_of "$1" 1)" -v clock="$(median_of "$1" 2)" '
-        BEGIN {
-            alone = worked > silent ? worked - silent : 1
-            gsub("_", " ", name)
-            printf "%-42s %8d %10d %10d %14d %8.1f\n", name, lines, worked, clock, lines * 1000 / alone, alone * 1000 / count
-        }'
-}
-
-for tenants in 10 100 1000; do
-    roster_of "$tenants" > "$work/${tenants}_tenants.script"
-    for questions in 3000 10000 30000; do
-        name="${tenants}_tenants_${questions}_questions"
-        { cat "$work/${tenants}_tenants.script"; questions_of "$tenants" "$questions" 0; } > "$work/$name.script"
-        name="${name}_with_changes"
-        { cat "$work/${tenants}_tenants.script"; questions_of "$tenants" "$questions" 1; } > "$work/$name.script"
-    done
-done
-for rows in 1000 3000 10000 30000 100000; do
-    for order in in_order against_it in_no_order; do
-        changes_of "$rows" "$order" 0 > "$work/${rows}_uploads_$order.script"
-    done
-done
-for order in in_order in_no_order; do
-    changes_of 30000 "$order" 1 > "$work/30000_drops_$order.script"
-done
-openings_of 0 > "$work/10000_uploads_and_no_opening.script"
-openings_of 1 > "$work/10000_uploads_and_1000_openings.script"
-for _ in $(seq "$runs"); do
-    for script in "$work"/*.script; do
-        time_of "$(basename "$script" .script)"
+for ((run = 0; run < runs; run++)); do
+    for at in "${!rows[@]}"; do
+        IFS='|' read -r _ kind more timed _ <<< "${rows[at]}"
+        scripts_of "$kind" "$more" $((timed / part))
+        for one in whole before; do worked "$work/$one.script" >> "$work/$at.$one"; done
     done
 done
 
-printf '%-42s %8s %10s %10s %14s %8s\n' script lines 'ms worked' 'ms clock' 'lines a second' 'us each'
-for questions in 3000 10000 30000; do
-    for tenants in 10 100 1000; do
-        name="${tenants}_tenants_${questions}_questions"
-        silent=$(median_of "${tenants}_tenants" 1)
-        print_row "$name" "$questions" "$((3 * questions))" "$silent"
-        print_row "${name}_with_changes" "$questions" "$((4 * questions))" "$silent"
-    done
-done
-for order in in_order against_it in_no_order; do
-    for rows in 1000 3000 10000 30000 100000; do
-        print_row "${rows}_uploads_$order" "$rows" "$rows" 0
-    done
-done
-for order in in_order in_no_order; do
-    print_row "30000_drops_$order" 30000 30000 "$(median_of 30000_uploads_in_order 1)"
-done
-for openings in no_opening 1000_openings; do
-    print_row "10000_uploads_and_$openings" 10000 10000 "$(median_of 10000_uploads_in_order 1)"
+median() { sort -n "$1" | sed -n "$(((runs + 1) / 2))p"; }
+
+heading 'Through a script' microseconds instructions
+for at in "${!rows[@]}"; do
+    IFS='|' read -r what kind more timed counted <<< "${rows[at]}"
+    counted=$((counted / part))
+    scripts_of "$kind" "$more" "$counted"
+    all=$(instructions "$work/whole.script" "$program" script)
+    less=$(instructions "$work/before.script" "$program" script)
+    microseconds=$(awk -v whole="$(median "$work/$at.whole")" -v before="$(median "$work/$at.before")" -v count=$((timed / part)) '
+        BEGIN { printf "%.1f", (whole - before) * 1000 / count }')
+    row "$what" "$microseconds" "$(awk -v all="$all" -v less="$less" -v count="$counted" 'BEGIN { printf "%d", (all - less) / count }')"
 done

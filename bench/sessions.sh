@@ -5,8 +5,9 @@
 # the same searches by 64 sessions of one tenant.
 #
 # Prints the requests in a second and the microseconds of processor time that the server took for one, of the program and of
-# the echo. Each figure is the median of so many runs as the first argument says (3); the second is the number of workers
-# (4), and a third names another built program, of which the same is printed. It needs a C compiler.
+# the echo, which isn't asked by sessions of one tenant. Each figure is the median of so many runs as the
+# first argument says (3); the second is the number of workers (4), and further ones name other built programs, of which the
+# same is printed. It needs a C compiler.
 . "$(dirname "$0")/common.sh"
 
 runs=${1:-3}
@@ -46,25 +47,30 @@ once() {
         { printf "%d %d\n", requests * 1e9 / lasted, ($1 + $2) * 1e9 / requests }' "$work/worked"
 }
 
+# in_microseconds COUNT NANOSECONDS: the two figures as they are shown; two dashes where there are none.
+in_microseconds() {
+    [ $# -gt 0 ] || set -- - -
+    awk -v count="$1" -v nanoseconds="$2" 'BEGIN { print count, nanoseconds == "-" ? "-" : sprintf("%.1f", nanoseconds / 1000) }'
+}
+
 # measure CONNECTIONS ROUNDS AHEAD ASKED WHAT
 measure() {
-    local of_program of_echo='0 0'
+    local of_program of_echo
     of_program=$(medians "$runs" once "$program" "$1" "$2" "$3" "$4")
     [ "$4" = share ] || of_echo=$(medians "$runs" once echo "$1" "$2" "$3" "$4")
-    # shellcheck disable=SC2086
-    echo $of_program $of_echo | awk -v connections="$1" -v what="$5" '
-        { printf "%-34s %11d %14d %8.1f %14d %8.1f\n", what, connections, $1, $2 / 1000, $3, $4 / 1000 }'
+    # shellcheck disable=SC2046,SC2086
+    row "$5" "$1" $(in_microseconds $of_program) $(in_microseconds ${of_echo-})
 }
 
 for program in "$program" "${@:3}"; do
-    echo "$program" | sed "s|^$root/||"
-    printf '%-34s %11s %14s %8s %14s %8s\n' requests connections 'a second' 'us each' 'echoed/second' 'us each'
+    [ $# -lt 3 ] || echo "$program" | sed "s|^$root/||"
+    heading Requests sessions 'in a second' microseconds 'echo, in a second' microseconds
     for connections in 1 64; do
         rounds=$((connections == 1 ? 30000 : 2000))
-        measure "$connections" "$rounds" 0 poll 'poll, one by one'
-        measure "$connections" "$((3 * rounds))" 16 poll 'poll, 16 at once'
-        measure "$connections" "$((rounds / 3))" 0 ask 'ask, wait and end, one by one'
-        measure "$connections" "$((rounds / 3))" 16 ask 'ask, wait and end, 48 at once'
+        measure "$connections" "$rounds" 0 poll '`poll`, one by one'
+        measure "$connections" "$((3 * rounds))" 16 poll '16 sent at once'
+        measure "$connections" "$((rounds / 3))" 0 ask '`ask`, `wait` and `end`, one by one'
+        measure "$connections" "$((rounds / 3))" 16 ask '48 sent at once'
     done
-    measure 64 "$((2000 / 3))" 0 share 'the same of one tenant'
+    measure 64 "$((2000 / 3))" 0 share '`ask`, `wait` and `end`, all of one tenant'
 done

@@ -4,10 +4,9 @@
   sessions.py PORT versions SESSIONS ROWS      each opens 64 searches of two letters, a change before each, and ends them all
   sessions.py PORT letters SESSIONS ROWS       each opens one search, of two letters for each row, waits for it and ends it
 
-Prints the seconds that this took, and the kilobytes that docs/OPERATING.md reckons for all that is held at once."""
+Prints the kilobytes that docs/OPERATING.md reckons for all that is held at once."""
 import socket
 import sys
-import time
 
 OPEN = 64  # the searches that a tenant may have open
 ROUNDS = 4
@@ -45,8 +44,8 @@ def search_all(session, opened):
 
 # of each case what a session does in its turn, and the bytes of its open searches
 CASES = {
-    "versions": (hold_versions, lambda rows: OPEN * (18_600 + 90 + 2 * 400 + 8 * rows)),
-    "letters": (search_all, lambda rows: 18_600 + 90 + 2 * 400 * rows),
+    "versions": (hold_versions, lambda rows: OPEN * (16_000 + 100 + 2 * 400 + 8 * rows)),
+    "letters": (search_all, lambda rows: 16_000 + 100 + 2 * 400 * rows),
 }
 
 
@@ -55,13 +54,12 @@ def main(port, case, count, rows):
     sessions = [Session(port) for _ in range(count)]
     for begin in range(0, rows, 1000):
         sessions[0].say([f"put Archive.all <- E{row}" for row in range(begin, min(begin + 1000, rows))])
-    began, opened = time.monotonic(), 0
+    opened = 0
     for session in sessions * ROUNDS:
         opened += turn(session, opened)
-    seconds = time.monotonic() - began
     changes = rows + (opened if case == "versions" else 0)
-    reckoned = 2_000_000 + 2_900 + 70 * changes + 740 * rows + 40_000 * count + bytes_of_searches(rows)
-    print(f"{seconds:.2f} {reckoned // 1000}")
+    reckoned = 2_000_000 + 1_300 + 70 * changes + 500 * rows + 40_000 * count + bytes_of_searches(rows)
+    print(reckoned // 1000)
 
 
 if __name__ == "__main__":

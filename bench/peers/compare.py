@@ -1,6 +1,7 @@
 """Asks the program and the other tools the same, compares their answers, and prints what they take.
 
   compare.py PROGRAM FOLDER [RUNS [FAMILY..]]"""
+import os
 import pathlib
 import re
 import statistics
@@ -11,7 +12,7 @@ import time
 from families import FAMILIES
 
 HERE = pathlib.Path(__file__).resolve().parent
-SIZES = [1_000, 10_000, 50_000]
+SIZES = [int(size) for size in os.environ.get("SIZES", "10000 50000").split()]
 MOST = "100000 1000 64 1000000 1000000000 4294967296"
 PATIENCE = 60  # seconds
 
@@ -23,10 +24,9 @@ def text_of(owner, body):
     return ".".join([owner, *rest] if kind == "l" else rest)
 
 
-def script_of(rows, questions):
+def script_of(rows, questions, asker):
     """The script of the program: each owner is a tenant that lets the asker read its vault."""
     owners = list(dict.fromkeys(row[0] for row in rows))
-    asker = questions[0][0]
     yield from (f"tenant {owner} word {MOST}" for owner in owners)
     yield "begin"
     yield from (f"{owner}: put {owner}.{role} <- {text_of(owner, body)}" for owner, role, body in rows)
@@ -88,33 +88,55 @@ def take(command, source):
     return ran.stdout, time.perf_counter() - begun, int(ran.stderr.splitlines()[-1]) / 1024
 
 
+def tools_of(program, folder, count):
+    """Of each tool its command, what it reads, its command where it is asked nothing, and how its answers are read."""
+    paths = {kind: (folder / f"whole.{kind}", folder / f"load.{kind}") for kind in ("script", "pl", "lp")}
+
+    def by_number(output):
+        return answers_by_number(output, count)
+
+    def over(words, kind):
+        return [[*words, path] for path in paths[kind]]
+
+    clingo, facts = ["clingo", "-V1"], paths["lp"]
+    return {
+        "rtsearch": ([[program, "script"]] * 2, paths["script"], answers_of_program),
+        "native": (over([folder / "native"], "lp"), None, by_number),
+        "SWI-Prolog": (over(["swipl", "-q", "-g", "answer", "-t", "halt", HERE / "roles.pl", "--"], "pl"), None, by_number),
+        "SQLite": (over(["python3", HERE / "rounds.py"], "lp"), None, by_number),
+        "clingo": ([[*clingo, HERE / "roles.lp", facts[0]], [*clingo, facts[1]]], None, lambda output: answers_of_clingo(output, count)),
+        "PyPy": (over(["pypy3", HERE / "roles.py"], "lp"), None, by_number),
+    }
+
+
+def write_inputs(folder, rows, questions):
+    """What each tool reads, with the questions and without."""
+    for name, asked in (("whole", questions), ("load", [])):
+        (folder / f"{name}.script").write_text("\n".join(script_of(rows, asked, questions[0][0])) + "\n")
+        facts = list(facts_of(rows, asked))
+        write_facts(folder / f"{name}.pl", facts, "'")
+        write_facts(folder / f"{name}.lp", facts, '"')
+
+
 def compare(program, folder, runs, family, size):
     rows, questions = family(size)
-    paths = {kind: folder / f"in.{kind}" for kind in ("script", "pl", "lp", "none")}
-    paths["script"].write_text("\n".join(script_of(rows, questions)) + "\n")
-    facts = list(facts_of(rows, questions))
-    write_facts(paths["pl"], facts, "'")
-    write_facts(paths["lp"], facts, '"')
-    paths["none"].write_text("")
+    write_inputs(folder, rows, questions)
     count = len(questions)
-    tools = {
-        "rtsearch": ([program, "script"], paths["script"], answers_of_program),
-        "SWI-Prolog": (["swipl", "-q", "-g", "answer", "-t", "halt", HERE / "roles.pl", "--", paths["pl"]], paths["none"], lambda o: answers_by_number(o, count)),
-        "SQLite": (["python3", HERE / "rounds.py", paths["lp"]], paths["none"], lambda o: answers_by_number(o, count)),
-        "clingo": (["clingo", "-V1", HERE / "roles.lp", paths["lp"]], paths["none"], lambda o: answers_of_clingo(o, count)),
-    }
     wanted, cells = None, []
-    for name, (command, source, read) in tools.items():
-        taken = [take(command, source) for _ in range(runs)]
-        if None in taken:
+    for commands, sources, read in tools_of(program, folder, count).values():
+        sources = sources or ["/dev/null"] * 2
+        taken = [[take(*one) for one in zip(commands, sources)] for _ in range(runs)]
+        if any(None in one for one in taken):
             cells.append(f"over {PATIENCE}")
             continue
-        answers = read(taken[0][0])
+        answers = read(taken[0][0][0])
         wanted = answers if wanted is None else wanted
         if answers != wanted or len(answers) != count:
             cells.append("other answers")
             continue
-        cells.append(f"{statistics.median(one[1] for one in taken):.3f} ({statistics.median(one[2] for one in taken):.0f})")
+        whole = statistics.median(one[0][1] for one in taken)
+        alone = max(0, whole - statistics.median(one[1][1] for one in taken))
+        cells.append(f"{1000 * whole:.0f}, {1000 * alone:.0f} ({statistics.median(one[0][2] for one in taken):.0f})")
     print(f"| {family.__name__} | {len(rows)} | {sum(map(len, wanted))} | {' | '.join(cells)} |", flush=True)
 
 
@@ -122,7 +144,8 @@ def main():
     program, folder = sys.argv[1], pathlib.Path(sys.argv[2])
     runs = int(sys.argv[3]) if len(sys.argv) > 3 else 3
     chosen = [family for family in FAMILIES if len(sys.argv) < 5 or family.__name__ in sys.argv[4:]]
-    print("| Seconds (megabytes) | credentials | members told | rtsearch | SWI-Prolog | SQLite | clingo |\n| --- | --- | --- | --- | --- | --- | --- |")
+    heads = ["Milliseconds, of questions (megabytes)", "credentials", "members", *tools_of(program, folder, 0)]
+    print(f"| {' | '.join(heads)} |\n|{' --- |' * len(heads)}")
     for family in chosen:
         for size in SIZES:
             compare(program, folder, runs, family, size)

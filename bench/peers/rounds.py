@@ -1,7 +1,7 @@
 """RT0's four rules as queries of SQLite, in rounds until nothing is new. In a round each rule joins what the round before
 has found, so that no pair is looked at twice: `CROSS JOIN` begins with what is new.
 
-  rounds.py FACTS          prints each question's number with each member"""
+  rounds.py FACTS          prints each question's number with each member; without questions it loads the facts alone"""
 import re
 import sqlite3
 import sys
@@ -54,6 +54,8 @@ def main():
     base = sqlite3.connect(":memory:", isolation_level=None)
     base.execute("BEGIN")
     load(base, sys.argv[1])
+    if not base.execute("SELECT count(*) FROM question").fetchone()[0]:
+        return
     for table, columns in (("", "owner, role, who"), ("part", "number, place, who")):
         for kind in ("found", "fresh", "wanted"):
             base.execute(f"CREATE TABLE {kind}{table} ({columns}, PRIMARY KEY ({columns})) WITHOUT ROWID")

@@ -116,12 +116,13 @@ class Measured:
 
 def main():
     program, size, count = sys.argv[1], int(sys.argv[2]), int(sys.argv[3])
-    print(f"{'family':<12} {'letters':>8} {'by a script':>12} {'in visits':>10} {'more':>6}")
+    heads = ["Instructions for a letter", "letters", "through a script", "in visits of one worker"]
+    print(f"| {' | '.join(heads)} |\n|{' --- |' * len(heads)}")
     for family in (chain, wide, federation, meet, circles, nested):
         it = Measured(program, family, size)
         letters = it.letters()
         each = [(of(count + 2) - of(2)) / count / letters for of in (it.by_script, it.by_visits)]
-        print(f"{family.__name__:<12} {letters:>8} {each[0]:>12.0f} {each[1]:>10.0f} {each[1] - each[0]:>6.0f}", flush=True)
+        print(f"| {family.__name__} | {letters:,} | {each[0]:,.0f} | {each[1]:,.0f} |", flush=True)
 
 
 if __name__ == "__main__":
