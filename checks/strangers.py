@@ -12,7 +12,7 @@ up to five times, since a machine that does more is late: nobody is soon once wh
   those that it has, and ends within a second, with status 1.
 - Idle peers: 8 silent peers have all 8 sessions of a server with `--idle 1`; they are cut, and a ninth peer is served. So is
   one cut that stops within its hello; one that waits for a long search isn't, nor one that takes its replies slowly. With
-  `--idle 2` one that takes no replies is cut within four seconds: two, and two writes, after it took its last byte.
+  `--idle 3` one that takes no replies is cut within six seconds: three, and two writes, after it took its last byte.
 - Half-open peers: one that has said its last reads all its replies. Where a peer closes or resets while its session waits
   for a search, that session is over within a second of the search's end. One that has sent 500,000 bytes behind its `quit`
   reads `bye`, and then the end.
@@ -227,7 +227,7 @@ def few_threads(workers=4, sessions=8):
 # idle peers
 
 
-def takes_nothing(idle=2, rows=500):
+def takes_nothing(idle=3, rows=500):
     """Asks for more than can be on its way, and takes nothing of it, until it can't ask any more. How long that is."""
     with Server(ROSTER, 1, "--idle", str(idle)) as server, server.peer() as peer:
         greet(peer, "A")
@@ -276,10 +276,10 @@ def idle_peers(silent=8):
             want(peer.ask("wait 1")[0].split()[0], "members", "a wait that is longer than peers may be idle")
             waited = time.monotonic() - began
         takes_slowly(server)
-    taken = soon(takes_nothing, 4, "the end of a peer that takes nothing")
-    want(1.9 < taken, True, f"a peer that takes nothing has its two seconds: it is cut after {taken:.1f}")
+    taken = soon(takes_nothing, 6, "the end of a peer that takes nothing")
+    want(2.9 < taken, True, f"a peer that takes nothing has its three seconds: it is cut after {taken:.1f}")
     return (
-        f"{silent} silent peers are cut after a second, and a ninth is served after {served:.1f}; one that may take nothing for two is cut after "
+        f"{silent} silent peers are cut after a second, and a ninth is served after {served:.1f}; one that may take nothing for three is cut after "
         f"{taken:.1f}; one that waits for {waited:.1f} isn't cut, nor one that takes slowly"
     )
 

@@ -1,15 +1,17 @@
 -- Which searches come to their ends from one hall to another, and of which it is told.
 use Rattle.std.proofs.Common.{◌≡◌, ◌∙◌, ◌⊎◌, ◌∷◌, ◌++◌, ℕ, List, [], ap, sym, subst, refl, inl, inr, Option, Some, None}
 use Rattle.std.specs.Prelude.{IsSomeAnd, Contains}
-use Rattle.std.proofs.lemmas.List.{append-nil, append_assoc}
+use Rattle.std.proofs.lemmas.{List.append-nil, List.append_assoc, Option.same_Some}
 use Rattle.std.proofs.lemmas.List.Elements.{Contains-append_left, Contains-append_right, Contains-append_cases}
 use Rattle.rt0_rules.proofs.Elements.{Contains-none, Contains-first, Contains-cons_cases}
 use Rattle.hall.specs.declared.picking.Standing.{Standing}
 use Rattle.hall.specs.declared.picking.Standing.TheVariants.{Moves, Rests, Over}
 use Rattle.hall.specs.Hall.{HallState, Running, search_of, search_at, with_search}
 use Rattle.hall.specs.Kept.{IsUnsettled, Stands}
-use Rattle.hall.specs.Work.{StillWorks, TellsEnds}
+use Rattle.hall.specs.Work.{StillWorks, SearchIsQuiet, TellsEnds}
 use Rattle.hall.specs.Working.{TellsMore}
+use Rattle.hall.proofs.Carrying.{none_quiet, quiet_in}
+use Rattle.hall.proofs.Picked.{rests}
 use Rattle.hall.proofs.Placed.{found_after, put_back, put_twice}
 use Rattle.hall.proofs.laws.HallChanges.{replaced_each, tenant_of}
 
@@ -47,14 +49,24 @@ told_of Over name = name ∷ []
 told_of Moves name = []
 told_of Rests name = []
 
+told_is : (standing : Standing) (n name : Name) → Contains (told_of standing n) name → n ≡ name
+told_is Over n name tells = elim (Contains-cons_cases n [] name tells) [ inl one ↦ one | inr none ↦ absurd (Contains-none name none) ]
+told_is Moves n name tells = absurd (Contains-none name tells)
+told_is Rests n name tells = absurd (Contains-none name tells)
+
 pub told_none : (standing : Standing) (name : Name) → (standing ≡ Over → ⊥) → told_of standing name ≡ []
 told_none Over name isnt = absurd (isnt refl)
 told_none Moves name isnt = refl
 told_none Rests name isnt = refl
 
 -- nothing happened
-nothing_ends : (h : HallState) → TellsEnds h h []
-nothing_ends h = record { each = λ name works. inl works; over = λ name told. absurd (Contains-none name told); none_again = λ name works. works }
+nothing_ends : (own : Option Name) (h : HallState) → TellsEnds own h h []
+nothing_ends own h = record {
+  each = λ name works. inl works;
+  were = λ name told. absurd (Contains-none name told);
+  over = λ name told. absurd (Contains-none name told);
+  none_again = λ name works. works;
+}
 
 module _ (h : HallState) (who : List ℕ) (k : ℕ) (r : Running) (at : search_at h who k ≡ Some r) (s : Running) (before : IsUnsettled s.search → IsUnsettled r.search)
     (standing : Standing) (stands : Stands s.search standing) where
@@ -68,12 +80,13 @@ module _ (h : HallState) (who : List ℕ) (k : ℕ) (r : Running) (at : search_a
   found = found_after h who k r at s
 
   -- one search goes on, and is told of where it is over
-  ends_there : TellsEnds h after told
+  ends_there : TellsEnds (Some (who, k)) h after told
   ends_there = record {
     each = λ name works.
         let (q, is, unsettled) = who_works h name works in
         each_after (λ n x. IsUnsettled x.search → StillWorks after n ⊎ Contains told n) after who k s r found (λ u. this standing stands refl)
         (λ n x is u. inl (at_work after n x is u)) name q (subst (λ (g : HallState). search_at g name.0 name.1 ≡ Some q) (sym back) is) unsettled;
+    were = λ name tells. inr (ap Some (told_is standing (who, k) name tells));
     over = λ name tells. over_by standing stands refl name tells;
     none_again = λ name works.
         let (q, is, unsettled) = who_works after name works in
@@ -90,10 +103,7 @@ module _ (h : HallState) (who : List ℕ) (k : ℕ) (r : Running) (at : search_a
 
       over_by : (so : Standing) → Stands s.search so → standing ≡ so → (name : Name) → Contains told name → StillWorks after name → ⊥
       over_by Over over is name tells works =
-          let same : (who, k) ≡ name = elim (Contains-cons_cases (who, k) [] name (subst (λ (x : Standing). Contains (told_of x (who, k)) name) is tells)) [
-            | inl one ↦ one
-            | inr none ↦ absurd (Contains-none name none)
-          ] in
+          let same : (who, k) ≡ name = told_is standing (who, k) name tells in
           let (q, there, unsettled) = who_works after (who, k) (subst (StillWorks after) (sym same) works) in
           let both : Some s ≡ Some q = sym found ∙ there in
           let one : s ≡ q = cc in
@@ -102,11 +112,15 @@ module _ (h : HallState) (who : List ℕ) (k : ℕ) (r : Running) (at : search_a
       over_by Rests stands is name tells works = Contains-none name (subst (λ (x : Standing). Contains (told_of x (who, k)) name) is tells)
 
 -- one after another
-ends_both : (a b c : HallState) (x y : List Name) → TellsEnds a b x → TellsEnds b c y → TellsEnds a c (x ++ y)
-ends_both a b c x y first second = record {
+ends_both : (own : Option Name) (a b c : HallState) (x y : List Name) → TellsEnds own a b x → TellsEnds None b c y → TellsEnds own a c (x ++ y)
+ends_both own a b c x y first second = record {
   each = λ name works. elim (first.each name works) [
     | inl on ↦ elim (second.each name on) [ inl still ↦ inl still | inr told ↦ inr (Contains-append_right x y name told) ]
     | inr told ↦ inr (Contains-append_left x y name told)
+  ];
+  were = λ name told. elim (Contains-append_cases x y name told) [
+    | inl early ↦ first.were name early
+    | inr late ↦ elim (second.were name late) [ inl works ↦ inl (first.none_again name works) | inr none ↦ absurd (cc) ]
   ];
   over = λ name told works. elim (Contains-append_cases x y name told) [
     | inl early ↦ first.over name early (second.none_again name works)
@@ -116,19 +130,37 @@ ends_both a b c x y first second = record {
 }
 
 -- the same behind what was told before
-pub tells_none : (old new : HallState) (before later : List Name) → new ≡ old → later ≡ before → TellsMore old new before later
-tells_none old new before later same none =
-    ([], none ∙ sym (append-nil before), subst (λ (h : HallState). TellsEnds old h []) (sym same) (nothing_ends old))
+pub tells_none : (own : Option Name) (old new : HallState) (before later : List Name) → new ≡ old → later ≡ before → TellsMore own old new before later
+tells_none own old new before later same none =
+    ([], none ∙ sym (append-nil before), subst (λ (h : HallState). TellsEnds own old h []) (sym same) (nothing_ends own old))
 
-pub tells_both : (a b c : HallState) (x y z : List Name) → TellsMore a b x y → TellsMore b c y z → TellsMore a c x z
-tells_both a b c x y z (told, is, ends) (more, then, late) =
-    (told ++ more, then ∙ ap (λ (l : List Name). l ++ more) is ∙ append_assoc x told more, ends_both a b c told more ends late)
+pub tells_both : (own : Option Name) (a b c : HallState) (x y z : List Name) → TellsMore own a b x y → TellsMore None b c y z → TellsMore own a c x z
+tells_both own a b c x y z (told, is, ends) (more, then, late) =
+    (told ++ more, then ∙ ap (λ (l : List Name). l ++ more) is ∙ append_assoc x told more, ends_both own a b c told more ends late)
+
+-- something of a search is left, so it works
+pub left_works : (h : HallState) (name : Name) → (SearchIsQuiet h name.0 name.1 → ⊥) → StillWorks h name
+left_works h name left = by (search_at h name.0 name.1) refl
+  where
+    by : (o : Option Running) → search_at h name.0 name.1 ≡ o → StillWorks h name
+    by None none = absurd (left (none_quiet h name.0 name.1 none))
+    by (Some r) at = elim (rests r.search) [ inl unsettled ↦ at_work h name r at unsettled | inr quiet ↦ absurd (left (quiet_in h name.0 name.1 r at quiet)) ]
+
+-- the one of that name worked
+pub tells_working : (name : Name) (old new : HallState) (before later : List Name) → StillWorks old name → TellsMore (Some name) old new before later →
+    TellsMore None old new before later
+tells_working name old new before later works (told, is, ends) = (told, is, record {
+  each = ends.each;
+  were = λ n tells. elim (ends.were n tells) [ inl worked ↦ inl worked | inr same ↦ inl (subst (StillWorks old) (same_Some name n same) works) ];
+  over = ends.over;
+  none_again = ends.none_again;
+})
 
 pub tells_there : (old new : HallState) (who : List ℕ) (k : ℕ) (r : Running) → search_at old who k ≡ Some r → (s : Running) → (IsUnsettled s.search → IsUnsettled r.search) →
     (standing : Standing) → Stands s.search standing → new ≡ with_search old who k s → (before later : List Name) → later ≡ before ++ told_of standing (who, k) →
-    TellsMore old new before later
+    TellsMore (Some (who, k)) old new before later
 tells_there old new who k r at s before standing stands is before_told later more =
-    (told_of standing (who, k), more, subst (λ (h : HallState). TellsEnds old h (told_of standing (who, k))) (sym is) (ends_there old who k r at s before standing stands))
+    (told_of standing (who, k), more, subst (λ (h : HallState). TellsEnds (Some (who, k)) old h (told_of standing (who, k))) (sym is) (ends_there old who k r at s before standing stands))
 
-pub tells_all : (old new : HallState) (before later : List Name) → before ≡ [] → TellsMore old new before later → TellsEnds old new later
-tells_all old new before later none (told, is, ends) = subst (TellsEnds old new) (sym (is ∙ ap (λ (l : List Name). l ++ told) none)) ends
+pub tells_all : (own : Option Name) (old new : HallState) (before later : List Name) → before ≡ [] → TellsMore own old new before later → TellsEnds own old new later
+tells_all own old new before later none (told, is, ends) = subst (TellsEnds own old new) (sym (is ∙ ap (λ (l : List Name). l ++ told) none)) ends

@@ -1,5 +1,6 @@
 -- What the calls of a hall do to one of its searches.
-use Rattle.std.specs.Prelude.{◌≡◌, ◌≢◌, ◌==◌, ◌⊎◌, ◌<◌, ℕ, Bool, true, List, [], length, slice_get, Option, None, Some, MatchOption, IsSomeAnd, Result, Ok, Err}
+use Rattle.std.specs.Prelude.{◌≡◌, ◌≢◌, ◌==◌, ◌⊎◌, ◌<◌, ℕ, Bool, true, List, [], length, slice_get}
+use Rattle.std.specs.Prelude.{Option, None, Some, MatchOption, IsSomeAnd, Result, Ok, Err}
 use Rattle.std.specs.{Map.lookup, FinMap.get, Arc.arc_value, declared.alloc.AllocError.AllocError}
 use Rattle.indexmap.specs.IndexSet.{IndexSet, contains}
 use Rattle.names.specs.Name.{is_same}
@@ -11,7 +12,8 @@ use Rattle.hall.specs.declared.faults.Fault.TheVariants.{NoTenant, NoSuchSearch,
 use Rattle.hall.specs.declared.picking.Standing.TheVariants.{Moves, Rests, Over}
 use Rattle.hall.specs.declared.{faults.Fault.Fault, calls.answers.Answer.Answer, calls.steps.Step.Step, picking.Standing.Standing}
 use Rattle.hall.specs.declared.calls.steps.Step.TheVariants.{Take, Signal}
-use Rattle.hall.specs.{Answers.answer_of, Steps.StepsSearch, Steps.SearchGoesOn, Hall.Running, Hall.Tenant, Hall.HallState, Hall.IsSound, Hall.search_at}
+use Rattle.hall.specs.{Answers.answer_of, Steps.StepsSearch, Steps.SearchGoesOn}
+use Rattle.hall.specs.Hall.{Running, Tenant, HallState, IsSound, search_at}
 use Rattle.indexmap.specs.IndexMap.{IndexMap, get as numbers_of}
 use Rattle.hall.specs.declared.calls.steps.Stepped.TheVariants.{Took, Nothing as NoneTaken}
 

@@ -22,8 +22,8 @@ LendsSearch s who k r =
     (λ n. n ≡ s.now)
 
 -- the tenant's search of that number was lent, and is what was left of it
-pub record IsLent {A R : Type 0} (does : MutBor Running → MutBor A → R → MutBor Running → MutBor A → Type 0) (old : HallState) (who : List ℕ) (k : ℕ)
-    (had : A) (told : R) (standing : Standing) (new : HallState) (has : A) : Type 0 where
+pub record IsLent {A R : Type 0} (does : MutBor Running → MutBor A → R → MutBor Running → MutBor A → Type 0)
+    (old : HallState) (who : List ℕ) (k : ℕ) (had : A) (told : R) (standing : Standing) (new : HallState) (has : A) : Type 0 where
   pub lent : MutBor Running
   pub beside : MutBor A
   pub left : MutBor Running

@@ -1,5 +1,6 @@
 -- What somebody who works for a hall does to it.
-use Rattle.std.specs.Prelude.{◌≡◌, ◌⊎◌, ◌≤◌, ℕ, Bool, true, false, List, map, length, count_by, Option, None, Some, MatchOption, IsSomeAnd, MatchBool, Contains}
+use Rattle.std.specs.Prelude.{◌≡◌, ◌⊎◌, ◌≤◌, ℕ, Bool, true, false, MatchBool, List, map, length, count_by, Contains}
+use Rattle.std.specs.Prelude.{Option, None, Some, MatchOption, IsSomeAnd}
 use Rattle.std.specs.List.{filter_map}
 use Rattle.search.specs.{declared.queries.Need.Need, Search.SearchState, Search.IsCompleted, Finish.right_hint, Stage.IsQuiet}
 use Rattle.snapshots.specs.Snapshot.{SnapshotState}
@@ -70,7 +71,8 @@ is_done Done = true
 is_done _ = false
 
 -- these letters are handed in, in their order, by the steps that are made, and so many are finished
-pub record HandsIn (made : List Step → List Stepped → Type 0) (back : Bool) (of : Named) (letters : List (ℕ × Need)) (finished : ℕ) : Type 0 where
+pub record HandsIn (made : List Step → List Stepped → Type 0) (back : Bool) (of : Named) (letters : List (ℕ × Need)) (finished : ℕ) :
+    Type 0 where
   pub answers : List Stepped
   pub steps : made (map (handing_in back of) letters) answers
   pub count : finished ≡ count_by is_done answers
@@ -90,8 +92,8 @@ went_on (Some letter) = Took letter.0 letter.1
 went_on None = Signalled
 
 -- the search of that name goes on by at most so many steps, fewer only where nothing is left to do, and these letters are taken
-pub record GoesOn (made : List Step → List Stepped → Type 0) (name : List ℕ × ℕ) (most : ℕ) (nothing_left : Type 0) (letters : List (ℕ × Need)) :
-    Type 0 where
+pub record GoesOn (made : List Step → List Stepped → Type 0) (name : List ℕ × ℕ) (most : ℕ) (nothing_left : Type 0)
+    (letters : List (ℕ × Need)) : Type 0 where
   pub moves : List (Option (ℕ × Need))
   pub steps : made (map (going_on name) moves) (map went_on moves)
   pub taken : letters ≡ filter_map (λ m. m) moves
@@ -112,9 +114,11 @@ AsksForSteps _ = ⊥
 abbrev pub StillWorks : HallState → List ℕ × ℕ → Type 0
 StillWorks h name = IsSomeAnd (search_at h name.0 name.1) (λ r. IsUnsettled r.search)
 
--- from one hall to another the searches come to their ends that are told, which work no more, and no others; none works again
-pub record TellsEnds (old new : HallState) (told : List (List ℕ × ℕ)) : Type 0 where
+-- from one hall to another the searches come to their ends that are told, and no others: each of these worked, or is the one of this name,
+-- and works no more; none works again
+pub record TellsEnds (own : Option (List ℕ × ℕ)) (old new : HallState) (told : List (List ℕ × ℕ)) : Type 0 where
   pub each : (name : List ℕ × ℕ) → StillWorks old name → StillWorks new name ⊎ Contains told name
+  pub were : (name : List ℕ × ℕ) → Contains told name → StillWorks old name ⊎ (own ≡ Some name)
   pub over : (name : List ℕ × ℕ) → Contains told name → StillWorks new name → ⊥
   pub none_again : (name : List ℕ × ℕ) → StillWorks new name → StillWorks old name
 
@@ -142,7 +146,8 @@ GoesOnAs asked most room old had NoMemory new has =
 GoesOnAs asked most room old had Unasked new has = (AsksForSteps asked → ⊥) × (new ≡ old) × IsEmpty has × (has.room ≡ room)
 
 -- a visit: the letters of the batch are handed in, and from there it goes on
-pub record IsVisit (asked : Order) (most : ℕ) (old : HallState) (had : BatchState) (visit : Visit) (new : HallState) (has : BatchState) : Type 0 where
+pub record IsVisit (asked : Order) (most : ℕ) (old : HallState) (had : BatchState) (visit : Visit) (new : HallState) (has : BatchState) :
+    Type 0 where
   pub middle : HallState
   pub handed_in : HandsInBatch Makes (gives_back asked) old had visit.finished middle
   pub next : GoesOnAs asked most had.room middle had.of visit.next new has

@@ -2,12 +2,14 @@
 use Rattle.std.specs.Prelude.{◌≡◌, ℕ, Bool, true, false, List, ◌++◌, ◌∷◌, [], Option, None, Some, MatchOption}
 use Rattle.std.specs.List.{filter_map}
 use Rattle.search.specs.{declared.queries.Need.Need, Search.SearchState, Stage.IsQuiet}
-use Rattle.hall.specs.declared.{visits.Order.Order, visits.Next.Next, working.Went.Went, picking.Standing.Standing, calls.steps.Stepped.Stepped}
+use Rattle.hall.specs.declared.{visits.Order.Order, visits.Next.Next, calls.steps.Stepped.Stepped}
+use Rattle.hall.specs.declared.{working.Went.Went, picking.Standing.Standing}
 use Rattle.hall.specs.declared.picking.Standing.TheVariants.{Moves, Rests, Over}
 use Rattle.hall.specs.declared.{visits.Order.TheVariants.GoOn, visits.Next.TheVariants.Worked}
 use Rattle.hall.specs.declared.visits.Next.TheVariants as goes_so
 use Rattle.hall.specs.declared.working.Went.TheVariants.{Nowhere, On, NoMemory}
-use Rattle.hall.specs.Work.{HandsInBatch, GoesOn, GoesOnAs, Makes, SearchIsQuiet, TellsEnds, handing_in, going_on, went_on, is_done, gives_back}
+use Rattle.hall.specs.Work.{HandsInBatch, GoesOn, GoesOnAs, Makes, SearchIsQuiet, TellsEnds}
+use Rattle.hall.specs.Work.{handing_in, going_on, went_on, is_done, gives_back}
 use Rattle.hall.specs.{Steps.StepsSearch, Steps.StepsEach, Batches.Named, Batches.BatchState, Batches.batch_of, Batches.IsEmpty}
 use Rattle.hall.specs.Hall.{HallState}
 
@@ -49,13 +51,14 @@ next_of standing NoMemory = Some goes_so.NoMemory
 
 -- the letters of the batch are handed in to the search of that name in a hall, and it goes on so, or doesn't, where that wasn't asked or
 -- nothing of it is left
-pub record WorksOnOne (asked : Order) (most : ℕ) (old : HallState) (name : List ℕ × ℕ) (had : BatchState) (finished : ℕ) (next : Option Next)
-    (new : HallState) (has : BatchState) : Type 0 where
+pub record WorksOnOne (asked : Order) (most : ℕ) (old : HallState) (name : List ℕ × ℕ) (had : BatchState) (finished : ℕ)
+    (next : Option Next) (new : HallState) (has : BatchState) : Type 0 where
   pub middle : HallState
   pub handed_in : HandsInBatch Makes (gives_back asked) old had finished middle
-  pub goes_on : MatchOption next ((asked ≡ GoOn → SearchIsQuiet middle name.0 name.1) × (new ≡ middle) × IsEmpty has × (has.room ≡ had.room))
+  pub goes_on : MatchOption next
+      ((asked ≡ GoOn → SearchIsQuiet middle name.0 name.1) × (new ≡ middle) × IsEmpty has × (has.room ≡ had.room))
       (λ next. (asked ≡ GoOn) × GoesOnAs asked most had.room middle had.of next new has)
 
 -- more searches are told of, which have come to their ends from one hall to another
-abbrev pub TellsMore : HallState → HallState → List (List ℕ × ℕ) → List (List ℕ × ℕ) → Type 0
-TellsMore old new before after = (told : List (List ℕ × ℕ)) × (after ≡ before ++ told) × TellsEnds old new told
+abbrev pub TellsMore : Option (List ℕ × ℕ) → HallState → HallState → List (List ℕ × ℕ) → List (List ℕ × ℕ) → Type 0
+TellsMore own old new before after = (told : List (List ℕ × ℕ)) × (after ≡ before ++ told) × TellsEnds own old new told

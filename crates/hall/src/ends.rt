@@ -56,7 +56,19 @@ impl Ends {
     }
 
     /// Takes the last one out.
+    #[inline(always)]
     pub fn take(&mut self) -> Option<(Entity, u64)>
+        ensures { MatchOption result ((self.old ≡ []) × (self.new ≡ [])) (λ end. self.old ≡ self.new ++ end ∷ []) }
+    {
+        if self.is_empty() {
+            return None;
+        }
+        self.take_last()
+    }
+
+    /// Takes the last one out, where there is one or none. Most visits end no search, and don't come here.
+    #[inline(never)]
+    fn take_last(&mut self) -> Option<(Entity, u64)>
         ensures { MatchOption result ((self.old ≡ []) × (self.new ≡ [])) (λ end. self.old ≡ self.new ++ end ∷ []) }
     {
         if self.second.is_some() {

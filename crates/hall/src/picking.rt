@@ -74,12 +74,13 @@ fn standing_of(search: &Search) -> Standing
     ensures sound { IsSoundStage search.now.stage }
     ensures stands { Stands search.now result }
 {
-    if search.status() != Status::Working {
-        Standing::Over
-    } else if search.is_quiet() {
+    search.kept();
+    if !search.is_quiet() {
+        Standing::Moves
+    } else if search.status() == Status::Working {
         Standing::Rests
     } else {
-        Standing::Moves
+        Standing::Over
     }
 }
 

@@ -1,5 +1,5 @@
 //! Visits of somebody who works for a hall: what he asks for, and what came of it.
-ghost use Rattle.std.specs.Prelude.{◌≡◌, ◌≤◌, ◌+◌, [], length, MatchOption};
+ghost use Rattle.std.specs.Prelude.{◌≡◌, ◌≤◌, ◌+◌, [], length, None, Some, MatchOption, option_map};
 ghost use Rattle.hall.specs.Batches.{IsEmpty, IsLookedUp, name_of};
 ghost use Rattle.hall.specs.Work.{IsVisit, GoesOnAs, TellsEnds};
 
@@ -77,7 +77,7 @@ impl Hall {
         requires space { most ≤ batch.old.room }
         requires told { ends.old ≡ [] }
         ensures visit { IsVisit order most self.old batch.old result self.new batch.new }
-        ensures ends { TellsEnds self.old self.new ends.new }
+        ensures ends { TellsEnds (option_map name_of batch.old.of) self.old self.new ends.new }
     {
         let Some((who, number)) = batch.search() else {
             let next = self.take_turn(turn, order, most, batch, ends);
@@ -104,7 +104,7 @@ impl Hall {
         requires space { most ≤ batch.old.room }
         requires told { length ends.old ≤ 1 }
         ensures next { GoesOnAs order most batch.old.room self.old None result self.new batch.new }
-        ensures ends { TellsMore self.old self.new ends.old ends.new }
+        ensures ends { TellsMore None self.old self.new ends.old ends.new }
     {
         let (Order::GoOn | Order::TakeTurn) = order else {
             return Next::Unasked;
@@ -134,7 +134,7 @@ impl Hall {
         requires space { most ≤ batch.old.room }
         requires told { length ends.old ≤ 1 }
         ensures works { WorksOnOne order most self.old (who.now, number) batch.old result.0 result.1 self.new batch.new }
-        ensures ends { TellsMore self.old self.new ends.old ends.new }
+        ensures ends { TellsMore (Some (who.now, number)) self.old self.new ends.old ends.new }
         ensures told { length ends.new ≤ length ends.old + 1 }
     {
         let lent = self.lend(who, number, batch, |opened, batch| {

@@ -1,4 +1,6 @@
-ghost use Rattle.std.specs.Prelude.{◌≡◌, ◌↔◌, ◌+◌, ◌≤◌, false, [], length, map, vec_len, IfOk, IfErr, IfSome, IfNone, OnOk, OnErr, Contains};
+//! A hall under one lock: passes ask of it, and workers work for it.
+ghost use Rattle.std.specs.Prelude.{◌≡◌, ◌↔◌, ◌+◌, ◌≤◌, false, [], length, map, vec_len, Contains};
+ghost use Rattle.std.specs.Prelude.{IfOk, IfErr, IfSome, IfNone, OnOk, OnErr};
 ghost use Rattle.std.specs.List.{IsDistinct};
 ghost use Rattle.std.specs.Sync.Mutex.{mutex_guard_value};
 ghost use Rattle.names.specs.Name.{is_same};
@@ -391,12 +393,14 @@ impl<L: Ledger> Desk<L> {
         if is_left {
             self.work.notify_one();
         }
-        self.tell(ends);
+        if !ends.is_empty() {
+            self.tell(ends);
+        }
         found
     }
 
     /// Wakes who waits for these searches.
-    #[inline(always)]
+    #[inline(never)]
     fn tell(&self, ends: &mut Ends)
         ensures { ends.new ≡ [] }
     {

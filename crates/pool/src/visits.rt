@@ -1,6 +1,6 @@
 //! What a worker does when it has the lock.
-ghost use Rattle.std.specs.Prelude.{◌≡◌, ◌≤◌, ◌↔◌, [], IsTrue};
-ghost use Rattle.hall.specs.Batches.{IsLookedUp};
+ghost use Rattle.std.specs.Prelude.{◌≡◌, ◌≤◌, ◌↔◌, [], IsTrue, option_map};
+ghost use Rattle.hall.specs.Batches.{IsLookedUp, name_of};
 ghost use Rattle.hall.specs.Work.{IsVisit, TellsEnds};
 ghost use Rattle.pool.specs.Rooms.{IsIdle};
 ghost use Rattle.pool.specs.Workers.{order_in};
@@ -55,7 +55,7 @@ impl<L: Ledger> Room<L> {
         requires space { BATCH ≤ batch.old.room }
         requires told { ends.old ≡ [] }
         ensures visit { IsVisit (order_in self.old order) BATCH self.old.hall batch.old result self.new.hall batch.new }
-        ensures ends { TellsEnds self.old.hall self.new.hall ends.new }
+        ensures ends { TellsEnds (option_map name_of batch.old.of) self.old.hall self.new.hall ends.new }
         ensures room { self.new ≡ record self.old { hall = self.new.hall } }
     {
         let order = if self.stopped { Order::GiveBack } else { order };

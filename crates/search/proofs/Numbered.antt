@@ -26,11 +26,12 @@ use Rattle.cred_graph.specs.Numbers.{IsEntity, IsNamed, IsPort, entity_at, port_
 use Rattle.cred_graph.proofs.Growth.{listed_with, listed_at-pushed, listed_with_cases}
 use Rattle.cred_graph.proofs.NumberLemmas.{entity_goes_on, entity_stays, named_goes_on, port_goes_on, port_named, port_stays}
 use Rattle.scholten_core.specs.declared.letters.Letter.{Letter}
+use Rattle.scholten_core.specs.Sound.{IsSound}
 use Rattle.scholten_core.specs.Computation.{Computation, IsHeld, outstanding, waiting, entry_with, named_with}
 use Rattle.scholten_core.specs.Step.{started}
-use Rattle.scholten_core.proofs.Named.{held-unnamed, map_alike, named_alike, outstanding-named, waiting-named, waits-named}
+use Rattle.scholten_core.proofs.Named.{held-unnamed, map_alike, named_alike, outstanding-named, waiting-named, waits-named, sound-named}
 use Rattle.search.specs.Stage.{signals_in, waiting_in, IsQuiet, NoneHeld}
-use Rattle.search.specs.Search.{IsOutstanding}
+use Rattle.search.specs.Search.{IsOutstanding, IsSoundStage}
 use Rattle.search.proofs.Holding.{same_running}
 use Rattle.search.proofs.InHand.{settles}
 use Rattle.search.specs.declared.letters.Load.{Load}
@@ -267,6 +268,9 @@ module _ (nodes : List Expr) (st : NumberedStage) (d : Computation (Load ℕ)) (
 
   pub shows : stage_at nodes st ≡ stage.Running shown
   shows = ap (stage_at nodes) runs
+
+  pub sound_shown : IsSound d → IsSoundStage (stage_at nodes st)
+  sound_shown sound = subst IsSoundStage (sym shows) (sound-named (load_at nodes) d sound)
 
   -- what is shown to run
   pub shown_is : (c : Computation (Load (List ℕ))) → stage_at nodes st ≡ stage.Running c → shown ≡ c

@@ -13,7 +13,6 @@ mod driving;
 mod findings;
 mod hearing;
 mod hints;
-mod keeping;
 mod letters;
 mod members;
 mod opening;

@@ -358,6 +358,17 @@ impl Search {
         }
     }
 
+    /// Where the search runs, its computation is a sound one: deficits count what is outstanding, and the engaged nodes are a tree
+    /// below the environment. It does nothing.
+    pub fn kept(&self)
+        ensures sound { IsSoundStage self.now.stage }
+    {
+        let NumberedStage::Running(running) = &self.stage else {
+            return;
+        };
+        let _complete = running.is_complete();
+    }
+
     /// What the search is for.
     pub fn query(&self) -> Query
         ensures { result ≡ self.now.query }

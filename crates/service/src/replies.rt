@@ -1,5 +1,6 @@
 //! Replies: the room for the lines of one, and its lines. Only a vault, lists of names and a proof may take memory.
-ghost use Rattle.std.specs.Prelude.{◌≡◌, ◌≤◌, ◌+◌, ◌++◌, [], ◌∷◌, length, filter, nat_lt, codes, map, vec_len, vec_capacity, decimal, IfOk, OnOk, OnErr};
+ghost use Rattle.std.specs.Prelude.{◌≡◌, ◌≤◌, ◌+◌, ◌++◌, [], ◌∷◌, length, filter, nat_lt, codes, map, decimal};
+ghost use Rattle.std.specs.Prelude.{vec_len, vec_capacity, IfOk, OnOk, OnErr};
 ghost use Rattle.std.specs.{List.flat_map, Io.KnownBytes.Appends};
 ghost use Rattle.service.specs.Reply.{front_of, line_after, error_text, listed, seen_text, text_lines, lines_after, IsLong, IsFilled};
 ghost use Rattle.{service.specs.Session.session_line, service.specs.Written.WritesFront, credential_text.specs.Spelling.canonical};

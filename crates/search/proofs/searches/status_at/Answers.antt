@@ -6,7 +6,7 @@ use Rattle.credential_text.specs.declared.exprs.Expr.{Expr}
 use Rattle.cred_graph.specs.declared.solutions.Solution.{Solution}
 use Rattle.cred_graph.proofs.Lists.{Contains-at_place}
 use Rattle.scholten_core.specs.Computation.{outstanding}
-use Rattle.scholten_core.proofs.Named.{outstanding-named, sound-named}
+use Rattle.scholten_core.proofs.Named.{outstanding-named}
 use Rattle.search.specs.declared.outcomes.Status.{Status}
 use Rattle.search.specs.declared.outcomes.Status.TheVariants.{Working, Yes, No, Members, Spent, Broken}
 use Rattle.search.specs.declared.queries.Query.{Query}
@@ -16,14 +16,13 @@ use Rattle.search.specs.Ending.{Nothing}
 use Rattle.search.specs.Search.{come_to, found, status_of, IsSoundStage}
 use Rattle.search.specs.Numbered.{load_at, stage_at}
 use Rattle.search.proofs.Answered.{found_yes, found_no}
-use Rattle.search.proofs.Numbered.{shown, shows}
+use Rattle.search.proofs.Numbered.{shown, shows, sound_shown}
 use Rattle.search.proofs.searches.status_at.Goals.{After-is_complete}
 use Rattle.search.proofs.searches.status_at.Goals as goal
 
 sound : (c : After-is_complete) (nodes : List Expr) → IsSoundStage (stage_at nodes c.args.stage.now)
 sound c nodes =
-    let d = c.in-Running.running in
-    subst IsSoundStage (sym (shows nodes c.args.stage.now d c.in-Running.is)) (sound-named (load_at nodes) d c.is_complete.ensures.sound)
+    sound_shown nodes c.args.stage.now c.in-Running.running c.in-Running.is c.is_complete.ensures.sound
 
 -- the status of a completed computation is its answer's
 completed : (c : After-is_complete) → IsTrue c.is_complete.result → (status : Status) → status ≡ status_of (found c.args.graph.now c.args.query.now) → (nodes : List Expr) →

@@ -1,6 +1,8 @@
-use Rattle.std.proofs.Common.{refl, subst, Option}
+use Rattle.std.proofs.Common.{refl, sym, subst, List, ℕ, Option}
+use Rattle.hall.specs.Work.{SearchIsQuiet}
 use Rattle.hall.specs.declared.visits.{Next.Next, Order.TheVariants.GoOn}
 use Rattle.hall.specs.Working.{WorksOnOne}
+use Rattle.hall.proofs.Ended.{left_works, tells_working}
 use Rattle.hall.proofs.Visited.{asks_one, turn_of}
 use Rattle.hall.proofs.registry.Hall.take_turn.Goals as goal
 
@@ -13,3 +15,8 @@ returns-clause-next c =
     (subst (λ (o : Option Next). WorksOnOne GoOn c.args.most c.args.self.now c.search-who.result c.args.batch.now c.work_on-none.result.0 o c.work_on-none.new.self c.work_on-none.new.batch)
     c.in-Some-next.is c.work_on-none.ensures.works)
     (asks_one c.args.order c.in-GoOn.is)
+
+pub returns-clause-ends : goal.returns-clause-ends
+returns-clause-ends c =
+    tells_working c.search-who.result c.args.self.now c.work_on-none.new.self c.args.ends.now c.work_on-none.new.ends
+    (left_works c.args.self.now c.search-who.result (subst (λ (n : List ℕ × ℕ). SearchIsQuiet c.args.self.now n.0 n.1 → ⊥) (sym c.search-who.ensures) c.in-Some.ensures.left)) c.work_on-none.ensures.ends

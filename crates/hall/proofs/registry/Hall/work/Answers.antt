@@ -1,4 +1,5 @@
-use Rattle.std.proofs.Common.{sym}
+use Rattle.std.proofs.Common.{sym, option_map}
+use Rattle.hall.specs.Batches.{name_of}
 use Rattle.hall.proofs.Visited.{visit_of_none, visit_of_one, visit_of_two}
 use Rattle.hall.proofs.Ended.{tells_all, tells_both}
 use Rattle.hall.proofs.registry.Hall.work.Goals as goal
@@ -20,6 +21,6 @@ returns-in-None-clause-visit c =
 
 pub returns-in-None-clause-ends : goal.returns-in-None-clause-ends
 returns-in-None-clause-ends c =
-    tells_all c.args.self.now c.take_turn-next-in-None.new.self c.args.ends.now c.take_turn-next-in-None.new.ends c.requires.told
-    (tells_both c.args.self.now c.work_on-finished.new.self c.take_turn-next-in-None.new.self c.args.ends.now c.work_on-finished.new.ends c.take_turn-next-in-None.new.ends
-    c.work_on-finished.ensures.ends c.take_turn-next-in-None.ensures.ends)
+    tells_all (option_map name_of c.args.batch.now.of) c.args.self.now c.take_turn-next-in-None.new.self c.args.ends.now c.take_turn-next-in-None.new.ends c.requires.told
+    (tells_both (option_map name_of c.args.batch.now.of) c.args.self.now c.work_on-finished.new.self c.take_turn-next-in-None.new.self c.args.ends.now
+    c.work_on-finished.new.ends c.take_turn-next-in-None.new.ends (rw (sym c.in-Some.ensures.is) c.work_on-finished.ensures.ends) c.take_turn-next-in-None.ensures.ends)

@@ -1,5 +1,6 @@
-use Rattle.std.proofs.Common.{◌≡◌, ◌∙◌, Bool, ap, cond, length, sym, subst}
+use Rattle.std.proofs.Common.{◌≡◌, ◌∙◌, Bool, ap, cond, length, option_map, sym, subst}
 use Rattle.hall.specs.declared.visits.{Order.Order, Order.TheVariants.GiveBack}
+use Rattle.hall.specs.Batches.{name_of}
 use Rattle.hall.specs.Work.{IsVisit, TellsEnds}
 use Rattle.pool.specs.Rooms.{RoomState}
 use Rattle.pool.specs.Workers.{order_in}
@@ -26,6 +27,6 @@ returns g c =
       visit = subst (λ (order : Order). IsVisit order BATCH c.args.self.now.hall c.args.batch.now c.work.result c.work.new.self c.work.new.batch)
           (ordered ∙ ap (λ (r : RoomState). order_in r c.args.order) c.self.view_is)
           (subst (λ (r : RoomState). IsVisit c.if-self.order BATCH r.hall c.args.batch.now c.work.result c.work.new.self c.work.new.batch) c.self.view_is c.work.ensures.visit);
-      ends = subst (λ (r : RoomState). TellsEnds r.hall c.work.new.self c.work.new.ends) c.self.view_is c.work.ensures.ends;
+      ends = subst (λ (r : RoomState). TellsEnds (option_map name_of c.args.batch.now.of) r.hall c.work.new.self c.work.new.ends) c.self.view_is c.work.ensures.ends;
       room = ap (λ (r : RoomState). record r { hall = c.work.new.self }) c.self.view_is;
     }
