@@ -58,4 +58,5 @@ has_text RevokeAll = false
 
 -- the tenant's change gives something, and there isn't the room that it has to be prepared with
 abbrev pub LacksRoom : List ℕ → Change → ℕ → ℕ → ℕ → Type 0
-LacksRoom who change room len capacity = (gives change ≡ true) × (capacity < len + (room + 2 * (length who + length (subject_of change) + 5)))
+LacksRoom who change room len capacity =
+    (gives change ≡ true) × (capacity < len + (room + 2 * (length who + length (subject_of change) + 5)))
