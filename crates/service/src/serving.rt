@@ -57,8 +57,9 @@ pub fn serve<R: Threads + Wait + Clock + Sync, W: Write>(
     let Ok(unnamed) = Unnamed::make(alloc) else {
         return Err(ServeFault::Memory);
     };
-    let count =
-        serve_with::<Brand, R, W>(rt, unnamed, roster, listener, options, writer, &mut line)?;
+    let count = serve_with::<Brand, R, W>(
+        rt, unnamed, roster, listener, options, writer, &mut line,
+    )?;
     let Ok(()) = tell(writer, &mut line, b"served ", count) else {
         return Err(ServeFault::Write);
     };

@@ -29,9 +29,15 @@ struct Session<'a, L: Naming, R> {
 
 impl<'a, L: Naming, R> Model for Session<'a, L, R> {
     ghost use Rattle.std.specs.Prelude.{◌≡◌};
+    ghost use Rattle.std.specs.Coded.{codes};
+    ghost use Rattle.std.specs.FinMap as fin;
+    ghost use Rattle.search.specs.contracts.stages.Stage as running;
+    ghost use Rattle.search.specs.contracts.findings.Monitor as memory;
     ghost use Rattle.service.specs.{Roster.names_of, Session.SessionState};
 
     ghost Value = { SessionState };
+
+    ghost coded = { Prim.hlevel (codes, fin.code, running.the_row.coded, memory.the_row.coded) };
 
     ghost view = { λ s. record { rows = s.roster.now; pass = s.pass } };
 
