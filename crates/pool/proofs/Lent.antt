@@ -1,64 +1,124 @@
--- A request that is read off a search which was lent, once the lock was given back.
-use Rattle.std.proofs.Common.{◌≡◌, ◌∙◌, ℕ, length, Some, option_map, Result, Ok, Err, inl, inr, ap, sym, subst, refl, arith}
+-- What is told of a search that is read, under the lock or once it was given back.
+use Rattle.std.specs.Prelude.{IfOk}
+use Rattle.std.proofs.Common.{◌≡◌, ◌∙◌, ◌⊎◌, ◌++◌, ◌∷◌, [], ℕ, List, Some, Option, option_map, Result, Ok, Err, inl, inr, ap, sym, subst, subst₂, refl}
+use mathlib.Core.List.{IsPrefix}
+use Rattle.std.specs.declared.snapshot.Snapshot.{Snapshot}
+use Rattle.quotas.specs.Quota.{Quota}
 use Rattle.search.specs.Search.{SearchState, settled_of}
 use Rattle.vaults.specs.Journal.{credentials}
 use Rattle.hall.specs.Answers.{answer_of}
+use Rattle.hall.specs.declared.calls.answers.Answer.TheVariants.{Working}
 use Rattle.hall.specs.declared.calls.requests.Request.{Request}
 use Rattle.hall.specs.declared.calls.requests.Request.TheVariants as request
 use Rattle.hall.specs.declared.calls.replies.Reply.{Reply}
 use Rattle.hall.specs.declared.calls.replies.Reply.TheVariants as reply
-use Rattle.hall.specs.Hall.{Running, search_at, IsServed, IsToldOver}
+use Rattle.hall.specs.Hall.{HallState, Running, search_at, IsSound, IsServed, IsToldOver}
+use Rattle.hall.specs.Work.{IsCompletedAt}
+use Rattle.hall.proofs.laws.HallChanges.{tenant_of}
 use Rattle.pool.specs.declared.faults.DeskFault.{DeskFault}
+use Rattle.pool.specs.declared.turns.Item.{Item}
+use Rattle.pool.specs.declared.turns.Item.TheVariants as item
+use Rattle.pool.specs.declared.turns.Noted.TheVariants as noted
 use Rattle.pool.specs.declared.verdicts.Verdict.{Verdict}
+use Rattle.pool.specs.Histories.{Reaches, Reads, IsReadOff, IsOpening, item_of}
 use Rattle.pool.specs.Verdicts.{IsTrueWhereCompleted}
-use Rattle.pool.specs.Passes.{PassState, IsSeenAt}
+use Rattle.pool.specs.Passes.{PassState, own_calls}
 use Rattle.pool.specs.Rooms.{RoomState, IsKept}
-use Rattle.pool.specs.Served.{IsReadOff, IsReadAs, IsLentAt, IsServedAt, IsRefusedAt, IsAnsweredAt, IsAnswered, IsVerdictOn, IsPolledAt}
-use Rattle.pool.proofs.Served.{counted_longer, pass_seeing}
-use Rattle.pool.proofs.Polled.{running_truth, polled_verdict}
+use Rattle.pool.specs.Served.{IsNext, IsTold, IsRefused, IsAnswered, Suits, IsReadAs, OfSearch, IsLent, IsVerdictOn, IsPolled, IsPolledIn, IsAtWork}
+use Rattle.pool.proofs.Admitting.{search_found}
+use Rattle.pool.proofs.Reaching.{opening_stays}
+use Rattle.pool.proofs.Told.{next_item}
+use Rattle.pool.proofs.Served.{served_suits}
+use Rattle.pool.proofs.Polled.{running_truth, works_there}
 
-pub lent_served : (at : RoomState) (old new : PassState) (q : Request) (s : SearchState) (told : Reply) → IsLentAt at old new q s → IsReadOff s q told → IsServedAt at at old new q told
-lent_served at old new q s told lent read =
-    let served = read at.hall old.tenant lent.reads in record {
-      kept = lent.kept;
-      seen = lent.seen.0;
-      served = served;
-      pass = lent.seen.1 ∙ sym (pass_seeing old (length at.hall.journal) told (λ n is. not_counted n (subst (λ (t : Reply). IsServed at.hall old.tenant q t at.hall) is served)));
-      room = refl;
+-- a completed search is there
+pub completed_there : (h : HallState) (who : List ℕ) (k : ℕ) (s : SearchState) → IsCompletedAt h who k s → option_map (λ (r : Running). r.search) (search_at h who k) ≡ Some s
+completed_there h who k s at = ap (option_map (λ (r : Running). r.search)) at.there ∙ ap Some at.is
+
+-- the history has the opening of a search that is there
+pub opening_there : (roster : List (List ℕ × Quota)) (items : List Item) (h : HallState) (i : Item) (who : List ℕ) (k : ℕ) (s : SearchState) → Reaches roster items h →
+    option_map (λ (r : Running). r.search) (search_at h who k) ≡ Some s → IsOpening (items ++ i ∷ []) who k s.query s.snapshot
+opening_there roster items h i who k s reaches there =
+    let (r, found, is) = search_found (search_at h who k) s there in
+    let (t, tenant, among) = tenant_of h who k r found in
+    opening_stays items i who k s.query s.snapshot
+    (subst (λ (x : SearchState). IsOpening items who k x.query x.snapshot) is (reaches.opened who t k r tenant among))
+
+-- the request reads the search of this number
+abbrev Names : Request → ℕ → Type 0
+Names q k = (q ≡ request.Poll k) ⊎ ((member : List ℕ) × (q ≡ request.Proof k member))
+
+pub names_same : (q : Request) (number k : ℕ) → Names q k → number ≡ k → Names q number
+names_same q number k names is = subst (Names q) (sym is) names
+
+of_search : (q : Request) (k : ℕ) (holds : ℕ → Type 0) → Names q k → holds k → OfSearch q holds
+of_search q k holds (inl is) here = subst (λ (r : Request). OfSearch r holds) (sym is) here
+of_search q k holds (inr (member, is)) here = subst (λ (r : Request). OfSearch r holds) (sym is) here
+
+pub completed_read : (h : HallState) (who : List ℕ) (q : Request) (k : ℕ) (s : SearchState) → Names q k → IsCompletedAt h who k s → Reads h who q s
+completed_read h who q k s (inl is) at = subst (λ (r : Request). Reads h who r s) (sym is) (completed_there h who k s at)
+completed_read h who q k s (inr (member, is)) at = subst (λ (r : Request). Reads h who r s) (sym is) at
+
+-- the history went on by the item of a search that is read in a room
+pub lent_here : (roster : List (List ℕ × Quota)) (items all : List Item) (h : HallState) (at : RoomState) (old new : PassState) (who : List ℕ) (q : Request) (k : ℕ) (s : SearchState)
+    (asked : Snapshot Request) (read : Snapshot SearchState) → h ≡ at.hall → items ≡ at.told → who ≡ old.tenant → asked.value ≡ q → read.value ≡ s → IsKept at → Reaches roster items h →
+    Names q k → option_map (λ (r : Running). r.search) (search_at h who k) ≡ Some s → Reads h who q s →
+    IsPrefix old.seen items → own_calls new ≡ own_calls old ++ item_of old.name (noted.Read who asked read) ∷ [] → new ≡ record old { seen = all } →
+    all ≡ items ++ item_of old.name (noted.Read who asked read) ∷ [] → IsLent at old new q s
+lent_here roster items all h at old new who q k s asked read is_hall is_told is_who is_q is_s kept reaches names there reads began own pass grown =
+    let i : Item = item_of old.name (noted.Read who asked read) in
+    let seen : new.seen ≡ items ++ i ∷ [] = ap (λ (p : PassState). p.seen) pass ∙ grown in
+    let opening : IsOpening (items ++ i ∷ []) who k s.query s.snapshot = opening_there roster items h i who k s reaches there in record {
+      kept = kept;
+      began = (i ∷ [], ap (λ (l : List Item). l ++ i ∷ []) (sym is_told) ∙ sym seen);
+      next = next_item old new items all i (item.Read old.name old.tenant q s) began own pass grown (λ n. item.Read old.name (is_who n) (is_q n) (is_s n));
+      reads = subst (λ (g : HallState). Reads g old.tenant q s) is_hall (subst (λ (n : List ℕ). Reads h n q s) is_who reads);
+      opening = of_search q k (λ j. IsOpening new.seen old.tenant j s.query s.snapshot) names
+          (subst₂ (λ (l : List Item) (n : List ℕ). IsOpening l n k s.query s.snapshot) (sym seen) is_who opening);
     }
+
+-- what such a search has come to is the truth where it is completed
+pub found_truth : (h : HallState) (who : List ℕ) (k : ℕ) (s : SearchState) → IsSound h → option_map (λ (r : Running). r.search) (search_at h who k) ≡ Some s →
+    IsTrueWhereCompleted (credentials s.snapshot.vaults) s.query (answer_of (settled_of s))
+found_truth h who k s sound there =
+    let (r, found, is) = search_found (search_at h who k) s there in
+    subst (λ (t : SearchState). IsTrueWhereCompleted (credentials t.snapshot.vaults) t.query (answer_of (settled_of t))) is (running_truth h who k r sound found)
+
+-- what is told over the search is read off it
+over_read : (s : SearchState) (k : ℕ) (told : Reply) → IsToldOver s request.Poll told → IsReadOff s (request.Poll k) told
+over_read s k told over h who reads = let (r, there, is) = search_found (search_at h who k) s reads in over h who k r there is
+
+module _ (at : RoomState) (old new : PassState) (q : Request) (s : SearchState) (lent : IsLent at old new q s) where
+  read_told : (told : Reply) → IsReadOff s q told → IsTold old new q told
+  read_told told off = (item.Read old.name old.tenant q s, lent.next, (told, off, refl))
+
+  -- what is read off the search that is lent is the answer
+  pub lent_answered : (result : Result Reply DeskFault) → IsReadAs s q result → IsAnswered (λ r. r) old new q result
+  lent_answered (Ok told) off = read_told told off
+  lent_answered (Err fault) (f, is, off) = subst (IsRefused old new q) (sym is) (read_told (reply.Refused f) off)
+
+  -- and suits the request
+  pub read_suits : (result : Result Reply DeskFault) → IsReadAs s q result → IfOk result (Suits q)
+  read_suits (Ok told) off = served_suits at.hall at.hall old.tenant q told (off at.hall old.tenant lent.reads)
+  read_suits (Err fault) off = tt
+
+-- a verdict on it is what a poll comes to
+pub lent_polled : (at : RoomState) (old new : PassState) (k : ℕ) (s : SearchState) → IsLent at old new (request.Poll k) s → (result : Result Verdict DeskFault) → IsVerdictOn s result →
+    IsPolledIn at old new k result
+lent_polled at old new k s lent result on = record { polled = polled result on; seen = lent.began; working = working result on }
   where
-    not_counted : (n : ℕ) → IsServed at.hall old.tenant q (reply.Counted n) at.hall → ⊥
-    not_counted n served = omega (arith, counted_longer at.hall at.hall old.tenant q n served)
+    told : (r : Reply) → IsToldOver s request.Poll r → IsTold old new (request.Poll k) r
+    told r over = read_told at old new (request.Poll k) s lent r (over_read s k r over)
 
--- what is read off the search that is lent is the answer
-pub lent_answered : (at : RoomState) (old new : PassState) (q : Request) (s : SearchState) (result : Result Reply DeskFault) → IsLentAt at old new q s → IsReadAs s q result → IsAnswered (λ r. r) old new q result
-lent_answered at old new q s (Ok told) lent read = (at, at, lent_served at old new q s told lent read)
-lent_answered at old new q s (Err fault) lent (f, is, read) = (at, at, subst (IsRefusedAt at at old new q) (sym is) (lent_served at old new q s (reply.Refused f) lent read))
+    polled : (r : Result Verdict DeskFault) → IsVerdictOn s r → IsPolled old new k r
+    polled (Ok v) (over, query, snapshot) = (
+      told (reply.Answered v.answer) over,
+      subst₂ (IsOpening new.seen old.tenant k) (sym query) (sym snapshot) lent.opening,
+    )
+    polled (Err fault) (inl (f, is, over)) = inl (subst (IsRefused old new (request.Poll k)) (sym is) (told (reply.Refused f) over))
+    polled (Err fault) (inr (is, (answer, over))) = inr (is, (answer, told (reply.Answered answer) over))
 
--- what was served after the pass was left as it was
-pub served_later : (before after : RoomState) (old middle new : PassState) (q : Request) (result : Result Reply DeskFault) → middle ≡ old → IsAnsweredAt (λ r. r) before after middle new q result → IsAnswered (λ r. r) old new q result
-served_later before after old middle new q result same at = (before, after, subst (λ (p : PassState). IsAnsweredAt (λ r. r) before after p new q result) same at)
-
--- a verdict on the search that is found is what a poll comes to
-module _ (at : RoomState) (old new : PassState) (k : ℕ) (r : Running) (s : SearchState) (kept : IsKept at) (there : search_at at.hall old.tenant k ≡ Some r) (same : r.search ≡ s) where
-  pub found_truth : IsTrueWhereCompleted (credentials s.snapshot.vaults) s.query (answer_of (settled_of s))
-  found_truth =
-      subst (λ (t : SearchState). IsTrueWhereCompleted (credentials t.snapshot.vaults) t.query (answer_of (settled_of t))) same (running_truth at.hall old.tenant k r kept.sound there)
-
-  told_over : (told : Reply) → IsSeenAt (length at.hall.journal) old new → ((n : ℕ) → told ≡ reply.Counted n → ⊥) → IsToldOver s request.Poll told → IsServedAt at at old new (request.Poll k) told
-  told_over told seen other over = record {
-    kept = kept;
-    seen = seen.0;
-    served = over at.hall old.tenant k r there same;
-    pass = seen.1 ∙ sym (pass_seeing old (length at.hall.journal) told other);
-    room = refl;
-  }
-
-  stands : Some s ≡ option_map (λ (one : Running). one.search) (search_at at.hall old.tenant k)
-  stands = ap Some (sym same) ∙ sym (ap (option_map (λ (one : Running). one.search)) there)
-
-  pub found_polled : IsSeenAt (length at.hall.journal) old new → (result : Result Verdict DeskFault) → IsVerdictOn s result → IsPolledAt at old new k result
-  found_polled seen (Ok v) (over, query, snapshot) =
-      polled_verdict at old new old.tenant at.hall k v.answer refl refl (told_over (reply.Answered v.answer) seen (λ n is. cc) over) s stands v query snapshot refl
-  found_polled seen (Err fault) (inl (f, is, over)) = inl (subst (IsRefusedAt at at old new (request.Poll k)) (sym is) (told_over (reply.Refused f) seen (λ n none. cc) over))
-  found_polled seen (Err fault) (inr (is, told)) = inr (is, (told.0, told_over (reply.Answered told.0) seen (λ n none. cc) told.1))
+    working : (r : Result Verdict DeskFault) → IsVerdictOn s r → IfOk r (λ v. v.answer ≡ Working → IsAtWork at old.tenant k)
+    working (Ok v) (over, query, snapshot) = λ is.
+        works_there at old.tenant k v.answer lent.kept.sound (over_read s k (reply.Answered v.answer) over at.hall old.tenant lent.reads) is
+    working (Err fault) on = tt

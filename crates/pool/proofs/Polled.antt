@@ -1,8 +1,10 @@
 -- What a poll tells of a search is what it has come to, and the truth where it is completed.
 use Rattle.std.specs.Option.{IsSomeAnd}
-use Rattle.std.specs.Arc.{arc_value}
+use mathlib.Core.List.{IsPrefix}
+use Rattle.std.specs.List.{Contains}
+use Rattle.std.proofs.lemmas.List.Elements.{Contains-append_left}
 use Rattle.std.specs.FinMap.{get}
-use Rattle.std.proofs.Common.{◌≡◌, ◌∙◌, ℕ, Bool, true, false, List, length, ap, sym, subst, inl, inr, Some, Option, None, option_map, refl, Result, Ok, Err}
+use Rattle.std.proofs.Common.{◌≡◌, ◌∙◌, ℕ, Bool, true, false, List, ap, sym, subst, inl, inr, Some, Option, None, option_map, refl, Result, Ok, Err}
 use Rattle.credential_text.specs.declared.credentials.Credential.{Credential}
 use Rattle.vaults.specs.Journal.{credentials}
 use Rattle.search.specs.Search.{status_of, SearchState, settled_of}
@@ -12,16 +14,21 @@ use Rattle.search.specs.Ending.{Settled, Nothing, Yes, No, Members, IsTruth, ans
 use Rattle.hall.specs.declared.calls.answers.Answer.{Answer}
 use Rattle.hall.specs.declared.calls.answers.Answer.TheVariants.{Working}
 use Rattle.hall.specs.declared.calls.requests.Request.TheVariants.{Poll}
-use Rattle.hall.specs.declared.calls.replies.Reply.TheVariants.{Answered}
+use Rattle.hall.specs.declared.faults.Fault.{Fault}
+use Rattle.hall.specs.declared.calls.replies.Reply.{Reply}
+use Rattle.hall.specs.declared.calls.replies.Reply.TheVariants.{Answered, Refused}
 use Rattle.hall.specs.Answers.{Asked, answer_of}
 use Rattle.hall.specs.Hall.{Running, Tenant, HallState, search_of, search_at, seen, IsSound, IsServed}
 use Rattle.hall.proofs.Maps.{numbers_exact, get_mapped}
 use Rattle.pool.specs.declared.verdicts.Verdict.{Verdict}
 use Rattle.pool.specs.Verdicts.{IsTrueWhereCompleted}
 use Rattle.pool.specs.declared.faults.DeskFault.{DeskFault}
-use Rattle.pool.specs.Passes.{PassState, IsSeenAt}
+use Rattle.pool.specs.declared.turns.Item.{Item}
+use Rattle.pool.specs.declared.turns.Item.TheVariants as item
+use Rattle.pool.specs.Fronts.{HasStop}
+use Rattle.pool.specs.Passes.{PassState}
 use Rattle.pool.specs.Rooms.{RoomState, IsKept}
-use Rattle.pool.specs.Served.{IsServedAt, IsVerdictOf, IsPolledAt, GoesOnWaiting, IsOverAt}
+use Rattle.pool.specs.Served.{IsAtWork, GoesOnWaiting, IsPolledIn, IsWaited}
 use Rattle.pool.proofs.Served.{granted}
 
 truth_told : (C : List Credential) (q : Query) (s : Settled) → IsTruth C q s → IsTrueWhereCompleted C q (answer_of s)
@@ -74,74 +81,42 @@ polled_search h who k a sound served =
     let tells : a ≡ answer_of has.gets.0.settled = cc in
     told_of h who has.tenant k a has.gets.0 sound has.there (get has.tenant.searches k) refl (sym (get_mapped numbers_exact seen has.tenant.searches k) ∙ has.gets.1) tells
 
--- a poll that the hall served, by a pass that has seen its journal
-pub served_now : (at : RoomState) (old new : PassState) (who : List ℕ) (h : HallState) (k : ℕ) (a : Answer) → h ≡ at.hall → who ≡ old.tenant → IsKept at → IsSeenAt (length at.hall.journal) old new →
-    IsServed h who (Poll k) (Answered a) h → IsServedAt at at old new (Poll k) (Answered a)
-served_now at old new who h k a same is_who kept seen served = record {
-  kept = kept;
-  seen = seen.0;
-  served = subst (λ (g : HallState). IsServed g old.tenant (Poll k) (Answered a) g) same (subst (λ (n : List ℕ). IsServed h n (Poll k) (Answered a) h) is_who served);
-  pass = seen.1;
-  room = refl;
-}
-
--- a search that the hall has under the name of a pass's tenant
-pub search_there : (at : RoomState) (old : PassState) (who : List ℕ) (h : HallState) (k : ℕ) (s : SearchState) → h ≡ at.hall → who ≡ old.tenant →
-    Some s ≡ option_map (λ (r : Running). r.search) (search_at h who k) → (r : Running) × (search_at at.hall old.tenant k ≡ Some r) × (r.search ≡ s)
-search_there at old who h k s same is_who is =
-    by (search_at at.hall old.tenant k) refl
-    (subst (λ (g : HallState). Some s ≡ option_map (λ (r : Running). r.search) (search_at g old.tenant k)) same
-    (subst (λ (n : List ℕ). Some s ≡ option_map (λ (r : Running). r.search) (search_at h n k)) is_who is))
+-- a poll of no search is refused
+pub nothing_granted : (h new : HallState) (who : List ℕ) (k : ℕ) (told : Reply) → ((f : Fault) → told ≡ Refused f → ⊥) → IsServed h who (Poll k) told new →
+    None ≡ option_map (λ (r : Running). r.search) (search_at h who k) → ⊥
+nothing_granted h new who k told other served none =
+    let has = granted h new who (Poll k) told other served in
+    by has.tenant has.gets.0 (get has.tenant.searches k) refl
+    (sym (get_mapped numbers_exact seen has.tenant.searches k) ∙ has.gets.1)
+    (subst (λ (o : Option Running). None ≡ option_map (λ (r : Running). r.search) o) (ap (search_of k) has.there) none)
   where
-    by : (o : Option Running) → search_at at.hall old.tenant k ≡ o → Some s ≡ option_map (λ (r : Running). r.search) o → (r : Running) × (search_at at.hall old.tenant k ≡ Some r) × (r.search ≡ s)
-    by None there found = cc
-    by (Some r) there found = (r, there, cc)
-
--- where a poll is served in a room, the search that is found there is the one of which the answer tells
-module _ (at : RoomState) (old new : PassState) (who : List ℕ) (h : HallState) (k : ℕ) (a : Answer) (same : h ≡ at.hall) (is_who : who ≡ old.tenant)
-    (served : IsServedAt at at old new (Poll k) (Answered a)) where
-  there : (o : Option SearchState) → o ≡ option_map (λ (r : Running). r.search) (search_at h who k) → o ≡ option_map (λ (r : Running). r.search) (search_at at.hall old.tenant k)
-  there o is =
-      subst (λ (g : HallState). o ≡ option_map (λ (r : Running). r.search) (search_at g old.tenant k)) same
-      (subst (λ (n : List ℕ). o ≡ option_map (λ (r : Running). r.search) (search_at h n k)) is_who is)
-
-  found_there : (s : SearchState) → Some s ≡ option_map (λ (r : Running). r.search) (search_at h who k) → (r : Running) × IsToldOf at.hall old.tenant k a r × (s ≡ r.search)
-  found_there s is =
-      let found = polled_search at.hall old.tenant k a served.kept.sound served.served in
-      let one : Some s ≡ Some found.0.search = subst (λ (o : Option Running). Some s ≡ option_map (λ (r : Running). r.search) o) found.1.there (there (Some s) is) in
-      (found.0, found.1, cc)
-
-  pub polled_somewhere : None ≡ option_map (λ (r : Running). r.search) (search_at h who k) → ⊥
-  polled_somewhere is =
-      let found = polled_search at.hall old.tenant k a served.kept.sound served.served in
-      let none : None ≡ Some found.0.search = subst (λ (o : Option Running). None ≡ option_map (λ (r : Running). r.search) o) found.1.there (there None is) in cc
-
-  pub polled_verdict : (s : SearchState) → Some s ≡ option_map (λ (r : Running). r.search) (search_at h who k) → (v : Verdict) → v.query ≡ s.query → arc_value v.snapshot ≡ s.snapshot → v.answer ≡ a →
-      IsPolledAt at old new k (Ok v)
-  polled_verdict s is v query snapshot answer =
-      let found = found_there s is in (
-        subst (λ (b : Answer). IsServedAt at at old new (Poll k) (Answered b)) (sym answer) served,
-        subst (λ (o : Option Running). IsSomeAnd o (λ r. IsVerdictOf r v)) (sym found.1.there) (
-          query ∙ ap (λ (t : SearchState). t.query) found.2,
-          snapshot ∙ ap (λ (t : SearchState). t.snapshot) found.2,
-          answer ∙ found.1.tells,
-        ),
-      )
+    by : (t : Tenant) (s : Asked) (o : Option Running) → get t.searches k ≡ o → option_map seen (get t.searches k) ≡ Some s →
+        None ≡ option_map (λ (r : Running). r.search) (get t.searches k) → ⊥
+    by t s None at found there = let clash : None ≡ Some s = sym (ap (option_map seen) at) ∙ found in cc
+    by t s (Some r) at found there = let clash : None ≡ Some r.search = there ∙ ap (option_map (λ (one : Running). one.search)) at in cc
 
 -- nothing yet is told of a search at work
 at_work : (s : Settled) → answer_of s ≡ Working → status_of s ≡ status.Working
 at_work Nothing is = refl
 at_work s is = cc
 
-works_on : (o : Option Running) (v : Verdict) → IsSomeAnd o (λ r. IsVerdictOf r v) → v.answer ≡ Working → IsSomeAnd o (λ r. status_of (settled_of r.search) ≡ status.Working)
-works_on None v told working = told
-works_on (Some r) v told working = at_work (settled_of r.search) (sym told.2 ∙ working)
+-- a search that tells nothing yet is at work
+pub works_there : (at : RoomState) (who : List ℕ) (k : ℕ) (a : Answer) → IsSound at.hall → IsServed at.hall who (Poll k) (Answered a) at.hall → a ≡ Working → IsAtWork at who k
+works_there at who k a sound served working =
+    let (r, found) = polled_search at.hall who k a sound served in
+    subst (λ (o : Option Running). IsSomeAnd o (λ one. status_of (settled_of one.search) ≡ status.Working)) (sym found.there)
+    (at_work (settled_of r.search) (sym found.tells ∙ working))
+
+-- a stop that is told is seen by who has seen more
+pub stop_seen : (told seen : List Item) → HasStop told → IsPrefix told seen → HasStop seen
+stop_seen told seen (name, has) (more, is) = (name, subst (λ (l : List Item). Contains l (item.Stopped name)) is (Contains-append_left told more (item.Stopped name) has))
 
 -- where a wait is over a poll tells nothing yet only after a stop
-pub over_told : (at : RoomState) (old new : PassState) (k : ℕ) (result : Result Verdict DeskFault) → (GoesOnWaiting at old.tenant k old.front → ⊥) → IsPolledAt at old new k result → IsOverAt at result
-over_told at old new k (Err fault) over polled = tt
-over_told at old new k (Ok v) over polled = λ working. by working at.stopped refl
+pub waited : (at : RoomState) (old new : PassState) (k : ℕ) (result : Result Verdict DeskFault) → IsKept at → (GoesOnWaiting at old.tenant k → ⊥) → IsPolledIn at old new k result →
+    IsWaited old new k result
+waited at old new k (Err fault) kept over polled = (polled.polled, tt)
+waited at old new k (Ok v) kept over polled = (polled.polled, λ working. by working at.stopped refl)
   where
-    by : v.answer ≡ Working → (b : Bool) → at.stopped ≡ b → at.stopped ≡ true
-    by working true is = is
-    by working false is = absurd (over (is, polled.0.seen, works_on (search_at at.hall old.tenant k) v polled.1 working))
+    by : v.answer ≡ Working → (b : Bool) → at.stopped ≡ b → HasStop new.seen
+    by working true is = stop_seen at.told new.seen (kept.stop is) polled.seen
+    by working false is = absurd (over (is, polled.working working))

@@ -1,5 +1,5 @@
 -- A request that is not refused is a tenant's, and told what was asked for.
-use Rattle.std.proofs.Common.{◌≡◌, ◌≢◌, ◌∙◌, ◌+◌, ◌∷◌, [], ℕ, List, length, length-append, Option, Some, None, option_map, ap, refl, sym, subst}
+use Rattle.std.proofs.Common.{◌≡◌, ◌≢◌, ◌⊎◌, inl, inr, ℕ, List, Option, Some, None, option_map, refl, sym, subst}
 use Rattle.std.specs.FinMap.{get}
 use Rattle.vaults.specs.Journal.{marked_view}
 use Rattle.hall.specs.declared.faults.Fault.{Fault}
@@ -7,10 +7,10 @@ use Rattle.hall.specs.declared.faults.Fault.TheVariants.{NoTenant, Memory}
 use Rattle.hall.specs.declared.calls.requests.Request.{Request}
 use Rattle.hall.specs.declared.calls.requests.Request.TheVariants as request
 use Rattle.hall.specs.declared.calls.replies.Reply.{Reply}
-use Rattle.hall.specs.declared.calls.replies.Reply.TheVariants.{Counted, Opened, Closed, Refused}
+use Rattle.hall.specs.declared.calls.replies.Reply.TheVariants.{Refused}
 use Rattle.hall.specs.Answers.{Account, sight, Grants, Answers, refuses, grants, lacks}
-use Rattle.hall.specs.Hall.{HallState, Tenant, account, account_of, AnswersTo, hall_after, IsServed}
-use Rattle.pool.specs.Passes.{PassState, length_after, pass_after}
+use Rattle.hall.specs.Hall.{HallState, Tenant, account, account_of, AnswersTo, IsServed}
+use Rattle.pool.specs.Served.{Suits}
 
 -- the tenant of that name is told this, by its account
 pub record IsGranted (h : HallState) (who : List ℕ) (q : Request) (told : Reply) : Type 0 where
@@ -32,37 +32,35 @@ granted h new who q told other served = by (get h.tenants who) refl served.answe
     by None at is = absurd (other NoTenant is.0)
     by (Some t) at is = record { tenant = t; after = is.0; there = at; gets = gets t is.0 told refl is.2 }
 
--- what is counted is a change, with which the journal is longer by one
-pub counted_longer : (h new : HallState) (who : List ℕ) (q : Request) (n : ℕ) → IsServed h who q (Counted n) new → length new.journal ≡ length h.journal + 1
-counted_longer h new who (request.Alter change) n served =
-    ap (λ (a : HallState). length a.journal) served.after ∙ length-append h.journal (record { tenant = who; change = change } ∷ [])
-counted_longer h new who (request.Seek query) n served = let told = (granted h new who (request.Seek query) (Counted n) (λ f is. cc) served).gets.0 in cc
-counted_longer h new who (request.Poll k) n served = let told = (granted h new who (request.Poll k) (Counted n) (λ f is. cc) served).gets.2 in cc
-counted_longer h new who (request.Close k) n served = let told = (granted h new who (request.Close k) (Counted n) (λ f is. cc) served).gets.0 in cc
-counted_longer h new who request.Vault n served = let told = (granted h new who request.Vault (Counted n) (λ f is. cc) served).gets.0 in cc
-counted_longer h new who request.Sees n served = let told = (granted h new who request.Sees (Counted n) (λ f is. cc) served).gets.0 in cc
-counted_longer h new who (request.Proof k member) n served = let told = (granted h new who (request.Proof k member) (Counted n) (λ f is. cc) served).gets.4 in cc
+-- what is told is a refusal, or it isn't
+refused_or : (told : Reply) → ((f : Fault) × (told ≡ Refused f)) ⊎ ((f : Fault) → told ≢ Refused f)
+refused_or (Refused f) = inl (f, refl)
+refused_or told = inr (λ f is. cc)
 
--- a pass that is told of no change has only seen the journal
-pub pass_seeing : (old : PassState) (seen : ℕ) (told : Reply) → ((n : ℕ) → told ≡ Counted n → ⊥) → pass_after old seen told ≡ record old { front = seen }
-pass_seeing old seen (Counted n) other = absurd (other n refl)
-pass_seeing old seen _ other = refl
+refused_suits : (q : Request) (f : Fault) → Suits q (Refused f)
+refused_suits (request.Alter change) f = tt
+refused_suits (request.Seek query) f = tt
+refused_suits (request.Poll k) f = tt
+refused_suits (request.Close k) f = tt
+refused_suits request.Vault f = tt
+refused_suits request.Sees f = tt
+refused_suits (request.Proof k member) f = tt
 
--- the hall's journal is longer where a change was counted, and else the same
-same_journal : (h : HallState) (who : List ℕ) (q : Request) (told : Reply) → ((n : ℕ) → told ≡ Counted n → ⊥) → (hall_after h who q told).journal ≡ h.journal
-same_journal h who (request.Alter change) (Counted n) other = absurd (other n refl)
-same_journal h who (request.Seek query) (Opened n) other = refl
-same_journal h who (request.Close k) Closed other = refl
-same_journal h who _ _ other = refl
+granted_suits : (h : HallState) (who : List ℕ) (q : Request) (told : Reply) → IsGranted h who q told → Suits q told
+granted_suits h who (request.Alter change) told has = subst (Suits (request.Alter change)) (sym has.gets.0) tt
+granted_suits h who (request.Seek query) told has = subst (Suits (request.Seek query)) (sym has.gets.0) tt
+granted_suits h who (request.Poll k) told has = subst (Suits (request.Poll k)) (sym has.gets.2) tt
+granted_suits h who (request.Close k) told has = subst (Suits (request.Close k)) (sym has.gets.0) tt
+granted_suits h who request.Vault told has = subst (Suits request.Vault) (sym has.gets.0) tt
+granted_suits h who request.Sees told has = subst (Suits request.Sees) (sym has.gets.0) tt
+granted_suits h who (request.Proof k member) told has = subst (Suits (request.Proof k member)) (sym has.gets.4) tt
 
-pub journal_after : (h new : HallState) (who : List ℕ) (q : Request) (told : Reply) → IsServed h who q told new → length new.journal ≡ length_after (length h.journal) told
-journal_after h new who q (Counted n) served = counted_longer h new who q n served
-journal_after h new who q told served = ap (λ (g : HallState). length g.journal) served.after ∙ ap length (same_journal h who q told (λ n is. cc))
-
--- that the pass saw the journal before changes nothing
-pub pass_shown : (old : PassState) (seen : ℕ) (told : Reply) → pass_after (record old { front = seen }) seen told ≡ pass_after old seen told
-pass_shown old seen (Counted n) = refl
-pass_shown old seen _ = refl
+-- what is told suits the request
+pub served_suits : (h new : HallState) (who : List ℕ) (q : Request) (told : Reply) → IsServed h who q told new → Suits q told
+served_suits h new who q told served = elim (refused_or told) [
+  | inl refused ↦ subst (Suits q) (sym refused.1) (refused_suits q refused.0)
+  | inr other ↦ granted_suits h who q told (granted h new who q told other served)
+]
 
 -- the request of the same tenant, in the same hall
 pub served_same : (h g new : HallState) (who tenant : List ℕ) (q : Request) (told : Reply) → h ≡ g → who ≡ tenant → IsServed h who q told new → IsServed g tenant q told new

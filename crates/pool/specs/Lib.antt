@@ -1,8 +1,14 @@
+pub mod Fronts
+pub mod Rules
+pub mod Histories
+pub mod Shares
+pub mod Sessions
+pub mod Truths
 pub mod Passes
 pub mod Rooms
 pub mod Notices
 pub mod Refusals
 pub mod Verdicts
 pub mod Served
-pub mod Laws
 pub mod Workers
+pub mod Laws

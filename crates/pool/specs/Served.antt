@@ -1,5 +1,6 @@
--- What a call by a pass came to, in the room that it found under the lock.
-use Rattle.std.specs.Prelude.{◌≡◌, ◌⊎◌, ◌<◌, ◌≤◌, ℕ, List, true, false, length, Result, Ok, Err, IfOk, IsSomeAnd}
+-- What a call by a pass came to, in the one history of all that tenants were told.
+use Rattle.std.specs.Prelude.{◌≡◌, ◌⊎◌, ◌++◌, ◌∷◌, [], ℕ, List, true, false, Result, Ok, Err, IfOk, IsSomeAnd}
+use mathlib.Core.List.{IsPrefix}
 use Rattle.std.specs.Arc.{arc_value}
 use Rattle.search.specs.Search.{status_of, SearchState, settled_of}
 use Rattle.search.specs.declared.outcomes.Status.TheVariants as status
@@ -8,118 +9,103 @@ use Rattle.hall.specs.declared.faults.Fault.TheVariants.{Memory}
 use Rattle.hall.specs.declared.calls.answers.Answer.{Answer}
 use Rattle.hall.specs.declared.calls.answers.Answer.TheVariants.{Working}
 use Rattle.hall.specs.declared.calls.requests.Request.{Request}
-use Rattle.hall.specs.declared.calls.requests.Request.TheVariants.{Poll, Proof}
+use Rattle.hall.specs.declared.calls.requests.Request.TheVariants as request
 use Rattle.hall.specs.declared.calls.replies.Reply.{Reply}
-use Rattle.hall.specs.declared.calls.replies.Reply.TheVariants.{Answered, Refused}
-use Rattle.hall.specs.Answers.{answer_of}
-use Rattle.hall.specs.Hall.{HallState, Running, search_at, IsServed, IsToldOver}
-use Rattle.hall.specs.Work.{IsCompletedAt}
+use Rattle.hall.specs.declared.calls.replies.Reply.TheVariants as reply
+use Rattle.hall.specs.Hall.{search_at, IsServed, IsToldOver}
 use Rattle.pool.specs.declared.faults.DeskFault.{DeskFault}
-use Rattle.pool.specs.declared.faults.DeskFault.TheVariants.{Hall, Rewound, PassesOut, NoThread}
+use Rattle.pool.specs.declared.faults.DeskFault.TheVariants.{Hall}
+use Rattle.pool.specs.declared.turns.Item.{Item}
+use Rattle.pool.specs.declared.turns.Item.TheVariants as item
 use Rattle.pool.specs.declared.verdicts.Verdict.{Verdict}
-use Rattle.pool.specs.declared.verdicts.Gathered.{Gathered}
-use Rattle.pool.specs.Passes.{PassState, IsSeenAt, pass_after}
+use Rattle.pool.specs.Fronts.{HasStop}
+use Rattle.pool.specs.Histories.{turn, Admits, Reads, IsReadOff, IsOpening}
+use Rattle.pool.specs.Passes.{PassState, own_calls}
 use Rattle.pool.specs.Rooms.{RoomState, IsKept}
 
--- The journal is no shorter than the pass had seen, and the request of the pass's tenant, and no other, is served by the hall. Of
--- the room nothing else changes.
-pub record IsServedAt (before after : RoomState) (old new : PassState) (q : Request) (told : Reply) : Type 0 where
-  pub kept : IsKept before
-  pub seen : old.front ≤ length before.hall.journal
-  pub served : IsServed before.hall old.tenant q told after.hall
-  pub pass : new ≡ pass_after old (length before.hall.journal) told
-  pub room : after ≡ record before { hall = after.hall; accepted = after.accepted }
+-- The history went on from what the pass had seen, to this item, which the pass has seen last. It is one call more of its own,
+-- and the only one.
+pub record IsNext (old new : PassState) (i : Item) : Type 0 where
+  pub before : List Item
+  pub began : IsPrefix old.seen before
+  pub last : new.seen ≡ before ++ i ∷ []
+  pub own : own_calls new ≡ own_calls old ++ i ∷ []
+  pub pass : new ≡ record old { seen = new.seen }
 
--- the journal that is found, of this length, is shorter than the pass has seen, and nothing changes
-pub record IsRewoundAt (before after : RoomState) (old new : PassState) (found : ℕ) : Type 0 where
-  pub kept : IsKept before
-  pub length_is : found ≡ length before.hall.journal
-  pub short : found < old.front
-  pub pass : new ≡ old
-  pub room : after ≡ before
+-- the request of the pass's tenant was told this, by such an item
+abbrev pub IsTold : PassState → PassState → Request → Reply → Type 0
+IsTold old new q told = (i : Item) × IsNext old new i × Admits i (turn old.tenant q told)
 
--- the hall refuses the request, or it isn't asked
-abbrev pub IsRefusedAt : RoomState → RoomState → PassState → PassState → Request → DeskFault → Type 0
-IsRefusedAt before after old new q (Hall fault) = IsServedAt before after old new q (Refused fault)
-IsRefusedAt before after old new q (Rewound found) = IsRewoundAt before after old new found
-IsRefusedAt before after old new q PassesOut = ⊥
-IsRefusedAt before after old new q NoThread = ⊥
+-- a refusal is the hall's, and told so
+abbrev pub IsRefused : PassState → PassState → Request → DeskFault → Type 0
+IsRefused old new q (Hall fault) = IsTold old new q (reply.Refused fault)
+IsRefused old new q _ = ⊥
 
 -- what a call came to, whose value is told by this reply
-abbrev pub IsAnsweredAt : {X : Type 0} → (X → Reply) → RoomState → RoomState → PassState → PassState → Request → Result X DeskFault → Type 0
-IsAnsweredAt reply before after old new q (Ok x) = IsServedAt before after old new q (reply x)
-IsAnsweredAt reply before after old new q (Err fault) = IsRefusedAt before after old new q fault
+abbrev pub IsAnswered : {X : Type 0} → (X → Reply) → PassState → PassState → Request → Result X DeskFault → Type 0
+IsAnswered tells old new q (Ok x) = IsTold old new q (tells x)
+IsAnswered tells old new q (Err fault) = IsRefused old new q fault
 
--- the request reads this search of the hall's, which is completed, and nothing else
-abbrev pub Reads : HallState → List ℕ → Request → SearchState → Type 0
-Reads h who (Poll k) s = IsCompletedAt h who k s
-Reads h who (Proof k member) s = IsCompletedAt h who k s
-Reads h who _ s = ⊥
+-- a request of each kind is told a reply of its kind, or refused
+abbrev pub Suits : Request → Reply → Type 0
+Suits q (reply.Refused fault) = Unit {0}
+Suits (request.Alter change) (reply.Counted n) = Unit {0}
+Suits (request.Seek query) (reply.Opened n) = Unit {0}
+Suits (request.Poll k) (reply.Answered answer) = Unit {0}
+Suits (request.Close k) reply.Closed = Unit {0}
+Suits request.Vault (reply.Vault rows) = Unit {0}
+Suits request.Sees (reply.Sees seen) = Unit {0}
+Suits (request.Proof k member) (reply.Proof steps) = Unit {0}
+Suits q _ = ⊥
 
--- in each hall where the request reads this search it is told this, and changes nothing
-abbrev pub IsReadOff : SearchState → Request → Reply → Type 0
-IsReadOff s q told = (h : HallState) (who : List ℕ) → Reads h who q s → IsServed h who q told h
-
--- a call comes to the reply that is read off so, or to the refusal
+-- a call comes to the reply that is read off a search so, or to the refusal
 abbrev pub IsReadAs : SearchState → Request → Result Reply DeskFault → Type 0
 IsReadAs s q (Ok told) = IsReadOff s q told
-IsReadAs s q (Err fault) = (f : Fault) × (fault ≡ Hall f) × IsReadOff s q (Refused f)
+IsReadAs s q (Err fault) = (f : Fault) × (fault ≡ Hall f) × IsReadOff s q (reply.Refused f)
 
--- the pass has seen the journal, which is no shorter than it had seen, and the request of its tenant reads this search
-pub record IsLentAt (at : RoomState) (old new : PassState) (q : Request) (s : SearchState) : Type 0 where
-  pub kept : IsKept at
-  pub seen : IsSeenAt (length at.hall.journal) old new
-  pub reads : Reads at.hall old.tenant q s
+-- a poll is told what its verdict tells, and that is on the search that the history opened; memory may lack to share what it reads
+abbrev pub IsPolled : PassState → PassState → ℕ → Result Verdict DeskFault → Type 0
+IsPolled old new k (Ok v) =
+    IsTold old new (request.Poll k) (reply.Answered v.answer) × IsOpening new.seen old.tenant k v.query (arc_value v.snapshot)
+IsPolled old new k (Err fault) =
+    IsRefused old new (request.Poll k) fault
+    ⊎ ((fault ≡ Hall Memory) × ((answer : Answer) × IsTold old new (request.Poll k) (reply.Answered answer)))
 
--- the same in some room, as nobody knows who came before
-abbrev pub IsAnswered : {X : Type 0} → (X → Reply) → PassState → PassState → Request → Result X DeskFault → Type 0
-IsAnswered reply old new q result = (before : RoomState) × (after : RoomState) × IsAnsweredAt reply before after old new q result
-
--- the verdict tells what the search is for, what it reads and what it has come to
-abbrev pub IsVerdictOf : Running → Verdict → Type 0
-IsVerdictOf r v =
-    (v.query ≡ r.search.query) × (arc_value v.snapshot ≡ r.search.snapshot) × (v.answer ≡ answer_of (settled_of r.search))
+-- a poll by which nothing yet is told only where the pass has seen that the desk was stopped
+abbrev pub IsWaited : PassState → PassState → ℕ → Result Verdict DeskFault → Type 0
+IsWaited old new k result = IsPolled old new k result × IfOk result (λ v. v.answer ≡ Working → HasStop new.seen)
 
 -- the verdict tells this of the search itself, in each hall that has it; memory may lack to tell it, or to share what it reads
 abbrev pub IsVerdictOn : SearchState → Result Verdict DeskFault → Type 0
-IsVerdictOn s (Ok v) = IsToldOver s Poll (Answered v.answer) × (v.query ≡ s.query) × (arc_value v.snapshot ≡ s.snapshot)
+IsVerdictOn s (Ok v) = IsToldOver s request.Poll (reply.Answered v.answer) × (v.query ≡ s.query) × (arc_value v.snapshot ≡ s.snapshot)
 IsVerdictOn s (Err fault) =
-    ((f : Fault) × (fault ≡ Hall f) × IsToldOver s Poll (Refused f))
-    ⊎ ((fault ≡ Hall Memory) × ((answer : Answer) × IsToldOver s Poll (Answered answer)))
+    ((f : Fault) × (fault ≡ Hall f) × IsToldOver s request.Poll (reply.Refused f))
+    ⊎ ((fault ≡ Hall Memory) × ((answer : Answer) × IsToldOver s request.Poll (reply.Answered answer)))
 
--- a poll is served, and the verdict is on the search that it asks for; memory may also lack to share what the search reads
-abbrev pub IsPolledAt : RoomState → PassState → PassState → ℕ → Result Verdict DeskFault → Type 0
-IsPolledAt at old new number (Ok v) =
-    IsServedAt at at old new (Poll number) (Answered v.answer) × IsSomeAnd (search_at at.hall old.tenant number) (λ r. IsVerdictOf r v)
-IsPolledAt at old new number (Err fault) =
-    IsRefusedAt at at old new (Poll number) fault
-    ⊎ ((fault ≡ Hall Memory) × ((answer : Answer) × IsServedAt at at old new (Poll number) (Answered answer)))
+-- this holds of the number of the search that the request reads
+abbrev pub OfSearch : Request → (ℕ → Type 0) → Type 0
+OfSearch (request.Poll k) holds = holds k
+OfSearch (request.Proof k member) holds = holds k
+OfSearch q holds = Unit {0}
 
-abbrev pub IsPolled : PassState → PassState → ℕ → Result Verdict DeskFault → Type 0
-IsPolled old new number result = (at : RoomState) × IsPolledAt at old new number result
+-- the request of the pass's tenant reads this search, as the last item says; and it is one that the history opened
+pub record IsLent (at : RoomState) (old new : PassState) (q : Request) (s : SearchState) : Type 0 where
+  pub kept : IsKept at
+  pub began : IsPrefix at.told new.seen
+  pub next : IsNext old new (item.Read old.name old.tenant q s)
+  pub reads : Reads at.hall old.tenant q s
+  pub opening : OfSearch q (λ k. IsOpening new.seen old.tenant k s.query s.snapshot)
 
--- the desk goes on, the journal is no shorter than this, and the search is there and has come to nothing yet
-abbrev pub GoesOnWaiting : RoomState → List ℕ → ℕ → ℕ → Type 0
-GoesOnWaiting at who number front =
-    (at.stopped ≡ false) × (front ≤ length at.hall.journal)
-    × IsSomeAnd (search_at at.hall who number) (λ r. status_of (settled_of r.search) ≡ status.Working)
+-- the search is there, and has come to nothing yet
+abbrev pub IsAtWork : RoomState → List ℕ → ℕ → Type 0
+IsAtWork at who k = IsSomeAnd (search_at at.hall who k) (λ r. status_of (settled_of r.search) ≡ status.Working)
 
--- nothing yet is told only where the desk was stopped
-abbrev pub IsOverAt : RoomState → Result Verdict DeskFault → Type 0
-IsOverAt at result = IfOk result (λ v. v.answer ≡ Working → at.stopped ≡ true)
+-- the desk goes on, and so does the search
+abbrev pub GoesOnWaiting : RoomState → List ℕ → ℕ → Type 0
+GoesOnWaiting at who k = (at.stopped ≡ false) × IsAtWork at who k
 
--- a poll where the wait was over
-abbrev pub IsWaited : PassState → PassState → ℕ → Result Verdict DeskFault → Type 0
-IsWaited old new number result = (at : RoomState) × IsPolledAt at old new number result × IsOverAt at result
-
--- a pass has seen the journal that it was made over
-abbrev pub IsAdmitted : PassState → Type 0
-IsAdmitted p = (at : RoomState) × IsKept at × (p.front ≡ length at.hall.journal)
-
--- so many passes were all that were out
-abbrev pub IsGathered : ℕ → Gathered → Type 0
-IsGathered count g = (at : RoomState) × IsKept at × (count ≡ at.out) × (g.length ≡ length at.hall.journal) × (g.left ≡ at.left)
-
--- more passes than so many were out
-abbrev pub MoreAreOut : ℕ → Type 0
-MoreAreOut count = (at : RoomState) × IsKept at × (count < at.out)
+-- a poll in this room, of which the pass has seen all that was told
+pub record IsPolledIn (at : RoomState) (old new : PassState) (k : ℕ) (result : Result Verdict DeskFault) : Type 0 where
+  pub polled : IsPolled old new k result
+  pub seen : IsPrefix at.told new.seen
+  pub working : IfOk result (λ v. v.answer ≡ Working → IsAtWork at old.tenant k)

@@ -7,17 +7,17 @@ ghost use Rattle.names.specs.Name.{is_same};
 ghost use Rattle.hall.specs.declared.calls.requests.Request.TheVariants as request;
 ghost use Rattle.hall.specs.declared.calls.replies.Reply.TheVariants as reply;
 ghost use Rattle.hall.specs.Batches.{IsEmpty, IsLookedUp};
-ghost use Rattle.pool.specs.Laws.{CountsAreSeen, NumbersAreCounted, VaultsAreOwn, SightsAreOwn, VerdictsAreOwn};
-ghost use Rattle.pool.specs.Passes.{shares_of};
+ghost use Rattle.pool.specs.Passes.{own_calls, front_of, shares_of};
 ghost use Rattle.pool.specs.Rooms.{IsKept, IsIdle};
 ghost use Rattle.pool.specs.Refusals.{IsPassRefusal};
-ghost use Rattle.pool.specs.Served.{IsAnswered, IsPolled, IsPolledAt, IsWaited, IsAdmitted, IsGathered, MoreAreOut};
+ghost use Rattle.pool.specs.Served.{IsAnswered, Suits, IsPolled, IsPolledIn, IsWaited};
 ghost use Rattle.pool.specs.Workers.{IsFound, IsHandIn, found_by};
 
 use crate::bells::Bells;
 use crate::faults::{DeskFault, Told};
+use crate::keepers::{Naming, Unnamed};
 use crate::passes::Pass;
-use crate::rooms::{PARTS, Room, Served, read_off, verdict_on};
+use crate::rooms::{Room, Served, read_off, verdict_on};
 use crate::verdicts::{Gathered, Ticket, Verdict};
 use crate::visits::{BATCH, Found, Visited};
 use hall::{
@@ -27,7 +27,6 @@ use names::Entity;
 use quotas::Limits;
 use std::alloc::Global;
 use std::marker::Model;
-use std::sync::ledger::{Blank, Ledger};
 use std::sync::{Condvar, Mutex, MutexGuard, Wait};
 use std::thread;
 use vaults::Change;
@@ -37,10 +36,10 @@ use vaults::Change;
 /// answers.
 const TRIES: usize = 16;
 
-/// A hall under one lock, with the ledger of the accepted changes of which passes were told. The type `L` names the
-/// ledger, so a pass of another desk fits no call. All calls but `make` may wait for the lock, and what they ensure holds
-/// if they return. Contracts see of a desk the names of its tenants, which never change.
-pub struct Desk<L: Ledger> {
+/// A hall under one lock, with the history of all that its tenants were told and the ledger of the accepted changes of which
+/// passes were told. The type `L` names both, so a pass of another desk fits no call. All calls but `make` may wait for the
+/// lock, and what they ensure holds if they return. Contracts see of a desk the names of its tenants, which never change.
+pub struct Desk<L: Naming> {
     pub(crate) alloc: Global,
     room: Mutex<Room<L>>,
     /// Where callers wait, each for one search. It has the tenants' names, so that a contract can tell who gets a pass.
@@ -53,7 +52,7 @@ pub struct Desk<L: Ledger> {
     line: Mutex<()>,
 }
 
-impl<L: Ledger> Model for Desk<L> {
+impl<L: Naming> Model for Desk<L> {
     ghost use Rattle.std.specs.Prelude.{ℕ, List};
 
     ghost Value = { List (List ℕ) };
@@ -62,7 +61,7 @@ impl<L: Ledger> Model for Desk<L> {
 }
 
 // By hand, so that who holds one drops it by one call, whose proof stands here.
-impl<L: Ledger> Drop for Desk<L> {
+impl<L: Naming> Drop for Desk<L> {
     fn drop(self) {
         let Desk {
             alloc: _alloc,
@@ -75,17 +74,16 @@ impl<L: Ledger> Drop for Desk<L> {
     }
 }
 
-impl<L: Ledger> Desk<L> {
+impl<L: Naming> Desk<L> {
     /// A desk of these tenants, who have done nothing yet. No pass is out.
     pub fn make(
         alloc: Global,
         roster: Vec<(Entity, Limits)>,
-        blank: Blank,
+        unnamed: Unnamed,
     ) -> Result<Desk<L>, Fault>
+        requires roster { roster.items ≡ L.roster }
         requires distinct { IsDistinct is_same (map (λ row. row.0) roster.items) }
-        requires name { blank.name ≡ L.name }
-        requires parts { blank.parts ≡ L.parts }
-        requires room { blank.parts ≡ PARTS }
+        requires named { unnamed ≡ record { ledger = L.name; parts = L.parts; table = L.table } }
         ensures tenants { IfOk result (λ desk. desk ≡ map (λ row. row.0) roster.items) }
         ensures only_memory { IfErr result (λ f. f ≡ Fault.Memory) }
     {
@@ -93,7 +91,7 @@ impl<L: Ledger> Desk<L> {
         let hall = Hall::make(alloc, roster)?;
         Ok(Desk {
             alloc,
-            room: Mutex::new(Room::new(hall, blank)),
+            room: Mutex::new(Room::new(hall, unnamed)),
             over,
             work: Condvar::new(),
             next: Mutex::new(()),
@@ -137,11 +135,10 @@ impl<L: Ledger> Desk<L> {
         let _next = self.next.lock(rt);
     }
 
-    /// A new pass of a tenant, told of no change yet. Refused as 62 to a stranger, and as 90 where 2^32 passes are out.
+    /// A new pass of a tenant, which has made no call. Refused as 62 to a stranger, and as 90 where 2^32 passes are out.
     pub fn pass<R: Wait>(&self, rt: &R, who: Entity) -> Told<Pass<L>>
         ensures tenant { IfOk result (λ p. p.tenant ≡ who) }
-        ensures share { IfOk result (λ p. p.share ≡ 0) }
-        ensures admitted { IfOk result IsAdmitted }
+        ensures none { IfOk result (λ p. own_calls p ≡ []) }
         ensures known { OnOk result (Contains self.now who) }
         ensures refused { IfErr result IsPassRefusal }
         ensures stranger { IfErr result (λ f. (f ≡ DeskFault.Hall Fault.NoTenant) ↔ (Contains self.now who → ⊥)) }
@@ -152,9 +149,10 @@ impl<L: Ledger> Desk<L> {
         self.enter(rt).admit(who)
     }
 
-    /// Serves the pass's tenant. Refused as 91 where the journal is shorter than the pass has seen, then as the hall refuses.
+    /// Serves the pass's tenant. Refused as the hall refuses.
     pub fn serve<R: Wait>(&self, rt: &R, pass: &mut Pass<L>, request: Request) -> Told<Reply>
-        ensures { IsAnswered (λ r. r) pass.old pass.new request result }
+        ensures answered { IsAnswered (λ r. r) pass.old pass.new request result }
+        ensures suits { IfOk result (Suits request) }
     {
         let mut room = self.enter(rt);
         if let Some(search) = room.lent(pass, &request) {
@@ -192,7 +190,7 @@ impl<L: Ledger> Desk<L> {
     /// Opens a search over what the tenant sees now. Refused as `serve` is.
     pub fn open<R: Wait>(&self, rt: &R, pass: &mut Pass<L>, query: Query) -> Told<Ticket>
         ensures answered { IsAnswered (λ t. reply.Opened t.no) pass.old pass.new (request.Seek query) result }
-        ensures opened_at { IfOk result (λ t. t.opened_at ≡ pass.new.front) }
+        ensures opened_at { IfOk result (λ t. t.opened_at ≡ front_of pass.new) }
     {
         match self.serve(rt, pass, Request::Seek(query))? {
             Reply::Opened(no) => Ok(Ticket {
@@ -213,7 +211,7 @@ impl<L: Ledger> Desk<L> {
 
     /// Gives the lock back, and tells what the search has come to: of a completed one when nobody waits for the lock any more.
     fn look(mut room: MutexGuard<'_, Room<L>>, pass: &mut Pass<L>, number: u64) -> Told<Verdict>
-        ensures { IsPolledAt (mutex_guard_value room.entry) pass.old pass.new number result }
+        ensures { IsPolledIn (mutex_guard_value room.entry) pass.old pass.new number result }
     {
         let Some(search) = room.lent(pass, &Request::Poll(number)) else {
             return room.poll(pass, number);
@@ -227,10 +225,10 @@ impl<L: Ledger> Desk<L> {
         ensures { IsWaited pass.old pass.new number result }
     {
         let who = pass.tenant();
-        let front = pass.front();
         let room = self.enter(rt);
         let bell = self.over.of(&who, number);
-        let room = bell.wait_while(rt, room, |room| !room.is_over(who, number, front));
+        let room = bell.wait_while(rt, room, |room| !room.is_over(who, number));
+        room.kept();
         Self::look(room, pass, number)
     }
 
@@ -297,9 +295,7 @@ impl<L: Ledger> Desk<L> {
         passes: Vec<Pass<L>>,
     ) -> Result<Gathered, (DeskFault, Vec<Pass<L>>)>
         ensures total { IfOk result (λ g. g.length ≡ g.left + shares_of passes.items) }
-        ensures gathered { IfOk result (IsGathered (vec_len passes)) }
         ensures out { IfErr result (λ e. (e.0 ≡ DeskFault.PassesOut) × (e.1.items ≡ passes.items)) }
-        ensures more { OnErr result (MoreAreOut (vec_len passes)) }
     {
         self.enter(rt).gather(passes)
     }
@@ -442,12 +438,3 @@ impl<L: Ledger> Desk<L> {
         self.line.lock(rt)
     }
 }
-
-/// What a desk tells a tenant of vaults, names and searches is the tenant's own, and changes and searches are counted from 1.
-pub fn replies_are_own()
-    ensures counts { CountsAreSeen }
-    ensures numbers { NumbersAreCounted }
-    ensures vaults { VaultsAreOwn }
-    ensures sights { SightsAreOwn }
-    ensures verdicts { VerdictsAreOwn }
-{}

@@ -1,10 +1,11 @@
 //! The desk and its workers: one hall under one lock. Callers hold passes, workers are threads, and a visit to the lock is
 //! one call of the hall, or the steps of one search that a worker makes in a row.
 //!
-//! Each call of `Desk` says that some sound hall was found which served just this request of the pass's tenant
-//! (`specs/Served.antt`). A pass remembers the longest journal that it has seen, and each accepted change that was told counts
-//! once in a ledger (`specs/Passes.antt`). Whom a call or a visit has to wake is told by a `Notice` (`specs/Notices.antt`), which nobody
-//! can drop. That who is woken goes on is shown by tests, since no clause speaks of it.
+//! All that tenants are told stands in one history, in the order of the lock, which exists in proofs alone
+//! (`specs/Histories.antt`). Each call of `Desk` adds one item to it, which admits the call's reply, and a pass has seen a
+//! beginning of it with all of its own calls (`specs/Served.antt`). Each accepted change that was told counts once in a ledger
+//! too (`specs/Passes.antt`). Whom a call or a visit has to wake is told by a `Notice` (`specs/Notices.antt`), which nobody can
+//! drop. That who is woken goes on is shown by tests, since no clause speaks of it.
 //! Why so: docs/DECISIONS.md#pool.
 #![tactic(auto)]
 
@@ -13,20 +14,28 @@ mod bells;
 mod desk_tests;
 mod desks;
 mod faults;
+mod histories;
+mod keepers;
 mod notices;
 mod passes;
 mod rooms;
+mod seats;
 #[cfg(test)]
 mod tests;
 #[cfg(test)]
 mod tests_below;
+mod turns;
 mod verdicts;
 mod visits;
 mod workers;
 
-pub use desks::{Desk, replies_are_own};
+pub use desks::Desk;
 pub use faults::{DeskFault, Told};
+pub use histories::{
+    histories_agree, histories_are_true, histories_go_on, reads_are_told, replies_are_own,
+    sessions_are_runs, shares_add_up,
+};
+pub use keepers::{Naming, Unnamed};
 pub use passes::Pass;
-pub use rooms::PARTS;
 pub use verdicts::{Gathered, Ticket, Verdict};
 pub use workers::{Gate, NoGate, run_workers};

@@ -1,43 +1,66 @@
-ghost use Rattle.std.specs.Prelude.{◌≡◌, ◌+◌, ◌<◌};
-ghost use Rattle.pool.specs.Passes.{length_after, pass_after};
+//! The right to call a desk for a tenant.
+ghost use Rattle.std.specs.Prelude.{◌≡◌, ◌++◌, ◌∷◌, []};
+ghost use mathlib.Core.List.{IsPrefix};
+ghost use Rattle.pool.specs.Fronts.{own_items};
+ghost use Rattle.pool.specs.Histories.{IsLegal, item_of};
+ghost use Rattle.pool.specs.Passes.{own_calls, front_of, share_of};
+ghost use Rattle.pool.specs.Shares.{accepted_in};
 
-use hall::Reply;
+use crate::keepers::{Front, Keeper, Naming};
+use crate::turns::Noted;
 use names::Entity;
 use std::marker::Model;
-use std::sync::ledger::{Book, Ledger, Share};
+use std::sync::ledger::{Book, Share};
 
-/// The right to call a desk for a tenant. It knows how long a journal it has seen, and how many accepted changes it was told.
+/// The right to call a desk for a tenant. It has seen a beginning of the history, and its own calls have a name there that no
+/// other pass has.
 #[derive(Drop)]
-pub struct Pass<L: Ledger> {
-    pub(crate) tenant: Entity,
-    pub(crate) front: u64,
-    pub(crate) told: u64,
-    pub(crate) share: Share<L>,
+pub struct Pass<L: Naming> {
+    tenant: Entity,
+    front: u64,
+    told: u64,
+    share: Share<L>,
+    seen: Front<L>,
 }
 
-impl<L: Ledger> Model for Pass<L> {
+impl<L: Naming> Model for Pass<L> {
     ghost use Rattle.std.specs.Prelude.{◌≡◌};
+    ghost use Rattle.std.specs.Coded.{codes};
+    ghost use Rattle.std.specs.FinMap as fin;
+    ghost use Rattle.search.specs.contracts.stages.Stage as running;
+    ghost use Rattle.search.specs.contracts.findings.Monitor as memory;
+    ghost use Rattle.pool.specs.Fronts.{own_items};
     ghost use Rattle.pool.specs.Passes.{PassState};
+    ghost use Rattle.pool.specs.Shares.{accepted_in};
 
     ghost Value = { PassState };
 
-    ghost view = { λ p. record { tenant = p.tenant; front = p.front; share = p.share.amount } };
+    ghost coded = { Prim.hlevel (codes, fin.code, running.the_row.coded, memory.the_row.coded) };
 
-    ghost invariant = { λ p. (p.share.parts ≡ 1) × (p.told ≡ p.share.amount) };
+    ghost view = { λ p. record { tenant = p.tenant; name = p.seen.name; seen = p.seen.seen } };
+
+    ghost invariant = { λ p.
+        (p.share.parts ≡ 1)
+        × (p.told ≡ p.share.amount)
+        × (p.share.amount ≡ accepted_in (own_items p.seen))
+        × (p.front ≡ accepted_in p.seen.seen) };
 }
 
-impl<L: Ledger> Pass<L> {
-    /// A pass of the tenant that has seen a journal of this length, and was told of no change.
-    pub(crate) fn new(tenant: Entity, front: u64, share: Share<L>) -> Pass<L>
+impl<L: Naming> Pass<L> {
+    /// A pass of the tenant that has seen this, and has made no call. The journal has this length then.
+    pub(crate) fn new(tenant: Entity, front: u64, share: Share<L>, seen: Front<L>) -> Pass<L>
         requires part { share.parts ≡ 1 }
         requires nothing { share.amount ≡ 0 }
-        ensures { result ≡ record { tenant = tenant; front = front; share = 0 } }
+        requires front { front ≡ accepted_in seen.seen }
+        requires none { own_items seen ≡ [] }
+        ensures { result ≡ record { tenant = tenant; name = seen.name; seen = seen.seen } }
     {
         Pass {
             tenant,
             front,
             told: 0,
             share,
+            seen,
         }
     }
 
@@ -48,32 +71,61 @@ impl<L: Ledger> Pass<L> {
         self.tenant
     }
 
-    /// The length of the longest journal that the pass has seen.
+    /// The length of the journal that the pass has seen.
     pub fn front(&self) -> u64
-        ensures { result ≡ self.now.front }
+        ensures { result ≡ front_of self.now }
     {
         self.front
     }
 
     /// How many accepted changes the pass was told.
     pub fn share(&self) -> u64
-        ensures { result ≡ self.now.share }
+        ensures { result ≡ share_of self.now }
     {
         self.told
     }
 
-    /// The pass is told this reply, with which the journal has this length. An accepted change counts once.
-    pub(crate) fn hear(&mut self, book: &mut Book<L>, reply: &Reply, length: u64)
-        requires seen { self.old.front ≡ book.old.total }
-        requires length { length ≡ length_after book.old.total reply.now }
-        ensures pass { self.new ≡ pass_after self.old book.old.total reply.now }
-        ensures total { book.new.total ≡ length }
+    /// What the pass has seen is legal: to each tenant of the roster a run of its own turns.
+    pub fn legal(&self)
+        ensures { IsLegal L.roster self.now.seen }
     {
-        if let Reply::Counted(_) = *reply {
-            book.add(&mut self.share, 1);
-            book.audit(&mut self.share);
-            self.told += 1;
-            self.front = length;
-        }
+        self.seen.is_legal();
+    }
+
+    /// The history goes on by a call of the pass, which sees that. The journal had the one length before, and has the other now:
+    /// where it is longer, the pass is told of the accepted change.
+    pub(crate) fn hear(
+        &mut self,
+        keeper: &mut Keeper<L>,
+        book: &mut Book<L>,
+        noted: &Noted,
+        before: u64,
+        after: u64,
+    )
+        requires legal { IsLegal L.roster (keeper.old ++ item_of self.old.name noted.now ∷ []) }
+        requires total { book.old.total ≡ before }
+        requires before { before ≡ accepted_in keeper.old }
+        requires after { after ≡ accepted_in (keeper.old ++ item_of self.old.name noted.now ∷ []) }
+        ensures began { IsPrefix self.old.seen keeper.old }
+        ensures own { own_calls self.new ≡ own_calls self.old ++ item_of self.old.name noted.now ∷ [] }
+        ensures pass { self.new ≡ record self.old { seen = keeper.new } }
+        ensures keeper { keeper.new ≡ keeper.old ++ item_of self.old.name noted.now ∷ [] }
+        ensures total { book.new.total ≡ after }
+    {
+        keeper.tell(&mut self.seen, noted);
+        book.add(&mut self.share, after - before);
+        book.audit(&mut self.share);
+        self.told += after - before;
+        self.front = after;
+    }
+
+    /// Gives up the pass, and tells how many accepted changes it was told.
+    pub(crate) fn given_up(self) -> (Share<L>, u64)
+        ensures part { result.0.parts ≡ 1 }
+        ensures amount { result.0.amount ≡ share_of self }
+        ensures told { result.1 ≡ share_of self }
+    {
+        let Pass { told, share, .. } = self;
+        (share, told)
     }
 }

@@ -1,29 +1,32 @@
-//! What lies under the lock of a desk: the hall, and the count of the changes of which passes were told.
-ghost use Rattle.std.specs.Prelude.{◌≡◌, ◌↔◌, ◌+◌, ◌<◌, true, false, [], length, vec_len, None, IfSome, IfOk, IfErr, OnOk, OnErr};
+//! What lies under the lock of a desk: the hall with the keeper of its history, and the count of the changes of which passes were told.
+ghost use Rattle.std.specs.Prelude.{◌≡◌, ◌↔◌, ◌+◌, ◌<◌, ◌++◌, ◌∷◌, ℕ, true, false, [], length, vec_len, None, option_map, IfSome, IfOk, IfErr, OnOk, OnErr};
+ghost use mathlib.Core.List.{IsPrefix};
 ghost use Rattle.std.specs.Arc.{arc_value};
 ghost use Rattle.search.specs.Search.{settled_of};
 ghost use Rattle.hall.specs.Answers.{answer_of};
-ghost use Rattle.hall.specs.Hall.{IsServed, told_as};
-ghost use Rattle.pool.specs.Passes.{IsSeenAt, shares_of};
+ghost use Rattle.hall.specs.declared.calls.requests.Request.TheVariants as request;
+ghost use Rattle.hall.specs.Hall.{IsServed, new_hall, search_at, told_as};
+ghost use Rattle.pool.specs.declared.turns.Item.TheVariants as item;
+ghost use Rattle.pool.specs.Passes.{own_calls, share_of, shares_of};
 ghost use Rattle.pool.specs.Rooms.{IsKept};
 ghost use Rattle.pool.specs.Notices.{request_concern};
-ghost use Rattle.pool.specs.Served.{IsAnsweredAt, IsLentAt, IsReadAs, IsPolledAt, IsVerdictOn, GoesOnWaiting};
+ghost use Rattle.pool.specs.Served.{IsAnswered, IsTold, IsRefused, Suits, IsLent, IsReadAs, IsPolledIn, IsVerdictOn, GoesOnWaiting};
 ghost use Rattle.pool.specs.Verdicts.{IsTrueWhereCompleted, rows_read};
 
 use crate::faults::{DeskFault, Told};
+use crate::keepers::{Keeper, Naming, Unnamed};
 use crate::notices::{Concern, Notice};
 use crate::passes::Pass;
+use crate::turns::Noted;
 use crate::verdicts::{Gathered, Verdict};
 use hall::{Fault, Hall, Remains, Reply, Request, proof_of, told_of};
 use names::Entity;
 use search::{Search, Status};
 use std::alloc::Global;
 use std::marker::Model;
+use std::snapshot::Snapshot;
 use std::sync::Arc;
-use std::sync::ledger::{Blank, Book, Ledger, Share};
-
-/// How many parts the ledger of a desk has: one for each pass that may be out, and one that stays.
-pub const PARTS: u64 = (1 << 32) + 1;
+use std::sync::ledger::{Book, Share};
 
 /// How many passes may be out at once.
 const MOST_OUT: u64 = 1 << 32;
@@ -37,11 +40,12 @@ pub(crate) struct Served {
     pub(crate) remains: Option<Remains>,
 }
 
-/// The hall, the ledger of accepted changes, and what stands of it with no pass that is out. And how many workers wait for
-/// something to do, so that nobody is woken where none sleeps; contracts don't see that.
+/// The hall, the keeper of all that was told, the ledger of accepted changes, and what stands of it with no pass that is out.
+/// And how many workers wait for something to do, so that nobody is woken where none sleeps; contracts don't see that.
 #[derive(Drop)]
-pub(crate) struct Room<L: Ledger> {
+pub(crate) struct Room<L: Naming> {
     pub(crate) hall: Hall,
+    keeper: Keeper<L>,
     book: Book<L>,
     rest: Share<L>,
     out: u64,
@@ -50,40 +54,52 @@ pub(crate) struct Room<L: Ledger> {
     asleep: u64,
 }
 
-impl<L: Ledger> Model for Room<L> {
+impl<L: Naming> Model for Room<L> {
     ghost use Rattle.std.specs.Prelude.{◌≡◌, ◌+◌, ◌<◌, ◌^◌, length};
     ghost use Rattle.std.specs.Coded.{codes};
     ghost use Rattle.std.specs.FinMap as fin;
     ghost use Rattle.search.specs.contracts.stages.Stage as running;
     ghost use Rattle.search.specs.contracts.findings.Monitor as memory;
+    ghost use Rattle.std.specs.Prelude.{true};
+    ghost use Rattle.pool.specs.Fronts.{HasStop};
+    ghost use Rattle.pool.specs.Histories.{Reaches};
     ghost use Rattle.pool.specs.Rooms.{RoomState};
 
     ghost Value = { RoomState };
 
     ghost coded = { Prim.hlevel (codes, fin.code, running.the_row.coded, memory.the_row.coded) };
 
-    ghost view = { λ r. record { hall = r.hall; accepted = r.book.total; out = r.out; left = r.left; stopped = r.stopped } };
+    ghost view = { λ r. record {
+      hall = r.hall;
+      told = r.keeper;
+      accepted = r.book.total;
+      out = r.out;
+      left = r.left;
+      stopped = r.stopped;
+    } };
 
     ghost invariant = { λ r.
         (r.book.total ≡ length r.hall.journal)
         × (r.rest.parts + r.out ≡ 2 ^ 32 + 1)
         × (0 < r.rest.parts)
         × (r.rest.amount ≡ r.left)
-        × (L.parts ≡ 2 ^ 32 + 1) };
+        × (L.parts ≡ 2 ^ 32 + 1)
+        × Reaches L.roster r.keeper r.hall
+        × (r.stopped ≡ true → HasStop r.keeper) };
 }
 
-impl<L: Ledger> Room<L> {
-    /// The room of a hall without a journal, where no pass is out.
-    pub(crate) fn new(hall: Hall, blank: Blank) -> Room<L>
-        requires empty { hall.journal ≡ [] }
-        requires name { blank.name ≡ L.name }
-        requires parts { blank.parts ≡ L.parts }
-        requires room { blank.parts ≡ PARTS }
-        ensures { result ≡ record { hall = hall; accepted = 0; out = 0; left = 0; stopped = false } }
+impl<L: Naming> Room<L> {
+    /// The room of a new hall, of which nothing was told yet, and where no pass is out.
+    pub(crate) fn new(hall: Hall, unnamed: Unnamed) -> Room<L>
+        requires hall { hall ≡ new_hall L.roster }
+        requires named { unnamed ≡ record { ledger = L.name; parts = L.parts; table = L.table } }
+        ensures { result ≡ record { hall = hall; told = []; accepted = 0; out = 0; left = 0; stopped = false } }
     {
+        let (keeper, blank) = unnamed.named::<L>();
         let (book, rest) = blank.open::<L>();
         Room {
             hall,
+            keeper,
             book,
             rest,
             out: 0,
@@ -101,9 +117,10 @@ impl<L: Ledger> Room<L> {
         let _length = self.hall.journal_len();
     }
 
-    /// A new pass of this name, which has seen the journal as it is and was told of no change.
+    /// A new pass of this tenant, which has seen all that was told, and has made no call.
     pub(crate) fn admit(&mut self, who: Entity) -> Told<Pass<L>>
-        ensures pass { IfOk result (λ p. p ≡ record { tenant = who; front = length self.old.hall.journal; share = 0 }) }
+        ensures pass { IfOk result (λ p. p ≡ record { tenant = who; name = p.name; seen = self.old.told }) }
+        ensures none { IfOk result (λ p. own_calls p ≡ []) }
         ensures ok { OnOk result (self.new ≡ record self.old { out = self.old.out + 1 }) }
         ensures refused { IfErr result (λ f. f ≡ DeskFault.Hall Fault.Memory) }
         ensures full { OnErr result (self.old.out ≡ MOST_OUT) }
@@ -114,95 +131,122 @@ impl<L: Ledger> Room<L> {
         }
         let share = self.rest.split_off(1, 0);
         self.out += 1;
-        Ok(Pass::new(who, self.hall.journal_len(), share))
+        let seen = self.keeper.front();
+        Ok(Pass::new(who, self.hall.journal_len(), share, seen))
     }
 
-    /// Lets the pass see the journal, unless that is shorter than the pass has seen.
-    pub(crate) fn show(&self, pass: &mut Pass<L>) -> Told<()>
-        ensures ok { OnOk result (IsSeenAt (length self.now.hall.journal) pass.old pass.new) }
-        ensures err { IfErr result (λ f. f ≡ DeskFault.Rewound (length self.now.hall.journal)) }
-        ensures short { OnErr result (length self.now.hall.journal < pass.old.front) }
-        ensures same { OnErr result (pass.new ≡ pass.old) }
-        ensures kept { IsKept self.now }
+    /// Asks the hall for the pass's tenant, which is told what it answers. What is left of a search that ends by it is handed out.
+    fn ask(
+        &mut self,
+        pass: &mut Pass<L>,
+        request: Request,
+    ) -> (Result<Reply, Fault>, Option<Remains>)
+        ensures served { IsServed self.old.hall pass.old.tenant request (told_as (λ r. r) result.0) self.new.hall }
+        ensures told { IsTold pass.old pass.new request (told_as (λ r. r) result.0) }
+        ensures seen { IsPrefix self.old.told pass.new.seen }
     {
-        self.kept();
-        let found = self.hall.journal_len();
-        if found < pass.front() {
-            return Err(DeskFault::Rewound { front: found });
-        }
-        pass.front = found;
-        Ok(())
+        let who = pass.tenant();
+        let asked = Snapshot::of(&request);
+        let before = self.hall.journal_len();
+        let (result, remains) = ask_hall(&mut self.hall, who, request);
+        let told = Snapshot::of(&result);
+        let noted = Noted::Told(who, asked, told);
+        let after = self.hall.journal_len();
+        pass.hear(&mut self.keeper, &mut self.book, &noted, before, after);
+        (result, remains)
     }
 
-    /// Serves the request of the pass's tenant, and tells whom that concerns. Where the hall accepts a change, the pass is told
-    /// of one change more.
+    /// Serves the request of the pass's tenant, and tells whom that concerns.
     pub(crate) fn serve(&mut self, pass: &mut Pass<L>, request: Request) -> Told<Served>
-        ensures answered { IsAnsweredAt (λ s. s.reply) self.old self.new pass.old pass.new request result }
+        ensures answered { IsAnswered (λ s. s.reply) pass.old pass.new request result }
+        ensures suits { IfOk result (λ s. Suits request s.reply) }
         ensures notice { IfOk result (λ s. s.notice ≡ request_concern pass.old.tenant request) }
     {
-        self.show(pass)?;
-        let who = pass.tenant();
-        let concern = Concern::of_request(who, &request);
-        let (reply, remains) = ask(&mut self.hall, who, request)?;
-        pass.hear(&mut self.book, &reply, self.hall.journal_len());
-        Ok(Served {
-            reply,
-            notice: Notice::of(concern),
-            remains,
-        })
+        let concern = Concern::of_request(pass.tenant(), &request);
+        let (result, remains) = self.ask(pass, request);
+        match result {
+            Ok(reply) => Ok(Served {
+                reply,
+                notice: Notice::of(concern),
+                remains,
+            }),
+            Err(fault) => Err(DeskFault::Hall(fault)),
+        }
     }
 
     /// Where the request reads a completed search of the pass's tenant, that search: it doesn't change any more, so the reply
     /// is made of it once the lock is given back. It is lent to none who would be refused, nor where memory to share it lacks.
     pub(crate) fn lent(&mut self, pass: &mut Pass<L>, request: &Request) -> Option<Arc<Search>>
-        ensures lent { IfSome result (λ search. IsLentAt self.old pass.old pass.new request.now (arc_value search)) }
+        ensures lent { IfSome result (λ search. IsLent self.old pass.old pass.new request.now (arc_value search)) }
         ensures pass { result ≡ None → pass.new ≡ pass.old }
-        ensures room { self.new ≡ self.old }
+        ensures room { result ≡ None → self.new ≡ self.old }
     {
         let (Request::Poll(number) | Request::Proof(number, _)) = *request else {
             return None;
         };
-        let Ok(Some(search)) = self.hall.completed(pass.tenant(), number) else {
+        let who = pass.tenant();
+        let Ok(Some(search)) = self.hall.completed(who, number) else {
             return None;
         };
-        match self.show(pass) {
-            Ok(()) => Some(search),
-            Err(_) => None,
+        let found: &Search = &search;
+        let asked = Snapshot::of(request);
+        let read = Snapshot::of(found);
+        let noted = Noted::Read(who, asked, read);
+        let length = self.hall.journal_len();
+        pass.hear(&mut self.keeper, &mut self.book, &noted, length, length);
+        Some(search)
+    }
+
+    /// Polls where the tenant has no such search, which the hall refuses.
+    fn refuse(&mut self, pass: &mut Pass<L>, number: u64) -> DeskFault
+        requires { None ≡ option_map (λ r. r.search) (search_at self.old.hall pass.old.tenant number) }
+        ensures refused { IsRefused pass.old pass.new (request.Poll number) result }
+        ensures seen { IsPrefix self.old.told pass.new.seen }
+    {
+        let (result, _none) = self.ask(pass, Request::Poll(number));
+        match result {
+            Err(fault) => DeskFault::Hall(fault),
+            Ok(reply) => match reply {
+                Reply::Refused(fault) => DeskFault::Hall(fault),
+                _ => unreachable!(),
+            },
         }
     }
 
     /// What the search of the pass's tenant has come to, with what it is for and what it reads.
-    pub(crate) fn poll(&self, pass: &mut Pass<L>, number: u64) -> Told<Verdict>
-        ensures { IsPolledAt self.now pass.old pass.new number result }
+    pub(crate) fn poll(&mut self, pass: &mut Pass<L>, number: u64) -> Told<Verdict>
+        ensures { IsPolledIn self.old pass.old pass.new number result }
     {
         let who = pass.tenant();
-        self.show(pass)?;
+        let length = self.hall.journal_len();
         let Some(search) = self.hall.search(who, number) else {
-            // The hall refuses it.
-            self.hall.poll(who, number)?;
-            unreachable!()
+            return Err(self.refuse(pass, number));
         };
+        let asked = Snapshot::of(&Request::Poll(number));
+        let read = Snapshot::of(search);
+        let noted = Noted::Read(who, asked, read);
+        pass.hear(&mut self.keeper, &mut self.book, &noted, length, length);
         verdict_on(search)
     }
 
-    /// Whether a wait for the search of this tenant, by a pass of this front, is over.
-    pub(crate) fn is_over(&self, who: Entity, number: u64, front: u64) -> bool
-        ensures { (result ≡ false) ↔ GoesOnWaiting self.now who number front }
+    /// Whether a wait for the search of this tenant is over.
+    pub(crate) fn is_over(&self, who: Entity, number: u64) -> bool
+        ensures { (result ≡ false) ↔ GoesOnWaiting self.now who number }
     {
         let is_working = match self.hall.search(who, number) {
             Some(search) => search.status() == Status::Working,
             None => false,
         };
-        self.stopped || self.hall.journal_len() < front || !is_working
+        self.stopped || !is_working
     }
 
     /// Takes a pass back, with its share.
     pub(crate) fn leave(&mut self, pass: Pass<L>)
         ensures out { self.new.out + 1 ≡ self.old.out }
-        ensures left { self.new.left ≡ self.old.left + pass.share }
+        ensures left { self.new.left ≡ self.old.left + share_of pass }
         ensures room { self.new ≡ record self.old { out = self.new.out; left = self.new.left } }
     {
-        let Pass { told, share, .. } = pass;
+        let (share, told) = pass.given_up();
         self.rest.merge(share);
         self.book.audit(&mut self.rest);
         let _length = self.hall.journal_len();
@@ -256,26 +300,34 @@ impl<L: Ledger> Room<L> {
         self.asleep != 0
     }
 
-    /// No worker goes on from now on, and no caller waits, which concerns everybody.
+    /// No worker goes on from now on, and no caller waits, which concerns everybody. The stop is told under a name of its own.
     pub(crate) fn stop(&mut self) -> Notice
-        ensures stopped { self.new ≡ record self.old { stopped = true } }
+        ensures told { (name : ℕ) × (self.new.told ≡ self.old.told ++ item.Stopped name ∷ []) }
+        ensures stopped { self.new ≡ record self.old { told = self.new.told; stopped = true } }
         ensures notice { result ≡ Concern.Everybody }
     {
+        let _length = self.hall.journal_len();
+        let mut front = self.keeper.front();
+        self.keeper.tell(&mut front, &Noted::Stopped);
         self.stopped = true;
         Notice::of(Concern::Everybody)
     }
 }
 
 /// Has the hall serve the request. What is left of a search that ends by it is handed out.
-fn ask(hall: &mut Hall, who: Entity, request: Request) -> Result<(Reply, Option<Remains>), Fault>
-    ensures served { IsServed hall.old who request (told_as (λ r. r.0) result) hall.new }
+fn ask_hall(
+    hall: &mut Hall,
+    who: Entity,
+    request: Request,
+) -> (Result<Reply, Fault>, Option<Remains>)
+    ensures served { IsServed hall.old who request (told_as (λ r. r) result.0) hall.new }
 {
     match request {
-        Request::Close(number) => {
-            let remains = hall.close(who, number)?;
-            Ok((Reply::Closed, Some(remains)))
-        }
-        other => Ok((hall.ask(who, other)?, None)),
+        Request::Close(number) => match hall.close(who, number) {
+            Ok(remains) => (Ok(Reply::Closed), Some(remains)),
+            Err(fault) => (Err(fault), None),
+        },
+        other => (hall.ask(who, other), None),
     }
 }
 

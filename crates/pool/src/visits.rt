@@ -5,9 +5,9 @@ ghost use Rattle.hall.specs.Work.{IsVisit, TellsEnds};
 ghost use Rattle.pool.specs.Rooms.{IsIdle};
 ghost use Rattle.pool.specs.Workers.{order_in};
 
+use crate::keepers::Naming;
 use crate::rooms::Room;
 use hall::{Batch, Ends, Order, Visit};
-use std::sync::ledger::Ledger;
 
 /// How many steps a worker makes in one visit, and how many letters it holds, at the most.
 pub(crate) const BATCH: usize = 32;
@@ -32,7 +32,7 @@ pub(crate) struct Visited {
     pub(crate) found: Found,
 }
 
-impl<L: Ledger> Room<L> {
+impl<L: Naming> Room<L> {
     /// Whether a worker has nothing to do, whosever turn it is, and is not to end.
     pub(crate) fn is_idle(&self, turn: u64) -> bool
         ensures { IsTrue result ↔ IsIdle self.now }
@@ -58,6 +58,7 @@ impl<L: Ledger> Room<L> {
         ensures ends { TellsEnds (option_map name_of batch.old.of) self.old.hall self.new.hall ends.new }
         ensures room { self.new ≡ record self.old { hall = self.new.hall } }
     {
+        let _length = self.hall.journal_len();
         let order = if self.stopped { Order::GiveBack } else { order };
         self.hall.work(turn, order, BATCH, batch, ends)
     }

@@ -7,12 +7,12 @@ ghost use Rattle.pool.specs.Workers.{AreLetThrough, WasStopped, LackedMemory, do
 
 use crate::desks::Desk;
 use crate::faults::{DeskFault, Told};
+use crate::keepers::Naming;
 use crate::visits::{BATCH, Found};
 use hall::{Batch, Ends, Fault};
 use names::Entity;
 use std::alloc::AllocError;
 use std::sync::Wait;
-use std::sync::ledger::Ledger;
 use std::thread::{self, JoinHandle, Threads};
 
 /// Where a worker passes with each letter, after it took it and before it looks up what the letter needs, without the lock.
@@ -62,7 +62,7 @@ const IN_A_ROW: u64 = 8;
 
 /// Works until the desk is stopped, or memory is refused; then another goes on. The searches take turns, for each from another. Answers
 /// how many letters the worker finished.
-fn work<L: Ledger, G: Gate, R: Wait>(
+fn work<L: Naming, G: Gate, R: Wait>(
     rt: &R,
     desk: &Desk<L>,
     gate: &G,
@@ -75,7 +75,7 @@ fn work<L: Ledger, G: Gate, R: Wait>(
 }
 
 /// What `work` does, once there is room for the letters.
-fn work_with<L: Ledger, G: Gate, R: Wait>(
+fn work_with<L: Naming, G: Gate, R: Wait>(
     mut batch: Batch,
     rt: &R,
     desk: &Desk<L>,
@@ -147,7 +147,7 @@ fn join_all<R: Threads>(
 /// Runs `n` workers until the desk is stopped, and answers how many letters they finished. The gate is passed once with each. A
 /// worker to which memory is refused hands in what it holds and ends; the answer is then 90, once all have ended, and a `wait`
 /// returns when the caller stops the desk. 93 where a worker couldn't be started: the desk is stopped, and the others end first.
-pub fn run_workers<L: Ledger + Send + Sync, G: Gate, R: Threads + Wait + Sync>(
+pub fn run_workers<L: Naming + Send + Sync, G: Gate, R: Threads + Wait + Sync>(
     rt: &R,
     desk: &Desk<L>,
     n: u64,

@@ -2,8 +2,7 @@
 use Rattle.std.proofs.Common.{◌≡◌, ℕ, List, ◌∷◌, [], codes, true, refl, sym, ap, subst, Option, None, Some, Result, Ok, Err, IfOk, inr}
 use Rattle.std.specs.Str.{bytes_eq}
 use Rattle.std.specs.Result.{result_or}
-use Rattle.pool.specs.Passes.{PassState}
-use Rattle.pool.specs.Served.{IsAdmitted}
+use Rattle.pool.specs.Passes.{PassState, own_calls}
 use Rattle.service.specs.declared.refusals.Refusal.{Refusal}
 use Rattle.service.specs.declared.refusals.Refusal.TheVariants as refusal
 use Rattle.service.specs.Roster.{Row, IsTenant}
@@ -14,10 +13,10 @@ use Rattle.service.specs.Words.{words}
 
 -- a tenant said hello by its word, and was let in unless memory lacked for a pass
 pub IsLetIn-tried : {E : Type 0} (rows : List Row) (line first name word : List ℕ) (others : List (List ℕ)) → words line ≡ first ∷ others → true ≡ bytes_eq first (codes "hello") →
-    others ≡ name ∷ word ∷ [] → IsTenant rows name word → (tried : Result PassState E) → IfOk tried (λ p. p.tenant ≡ name) → IfOk tried (λ p. p.share ≡ 0) → IfOk tried IsAdmitted →
+    others ≡ name ∷ word ∷ [] → IsTenant rows name word → (tried : Result PassState E) → IfOk tried (λ p. p.tenant ≡ name) → IfOk tried (λ p. own_calls p ≡ []) →
     IsLetIn rows (greeting_in (words line)) (result_or tried (Err refusal.Memory))
-IsLetIn-tried rows line first name word others are hello two tenant (Ok pass) named told admitted = rw (are, sym hello, two) (tenant, named, told, admitted)
-IsLetIn-tried rows line first name word others are hello two tenant (Err _) named told admitted = rw (are, sym hello, two) (inr (refl, tenant))
+IsLetIn-tried rows line first name word others are hello two tenant (Ok pass) named none = rw (are, sym hello, two) (tenant, named, none)
+IsLetIn-tried rows line first name word others are hello two tenant (Err _) named none = rw (are, sym hello, two) (inr (refl, tenant))
 
 -- a session that holds this pass is told by another line than `quit`
 pub Tells-held : (before : SessionState) (rows : List Row) (pass next : PassState) (line reply : List ℕ) → record { rows = rows; pass = Some pass } ≡ before →

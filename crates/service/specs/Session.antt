@@ -3,9 +3,9 @@ use Rattle.std.specs.Prelude.{◌≡◌, ◌⊎◌, ℕ, if◌then◌else◌, Li
 use Rattle.std.specs.Str.{bytes_eq}
 use Rattle.hall.specs.declared.calls.replies.Reply.{Reply, TheVariants.Answered}
 use Rattle.pool.specs.declared.{faults.DeskFault.DeskFault, verdicts.Verdict.Verdict}
-use Rattle.pool.specs.Passes.{PassState}
+use Rattle.pool.specs.Passes.{PassState, own_calls}
 use Rattle.pool.specs.Refusals.{desk_number_of}
-use Rattle.pool.specs.Served.{IsAdmitted, IsAnswered, IsWaited}
+use Rattle.pool.specs.Served.{IsAnswered, IsWaited}
 use Rattle.service.specs.declared.commands.Command.{Command, TheVariants.Request, TheVariants.Wait}
 use Rattle.service.specs.declared.conversations.Flow.{Flow, TheVariants.GoesOn, TheVariants.Ends}
 use Rattle.service.specs.declared.conversations.SessionEnd.{SessionEnd, TheVariants.Memory}
@@ -55,11 +55,11 @@ pub data IsTold (before : PassState) (form : Form) (reply : List ℕ) (after : P
   carried_out : (command : Command) (told : Result Reply DeskFault) → Reads form (Ok command) →
       IsCarriedOut before after command told → IsToldBy told reply → IsTold before form reply after
 
--- A tenant with its word is let in by a pass of its own, unless memory lacks for that. Any other hello has the one answer, and
+-- A tenant with its word is let in by a pass of its own, which has made no call, unless memory lacks for that. Any other hello has the one answer, and
 -- nothing but a hello lets anyone in.
 abbrev pub IsLetIn : List Row → Option (List (List ℕ)) → Result PassState Refusal → Type 0
 IsLetIn rows (Some (name ∷ word ∷ [])) (Ok pass) =
-    IsTenant rows name word × (pass.tenant ≡ name) × (pass.share ≡ 0) × IsAdmitted pass
+    IsTenant rows name word × (pass.tenant ≡ name) × (own_calls pass ≡ [])
 IsLetIn rows (Some (name ∷ word ∷ [])) (Err why) =
     ((why ≡ refusal.BadHello) × (IsTenant rows name word → ⊥)) ⊎ ((why ≡ refusal.Memory) × IsTenant rows name word)
 IsLetIn rows (Some words) (Err why) = why ≡ refusal.Command

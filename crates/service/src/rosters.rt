@@ -13,12 +13,11 @@ use crate::words::{is_same, is_word, next_word, number};
 use hall::{Fault, Hall};
 use names::Entity;
 use names::texts::is_blank;
-use pool::{Desk, PARTS};
+use pool::{Desk, Naming, Unnamed};
 use quotas::Limits;
 use std::alloc::{AllocError, Global};
 use std::io::{Read, Write};
 use std::marker::Model;
-use std::sync::ledger::{Blank, Ledger};
 
 /// The most tenants of a roster, and the most bytes of a tenant's word.
 const MOST_TENANTS: usize = 1_000;
@@ -104,14 +103,13 @@ impl Roster {
 
     /// A desk of the roster's tenants, who have done nothing.
     #[tactic(auto, using(crate::proofs::TenantLemmas::names_of_tenants))]
-    pub fn desk<L: Ledger>(&self, alloc: Global, blank: Blank) -> Result<Desk<L>, Fault>
-        requires name { blank.name ≡ L.name }
-        requires parts { blank.parts ≡ L.parts }
-        requires room { blank.parts ≡ PARTS }
+    pub fn desk<L: Naming>(&self, alloc: Global, unnamed: Unnamed) -> Result<Desk<L>, Fault>
+        requires roster { map tenant_of self.now ≡ L.roster }
+        requires named { unnamed ≡ record { ledger = L.name; parts = L.parts; table = L.table } }
         ensures tenants { IfOk result (λ desk. desk ≡ names_of self.now) }
         ensures only_memory { IfErr result (λ f. f ≡ Fault.Memory) }
     {
-        Desk::make(alloc, self.tenants(alloc)?, blank)
+        Desk::make(alloc, self.tenants(alloc)?, unnamed)
     }
 
     /// The tenants' names and limits, in order.

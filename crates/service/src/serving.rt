@@ -1,8 +1,8 @@
 //! The service: connections that are answered, and the workers beside them.
-ghost use Rattle.std.specs.Prelude.{◌≡◌, ◌≤◌, ◌⊎◌, ◌↔◌, ◌++◌, Some, Ok, Err, length, decimal, IsOk, IfOk, IfErr, OnOk, OnErr};
+ghost use Rattle.std.specs.Prelude.{◌≡◌, ◌≤◌, ◌⊎◌, ◌↔◌, ◌++◌, Some, Ok, Err, length, map, decimal, IsOk, IfOk, IfErr, OnOk, OnErr};
 ghost use Rattle.std.specs.Io.KnownBytes.{Appends};
 ghost use Rattle.service.specs.Served.{Answered, ServeWrote, WithPort, listening_line};
-ghost use Rattle.service.specs.{Roster.names_of, Session.session_line, Written.WritesFront};
+ghost use Rattle.service.specs.{Roster.names_of, Roster.tenant_of, Session.session_line, Written.WritesFront};
 
 use crate::arrivals::arrivals_at;
 use crate::connections::{Service, answer_connections, end_all};
@@ -11,13 +11,12 @@ use crate::faults::ServeFault;
 use crate::replies::{Room, Speaker, WriteFault, fill_counted, write_reply};
 use crate::rosters::Roster;
 use crate::sessions::serve_session;
-use pool::{Desk, DeskFault, NoGate, PARTS, run_workers};
+use pool::{Desk, DeskFault, Naming, NoGate, Unnamed, run_workers};
 use std::alloc::Global;
 use std::io::{Read, Write};
 use std::marker::Brand;
 use std::net::TcpListener;
 use std::sync::Wait;
-use std::sync::ledger::{Blank, Ledger};
 use std::thread::{self, Threads};
 use std::time::Clock;
 
@@ -55,30 +54,35 @@ pub fn serve<R: Threads + Wait + Clock + Sync, W: Write>(
     let Ok(mut line) = Room::make(alloc) else {
         return Err(ServeFault::Memory);
     };
-    let blank = Blank::new(PARTS);
-    let count = serve_with::<Brand, R, W>(rt, blank, roster, listener, options, writer, &mut line)?;
+    let Ok(unnamed) = Unnamed::make(alloc) else {
+        return Err(ServeFault::Memory);
+    };
+    let count = serve_with::<Brand, R, W>(
+        rt, unnamed, roster, listener, options, writer, &mut line,
+    )?;
     let Ok(()) = tell(writer, &mut line, b"served ", count) else {
         return Err(ServeFault::Write);
     };
     Ok(count)
 }
 
-/// Tells the listener's port by this line, and serves at a new desk of the roster's tenants, whose ledger has this name.
-fn serve_with<L: Ledger + Send + Sync, R: Threads + Wait + Clock + Sync, W: Write>(
+/// Tells the listener's port by this line, and serves at a new desk of the roster's tenants, whose ledger and history have this name.
+fn serve_with<L: Naming + Send + Sync, R: Threads + Wait + Clock + Sync, W: Write>(
     rt: &R,
-    blank: Blank,
+    unnamed: Unnamed,
     roster: &Roster,
     listener: TcpListener,
     options: ServeOptions,
     writer: &mut W,
     line: &mut Room,
 ) -> Result<u64, ServeFault>
-    requires { (blank.name ≡ L.name) × (blank.parts ≡ L.parts) × (blank.parts ≡ PARTS) }
+    requires roster { map tenant_of roster.now ≡ L.roster }
+    requires named { unnamed ≡ record { ledger = L.name; parts = L.parts; table = L.table } }
     ensures count { IfOk result (λ n. options.accept ≡ Some n) }
     ensures told { OnOk result (WithPort (λ port. Appends (W.contents writer.old) (W.contents writer.new) (listening_line port))) }
     ensures fault { IfErr result (λ why. ServeWrote options.accept (Err why) (Appends (W.contents writer.old) (W.contents writer.new))) }
 {
-    let Ok(desk) = roster.desk::<L>(line.alloc(), blank) else {
+    let Ok(desk) = roster.desk::<L>(line.alloc(), unnamed) else {
         return Err(ServeFault::Memory);
     };
     let Ok(address) = listener.local_addr() else {
@@ -106,14 +110,14 @@ fn tell<W: Write>(out: &mut W, line: &mut Room, words: &[u8], count: u64) -> Res
 
 /// The service at the desk of a roster's tenants.
 #[derive(Drop)]
-struct AtDesk<'a, L: Ledger, R> {
+struct AtDesk<'a, L: Naming, R> {
     rt: &'a R,
     desk: &'a Desk<L>,
     roster: &'a Roster,
     ghost tenants: { desk.now ≡ names_of roster.now },
 }
 
-impl<L: Ledger, R: Wait> Service for AtDesk<'_, L, R> {
+impl<L: Naming, R: Wait> Service for AtDesk<'_, L, R> {
     fn answer<I: Read + Drop, W: Write>(
         &self,
         alloc: Global,
@@ -130,7 +134,7 @@ impl<L: Ledger, R: Wait> Service for AtDesk<'_, L, R> {
 
 /// Runs the workers while the connections are answered, until the desk is stopped. Where one can't be started, or all end
 /// sooner for want of memory, their thread ends the service.
-fn answer_beside_workers<L: Ledger + Send + Sync, R: Threads + Wait + Clock + Sync>(
+fn answer_beside_workers<L: Naming + Send + Sync, R: Threads + Wait + Clock + Sync>(
     rt: &R,
     alloc: Global,
     desk: &Desk<L>,

@@ -12,34 +12,39 @@ use crate::rosters::Roster;
 use crate::words::{Arguments, is_same, is_word, next_word, split_words};
 use hall::Reply;
 use names::Entity;
-use pool::{Desk, DeskFault, Pass};
+use pool::{Desk, DeskFault, Naming, Pass};
 use std::alloc::Global;
 use std::io::{Read, Write};
 use std::marker::Model;
 use std::sync::Wait;
-use std::sync::ledger::Ledger;
 
 /// One peer at the desk of a roster's tenants, and its pass once it has said who it is.
 #[derive(Drop)]
-struct Session<'a, L: Ledger, R> {
+struct Session<'a, L: Naming, R> {
     rt: &'a R,
     desk: &'a Desk<L>,
     roster: &'a Roster,
     pass: Option<Pass<L>>,
 }
 
-impl<'a, L: Ledger, R> Model for Session<'a, L, R> {
+impl<'a, L: Naming, R> Model for Session<'a, L, R> {
     ghost use Rattle.std.specs.Prelude.{◌≡◌};
+    ghost use Rattle.std.specs.Coded.{codes};
+    ghost use Rattle.std.specs.FinMap as fin;
+    ghost use Rattle.search.specs.contracts.stages.Stage as running;
+    ghost use Rattle.search.specs.contracts.findings.Monitor as memory;
     ghost use Rattle.service.specs.{Roster.names_of, Session.SessionState};
 
     ghost Value = { SessionState };
+
+    ghost coded = { Prim.hlevel (codes, fin.code, running.the_row.coded, memory.the_row.coded) };
 
     ghost view = { λ s. record { rows = s.roster.now; pass = s.pass } };
 
     ghost invariant = { λ s. s.desk.now ≡ names_of s.roster.now };
 }
 
-impl<L: Ledger, R: Wait> Host for Session<'_, L, R> {
+impl<L: Naming, R: Wait> Host for Session<'_, L, R> {
     ghost use Rattle.service.specs.Session.{SessionAnswers};
 
     ghost Answers = { SessionAnswers };
@@ -71,7 +76,7 @@ impl<L: Ledger, R: Wait> Host for Session<'_, L, R> {
 
 /// Serves a session: answers each line that isn't blank before the next one is read, up to `quit` or the end of the input,
 /// and then gives its pass back to the desk. The room for a line and for a short reply is taken before anything is read.
-pub fn serve_session<L: Ledger, R: Wait, I: Read + Drop, W: Write>(
+pub fn serve_session<L: Naming, R: Wait, I: Read + Drop, W: Write>(
     rt: &R,
     alloc: Global,
     desk: &Desk<L>,
@@ -102,7 +107,7 @@ pub fn serve_session<L: Ledger, R: Wait, I: Read + Drop, W: Write>(
     end
 }
 
-impl<L: Ledger, R: Wait> Session<'_, L, R> {
+impl<L: Naming, R: Wait> Session<'_, L, R> {
     /// A pass for the tenant that says hello, if that is its word.
     fn admit(&self, line: &[u8]) -> Result<Pass<L>, Refusal>
         ensures { IsLetIn self.now.rows (greeting_in (words line.now)) result }
@@ -126,7 +131,7 @@ impl<L: Ledger, R: Wait> Session<'_, L, R> {
 }
 
 /// Answers a tenant's command.
-fn tell<L: Ledger, R: Wait>(
+fn tell<L: Naming, R: Wait>(
     rt: &R,
     desk: &Desk<L>,
     line: &[u8],
@@ -145,7 +150,7 @@ fn tell<L: Ledger, R: Wait>(
 }
 
 /// Carries a tenant's command out at the desk, and answers what it came to.
-fn carry_out<L: Ledger, R: Wait>(
+fn carry_out<L: Naming, R: Wait>(
     rt: &R,
     desk: &Desk<L>,
     pass: &mut Pass<L>,

@@ -1,6 +1,6 @@
 //! Calls of a desk as a table writes them, and what each is told.
 use crate::tests_below::are_named;
-use crate::{Desk, DeskFault, Pass, Verdict};
+use crate::{Desk, DeskFault, Naming, Pass, Verdict};
 use credential_text::{CredFault, Credential, Expr, read_credential};
 use hall::{Answer, Fault, Query, Request};
 use names::{Entity, Role};
@@ -8,7 +8,6 @@ use snapshots::Span;
 use std::alloc::Global;
 use std::mem;
 use std::sync::Wait;
-use std::sync::ledger::Ledger;
 use vaults::{Change, Row, Seen};
 
 /// What is asked of a desk.
@@ -46,8 +45,6 @@ pub(super) enum Act {
     Stop,
     /// A new pass of this tenant takes the place of the pass, which leaves.
     Pass(&'static str),
-    /// The pass sees a journal of this length.
-    See(u64),
     /// What has the pass seen, and of how many changes was it told?
     Share,
 }
@@ -78,8 +75,6 @@ pub(super) enum Told {
     Done,
     /// Refused by the fault of this number.
     Refused(u64),
-    /// Refused since the journal that was found has this length.
-    Rewound(u64),
     /// Refused for want of memory, or ended by it.
     NoMemory,
     /// What no table wants: another answer by the poll than by the wait, other members, a text that is no name.
@@ -97,7 +92,6 @@ static FORTY: [&[u8]; 40] = [
 fn refused(fault: DeskFault) -> Told {
     match fault {
         DeskFault::Hall(Fault::Memory) => Told::NoMemory,
-        DeskFault::Rewound { front } => Told::Rewound(front),
         _ => Told::Refused(fault.number()),
     }
 }
@@ -152,7 +146,7 @@ fn told_twice(waited: &Verdict, polled: &Verdict, about: Option<&Credential>) ->
 }
 
 /// What a wait tells, where a poll tells the same.
-fn waited<L: Ledger, R: Wait>(
+fn waited<L: Naming, R: Wait>(
     rt: &R,
     desk: &Desk<L>,
     pass: &mut Pass<L>,
@@ -176,7 +170,7 @@ fn rows_told(rows: &[Row], credential: &Credential) -> Told {
     }
 }
 
-fn held<L: Ledger, R: Wait>(
+fn held<L: Naming, R: Wait>(
     rt: &R,
     desk: &Desk<L>,
     pass: &mut Pass<L>,
@@ -199,7 +193,7 @@ fn sights_told(seen: &[Seen]) -> Told {
 }
 
 /// What a call with the request is told.
-fn answered<L: Ledger, R: Wait>(
+fn answered<L: Naming, R: Wait>(
     rt: &R,
     desk: &Desk<L>,
     pass: &mut Pass<L>,
@@ -224,7 +218,7 @@ fn answered<L: Ledger, R: Wait>(
     })
 }
 
-fn renewed<L: Ledger, R: Wait>(rt: &R, desk: &Desk<L>, pass: &mut Pass<L>, who: Entity) -> Told {
+fn renewed<L: Naming, R: Wait>(rt: &R, desk: &Desk<L>, pass: &mut Pass<L>, who: Entity) -> Told {
     match desk.pass(rt, who) {
         Ok(other) => {
             desk.leave(rt, mem::replace(pass, other));
@@ -258,7 +252,7 @@ fn request_of(alloc: Global, act: Act) -> Result<Request, CredFault> {
 }
 
 /// What an act about a credential is told.
-fn about_credential<L: Ledger, R: Wait>(
+fn about_credential<L: Naming, R: Wait>(
     rt: &R,
     desk: &Desk<L>,
     pass: &mut Pass<L>,
@@ -272,7 +266,7 @@ fn about_credential<L: Ledger, R: Wait>(
 }
 
 /// What the act is told. A text of a table spells what it has to, and so it is want of memory where it isn't read.
-pub(super) fn answer_to<L: Ledger, R: Wait>(
+pub(super) fn answer_to<L: Naming, R: Wait>(
     rt: &R,
     alloc: Global,
     desk: &Desk<L>,
@@ -289,10 +283,6 @@ pub(super) fn answer_to<L: Ledger, R: Wait>(
             Ok(who) => renewed(rt, desk, pass, who),
             Err(_) => Told::Otherwise,
         },
-        Act::See(length) => {
-            pass.front = length;
-            Told::Done
-        }
         Act::Share => Told::Share(pass.front(), pass.share()),
         Act::Stop => {
             desk.stop(rt);

@@ -6,7 +6,7 @@ use super::plays::{Break, Line, Scene, USUAL, played};
 use snapshots::Span;
 
 /// Scenes, each on a desk of its own.
-static SCENES: [Scene; 7] = [
+static SCENES: [Scene; 6] = [
     // Each call, but for those that take a pass back. A wait ends though the search is working, since the desk was stopped.
     // No pass is given to a name outside the roster.
     Scene {
@@ -30,23 +30,6 @@ static SCENES: [Scene; 7] = [
         beside: &[],
         workers: 1,
         left: 1,
-        letters: Some(0),
-    },
-    // Calls by a pass that has seen a journal of 3 are refused over one of 1, and leave the pass as it was.
-    Scene {
-        limits: USUAL,
-        passes: &["A"],
-        before: &[
-            Line(0, Act::Put("A.r <- D"), Told::Counted(1)),
-            Line(0, Act::See(3), Told::Done),
-            Line(0, Act::Put("A.r <- E"), Told::Rewound(1)),
-            Line(0, Act::Wait(1), Told::Rewound(1)),
-            Line(0, Act::End(1), Told::Rewound(1)),
-            Line(0, Act::Share, Told::Share(3, 1)),
-        ],
-        beside: &[],
-        workers: 1,
-        left: 0,
         letters: Some(0),
     },
     // `A`'s search reads what `B` granted before it was opened, and nothing that `B` grants later: only the second search reads

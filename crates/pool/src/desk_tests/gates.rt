@@ -1,10 +1,9 @@
 //! What workers do at the gate of a scene.
-use crate::{Desk, Gate};
+use crate::{Desk, Gate, Naming};
 use names::Entity;
 use std::rt::Clock;
 use std::sync::Wait;
 use std::sync::atomic::{AtomicBool, AtomicU64, Ordering};
-use std::sync::ledger::Ledger;
 use std::thread;
 use std::time::Duration;
 
@@ -50,7 +49,7 @@ impl Meeting {
 }
 
 /// Ends the tenant's first search.
-fn end_first<L: Ledger, R: Wait>(rt: &R, desk: &Desk<L>, who: Entity, over: &AtomicBool) {
+fn end_first<L: Naming, R: Wait>(rt: &R, desk: &Desk<L>, who: Entity, over: &AtomicBool) {
     let Ok(mut pass) = desk.pass(rt, who) else {
         return;
     };
@@ -61,13 +60,13 @@ fn end_first<L: Ledger, R: Wait>(rt: &R, desk: &Desk<L>, who: Entity, over: &Ato
 
 /// The gate of a scene.
 #[derive(Drop)]
-pub(super) struct Doorway<'a, L: Ledger, R> {
+pub(super) struct Doorway<'a, L: Naming, R> {
     pub(super) rt: &'a R,
     pub(super) desk: &'a Desk<L>,
     pub(super) way: Way<'a>,
 }
 
-impl<L: Ledger + Send + Sync, R: Wait + Clock + Sync> Gate for Doorway<'_, L, R> {
+impl<L: Naming + Send + Sync, R: Wait + Clock + Sync> Gate for Doorway<'_, L, R> {
     const MAY_WAIT: bool = true;
 
     ghost LetThrough = { λ who search letter. Unit {0} };
@@ -90,9 +89,9 @@ impl<L: Ledger + Send + Sync, R: Wait + Clock + Sync> Gate for Doorway<'_, L, R>
 
 /// The gate of a scene for workers who rely on it that no pass waits.
 #[derive(Drop)]
-pub(super) struct Passage<'a, L: Ledger, R>(pub(super) Doorway<'a, L, R>);
+pub(super) struct Passage<'a, L: Naming, R>(pub(super) Doorway<'a, L, R>);
 
-impl<L: Ledger + Send + Sync, R: Wait + Clock + Sync> Gate for Passage<'_, L, R> {
+impl<L: Naming + Send + Sync, R: Wait + Clock + Sync> Gate for Passage<'_, L, R> {
     const MAY_WAIT: bool = false;
 
     ghost LetThrough = { λ who search letter. Unit {0} };

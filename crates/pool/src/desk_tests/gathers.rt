@@ -1,20 +1,21 @@
 //! A desk goes on where its passes are asked back too soon.
-ghost use Rattle.std.specs.Prelude.{◌≡◌};
+ghost use Rattle.std.specs.Prelude.{◌≡◌, map};
+ghost use Rattle.std.specs.List.{IsDistinct};
+ghost use Rattle.names.specs.Name.{is_same};
 
 use super::acts::{Act, Told, answer_to};
-use crate::{Desk, DeskFault, NoGate, PARTS, Pass, run_workers};
+use crate::{Desk, DeskFault, Naming, NoGate, Pass, Unnamed, run_workers};
 use names::Entity;
 use quotas::Limits;
 use std::alloc::Global;
 use std::marker::Brand;
 use std::rt::Clock;
 use std::sync::Wait;
-use std::sync::ledger::{Blank, Ledger};
 use std::thread;
 use std::thread::Threads;
 
 /// Whether a search that is open is carried to its end, beside one worker.
-fn is_carried_on<L: Ledger + Send + Sync, R: Threads + Wait + Clock + Sync>(
+fn is_carried_on<L: Naming + Send + Sync, R: Threads + Wait + Clock + Sync>(
     rt: &R,
     alloc: Global,
     desk: &Desk<L>,
@@ -31,7 +32,7 @@ fn is_carried_on<L: Ledger + Send + Sync, R: Threads + Wait + Clock + Sync>(
 }
 
 /// Whether a pass comes back that is gathered while another is out, and the search of that one goes on.
-fn goes_on<L: Ledger + Send + Sync, R: Threads + Wait + Clock + Sync>(
+fn goes_on<L: Naming + Send + Sync, R: Threads + Wait + Clock + Sync>(
     rt: &R,
     alloc: Global,
     desk: &Desk<L>,
@@ -49,24 +50,34 @@ fn goes_on<L: Ledger + Send + Sync, R: Threads + Wait + Clock + Sync>(
     is_put && is_open && is_refused && is_carried_on(rt, alloc, desk, &mut pass)
 }
 
-/// What `goes_on` answers at a desk of one tenant, by this ledger.
-fn at_a_desk<L: Ledger + Send + Sync, R: Threads + Wait + Clock + Sync>(
+/// What `goes_on` answers at a desk of this roster.
+fn at_a_desk<L: Naming + Send + Sync, R: Threads + Wait + Clock + Sync>(
     rt: &R,
     alloc: Global,
-    blank: Blank,
+    a: Entity,
+    roster: Vec<(Entity, Limits)>,
+    unnamed: Unnamed,
 ) -> bool
-    requires name { blank.name ≡ L.name }
-    requires parts { blank.parts ≡ L.parts }
-    requires room { blank.parts ≡ PARTS }
+    requires roster { roster.items ≡ L.roster }
+    requires distinct { IsDistinct is_same (map (λ row. row.0) roster.items) }
+    requires named { unnamed ≡ record { ledger = L.name; parts = L.parts; table = L.table } }
 {
+    match Desk::<L>::make(alloc, roster, unnamed) {
+        Ok(desk) => goes_on(rt, alloc, &desk, a),
+        Err(_) => false,
+    }
+}
+
+/// What `goes_on` answers at a desk of one tenant.
+fn goes_on_alone<R: Threads + Wait + Clock + Sync>(rt: &R, alloc: Global) -> bool {
     let Ok(a) = Entity::read(b"A") else {
         return false;
     };
     let Ok(roster) = vec![in alloc; (a, Limits::usual())] else {
         return false;
     };
-    match Desk::<L>::make(alloc, roster, blank) {
-        Ok(desk) => goes_on(rt, alloc, &desk, a),
+    match Unnamed::make(alloc) {
+        Ok(unnamed) => at_a_desk::<Brand, _>(rt, alloc, a, roster, unnamed),
         Err(_) => false,
     }
 }
@@ -74,5 +85,5 @@ fn at_a_desk<L: Ledger + Send + Sync, R: Threads + Wait + Clock + Sync>(
 /// A gather that is refused, since passes are out, leaves the desk as it is.
 #[test]
 fn a_desk_goes_on_where_passes_are_out(rt: HostRuntime) {
-    assert!(rt; at_a_desk::<Brand, _>(&rt, rt.alloc(), Blank::new(PARTS)));
+    assert!(rt; goes_on_alone(&rt, rt.alloc()));
 }

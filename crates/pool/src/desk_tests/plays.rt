@@ -6,14 +6,13 @@ ghost use Rattle.names.specs.Name.{is_same};
 use super::acts::{Act, Told, answer_to};
 use super::gates::{Doorway, Passage, Way};
 use crate::tests_below::limits_of;
-use crate::{Desk, DeskFault, PARTS, Pass, run_workers};
+use crate::{Desk, DeskFault, Naming, Pass, Unnamed, run_workers};
 use names::Entity;
 use quotas::Limits;
 use std::alloc::Global;
 use std::marker::Brand;
 use std::rt::Clock;
 use std::sync::Wait;
-use std::sync::ledger::{Blank, Ledger};
 use std::thread;
 use std::thread::Threads;
 
@@ -58,7 +57,7 @@ fn hold_against(told: &Told, wanted: &Told) -> Result<(), Break> {
 }
 
 /// Plays the lines, up to one that is told something else than it wants.
-fn tell_each<L: Ledger, R: Wait>(
+fn tell_each<L: Naming, R: Wait>(
     rt: &R,
     alloc: Global,
     desk: &Desk<L>,
@@ -75,7 +74,7 @@ fn tell_each<L: Ledger, R: Wait>(
 }
 
 /// How many changes the passes were told.
-fn told_to<L: Ledger>(passes: &[Pass<L>]) -> u64 {
+fn told_to<L: Naming>(passes: &[Pass<L>]) -> u64 {
     let mut told = 0u64;
     for pass in passes {
         told = told.saturating_add(pass.share());
@@ -84,7 +83,7 @@ fn told_to<L: Ledger>(passes: &[Pass<L>]) -> u64 {
 }
 
 /// The passes, which come back since another is out.
-fn come_back<L: Ledger, R: Wait>(
+fn come_back<L: Naming, R: Wait>(
     rt: &R,
     desk: &Desk<L>,
     passes: Vec<Pass<L>>,
@@ -97,7 +96,7 @@ fn come_back<L: Ledger, R: Wait>(
 }
 
 /// Takes back all passes. They were told of so many changes, and those that left of so many others.
-fn gather_all<L: Ledger, R: Wait>(
+fn gather_all<L: Naming, R: Wait>(
     rt: &R,
     desk: &Desk<L>,
     passes: Vec<Pass<L>>,
@@ -113,7 +112,7 @@ fn gather_all<L: Ledger, R: Wait>(
 }
 
 /// Takes the passes back, which is refused until all are there, and were told of each change once.
-fn take_back<L: Ledger, R: Wait>(
+fn take_back<L: Naming, R: Wait>(
     rt: &R,
     desk: &Desk<L>,
     mut passes: Vec<Pass<L>>,
@@ -131,7 +130,7 @@ fn take_back<L: Ledger, R: Wait>(
 }
 
 /// A pass of the tenant of this name.
-fn admitted<L: Ledger, R: Wait>(rt: &R, desk: &Desk<L>, name: &str) -> Result<Pass<L>, Break> {
+fn admitted<L: Naming, R: Wait>(rt: &R, desk: &Desk<L>, name: &str) -> Result<Pass<L>, Break> {
     match Entity::read(name.as_bytes()) {
         Ok(who) => match desk.pass(rt, who) {
             Ok(pass) => Ok(pass),
@@ -143,7 +142,7 @@ fn admitted<L: Ledger, R: Wait>(rt: &R, desk: &Desk<L>, name: &str) -> Result<Pa
 
 /// Runs the workers until the desk is stopped. Where memory was refused to all of them it stops the desk, so that no wait
 /// is left.
-fn work<L: Ledger + Send + Sync, R: Threads + Wait + Clock + Sync>(
+fn work<L: Naming + Send + Sync, R: Threads + Wait + Clock + Sync>(
     rt: &R,
     desk: &Desk<L>,
     workers: u64,
@@ -172,7 +171,7 @@ fn finished(worked: Result<u64, DeskFault>, right: Result<(), Break>) -> Result<
 
 /// Fills the passes of the scene, plays the lines before the workers and those beside them, and answers how many letters
 /// they finished.
-fn acted<L: Ledger + Send + Sync, R: Threads + Wait + Clock + Sync>(
+fn acted<L: Naming + Send + Sync, R: Threads + Wait + Clock + Sync>(
     rt: &R,
     alloc: Global,
     desk: &Desk<L>,
@@ -199,7 +198,7 @@ fn acted<L: Ledger + Send + Sync, R: Threads + Wait + Clock + Sync>(
 }
 
 /// Plays the scene on the desk, takes the passes back, and answers how many letters the workers finished.
-fn staged<L: Ledger + Send + Sync, R: Threads + Wait + Clock + Sync>(
+fn staged<L: Naming + Send + Sync, R: Threads + Wait + Clock + Sync>(
     rt: &R,
     alloc: Global,
     desk: &Desk<L>,
@@ -213,20 +212,19 @@ fn staged<L: Ledger + Send + Sync, R: Threads + Wait + Clock + Sync>(
 }
 
 /// Plays the scene on a desk of the roster.
-fn on_desk<L: Ledger + Send + Sync, R: Threads + Wait + Clock + Sync>(
+fn on_desk<L: Naming + Send + Sync, R: Threads + Wait + Clock + Sync>(
     rt: &R,
     alloc: Global,
     roster: Vec<(Entity, Limits)>,
-    blank: Blank,
+    unnamed: Unnamed,
     scene: &Scene<'_>,
     way: Way<'_>,
 ) -> Result<u64, Break>
+    requires roster { roster.items ≡ L.roster }
     requires distinct { IsDistinct is_same (map (λ row. row.0) roster.items) }
-    requires name { blank.name ≡ L.name }
-    requires parts { blank.parts ≡ L.parts }
-    requires room { blank.parts ≡ PARTS }
+    requires named { unnamed ≡ record { ledger = L.name; parts = L.parts; table = L.table } }
 {
-    match Desk::<L>::make(alloc, roster, blank) {
+    match Desk::<L>::make(alloc, roster, unnamed) {
         Ok(desk) => staged(rt, alloc, &desk, scene, way),
         Err(_) => Err(Break::NoMemory),
     }
@@ -257,7 +255,10 @@ pub(super) fn played<R: Threads + Wait + Clock + Sync>(
     way: Way<'_>,
 ) -> Result<(), Break> {
     let roster = roster_of_two(alloc, scene.limits)?;
-    let letters = on_desk::<Brand, _>(rt, alloc, roster, Blank::new(PARTS), scene, way)?;
+    let Ok(unnamed) = Unnamed::make(alloc) else {
+        return Err(Break::NoMemory);
+    };
+    let letters = on_desk::<Brand, _>(rt, alloc, roster, unnamed, scene, way)?;
     match scene.letters {
         Some(wanted) if wanted != letters => Err(Break::WrongAnswer),
         _ => Ok(()),

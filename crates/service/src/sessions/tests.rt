@@ -1,12 +1,11 @@
-ghost use Rattle.std.specs.Prelude.{◌≡◌};
-ghost use Rattle.service.specs.Roster.{names_of};
+ghost use Rattle.std.specs.Prelude.{◌≡◌, map};
+ghost use Rattle.service.specs.Roster.{names_of, tenant_of};
 
 use super::*;
 use crate::fakes::{Drips, NEVER, Refuses, Trickles, roster_of};
-use pool::{NoGate, PARTS, run_workers};
+use pool::{NoGate, Unnamed, run_workers};
 use std::alloc::AllocError;
 use std::marker::Brand;
-use std::sync::ledger::Blank;
 use std::thread;
 use std::thread::Threads;
 
@@ -40,33 +39,30 @@ const UNENDED: Case<'static> = Case {
 };
 
 /// Whether so many changes were accepted, and no pass is still out.
-fn has_accepted<L: Ledger, R: Wait>(rt: &R, alloc: Global, desk: &Desk<L>, changes: u64) -> bool {
+fn has_accepted<L: Naming, R: Wait>(rt: &R, alloc: Global, desk: &Desk<L>, changes: u64) -> bool {
     match desk.gather(rt, Vec::new(alloc)) {
         Ok(gathered) => gathered.length == changes,
         Err(_) => false,
     }
 }
 
-/// Whether a session at a desk of this ledger, without workers, ends so after so many changes.
-fn ends_at<L: Ledger, R: Wait>(
+/// Whether a session at a desk of this roster, without workers, ends so after so many changes.
+fn ends_at<L: Naming, R: Wait>(
     rt: &R,
     alloc: Global,
-    blank: Blank,
+    roster: &Roster,
+    unnamed: Unnamed,
     case: &Case<'_>,
     reader: &mut Drips<'_>,
     writer: &mut Trickles<'_>,
 ) -> bool
-    requires name { blank.name ≡ L.name }
-    requires parts { blank.parts ≡ L.parts }
-    requires room { blank.parts ≡ PARTS }
+    requires roster { map tenant_of roster.now ≡ L.roster }
+    requires named { unnamed ≡ record { ledger = L.name; parts = L.parts; table = L.table } }
 {
-    let Ok(roster) = roster_of(alloc, ROSTER) else {
+    let Ok(desk) = roster.desk::<L>(alloc, unnamed) else {
         return false;
     };
-    let Ok(desk) = roster.desk::<L>(alloc, blank) else {
-        return false;
-    };
-    let end = serve_session(rt, alloc, &desk, &roster, reader, writer);
+    let end = serve_session(rt, alloc, &desk, roster, reader, writer);
     end == case.end && has_accepted(rt, alloc, &desk, case.changes)
 }
 
@@ -77,7 +73,10 @@ fn comes_of<R: Wait>(rt: &R, alloc: Global, case: &Case<'_>) -> bool {
         before_fault: case.reads,
     };
     let mut writer = Trickles::new(case.told, case.refuses);
-    ends_at::<Brand, _>(rt, alloc, Blank::new(PARTS), case, &mut reader, &mut writer)
+    let (Ok(roster), Ok(unnamed)) = (roster_of(alloc, ROSTER), Unnamed::make(alloc)) else {
+        return false;
+    };
+    ends_at::<Brand, _>(rt, alloc, &roster, unnamed, case, &mut reader, &mut writer)
         && writer.is_content()
         && reader.rest.len() == case.unread
         && case.said.ends_with(reader.rest)
@@ -352,7 +351,7 @@ static AFTER_THE_STOP: [Talk; 2] = [
 ];
 
 /// Whether these sessions, one after the other, are told what they should be.
-fn are_told<L: Ledger, R: Wait>(
+fn are_told<L: Naming, R: Wait>(
     rt: &R,
     alloc: Global,
     desk: &Desk<L>,
@@ -372,7 +371,7 @@ fn are_told<L: Ledger, R: Wait>(
 }
 
 /// Whether the sessions at this desk are told what they should be, beside workers and after these are stopped.
-fn are_all_told<L: Ledger + Send + Sync, R: Threads + Wait + Sync>(
+fn are_all_told<L: Naming + Send + Sync, R: Threads + Wait + Sync>(
     rt: &R,
     alloc: Global,
     desk: &Desk<L>,
@@ -399,26 +398,28 @@ fn are_all_told<L: Ledger + Send + Sync, R: Threads + Wait + Sync>(
         && has_accepted(rt, alloc, desk, 6)
 }
 
-/// Whether the sessions at a desk of this ledger are told what they should be.
-fn are_told_at<L: Ledger + Send + Sync, R: Threads + Wait + Sync>(
+/// Whether the sessions at a desk of this roster are told what they should be.
+fn are_told_at<L: Naming + Send + Sync, R: Threads + Wait + Sync>(
     rt: &R,
     alloc: Global,
-    blank: Blank,
+    roster: &Roster,
+    unnamed: Unnamed,
 ) -> bool
-    requires name { blank.name ≡ L.name }
-    requires parts { blank.parts ≡ L.parts }
-    requires room { blank.parts ≡ PARTS }
+    requires roster { map tenant_of roster.now ≡ L.roster }
+    requires named { unnamed ≡ record { ledger = L.name; parts = L.parts; table = L.table } }
 {
-    let Ok(roster) = roster_of(alloc, ROSTER) else {
+    let Ok(desk) = roster.desk::<L>(alloc, unnamed) else {
         return false;
     };
-    let Ok(desk) = roster.desk::<L>(alloc, blank) else {
-        return false;
-    };
-    are_all_told(rt, alloc, &desk, &roster)
+    are_all_told(rt, alloc, &desk, roster)
 }
 
 #[test]
 fn sessions_beside_workers_and_after_the_stop(rt: HostRuntime) {
-    assert!(rt; are_told_at::<Brand, _>(&rt, rt.alloc(), Blank::new(PARTS)));
+    let alloc = rt.alloc();
+    let (Ok(roster), Ok(unnamed)) = (roster_of(alloc, ROSTER), Unnamed::make(alloc)) else {
+        assert!(rt; false);
+        return;
+    };
+    assert!(rt; are_told_at::<Brand, _>(&rt, alloc, &roster, unnamed));
 }

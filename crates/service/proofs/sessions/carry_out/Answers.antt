@@ -6,4 +6,4 @@ pub returns-in-Ok : goal.returns-in-Ok
 returns-in-Ok g c = rw c.in-Wait.is (c.in-Ok.verdict, c.in-Ok.ensures, refl)
 
 pub returns-in-Request : goal.returns-in-Request
-returns-in-Request g c = rw c.in-Request.is c.serve.ensures
+returns-in-Request g c = rw c.in-Request.is c.serve.ensures.answered

@@ -1,20 +1,33 @@
-use Rattle.std.proofs.Common.{◌∙◌, ◌+◌, ap, sym}
-use Rattle.pool.specs.Passes.{PassState, length_after, pass_after}
+use Rattle.std.proofs.Common.{◌≡◌, ◌∙◌, ◌+◌, ◌-◌, ◌++◌, ◌∷◌, [], ap, sym, arith}
+use Rattle.pool.specs.declared.turns.Item.{Item}
+use Rattle.pool.specs.Fronts.{FrontState, own_items}
+use Rattle.pool.specs.Histories.{item_of}
+use Rattle.pool.specs.Passes.{PassState}
+use Rattle.pool.specs.Shares.{accepted_in}
+use Rattle.pool.proofs.Sharing.{more_accepted, share_grown}
 use Rattle.pool.proofs.passes.Pass.hear.Goals as goal
 
+pub overflow_sub-after : goal.overflow_sub-after
+overflow_sub-after g c =
+    omega (arith, more_accepted c.args.before c.args.after c.args.keeper.now (item_of c.args.self.now.name c.args.noted.now) c.requires.before c.requires.after)
+
+pub overflow_sub-self : goal.overflow_sub-self
+overflow_sub-self g c =
+    omega (arith, more_accepted c.args.before c.args.after c.args.keeper.now (item_of c.args.self.now.name c.args.noted.now) c.requires.before c.requires.after)
+
 pub invariant_of-self : goal.invariant_of-self
-invariant_of-self g c = (
-  c.audit.ensures.parts ∙ c.add.ensures.parts ∙ c.self.invariant.0,
-  ap (λ k. k + 1) c.self.invariant.1 ∙ sym (c.audit.ensures.amount ∙ c.add.ensures.amount),
-)
+invariant_of-self g c =
+    let i : Item = item_of c.self.inside.seen.name c.args.noted.now in
+    let j : Item = item_of c.args.self.now.name c.args.noted.now in
+    let same : i ≡ j = ap (λ (p : PassState). item_of p.name c.args.noted.now) c.self.view_is in
+    let more = more_accepted c.args.before c.args.after c.args.keeper.now j c.requires.before c.requires.after in (
+      c.audit.ensures.parts ∙ c.add.ensures.parts ∙ c.self.invariant.0,
+      ap (λ k. k + (c.args.after - c.args.before)) c.self.invariant.1 ∙ sym (c.audit.ensures.amount ∙ c.add.ensures.amount),
+      c.audit.ensures.amount ∙ c.add.ensures.amount
+          ∙ share_grown c.self.inside.share.amount c.args.before c.args.after (own_items c.self.inside.seen) (own_items c.tell.new.front) i j c.self.invariant.2 c.tell.ensures.own same more,
+      c.requires.after ∙ ap accepted_in (ap (λ (x : Item). c.args.keeper.now ++ x ∷ []) (sym same) ∙ sym c.tell.ensures.history ∙ sym (ap (λ (f : FrontState). f.seen) c.tell.ensures.front)),
+    )
 
-pub returns-in-Counted-clause-pass : goal.returns-in-Counted-clause-pass
-returns-in-Counted-clause-pass g c =
-    ap (λ k. record { tenant = c.self.inside.tenant; front = c.args.length; share = k }) (c.audit.ensures.amount ∙ c.add.ensures.amount)
-    ∙ ap (λ (p : PassState). record p { front = c.args.length; share = p.share + 1 }) c.self.view_is
-    ∙ ap (λ k. record c.args.self.now { front = k; share = c.args.self.now.share + 1 }) (c.requires.length ∙ ap (length_after c.args.book.now.total) c.in-Counted.is)
-    ∙ sym (ap (pass_after c.args.self.now c.args.book.now.total) c.in-Counted.is)
-
-pub returns-in-Counted-clause-total : goal.returns-in-Counted-clause-total
-returns-in-Counted-clause-total g c =
-    c.audit.ensures.total ∙ c.add.ensures.total ∙ sym (c.requires.length ∙ ap (length_after c.args.book.now.total) c.in-Counted.is)
+pub returns-clause-total : goal.returns-clause-total
+returns-clause-total g c =
+    omega (arith, c.audit.ensures.total, c.add.ensures.total, c.requires.total, more_accepted c.args.before c.args.after c.args.keeper.now (item_of c.args.self.now.name c.args.noted.now) c.requires.before c.requires.after)

@@ -1,42 +1,84 @@
-use Rattle.std.proofs.Common.{◌≡◌, ◌∙◌, ◌⊎◌, inl, inr, ap, length, subst, sym, List, ℕ}
-use Rattle.search.specs.Search.{SearchState}
-use Rattle.hall.specs.declared.calls.requests.Request.{Request}
-use Rattle.hall.specs.declared.calls.requests.Request.TheVariants.{Poll, Proof}
-use Rattle.hall.specs.Hall.{HallState}
+use Rattle.std.proofs.Common.{◌∙◌, ◌++◌, ◌∷◌, [], ap, length, refl, subst, sym, List, ℕ}
+use Rattle.hall.specs.Hall.{HallState, IsSound}
 use Rattle.hall.specs.Work.{IsCompletedAt}
+use Rattle.pool.specs.declared.turns.Item.{Item}
+use Rattle.pool.specs.Histories.{Reaches, Reads}
 use Rattle.pool.specs.Rooms.{RoomState, IsKept}
-use Rattle.pool.specs.Passes.{IsSeenAt}
-use Rattle.pool.specs.Served.{Reads}
+use Rattle.pool.proofs.Reaching.{read_noted, legal_at}
+use Rattle.pool.proofs.Polled.{stop_seen}
+use Rattle.pool.proofs.Lent.{names_same, completed_there, completed_read, lent_here}
 use Rattle.pool.proofs.rooms.Room.lent.Goals as goal
 use Rattle.pool.proofs.rooms.Room.lent.Goals.{in-Poll, in-Poll-2}
 
--- the completed search of the number that the request names is read
-read_there : (h : HallState) (who : List ℕ) (q : Request) (number k : ℕ) (s : SearchState) → (q ≡ Poll k) ⊎ ((member : List ℕ) × (q ≡ Proof k member)) → number ≡ k → IsCompletedAt h who number s → Reads h who q s
-read_there h who q number k s (inl is) same there = subst (λ (r : Request). Reads h who r s) (sym is) (subst (λ n. IsCompletedAt h who n s) same there)
-read_there h who q number k s (inr (member, is)) same there = subst (λ (r : Request). Reads h who r s) (sym is) (subst (λ n. IsCompletedAt h who n s) same there)
+pub hear-requires-clause-legal : goal.hear-requires-clause-legal
+hear-requires-clause-legal g c =
+    let s = c.in-Ok-Some.search.value in
+    let at : IsCompletedAt c.self.inside.hall c.tenant-who.result c.match-request.number s = rw c.in-Ok-Some.field-0-is at c.in-Ok-Some.ensures.completed in
+    let reads : Reads c.self.inside.hall c.tenant-who.result c.args.request.now s = elim c.match-request.branch [
+      | in-Poll w ↦ completed_read c.self.inside.hall c.tenant-who.result c.args.request.now c.match-request.number s
+          (names_same c.args.request.now c.match-request.number w.in-Poll.number w.in-Poll.is w.number-is) at
+      | in-Poll-2 w ↦ completed_read c.self.inside.hall c.tenant-who.result c.args.request.now c.match-request.number s
+          (names_same c.args.request.now c.match-request.number w.in-Poll.number w.in-Poll.is w.number-is) at
+    ] in
+    legal_at g.L.Naming.roster _ c.self.inside.hall
+    (read_noted g.L.Naming.roster c.self.inside.keeper c.self.inside.hall (subst IsSound c.completed.ensures.same c.journal_len-length.ensures.sound) c.self.invariant.5 c.args.pass.now.name
+    c.tenant-who.result c.args.request.now s c.of-asked.result c.of-read.result reads c.of-asked.ensures (c.of-read.ensures ∙ c.deref-found.ensures))
 
-pub returns-in-Ok : goal.returns-in-Ok
-returns-in-Ok g c =
-    let room = ap (λ (h : HallState). record { hall = h; accepted = c.self.inside.book.total; out = c.self.inside.out; left = c.self.inside.left; stopped = c.self.inside.stopped }) c.completed.ensures.same ∙ c.self.view_is in
-    let hall = ap (λ (r : RoomState). r.hall) room in
-    let completed = rw c.in-Ok-Some.field-0-is at c.in-Ok-Some.ensures.completed in
-    let there = subst (λ (r : RoomState). IsCompletedAt r.hall c.args.pass.now.tenant c.match-request.number c.in-Ok-Some.search.value) c.self.view_is
-    (subst (λ (n : List ℕ). IsCompletedAt c.self.inside.hall n c.match-request.number c.in-Ok-Some.search.value) c.tenant.ensures completed) in record {
-      lent = record {
-        kept = subst IsKept room c.show.ensures.kept;
-        seen = subst (λ (h : HallState). IsSeenAt (length h.journal) c.args.pass.now c.show.new.pass) hall c.in-Ok.ensures.ok;
-        reads = elim c.match-request.branch [
-          | in-Poll w ↦ read_there c.args.self.now.hall c.args.pass.now.tenant c.args.request.now c.match-request.number w.in-Poll.number c.in-Ok-Some.search.value w.in-Poll.is w.number-is there
-          | in-Poll-2 w ↦ read_there c.args.self.now.hall c.args.pass.now.tenant c.args.request.now c.match-request.number w.in-Poll.number c.in-Ok-Some.search.value w.in-Poll.is w.number-is there
-        ];
-      };
-      pass = λ is. cc;
-      room = room;
-    }
+pub hear-requires-clause-after : goal.hear-requires-clause-after
+hear-requires-clause-after g c =
+    let s = c.in-Ok-Some.search.value in
+    let at : IsCompletedAt c.self.inside.hall c.tenant-who.result c.match-request.number s = rw c.in-Ok-Some.field-0-is at c.in-Ok-Some.ensures.completed in
+    let reads : Reads c.self.inside.hall c.tenant-who.result c.args.request.now s = elim c.match-request.branch [
+      | in-Poll w ↦ completed_read c.self.inside.hall c.tenant-who.result c.args.request.now c.match-request.number s
+          (names_same c.args.request.now c.match-request.number w.in-Poll.number w.in-Poll.is w.number-is) at
+      | in-Poll-2 w ↦ completed_read c.self.inside.hall c.tenant-who.result c.args.request.now c.match-request.number s
+          (names_same c.args.request.now c.match-request.number w.in-Poll.number w.in-Poll.is w.number-is) at
+    ] in
+    let reached =
+    read_noted g.L.Naming.roster c.self.inside.keeper c.self.inside.hall (subst IsSound c.completed.ensures.same c.journal_len-length.ensures.sound) c.self.invariant.5 c.args.pass.now.name
+    c.tenant-who.result c.args.request.now s c.of-asked.result c.of-read.result reads c.of-asked.ensures (c.of-read.ensures ∙ c.deref-found.ensures) in
+    c.journal_len-length.ensures.length ∙ ap (λ (h : HallState). length h.journal) c.completed.ensures.same ∙ ap length reached.journal
 
-pub returns-in-Err : goal.returns-in-Err
-returns-in-Err g c = record {
-  lent = tt;
-  pass = λ is. c.in-Err.ensures.same;
-  room = ap (λ (h : HallState). record { hall = h; accepted = c.self.inside.book.total; out = c.self.inside.out; left = c.self.inside.left; stopped = c.self.inside.stopped }) c.completed.ensures.same ∙ c.self.view_is;
-}
+pub invariant_of-self-2 : goal.invariant_of-self-2
+invariant_of-self-2 g c =
+    let s = c.in-Ok-Some.search.value in
+    let at : IsCompletedAt c.self.inside.hall c.tenant-who.result c.match-request.number s = rw c.in-Ok-Some.field-0-is at c.in-Ok-Some.ensures.completed in
+    let reads : Reads c.self.inside.hall c.tenant-who.result c.args.request.now s = elim c.match-request.branch [
+      | in-Poll w ↦ completed_read c.self.inside.hall c.tenant-who.result c.args.request.now c.match-request.number s
+          (names_same c.args.request.now c.match-request.number w.in-Poll.number w.in-Poll.is w.number-is) at
+      | in-Poll-2 w ↦ completed_read c.self.inside.hall c.tenant-who.result c.args.request.now c.match-request.number s
+          (names_same c.args.request.now c.match-request.number w.in-Poll.number w.in-Poll.is w.number-is) at
+    ] in
+    let reached =
+    read_noted g.L.Naming.roster c.self.inside.keeper c.self.inside.hall (subst IsSound c.completed.ensures.same c.journal_len-length.ensures.sound) c.self.invariant.5 c.args.pass.now.name
+    c.tenant-who.result c.args.request.now s c.of-asked.result c.of-read.result reads c.of-asked.ensures (c.of-read.ensures ∙ c.deref-found.ensures) in (
+      c.hear.ensures.total ∙ c.journal_len-length.ensures.length,
+      c.self.invariant.1,
+      c.self.invariant.2,
+      c.self.invariant.3,
+      c.self.invariant.4,
+      subst (λ (h : HallState). Reaches g.L.Naming.roster c.hear.new.keeper h) (sym c.completed.ensures.same)
+          (subst (λ (l : List Item). Reaches g.L.Naming.roster l c.self.inside.hall) (sym c.hear.ensures.keeper) reached),
+      λ is. stop_seen _ _ (c.self.invariant.6 is) (_, sym c.hear.ensures.keeper),
+    )
+
+pub returns-clause-lent : goal.returns-clause-lent
+returns-clause-lent g c =
+    let s = c.in-Ok-Some.search.value in
+    let h = c.self.inside.hall in
+    let q = c.args.request.now in
+    let number = c.match-request.number in
+    let at : IsCompletedAt h c.tenant-who.result number s = rw c.in-Ok-Some.field-0-is at c.in-Ok-Some.ensures.completed in
+    let kept = subst IsKept c.self.view_is (record { counted = c.self.invariant.0; sound = subst IsSound c.completed.ensures.same c.journal_len-length.ensures.sound; stop = c.self.invariant.6 }) in
+    elim c.match-request.branch [
+      | in-Poll w ↦ let names = names_same q number w.in-Poll.number w.in-Poll.is w.number-is in
+          lent_here g.L.Naming.roster c.self.inside.keeper c.hear.new.keeper h c.args.self.now c.args.pass.now c.hear.new.self c.tenant-who.result q number s c.of-asked.result c.of-read.result
+          (ap (λ (r : RoomState). r.hall) c.self.view_is) (ap (λ (r : RoomState). r.told) c.self.view_is) c.tenant-who.ensures c.of-asked.ensures (c.of-read.ensures ∙ c.deref-found.ensures) kept
+          c.self.invariant.5 names (completed_there h c.tenant-who.result number s at) (completed_read h c.tenant-who.result q number s names at)
+          c.hear.ensures.began c.hear.ensures.own c.hear.ensures.pass c.hear.ensures.keeper
+      | in-Poll-2 w ↦ let names = names_same q number w.in-Poll.number w.in-Poll.is w.number-is in
+          lent_here g.L.Naming.roster c.self.inside.keeper c.hear.new.keeper h c.args.self.now c.args.pass.now c.hear.new.self c.tenant-who.result q number s c.of-asked.result c.of-read.result
+          (ap (λ (r : RoomState). r.hall) c.self.view_is) (ap (λ (r : RoomState). r.told) c.self.view_is) c.tenant-who.ensures c.of-asked.ensures (c.of-read.ensures ∙ c.deref-found.ensures) kept
+          c.self.invariant.5 names (completed_there h c.tenant-who.result number s at) (completed_read h c.tenant-who.result q number s names at)
+          c.hear.ensures.began c.hear.ensures.own c.hear.ensures.pass c.hear.ensures.keeper
+    ]

@@ -1,21 +1,28 @@
-use Rattle.std.proofs.Common.{◌≡◌, ◌∙◌, Bool, ap, cond, length, option_map, sym, subst}
+use Rattle.std.proofs.Common.{◌≡◌, ◌∙◌, Bool, ap, cond, length, option_map, refl, sym, subst}
 use Rattle.hall.specs.declared.visits.{Order.Order, Order.TheVariants.GiveBack}
 use Rattle.hall.specs.Batches.{name_of}
+use Rattle.hall.specs.Hall.{IsSound}
 use Rattle.hall.specs.Work.{IsVisit, TellsEnds}
+use Rattle.pool.specs.Histories.{Reaches}
 use Rattle.pool.specs.Rooms.{RoomState}
 use Rattle.pool.specs.Workers.{order_in}
 use Rattle.pool.specs.declared.visits.TheConstants.{BATCH}
-use Rattle.pool.proofs.Visiting.{visit_journal}
+use Rattle.pool.proofs.Visiting.{visit_keeps, keeps_journal, keeps_reached}
 use Rattle.pool.proofs.rooms.Room.work.Goals as goal
 use Rattle.pool.proofs.rooms.Room.work.Goals.{then-self, else-self}
 
 pub invariant_of-self : goal.invariant_of-self
 invariant_of-self g c = (
-  c.self.invariant.0 ∙ ap length (sym (visit_journal c.if-self.order BATCH c.self.inside.hall c.args.batch.now c.work.result c.work.new.self c.work.new.batch c.work.ensures.visit)),
+  c.self.invariant.0
+      ∙ ap length (sym (visit_keeps (λ h. h.journal ≡ c.self.inside.hall.journal) (keeps_journal c.self.inside.hall.journal) c.if-self.order BATCH c.self.inside.hall c.args.batch.now c.work.result
+      c.work.new.self c.work.new.batch c.work.ensures.visit refl)),
   c.self.invariant.1,
   c.self.invariant.2,
   c.self.invariant.3,
   c.self.invariant.4,
+  (visit_keeps (λ h. IsSound h × Reaches g.L.Naming.roster c.self.inside.keeper h) (keeps_reached g.L.Naming.roster c.self.inside.keeper) c.if-self.order BATCH c.self.inside.hall c.args.batch.now
+      c.work.result c.work.new.self c.work.new.batch c.work.ensures.visit (c.journal_len-length.ensures.sound, c.self.invariant.5)).1,
+  c.self.invariant.6,
 )
 
 pub returns : goal.returns

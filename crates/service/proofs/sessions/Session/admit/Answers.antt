@@ -15,7 +15,7 @@ returns-in-Ok-pass g c =
     let tenant = subst (λ (rows : List Row). IsTenant rows c.in-Two.name.now c.in-Two.word.now) same (c.check-is_known.ensures.tenant.0 known) in
     IsLetIn-tried {E = DeskFault} c.args.self.now.rows c.args.line.now c.in-Some.first.now c.in-Two.name.now c.in-Two.word.now (words c.in-Some.said.now)
     c.in-Some.ensures.found c.if-is_same.ensures c.in-Two.ensures tenant (Ok c.in-Ok-pass.pass) (rw c.in-Ok.ensures.entity at c.in-Ok-pass.ensures.tenant)
-    c.in-Ok-pass.ensures.share c.in-Ok-pass.ensures.admitted
+    c.in-Ok-pass.ensures.none
 
 pub returns-in-Err : goal.returns-in-Err
 returns-in-Err g c =
@@ -23,4 +23,4 @@ returns-in-Err g c =
     let same = ap (λ (s : SessionState). s.rows) c.self.view_is in
     let tenant = subst (λ (rows : List Row). IsTenant rows c.in-Two.name.now c.in-Two.word.now) same (c.check-is_known.ensures.tenant.0 known) in
     IsLetIn-tried c.args.self.now.rows c.args.line.now c.in-Some.first.now c.in-Two.name.now c.in-Two.word.now (words c.in-Some.said.now)
-    c.in-Some.ensures.found c.if-is_same.ensures c.in-Two.ensures tenant (Err c.in-Err._fault) tt tt tt
+    c.in-Some.ensures.found c.if-is_same.ensures c.in-Two.ensures tenant (Err c.in-Err._fault) tt tt

@@ -1,0 +1,114 @@
+-- All that tenants were told, in one order, and the hall in which it ends.
+use Rattle.std.specs.Prelude.{◌≡◌, ℕ, Bool, true, false, List, [], ◌∷◌, ◌++◌, Option, Some, option_map}
+use Rattle.std.specs.List.{filter, AllZip}
+use Rattle.std.specs.FinMap.{get}
+use Rattle.quotas.specs.Quota.{Quota}
+use Rattle.vaults.specs.declared.changes.Entry.{Entry}
+use Rattle.vaults.specs.Journal.{view}
+use Rattle.snapshots.specs.Snapshot.{SnapshotState}
+use Rattle.search.specs.declared.queries.Query.{Query}
+use Rattle.search.specs.Search.{SearchState}
+use Rattle.hall.specs.declared.calls.events.Event.{Event}
+use Rattle.hall.specs.declared.calls.replies.Reply.{Reply}
+use Rattle.hall.specs.declared.calls.requests.Request.{Request}
+use Rattle.hall.specs.declared.calls.requests.Request.TheVariants.{Seek, Poll, Proof}
+use Rattle.hall.specs.declared.calls.replies.Reply.TheVariants.{Opened}
+use Rattle.hall.specs.Answers.{Account, start_of}
+use Rattle.hall.specs.Run.{asks, Told, told_in, entered, told_to, any_time, IsRunOf}
+use Rattle.hall.specs.Hall.{HallState, Tenant, Running, search_at, account_of, IsSound, Run, IsServed, told_as}
+use Rattle.hall.specs.Work.{IsCompletedAt}
+use Rattle.pool.specs.declared.turns.Item.{Item}
+use Rattle.pool.specs.declared.turns.Item.TheVariants as item
+use Rattle.pool.specs.declared.turns.Noted.{Noted}
+use Rattle.pool.specs.declared.turns.Noted.TheVariants as noted
+
+-- the journal after all that was told
+abbrev pub journal_after : List Entry → List Told → List Entry
+journal_after journal [] = journal
+journal_after journal (t ∷ more) = journal_after (entered journal t) more
+
+-- a request of the tenant, and what it was told
+abbrev pub turn : List ℕ → Request → Reply → Told
+turn tenant q told = record { tenant = tenant; deed = asks q; reply = told }
+
+-- to each tenant of the roster what was told is a run of its own turns, from nothing done on
+abbrev pub AreRuns : List (List ℕ × Quota) → List Told → Type 0
+AreRuns roster told =
+    (tenant : List ℕ) → (end : Option Account) × IsRunOf any_time tenant (start_of tenant roster) (told_to tenant [] told) end
+
+-- what was told is a run to each tenant, and the hall is the one in which it ends
+pub record EndsIn (roster : List (List ℕ × Quota)) (told : List Told) (h : HallState) : Type 0 where
+  pub journal : h.journal ≡ journal_after [] told
+  pub runs : (tenant : List ℕ) → IsRunOf any_time tenant (start_of tenant roster) (told_to tenant [] told) (account_of h tenant)
+
+-- what happens to a sound hall goes on with what was told before
+abbrev pub HistoriesGoOn : Type 0
+HistoriesGoOn =
+    (roster : List (List ℕ × Quota)) (told : List Told) (old new : HallState) (events : List Event) (replies : List Reply)
+    → IsSound old → EndsIn roster told old → Run old events replies new → EndsIn roster (told ++ told_in events replies) new
+
+-- the request reads this search of the hall's and nothing else; for a proof it is completed
+abbrev pub Reads : HallState → List ℕ → Request → SearchState → Type 0
+Reads h who (Poll k) s = option_map (λ r. r.search) (search_at h who k) ≡ Some s
+Reads h who (Proof k member) s = IsCompletedAt h who k s
+Reads h who _ s = ⊥
+
+-- in each hall where the request reads this search it is told this, and changes nothing
+abbrev pub IsReadOff : SearchState → Request → Reply → Type 0
+IsReadOff s q told = (h : HallState) (who : List ℕ) → Reads h who q s → IsServed h who q told h
+
+-- what a tenant may have been told by an item: one reply, or one that is made of the search that was read
+abbrev pub Admits : Item → Told → Type 0
+Admits (item.Told name who q told) t = t ≡ turn who q told
+Admits (item.Read name who q s) t = (told : Reply) × IsReadOff s q told × (t ≡ turn who q told)
+Admits (item.Stopped name) t = ⊥
+
+-- by a stop nobody is told anything
+abbrev pub is_turn : Item → Bool
+is_turn (item.Stopped name) = false
+is_turn _ = true
+
+-- the items by which tenants were told something
+abbrev pub turns_of : List Item → List Item
+turns_of items = filter is_turn items
+
+-- each of these is what was told by its item
+abbrev pub AreTold : List Item → List Told → Type 0
+AreTold items told = AllZip Admits (turns_of items) told
+
+-- the journal after the items
+abbrev pub entered_by : List Entry → Item → List Entry
+entered_by journal (item.Told name who q told) = entered journal (turn who q told)
+entered_by journal _ = journal
+
+abbrev pub journal_by : List Entry → List Item → List Entry
+journal_by journal [] = journal
+journal_by journal (i ∷ items) = journal_by (entered_by journal i) items
+
+-- the history is legal: whatever was told by its items is a run to each tenant, and something was
+pub record IsLegal (roster : List (List ℕ × Quota)) (items : List Item) : Type 0 where
+  pub runs : (told : List Told) → AreTold items told → AreRuns roster told
+  pub some : (told : List Told) × AreTold items told
+
+-- by one of the items the tenant opened its search of this number, for this query, over its view of the journal as it was then
+pub record IsOpening (items : List Item) (who : List ℕ) (k : ℕ) (query : Query) (shown : SnapshotState) : Type 0 where
+  pub name : ℕ
+  pub before : List Item
+  pub after : List Item
+  pub split : items ≡ before ++ item.Told name who (Seek query) (Opened k) ∷ after
+  pub sees : shown ≡ record { asker = who; vaults = view (journal_by [] before) who }
+
+-- the history ends in the hall, whatever was told by its items, and something was; and it has the opening of each search
+pub record Reaches (roster : List (List ℕ × Quota)) (items : List Item) (h : HallState) : Type 0 where
+  pub journal : h.journal ≡ journal_by [] items
+  pub ends : (told : List Told) → AreTold items told → EndsIn roster told h
+  pub some : (told : List Told) × AreTold items told
+  pub opened :
+      (name : List ℕ) (t : Tenant) (k : ℕ) (r : Running) → get h.tenants name ≡ Some t → get t.searches k ≡ Some r
+      → IsOpening items name k r.search.query r.search.snapshot
+
+-- the item of what was noted, under the name of a pass
+abbrev pub item_of : ℕ → Noted → Item
+item_of name (noted.Told who q told) = item.Told name who q.value (told_as (λ r. r) told.value)
+item_of name (noted.Read who q s) = item.Read name who q.value s.value
+item_of name noted.Stopped = item.Stopped name

@@ -1,0 +1,89 @@
+-- What a seat of the history knows, and what its steps tell.
+use Rattle.std.specs.Prelude.{◌≡◌, ◌≢◌, ◌<◌, ◌≤◌, ℕ, true, false, List, [], ◌∷◌, ◌++◌}
+use mathlib.Core.List.{IsPrefix}
+use mathlib.Core.Option.{some}
+use lib.ListN.{get_elem?}
+use Rattle.atomic_table.specs.Table.{Me, Step}
+use Rattle.atomic_table.specs.Seated.{TableId}
+use Rattle.pool.specs.declared.turns.Item.{Item}
+use Rattle.pool.specs.declared.turns.Item.TheVariants as item
+use Rattle.hall.specs.declared.calls.requests.Request.TheVariants.{Vault}
+use Rattle.hall.specs.declared.calls.replies.Reply.TheVariants.{Closed}
+use Rattle.pool.specs.declared.seats.Knows.{Knows}
+use Rattle.pool.specs.Fronts.{own_of}
+
+-- what names the ledger and the history of a desk
+pub record Names : Type 0 where
+  pub ledger : ℕ
+  pub parts : ℕ
+  pub table : TableId
+
+-- the name of no table
+abbrev pub no_table : TableId
+no_table = record { words = 0; slots = 0; views_name = 0; atom = 0; block = 0; offset = 0; slot_names = [] }
+
+-- the seat that knows all that was told, and how many names were drawn
+abbrev pub keeper : ℕ → List Item → Knows
+keeper drawn all = record { keeps = true; drawn = drawn; all = all; named = false; name = 0; seen = []; paired = false; second = 0 }
+
+-- the keeper that has a front's seat
+abbrev pub bearing : ℕ → List Item → ℕ → List Item → Knows
+bearing drawn all name seen = record (keeper drawn all) { named = true; name = name; seen = seen }
+
+-- a seat that adds under a name, and has seen a beginning
+abbrev pub adds_under : ℕ → List Item → Knows
+adds_under name seen = record { keeps = false; drawn = 0; all = []; named = true; name = name; seen = seen; paired = false; second = 0 }
+
+-- a seat that knows nothing any more
+abbrev pub gone : Knows
+gone = record { keeps = false; drawn = 0; all = []; named = false; name = 0; seen = []; paired = false; second = 0 }
+
+-- a seat that adds under no name from now on
+abbrev pub unnamed : Knows → Knows
+unnamed v = record v { named = false; name = 0; seen = []; paired = false; second = 0 }
+
+-- a name that was drawn is of one seat at most, and that has seen all items of it
+abbrev pub HasName : ℕ → List Item → (ℕ → ℕ) → ℕ → Knows → Type 0
+HasName drawn history owner by v = (v.name < drawn) × (by ≡ owner v.name) × (own_of v.name v.seen ≡ own_of v.name history)
+
+-- a second name that the seat has is another, and of no other seat
+abbrev pub HasSecond : ℕ → (ℕ → ℕ) → ℕ → Knows → Type 0
+HasSecond drawn owner by v = (v.second < drawn) × (by ≡ owner v.second) × (v.second ≢ v.name)
+
+-- what the rule says of one seat
+abbrev pub Fits : ℕ → ℕ → List Item → (ℕ → ℕ) → ℕ → Knows → Type 0
+Fits seat drawn history owner by v =
+    (v.keeps ≡ true → (by ≡ seat) × (v.drawn ≡ drawn) × (v.all ≡ history))
+    × (v.named ≡ true → HasName drawn history owner by v)
+    × (v.paired ≡ true → HasSecond drawn owner by v)
+    × IsPrefix v.seen history
+
+-- one seat at most knows the whole history, all others have seen beginnings of it, and each adds under a name of its own
+abbrev pub IsKept : List Knows → Type 0
+IsKept views =
+    (seat : ℕ) × (drawn : ℕ) × (history : List Item) × (owner : (ℕ → ℕ))
+    × ((by : ℕ) (v : Knows) → get_elem? views by ≡ some v → Fits seat drawn history owner by v)
+
+-- each item of the history has a name that was drawn
+abbrev pub AreNamed : ℕ → List Item → Type 0
+AreNamed drawn all = (name : ℕ) → drawn ≤ name → own_of name all ≡ []
+
+-- an item that stands for none
+abbrev pub no_item : Item
+no_item = item.Told 0 [] Vault Closed
+
+-- the keeper compares a beginning with all, and the items of its name with all of that name
+abbrev pub Compares : Knows → Type 0
+Compares v = IsPrefix v.seen v.all × (v.name < v.drawn) × (own_of v.name v.all ≡ own_of v.name v.seen)
+
+-- the keeper compares, and adds an item
+abbrev pub Adds : Item → Step ℕ → Me ℕ Knows → ℕ → Me ℕ Knows → Type 0
+Adds i s v found w = (w.0 ≡ record v.0 { all = v.0.all ++ i ∷ []; seen = v.0.all ++ i ∷ [] }) × (w.1 ≡ v.1) × Compares v.0
+
+-- the keeper compares
+abbrev pub Checks : Step ℕ → Me ℕ Knows → ℕ → Me ℕ Knows → Type 0
+Checks s v found w = (w.0 ≡ record v.0 { seen = v.0.all }) × (w.1 ≡ v.1) × Compares v.0
+
+-- the keeper compares its two names
+abbrev pub Parts : Step ℕ → Me ℕ Knows → ℕ → Me ℕ Knows → Type 0
+Parts s v found w = (w.0 ≡ v.0) × (w.1 ≡ v.1) × (v.0.second ≢ v.0.name)

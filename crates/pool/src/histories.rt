@@ -1,0 +1,45 @@
+//! What holds of each history of a desk.
+ghost use Rattle.pool.specs.Histories.{HistoriesGoOn};
+ghost use Rattle.pool.specs.Laws.{CountsAreSeen, NumbersAreCounted, VaultsAreOwn, SightsAreOwn};
+ghost use Rattle.pool.specs.Sessions.{SessionsAreRuns};
+ghost use Rattle.pool.specs.Shares.{SharesAddUp};
+ghost use Rattle.pool.specs.Truths.{HistoriesAreTrue, HistoriesAgree, ReadsAreTold};
+
+/// What happens to a sound hall goes on with the history that ends in it.
+pub fn histories_go_on()
+    ensures { HistoriesGoOn }
+{}
+
+/// Whatever a tenant was told by an item of a legal history is right, by what that tenant was told before.
+pub fn histories_are_true()
+    ensures { HistoriesAreTrue }
+{}
+
+/// Two legal histories, perhaps of services with other tenants, in which a tenant begins alike, does the same and has the same
+/// in sight tell it what agrees.
+pub fn histories_agree()
+    ensures { HistoriesAgree }
+{}
+
+/// A request that reads a search of a sound hall is told something.
+pub fn reads_are_told()
+    ensures { ReadsAreTold }
+{}
+
+/// What sessions were told, each by the items of its own name, is part of one run.
+pub fn sessions_are_runs()
+    ensures { SessionsAreRuns }
+{}
+
+/// What each name was told of accepted changes adds up to the journal's length.
+pub fn shares_add_up()
+    ensures { SharesAddUp }
+{}
+
+/// What a tenant is told of vaults and names in a legal history is its own, and changes and searches are counted from 1.
+pub fn replies_are_own()
+    ensures counts { CountsAreSeen }
+    ensures numbers { NumbersAreCounted }
+    ensures vaults { VaultsAreOwn }
+    ensures sights { SightsAreOwn }
+{}

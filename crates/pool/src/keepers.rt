@@ -1,0 +1,271 @@
+//! The one history of a desk: who keeps it, and who has seen a beginning of it.
+ghost use Rattle.std.specs.Prelude.{ℕ, ◌≡◌, ◌≢◌, ◌++◌, ◌∷◌, []};
+ghost use mathlib.Core.List.{IsPrefix};
+ghost use Rattle.pool.specs.Fronts.{own_of, own_items};
+ghost use Rattle.pool.specs.Histories.{IsLegal, item_of};
+
+use crate::seats::{Add, Borrowed, Check, Fresh, Knows, Law, Part, Second, Telling};
+use crate::turns::Noted;
+use atomic_table::{Seat, Table};
+use std::alloc::{AllocError, Global};
+use std::marker::{Brand, Model, PhantomData};
+use std::mem;
+use std::sync::ledger::{Blank, Ledger};
+
+/// Which history it is, and of which tenants. Each call of a program picks it.
+pub trait Naming: Ledger {
+    ghost use Rattle.std.specs.Prelude.{List, ℕ};
+    ghost use Rattle.atomic_table.specs.Seated.{TableId};
+    ghost use Rattle.quotas.specs.Quota.{Quota};
+
+    ghost table: { TableId };
+
+    ghost roster: { List (List ℕ × Quota) };
+}
+
+impl Naming for Brand {
+    ghost use Rattle.std.specs.Prelude.{[]};
+    ghost use Rattle.pool.specs.Rules.{no_table};
+
+    ghost table = { no_table };
+
+    ghost roster = { [] };
+}
+
+/// How many parts the ledger of a desk has: one for each pass that may be out, and one that stays.
+const PARTS: u64 = (1 << 32) + 1;
+
+/// A history in which nothing stands and a ledger in which nothing is counted, which have no name yet. Contracts see what names
+/// them.
+#[derive(Drop)]
+pub struct Unnamed {
+    table: Table<u8, Knows, (), Law, Global>,
+    seat: Seat<u8, Knows>,
+    blank: Blank,
+}
+
+impl Model for Unnamed {
+    ghost use Rattle.std.specs.Prelude.{◌≡◌, ◌+◌, ◌^◌, []};
+    ghost use Rattle.pool.specs.Rules.{Names, keeper};
+
+    ghost Value = { Names };
+
+    ghost view = { λ u. record { ledger = u.blank.name; parts = u.blank.parts; table = u.table.shared.table_id } };
+
+    ghost invariant = { λ u.
+        (u.seat.table_id ≡ u.table.shared.table_id)
+        × (u.table.shared.table_id.words ≡ 1)
+        × (u.seat.me ≡ (keeper 0 [], []))
+        × (u.blank.parts ≡ 2 ^ 32 + 1) };
+}
+
+impl Unnamed {
+    /// Takes the memory for them, of one word.
+    pub fn make(alloc: Global) -> Result<Unnamed, AllocError> {
+        let (table, seat) = Table::of_words(alloc, &[0], &())?;
+        Ok(Unnamed {
+            table,
+            seat,
+            blank: Blank::new(PARTS),
+        })
+    }
+
+    /// The keeper of the history and the ledger, under a name.
+    pub(crate) fn named<J: Naming>(self) -> (Keeper<J>, Blank)
+        requires { self ≡ record { ledger = J.name; parts = J.parts; table = J.table } }
+        ensures keeper { result.0 ≡ [] }
+        ensures ledger { (result.1.name ≡ J.name) × (result.1.parts ≡ J.parts) × (result.1.parts ≡ PARTS) }
+    {
+        let Unnamed { table, seat, blank } = self;
+        let keeper = Keeper {
+            table,
+            seat,
+            of: PhantomData,
+        };
+        (keeper, blank)
+    }
+}
+
+/// All that tenants were told, of which nobody else has more: who has the keeper adds to it. Contracts see it as that.
+#[derive(Drop)]
+pub struct Keeper<J: Naming> {
+    table: Table<u8, Knows, (), Law, Global>,
+    seat: Seat<u8, Knows>,
+    of: PhantomData<J>,
+}
+
+impl<J: Naming> Model for Keeper<J> {
+    ghost use Rattle.std.specs.Prelude.{◌≡◌, List, []};
+    ghost use Rattle.std.specs.Coded.{codes};
+    ghost use Rattle.std.specs.FinMap as fin;
+    ghost use Rattle.search.specs.contracts.stages.Stage as running;
+    ghost use Rattle.search.specs.contracts.findings.Monitor as memory;
+    ghost use Rattle.pool.specs.declared.turns.Item.{Item};
+    ghost use Rattle.pool.specs.Rules.{keeper, AreNamed};
+    ghost use Rattle.pool.specs.Histories.{IsLegal};
+
+    ghost Value = { List Item };
+
+    ghost coded = { Prim.hlevel (codes, fin.code, running.the_row.coded, memory.the_row.coded) };
+
+    ghost view = { λ k. k.seat.me.0.all };
+
+    ghost invariant = { λ k.
+        (k.table.shared.table_id ≡ J.table)
+        × (k.seat.table_id ≡ J.table)
+        × (J.table.words ≡ 1)
+        × (k.seat.me ≡ (keeper k.seat.me.0.drawn k.seat.me.0.all, []))
+        × AreNamed k.seat.me.0.drawn k.seat.me.0.all
+        × IsLegal J.roster k.seat.me.0.all };
+}
+
+/// A beginning of what tenants were told, which was seen, and the right to add to it under a name, which no other has.
+/// Contracts see it as both.
+#[derive(Drop)]
+pub struct Front<J: Naming> {
+    seat: Seat<u8, Knows>,
+    of: PhantomData<J>,
+}
+
+impl<J: Naming> Model for Front<J> {
+    ghost use Rattle.std.specs.Prelude.{◌≡◌, List, []};
+    ghost use Rattle.std.specs.Coded.{codes};
+    ghost use Rattle.std.specs.FinMap as fin;
+    ghost use Rattle.search.specs.contracts.stages.Stage as running;
+    ghost use Rattle.search.specs.contracts.findings.Monitor as memory;
+    ghost use Rattle.pool.specs.Rules.{adds_under};
+    ghost use Rattle.pool.specs.Fronts.{FrontState};
+    ghost use Rattle.pool.specs.Histories.{IsLegal};
+
+    ghost Value = { FrontState };
+
+    ghost coded = { Prim.hlevel (codes, fin.code, running.the_row.coded, memory.the_row.coded) };
+
+    ghost view = { λ f. record { name = f.seat.me.0.name; seen = f.seat.me.0.seen } };
+
+    ghost invariant = { λ f.
+        (f.seat.table_id ≡ J.table)
+        × (f.seat.me ≡ (adds_under f.seat.me.0.name f.seat.me.0.seen, []))
+        × IsLegal J.roster f.seat.me.0.seen };
+}
+
+impl<J: Naming> Keeper<J> {
+    /// A front that has seen all, under a name of which there is no item.
+    pub fn front(&mut self) -> Front<J>
+        ensures seen { result.seen ≡ self.old }
+        ensures own { own_items result ≡ [] }
+        ensures same { self.new ≡ self.old }
+    {
+        let table = &self.table;
+        let seat = table.shared.split_seat::<Fresh>(&mut self.seat);
+        Front {
+            seat,
+            of: PhantomData,
+        }
+    }
+
+    /// Shows all to a front, which had seen a beginning of it, with all items that it added.
+    pub fn show(&mut self, front: &mut Front<J>)
+        ensures began { IsPrefix front.old.seen self.old }
+        ensures own { own_items front.new ≡ own_items front.old }
+        ensures front { front.new ≡ record front.old { seen = self.old } }
+        ensures same { self.new ≡ self.old }
+    {
+        let other = self.front();
+        let Front { seat, of: _ } = mem::replace(front, other);
+        let table = &self.table;
+        table.shared.join_seat::<Borrowed>(&mut self.seat, seat);
+        let _word = table.shared.load::<Check>(&mut self.seat, 0);
+        let seat = table.shared.split_seat::<Borrowed>(&mut self.seat);
+        *front = Front {
+            seat,
+            of: PhantomData,
+        };
+    }
+
+    /// Shows all to two fronts. What both had seen stands in it, and their names differ.
+    pub fn meet(&mut self, one: &mut Front<J>, other: &mut Front<J>)
+        ensures began { IsPrefix one.old.seen self.old × IsPrefix other.old.seen self.old }
+        ensures own { (own_items one.new ≡ own_items one.old) × (own_items other.new ≡ own_items other.old) }
+        ensures one { one.new ≡ record one.old { seen = self.old } }
+        ensures other { other.new ≡ record other.old { seen = self.old } }
+        ensures apart { one.old.name ≢ other.old.name }
+        ensures same { self.new ≡ self.old }
+    {
+        self.show(one);
+        self.show(other);
+        self.part(one, other);
+    }
+
+    /// Two fronts have two names.
+    fn part(&mut self, one: &mut Front<J>, other: &mut Front<J>)
+        ensures one { one.new ≡ record one.old { seen = self.old } }
+        ensures other { other.new ≡ record other.old { seen = self.old } }
+        ensures apart { one.old.name ≢ other.old.name }
+        ensures same { self.new ≡ self.old }
+    {
+        let spare = self.front();
+        let Front { seat: first, of: _ } = mem::replace(one, spare);
+        let spare = self.front();
+        let Front {
+            seat: second,
+            of: _,
+        } = mem::replace(other, spare);
+        let table = &self.table;
+        table.shared.join_seat::<Borrowed>(&mut self.seat, first);
+        table.shared.join_seat::<Second>(&mut self.seat, second);
+        let _word = table.shared.load::<Part>(&mut self.seat, 0);
+        let second = table.shared.split_seat::<Second>(&mut self.seat);
+        let first = table.shared.split_seat::<Borrowed>(&mut self.seat);
+        *one = Front {
+            seat: first,
+            of: PhantomData,
+        };
+        *other = Front {
+            seat: second,
+            of: PhantomData,
+        };
+    }
+
+    /// Goes on by what was noted, under the name of the front, and shows all to it. It had seen a beginning of what was there
+    /// before, with all items that it added: this is one more of them.
+    pub fn tell(&mut self, front: &mut Front<J>, noted: &Noted)
+        requires { IsLegal J.roster (self.old ++ item_of front.old.name noted.now ∷ []) }
+        ensures began { IsPrefix front.old.seen self.old }
+        ensures own { own_items front.new ≡ own_items front.old ++ item_of front.old.name noted.now ∷ [] }
+        ensures front { front.new ≡ record front.old { seen = self.new } }
+        ensures history { self.new ≡ self.old ++ item_of front.old.name noted.now ∷ [] }
+    {
+        self.tell_as::<Brand>(front, noted);
+    }
+
+    fn tell_as<T: Telling>(&mut self, front: &mut Front<J>, noted: &Noted)
+        requires item { T.item ≡ item_of front.old.name noted.now }
+        requires legal { IsLegal J.roster (self.old ++ item_of front.old.name noted.now ∷ []) }
+        ensures began { IsPrefix front.old.seen self.old }
+        ensures own { own_items front.new ≡ own_items front.old ++ item_of front.old.name noted.now ∷ [] }
+        ensures front { front.new ≡ record front.old { seen = self.new } }
+        ensures history { self.new ≡ self.old ++ item_of front.old.name noted.now ∷ [] }
+    {
+        let other = self.front();
+        let Front { seat, of: _ } = mem::replace(front, other);
+        let table = &self.table;
+        table.shared.join_seat::<Borrowed>(&mut self.seat, seat);
+        let _word = table.shared.load::<Add<T>>(&mut self.seat, 0);
+        let seat = table.shared.split_seat::<Borrowed>(&mut self.seat);
+        *front = Front {
+            seat,
+            of: PhantomData,
+        };
+        let _noted = noted;
+    }
+}
+
+impl<J: Naming> Front<J> {
+    /// What was seen is legal.
+    pub fn is_legal(&self)
+        ensures { IsLegal J.roster self.now.seen }
+    {
+        let _ = &self.seat;
+    }
+}
