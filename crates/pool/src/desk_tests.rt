@@ -1,4 +1,4 @@
-//! A desk without workers, and while workers run: each call, whole searches, a gate, many members, refusals and limits.
+//! A desk without workers, and while workers run: each call, whole searches, a gate, many members, refusals and limits, turns.
 mod acts;
 mod calls;
 mod gates;
@@ -6,3 +6,4 @@ mod gathers;
 mod lives;
 mod plays;
 mod rows;
+mod turns;

@@ -48,7 +48,7 @@ pub struct Desk<L: Naming> {
     pub(crate) work: Condvar,
     /// Held by one of those who sleep for the room, until it has that. A worker that goes on alone waits for it before each visit.
     next: Mutex<()>,
-    /// Held by the worker that finishes many letters in each row of visits, where no gate may wait.
+    /// Held by the worker that finishes as many letters as it makes visits, where no gate may wait.
     line: Mutex<()>,
 }
 
@@ -405,8 +405,8 @@ impl<L: Naming> Desk<L> {
         }
     }
 
-    /// For a worker that finishes many letters, where no gate may wait: it hands in what it holds, and goes on alone once the one
-    /// that has the line gives it up. Answers how many letters are finished too.
+    /// For a worker that finishes a letter in each visit, where no gate may wait: it hands in what it holds, and goes on alone once
+    /// the one that has the line gives it up. Answers how many letters are finished too.
     pub(crate) fn stand_in_line<R: Wait>(
         &self,
         rt: &R,

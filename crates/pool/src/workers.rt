@@ -17,8 +17,8 @@ use std::thread::{self, JoinHandle, Threads};
 
 /// Where a worker passes with each letter, after it took it and before it looks up what the letter needs, without the lock.
 pub trait Gate: Sync {
-    /// Whether a pass may wait, so that others have to go on meanwhile. Where none does, one worker at a time finishes letters by
-    /// the hundred: nearly all of its visits are under the lock, which costs more the more threads want it.
+    /// Whether a pass may wait, so that others have to go on meanwhile. Where none does, one worker at a time finishes a letter in
+    /// each visit: its visits are under the lock for most of the time, which costs more the more threads want it.
     const MAY_WAIT: bool;
 
     /// That the gate let the letter of this number pass, of the tenant's search of that number.
@@ -57,7 +57,8 @@ fn look_up_all<G: Gate>(gate: &G, batch: &mut Batch)
     }
 }
 
-/// How many visits in a row a worker begins at one search, whose letters its processor has at hand then.
+/// How many visits in a row a worker begins at one search, whose letters its processor has at hand then. Who finishes as many
+/// letters in a row goes on alone, where no gate may wait.
 const IN_A_ROW: u64 = 8;
 
 /// Works until the desk is stopped, or memory is refused; then another goes on. The searches take turns, for each from another. Answers
@@ -105,7 +106,7 @@ fn work_with<L: Naming, G: Gate, R: Wait>(
             }
         }
         turn = turn.wrapping_add(1);
-        if finished.saturating_sub(before) < BATCH as u64 {
+        if finished.saturating_sub(before) < IN_A_ROW {
             line = None;
         } else if line.is_none() && !G::MAY_WAIT {
             look_up_all(gate, &mut batch);

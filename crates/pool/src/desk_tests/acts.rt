@@ -1,4 +1,5 @@
 //! Calls of a desk as a table writes them, and what each is told.
+use super::turns::put_circle;
 use crate::tests_below::are_named;
 use crate::{Desk, DeskFault, Naming, Pass, Verdict};
 use credential_text::{CredFault, Credential, Expr, read_credential};
@@ -15,6 +16,8 @@ use vaults::{Change, Row, Seen};
 pub(super) enum Act {
     /// The credential that this text spells is uploaded.
     Put(&'static str),
+    /// The credentials of a circle of roles are.
+    PutCircle,
     /// It is withdrawn.
     Drop(&'static str),
     /// The reader is granted the vault.
@@ -82,14 +85,14 @@ pub(super) enum Told {
 }
 
 /// The names `E1` to `E40`, in order.
-static FORTY: [&[u8]; 40] = [
+pub(super) static FORTY: [&[u8]; 40] = [
     b"E1", b"E10", b"E11", b"E12", b"E13", b"E14", b"E15", b"E16", b"E17", b"E18", b"E19", b"E2",
     b"E20", b"E21", b"E22", b"E23", b"E24", b"E25", b"E26", b"E27", b"E28", b"E29", b"E3", b"E30",
     b"E31", b"E32", b"E33", b"E34", b"E35", b"E36", b"E37", b"E38", b"E39", b"E4", b"E40", b"E5",
     b"E6", b"E7", b"E8", b"E9",
 ];
 
-fn refused(fault: DeskFault) -> Told {
+pub(super) fn refused(fault: DeskFault) -> Told {
     match fault {
         DeskFault::Hall(Fault::Memory) => Told::NoMemory,
         _ => Told::Refused(fault.number()),
@@ -284,6 +287,7 @@ pub(super) fn answer_to<L: Naming, R: Wait>(
             Err(_) => Told::Otherwise,
         },
         Act::Share => Told::Share(pass.front(), pass.share()),
+        Act::PutCircle => put_circle(rt, desk, pass),
         Act::Stop => {
             desk.stop(rt);
             Told::Done

@@ -1,4 +1,5 @@
 //! What workers do at the gate of a scene.
+use super::turns::{Stay, Turns};
 use crate::{Desk, Gate, Naming};
 use names::Entity;
 use std::rt::Clock;
@@ -18,11 +19,15 @@ pub(super) enum Way<'a> {
     End(&'a AtomicBool),
     /// It counts it, at the place of its number.
     Count(&'a [AtomicU64]),
-    /// As `Meet`, of workers whose gate may not wait: one of them goes on alone once it finishes letters by the hundred. At first
-    /// letters none does yet.
+    /// As `Meet`, of workers whose gate may not wait: one of them goes on alone once it finishes a letter in each visit of a row. At
+    /// first letters none does yet.
     MeetFirst(&'a Meeting),
     /// As `Count`, of such workers.
     CountAlone(&'a [AtomicU64]),
+    /// It notes whose turn it is, of such workers.
+    TakeTurns(&'a Turns),
+    /// One letter stays until another search has come far.
+    Stay(&'a Stay),
 }
 
 /// Where the first letters of so many searches meet.
@@ -35,11 +40,16 @@ pub(super) struct Meeting {
 }
 
 impl Meeting {
-    /// The first letter of a search waits for those of the others, for 100,000 turns at the most.
-    fn meet<R: Clock>(&self, rt: &R) {
+    /// The first letter of a search waits for those of the others.
+    pub(super) fn meet<R: Clock>(&self, rt: &R) {
         self.came.fetch_add(1, Ordering::SeqCst);
+        self.wait_for(rt, &self.came, self.searches);
+    }
+
+    /// A letter waits until so many have come, for 100,000 turns at the most.
+    pub(super) fn wait_for<R: Clock>(&self, rt: &R, came: &AtomicU64, wanted: u64) {
         for _ in 0..100_000u64 {
-            if self.came.load(Ordering::SeqCst) >= self.searches {
+            if came.load(Ordering::SeqCst) >= wanted {
                 return;
             }
             thread::sleep(rt, Duration::from_micros(100));
@@ -77,6 +87,8 @@ impl<L: Naming + Send + Sync, R: Wait + Clock + Sync> Gate for Doorway<'_, L, R>
             Way::End(over) if search == 1 && letter == 1 => {
                 end_first(self.rt, self.desk, *who, over)
             }
+            Way::TakeTurns(turns) => turns.note(search),
+            Way::Stay(stay) => stay.pass(self.rt, search),
             Way::Count(counts) | Way::CountAlone(counts) => {
                 if let Some(count) = counts.get(letter as usize) {
                     count.fetch_add(1, Ordering::SeqCst);

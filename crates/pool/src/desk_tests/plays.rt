@@ -150,7 +150,7 @@ fn work<L: Naming + Send + Sync, R: Threads + Wait + Clock + Sync>(
 ) -> Result<u64, DeskFault> {
     let gate = Doorway { rt, desk, way };
     let worked = match way {
-        Way::MeetFirst(_) | Way::CountAlone(_) => {
+        Way::MeetFirst(_) | Way::CountAlone(_) | Way::TakeTurns(_) => {
             run_workers(rt, desk, workers.clamp(1, 64), &Passage(gate))
         }
         _ => run_workers(rt, desk, workers.clamp(1, 64), &gate),
