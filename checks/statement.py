@@ -1,12 +1,12 @@
 #!/usr/bin/env python3
-"""The statement of a script, definition after definition, as docs/STATEMENT.md has it.
+"""The statements of a script and of a session, definition after definition, as docs/STATEMENT.md has them.
 
   checks/statement.py --write        writes the page docs/STATEMENT.md anew
   checks/statement.py --check        whether the page is what would be written; the last line is `N passed, M failed`
   checks/statement.py --count        how many definitions, lines and files there are, by crate
 
-It begins at what the contract of `run_script` cites, and goes on to each definition of specs/ that one before it names.
-What stands above the mark on the page is written by hand and stays."""
+It begins at what the contract of `run_script` cites, and goes on to each definition of specs/ that one before it names. Then comes
+what that of `serve_session` cites beyond these. What stands above the mark on the page is written by hand and stays."""
 import dataclasses
 import itertools
 import pathlib
@@ -16,7 +16,8 @@ import sys
 ROOT = pathlib.Path(__file__).resolve().parent.parent
 PAGE = ROOT / "docs" / "STATEMENT.md"
 MARK = "<!-- What follows is made by checks/statement.py. -->\n"
-START = ("service/specs/Written.antt", "ScriptWrote")
+SCRIPT = ("service/specs/Written.antt", "ScriptWrote")
+SESSION = ("service/specs/Session.antt", "SessionWrote")
 WORD = re.compile(r"[A-Za-z_][\w'-]*(?:\.[A-Za-z_][\w'-]*)*")
 BEGINNING = re.compile(r"(?:unfoldable )?(?:abbrev )?(?:pub )?(record|data)? ?([^\s:({]+)")
 ENGINE = ("scholten_core", "cred_graph", "monitors", "snapshots")
@@ -110,9 +111,10 @@ def look_up(files, file, word):
     return look_up(files, target, name) if target and target is not file else None
 
 
-def unfold(files, start):
-    """Each definition that the start's names, and those name, in the order in which a reader meets them."""
-    met, waiting = {}, [start]
+def unfold(files, root, known=()):
+    """Each definition that the root names, and those name, in the order in which a reader meets them, but for those that are known."""
+    place, name = root
+    met, waiting = {id(one): one for one in known}, [files[place].by_name[name]]
     while waiting:
         definition = waiting.pop()
         if id(definition) in met:
@@ -121,7 +123,7 @@ def unfold(files, start):
         words = dict.fromkeys(WORD.findall("\n".join(definition.code())))
         named = (look_up(files, definition.file, word) for word in words)
         waiting.extend(reversed([other for other in named if other]))
-    return list(met.values())
+    return list(met.values())[len(known) :]
 
 
 def by_file(definitions):
@@ -134,18 +136,25 @@ def by_file(definitions):
     return [(file, [d for d in file.definitions if id(d) in names]) for file, names in found]
 
 
-def page(groups):
+def page(parts):
     out = [PAGE.read_text().partition(MARK)[0] + MARK.rstrip()]
+    for title, groups in parts.items():
+        out.append(f"## {title}")
+        out.extend(blocks(groups))
+    return "\n\n".join(out) + "\n"
+
+
+def blocks(groups):
+    """The texts of these definitions, with a heading for each crate and each file."""
     crate = None
     for file, definitions in groups:
         if file.crate != crate:
             crate = file.crate
-            out.append(f"## `{crate}`")
-        out.append(f"### {pathlib.Path(file.place).stem}\n\n{file.heading}\n\n[crates/{file.place}](../crates/{file.place})")
+            yield f"### `{crate}`"
+        yield f"#### {pathlib.Path(file.place).stem}\n\n{file.heading}\n\n[crates/{file.place}](../crates/{file.place})"
         for definition in definitions:
             says = f"{sentence(definition.comment)}\n\n" if definition.comment else ""
-            out.append(f"{says}```antt\n{definition.text}\n```")
-    return "\n\n".join(out) + "\n"
+            yield f"{says}```antt\n{definition.text}\n```"
 
 
 def sentence(comment):
@@ -153,22 +162,23 @@ def sentence(comment):
     return text if text.endswith(".") else text + "."
 
 
-def count(groups):
+def count(title, groups):
     rows = {}
     for file, definitions in groups:
         row = rows.setdefault(file.crate, [0, 0, 0])
         row[0] += len(definitions)
         row[1] += sum(len(d.code()) for d in definitions)
         row[2] += 1
-    for crate, row in [*rows.items(), ("all", [sum(column) for column in zip(*rows.values())])]:
+    for crate, row in [*rows.items(), (title, [sum(column) for column in zip(*rows.values())])]:
         print(f"{crate}: {row[0]} definitions, {row[1]} lines, {row[2]} files")
 
 
-def check(groups):
+def check(parts):
+    groups = [group for part in parts.values() for group in part]
     faults = [f"{file.place}: a part of how a search works" for file, _ in groups if file.crate in ENGINE]
     faults += [f"{file.place}: nothing above it says what it is for" for file, _ in groups if not file.heading]
     faults += [f"{file.place}: {d.name} has no comment" for file, definitions in groups for d in definitions if not d.comment]
-    if PAGE.read_text() != page(groups):
+    if PAGE.read_text() != page(parts):
         faults.append("docs/STATEMENT.md isn't what `checks/statement.py --write` writes")
     for fault in faults:
         print(fault)
@@ -178,13 +188,15 @@ def check(groups):
 
 def main(arguments):
     files = read_all()
-    groups = by_file(unfold(files, files[START[0]].by_name[START[1]]))
+    script = unfold(files, SCRIPT)
+    parts = {"A script": by_file(script), "A session, beyond that": by_file(unfold(files, SESSION, script))}
     if arguments == ["--count"]:
-        count(groups)
+        for title, groups in parts.items():
+            count(title, groups)
     elif arguments == ["--write"]:
-        PAGE.write_text(page(groups))
+        PAGE.write_text(page(parts))
     elif arguments == ["--check"]:
-        return check(groups)
+        return check(parts)
     else:
         sys.exit(__doc__)
     return True
