@@ -159,15 +159,12 @@ impl<L: Naming> Desk<L> {
             drop(room);
             return read_off(self.alloc, &search, &request);
         }
-        let served = room.serve(pass, request);
+        let mut remains = None;
+        let served = room.serve(pass, request, &mut remains);
         drop(room);
         match served {
             Ok(served) => {
-                let Served {
-                    reply,
-                    notice,
-                    remains,
-                } = served;
+                let Served { reply, notice } = served;
                 notice.ring(&self.over, &self.work);
                 drop(remains);
                 Ok(reply)

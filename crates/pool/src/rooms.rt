@@ -36,8 +36,6 @@ pub(crate) struct Served {
     pub(crate) reply: Reply,
     /// Whom it concerns.
     pub(crate) notice: Notice,
-    /// What is left of a search that was ended: it may take long to drop, so that is done once the lock is given back.
-    pub(crate) remains: Option<Remains>,
 }
 
 /// The hall, the keeper of all that was told, the ledger of accepted changes, and what stands of it with no pass that is out.
@@ -135,40 +133,46 @@ impl<L: Naming> Room<L> {
         Ok(Pass::new(who, self.hall.journal_len(), share, seen))
     }
 
-    /// Asks the hall for the pass's tenant, which is told what it answers. What is left of a search that ends by it is handed out.
+    /// Asks the hall for the pass's tenant, which is told what it answers. What is left of a search that ends by it stands in `remains`.
     fn ask(
         &mut self,
         pass: &mut Pass<L>,
         request: Request,
-    ) -> (Result<Reply, Fault>, Option<Remains>)
-        ensures served { IsServed self.old.hall pass.old.tenant request (told_as (λ r. r) result.0) self.new.hall }
-        ensures told { IsTold pass.old pass.new request (told_as (λ r. r) result.0) }
+        remains: &mut Option<Remains>,
+    ) -> Result<Reply, Fault>
+        ensures served { IsServed self.old.hall pass.old.tenant request (told_as (λ r. r) result) self.new.hall }
+        ensures told { IsTold pass.old pass.new request (told_as (λ r. r) result) }
         ensures seen { IsPrefix self.old.told pass.new.seen }
     {
         let who = pass.tenant();
         let asked = Snapshot::of(&request);
         let before = self.hall.journal_len();
-        let (result, remains) = ask_hall(&mut self.hall, who, request);
+        let result = ask_hall(&mut self.hall, who, request, remains);
         let told = Snapshot::of(&result);
         let noted = Noted::Told(who, asked, told);
         let after = self.hall.journal_len();
         pass.hear(&mut self.keeper, &mut self.book, &noted, before, after);
-        (result, remains)
+        result
     }
 
-    /// Serves the request of the pass's tenant, and tells whom that concerns.
-    pub(crate) fn serve(&mut self, pass: &mut Pass<L>, request: Request) -> Told<Served>
+    /// Serves the request of the pass's tenant, and tells whom that concerns. What is left of a search that ends by it may take long
+    /// to drop, so it stands in `remains` until the lock is released. It is large, and isn't moved where there is none.
+    pub(crate) fn serve(
+        &mut self,
+        pass: &mut Pass<L>,
+        request: Request,
+        remains: &mut Option<Remains>,
+    ) -> Told<Served>
         ensures answered { IsAnswered (λ s. s.reply) pass.old pass.new request result }
         ensures suits { IfOk result (λ s. Suits request s.reply) }
         ensures notice { IfOk result (λ s. s.notice ≡ request_concern pass.old.tenant request) }
     {
         let concern = Concern::of_request(pass.tenant(), &request);
-        let (result, remains) = self.ask(pass, request);
+        let result = self.ask(pass, request, remains);
         match result {
             Ok(reply) => Ok(Served {
                 reply,
                 notice: Notice::of(concern),
-                remains,
             }),
             Err(fault) => Err(DeskFault::Hall(fault)),
         }
@@ -203,7 +207,7 @@ impl<L: Naming> Room<L> {
         ensures refused { IsRefused pass.old pass.new (request.Poll number) result }
         ensures seen { IsPrefix self.old.told pass.new.seen }
     {
-        let (result, _none) = self.ask(pass, Request::Poll(number));
+        let result = self.ask(pass, Request::Poll(number), &mut None);
         match result {
             Err(fault) => DeskFault::Hall(fault),
             Ok(reply) => match reply {
@@ -314,20 +318,21 @@ impl<L: Naming> Room<L> {
     }
 }
 
-/// Has the hall serve the request. What is left of a search that ends by it is handed out.
+/// Has the hall serve the request. What is left of a search that ends by it stands in `remains`.
 fn ask_hall(
     hall: &mut Hall,
     who: Entity,
     request: Request,
-) -> (Result<Reply, Fault>, Option<Remains>)
-    ensures served { IsServed hall.old who request (told_as (λ r. r) result.0) hall.new }
+    remains: &mut Option<Remains>,
+) -> Result<Reply, Fault>
+    ensures served { IsServed hall.old who request (told_as (λ r. r) result) hall.new }
 {
     match request {
-        Request::Close(number) => match hall.close(who, number) {
-            Ok(remains) => (Ok(Reply::Closed), Some(remains)),
-            Err(fault) => (Err(fault), None),
-        },
-        other => (hall.ask(who, other), None),
+        Request::Close(number) => {
+            *remains = Some(hall.close(who, number)?);
+            Ok(Reply::Closed)
+        }
+        other => hall.ask(who, other),
     }
 }
 
