@@ -305,7 +305,8 @@ impl<L: Naming> Desk<L> {
 
     /// For a worker: hands in the letters that it holds, and makes steps by which it takes others. It goes on with the
     /// search of its letters, if it may and something is left of that, or with the one that has its turn, once there is
-    /// something to do. Who waits for a search that has come to its end is woken.
+    /// something to do. Who waits for a search that has come to its end is woken. Before it sleeps it gives up the line, so that who
+    /// has that is awake, and goes on with what others hand in.
     pub(crate) fn visit<R: Wait>(
         &self,
         rt: &R,
@@ -313,6 +314,7 @@ impl<L: Naming> Desk<L> {
         may_go_on: bool,
         batch: &mut Batch,
         ends: &mut Ends,
+        line: &mut Option<MutexGuard<'_, ()>>,
     ) -> Visited
         requires looked_up { IsLookedUp batch.old }
         requires space { BATCH ≤ batch.old.room }
@@ -335,6 +337,7 @@ impl<L: Naming> Desk<L> {
             };
         };
         self.tell(ends);
+        *line = None;
         let mut room = self.sleep(rt, room, turn, batch);
         let Visit { next, .. } = room.work(turn, Order::TakeTurn, batch, ends);
         Visited {
@@ -425,13 +428,11 @@ impl<L: Naming> Desk<L> {
         (visit.finished, self.take_line(rt, batch))
     }
 
-    /// Waits for the line. Who does holds no letter, since the one that has it may need that. A worker is woken first, since what
-    /// was handed in may be all that there is to do, and the one that has the line may sleep for want of that.
+    /// Waits for the line. Who does holds no letter, since the one that has it may need that.
     fn take_line<R: Wait>(&self, rt: &R, batch: &Batch) -> MutexGuard<'_, ()>
         requires { IsEmpty batch.now }
     {
         let _none = batch;
-        self.work.notify_one();
         self.line.lock(rt)
     }
 }

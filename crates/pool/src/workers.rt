@@ -91,14 +91,14 @@ fn work_with<L: Naming, G: Gate, R: Wait>(
     let mut finished = 0u64;
     let mut found = Found::Work;
     let mut line = None;
+    let mut before = 0u64;
     'work: for _ in rt.forever() {
-        let before = finished;
         for visit in 0..IN_A_ROW {
             look_up_all(gate, &mut batch);
             if line.is_some() {
                 desk.let_in(rt);
             }
-            let visited = desk.visit(rt, turn, visit > 0, &mut batch, &mut ends);
+            let visited = desk.visit(rt, turn, visit > 0, &mut batch, &mut ends, &mut line);
             finished = finished.saturating_add(visited.finished);
             found = visited.found;
             if found != Found::Work {
@@ -106,7 +106,9 @@ fn work_with<L: Naming, G: Gate, R: Wait>(
             }
         }
         turn = turn.wrapping_add(1);
-        if finished.saturating_sub(before) < IN_A_ROW {
+        let of_row = finished.saturating_sub(before);
+        before = finished;
+        if of_row < IN_A_ROW {
             line = None;
         } else if line.is_none() && !G::MAY_WAIT {
             look_up_all(gate, &mut batch);
