@@ -16,4 +16,5 @@ sum_below f (suc n) = sum_below f n + f n
 
 -- what each name was told of accepted changes is the journal's length, added up over the names that were drawn
 abbrev pub SharesAddUp : Type 0
-SharesAddUp = (drawn : ℕ) (items : List Item) → AreNamed drawn items → sum_below (λ name. accepted_in (own_of name items)) drawn ≡ accepted_in items
+SharesAddUp =
+    (drawn : ℕ) (items : List Item) → AreNamed drawn items → sum_below (λ name. accepted_in (own_of name items)) drawn ≡ accepted_in items

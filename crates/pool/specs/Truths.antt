@@ -31,4 +31,5 @@ HistoriesAgree =
 
 -- a request that reads a search of a sound hall is told something
 abbrev pub ReadsAreTold : Type 0
-ReadsAreTold = (h : HallState) (who : List ℕ) (q : Request) (s : SearchState) → IsSound h → Reads h who q s → (told : Reply) × IsReadOff s q told
+ReadsAreTold =
+    (h : HallState) (who : List ℕ) (q : Request) (s : SearchState) → IsSound h → Reads h who q s → (told : Reply) × IsReadOff s q told

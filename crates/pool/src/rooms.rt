@@ -1,5 +1,6 @@
 //! What lies under the lock of a desk: the hall with the keeper of its history, and the count of the changes of which passes were told.
-ghost use Rattle.std.specs.Prelude.{◌≡◌, ◌↔◌, ◌+◌, ◌<◌, ◌++◌, ◌∷◌, ℕ, true, false, [], length, vec_len, None, option_map, IfSome, IfOk, IfErr, OnOk, OnErr};
+ghost use Rattle.std.specs.Prelude.{◌≡◌, ◌↔◌, ◌+◌, ◌<◌, ◌++◌, ◌∷◌, ℕ, true, false, [], length, vec_len};
+ghost use Rattle.std.specs.Prelude.{None, option_map, IfSome, IfOk, IfErr, OnOk, OnErr};
 ghost use mathlib.Core.List.{IsPrefix};
 ghost use Rattle.std.specs.Arc.{arc_value};
 ghost use Rattle.search.specs.Search.{settled_of};

@@ -55,8 +55,8 @@ pub data IsTold (before : PassState) (form : Form) (reply : List ℕ) (after : P
   carried_out : (command : Command) (told : Result Reply DeskFault) → Reads form (Ok command) →
       IsCarriedOut before after command told → IsToldBy told reply → IsTold before form reply after
 
--- A tenant with its word is let in by a pass of its own, which has made no call, unless memory lacks for that. Any other hello has the one answer, and
--- nothing but a hello lets anyone in.
+-- A tenant with its word is let in by a pass of its own, which has made no call, unless memory lacks for that. Any other hello
+-- has the one answer, and nothing but a hello lets anyone in.
 abbrev pub IsLetIn : List Row → Option (List (List ℕ)) → Result PassState Refusal → Type 0
 IsLetIn rows (Some (name ∷ word ∷ [])) (Ok pass) =
     IsTenant rows name word × (pass.tenant ≡ name) × (own_calls pass ≡ [])
