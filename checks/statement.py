@@ -18,6 +18,7 @@ PAGE = ROOT / "docs" / "STATEMENT.md"
 MARK = "<!-- What follows is made by checks/statement.py. -->\n"
 SCRIPT = ("service/specs/Written.antt", "ScriptWrote")
 SESSION = ("service/specs/Session.antt", "SessionWrote")
+OF_SCRIPT, OF_SESSION = "A script", "A session, beyond that"
 WORD = re.compile(r"[A-Za-z_][\w'-]*(?:\.[A-Za-z_][\w'-]*)*")
 BEGINNING = re.compile(r"(?:unfoldable )?(?:abbrev )?(?:pub )?(record|data)? ?([^\s:({]+)")
 ENGINE = ("scholten_core", "cred_graph", "monitors", "snapshots")
@@ -175,7 +176,7 @@ def count(title, groups):
 
 def check(parts):
     groups = [group for part in parts.values() for group in part]
-    faults = [f"{file.place}: a part of how a search works" for file, _ in groups if file.crate in ENGINE]
+    faults = [f"{file.place}: a part of how a search works" for file, _ in parts[OF_SCRIPT] if file.crate in ENGINE]
     faults += [f"{file.place}: nothing above it says what it is for" for file, _ in groups if not file.heading]
     faults += [f"{file.place}: {d.name} has no comment" for file, definitions in groups for d in definitions if not d.comment]
     if PAGE.read_text() != page(parts):
@@ -189,7 +190,7 @@ def check(parts):
 def main(arguments):
     files = read_all()
     script = unfold(files, SCRIPT)
-    parts = {"A script": by_file(script), "A session, beyond that": by_file(unfold(files, SESSION, script))}
+    parts = {OF_SCRIPT: by_file(script), OF_SESSION: by_file(unfold(files, SESSION, script))}
     if arguments == ["--count"]:
         for title, groups in parts.items():
             count(title, groups)

@@ -31,6 +31,7 @@ use Rattle.search.specs.declared.findings.Monitor.{Monitor}
 use Rattle.search.specs.declared.findings.Monitor.TheVariants as monitor
 pub use Rattle.search.specs.Ending.{asked_role}
 
+-- a search: what it asks, its limit of work, what it reads, what it has found and what its nodes remember, and where it stands
 pub record SearchState : Type 0 where
   pub query : Query
   pub work : ℕ
