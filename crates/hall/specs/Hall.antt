@@ -70,11 +70,12 @@ abbrev pub with_tenant : HallState → List ℕ → (Tenant → Tenant) → Hall
 with_tenant h name change =
     record h { tenants = option_map_or (λ t. insert h.tenants name (change t)) (get h.tenants name) h.tenants }
 
--- the tenant's search of that number, if it has not ended
+-- of one tenant the search of that number, if it has not ended
 abbrev pub search_of : ℕ → Option Tenant → Option Running
 search_of k None = None
 search_of k (Some t) = get t.searches k
 
+-- the tenant's search of that number, if it has not ended
 abbrev pub search_at : HallState → List ℕ → ℕ → Option Running
 search_at h name k = search_of k (get h.tenants name)
 
