@@ -76,11 +76,12 @@ turns_of items = filter is_turn items
 abbrev pub AreTold : List Item → List Told → Type 0
 AreTold items told = AllZip Admits (turns_of items) told
 
--- the journal after the items
+-- the journal after one item
 abbrev pub entered_by : List Entry → Item → List Entry
 entered_by journal (item.Told name who q told) = entered journal (turn who q told)
 entered_by journal _ = journal
 
+-- the journal after the items
 abbrev pub journal_by : List Entry → List Item → List Entry
 journal_by journal [] = journal
 journal_by journal (i ∷ items) = journal_by (entered_by journal i) items
