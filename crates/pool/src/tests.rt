@@ -1,6 +1,9 @@
-//! The numbers and the texts of faults.
-use crate::DeskFault;
+//! The numbers and the texts of faults, and each law of histories.
 use crate::tests_below::is_text;
+use crate::{
+    DeskFault, histories_agree, histories_are_true, histories_go_on, reads_are_told,
+    replies_are_own, sessions_are_runs, shares_add_up,
+};
 use hall::Fault;
 use std::alloc::AllocError;
 
@@ -19,4 +22,15 @@ fn numbers_and_texts(rt: HostRuntime) -> Result<(), AllocError> {
         assert!(rt; fault.number() == *number && is_text(rt.alloc(), fault, text)?);
     }
     Ok(())
+}
+
+#[test]
+fn each_law_of_histories_once() {
+    histories_go_on();
+    histories_are_true();
+    histories_agree();
+    reads_are_told();
+    sessions_are_runs();
+    shares_add_up();
+    replies_are_own();
 }

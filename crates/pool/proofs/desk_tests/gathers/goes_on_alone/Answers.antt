@@ -9,5 +9,5 @@ unfolding IsDistinct
 one_distinct a = (tt, tt)
 
 pub at_a_desk-requires-clause-distinct : goal.at_a_desk-requires-clause-distinct
-at_a_desk-requires-clause-distinct g c =
+at_a_desk-requires-clause-distinct g c κs alive =
     subst (λ (rows : List (List ℕ × Quota)). IsDistinct is_same (map (λ row. row.0) rows)) (sym c.in-Ok-vec.ensures.items) (one_distinct c.in-Ok.a)
