@@ -63,7 +63,8 @@ PLACES = [
     ("service/rosters.rt", "add_row", "ScriptFault::Memory", "rows.push(row).or(Err(", GROWTH),
     ("service/scripts.rt", "run_lines", "ScriptFault::Memory", "let Ok(mut hall) = take_roster(alloc, lines, writer)?.hall(alloc) else", TOLD),
     ("service/serving.rt", "serve", "ServeFault::Memory", "let Ok(mut line) = Room::make(alloc) else", TOLD),
-    ("service/serving.rt", "serve_with", "ServeFault::Memory", "let Ok(desk) = roster.desk::<L>(line.alloc(), blank) else", TOLD),
+    ("service/serving.rt", "serve", "ServeFault::Memory", "let Ok(unnamed) = Unnamed::make(alloc) else", TOLD),
+    ("service/serving.rt", "serve_with", "ServeFault::Memory", "let Ok(desk) = roster.desk::<L>(line.alloc(), unnamed) else", TOLD),
     ("service/serving.rt", "worked_well", "ServeFault::Memory", "match worked: Err(_fault)", TOLD),
     ("service/sessions.rt", "serve_session", "SessionEnd::Memory", "let Ok(mut reply) = Room::make(alloc) else", TOLD),
     ("service/sessions.rt", "serve_session", "SessionEnd::Memory", "let Ok(mut lines) = LineReader::make(alloc, reader) else", TOLD),
@@ -123,6 +124,7 @@ HOLDERS = [
     ("hall/calls/replies.rt", "Reply", "Fault"),
     ("pool/faults.rt", "DeskFault", "Fault"),
     ("pool/faults.rt", "Told", "DeskFault"),
+    ("pool/turns.rt", "Noted", "Fault"),
     ("service/refusals.rt", "Refusal", "CredFault"),
 ]  # fmt: skip
 
