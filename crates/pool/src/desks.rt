@@ -1,5 +1,5 @@
 //! A hall under one lock: passes ask of it, and workers work for it.
-ghost use Rattle.std.specs.Prelude.{◌≡◌, ◌↔◌, ◌+◌, ◌≤◌, false, [], length, map, vec_len, Contains};
+ghost use Rattle.std.specs.Prelude.{◌≡◌, ◌↔◌, ◌+◌, ◌≤◌, false, [], length, map, vec_len, None, Contains};
 ghost use Rattle.std.specs.Prelude.{IfOk, IfErr, IfSome, IfNone, OnOk, OnErr};
 ghost use Rattle.std.specs.List.{IsDistinct};
 ghost use Rattle.std.specs.Sync.Mutex.{mutex_guard_value};
@@ -306,7 +306,7 @@ impl<L: Naming> Desk<L> {
     /// For a worker: hands in the letters that it holds, and makes steps by which it takes others. It goes on with the
     /// search of its letters, if it may and something is left of that, or with the one that has its turn, once there is
     /// something to do. Who waits for a search that has come to its end is woken. Before it sleeps it gives up the line, so that who
-    /// has that is awake, and goes on with what others hand in.
+    /// has it is awake, and goes on with what others hand in.
     pub(crate) fn visit<R: Wait>(
         &self,
         rt: &R,
@@ -338,7 +338,7 @@ impl<L: Naming> Desk<L> {
         };
         self.tell(ends);
         *line = None;
-        let mut room = self.sleep(rt, room, turn, batch);
+        let mut room = self.sleep(rt, room, turn, batch, line);
         let Visit { next, .. } = room.work(turn, Order::TakeTurn, batch, ends);
         Visited {
             finished: visit.finished,
@@ -346,19 +346,23 @@ impl<L: Naming> Desk<L> {
         }
     }
 
-    /// Sleeps until there is something to do, or the desk was stopped. Who does holds no letter.
+    /// Sleeps until there is something to do, or the desk was stopped. Who does holds no letter, and not the line, since nobody is
+    /// woken by who stands in it.
     fn sleep<'a, R: Wait>(
         &'a self,
         rt: &R,
         mut room: MutexGuard<'a, Room<L>>,
         turn: u64,
         batch: &Batch,
+        line: &Option<MutexGuard<'_, ()>>,
     ) -> MutexGuard<'a, Room<L>>
-        requires { IsEmpty batch.now }
+        requires empty { IsEmpty batch.now }
+        requires line { line.now ≡ None }
         ensures busy { IsIdle (mutex_guard_value result) → ⊥ }
         ensures kept { IsKept (mutex_guard_value result) }
     {
         let _none = batch;
+        let _free = line;
         room.falls_asleep();
         let mut room = self.work.wait_while(rt, room, |room| room.is_idle(turn));
         room.wakes_up();
