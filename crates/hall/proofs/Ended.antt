@@ -149,12 +149,16 @@ left_works h name left = by (search_at h name.0 name.1) refl
 -- the one of that name worked
 pub tells_working : (name : Name) (old new : HallState) (before later : List Name) → StillWorks old name → TellsMore (Some name) old new before later →
     TellsMore None old new before later
-tells_working name old new before later works (told, is, ends) = (told, is, record {
-  each = ends.each;
-  were = λ n tells. elim (ends.were n tells) [ inl worked ↦ inl worked | inr same ↦ inl (subst (StillWorks old) (same_Some name n same) works) ];
-  over = ends.over;
-  none_again = ends.none_again;
-})
+tells_working name old new before later works (told, is, ends) = (
+  told,
+  is,
+  record {
+    each = ends.each;
+    were = λ n tells. elim (ends.were n tells) [ inl worked ↦ inl worked | inr same ↦ inl (subst (StillWorks old) (same_Some name n same) works) ];
+    over = ends.over;
+    none_again = ends.none_again;
+  },
+)
 
 pub tells_there : (old new : HallState) (who : List ℕ) (k : ℕ) (r : Running) → search_at old who k ≡ Some r → (s : Running) → (IsUnsettled s.search → IsUnsettled r.search) →
     (standing : Standing) → Stands s.search standing → new ≡ with_search old who k s → (before later : List Name) → later ≡ before ++ told_of standing (who, k) →
