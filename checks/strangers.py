@@ -409,10 +409,11 @@ def listener_of(process):
 
 def lends():
     """Whether the system lends a server's listener."""
-    with Server(ROSTER, 1) as server, server.peer():
+    with Server(ROSTER, 2) as server, server.peer():
         lent = listener_of(server.process)
         if lent is not None:
             lent.close()
+        server.peer().__exit__()
         return lent is not None
 
 
