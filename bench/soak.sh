@@ -10,8 +10,8 @@ requests=${1:-25000}
 [ $# -eq 0 ] || shift
 [ $# -gt 0 ] || set -- 1
 lay_out soak names credential_text rt0_rules quotas vaults snapshots scholten_core cred_graph monitors search proof_trees \
-    hall pool service indexmap smallvec thiserror anyhow
-# how the program names the ledger of its desk
+    hall pool service indexmap smallvec thiserror atomic_table anyhow
+# how the program names the ledger and the history of its desk
 mkdir -p proofs/main
 cp "$root/bench/$program/main.ledger.txt" proofs/main/Invariants.antt
 build

@@ -8,8 +8,8 @@
 
 runs=${1:-3}
 lay_out workers names credential_text rt0_rules quotas vaults snapshots scholten_core cred_graph monitors search proof_trees \
-    hall pool service indexmap thiserror anyhow
-# how the program names the ledger of its desk
+    hall pool service indexmap thiserror atomic_table anyhow
+# how the program names the ledger and the history of its desk
 mkdir -p proofs/main
 cp "$root/bench/$program/main.ledger.txt" proofs/main/Invariants.antt
 load() { cut -d ' ' -f 1 /proc/loadavg; }
