@@ -33,7 +33,9 @@ SHARED = "a growth was refused: that of a count for who shares it, or of the pla
 SAYS = "a conversion: it says what it is given"
 TOLD = "told by the call before, which lacked memory"
 NODES = "a bound of the design: 2^32 nodes have a number"
+ROWS = "a bound of the design: fewer than 2^64 rows are counted"
 PASSES = "a bound of the design: 2^32 passes may be out"
+WORKERS = "a bound of the design: a desk hires fewer than 2^64 workers in its life"
 
 # Where want of memory or `broken` is made: the file, the function, what, what leads there, and why it may be.
 PLACES = [
@@ -44,11 +46,11 @@ PLACES = [
     ("hall/faults.rt", "Fault from AllocFailed::from", "Fault::Memory", "", SAYS),
     ("hall/registry.rt", "Hall::take", "Fault::Memory", "match taken: Err(AllocError)", TOLD),
     ("hall/working.rt", "go_on", "Went::NoMemory", "let Ok(snapshot) = search.snapshot().clone() else", SHARED),
-    ("pool/desks.rt", "Desk::give_back", "Found::NoMemory", "let(found, moves) = match next: Next::NoMemory", TOLD),
+    ("pool/desks.rt", "Desk::give_back", "AllocError", "let(end, is_left) = match next: Next::NoMemory", TOLD),
     ("pool/rooms.rt", "Room::admit", "Fault::Memory", "if self.out == MOST_OUT", PASSES),
-    ("pool/workers.rt", "run_workers", "Fault::Memory", "let Ok(mut handles) = Vec::with_capacity(desk.alloc, n as usize) else", GROWTH),
-    ("pool/workers.rt", "run_workers", "Fault::Memory", "match join_all(rt, handles): Err(AllocError)", TOLD),
-    ("pool/workers.rt", "work_with", "AllocError", "match found: Found::NoMemory", TOLD),
+    ("pool/workers.rt", "run_all", "Fault::Memory", "let Ok(mut handles) = Vec::with_capacity(desk.alloc, n as usize) else", GROWTH),
+    ("pool/workers.rt", "run_all", "Fault::Memory", "let Some(tally) = desk.hire(rt, n) else", WORKERS),
+    ("pool/workers.rt", "run_all", "Fault::Memory", "match join_all(rt, handles): Err(AllocError)", TOLD),
     ("proof_trees/faults.rt", "ProofFault from AllocError::from", "ProofFault::Memory", "", SAYS),
     ("search/findings.rt", "Findings::send", "AllocError", "let Ok(()) = self.outs.push_back((to, load)) else", GROWTH),
     ("search/searches.rt", "Search::receive_held", "NumberedStage::Broken", "match receive(&mut self.found, snapshot, held, looked_up): Err(_refusal)", TOLD),
@@ -66,12 +68,14 @@ PLACES = [
     ("service/serving.rt", "serve", "ServeFault::Memory", "let Ok(unnamed) = Unnamed::make(alloc) else", TOLD),
     ("service/serving.rt", "serve_with", "ServeFault::Memory", "let Ok(desk) = roster.desk::<L>(line.alloc(), unnamed) else", TOLD),
     ("service/serving.rt", "worked_well", "ServeFault::Memory", "match worked: Err(_fault)", TOLD),
-    ("service/sessions.rt", "serve_session", "SessionEnd::Memory", "let Ok(mut reply) = Room::make(alloc) else", TOLD),
-    ("service/sessions.rt", "serve_session", "SessionEnd::Memory", "let Ok(mut lines) = LineReader::make(alloc, reader) else", TOLD),
-    ("service/sessions.rt", "Session::admit", "Refusal::Memory", "Ok(who) if is_known => match self.desk.pass(self.rt, who): Err(_fault)", "a pass is refused to a known name at the bound of passes alone"),
+    ("service/sessions.rt", "answer_session", "SessionEnd::Memory", "let Ok(mut reply) = Room::make(alloc) else", TOLD),
+    ("service/sessions.rt", "answer_session", "SessionEnd::Memory", "let Ok(mut lines) = LineReader::make(alloc, reader) else", TOLD),
+    ("service/sessions.rt", "answer_session", "SessionEnd::Memory", "let Ok(mut out) = Outbox::make(alloc) else", TOLD),
+    ("service/sessions.rt", "Session::let_in", "Refusal::Memory", "match door.let_in(self.rt, who): Err((door, _fault))", "a pass is refused to a known name at the bound of passes alone"),
     ("vaults/entries.rt", "read_subject", "AllocError", "match read_credential(alloc, text): Err(_fault)", TOLD + ": the text is the one that was written"),
     ("vaults/faults.rt", "VaultFault from AllocError::from", "VaultFault::Memory", "", SAYS),
-    ("vaults/versions.rt", "share", "AllocError", "match Arc::new(alloc, Version { rows }): Err(refused)", SHARED),
+    ("vaults/own_rows.rt", "OwnRows::put", "AllocError", "else", ROWS),
+    ("vaults/shared_rows.rt", "part", "AllocError", "match Arc::new(alloc, rest): Err(refused)", SHARED),
 ]  # fmt: skip
 
 # Where room is asked for at once: the file, the function, the call and for how many.
@@ -84,7 +88,7 @@ ROOMS = [
     ("cred_graph/tables.rt", "Tables::add_solution", "reserve(room)"),
     ("hall/batches.rt", "Batch::make", "with_capacity(alloc, room)"),
     ("hall/running.rt", "Hall::run", "with_capacity(self.alloc, events.len())"),
-    ("pool/workers.rt", "run_workers", "with_capacity(desk.alloc, n as usize)"),
+    ("pool/workers.rt", "run_all", "with_capacity(desk.alloc, n as usize)"),
     ("scholten_core/diffusions.rt", "Diffusion::finish_with", "reserve(outs.len())"),
     ("scholten_core/diffusions.rt", "Diffusion::finish_with", "reserve(1)"),
     ("scholten_core/engagement.rt", "make_place", "reserve((count - nodes.len()).max(FEW))"),
@@ -99,12 +103,11 @@ ROOMS = [
     ("search/members.rt", "solutions_in_order", "with_capacity(alloc, count as usize)"),
     ("search/opening.rt", "ask_rows", "reserve(count)"),
     ("service/lines.rt", "LineReader::make", "with_capacity(alloc, KEPT)"),
+    ("service/outboxes.rt", "Outbox::make", "with_capacity(alloc, OUTBOX)"),
     ("service/replies.rt", "Room::make", "with_capacity(alloc, SHORT_REPLY)"),
     ("vaults/journals.rt", "Journal::prepare", "try_reserve(self.room + 2 * row)"),
-    ("vaults/own_rows.rt", "OwnRows::put", "try_reserve(self.count - self.rows.len() + 1)"),
     ("vaults/parting.rt", "halve_full", "try_reserve(1)"),
-    ("vaults/parting.rt", "part_last", "try_reserve(1)"),
-    ("vaults/versions.rt", "Version::clone", "with_capacity(alloc, self.rows.len())"),
+    ("vaults/versions.rt", "starts_in", "with_capacity(alloc, blocks.len())"),
 ]  # fmt: skip
 
 # What the bounds are, and the sizes that are named among the places and rooms: the file, the constant and its value.
@@ -137,10 +140,10 @@ CALLS = [
     ("snapshots/snapshots.rt", "is_vaults_below", "> len owner_passes_below owner_fails_at both"),
     ("snapshots/snapshots.rt", "owner_passes_below", "== is_below"),
     ("snapshots/snapshots.rt", "owner_fails_at", "== len is_below"),
-    ("snapshots/snapshots.rt", "rows_at", "get owner == rows"),
+    ("snapshots/snapshots.rt", "rows_at", "get none owner == rows none"),
     ("snapshots/spans.rt", "is_rows_until", "> len passes_below fails_at both"),
-    ("snapshots/spans.rt", "passes_below", "== passes"),
-    ("snapshots/spans.rt", "fails_at", "== len passes"),
+    ("snapshots/spans.rt", "passes_below", "== passes row"),
+    ("snapshots/spans.rt", "fails_at", "== len passes row"),
     ("snapshots/spans.rt", "both", ""),
     ("snapshots/spans.rt", "Cut::passes", "is_behind credential compare"),
     ("snapshots/spans.rt", "Cut::is_behind", "is_lt is_le"),
@@ -423,7 +426,7 @@ SMALL = [
     ("compares", None, "fn f(e: Error) -> bool { if e.kind() == ErrorKind::OutOfMemory { return true; } g() != Fault::Memory }"),
     ("tells the number", None, "impl Fault { fn number(self) -> u64 { match self { Fault::Memory => 90, Fault::NotHeld => 33 } } }"),
     ("has a contract", None, "fn f() -> Result<(), Fault> ensures { IfErr result (λ f. f ≡ Fault::Memory) } { g() } // Fault::Memory"),
-    ("compares by the count", None, "fn passes_below(p: usize) -> bool { if p == 0 { return true; } s.passes(c, r, p) }"),
+    ("compares by the count", None, "fn passes_below(p: usize) -> bool { if p == 0 { return true; } s.passes(c, r, rows.row(p - 1)) }"),
 ]  # fmt: skip
 
 

@@ -1,11 +1,12 @@
 //! The lists that a reply holds.
 ghost use Rattle.std.specs.Prelude.{◌≡◌};
 ghost use Rattle.vaults.specs.Version.{version_rows};
+ghost use Rattle.vaults.specs.Blocks.{rows_in};
 
 use names::Entity;
 use std::marker::Model;
 use std::sync::Arc;
-use vaults::{Row, Seen, Version};
+use vaults::{Rows as Lent, Seen, Version};
 
 /// Credentials, as a reply tells them: the rows of a vault, which are shared and not copied. Seen as their list.
 #[derive(Drop)]
@@ -31,13 +32,13 @@ impl Rows {
         Rows { version }
     }
 
-    /// The rows, in order.
-    pub fn as_slice(&self) -> &[Row]
-        ensures { result.now ≡ self.now }
+    /// The rows, in order, to be read.
+    pub fn lent(&self) -> Lent<'_>
+        ensures { rows_in result ≡ self.now }
     {
         match &self.version {
             Some(version) => version.rows(),
-            None => &[],
+            None => Lent::none(),
         }
     }
 }

@@ -156,11 +156,11 @@ fn make_step(search: &mut Search, held_letters: &mut Vec<HeldLetter>) -> bool
         search.signal(0);
         return true;
     }
-    let Some(letter) = search.take_number(0) else {
+    let Some((letter, held)) = search.take_held(0) else {
         return false;
     };
     search.kept();
-    note(held_letters, letter, search.rows_needed(letter));
+    note(held_letters, letter, search.rows_for(&held));
     true
 }
 

@@ -1,5 +1,5 @@
 -- The keeper takes a front's seat in, makes one step, and lets it out again.
-use Rattle.std.proofs.Common.{◌≡◌, ◌≢◌, ◌∙◌, ℕ, ◌<◌, true, false, List, [], sym, subst}
+use Rattle.std.proofs.Common.{◌≡◌, ◌∙◌, ℕ, ◌<◌, true, List, [], sym, subst}
 use mathlib.Core.List.{IsPrefix}
 use Rattle.atomic_table.specs.Table.{Me}
 use Rattle.pool.specs.declared.turns.Item.{Item}
@@ -8,12 +8,16 @@ use Rattle.pool.specs.declared.turns.Noted.TheVariants as noted
 use Rattle.pool.specs.declared.seats.Knows.{Knows}
 use Rattle.pool.specs.Fronts.{name_of, own_of}
 use Rattle.pool.specs.Histories.{item_of}
-use Rattle.pool.specs.Rules.{bearing, keeper, adds_under, unnamed, Compares}
+use Rattle.pool.specs.Rules.{keeper, adds_under, unnamed, Compares}
 
 pub name_item : (name : ℕ) (n : Noted) → name_of (item_of name n) ≡ name
 name_item name (noted.Told who q told) = λ _. name
 name_item name (noted.Read who q s) = λ _. name
 name_item name noted.Stopped = λ _. name
+
+-- the keeper that has a front's seat
+abbrev pub bearing : ℕ → List Item → ℕ → List Item → Knows
+bearing drawn all name seen = record (keeper drawn all) { named = true; name = name; seen = seen }
 
 module _ (first joined stepped : Me ℕ Knows) (front : Knows) (f : List Item → List Item)
     (keeps : first ≡ (keeper first.0.drawn first.0.all, [])) (adds : front ≡ adds_under front.name front.seen)
@@ -36,19 +40,3 @@ module _ (first joined stepped : Me ℕ Knows) (front : Knows) (f : List Item �
 -- a seat that is as the keeper's
 pub keeper_itself : (m : Me ℕ Knows) (drawn : ℕ) (all : List Item) → m ≡ (keeper drawn all, []) → m ≡ (keeper m.0.drawn m.0.all, [])
 keeper_itself m drawn all is = is ∙ sym (λ k. (keeper (is k).0.drawn (is k).0.all, []))
-
--- the keeper has a second front's seat too, and lets it out again
-module _ (m1 m2 m3 : Me ℕ Knows) (v : Knows) (second : ℕ) (bears : m1 ≡ (v, [])) (joins : m2 ≡ (record m1.0 { paired = true; second = second }, m1.1)) where
-  pub pairs : m2 ≡ (record v { paired = true; second = second }, [])
-  pairs = joins ∙ (λ k. (record (bears k).0 { paired = true; second = second }, (bears k).1))
-
-  -- what the step told
-  pub parted : m2.0.second ≢ m2.0.name → second ≢ v.name
-  parted told = subst (λ (m : Me ℕ Knows). m.0.second ≢ m.0.name) pairs told
-
-  module _ (steps : m3.0 ≡ m2.0) (idle : m3.1 ≡ m2.1) where
-    pub pairs_still : m3 ≡ (record v { paired = true; second = second }, [])
-    pairs_still = (λ k. (steps k, idle k)) ∙ pairs
-
-    pub alone : (m4 : Me ℕ Knows) → m4 ≡ (record m3.0 { paired = false; second = 0 }, m3.1) → m4 ≡ (record v { paired = false; second = 0 }, [])
-    alone m4 lets = lets ∙ (λ k. (record (pairs_still k).0 { paired = false; second = 0 }, (pairs_still k).1))

@@ -3,7 +3,6 @@ pub mod Prefixes
 pub mod Named
 pub mod Seating
 pub mod Borrowing
-pub mod Started
 pub mod GoOn
 pub mod Admitting
 pub mod Deciding
@@ -15,7 +14,6 @@ pub mod Sharing
 pub mod Served
 pub mod Polled
 pub mod Visiting
-pub mod Joined
 pub mod Lent
 pub mod Told
 pub mod Own

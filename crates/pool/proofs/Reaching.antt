@@ -31,7 +31,7 @@ use Rattle.pool.specs.declared.turns.Noted.TheVariants as noted
 use Rattle.pool.specs.Histories.{AreRuns, journal_by, entered_by, turn, EndsIn, Reads, Admits, is_turn, turns_of, AreTold, IsOpening, IsLegal, Reaches, item_of}
 use Rattle.pool.proofs.GoOn.{serve_on, step_on}
 use Rattle.pool.proofs.Deciding.{reads_admit}
-use Rattle.pool.proofs.Started.{started}
+use Rattle.hall.proofs.laws.ExactRuns.{started}
 
 pub journal_by_append : (journal : List Entry) (xs ys : List Item) → journal_by journal (xs ++ ys) ≡ journal_by (journal_by journal xs) ys
 journal_by_append journal [] ys = refl

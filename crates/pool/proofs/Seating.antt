@@ -9,7 +9,7 @@ use Rattle.atomic_table.proofs.Lists.{at_set}
 use Rattle.pool.specs.declared.turns.Item.{Item}
 use Rattle.pool.specs.declared.seats.Knows.{Knows}
 use Rattle.pool.specs.Fronts.{name_of, own_of}
-use Rattle.pool.specs.Rules.{keeper, bearing, adds_under, gone, unnamed, Fits, IsKept, Adds, Checks, Parts}
+use Rattle.pool.specs.Rules.{keeper, adds_under, gone, unnamed, Fits, IsKept, Adds}
 use Rattle.pool.proofs.Named.{own_other}
 use Rattle.pool.proofs.Prefixes.{prefix_self, prefix_trans}
 
@@ -43,12 +43,12 @@ pub begins : IsKept (keeper 0 [] ∷ [])
 begins = (0, 0, [], (λ _. 0), one)
   where
     one : (by : ℕ) (v : Knows) → get_elem? (keeper 0 [] ∷ []) by ≡ some v → Fits 0 0 [] (λ _. 0) by v
-    one zero v e = subst (Fits 0 0 [] (λ _. 0) 0) (some-injective _ _ e) ((λ _. (refl, refl, refl)), (λ n. absurd (off n)), (λ n. absurd (off n)), nothing [])
+    one zero v e = subst (Fits 0 0 [] (λ _. 0) 0) (some-injective _ _ e) ((λ _. (refl, refl, refl)), (λ n. absurd (off n)), nothing [])
     one (suc by) v e = absurd (some-ne-none v (sym e))
 
 -- a seat of which nothing is said
 fits_gone : (seat drawn : ℕ) (history : List Item) (owner : ℕ → ℕ) (by : ℕ) → Fits seat drawn history owner by gone
-fits_gone seat drawn history owner by = ((λ k. absurd (off k)), (λ n. absurd (off n)), (λ n. absurd (off n)), nothing history)
+fits_gone seat drawn history owner by = ((λ k. absurd (off k)), (λ n. absurd (off n)), nothing history)
 
 -- the owners of names, where one is given to a seat
 given : ℕ → ℕ → (ℕ → ℕ) → ℕ → ℕ
@@ -65,13 +65,12 @@ given_other name by owner n other =
     let bit : (n == name) ≡ false = elim (eqb_tells n name) [ inl e ↦ absurd (other e.1) | inr e ↦ e.0 ] in sym (ap (λ (b : Bool). cond b by (owner n)) bit)
 
 -- a seat keeps its name where another name is given away
-fits_given : (seat drawn : ℕ) (history : List Item) (owner : ℕ → ℕ) (name to : ℕ) (j : ℕ) (u : Knows) → (u.named ≡ true → u.name ≢ name) → (u.paired ≡ true → u.second ≢ name) →
+fits_given : (seat drawn : ℕ) (history : List Item) (owner : ℕ → ℕ) (name to : ℕ) (j : ℕ) (u : Knows) → (u.named ≡ true → u.name ≢ name) →
     Fits seat drawn history owner j u → Fits seat drawn history (given name to owner) j u
-fits_given seat drawn history owner name to j u apart also fits = (
+fits_given seat drawn history owner name to j u apart fits = (
   fits.0,
   (λ n. let has = fits.1 n in (has.0, has.1 ∙ given_other name to owner u.name (apart n), has.2)),
-  (λ n. let has = fits.2 n in (has.0, has.1 ∙ given_other name to owner u.second (also n), has.2)),
-  fits.3,
+  fits.2,
 )
 
 pub adds : (by : ℕ) (v : Knows) (slots : ℕ) (f : ℕ → ℕ) (i : Item) → v.keeps ≡ true → v.named ≡ true → name_of i ≡ v.name →
@@ -100,12 +99,10 @@ adds by v slots f i knows named own s (seat, drawn, history, owner, fits) homes 
                 has_too.2
                     ∙ sym (own_other u.name history i (λ same. apart (has_too.1 ∙ ap owner (sym same ∙ own) ∙ sym has.1))),
               )),
-              theirs.2,
-              prefix_trans u.seen history more theirs.3 (i ∷ [], refl),
+              prefix_trans u.seen history more theirs.2 (i ∷ [], refl),
             )) (
               (λ _. (known.0, known.1, whole)),
               (λ _. (has.0, has.1, ap (own_of v.name) whole)),
-              mine.2,
               subst (λ l. IsPrefix l more) (sym whole) (prefix_self more),
             ),
       ),
@@ -113,40 +110,7 @@ adds by v slots f i knows named own s (seat, drawn, history, owner, fits) homes 
         refl,
         refl,
         (
-          subst (λ l. IsPrefix v.seen l) (sym known.2) mine.3,
-          subst (λ n. v.name < n) (sym known.1) has.0,
-          ap (own_of v.name) known.2 ∙ sym has.2,
-        ),
-      ),
-    )
-
-pub checks : (by : ℕ) (v : Knows) (slots : ℕ) → v.keeps ≡ true → v.named ≡ true →
-    Allows rule slots by (v, []) 0 (λ n. n) (Checks (step slots 0 0 0 none) (v, []))
-checks by v slots knows named s (seat, drawn, history, owner, fits) homes at word =
-    let mine = fits by v at in
-    let known = mine.0 knows in
-    let has = mine.1 named in
-    let w : Knows = record v { seen = v.all } in (
-      w,
-      keeps,
-      tt,
-      (
-        seat,
-        drawn,
-        history,
-        owner,
-        fits_set (Fits seat drawn history owner) s.views by w (λ j u apart e. fits j u e) (
-          (λ _. known),
-          (λ _. (has.0, has.1, ap (own_of v.name) known.2)),
-          mine.2,
-          subst (λ l. IsPrefix l history) (sym known.2) (prefix_self history),
-        ),
-      ),
-      (
-        refl,
-        refl,
-        (
-          subst (λ l. IsPrefix v.seen l) (sym known.2) mine.3,
+          subst (λ l. IsPrefix v.seen l) (sym known.2) mine.2,
           subst (λ n. v.name < n) (sym known.1) has.0,
           ap (own_of v.name) known.2 ∙ sym has.2,
         ),
@@ -169,19 +133,16 @@ draws by drawn all s (seat, n, history, owner, fits) at =
           (λ was. fits_set (Fits seat (n + 1) history holders) s.views by w
           (λ i y apart e'. let theirs = fits i y e' in
           fits_given seat (n + 1) history owner drawn to i y
-          (λ named same. let has = theirs.1 named in omega (arith, has.0, same, known.1))
-          (λ paired same. let has = theirs.2 paired in omega (arith, has.0, same, known.1)) (
+          (λ named same. let has = theirs.1 named in omega (arith, has.0, same, known.1)) (
             (λ k. absurd (apart ((theirs.0 k).0 ∙ sym known.0))),
             (λ named. let has = theirs.1 named in (omega (arith, has.0), has.1, has.2)),
-            (λ paired. let has = theirs.2 paired in (omega (arith, has.0), has.1, has.2)),
-            theirs.3,
+            theirs.2,
           ))
-          ((λ _. (known.0, ap (λ m. m + 1) known.1, known.2)), (λ named. absurd (off named)), (λ paired. absurd (off paired)), nothing history)
+          ((λ _. (known.0, ap (λ m. m + 1) known.1, known.2)), (λ named. absurd (off named)), nothing history)
           j u was)
           (λ same. subst (Fits seat (n + 1) history holders j) same.1 (
             (λ k. absurd (off k)),
             (λ _. (omega (arith, known.1), same.0 ∙ given_same drawn to owner drawn refl, ap (own_of drawn) known.2)),
-            (λ paired. absurd (off paired)),
             subst (λ l. IsPrefix l history) (sym known.2) (prefix_self history),
           ))
           (at_end (set s.views by w) (adds_under drawn all) u j e),
@@ -201,13 +162,11 @@ takes_in by drawn all other name seen s (seat, n, history, owner, fits) at apart
     let holders : ℕ → ℕ = given name by owner in
     let free : (j : ℕ) (y : Knows) → j ≢ other → get_elem? s.views j ≡ some y → y.named ≡ true → y.name ≢ name =
     λ j y else e named same. else (((fits j y e).1 named).1 ∙ ap owner same ∙ sym has.1) in
-    let free_too : (j : ℕ) (y : Knows) → j ≢ other → get_elem? s.views j ≡ some y → y.paired ≡ true → y.second ≢ name =
-    λ j y else e paired same. else (((fits j y e).2 paired).1 ∙ ap owner same ∙ sym has.1) in
     let after : (j : ℕ) (y : Knows) → j ≢ other → get_elem? (set s.views by w) j ≡ some y → Fits seat n history holders j y =
     λ j y else e. ⊎_elim
     (λ (t : (j ≡ by) × (w ≡ y)). subst (λ (z : ℕ × Knows). Fits seat n history holders z.0 z.1) (λ i. (sym t.0 i, t.1 i))
-    ((λ _. known), (λ _. (has.0, given_same name by owner name refl, has.2)), (λ paired. absurd (off paired)), theirs.3))
-    (λ (t : (j ≢ by) × (get_elem? s.views j ≡ some y)). fits_given seat n history owner name by j y (free j y else t.1) (free_too j y else t.1) (fits j y t.1))
+    ((λ _. known), (λ _. (has.0, given_same name by owner name refl, has.2)), theirs.2))
+    (λ (t : (j ≢ by) × (get_elem? s.views j ≡ some y)). fits_given seat n history owner name by j y (free j y else t.1) (fits j y t.1))
     (at_set s.views by j w y e) in
     (seat, n, history, holders, fits_set (Fits seat n history holders) (set s.views by w) other gone after (fits_gone seat n history holders other))
 
@@ -228,88 +187,15 @@ lets_out by v knows named s (seat, n, history, owner, fits) at =
           (λ was. fits_set (Fits seat n history holders) s.views by w
           (λ i y apart e'. fits_given seat n history owner v.name to i y
           (λ holds same. apart (((fits i y e').1 holds).1 ∙ ap owner same ∙ sym has.1))
-          (λ holds same. apart (((fits i y e').2 holds).1 ∙ ap owner same ∙ sym has.1)) (fits i y e'))
-          ((λ _. known), (λ none. absurd (off none)), (λ none. absurd (off none)), nothing history)
+          (fits i y e'))
+          ((λ _. known), (λ none. absurd (off none)), nothing history)
           j u was)
           (λ same. subst (Fits seat n history holders j) same.1 (
             (λ k. absurd (off k)),
             (λ _. (has.0, same.0 ∙ given_same v.name to owner v.name refl, ap (own_of v.name) known.2)),
-            (λ none. absurd (off none)),
             subst (λ l. IsPrefix l history) (sym known.2) (prefix_self history),
           ))
           (at_end (set s.views by w) (adds_under v.name v.all) u j e),
-    )
-
--- the keeper takes a second seat in, with its name
-pub takes_second : (by drawn : ℕ) (all : List Item) (name : ℕ) (seen : List Item) (other second : ℕ) (beheld : List Item) →
-    Joins rule by (bearing drawn all name seen) other (adds_under second beheld) (record (bearing drawn all name seen) { paired = true; second = second }) gone
-takes_second by drawn all name seen other second beheld s (seat, n, history, owner, fits) at apart there =
-    let v : Knows = bearing drawn all name seen in
-    let w : Knows = record v { paired = true; second = second } in
-    let u : Knows = adds_under second beheld in
-    let mine = fits by v at in
-    let mine_has = mine.1 refl in
-    let theirs = ⊎_elim (λ (t : (other ≡ by) × (w ≡ u)). absurd (apart t.0)) (λ (t : (other ≢ by) × (get_elem? s.views other ≡ some u)). fits other u t.1)
-    (at_set s.views by other w u there) in
-    let has = theirs.1 refl in
-    let holders : ℕ → ℕ = given second by owner in
-    let different : second ≢ name = λ same. apart (has.1 ∙ ap owner same ∙ sym mine_has.1) in
-    let free : (j : ℕ) (y : Knows) → j ≢ other → get_elem? s.views j ≡ some y → y.named ≡ true → y.name ≢ second =
-    λ j y else e named same. else (((fits j y e).1 named).1 ∙ ap owner same ∙ sym has.1) in
-    let free_too : (j : ℕ) (y : Knows) → j ≢ other → get_elem? s.views j ≡ some y → y.paired ≡ true → y.second ≢ second =
-    λ j y else e paired same. else (((fits j y e).2 paired).1 ∙ ap owner same ∙ sym has.1) in
-    let after : (j : ℕ) (y : Knows) → j ≢ other → get_elem? (set s.views by w) j ≡ some y → Fits seat n history holders j y =
-    λ j y else e. ⊎_elim
-    (λ (t : (j ≡ by) × (w ≡ y)). subst (λ (z : ℕ × Knows). Fits seat n history holders z.0 z.1) (λ i. (sym t.0 i, t.1 i)) (
-      mine.0,
-      (λ _. (mine_has.0, mine_has.1 ∙ given_other second by owner name (λ same. different (sym same)), mine_has.2)),
-      (λ _. (has.0, given_same second by owner second refl, different)),
-      mine.3,
-    ))
-    (λ (t : (j ≢ by) × (get_elem? s.views j ≡ some y)). fits_given seat n history owner second by j y (free j y else t.1) (free_too j y else t.1) (fits j y t.1))
-    (at_set s.views by j w y e) in
-    (seat, n, history, holders, fits_set (Fits seat n history holders) (set s.views by w) other gone after (fits_gone seat n history holders other))
-
-pub parts : (by : ℕ) (v : Knows) (slots : ℕ) → v.paired ≡ true → Allows rule slots by (v, []) 0 (λ n. n) (Parts (step slots 0 0 0 none) (v, []))
-parts by v slots paired s (seat, drawn, history, owner, fits) homes at word =
-    let mine = fits by v at in (
-      v,
-      keeps,
-      tt,
-      (seat, drawn, history, owner, fits_set (Fits seat drawn history owner) s.views by v (λ j u apart e. fits j u e) mine),
-      (refl, refl, (mine.2 paired).2),
-    )
-
-pub lets_second : (by : ℕ) (v : Knows) → v.keeps ≡ true → v.paired ≡ true → Splits rule by v (record v { paired = false; second = 0 }) (adds_under v.second v.all)
-lets_second by v knows paired s (seat, n, history, owner, fits) at =
-    let w : Knows = record v { paired = false; second = 0 } in
-    let mine = fits by v at in
-    let known = mine.0 knows in
-    let has = mine.2 paired in
-    let to : ℕ = length (set s.views by w) in
-    let holders : ℕ → ℕ = given v.second to owner in (
-      seat,
-      n,
-      history,
-      holders,
-      λ j u e. ⊎_elim
-          (λ was. fits_set (Fits seat n history holders) s.views by w
-          (λ i y apart e'. fits_given seat n history owner v.second to i y
-          (λ holds same. apart (((fits i y e').1 holds).1 ∙ ap owner same ∙ sym has.1))
-          (λ holds same. apart (((fits i y e').2 holds).1 ∙ ap owner same ∙ sym has.1)) (fits i y e')) (
-            mine.0,
-            (λ named. let mine_has = mine.1 named in (mine_has.0, mine_has.1 ∙ given_other v.second to owner v.name (λ same. has.2 (sym same)), mine_has.2)),
-            (λ none. absurd (off none)),
-            mine.3,
-          )
-          j u was)
-          (λ same. subst (Fits seat n history holders j) same.1 (
-            (λ k. absurd (off k)),
-            (λ _. (has.0, same.0 ∙ given_same v.second to owner v.second refl, ap (own_of v.second) known.2)),
-            (λ none. absurd (off none)),
-            subst (λ l. IsPrefix l history) (sym known.2) (prefix_self history),
-          ))
-          (at_end (set s.views by w) (adds_under v.second v.all) u j e),
     )
 
 -- the moves, at a seat that is known
@@ -326,18 +212,3 @@ pub adds_as : (by : ℕ) (me : Me ℕ Knows) (slots : ℕ) (f : ℕ → ℕ) (i 
     Allows rule slots by me 0 f (Adds i (step slots 0 0 0 none) me)
 adds_as by me slots f i knows named own idle =
     subst (λ (c : List (ℕ × ℕ)). Allows rule slots by (me.0, c) 0 f (Adds i (step slots 0 0 0 none) (me.0, c))) (sym idle) (adds by me.0 slots f i knows named own)
-
-pub checks_as : (by : ℕ) (me : Me ℕ Knows) (slots : ℕ) → me.0.keeps ≡ true → me.0.named ≡ true → me.1 ≡ [] →
-    Allows rule slots by me 0 (λ n. n) (Checks (step slots 0 0 0 none) me)
-checks_as by me slots knows named idle =
-    subst (λ (c : List (ℕ × ℕ)). Allows rule slots by (me.0, c) 0 (λ n. n) (Checks (step slots 0 0 0 none) (me.0, c))) (sym idle) (checks by me.0 slots knows named)
-
-pub takes_second_as : (by : ℕ) (v : Knows) (drawn : ℕ) (all : List Item) (name : ℕ) (seen : List Item) (other : ℕ) (u : Knows) → v ≡ bearing drawn all name seen →
-    u ≡ adds_under u.name u.seen → Joins rule by v other u (record v { paired = true; second = u.name }) gone
-takes_second_as by v drawn all name seen other u is front =
-    subst (λ (x : Knows × Knows). Joins rule by x.0 other x.1 (record x.0 { paired = true; second = x.1.name }) gone)
-    (λ i. (sym is i, sym front i)) (takes_second by drawn all name seen other u.name u.seen)
-
-pub parts_as : (by : ℕ) (me : Me ℕ Knows) (slots : ℕ) → me.0.paired ≡ true → me.1 ≡ [] → Allows rule slots by me 0 (λ n. n) (Parts (step slots 0 0 0 none) me)
-parts_as by me slots paired idle =
-    subst (λ (c : List (ℕ × ℕ)). Allows rule slots by (me.0, c) 0 (λ n. n) (Parts (step slots 0 0 0 none) (me.0, c))) (sym idle) (parts by me.0 slots paired)

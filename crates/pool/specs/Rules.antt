@@ -1,5 +1,5 @@
 -- What a seat of the history knows, and what its steps tell.
-use Rattle.std.specs.Prelude.{◌≡◌, ◌≢◌, ◌<◌, ◌≤◌, ℕ, true, false, List, [], ◌∷◌, ◌++◌}
+use Rattle.std.specs.Prelude.{◌≡◌, ◌<◌, ◌≤◌, ℕ, true, false, List, [], ◌∷◌, ◌++◌}
 use mathlib.Core.List.{IsPrefix}
 use mathlib.Core.Option.{some}
 use lib.ListN.{get_elem?}
@@ -12,11 +12,12 @@ use Rattle.hall.specs.declared.calls.replies.Reply.TheVariants.{Closed}
 use Rattle.pool.specs.declared.seats.Knows.{Knows}
 use Rattle.pool.specs.Fronts.{own_of}
 
--- what names the ledger and the history of a desk
+-- what names the ledgers and the history of a desk
 pub record Names : Type 0 where
   pub ledger : ℕ
   pub parts : ℕ
   pub table : TableId
+  pub letters : ℕ
 
 -- the name of no table
 abbrev pub no_table : TableId
@@ -24,38 +25,25 @@ no_table = record { words = 0; slots = 0; views_name = 0; atom = 0; block = 0; o
 
 -- the seat that knows all that was told, and how many names were drawn
 abbrev pub keeper : ℕ → List Item → Knows
-keeper drawn all = record { keeps = true; drawn = drawn; all = all; named = false; name = 0; seen = []; paired = false; second = 0 }
-
--- the keeper that has a front's seat
-abbrev pub bearing : ℕ → List Item → ℕ → List Item → Knows
-bearing drawn all name seen = record (keeper drawn all) { named = true; name = name; seen = seen }
+keeper drawn all = record { keeps = true; drawn = drawn; all = all; named = false; name = 0; seen = [] }
 
 -- a seat that adds under a name, and has seen a beginning
 abbrev pub adds_under : ℕ → List Item → Knows
-adds_under name seen = record { keeps = false; drawn = 0; all = []; named = true; name = name; seen = seen; paired = false; second = 0 }
+adds_under name seen = record { keeps = false; drawn = 0; all = []; named = true; name = name; seen = seen }
 
 -- a seat that knows nothing any more
 abbrev pub gone : Knows
-gone = record { keeps = false; drawn = 0; all = []; named = false; name = 0; seen = []; paired = false; second = 0 }
+gone = record { keeps = false; drawn = 0; all = []; named = false; name = 0; seen = [] }
 
 -- a seat that adds under no name from now on
 abbrev pub unnamed : Knows → Knows
-unnamed v = record v { named = false; name = 0; seen = []; paired = false; second = 0 }
+unnamed v = record v { named = false; name = 0; seen = [] }
 
--- a name that was drawn is of one seat at most, and that has seen all items of it
-abbrev pub HasName : ℕ → List Item → (ℕ → ℕ) → ℕ → Knows → Type 0
-HasName drawn history owner by v = (v.name < drawn) × (by ≡ owner v.name) × (own_of v.name v.seen ≡ own_of v.name history)
-
--- a second name that the seat has is another, and of no other seat
-abbrev pub HasSecond : ℕ → (ℕ → ℕ) → ℕ → Knows → Type 0
-HasSecond drawn owner by v = (v.second < drawn) × (by ≡ owner v.second) × (v.second ≢ v.name)
-
--- what the rule says of one seat
+-- what the rule says of one seat: a name that was drawn is of one seat at most, and that has seen all items of it
 abbrev pub Fits : ℕ → ℕ → List Item → (ℕ → ℕ) → ℕ → Knows → Type 0
 Fits seat drawn history owner by v =
     (v.keeps ≡ true → (by ≡ seat) × (v.drawn ≡ drawn) × (v.all ≡ history))
-    × (v.named ≡ true → HasName drawn history owner by v)
-    × (v.paired ≡ true → HasSecond drawn owner by v)
+    × (v.named ≡ true → (v.name < drawn) × (by ≡ owner v.name) × (own_of v.name v.seen ≡ own_of v.name history))
     × IsPrefix v.seen history
 
 -- one seat at most knows the whole history, all others have seen beginnings of it, and each adds under a name of its own
@@ -79,11 +67,3 @@ Compares v = IsPrefix v.seen v.all × (v.name < v.drawn) × (own_of v.name v.all
 -- the keeper compares, and adds an item
 abbrev pub Adds : Item → Step ℕ → Me ℕ Knows → ℕ → Me ℕ Knows → Type 0
 Adds i s v found w = (w.0 ≡ record v.0 { all = v.0.all ++ i ∷ []; seen = v.0.all ++ i ∷ [] }) × (w.1 ≡ v.1) × Compares v.0
-
--- the keeper compares
-abbrev pub Checks : Step ℕ → Me ℕ Knows → ℕ → Me ℕ Knows → Type 0
-Checks s v found w = (w.0 ≡ record v.0 { seen = v.0.all }) × (w.1 ≡ v.1) × Compares v.0
-
--- the keeper compares its two names
-abbrev pub Parts : Step ℕ → Me ℕ Knows → ℕ → Me ℕ Knows → Type 0
-Parts s v found w = (w.0 ≡ v.0) × (w.1 ≡ v.1) × (v.0.second ≢ v.0.name)

@@ -1,5 +1,5 @@
 //! A hall under one lock: passes ask of it, and workers work for it.
-ghost use Rattle.std.specs.Prelude.{◌≡◌, ◌↔◌, ◌+◌, ◌≤◌, false, [], length, map, vec_len, None, Contains};
+ghost use Rattle.std.specs.Prelude.{◌≡◌, ◌↔◌, ◌+◌, ◌<◌, ◌≤◌, true, false, [], length, map, vec_len, None, Contains};
 ghost use Rattle.std.specs.Prelude.{IfOk, IfErr, IfSome, IfNone, OnOk, OnErr};
 ghost use Rattle.std.specs.List.{IsDistinct};
 ghost use Rattle.std.specs.Sync.Mutex.{mutex_guard_value};
@@ -11,21 +11,20 @@ ghost use Rattle.pool.specs.Passes.{own_calls, front_of, shares_of};
 ghost use Rattle.pool.specs.Rooms.{IsKept, IsIdle};
 ghost use Rattle.pool.specs.Refusals.{IsPassRefusal};
 ghost use Rattle.pool.specs.Served.{IsAnswered, Suits, IsPolled, IsPolledIn, IsWaited};
-ghost use Rattle.pool.specs.Workers.{IsFound, IsHandIn, found_by};
+ghost use Rattle.pool.specs.Workers.{IsEndBy, IsLeftBy, HasEnded};
 
 use crate::bells::Bells;
 use crate::faults::{DeskFault, Told};
-use crate::keepers::{Naming, Unnamed};
+use crate::keepers::{Front, Naming, Unnamed};
 use crate::passes::Pass;
 use crate::rooms::{Room, Served, read_off, verdict_on};
+use crate::tallies::Tally;
 use crate::verdicts::{Gathered, Ticket, Verdict};
-use crate::visits::{BATCH, Found, Visited};
-use hall::{
-    Batch, Ends, Fault, Hall, Next, Order, Proof, Query, Reply, Request, Rows, Sights, Visit,
-};
+use crate::visits::BATCH;
+use hall::{Batch, Ends, Fault, Hall, Next, Order, Proof, Query, Reply, Request, Rows, Sights};
 use names::Entity;
 use quotas::Limits;
-use std::alloc::Global;
+use std::alloc::{AllocError, Global};
 use std::marker::Model;
 use std::sync::{Condvar, Mutex, MutexGuard, Wait};
 use std::thread;
@@ -83,7 +82,7 @@ impl<L: Naming> Desk<L> {
     ) -> Result<Desk<L>, Fault>
         requires roster { roster.items ≡ L.roster }
         requires distinct { IsDistinct is_same (map (λ row. row.0) roster.items) }
-        requires named { unnamed ≡ record { ledger = L.name; parts = L.parts; table = L.table } }
+        requires named { unnamed ≡ record { ledger = L.name; parts = L.parts; table = L.table; letters = L.letters } }
         ensures tenants { IfOk result (λ desk. desk ≡ map (λ row. row.0) roster.items) }
         ensures only_memory { IfErr result (λ f. f ≡ Fault.Memory) }
     {
@@ -303,10 +302,17 @@ impl<L: Naming> Desk<L> {
         notice.ring(&self.over, &self.work);
     }
 
+    /// The tally of so many workers that are to run.
+    pub(crate) fn hire<R: Wait>(&self, rt: &R, workers: u64) -> Option<Tally<L>>
+        ensures { IfSome result (λ tally. tally ≡ record { workers = workers; letters = 0 }) }
+    {
+        self.enter(rt).crew.hire(workers)
+    }
+
     /// For a worker: hands in the letters that it holds, and makes steps by which it takes others. It goes on with the
     /// search of its letters, if it may and something is left of that, or with the one that has its turn, once there is
     /// something to do. Who waits for a search that has come to its end is woken. Before it sleeps it gives up the line, so that who
-    /// has it is awake, and goes on with what others hand in.
+    /// has it is awake, and goes on with what others hand in. Where it is to end it has seen a stop, or memory lacked.
     pub(crate) fn visit<R: Wait>(
         &self,
         rt: &R,
@@ -315,13 +321,16 @@ impl<L: Naming> Desk<L> {
         batch: &mut Batch,
         ends: &mut Ends,
         line: &mut Option<MutexGuard<'_, ()>>,
-    ) -> Visited
+        tally: &mut Tally<L>,
+    ) -> Result<Option<Front<L>>, AllocError>
         requires looked_up { IsLookedUp batch.old }
         requires space { BATCH ≤ batch.old.room }
         requires told { ends.old ≡ [] }
-        ensures handed_in { IsHandIn batch.old result.finished }
-        ensures found { IsFound batch.old.room result.found batch.new }
+        requires worker { 0 < tally.old.workers }
+        ensures left { IsLeftBy result batch.new }
+        ensures space { batch.new.room ≡ batch.old.room }
         ensures told { ends.new ≡ [] }
+        ensures worker { tally.new.workers ≡ tally.old.workers }
     {
         let order = if may_go_on {
             Order::GoOn
@@ -329,21 +338,15 @@ impl<L: Naming> Desk<L> {
             Order::TakeTurn
         };
         let mut room = self.enter_after(rt, TRIES);
-        let visit = room.work(turn, order, batch, ends);
+        let visit = room.work(turn, order, batch, ends, tally);
         let Next::Idle = visit.next else {
-            return Visited {
-                finished: visit.finished,
-                found: self.give_back(room, turn, visit.next, ends),
-            };
+            return self.give_back(room, turn, visit.next, ends);
         };
         self.tell(ends);
         *line = None;
         let mut room = self.sleep(rt, room, turn, batch, line);
-        let Visit { next, .. } = room.work(turn, Order::TakeTurn, batch, ends);
-        Visited {
-            finished: visit.finished,
-            found: self.give_back(room, turn, next, ends),
-        }
+        let visit = room.work(turn, Order::TakeTurn, batch, ends, tally);
+        self.give_back(room, turn, visit.next, ends)
     }
 
     /// Sleeps until there is something to do, or the desk was stopped. Who does holds no letter, and not the line, since nobody is
@@ -371,24 +374,27 @@ impl<L: Naming> Desk<L> {
     }
 
     /// Gives the lock back after a visit that went on so. Wakes who waits for a search that has come to its end, and one worker
-    /// more if one sleeps and something is left.
+    /// more if one sleeps and something is left. What the worker has seen of the history where it is to end.
     #[inline(always)]
     fn give_back(
         &self,
-        room: MutexGuard<'_, Room<L>>,
+        mut room: MutexGuard<'_, Room<L>>,
         turn: u64,
         next: Next,
         ends: &mut Ends,
-    ) -> Found
-        ensures found { result ≡ found_by next }
+    ) -> Result<Option<Front<L>>, AllocError>
+        requires { HasEnded next → (mutex_guard_value room).stopped ≡ true }
+        ensures end { IsEndBy next result }
         ensures told { ends.new ≡ [] }
     {
-        let (found, moves) = match next {
-            Next::Worked { left } => (Found::Work, left),
-            Next::NoMemory => (Found::NoMemory, false),
-            Next::Idle | Next::Unasked => (Found::Stopped, false),
+        let (end, is_left) = match next {
+            Next::Worked { left } => (
+                Ok(None),
+                room.has_sleepers() && (left || !room.is_idle(turn)),
+            ),
+            Next::NoMemory => (Err(AllocError), false),
+            Next::Idle | Next::Unasked => (Ok(Some(room.stop_seen())), false),
         };
-        let is_left = found == Found::Work && room.has_sleepers() && (moves || !room.is_idle(turn));
         drop(room);
         if is_left {
             self.work.notify_one();
@@ -396,7 +402,7 @@ impl<L: Naming> Desk<L> {
         if !ends.is_empty() {
             self.tell(ends);
         }
-        found
+        end
     }
 
     /// Wakes who waits for these searches.
@@ -410,26 +416,28 @@ impl<L: Naming> Desk<L> {
     }
 
     /// For a worker that finishes a letter in each visit, where no gate may wait: it hands in what it holds, and goes on alone once
-    /// the one that has the line gives it up. Answers how many letters are finished too.
+    /// the one that has the line gives it up.
     pub(crate) fn stand_in_line<R: Wait>(
         &self,
         rt: &R,
         batch: &mut Batch,
         ends: &mut Ends,
-    ) -> (u64, MutexGuard<'_, ()>)
+        tally: &mut Tally<L>,
+    ) -> MutexGuard<'_, ()>
         requires looked_up { IsLookedUp batch.old }
         requires space { BATCH ≤ batch.old.room }
         requires told { ends.old ≡ [] }
-        ensures handed_in { IsHandIn batch.old result.0 }
+        requires worker { 0 < tally.old.workers }
         ensures empty { IsEmpty batch.new }
         ensures space { batch.new.room ≡ batch.old.room }
         ensures told { ends.new ≡ [] }
+        ensures worker { tally.new.workers ≡ tally.old.workers }
     {
-        let visit = self
+        let _visit = self
             .enter_after(rt, TRIES)
-            .work(0, Order::HandIn, batch, ends);
+            .work(0, Order::HandIn, batch, ends, tally);
         self.tell(ends);
-        (visit.finished, self.take_line(rt, batch))
+        self.take_line(rt, batch)
     }
 
     /// Waits for the line. Who does holds no letter, since the one that has it may need that.

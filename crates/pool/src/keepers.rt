@@ -1,10 +1,11 @@
 //! The one history of a desk: who keeps it, and who has seen a beginning of it.
-ghost use Rattle.std.specs.Prelude.{ℕ, ◌≡◌, ◌≢◌, ◌++◌, ◌∷◌, []};
+ghost use Rattle.std.specs.Prelude.{ℕ, ◌≡◌, ◌-◌, ◌^◌, ◌++◌, ◌∷◌, []};
 ghost use mathlib.Core.List.{IsPrefix};
 ghost use Rattle.pool.specs.Fronts.{own_of, own_items};
 ghost use Rattle.pool.specs.Histories.{IsLegal, item_of};
 
-use crate::seats::{Add, Borrowed, Check, Fresh, Knows, Law, Part, Second, Telling};
+use crate::seats::{Add, Borrowed, Fresh, Knows, Law, Telling};
+use crate::tallies;
 use crate::turns::Noted;
 use atomic_table::{Seat, Table};
 use std::alloc::{AllocError, Global};
@@ -20,6 +21,8 @@ pub trait Naming: Ledger {
 
     ghost table: { TableId };
 
+    ghost letters: { ℕ };
+
     ghost roster: { List (List ℕ × Quota) };
 }
 
@@ -29,34 +32,43 @@ impl Naming for Brand {
 
     ghost table = { no_table };
 
+    ghost letters = { 0 };
+
     ghost roster = { [] };
 }
 
 /// How many parts the ledger of a desk has: one for each pass that may be out, and one that stays.
 const PARTS: u64 = (1 << 32) + 1;
 
-/// A history in which nothing stands and a ledger in which nothing is counted, which have no name yet. Contracts see what names
-/// them.
+/// A history in which nothing stands and ledgers in which nothing is counted, of accepted changes and of finished letters, which
+/// have no name yet. Contracts see what names them.
 #[derive(Drop)]
 pub struct Unnamed {
     table: Table<u8, Knows, (), Law, Global>,
     seat: Seat<u8, Knows>,
     blank: Blank,
+    letters: Blank,
 }
 
 impl Model for Unnamed {
-    ghost use Rattle.std.specs.Prelude.{◌≡◌, ◌+◌, ◌^◌, []};
+    ghost use Rattle.std.specs.Prelude.{◌≡◌, ◌+◌, ◌-◌, ◌^◌, []};
     ghost use Rattle.pool.specs.Rules.{Names, keeper};
 
     ghost Value = { Names };
 
-    ghost view = { λ u. record { ledger = u.blank.name; parts = u.blank.parts; table = u.table.shared.table_id } };
+    ghost view = { λ u. record {
+      ledger = u.blank.name;
+      parts = u.blank.parts;
+      table = u.table.shared.table_id;
+      letters = u.letters.name;
+    } };
 
     ghost invariant = { λ u.
         (u.seat.table_id ≡ u.table.shared.table_id)
         × (u.table.shared.table_id.words ≡ 1)
         × (u.seat.me ≡ (keeper 0 [], []))
-        × (u.blank.parts ≡ 2 ^ 32 + 1) };
+        × (u.blank.parts ≡ 2 ^ 32 + 1)
+        × (u.letters.parts ≡ 2 ^ 64 - 1) };
 }
 
 impl Unnamed {
@@ -67,22 +79,29 @@ impl Unnamed {
             table,
             seat,
             blank: Blank::new(PARTS),
+            letters: Blank::new(tallies::PARTS),
         })
     }
 
-    /// The keeper of the history and the ledger, under a name.
-    pub(crate) fn named<J: Naming>(self) -> (Keeper<J>, Blank)
-        requires { self ≡ record { ledger = J.name; parts = J.parts; table = J.table } }
+    /// The keeper of the history and the ledgers, under a name.
+    pub(crate) fn named<J: Naming>(self) -> (Keeper<J>, Blank, Blank)
+        requires { self ≡ record { ledger = J.name; parts = J.parts; table = J.table; letters = J.letters } }
         ensures keeper { result.0 ≡ [] }
         ensures ledger { (result.1.name ≡ J.name) × (result.1.parts ≡ J.parts) × (result.1.parts ≡ PARTS) }
+        ensures letters { (result.2.name ≡ J.letters) × (result.2.parts ≡ 2 ^ 64 - 1) }
     {
-        let Unnamed { table, seat, blank } = self;
+        let Unnamed {
+            table,
+            seat,
+            blank,
+            letters,
+        } = self;
         let keeper = Keeper {
             table,
             seat,
             of: PhantomData,
         };
-        (keeper, blank)
+        (keeper, blank, letters)
     }
 }
 
@@ -162,69 +181,6 @@ impl<J: Naming> Keeper<J> {
             seat,
             of: PhantomData,
         }
-    }
-
-    /// Shows all to a front, which had seen a beginning of it, with all items that it added.
-    pub fn show(&mut self, front: &mut Front<J>)
-        ensures began { IsPrefix front.old.seen self.old }
-        ensures own { own_items front.new ≡ own_items front.old }
-        ensures front { front.new ≡ record front.old { seen = self.old } }
-        ensures same { self.new ≡ self.old }
-    {
-        let other = self.front();
-        let Front { seat, of: _ } = mem::replace(front, other);
-        let table = &self.table;
-        table.shared.join_seat::<Borrowed>(&mut self.seat, seat);
-        let _word = table.shared.load::<Check>(&mut self.seat, 0);
-        let seat = table.shared.split_seat::<Borrowed>(&mut self.seat);
-        *front = Front {
-            seat,
-            of: PhantomData,
-        };
-    }
-
-    /// Shows all to two fronts. What both had seen stands in it, and their names differ.
-    pub fn meet(&mut self, one: &mut Front<J>, other: &mut Front<J>)
-        ensures began { IsPrefix one.old.seen self.old × IsPrefix other.old.seen self.old }
-        ensures own { (own_items one.new ≡ own_items one.old) × (own_items other.new ≡ own_items other.old) }
-        ensures one { one.new ≡ record one.old { seen = self.old } }
-        ensures other { other.new ≡ record other.old { seen = self.old } }
-        ensures apart { one.old.name ≢ other.old.name }
-        ensures same { self.new ≡ self.old }
-    {
-        self.show(one);
-        self.show(other);
-        self.part(one, other);
-    }
-
-    /// Two fronts have two names.
-    fn part(&mut self, one: &mut Front<J>, other: &mut Front<J>)
-        ensures one { one.new ≡ record one.old { seen = self.old } }
-        ensures other { other.new ≡ record other.old { seen = self.old } }
-        ensures apart { one.old.name ≢ other.old.name }
-        ensures same { self.new ≡ self.old }
-    {
-        let spare = self.front();
-        let Front { seat: first, of: _ } = mem::replace(one, spare);
-        let spare = self.front();
-        let Front {
-            seat: second,
-            of: _,
-        } = mem::replace(other, spare);
-        let table = &self.table;
-        table.shared.join_seat::<Borrowed>(&mut self.seat, first);
-        table.shared.join_seat::<Second>(&mut self.seat, second);
-        let _word = table.shared.load::<Part>(&mut self.seat, 0);
-        let second = table.shared.split_seat::<Second>(&mut self.seat);
-        let first = table.shared.split_seat::<Borrowed>(&mut self.seat);
-        *one = Front {
-            seat: first,
-            of: PhantomData,
-        };
-        *other = Front {
-            seat: second,
-            of: PhantomData,
-        };
     }
 
     /// Goes on by what was noted, under the name of the front, and shows all to it. It had seen a beginning of what was there

@@ -20,6 +20,7 @@ mod notices;
 mod passes;
 mod rooms;
 mod seats;
+mod tallies;
 #[cfg(test)]
 mod tests;
 #[cfg(test)]

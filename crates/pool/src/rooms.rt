@@ -9,15 +9,17 @@ ghost use Rattle.hall.specs.declared.calls.requests.Request.TheVariants as reque
 ghost use Rattle.hall.specs.Hall.{IsServed, new_hall, search_at, told_as};
 ghost use Rattle.pool.specs.declared.turns.Item.TheVariants as item;
 ghost use Rattle.pool.specs.Passes.{own_calls, share_of, shares_of};
+ghost use Rattle.pool.specs.Fronts.{HasStop};
 ghost use Rattle.pool.specs.Rooms.{IsKept};
 ghost use Rattle.pool.specs.Notices.{request_concern};
 ghost use Rattle.pool.specs.Served.{IsAnswered, IsTold, IsRefused, Suits, IsLent, IsReadAs, IsPolledIn, IsVerdictOn, GoesOnWaiting};
 ghost use Rattle.pool.specs.Verdicts.{IsTrueWhereCompleted, rows_read};
 
 use crate::faults::{DeskFault, Told};
-use crate::keepers::{Keeper, Naming, Unnamed};
+use crate::keepers::{Front, Keeper, Naming, Unnamed};
 use crate::notices::{Concern, Notice};
 use crate::passes::Pass;
+use crate::tallies::Crew;
 use crate::turns::Noted;
 use crate::verdicts::{Gathered, Verdict};
 use hall::{Fault, Hall, Remains, Reply, Request, proof_of, told_of};
@@ -40,13 +42,15 @@ pub(crate) struct Served {
 }
 
 /// The hall, the keeper of all that was told, the ledger of accepted changes, and what stands of it with no pass that is out.
-/// And how many workers wait for something to do, so that nobody is woken where none sleeps; contracts don't see that.
+/// And the crew, and how many workers wait for something to do, so that nobody is woken where none sleeps; contracts don't
+/// see these.
 #[derive(Drop)]
 pub(crate) struct Room<L: Naming> {
     pub(crate) hall: Hall,
     keeper: Keeper<L>,
     book: Book<L>,
     rest: Share<L>,
+    pub(crate) crew: Crew<L>,
     out: u64,
     left: u64,
     pub(crate) stopped: bool,
@@ -91,16 +95,17 @@ impl<L: Naming> Room<L> {
     /// The room of a new hall, of which nothing was told yet, and where no pass is out.
     pub(crate) fn new(hall: Hall, unnamed: Unnamed) -> Room<L>
         requires hall { hall ≡ new_hall L.roster }
-        requires named { unnamed ≡ record { ledger = L.name; parts = L.parts; table = L.table } }
+        requires named { unnamed ≡ record { ledger = L.name; parts = L.parts; table = L.table; letters = L.letters } }
         ensures { result ≡ record { hall = hall; told = []; accepted = 0; out = 0; left = 0; stopped = false } }
     {
-        let (keeper, blank) = unnamed.named::<L>();
+        let (keeper, blank, letters) = unnamed.named::<L>();
         let (book, rest) = blank.open::<L>();
         Room {
             hall,
             keeper,
             book,
             rest,
+            crew: Crew::new(letters),
             out: 0,
             left: 0,
             stopped: false,
@@ -303,6 +308,15 @@ impl<L: Naming> Room<L> {
     /// Whether a worker sleeps.
     pub(crate) fn has_sleepers(&self) -> bool {
         self.asleep != 0
+    }
+
+    /// All that was told, which has the stop.
+    pub(crate) fn stop_seen(&mut self) -> Front<L>
+        requires { self.old.stopped ≡ true }
+        ensures stop { HasStop result.seen }
+        ensures same { self.new ≡ self.old }
+    {
+        self.keeper.front()
     }
 
     /// No worker goes on from now on, and no caller waits, which concerns everybody. The stop is told under a name of its own.

@@ -12,8 +12,6 @@ pub struct Knows {
     pub named: bool,
     pub name: u64,
     pub seen: LinkedList<Item>,
-    pub paired: bool,
-    pub second: u64,
 }
 
 /// One seat at most knows the whole history.
@@ -50,15 +48,6 @@ impl<T: Telling> Play<u8, Knows> for Add<T> {
     ghost then = { Adds T.item };
 }
 
-/// The keeper compares a beginning with all.
-pub struct Check;
-
-impl Play<u8, Knows> for Check {
-    ghost use Rattle.pool.specs.Rules.{Checks};
-
-    ghost then = { Checks };
-}
-
 /// A seat with a fresh name that has seen all.
 pub struct Fresh;
 
@@ -88,34 +77,4 @@ impl Split<Knows> for Borrowed {
     ghost left = { unnamed };
 
     ghost right = { λ v. adds_under v.name v.all };
-}
-
-/// The keeper takes a second seat in, with its name; and that goes out again, and has seen all.
-pub struct Second;
-
-impl Join<Knows> for Second {
-    ghost use Rattle.std.specs.Prelude.{true};
-    ghost use Rattle.pool.specs.Rules.{gone};
-
-    ghost both = { λ v w. record v { paired = true; second = w.name } };
-
-    ghost spent = { gone };
-}
-
-impl Split<Knows> for Second {
-    ghost use Rattle.std.specs.Prelude.{false};
-    ghost use Rattle.pool.specs.Rules.{adds_under};
-
-    ghost left = { λ v. record v { paired = false; second = 0 } };
-
-    ghost right = { λ v. adds_under v.second v.all };
-}
-
-/// The keeper compares its two names.
-pub struct Part;
-
-impl Play<u8, Knows> for Part {
-    ghost use Rattle.pool.specs.Rules.{Parts};
-
-    ghost then = { Parts };
 }

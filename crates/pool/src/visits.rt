@@ -1,36 +1,17 @@
 //! What a worker does when it has the lock.
-ghost use Rattle.std.specs.Prelude.{◌≡◌, ◌≤◌, ◌↔◌, [], IsTrue, option_map};
+ghost use Rattle.std.specs.Prelude.{◌≡◌, ◌<◌, ◌≤◌, ◌+◌, ◌↔◌, [], IsTrue, option_map};
 ghost use Rattle.hall.specs.Batches.{IsLookedUp, name_of};
 ghost use Rattle.hall.specs.Work.{IsVisit, TellsEnds};
 ghost use Rattle.pool.specs.Rooms.{IsIdle};
-ghost use Rattle.pool.specs.Workers.{order_in};
+ghost use Rattle.pool.specs.Workers.{order_in, most_steps};
 
 use crate::keepers::Naming;
 use crate::rooms::Room;
+use crate::tallies::Tally;
 use hall::{Batch, Ends, Order, Visit};
 
 /// How many steps a worker makes in one visit, and how many letters it holds, at the most.
 pub(crate) const BATCH: usize = 32;
-
-/// What a worker found when it had the lock.
-#[derive(Clone, Copy, PartialEq, Eq)]
-pub(crate) enum Found {
-    /// There was something to do, and it is done.
-    Work,
-    /// The desk was stopped.
-    Stopped,
-    /// Memory to share what the search reads was refused. Nothing is done.
-    NoMemory,
-}
-
-/// What came of a worker's visit.
-#[derive(Clone, Copy)]
-pub(crate) struct Visited {
-    /// How many of the letters that it handed in are finished.
-    pub(crate) finished: u64,
-    /// What it found then.
-    pub(crate) found: Found,
-}
 
 impl<L: Naming> Room<L> {
     /// Whether a worker has nothing to do, whosever turn it is, and is not to end.
@@ -42,7 +23,7 @@ impl<L: Naming> Room<L> {
     }
 
     /// A worker hands in what it holds and works on as the order says. After a stop it gives all back, and makes no step. The
-    /// searches that come to their ends by it are told.
+    /// letters that are finished count in its tally. The searches that come to their ends by it are told.
     #[inline(always)]
     pub(crate) fn work(
         &mut self,
@@ -50,16 +31,21 @@ impl<L: Naming> Room<L> {
         order: Order,
         batch: &mut Batch,
         ends: &mut Ends,
+        tally: &mut Tally<L>,
     ) -> Visit
         requires looked_up { IsLookedUp batch.old }
         requires space { BATCH ≤ batch.old.room }
         requires told { ends.old ≡ [] }
-        ensures visit { IsVisit (order_in self.old order) BATCH self.old.hall batch.old result self.new.hall batch.new }
+        requires worker { 0 < tally.old.workers }
+        ensures visit { IsVisit (order_in self.old order) most_steps self.old.hall batch.old result self.new.hall batch.new }
         ensures ends { TellsEnds (option_map name_of batch.old.of) self.old.hall self.new.hall ends.new }
         ensures room { self.new ≡ record self.old { hall = self.new.hall } }
+        ensures counted { tally.new ≡ record tally.old { letters = tally.old.letters + result.finished } }
     {
         let _length = self.hall.journal_len();
         let order = if self.stopped { Order::GiveBack } else { order };
-        self.hall.work(turn, order, BATCH, batch, ends)
+        let visit = self.hall.work(turn, order, BATCH, batch, ends);
+        self.crew.count(tally, visit.finished);
+        visit
     }
 }

@@ -1,18 +1,20 @@
 //! Workers: threads that take letters, look up outside the lock, and hand in.
-ghost use Rattle.std.specs.Prelude.{ℕ, List, ◌≡◌, ◌≤◌, IfOk, IfErr, MatchResult, vec_len, vec_capacity};
-ghost use Rattle.std.specs.Result.{result_ok};
+ghost use Rattle.std.specs.Prelude.{ℕ, List, ◌≡◌, ◌≤◌, ◌+◌, [], IfOk, IfErr, vec_len, vec_capacity};
+ghost use Rattle.pool.specs.Fronts.{HasStop};
 ghost use Rattle.pool.specs.Refusals.{IsWorkRefusal};
 ghost use Rattle.hall.specs.Batches.{IsEmpty, IsLookedUp};
-ghost use Rattle.pool.specs.Workers.{AreLetThrough, WasStopped, LackedMemory, done_by_both, IsDoneBy, DoneBy};
+ghost use Rattle.pool.specs.Workers.{AreLetThrough, IsLeftBy, workers_in};
 
 use crate::desks::Desk;
 use crate::faults::{DeskFault, Told};
-use crate::keepers::Naming;
-use crate::visits::{BATCH, Found};
+use crate::keepers::{Front, Naming};
+use crate::tallies::Tally;
+use crate::visits::BATCH;
 use hall::{Batch, Ends, Fault};
 use names::Entity;
 use std::alloc::AllocError;
-use std::sync::Wait;
+use std::marker::Model;
+use std::sync::{MutexGuard, Wait};
 use std::thread::{self, JoinHandle, Threads};
 
 /// Where a worker passes with each letter, after it took it and before it looks up what the letter needs, without the lock.
@@ -57,22 +59,47 @@ fn look_up_all<G: Gate>(gate: &G, batch: &mut Batch)
     }
 }
 
+/// What workers finished that have seen a stop of their desk, and ended. Contracts see the tally.
+#[derive(Drop)]
+pub(crate) struct Worked<L: Naming> {
+    tally: Tally<L>,
+    seen: Front<L>,
+}
+
+impl<L: Naming> Model for Worked<L> {
+    ghost use Rattle.pool.specs.Fronts.{HasStop};
+    ghost use Rattle.pool.specs.Workers.{TallyState};
+
+    ghost Value = { TallyState };
+
+    ghost view = { λ w. w.tally };
+
+    ghost invariant = { λ w. HasStop w.seen.seen };
+}
+
+/// The same of one worker.
+#[derive(Drop)]
+struct One<L: Naming> {
+    worked: Worked<L>,
+    ghost one: { worked.workers ≡ 1 },
+}
+
 /// How many visits in a row a worker begins at one search, whose letters its processor has at hand then. Who finishes as many
 /// letters in a row goes on alone, where no gate may wait.
 const IN_A_ROW: u64 = 8;
 
-/// Works until the desk is stopped, or memory is refused; then another goes on. The searches take turns, for each from another. Answers
-/// how many letters the worker finished.
+/// Works until the desk is stopped, or memory is refused; then another goes on. The searches take turns, for each from another.
 fn work<L: Naming, G: Gate, R: Wait>(
     rt: &R,
     desk: &Desk<L>,
     gate: &G,
     turn: u64,
-) -> Result<u64, AllocError>
-    ensures { IfOk result (λ finished. WasStopped) }
+    tally: Tally<L>,
+) -> Result<One<L>, AllocError>
+    requires { tally.workers ≡ 1 }
 {
     let batch = Batch::make(desk.alloc, BATCH)?;
-    work_with(batch, rt, desk, gate, turn)
+    work_with(batch, rt, desk, gate, turn, tally)
 }
 
 /// What `work` does, once there is room for the letters.
@@ -81,70 +108,126 @@ fn work_with<L: Naming, G: Gate, R: Wait>(
     rt: &R,
     desk: &Desk<L>,
     gate: &G,
-    mut turn: u64,
-) -> Result<u64, AllocError>
+    turn: u64,
+    mut tally: Tally<L>,
+) -> Result<One<L>, AllocError>
     requires empty { IsEmpty batch }
     requires room { BATCH ≤ batch.room }
-    ensures { MatchResult result (λ finished. WasStopped) (λ refused. LackedMemory) }
+    requires one { tally.workers ≡ 1 }
 {
     let mut ends = Ends::none();
-    let mut finished = 0u64;
-    let mut found = Found::Work;
-    let mut line = None;
-    let mut before = 0u64;
-    'work: for _ in rt.forever() {
-        for visit in 0..IN_A_ROW {
-            look_up_all(gate, &mut batch);
-            if line.is_some() {
-                desk.let_in(rt);
-            }
-            let visited = desk.visit(rt, turn, visit > 0, &mut batch, &mut ends, &mut line);
-            finished = finished.saturating_add(visited.finished);
-            found = visited.found;
-            if found != Found::Work {
-                break 'work;
-            }
-        }
-        turn = turn.wrapping_add(1);
-        let of_row = finished.saturating_sub(before);
-        before = finished;
-        if of_row < IN_A_ROW {
-            line = None;
-        } else if line.is_none() && !G::MAY_WAIT {
-            look_up_all(gate, &mut batch);
-            let (done, alone) = desk.stand_in_line(rt, &mut batch, &mut ends);
-            finished = finished.saturating_add(done);
-            line = Some(alone);
-        }
-    }
+    let end = go_on(rt, desk, gate, turn, &mut batch, &mut ends, &mut tally);
     desk.work.notify_one();
     batch.destroy_empty();
     ends.destroy_empty();
-    match found {
-        Found::NoMemory => Err(AllocError),
-        _ => Ok(finished),
-    }
+    let seen = end?;
+    Ok(One {
+        worked: Worked { tally, seen },
+    })
 }
 
-/// What both did.
-fn both(all: Result<u64, AllocError>, one: Result<u64, AllocError>) -> Result<u64, AllocError>
-    ensures { result_ok result ≡ done_by_both (result_ok all) (result_ok one) }
-{
-    Ok(all?.saturating_add(one?))
-}
-
-/// Waits for all workers, and adds up what they did.
-fn join_all<R: Threads>(
+/// Goes on until the desk is stopped, which it has seen then, or memory is refused. No letter is left.
+fn go_on<L: Naming, G: Gate, R: Wait>(
     rt: &R,
-    handles: Vec<JoinHandle<Result<u64, AllocError>>>,
-) -> Result<u64, AllocError>
-    ensures { IsDoneBy (vec_len handles) (result_ok result) }
+    desk: &Desk<L>,
+    gate: &G,
+    mut turn: u64,
+    batch: &mut Batch,
+    ends: &mut Ends,
+    tally: &mut Tally<L>,
+) -> Result<Front<L>, AllocError>
+    requires fresh { batch.old.looked ≡ 0 }
+    requires room { BATCH ≤ batch.old.room }
+    requires told { ends.old ≡ [] }
+    requires one { tally.old.workers ≡ 1 }
+    ensures stop { IfOk result (λ front. HasStop front.seen) }
+    ensures empty { IsEmpty batch.new }
+    ensures told { ends.new ≡ [] }
+    ensures one { tally.new.workers ≡ 1 }
 {
-    let mut all = Ok(0);
-    for handle in handles {
-        all = both(all, handle.join(rt));
+    let mut line = None;
+    let mut before = 0u64;
+    'work: for _ in rt.forever() {
+        if let Some(seen) = visit_in_a_row(rt, desk, gate, turn, batch, ends, &mut line, tally)? {
+            return Ok(seen);
+        }
+        turn = turn.wrapping_add(1);
+        let of_row = tally.letters().saturating_sub(before);
+        before = tally.letters();
+        if of_row < IN_A_ROW {
+            line = None;
+        } else if line.is_none() && !G::MAY_WAIT {
+            look_up_all(gate, batch);
+            line = Some(desk.stand_in_line(rt, batch, ends, tally));
+        }
     }
-    all
+    unreachable!()
+}
+
+/// Makes visits in a row, unless the worker is to end.
+fn visit_in_a_row<L: Naming, G: Gate, R: Wait>(
+    rt: &R,
+    desk: &Desk<L>,
+    gate: &G,
+    turn: u64,
+    batch: &mut Batch,
+    ends: &mut Ends,
+    line: &mut Option<MutexGuard<'_, ()>>,
+    tally: &mut Tally<L>,
+) -> Result<Option<Front<L>>, AllocError>
+    requires fresh { batch.old.looked ≡ 0 }
+    requires room { BATCH ≤ batch.old.room }
+    requires told { ends.old ≡ [] }
+    requires one { tally.old.workers ≡ 1 }
+    ensures left { IsLeftBy result batch.new }
+    ensures room { BATCH ≤ batch.new.room }
+    ensures told { ends.new ≡ [] }
+    ensures one { tally.new.workers ≡ 1 }
+{
+    for visit in 0..IN_A_ROW {
+        look_up_all(gate, batch);
+        if line.is_some() {
+            desk.let_in(rt);
+        }
+        let end = desk.visit(rt, turn, visit > 0, batch, ends, line, tally);
+        let Ok(None) = end else {
+            return end;
+        };
+    }
+    Ok(None)
+}
+
+/// What workers finished, with one more.
+fn with_one<L: Naming>(all: Option<Worked<L>>, one: One<L>) -> Worked<L>
+    ensures { result.workers ≡ workers_in all + 1 }
+{
+    let One { worked } = one;
+    match all {
+        Some(Worked { mut tally, seen }) => {
+            tally.take_in(worked.tally);
+            Worked { tally, seen }
+        }
+        None => worked,
+    }
+}
+
+/// Waits for all workers, and adds up what they finished. Refused where one of them lacked memory.
+fn join_all<L: Naming, R: Threads>(
+    rt: &R,
+    handles: Vec<JoinHandle<Result<One<L>, AllocError>>>,
+) -> Result<Option<Worked<L>>, AllocError>
+    ensures { IfOk result (λ all. workers_in all ≡ vec_len handles) }
+{
+    let mut all = None;
+    let mut each = Ok(());
+    for handle in handles {
+        match handle.join(rt) {
+            Ok(one) => all = Some(with_one(all, one)),
+            Err(lacked) => each = Err(lacked),
+        }
+    }
+    each?;
+    Ok(all)
 }
 
 /// Runs `n` workers until the desk is stopped, and answers how many letters they finished. The gate is passed once with each. A
@@ -157,22 +240,45 @@ pub fn run_workers<L: Naming + Send + Sync, G: Gate, R: Threads + Wait + Sync>(
     gate: &G,
 ) -> Told<u64>
     requires { (1 ≤ n) × (n ≤ 64) }
-    ensures done { IfOk result (DoneBy n) }
+    ensures { IfErr result IsWorkRefusal }
+{
+    Ok(run_all(rt, desk, n, gate)?.tally.letters())
+}
+
+/// The same, with the tally of all workers.
+fn run_all<L: Naming + Send + Sync, G: Gate, R: Threads + Wait + Sync>(
+    rt: &R,
+    desk: &Desk<L>,
+    n: u64,
+    gate: &G,
+) -> Told<Worked<L>>
+    requires { (1 ≤ n) × (n ≤ 64) }
+    ensures done { IfOk result (λ all. all.workers ≡ n) }
     ensures refused { IfErr result IsWorkRefusal }
 {
     let Ok(mut handles) = Vec::with_capacity(desk.alloc, n as usize) else {
         return Err(DeskFault::Hall(Fault::Memory));
     };
+    let Some(tally) = desk.hire(rt, n) else {
+        return Err(DeskFault::Hall(Fault::Memory));
+    };
     thread::scope(
         thread::scope_env(),
         rt,
-        |scope| -> Told<u64>
-            requires { (vec_len handles ≡ 0) × (n ≤ vec_capacity handles) }
-            ensures done { IfOk result (DoneBy n) }
+        |scope| -> Told<Worked<L>>
+            requires handles { (vec_len handles ≡ 0) × (n ≤ vec_capacity handles) }
+            requires tally { (1 ≤ n) × (tally ≡ record { workers = n; letters = 0 }) }
+            ensures done { IfOk result (λ all. all.workers ≡ n) }
             ensures refused { IfErr result IsWorkRefusal }
         {
+            let mut tally = tally;
             for worker in 0..n {
-                let Ok(handle) = scope.spawn(move || work(rt, desk, gate, worker)) else {
+                let mine = tally.one();
+                let Ok(handle) = scope.spawn(
+                    move || -> Result<One<L>, AllocError>
+                        requires { mine.workers ≡ 1 }
+                    { work(rt, desk, gate, worker, mine) },
+                ) else {
                     desk.stop(rt);
                     let _worked = join_all(rt, handles);
                     return Err(DeskFault::NoThread);
@@ -180,7 +286,8 @@ pub fn run_workers<L: Naming + Send + Sync, G: Gate, R: Threads + Wait + Sync>(
                 handles.push_reserved(handle);
             }
             match join_all(rt, handles) {
-                Ok(all) => Ok(all),
+                Ok(Some(all)) => Ok(all),
+                Ok(None) => unreachable!(),
                 Err(AllocError) => Err(DeskFault::Hall(Fault::Memory)),
             }
         },

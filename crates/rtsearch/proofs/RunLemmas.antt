@@ -1,11 +1,11 @@
 -- Lemmas on what a run did, by what its words ask for.
-use Rattle.std.proofs.Common.{◌≡◌, ◌⊎◌, ℕ, Bool, true, false, List, [], Option, Some, None, inl, inr, subst, codes}
+use Rattle.std.proofs.Common.{◌≡◌, ◌⊎◌, ℕ, Bool, true, false, List, [], Option, Some, None, inl, inr, sym, subst, codes}
 use Rattle.std.specs.Prelude.{IfSome, MatchBool}
 use Rattle.std.specs.Io.KnownBytes.{Appends}
 use Rattle.clap.specs.Words.{Row, Text}
 use Rattle.service.specs.Line.{commands_of}
 use Rattle.service.specs.declared.faults.ScriptFault.TheVariants.{Memory}
-use Rattle.service.proofs.ScriptLemmas.{Appends-nothing}
+use Rattle.std.proofs.lemmas.List.{append-nil}
 use Rattle.rtsearch.specs.CommandLine.{IsGiven, is_serve, value_of}
 use Rattle.rtsearch.specs.Serving.{Served, NotServed}
 use Rattle.rtsearch.specs.Running.{Ran, Failed}
@@ -18,10 +18,15 @@ if_true : {P : Type 0} (Q : Type 0) (b : Bool) → b ≡ true → P → MatchBoo
 if_true Q true e p = p
 if_true Q false e p = cc
 
+-- nothing was written
+nothing_out : (contents : Option (List ℕ)) → Appends contents contents []
+nothing_out None = tt
+nothing_out (Some bytes) = sym (append-nil bytes)
+
 -- want of memory, where nothing was written
 pub unwritten : (found : Option (Text × List Row)) (input out : Option (List ℕ)) → IfSome input (λ bytes. Failed found (commands_of bytes) (Appends out out))
 unwritten found None out = tt
-unwritten found (Some bytes) out = either_way (is_serve found) (inl (Appends-nothing out)) (Memory, inl (Appends-nothing out))
+unwritten found (Some bytes) out = either_way (is_serve found) (inl (nothing_out out)) (Memory, inl (nothing_out out))
 
 -- a service that ended after so many connections
 pub served_all : (found : Option (Text × List Row)) (accept : Option ℕ) (input : Option (List ℕ)) (out : List ℕ → Type 0) → is_serve found ≡ true →

@@ -16,6 +16,11 @@ use Rattle.scholten_core.proofs.Counts.{entry_of}
 use Rattle.scholten_core.proofs.Engaged.{one_or_other}
 use Rattle.scholten_core.proofs.Lists.{changed, changed_past, filter_past, lookup_at, number_at, numbered_above}
 
+-- what is shown of one that is there is there
+pub shown_there : {A B : Type 0} (f : A → B) (o : Option A) (p : Option B) → option_map f o ≡ p → is_some p ≡ true → is_some o ≡ true
+shown_there f None p is there = subst (λ q. is_some q ≡ true) (sym is) there
+shown_there f (Some a) p is there = refl
+
 -- the test of the map's keys
 pub flipped : (k n : ℕ) → nat_eq k n ≡ (n == k)
 flipped k n =
@@ -51,6 +56,12 @@ module _ {X : Type 0} where
   pub absent : (low : ℕ) (ls : List (ℕ × X)) (high k : ℕ) → IsNumbered low ls high → high < k → lookup (nat_eq k) ls ≡ None
   absent low ls high k rising above = lookup-keys k ls ∙ lookup_above k low ls high rising above
 
+  -- a value that is written leaves the numbers as they are
+  pub keys-set_value : (ls : List (ℕ × X)) (i : ℕ) (w : X) → keys_of (set_value_at ls i w) ≡ keys_of ls
+  keys-set_value [] i w = refl
+  keys-set_value (l ∷ ls) zero w = refl
+  keys-set_value (l ∷ ls) (suc i) w = ap (λ ks. l.0 ∷ ks) (keys-set_value ls i w)
+
   pub numbered-set_value : (low : ℕ) (ls : List (ℕ × X)) (high i : ℕ) (w : X) → IsNumbered low ls high → IsNumbered low (set_value_at ls i w) high
   numbered-set_value low [] high i w rising = rising
   numbered-set_value low (l ∷ ls) high zero w rising = (rising.0, rising.1)
@@ -61,7 +72,7 @@ module _ {X : Type 0} where
   numbered-front low [] ms high rising = omega (arith, length-numbered_le low ms high rising)
   numbered-front low (l ∷ ls) ms high rising = (rising.0, numbered-front l.0 ls ms high rising.1)
 
-  key_get : (ls : List (ℕ × X)) (i m : ℕ) (x : X) → slice_get ls i ≡ Some (m, x) → slice_get (keys_of ls) i ≡ Some m
+  pub key_get : (ls : List (ℕ × X)) (i m : ℕ) (x : X) → slice_get ls i ≡ Some (m, x) → slice_get (keys_of ls) i ≡ Some m
   key_get [] i m x at = absurd (none-some _ at)
   key_get (l ∷ ls) zero m x at = ap (λ o. option_map (λ (e : ℕ × X). e.0) o) at
   key_get (l ∷ ls) (suc i) m x at = key_get ls i m x at
@@ -126,6 +137,22 @@ module _ {P : Type 0} where
   -- no letter has a number that isn't found
   pub letter_absent : (sent k : ℕ) (es : List (ℕ × Option (Letter P))) → IsNumbered 0 es sent → lookup (nat_eq k) es ≡ None → None ≡ lookup (λ n. n == k) (standing es)
   letter_absent sent k es rising none = sym (lookup-standing k 0 es sent rising ∙ ap letter_in (sym (lookup-keys k es) ∙ none))
+
+  -- what is found of a number says where it stands
+  pub found_there : (es : List (ℕ × Option (Letter P))) (k : ℕ) (place : Option ℕ) → IsPlaceOf es k place → IfSome place (λ at. slice_get (keys_of es) at ≡ Some k)
+  found_there es k None is = tt
+  found_there es k (Some at) is = is
+
+  -- where it isn't found its letter isn't there
+  pub absent_there : (sent : ℕ) (es : List (ℕ × Option (Letter P))) → IsNumbered 0 es sent → (k : ℕ) (place : Option ℕ) → IsPlaceOf es k place → place ≡ None → lookup (λ n. n == k) (standing es) ≡ None
+  absent_there sent es rising k None is none = sym (letter_absent sent k es rising is)
+  absent_there sent es rising k (Some at) is none = absurd (none-some at (sym none))
+
+  -- a held letter is there, and so is what is found of its number
+  pub held_found : {A : Type 0} (letters : List (ℕ × Letter P)) (k : ℕ) → IsHeldIn letters k → (found : Option A) → (found ≡ None → lookup (λ n. n == k) letters ≡ None) → is_some found ≡ true
+  held_found letters k held (Some a) none = refl
+  held_found letters k held None none =
+      absurd (subst (λ (o : Option (Letter P)). IsSomeAnd o (λ l. IsTrue l.held)) (none refl) held)
 
   -- to write a letter at its place is to change the letter of its number
   pub standing-change : (f : Letter P → Letter P) (low : ℕ) (es : List (ℕ × Option (Letter P))) (high i k : ℕ) (l : Letter P) → IsNumbered low es high → slice_get es i ≡ Some (k, Some l) → standing (set_value_at es i (Some (f l))) ≡ map (changed k f) (standing es)

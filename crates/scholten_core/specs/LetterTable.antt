@@ -16,14 +16,19 @@ read_number bytes = if nat_eq (length bytes) 8 then from_le_bytes w64 bytes else
 abbrev pub spread : ℕ → ℕ
 spread n = bit_xor n (n * 0x9e37_79b9_7f4a_7c15 % 2 ^ 64 / 2 ^ 56 * 2 ^ 24 % 2 ^ 64)
 
--- how many letters were ever sent; those that wait or are held, each with its number, in order of number; and how many
--- more fit with no more memory
+-- how many letters were ever sent; those that wait or are held, each with its number, in order of number; the numbers that
+-- stand in its places, also of letters that are gone; and how many more fit with no more memory
 pub record LetterTableState (P : Type 0) : Type 0 where
   pub sent : ℕ
   pub letters : List (ℕ × Letter P)
+  pub numbers : List ℕ
   pub room : ℕ
 
 module _ {P : Type 0} where
+  -- the number stands at that place
+  abbrev pub StandsAt : LetterTableState P → ℕ → ℕ → Type 0
+  StandsAt table number at = slice_get table.numbers at ≡ Some number
+
   -- a letter from somebody; what is from nobody is a hole
   abbrev pub from_somebody : Parent → Letter P → Option (Letter P)
   from_somebody Neutral l = None

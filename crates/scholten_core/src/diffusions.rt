@@ -105,7 +105,8 @@ impl<P: Drop> Diffusion<P> {
         requires { place < length (waiting_of self.old) }
         ensures { TakesLetter self.old place result self.new }
     {
-        self.letters.take(place)
+        let (number, _at) = self.letters.take(place);
+        number
     }
 
     /// The held letter of that number waits again.
@@ -154,11 +155,12 @@ impl<P: Drop> Diffusion<P> {
     {
         self.letters.reserve(outs.len())?;
         self.signals.reserve(1)?;
-        let letter = self.letters.get(number).unwrap();
+        let at = self.letters.find(number).unwrap();
+        let letter = self.letters.letter_at(at).unwrap();
         let (from, to) = (letter.from, letter.to);
         let by = receive(&mut self.nodes, from, to, outs.len() as u64)?;
         put(&mut self.signals, by);
-        self.letters.finish(number);
+        self.letters.finish(at);
         self.letters.send(Parent::Node(to), outs);
         Ok(())
     }
@@ -230,5 +232,29 @@ impl<P: Drop> Diffusion<P> {
             Some(engaged) => engaged.parent,
             None => Parent::Neutral,
         }
+    }
+}
+
+impl<P: Copy> Diffusion<P> {
+    ghost use Rattle.std.specs.Prelude.{◌≡◌, ◌<◌, Some, length};
+    ghost use Rattle.scholten_core.specs.Computation.{letter_of, waiting as waiting_of};
+    ghost use Rattle.scholten_core.specs.Step.{TakesLetter};
+
+    /// Takes the waiting letter at that place as `take` does, and answers a copy of it beside its number.
+    #[inline(always)]
+    pub fn take_letter(&mut self, place: u64) -> (u64, Letter<P>)
+        requires { place < length (waiting_of self.old) }
+        ensures takes { TakesLetter self.old place result.0 self.new }
+        ensures letter { letter_of self.new result.0 ≡ Some result.1 }
+    {
+        let (number, at) = self.letters.take(place);
+        let letter = self.letters.letter_at(at).unwrap();
+        let taken = Letter {
+            from: letter.from,
+            to: letter.to,
+            held: letter.held,
+            load: letter.load,
+        };
+        (number, taken)
     }
 }

@@ -40,12 +40,12 @@ pub(crate) struct LetterTable<P> {
 /// growth takes fewer instructions, up to an eighth a letter, and mostly two to four times the memory.
 const FIRST_ROOM: usize = 36;
 
-/// How many of so many entries have to be holes before these are dropped: where entries are few, to move letters costs
-/// more than their bytes; where they are many, a letter under way takes no more bytes than among a thousand.
+/// How many of so many entries have to be holes before these are dropped: where entries are few, to move letters costs more
+/// than their bytes; where they are many, bytes count.
 fn holes_to_drop(entries: usize) -> usize {
     match entries {
-        0..128 => entries / 2,
-        128..4096 => entries / 8,
+        0..1024 => entries - entries / 4,
+        1024..8192 => entries / 2,
         _ => entries / 4,
     }
 }
@@ -195,21 +195,28 @@ impl<P> Model for LetterTable<P> {
 
     ghost Value = { LetterTableState P };
 
+    ghost use Rattle.std.specs.Map.{keys_of};
     ghost use Rattle.indexmap.specs.IndexMap.{spare};
     ghost use Rattle.scholten_core.specs.LetterTable.{IsTable, standing};
 
-    ghost view = { λ a. record { sent = a.sent; letters = standing a.letters.entries; room = spare a.letters } };
+    ghost view = { λ a. record {
+      sent = a.sent;
+      letters = standing a.letters.entries;
+      numbers = keys_of a.letters.entries;
+      room = spare a.letters;
+    } };
 
     ghost invariant = { λ a. IsTable a.sent a.waits a.holes a.first a.last a.letters.entries };
 }
 
 impl<P: Drop> LetterTable<P> {
     ghost use Rattle.std.specs.Prelude.{◌≡◌, ◌+◌, ◌^◌, ◌<◌, ◌≤◌, ◌==◌, ◌++◌, [], ◌∷◌, true, false, not, length, filter, map};
-    ghost use Rattle.std.specs.Prelude.{is_some, option_copied, IfOk, OnOk};
+    ghost use Rattle.std.specs.Prelude.{ℕ, is_some, option_copied, IfOk, IfSome, None, OnOk};
     ghost use Rattle.std.specs.VecDeque.{deque_len};
     ghost use Rattle.std.specs.Map.{lookup};
     ghost use Rattle.scholten_core.specs.declared.letters.Letter.{Letter};
     ghost use Rattle.scholten_core.specs.Computation.{IsHeldIn, same_parent, waiting_in};
+    ghost use Rattle.scholten_core.specs.LetterTable.{StandsAt};
     ghost use Rattle.scholten_core.specs.Step.{mark, numbered};
 
     /// No letter, with room for the first ones.
@@ -245,19 +252,40 @@ impl<P: Drop> LetterTable<P> {
         self.waits
     }
 
+    /// The letter of that number, where it waits or is held.
     #[inline(always)]
     pub(crate) fn get(&self, number: u64) -> Option<&Letter<P>>
         ensures { option_copied result ≡ lookup (λ n. n == number) self.now.letters }
     {
-        let at = place_of(&self.letters, self.hand, number)?;
+        let at = self.find(number)?;
+        self.letter_at(at)
+    }
+
+    /// Where the number stands. It does where its letter waits or is held.
+    #[inline(always)]
+    pub(crate) fn find(&self, number: u64) -> Option<usize>
+        ensures found { IfSome result (StandsAt self.now number) }
+        ensures none { result ≡ None → lookup (λ n. n == number) self.now.letters ≡ None }
+    {
+        place_of(&self.letters, self.hand, number)
+    }
+
+    /// The letter whose number stands there, where it waits or is held.
+    #[inline(always)]
+    pub(crate) fn letter_at(&self, at: usize) -> Option<&Letter<P>>
+        requires { at < length self.now.numbers }
+        ensures { (number : ℕ) → StandsAt self.now number at → option_copied result ≡ lookup (λ n. n == number) self.now.letters }
+    {
         letter_at(&self.letters, at)
     }
 
-    /// Takes the waiting letter at that place, in order of number, and answers its number.
-    pub(crate) fn take(&mut self, place: u64) -> u64
+    /// Takes the waiting letter at that place, in order of number, and answers its number, and where that stands.
+    #[inline(always)]
+    pub(crate) fn take(&mut self, place: u64) -> (u64, usize)
         requires { place < length (waiting_in self.old.letters) }
-        ensures waited { (l : Letter P) × (slice_get (waiting_in self.old.letters) place ≡ Some (result, l)) }
-        ensures letters { self.new.letters ≡ map (mark result true) self.old.letters }
+        ensures waited { (l : Letter P) × (slice_get (waiting_in self.old.letters) place ≡ Some (result.0, l)) }
+        ensures letters { self.new.letters ≡ map (mark result.0 true) self.old.letters }
+        ensures stands { StandsAt self.new result.0 result.1 }
         ensures sent { self.new.sent ≡ self.old.sent }
     {
         let follow = self.waits - 1 - place;
@@ -266,7 +294,7 @@ impl<P: Drop> LetterTable<P> {
         self.last = if follow == 0 { at } else { self.last };
         self.hand = at;
         self.waits -= 1;
-        hold(&mut self.letters, at, true)
+        (hold(&mut self.letters, at, true), at)
     }
 
     /// The held letter of that number waits again.
@@ -283,7 +311,7 @@ impl<P: Drop> LetterTable<P> {
     }
 
     /// Makes room for so many letters more. Where it lacks and enough of the entries are holes, these are dropped before the
-    /// table grows. So some seven letters at most are moved for each hole that is dropped.
+    /// table grows. So some three letters at most are moved for each hole that is dropped.
     pub(crate) fn reserve(&mut self, count: usize) -> Result<(), AllocError>
         ensures room { OnOk result (count ≤ self.new.room) }
         ensures letters { self.new.letters ≡ self.old.letters }
@@ -348,14 +376,15 @@ impl<P: Drop> LetterTable<P> {
         self.last = self.letters.len();
     }
 
-    /// The held letter of that number is finished.
-    pub(crate) fn finish(&mut self, number: u64)
-        requires { IsHeldIn self.old.letters number }
-        ensures letters { self.new.letters ≡ filter (λ l. not (l.0 == number)) self.old.letters }
+    /// The held letter whose number stands there is finished.
+    #[inline(always)]
+    pub(crate) fn finish(&mut self, at: usize)
+        requires { (number : ℕ) × StandsAt self.old number at × IsHeldIn self.old.letters number }
+        ensures letters { (number : ℕ) → StandsAt self.old number at
+            → self.new.letters ≡ filter (λ l. not (l.0 == number)) self.old.letters }
         ensures sent { self.new.sent ≡ self.old.sent }
         ensures room { self.old.room ≤ self.new.room }
     {
-        let at = place_of(&self.letters, self.hand, number).unwrap();
         leave_hole(&mut self.letters, at);
         self.holes += 1;
         let behind = at + 1;

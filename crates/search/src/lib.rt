@@ -26,7 +26,7 @@ mod tables;
 mod telling;
 
 pub use findings::{Findings, Monitor};
-pub use letters::Load;
+pub use letters::{Held, Load};
 pub use outcomes::{Finished, Status};
 pub use queries::{Hint, Need, Query, Task};
 pub use searches::Search;

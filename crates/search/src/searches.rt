@@ -90,7 +90,6 @@ impl Search {
     ghost use Rattle.search.specs.Search.{SameQuestion, Settles, settled_of};
     ghost use Rattle.search.specs.Stage.{HoldsLetter, letter_in, waiting_in, signals_in, held_in, stage_marked, Delivers};
     ghost use Rattle.search.specs.Finish.{IsSpanFor, need_for, need_of, Needs, Takes, TakesHeld, Receives, Finishes};
-    ghost use Rattle.search.specs.declared.queries.Need.{Need as NeedOf};
 
     /// A search over the snapshot that may send so many letters, at least one. One letter, to the asked role, waits.
     pub fn open(
@@ -201,35 +200,17 @@ impl Search {
         let Some((number, held)) = self.take_held(place) else {
             return None;
         };
-        Some((number, Need::of(role_needed(self.graph(), &held))))
+        Some((number, Need::of(self.rows_for(&held))))
     }
 
-    /// Takes the waiting letter at that place, in order of sending: its number. `rows_needed` tells what it needs, and copies
-    /// nothing.
+    /// The role whose rows the letter in hand needs, if it needs any.
     #[inline(always)]
-    pub fn take_number(&mut self, place: u64) -> Option<u64>
-        ensures taken { MatchOption result ((slice_get (waiting_in self.old.stage) place ≡ None) × (self.new ≡ self.old))
-            (λ n. (need : NeedOf) × Takes self.old self.new place n need) }
-        ensures settles { Settles self.old self.new }
+    pub fn rows_for(&self, held: &Held<Load<u32>>) -> Option<&Role>
+        requires { held.now.to < length self.now.graph.nodes }
+        ensures { (e : Expr) × IsNode self.now.graph held.now.to e
+            × (need_for (option_copied result) ≡ need_of e (load_at self.now.graph.nodes held.now.load)) }
     {
-        let Some((number, _held)) = self.take_held(place) else {
-            return None;
-        };
-        Some(number)
-    }
-
-    /// The role whose rows the held letter of that number needs, if it needs any. None where it isn't held.
-    #[inline(always)]
-    pub fn rows_needed(&self, letter: u64) -> Option<&Role>
-        ensures needs { (l : Letter Said) → held_in self.now.stage letter ≡ Some l
-            → Needs self.now l (need_for (option_copied result)) }
-        ensures none { held_in self.now.stage letter ≡ None → result ≡ None }
-    {
-        let in_hand = held_letter(&self.stage, letter);
-        let Some(held) = in_hand else {
-            return None;
-        };
-        role_needed(self.found.graph(), &held)
+        role_needed(self.graph(), held)
     }
 
     /// Takes the waiting letter at that place, in order of sending. Want of memory changes nothing, and comes only where a
@@ -286,9 +267,10 @@ impl Search {
         self.receive_held(letter, &held, hint.span())
     }
 
-    // Takes the waiting letter at that place, in order of sending: its number, and what it says.
+    /// Takes the waiting letter at that place, in order of sending: its number, and the letter in hand. `rows_for` tells what it
+    /// needs, and copies nothing.
     #[inline(always)]
-    pub(crate) fn take_held(&mut self, place: u64) -> Option<(u64, Held<Load<u32>>)>
+    pub fn take_held(&mut self, place: u64) -> Option<(u64, Held<Load<u32>>)>
         ensures taken { MatchOption result ((slice_get (waiting_in self.old.stage) place ≡ None) × (self.new ≡ self.old))
             (λ r. TakesHeld self.old self.new place r.0 (held_at self.old.graph.nodes r.1)) }
         ensures load { IfSome result (λ r. IsLoad self.old.graph.nodes r.1.load) }

@@ -78,8 +78,7 @@ pub(crate) fn hold(stage: &mut NumberedStage, place: u64) -> Option<(u64, Held<L
     if place >= running.waiting() {
         return None;
     }
-    let number = running.take(place);
-    let letter = running.letter(number).unwrap();
+    let (number, letter) = running.take_letter(place);
     let held = Held {
         from: letter.from,
         to: letter.to,

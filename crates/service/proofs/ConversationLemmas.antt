@@ -13,22 +13,21 @@ use Rattle.service.specs.declared.lines.NextLine.{NextLine}
 use Rattle.service.specs.declared.lines.NextLine.TheVariants.{End}
 use Rattle.service.specs.Line.{Line, is_blank, commands_of}
 use Rattle.service.specs.LineReader.{Source, known, unknown, failed, Shows, Gives, IfKnown}
-use Rattle.service.specs.Written.{WritesFront, WentOut}
+use Rattle.service.specs.Written.{WritesFront, SendsUpTo, WentOut}
 use Rattle.service.specs.Conversation.{Talks, Conversed}
 use Rattle.service.proofs.LinesLemmas.{Gives-first, IfKnown-map}
-use Rattle.service.proofs.ScriptLemmas.{Appends-nothing}
-use Rattle.service.proofs.WrittenLemmas.{Appends-more}
+use Rattle.service.proofs.WrittenLemmas.{SendsUpTo-nothing, SendsUpTo-more, SendsUpTo-said, SendsUpTo-all, WritesFront-behind}
 
--- The first of these lines were answered, their replies went out, and the other lines are left.
+-- The first of these lines were answered, of their replies a front went out and the rest waits, and the other lines are left.
 pub record SoFar {S : Type 0} (Answers : S → Line → List ℕ → Flow → S → Type 0) (before : S)
-    (lines : List Line) (left : Source) (host : S) (went_out : List ℕ → Type 0) : Type 0 where
+    (lines : List Line) (left : Source) (host : S) (c0 c1 : Option (List ℕ)) (waits : List ℕ) : Type 0 where
   pub rest : List ℕ
   pub source : left ≡ known rest
   pub done : List Line
   pub split : lines ≡ done ++ commands_of rest
   pub replies : List (List ℕ)
   pub talks : Talks Answers (before, GoesOn) done replies (host, GoesOn)
-  pub out : went_out (concat replies)
+  pub out : SendsUpTo c0 c1 (concat replies) waits
 
 -- The first of these lines was taken and answered, and the other lines are left.
 pub record Hears {S : Type 0} (Answers : S → Line → List ℕ → Flow → S → Type 0) (host : S)
@@ -64,7 +63,7 @@ module _ {S : Type 0} (Answers : S → Line → List ℕ → Flow → S → Type
   Talks-push before mid after (first ∷ lines) [] line reply talks on answer = absurd talks
 
   -- before the first line
-  pub SoFar-start : (source : Source) (host : S) (contents : Option (List ℕ)) → IfKnown source (λ lines. SoFar Answers host lines source host (Appends contents contents))
+  pub SoFar-start : (source : Source) (host : S) (contents : Option (List ℕ)) → IfKnown source (λ lines. SoFar Answers host lines source host contents contents [])
   SoFar-start unknown host contents = tt
   SoFar-start failed host contents = tt
   SoFar-start (known bytes) host contents = record {
@@ -74,13 +73,27 @@ module _ {S : Type 0} (Answers : S → Line → List ℕ → Flow → S → Type
     split = refl;
     replies = [];
     talks = refl;
-    out = Appends-nothing contents;
+    out = SendsUpTo-nothing contents;
   }
 
-  module _ (old mid new : Source) (before host : S) (c0 c1 : Option (List ℕ)) (so_far : IfKnown old (λ lines. SoFar Answers before lines mid host (Appends c0 c1))) where
+  module _ (old mid : Source) (before host : S) (c0 c1 : Option (List ℕ)) (waits : List ℕ) (so_far : IfKnown old (λ lines. SoFar Answers before lines mid host c0 c1 waits)) where
+    -- more of the replies go out
+    pub SoFar-sends : (c2 : Option (List ℕ)) (left : List ℕ) → SendsUpTo c1 c2 waits left → IfKnown old (λ lines. SoFar Answers before lines mid host c0 c2 left)
+    SoFar-sends c2 left sends =
+        IfKnown-map old so_far
+        (λ lines so. record {
+          rest = so.rest;
+          source = so.source;
+          done = so.done;
+          split = so.split;
+          replies = so.replies;
+          talks = so.talks;
+          out = SendsUpTo-more c0 c1 c2 (concat so.replies) waits left so.out sends;
+        })
+
     -- a blank line changes nothing
-    pub SoFar-blank : (answer : NextLine) (line : Line) → Gives mid answer new → Shows answer line → is_blank line ≡ true → IfKnown old (λ lines. SoFar Answers before lines new host (Appends c0 c1))
-    SoFar-blank answer line gives shows blank =
+    pub SoFar-blank : (new : Source) (answer : NextLine) (line : Line) → Gives mid answer new → Shows answer line → is_blank line ≡ true → IfKnown old (λ lines. SoFar Answers before lines new host c0 c1 waits)
+    SoFar-blank new answer line gives shows blank =
         IfKnown-map old so_far
         (λ lines so.
         let first = Gives-first so.rest new answer line (subst (λ (s : Source). Gives s answer new) so.source gives) shows in
@@ -94,49 +107,53 @@ module _ {S : Type 0} (Answers : S → Line → List ℕ → Flow → S → Type
           out = so.out;
         })
 
-    -- no line is left
-    pub Conversed-end : Gives mid End new → IfKnown old (λ lines. Conversed Answers before lines EndOfInput (Appends c0 c1))
-    Conversed-end gives =
+    -- the host goes on, and how it ended and what went out is this
+    ends : (lines : List Line) (so : SoFar Answers before lines mid host c0 c1 waits) (end : SessionEnd) (went_out : List ℕ → Type 0) →
+        WentOut end GoesOn (commands_of so.rest) so.replies went_out → Conversed Answers before host lines end went_out
+    ends lines so end went_out out =
+        record { done = so.done; rest = commands_of so.rest; split = so.split; replies = so.replies; flow = GoesOn; talks = so.talks; out = out }
+
+    -- no line is left, and all that waited went out
+    pub Conversed-end : (new : Source) (c2 : Option (List ℕ)) → Gives mid End new → Appends c1 c2 waits → IfKnown old (λ lines. Conversed Answers before host lines EndOfInput (Appends c0 c2))
+    Conversed-end new c2 gives sent =
         IfKnown-map old so_far
         (λ lines so.
         let none = subst (λ (s : Source). Gives s End new) so.source gives in
-        record {
-          done = so.done;
-          rest = commands_of so.rest;
-          split = so.split;
-          replies = so.replies;
-          after = (host, GoesOn);
-          talks = so.talks;
-          out = (refl, ap commands_of none.0, so.out);
-        })
+        ends lines so EndOfInput (Appends c0 c2) (refl, ap commands_of none.0, SendsUpTo-all c0 c1 c2 (concat so.replies) waits so.out sent))
 
-    -- no line could be read
-    pub Conversed-read : IfKnown old (λ lines. Conversed Answers before lines Read (Appends c0 c1))
-    Conversed-read =
+    -- no line could be read, and all that waited went out
+    pub Conversed-read : (c2 : Option (List ℕ)) → Appends c1 c2 waits → IfKnown old (λ lines. Conversed Answers before host lines Read (Appends c0 c2))
+    Conversed-read c2 sent =
+        IfKnown-map old so_far (λ lines so. ends lines so Read (Appends c0 c2) (refl, SendsUpTo-all c0 c1 c2 (concat so.replies) waits so.out sent))
+
+    -- a front of what waited went out
+    pub Conversed-cut : (c2 : Option (List ℕ)) → WritesFront c1 c2 waits → IfKnown old (λ lines. Conversed Answers before host lines Write (Appends c0 c2))
+    Conversed-cut c2 written =
         IfKnown-map old so_far
-        (λ lines so. record { done = so.done; rest = commands_of so.rest; split = so.split; replies = so.replies; after = (host, GoesOn); talks = so.talks; out = (refl, so.out) })
+        (λ lines so.
+        ends lines so Write (Appends c0 c2)
+        (subst (λ (t : List ℕ). WritesFront c0 c2 t) (append-nil (concat so.replies))
+        (WritesFront-behind c0 c1 c2 (concat so.replies) waits [] so.out (subst (λ (t : List ℕ). WritesFront c1 c2 t) (sym (append-nil waits)) written))))
 
     -- a line was answered
-    module _ (c2 : Option (List ℕ)) (flow : Flow) (after : S) (reply : List ℕ) (heard : IfKnown mid (λ lines. Hears Answers host lines new flow after reply)) where
-      here : (lines : List Line) (so : SoFar Answers before lines mid host (Appends c0 c1)) → Hears Answers host (commands_of so.rest) new flow after reply
+    module _ (new : Source) (c2 : Option (List ℕ)) (flow : Flow) (after : S) (reply : List ℕ) (heard : IfKnown mid (λ lines. Hears Answers host lines new flow after reply)) where
+      here : (lines : List Line) (so : SoFar Answers before lines mid host c0 c1 waits) → Hears Answers host (commands_of so.rest) new flow after reply
       here lines so = subst (λ (s : Source). IfKnown s (λ left. Hears Answers host left new flow after reply)) so.source heard
 
-      parted : (lines : List Line) (so : SoFar Answers before lines mid host (Appends c0 c1)) (h : Hears Answers host (commands_of so.rest) new flow after reply) →
+      parted : (lines : List Line) (so : SoFar Answers before lines mid host c0 c1 waits) (h : Hears Answers host (commands_of so.rest) new flow after reply) →
           lines ≡ (so.done ++ h.line ∷ []) ++ commands_of h.rest
       parted lines so h = so.split ∙ ap (λ (ls : List Line). so.done ++ ls) h.first ∙ sym (append_assoc so.done (h.line ∷ []) (commands_of h.rest))
 
-      told : (lines : List Line) (so : SoFar Answers before lines mid host (Appends c0 c1)) (h : Hears Answers host (commands_of so.rest) new flow after reply) →
+      told : (lines : List Line) (so : SoFar Answers before lines mid host c0 c1 waits) (h : Hears Answers host (commands_of so.rest) new flow after reply) →
           Talks Answers (before, GoesOn) (so.done ++ h.line ∷ []) (so.replies ++ reply ∷ []) (after, flow)
       told lines so h = Talks-push (before, GoesOn) (host, GoesOn) (after, flow) so.done so.replies h.line reply so.talks refl h.answer
 
-      went : (lines : List Line) (so : SoFar Answers before lines mid host (Appends c0 c1)) → Appends c1 c2 reply → Appends c0 c2 (concat (so.replies ++ reply ∷ []))
-      went lines so written =
-          subst (Appends c0 c2) (sym (concat-append so.replies (reply ∷ []) ∙ ap (λ (t : List ℕ). concat so.replies ++ t) (append-nil reply)))
-          (Appends-more c0 c1 c2 (concat so.replies) reply so.out written)
+      all_said : (replies : List (List ℕ)) → concat (replies ++ reply ∷ []) ≡ concat replies ++ reply
+      all_said replies = concat-append replies (reply ∷ []) ∙ ap (λ (t : List ℕ). concat replies ++ t) (append-nil reply)
 
       -- it was the last that was answered, and this went out
-      last : (lines : List Line) (so : SoFar Answers before lines mid host (Appends c0 c1)) (end : SessionEnd) (went_out : List ℕ → Type 0) →
-          WentOut end flow (commands_of (here lines so).rest) (so.replies ++ reply ∷ []) went_out → Conversed Answers before lines end went_out
+      last : (lines : List Line) (so : SoFar Answers before lines mid host c0 c1 waits) (end : SessionEnd) (went_out : List ℕ → Type 0) →
+          WentOut end flow (commands_of (here lines so).rest) (so.replies ++ reply ∷ []) went_out → Conversed Answers before after lines end went_out
       last lines so end went_out out =
           let h = here lines so in
           record {
@@ -144,45 +161,52 @@ module _ {S : Type 0} (Answers : S → Line → List ℕ → Flow → S → Type
             rest = commands_of h.rest;
             split = parted lines so h;
             replies = so.replies ++ reply ∷ [];
-            after = (after, flow);
+            flow = flow;
             talks = told lines so h;
             out = out;
           }
 
-      -- it ended the conversation, and its reply went out
-      pub Conversed-quit : flow ≡ Ends → Appends c1 c2 reply → IfKnown old (λ lines. Conversed Answers before lines Quit (Appends c0 c2))
-      Conversed-quit ends written = IfKnown-map old so_far (λ lines so. last lines so Quit (Appends c0 c2) (ends, went lines so written))
-
-      -- a front of its reply went out
-      pub Conversed-part : WritesFront c1 c2 reply → IfKnown old (λ lines. Conversed Answers before lines Write (Appends c0 c2))
+      -- a front of its reply, or of those before it, went out
+      pub Conversed-part : WritesFront c1 c2 (waits ++ reply) → IfKnown old (λ lines. Conversed Answers before after lines Write (Appends c0 c2))
       Conversed-part written =
           IfKnown-map old so_far
           (λ lines so.
-          last lines so Write (Appends c0 c2) (
-            so.replies,
-            reply,
-            refl,
-            record {
-              front = written.front;
-              back = written.back;
-              parts = written.parts;
-              missing = written.missing;
-              out = Appends-more c0 c1 c2 (concat so.replies) written.front so.out written.out;
-            },
-          ))
+          last lines so Write (Appends c0 c2)
+          (subst (λ (t : List ℕ). WritesFront c0 c2 t) (sym (all_said so.replies)) (WritesFront-behind c0 c1 c2 (concat so.replies) waits reply so.out written)))
 
-      -- its reply went out, and the conversation goes on
-      pub SoFar-line : flow ≡ GoesOn → Appends c1 c2 reply → IfKnown old (λ lines. SoFar Answers before lines new after (Appends c0 c2))
-      SoFar-line on written =
-          IfKnown-map old so_far
-          (λ lines so.
-          let h = here lines so in
-          record {
-            rest = h.rest;
-            source = h.source;
-            done = so.done ++ h.line ∷ [];
-            split = parted lines so h;
-            replies = so.replies ++ reply ∷ [];
-            talks = subst (λ (f : Flow). Talks Answers (before, GoesOn) (so.done ++ h.line ∷ []) (so.replies ++ reply ∷ []) (after, f)) on (told lines so h);
-            out = went lines so written;
-          })
+      module _ (left : List ℕ) (sends : SendsUpTo c1 c2 (waits ++ reply) left) where
+        goes : (lines : List Line) (so : SoFar Answers before lines mid host c0 c1 waits) → SendsUpTo c0 c2 (concat (so.replies ++ reply ∷ [])) left
+        goes lines so =
+            subst (λ (t : List ℕ). SendsUpTo c0 c2 t left) (sym (all_said so.replies)) (SendsUpTo-said c0 c1 c2 (concat so.replies) waits reply left so.out sends)
+
+        -- it ended the conversation, and all that waited went out
+        pub Conversed-quit : (c3 : Option (List ℕ)) → flow ≡ Ends → Appends c2 c3 left → IfKnown old (λ lines. Conversed Answers before after lines Quit (Appends c0 c3))
+        Conversed-quit c3 ended sent =
+            IfKnown-map old so_far
+            (λ lines so. last lines so Quit (Appends c0 c3) (ended, SendsUpTo-all c0 c2 c3 (concat (so.replies ++ reply ∷ [])) left (goes lines so) sent))
+
+        -- it ended the conversation, and a front of what waited went out
+        pub Conversed-quit_cut : (c3 : Option (List ℕ)) → WritesFront c2 c3 left → IfKnown old (λ lines. Conversed Answers before after lines Write (Appends c0 c3))
+        Conversed-quit_cut c3 written =
+            IfKnown-map old so_far
+            (λ lines so.
+            let all = concat (so.replies ++ reply ∷ []) in
+            last lines so Write (Appends c0 c3)
+            (subst (λ (t : List ℕ). WritesFront c0 c3 t) (append-nil all)
+            (WritesFront-behind c0 c2 c3 all left [] (goes lines so) (subst (λ (t : List ℕ). WritesFront c2 c3 t) (sym (append-nil left)) written))))
+
+        -- the conversation goes on
+        pub SoFar-line : flow ≡ GoesOn → IfKnown old (λ lines. SoFar Answers before lines new after c0 c2 left)
+        SoFar-line on =
+            IfKnown-map old so_far
+            (λ lines so.
+            let h = here lines so in
+            record {
+              rest = h.rest;
+              source = h.source;
+              done = so.done ++ h.line ∷ [];
+              split = parted lines so h;
+              replies = so.replies ++ reply ∷ [];
+              talks = subst (λ (f : Flow). Talks Answers (before, GoesOn) (so.done ++ h.line ∷ []) (so.replies ++ reply ∷ []) (after, f)) on (told lines so h);
+              out = goes lines so;
+            })

@@ -1,14 +1,17 @@
 -- Lemmas on what a line reader gives.
 use Rattle.std.proofs.Common.{◌≡◌, ℕ, ◌<◌, List, [], ◌∷◌, ◌++◌, length, map, take, false, arith, refl, sym, subst, ap, ◌∙◌, append_assoc, Option, None, Some}
-use Rattle.std.specs.Prelude.{IfSome, ◌==◌}
-use Rattle.std.proofs.lemmas.Bool.{false≢true}
+use Rattle.std.specs.Prelude.{IfSome}
+use Rattle.std.proofs.Common.{inl, inr}
+use Rattle.std.proofs.lemmas.List.{length-take}
 use Rattle.std.specs.Str.Lines.{strip_carriage_return}
 use Rattle.std.specs.Io.KnownBytes.{Consumes}
 use Rattle.service.specs.declared.lines.NextLine.{NextLine}
 use Rattle.service.specs.declared.lines.NextLine.TheVariants.{Text, Long, NotAscii, End, Fault}
 use Rattle.service.specs.Line.{Line, line_of, lines_of, commands_of}
-use Rattle.service.specs.LineReader.{Shows, Gives, Source, known, unknown, failed, source_of, IfKnown}
-use Rattle.service.proofs.LineLemmas.{HasNoNewline, lines-newline, lines-last}
+use Rattle.service.specs.declared.lines.Stage.{Stage}
+use Rattle.service.specs.declared.lines.Stage.TheVariants.{Open, Ended, Failed}
+use Rattle.service.specs.LineReader.{Shows, ShowsAt, stripped_at, IsEndAt, Gives, Source, known, unknown, failed, source_of, left_at, TakesBytes, IfKnown}
+use Rattle.service.proofs.LineLemmas.{HasNoNewline, lines-newline, lines-last, line_of-kept, line_of-stripped_kept}
 
 -- an answer that shows the first line
 Gives-shown : (answer : NextLine) (line : Line) (bytes rest : List ℕ) → Shows answer line → lines_of bytes ≡ line ∷ lines_of rest → Gives (known bytes) answer (known rest)
@@ -49,11 +52,6 @@ Gives-last None raw answer none some all shows = Gives-unknown answer (line_of r
 Gives-last (Some bytes) raw answer none some all shows =
     Gives-shown answer (line_of raw) bytes [] shows (ap lines_of all ∙ ap (map line_of) (lines-last raw none some))
 
--- where something was kept there is a last line
-pub some_taken : (kept raw : List ℕ) → kept ≡ take 4098 raw → (length kept == 0) ≡ false → 0 < length raw
-some_taken kept [] is some = absurd (false≢true (sym (subst (λ (bytes : List ℕ). (length bytes == 0) ≡ false) is some)))
-some_taken kept (b ∷ bs) is some = omega arith
-
 -- what follows of the lines that are left
 pub IfKnown-map : {P Q : List Line → Type 0} (source : Source) → IfKnown source P → ((lines : List Line) → P lines → Q lines) → IfKnown source Q
 IfKnown-map (known bytes) holds then = then (commands_of bytes) holds
@@ -65,3 +63,31 @@ pub IfKnown-input : (P : List Line → Type 0) (remaining : Option (List ℕ)) (
     IfSome remaining (λ input. P (commands_of input))
 IfKnown-input P None source made holds = tt
 IfKnown-input P (Some bytes) source made holds = subst (λ (s : Source). IfKnown s P) made holds
+
+-- the first of no bytes are none
+taken_nothing : (raw : List ℕ) → take 4098 raw ≡ [] → raw ≡ []
+taken_nothing [] none = refl
+taken_nothing (b ∷ bs) none = absurd (omega (arith, ap length none, length-take 4098 (b ∷ bs)))
+
+-- no bytes are left
+Gives-end : (old : Option (List ℕ)) (raw : List ℕ) → raw ≡ [] → IfSome old (λ bytes. bytes ≡ raw) → Gives (source_of old) End (known [])
+Gives-end None raw none all = refl
+Gives-end (Some bytes) raw none all = (all ∙ none, refl)
+
+-- a reader that is read no further gives its end again
+pub Gives-ended : (old : Option (List ℕ)) (stage : Stage) (answer : NextLine) → (stage ≡ Open → ⊥) → IsEndAt stage answer → Gives (left_at stage old) answer (left_at stage old)
+Gives-ended old Open answer closed ends = absurd (closed refl)
+Gives-ended old Ended answer closed ends = subst (λ (a : NextLine). Gives (known []) a (known [])) (sym ends) (refl, refl)
+Gives-ended old Failed answer closed ends = (ends, refl)
+
+-- what is given behind the bytes that were taken, where the reader then stands
+pub Gives-taken : (old new : Option (List ℕ)) (stage : Stage) (kept : List ℕ) (answer : NextLine) → TakesBytes old [] (Some stage) new kept → ShowsAt stage (stripped_at stage kept) answer →
+    Gives (source_of old) answer (left_at stage new)
+Gives-taken old new Open kept answer (raw, none, is, taken) shows =
+    Gives-newline old new raw answer none taken (subst (λ (l : Line). Shows answer l) (ap (λ t. line_of (strip_carriage_return t)) is ∙ line_of-stripped_kept raw) shows)
+Gives-taken old new Ended kept answer (raw, none, is, all) (inl (nothing, ends)) =
+    subst (λ (a : NextLine). Gives (source_of old) a (known [])) (sym ends) (Gives-end old raw (taken_nothing raw (sym is ∙ nothing)) all)
+Gives-taken old new Ended kept answer (raw, none, is, all) (inr (some, shows)) =
+    Gives-last old raw answer none (omega (arith, ap length is, length-take 4098 raw, some)) all (subst (λ (l : Line). Shows answer l) (ap line_of is ∙ line_of-kept raw) shows)
+Gives-taken None new Failed kept answer taken fault = subst (λ (a : NextLine). Gives unknown a failed) (sym fault) refl
+Gives-taken (Some bytes) new Failed kept answer taken fault = subst (λ (a : NextLine). Gives (known bytes) a failed) (sym fault) refl

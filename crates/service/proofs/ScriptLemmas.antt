@@ -1,45 +1,40 @@
 -- Lemmas on what a script wrote.
-use Rattle.std.proofs.Common.{◌≡◌, ◌⊎◌, ℕ, List, [], refl, inl, inr, map, subst, subst₂, Option, Some, None, Result, Ok, sym}
+use Rattle.std.proofs.Common.{◌≡◌, ◌⊎◌, ℕ, List, [], refl, inl, inr, map, subst, subst₂, Option, Some, None, Result, Ok, Err, sym}
 use Rattle.std.specs.Io.KnownBytes.{Appends}
 use Rattle.std.proofs.lemmas.List.{append-nil}
-use Rattle.hall.specs.Hall.{new_hall}
+use Rattle.hall.specs.Hall.{HallState, new_hall}
 use Rattle.hall.proofs.laws.ExactRuns.{scripts_exact}
 use Rattle.service.specs.declared.faults.ScriptFault.{ScriptFault}
 use Rattle.service.specs.declared.conversations.Flow.{Flow}
 use Rattle.service.specs.declared.conversations.Flow.TheVariants.{GoesOn, Ends}
 use Rattle.service.specs.declared.conversations.SessionEnd.{SessionEnd}
 use Rattle.service.specs.declared.conversations.SessionEnd.TheVariants as end
-use Rattle.service.specs.Line.{Line}
+use Rattle.service.specs.Line.{Line, commands_of}
 use Rattle.service.specs.LineReader.{Source, IfKnown}
 use Rattle.service.specs.Conversation.{Conversed}
 use Rattle.service.specs.Outcome.{outcome_text, told_in, ScriptAnswers}
-use Rattle.service.specs.Written.{WentOut, ScriptRun, end_of, ScriptWrote}
+use Rattle.service.specs.Written.{WentOut, ScriptRun, TakesRoster, OpensWith, end_of, ScriptWrote}
 use Rattle.service.specs.Roster.{Row, tenant_of, HasRoster, ReadsRoster}
 use Rattle.service.proofs.LinesLemmas.{IfKnown-map}
 use Rattle.service.proofs.SpeakerLemmas.{HasTenants-new}
 use Rattle.service.proofs.TranscriptLemmas.{answered, never_ends}
 
--- nothing went out
-pub Appends-nothing : (contents : Option (List ℕ)) → Appends contents contents []
-Appends-nothing None = tt
-Appends-nothing (Some bytes) = sym (append-nil bytes)
-
 -- a conversation with the hall of a roster is a run
-ran : (lines commands : List Line) (rows : List Row) (how : SessionEnd) (out : List ℕ → Type 0) → HasRoster lines rows commands →
-    Conversed ScriptAnswers (new_hall (map tenant_of rows)) commands how out → (run : ScriptRun lines) × WentOut how GoesOn run.rest (map outcome_text run.outcomes) out
-ran lines commands rows how out roster talk =
+ran : (lines commands : List Line) (rows : List Row) (after : HallState) (how : SessionEnd) (out : List ℕ → Type 0) → HasRoster lines rows commands →
+    Conversed ScriptAnswers (new_hall (map tenant_of rows)) after commands how out → (run : ScriptRun lines) × WentOut how GoesOn run.rest (map outcome_text run.outcomes) out
+ran lines commands rows after how out roster talk =
     let tenants = map tenant_of rows in
-    let all = answered tenants (new_hall tenants, GoesOn) talk.after talk.done talk.replies (HasTenants-new tenants) talk.talks in (
+    let all = answered tenants (new_hall tenants, GoesOn) (after, talk.flow) talk.done talk.replies (HasTenants-new tenants) talk.talks in (
       record {
         rows = rows;
         lines = talk.done;
         rest = talk.rest;
         outcomes = all.outcomes;
         roster = subst (HasRoster lines rows) talk.split roster;
-        transcript = record { one_each = all.one_each; exact = scripts_exact tenants talk.after.0 (told_in all.outcomes) all.done };
+        transcript = record { one_each = all.one_each; exact = scripts_exact tenants after (told_in all.outcomes) all.done };
       },
       subst₂ (λ (flow : Flow) (replies : List (List ℕ)). WentOut how flow talk.rest replies out)
-          (never_ends (new_hall tenants, GoesOn) talk.after talk.done talk.replies refl talk.talks) all.printed talk.out,
+          (never_ends (new_hall tenants, GoesOn) (after, talk.flow) talk.done talk.replies refl talk.talks) all.printed talk.out,
     )
 
 -- and that is what the script wrote
@@ -51,11 +46,16 @@ wrote lines how result out (inl quit) (run, went) =
 wrote lines how result out (inr is) (run, went) = inr (run, subst (λ (e : SessionEnd). WentOut e GoesOn run.rest (map outcome_text run.outcomes) out) is went)
 
 -- the roster, and then its commands
-pub ScriptWrote-after_roster : (source mid : Source) (rows : List Row) (how : SessionEnd) (result : Result (Unit {0}) ScriptFault) (out : List ℕ → Type 0) →
-    IfKnown source (λ lines. ReadsRoster lines (Ok rows) mid) → IfKnown mid (λ lines. Conversed ScriptAnswers (new_hall (map tenant_of rows)) lines how out) →
+pub ScriptWrote-after_roster : (source mid : Source) (rows : List Row) (after : HallState) (how : SessionEnd) (result : Result (Unit {0}) ScriptFault) (out : List ℕ → Type 0) →
+    IfKnown source (λ lines. ReadsRoster lines (Ok rows) mid) → IfKnown mid (λ lines. Conversed ScriptAnswers (new_hall (map tenant_of rows)) after lines how out) →
     (how ≡ end.Quit) ⊎ (how ≡ end_of result) → IfKnown source (λ lines. ScriptWrote lines result out)
-ScriptWrote-after_roster source mid rows how result out roster talk is =
+ScriptWrote-after_roster source mid rows after how result out roster talk is =
     IfKnown-map source roster
     (λ lines reads.
     wrote lines how result out is
-    (ran lines _ rows how out reads.2 (subst (λ (s : Source). IfKnown s (λ commands. Conversed ScriptAnswers (new_hall (map tenant_of rows)) commands how out)) reads.1 talk)))
+    (ran lines _ rows after how out reads.2 (subst (λ (s : Source). IfKnown s (λ commands. Conversed ScriptAnswers (new_hall (map tenant_of rows)) after commands how out)) reads.1 talk)))
+
+-- what was taken of the lines is what they begin with
+pub OpensWith-taken : (lines : List Line) (result : Result (List Row) ScriptFault) (new : Source) (out : List ℕ → Type 0) → TakesRoster lines result new out → OpensWith lines result out
+OpensWith-taken lines (Ok rows) new out (rest, left, has) = (commands_of rest, has)
+OpensWith-taken lines (Err why) new out faulty = faulty

@@ -2,8 +2,10 @@
 use Rattle.std.proofs.Common.{◌≡◌, ◌≢◌, ◌≤◌, ◌<◌, ℕ, List, [], ◌∷◌, ◌++◌, ◌-◌, length, take, min, get_or, arith, refl, Option, None, Some, sym, subst, ◌∙◌, ap, append_assoc}
 use Rattle.std.proofs.Common.{inl, inr}
 use Rattle.std.specs.List.{before_first, position_or_len}
-use Rattle.std.specs.Io.KnownBytes.{Consumes}
-use Rattle.std.specs.Prelude.{IfSome, ◌==◌}
+use Rattle.std.specs.Io.KnownBytes.{Consumes, prepend_known}
+use Rattle.std.specs.Io.BufRead.{DropsConsumable}
+use Rattle.std.specs.Prelude.{IfSome, ◌==◌, Bool, true, false, drop, if◌then◌else◌}
+use Rattle.std.proofs.Common.{take-append-drop}
 use Rattle.std.proofs.Math.Seq.{take-append-add}
 use Rattle.std.proofs.KnownBytes.{Consumes-trans}
 use Rattle.std.proofs.lemmas.List.{append-nil, nil_from_length, take_all, take-append-le, length-take, get_or-take}
@@ -78,3 +80,13 @@ no-newline = λ k d at. absurd (omega (arith, at))
 pub shown-nothing : (old : Option (List ℕ)) (bytes part : List ℕ) → IfSome old (λ xs. length bytes ≡ 0 → xs ≡ []) → bytes ≡ part → length part ≡ 0 → IfSome old (λ xs. xs ≡ part)
 shown-nothing None bytes part end whole nothing = tt
 shown-nothing (Some xs) bytes part end whole nothing = end (rw whole nothing) ∙ sym (nil_from_length part nothing)
+
+-- bytes that were read ahead are the first of what is left
+pub taken-ahead : (none : Bool) (bytes : List ℕ) (behind new : Option (List ℕ)) (n : ℕ) → n ≤ length bytes →
+    DropsConsumable (if none then None else prepend_known bytes behind) new (Some (length bytes)) n → Consumes (if none then None else prepend_known bytes behind) new (take n bytes)
+taken-ahead true bytes behind new n within drops = tt
+taken-ahead false bytes None new n within drops = tt
+taken-ahead false bytes (Some xs) new n within drops =
+    let all = bytes ++ xs in
+    subst (λ (o : Option (List ℕ)). Consumes (Some all) o (take n bytes)) (sym (drops within))
+    (sym (take-append-drop n all) ∙ ap (λ t. t ++ drop n all) (take-append-le n bytes xs within))

@@ -1,35 +1,33 @@
 -- Lemmas on what a line of a session is answered.
-use Rattle.std.proofs.Common.{◌≡◌, ℕ, List, ◌∷◌, [], codes, true, refl, sym, ap, subst, Option, None, Some, Result, Ok, Err, IfOk, inr}
+use Rattle.std.proofs.Common.{◌≡◌, ℕ, List, ◌∷◌, [], codes, true, refl, sym, ap, subst, Option, None, Some, Result, Ok, Err}
 use Rattle.std.specs.Str.{bytes_eq}
-use Rattle.std.specs.Result.{result_or}
-use Rattle.pool.specs.Passes.{PassState, own_calls}
+use Rattle.pool.specs.Passes.{PassState}
 use Rattle.service.specs.declared.refusals.Refusal.{Refusal}
-use Rattle.service.specs.declared.refusals.Refusal.TheVariants as refusal
 use Rattle.service.specs.Roster.{Row, IsTenant}
 use Rattle.service.specs.Command.{form_of}
-use Rattle.service.specs.Refusal.{refusal_number}
-use Rattle.service.specs.Session.{IsQuit, greeting_in, session_refusal, IsLetIn, IsTold, Tells, SessionState}
+use Rattle.service.specs.Session.{greeting_in, IsGreeted, IsLetIn, IsTold, Tells, SessionState}
 use Rattle.service.specs.Words.{words}
 
--- a tenant said hello by its word, and was let in unless memory lacked for a pass
-pub IsLetIn-tried : {E : Type 0} (rows : List Row) (line first name word : List ℕ) (others : List (List ℕ)) → words line ≡ first ∷ others → true ≡ bytes_eq first (codes "hello") →
-    others ≡ name ∷ word ∷ [] → IsTenant rows name word → (tried : Result PassState E) → IfOk tried (λ p. p.tenant ≡ name) → IfOk tried (λ p. own_calls p ≡ []) →
-    IsLetIn rows (greeting_in (words line)) (result_or tried (Err refusal.Memory))
-IsLetIn-tried rows line first name word others are hello two tenant (Ok pass) named none = rw (are, sym hello, two) (tenant, named, none)
-IsLetIn-tried rows line first name word others are hello two tenant (Err _) named none = rw (are, sym hello, two) (inr (refl, tenant))
+-- a tenant said hello by its word
+pub IsGreeted-tenant : (rows : List Row) (line first name word who : List ℕ) (others : List (List ℕ)) → words line ≡ first ∷ others → true ≡ bytes_eq first (codes "hello") →
+    others ≡ name ∷ word ∷ [] → IsTenant rows name word → who ≡ name → IsGreeted rows (greeting_in (words line)) (Ok who)
+IsGreeted-tenant rows line first name word who others are hello two tenant named = rw (are, sym hello, two) (tenant, named)
 
--- a session that holds this pass is told by another line than `quit`
+-- no pass is there
+pub no_pass : (pass : Option PassState) → ((held : PassState) → pass ≡ Some held → ⊥) → pass ≡ None
+no_pass (Some held) none = absurd (none held refl)
+no_pass None none = refl
+
+-- a session that holds this pass
 pub Tells-held : (before : SessionState) (rows : List Row) (pass next : PassState) (line reply : List ℕ) → record { rows = rows; pass = Some pass } ≡ before →
-    (IsQuit line → ⊥) → IsTold pass (form_of line) reply next → (IsQuit line → ⊥) × (rows ≡ before.rows) × Tells before.rows before.pass line reply (Some next)
-Tells-held before rows pass next line reply was other told =
-    (other, ap (λ (s : SessionState). s.rows) was, subst (λ (s : SessionState). Tells s.rows s.pass line reply (Some next)) was told)
+    IsTold pass (form_of line) reply next → (rows ≡ before.rows) × Tells before.rows before.pass line reply (Some next)
+Tells-held before rows pass next line reply was told =
+    (ap (λ (s : SessionState). s.rows) was, subst (λ (s : SessionState). Tells s.rows s.pass line reply (Some next)) was told)
 
--- one that holds none yet is told why it isn't let in
-pub Tells-refused : (before : SessionState) (rows : List Row) (pass : Option PassState) (line reply : List ℕ) (why : Refusal) →
-    record { rows = rows; pass = pass } ≡ before → ((held : PassState) → pass ≡ Some held → ⊥) → (IsQuit line → ⊥) →
-    IsLetIn rows (greeting_in (words line)) (Err why) → reply ≡ session_refusal (refusal_number why) →
-    (IsQuit line → ⊥) × (rows ≡ before.rows) × Tells before.rows before.pass line reply pass
-Tells-refused before rows (Some held) line reply why was none other let_in told = absurd (none held refl)
-Tells-refused before rows None line reply why was none other let_in told =
-    let tells = subst (λ (s : SessionState). Tells s.rows s.pass line reply None) was (why, let_in, told) in
-    (other, ap (λ (s : SessionState). s.rows) was, tells)
+-- one that holds none yet
+pub Tells-new : (before : SessionState) (rows : List Row) (pass next : Option PassState) (line reply : List ℕ) (greeted : Result (List ℕ) Refusal) →
+    record { rows = rows; pass = pass } ≡ before → pass ≡ None → IsGreeted rows (greeting_in (words line)) greeted → IsLetIn greeted reply next →
+    (rows ≡ before.rows) × Tells before.rows before.pass line reply next
+Tells-new before rows (Some held) next line reply greeted was none is let_in = absurd (cc)
+Tells-new before rows None next line reply greeted was none is let_in =
+    (ap (λ (s : SessionState). s.rows) was, subst (λ (s : SessionState). Tells s.rows s.pass line reply next) was (greeted, is, let_in))

@@ -1,10 +1,14 @@
 -- Lemmas on what goes out to a writer.
-use Rattle.std.proofs.Common.{ℕ, ◌+◌, ◌-◌, ◌<◌, List, [], ◌++◌, length, take, drop, arith, sym, ◌∙◌, ap, append_assoc, Option, None, Some}
+use Rattle.std.proofs.Common.{ℕ, ◌+◌, ◌-◌, ◌<◌, ◌≡◌, List, [], ◌++◌, length, take, drop, arith, refl, sym, subst, ◌∙◌, ap, append_assoc, Option, None, Some}
 use Rattle.std.specs.Io.KnownBytes.{Appends, Keeps}
-use Rattle.std.proofs.lemmas.List.{append-nil, length-drop, take_rest}
+use Rattle.std.proofs.lemmas.List.{append-nil, length-append, length-drop, take_rest}
 use Rattle.std.proofs.Common.{take-append-drop}
 use Rattle.std.proofs.Math.Seq.{take-add}
-use Rattle.service.specs.Written.{WritesFront}
+use Rattle.service.specs.declared.lines.NextLine.{NextLine}
+use Rattle.service.specs.declared.lines.NextLine.TheVariants.{Text, Long, NotAscii, End, Fault}
+use Rattle.service.specs.Line.{Line}
+use Rattle.service.specs.LineReader.{Shows}
+use Rattle.service.specs.Written.{WritesFront, SendsUpTo, SendsBefore}
 
 -- one text after another
 pub Appends-more : (old mid new : Option (List ℕ)) (xs ys : List ℕ) → Appends old mid xs → Appends mid new ys → Appends old new (xs ++ ys)
@@ -39,3 +43,81 @@ WritesFront-sent old mid new reply sent within first kept = record {
   missing = omega (arith, length-drop sent reply);
   out = Appends-kept old mid new (take sent reply) first kept;
 }
+
+-- all goes out
+pub all_sent : (old new : Option (List ℕ)) (waited waits : List ℕ) → waits ≡ [] → Appends old new waited → SendsUpTo old new waited waits
+all_sent old new waited waits none sent = subst (λ (t : List ℕ). SendsUpTo old new waited t) (sym none) (waited, sym (append-nil waited), sent)
+
+-- nothing goes out
+pub SendsUpTo-kept : (contents : Option (List ℕ)) (waits : List ℕ) → SendsUpTo contents contents waits waits
+SendsUpTo-kept None waits = ([], refl, tt)
+SendsUpTo-kept (Some bytes) waits = ([], refl, sym (append-nil bytes))
+
+-- nothing was said, and nothing waits
+pub SendsUpTo-nothing : (contents : Option (List ℕ)) → SendsUpTo contents contents [] []
+SendsUpTo-nothing contents = SendsUpTo-kept contents []
+
+-- a line that was read ahead is given, and nothing goes out
+pub SendsBefore-ahead : (answer : NextLine) (line : Line) (contents : Option (List ℕ)) (waits : List ℕ) → Shows answer line → SendsBefore answer contents contents waits waits
+SendsBefore-ahead (Text t) line contents waits shows = SendsUpTo-kept contents waits
+SendsBefore-ahead Long line contents waits shows = SendsUpTo-kept contents waits
+SendsBefore-ahead NotAscii line contents waits shows = SendsUpTo-kept contents waits
+SendsBefore-ahead End line contents waits shows = absurd shows
+SendsBefore-ahead Fault line contents waits shows = absurd shows
+
+-- all that waited goes out before a line is read
+pub SendsBefore-sent : (answer : NextLine) (old new : Option (List ℕ)) (waited waits : List ℕ) → waits ≡ [] → Appends old new waited → SendsBefore answer old new waited waits
+SendsBefore-sent End old new waited waits none sent = (none, sent)
+SendsBefore-sent Fault old new waited waits none sent = (none, sent)
+SendsBefore-sent (Text t) old new waited waits none sent = all_sent old new waited waits none sent
+SendsBefore-sent Long old new waited waits none sent = all_sent old new waited waits none sent
+SendsBefore-sent NotAscii old new waited waits none sent = all_sent old new waited waits none sent
+
+-- before any line some of what waited goes out
+pub SendsUpTo-before : (answer : NextLine) (old new : Option (List ℕ)) (waited waits : List ℕ) → SendsBefore answer old new waited waits → SendsUpTo old new waited waits
+SendsUpTo-before End old new waited waits (none, sent) = all_sent old new waited waits none sent
+SendsUpTo-before Fault old new waited waits (none, sent) = all_sent old new waited waits none sent
+SendsUpTo-before (Text t) old new waited waits sends = sends
+SendsUpTo-before Long old new waited waits sends = sends
+SendsUpTo-before NotAscii old new waited waits sends = sends
+
+-- more of what waited goes out
+pub SendsUpTo-more : (c0 c1 c2 : Option (List ℕ)) (said waits left : List ℕ) → SendsUpTo c0 c1 said waits → SendsUpTo c1 c2 waits left → SendsUpTo c0 c2 said left
+SendsUpTo-more c0 c1 c2 said waits left (sent, parted, out) (more, split, then) =
+    (sent ++ more, parted ∙ ap (λ t. sent ++ t) split ∙ sym (append_assoc sent more left), Appends-more c0 c1 c2 sent more out then)
+
+-- a text more, of which some goes out
+pub SendsUpTo-said : (c0 c1 c2 : Option (List ℕ)) (said waits reply left : List ℕ) → SendsUpTo c0 c1 said waits → SendsUpTo c1 c2 (waits ++ reply) left →
+    SendsUpTo c0 c2 (said ++ reply) left
+SendsUpTo-said c0 c1 c2 said waits reply left (sent, parted, out) then =
+    SendsUpTo-more c0 c1 c2 (said ++ reply) (waits ++ reply) left (sent, ap (λ t. t ++ reply) parted ∙ append_assoc sent waits reply, out) then
+
+-- all that waited goes out
+pub SendsUpTo-all : (c0 c1 c2 : Option (List ℕ)) (said waits : List ℕ) → SendsUpTo c0 c1 said waits → Appends c1 c2 waits → Appends c0 c2 said
+SendsUpTo-all c0 c1 c2 said waits (sent, parted, out) then = subst (λ (t : List ℕ). Appends c0 c2 t) (sym parted) (Appends-more c0 c1 c2 sent waits out then)
+
+-- a front of what waited went out, and so a front of all
+pub WritesFront-behind : (c0 c1 c2 : Option (List ℕ)) (said waits reply : List ℕ) → SendsUpTo c0 c1 said waits → WritesFront c1 c2 (waits ++ reply) → WritesFront c0 c2 (said ++ reply)
+WritesFront-behind c0 c1 c2 said waits reply (sent, parted, out) written = record {
+  front = sent ++ written.front;
+  back = written.back;
+  parts = ap (λ t. t ++ reply) parted ∙ append_assoc sent waits reply ∙ ap (λ t. sent ++ t) written.parts ∙ sym (append_assoc sent written.front written.back);
+  missing = written.missing;
+  out = Appends-more c0 c1 c2 sent written.front out written.out;
+}
+
+-- a front of a text is one of a longer text
+pub WritesFront-longer : (old new : Option (List ℕ)) (text more : List ℕ) → WritesFront old new text → WritesFront old new (text ++ more)
+WritesFront-longer old new text more written = record {
+  front = written.front;
+  back = written.back ++ more;
+  parts = ap (λ t. t ++ more) written.parts ∙ append_assoc written.front written.back more;
+  missing = omega (arith, written.missing, length-append written.back more);
+  out = written.out;
+}
+
+-- all that waited goes out, and then a reply, so that nothing waits
+pub SendsUpTo-long : (c0 c1 c2 : Option (List ℕ)) (said reply left : List ℕ) → Appends c0 c1 said → Appends c1 c2 reply → left ≡ [] → SendsUpTo c0 c2 (said ++ reply) left
+SendsUpTo-long c0 c1 c2 said reply left first then none =
+    let all = said ++ reply in
+    subst (λ (t : List ℕ). SendsUpTo c0 c2 all t) (sym none) (all, sym (append-nil all), Appends-more c0 c1 c2 said reply first then)

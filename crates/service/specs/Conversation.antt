@@ -13,13 +13,14 @@ Talks Answers before (line ∷ lines) (reply ∷ replies) after = (mid : _ × Fl
     × Answers before.0 line reply mid.1 mid.0 × Talks Answers mid lines replies after
 Talks Answers before _ _ after = ⊥
 
--- the first of these lines were answered by a host that was this, and what went out of the replies, by how it all ended
-pub record Conversed {S : Type 0} (Answers : S → Line → List ℕ → Flow → S → Type 0) (before : S)
+-- the first of these lines were answered by a host that was the one before and is the other after them, and what went out of the
+-- replies, by how it all ended
+pub record Conversed {S : Type 0} (Answers : S → Line → List ℕ → Flow → S → Type 0) (before after : S)
     (lines : List Line) (end : SessionEnd) (went_out : List ℕ → Type 0) : Type 0 where
   pub done : List Line
   pub rest : List Line
   pub split : lines ≡ done ++ rest
   pub replies : List (List ℕ)
-  pub after : S × Flow
-  pub talks : Talks Answers (before, GoesOn) done replies after
-  pub out : WentOut end after.1 rest replies went_out
+  pub flow : Flow
+  pub talks : Talks Answers (before, GoesOn) done replies (after, flow)
+  pub out : WentOut end flow rest replies went_out

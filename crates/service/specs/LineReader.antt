@@ -1,10 +1,11 @@
 -- What a line reader has still to give, and what it gives.
-use Rattle.std.specs.Prelude.{ℕ, List, Option, Some, None, [], ◌≡◌, ◌≤◌, ⊤, true, ◌∷◌, length, ◌≢◌, ◌++◌, All, take, IfSome}
+use Rattle.std.specs.Prelude.{ℕ, List, Option, Some, None, [], ◌≡◌, ◌≤◌, ◌<◌, ◌⊎◌, ⊤, true, ◌∷◌, length, ◌≢◌, ◌++◌, All, take, IfSome}
 use Rattle.std.specs.{List.list_all, Io.Buffered.reader_remaining, Io.KnownBytes.Consumes, declared.io.buffered.BufReader.BufReader}
 use Rattle.service.specs.declared.lines.{limit.Limited.Limited, Stage.Stage, NextLine.NextLine}
 use Rattle.service.specs.declared.lines.Stage.TheVariants.{Open, Ended, Failed}
 use Rattle.service.specs.declared.lines.NextLine.TheVariants.{Text, Long, NotAscii, End, Fault}
-use Rattle.service.specs.Line.{Line, text, too_long, not_ascii, is_printable, lines_of, commands_of}
+use Rattle.std.specs.Str.Lines.{strip_carriage_return}
+use Rattle.service.specs.Line.{Line, line_of, text, too_long, not_ascii, is_printable, lines_of, commands_of}
 
 -- these bytes; bytes that the type of the reader does not say; or nothing, since a read has failed
 pub data Source : Type 0 where
@@ -22,10 +23,14 @@ abbrev pub unread_bytes : {R A : Type 0} → (R → Option (List ℕ)) → BufRe
 unread_bytes remaining ahead = reader_remaining (λ s. remaining s.inner) ahead
 
 -- what is left at each stage
+abbrev pub left_at : Stage → Option (List ℕ) → Source
+left_at Open bytes = source_of bytes
+left_at Ended bytes = known []
+left_at Failed bytes = failed
+
+-- what a reader has left, where it stands
 abbrev pub unread : {R A : Type 0} → (R → Option (List ℕ)) → BufReader (Limited R) A → Stage → Source
-unread remaining ahead Open = source_of (unread_bytes remaining ahead)
-unread remaining ahead Ended = known []
-unread remaining ahead Failed = failed
+unread remaining ahead stage = left_at stage (unread_bytes remaining ahead)
 
 -- the answer shows this line
 abbrev pub Shows : NextLine → Line → Type 0
@@ -33,6 +38,22 @@ Shows (Text t) line = line ≡ text t.now
 Shows Long line = line ≡ too_long
 Shows NotAscii line = line ≡ not_ascii
 Shows _ line = ⊥
+
+-- the answer of a reader that is read no further
+abbrev pub IsEndAt : Stage → NextLine → Type 0
+IsEndAt Failed answer = answer ≡ Fault
+IsEndAt _ answer = answer ≡ End
+
+-- the bytes of a line without its end, where the reader stands behind it
+abbrev pub stripped_at : Stage → List ℕ → List ℕ
+stripped_at Open bytes = strip_carriage_return bytes
+stripped_at _ bytes = bytes
+
+-- the answer shows the line of these bytes, where the reader stands behind it
+abbrev pub ShowsAt : Stage → List ℕ → NextLine → Type 0
+ShowsAt Open bytes answer = Shows answer (line_of bytes)
+ShowsAt Ended bytes answer = ((bytes ≡ []) × (answer ≡ End)) ⊎ ((0 < length bytes) × Shows answer (line_of bytes))
+ShowsAt Failed bytes answer = answer ≡ Fault
 
 -- The answer shows the first line of the known bytes, and what is left gives the others. The end comes only where
 -- there is no line, and then nothing is left. A fault may come at any time, and stays.

@@ -1,8 +1,10 @@
 -- What a session is answered, line by line.
-use Rattle.std.specs.Prelude.{◌≡◌, ◌⊎◌, ℕ, if◌then◌else◌, List, [], ◌∷◌, ◌++◌, codes, Option, Some, None, Result, Ok, Err}
+use Rattle.std.specs.Prelude.{◌≡◌, ℕ, if◌then◌else◌, List, [], ◌∷◌, ◌++◌, codes, Option, Some, None, IfSome, Result, Ok, Err}
 use Rattle.std.specs.Str.{bytes_eq}
+use Rattle.quotas.specs.Quota.{Quota}
 use Rattle.hall.specs.declared.calls.replies.Reply.{Reply, TheVariants.Answered}
 use Rattle.pool.specs.declared.{faults.DeskFault.DeskFault, verdicts.Verdict.Verdict}
+use Rattle.pool.specs.Histories.{IsLegal}
 use Rattle.pool.specs.Passes.{PassState, own_calls}
 use Rattle.pool.specs.Refusals.{desk_number_of}
 use Rattle.pool.specs.Served.{IsAnswered, IsWaited}
@@ -55,24 +57,27 @@ pub data IsTold (before : PassState) (form : Form) (reply : List ℕ) (after : P
   carried_out : (command : Command) (told : Result Reply DeskFault) → Reads form (Ok command) →
       IsCarriedOut before after command told → IsToldBy told reply → IsTold before form reply after
 
--- A tenant with its word is let in by a pass of its own, which has made no call, unless memory lacks for that. Any other hello
--- has the one answer, and nothing but a hello lets anyone in.
-abbrev pub IsLetIn : List Row → Option (List (List ℕ)) → Result PassState Refusal → Type 0
-IsLetIn rows (Some (name ∷ word ∷ [])) (Ok pass) =
-    IsTenant rows name word × (pass.tenant ≡ name) × (own_calls pass ≡ [])
-IsLetIn rows (Some (name ∷ word ∷ [])) (Err why) =
-    ((why ≡ refusal.BadHello) × (IsTenant rows name word → ⊥)) ⊎ ((why ≡ refusal.Memory) × IsTenant rows name word)
-IsLetIn rows (Some words) (Err why) = why ≡ refusal.Command
-IsLetIn rows None (Err why) = why ≡ refusal.NoHello
-IsLetIn rows greeting (Ok pass) = ⊥
+-- The tenant whose word it says is greeted. Any other hello has the one answer, and nothing but a hello greets anyone.
+abbrev pub IsGreeted : List Row → Option (List (List ℕ)) → Result (List ℕ) Refusal → Type 0
+IsGreeted rows (Some (name ∷ word ∷ [])) (Ok who) = IsTenant rows name word × (who ≡ name)
+IsGreeted rows (Some (name ∷ word ∷ [])) (Err why) = (IsTenant rows name word → ⊥) × (why ≡ refusal.BadHello)
+IsGreeted rows (Some words) (Err why) = why ≡ refusal.Command
+IsGreeted rows None (Err why) = why ≡ refusal.NoHello
+IsGreeted rows greeting (Ok who) = ⊥
+
+-- Who is greeted is let in by a pass of its own, which has made no call, unless memory lacks for that. Nobody else is.
+abbrev pub IsLetIn : Result (List ℕ) Refusal → List ℕ → Option PassState → Type 0
+IsLetIn (Ok who) reply (Some pass) =
+    (reply ≡ session_line (codes "hello " ++ who)) × (pass.tenant ≡ who) × (own_calls pass ≡ [])
+IsLetIn (Ok who) reply None = reply ≡ session_refusal 90
+IsLetIn (Err why) reply (Some pass) = ⊥
+IsLetIn (Err why) reply None = reply ≡ session_refusal (refusal_number why)
 
 -- What a line is told that doesn't end the session: to one who hasn't said who it is, and its pass if it is let in; or by the
 -- pass that it has.
 abbrev pub Tells : List Row → Option PassState → List ℕ → List ℕ → Option PassState → Type 0
-Tells rows None line reply (Some pass) =
-    IsLetIn rows (greeting_in (words line)) (Ok pass) × (reply ≡ session_line (codes "hello " ++ pass.tenant))
-Tells rows None line reply None =
-    (why : Refusal) × IsLetIn rows (greeting_in (words line)) (Err why) × (reply ≡ session_refusal (refusal_number why))
+Tells rows None line reply after =
+    (greeted : Result (List ℕ) Refusal) × IsGreeted rows (greeting_in (words line)) greeted × IsLetIn greeted reply after
 Tells rows (Some before) line reply (Some after) = IsTold before (form_of line) reply after
 Tells rows (Some before) line reply None = ⊥
 
@@ -81,16 +86,19 @@ pub record SessionState : Type 0 where
   pub rows : List Row
   pub pass : Option PassState
 
--- how a session's line is answered
-abbrev pub SessionAnswers : SessionState → Line → List ℕ → Flow → SessionState → Type 0
-SessionAnswers before too_long reply flow after = (reply ≡ session_refusal 65) × (flow ≡ GoesOn) × (after ≡ before)
-SessionAnswers before not_ascii reply flow after = (reply ≡ session_refusal 66) × (flow ≡ GoesOn) × (after ≡ before)
-SessionAnswers before (text line) reply Ends after = IsQuit line × (reply ≡ session_line (codes "bye")) × (after ≡ before)
-SessionAnswers before (text line) reply GoesOn after =
+-- how a session's line is answered at a desk of these tenants: what its pass has seen is a legal history of theirs
+abbrev pub SessionAnswers : List (List ℕ × Quota) → SessionState → Line → List ℕ → Flow → SessionState → Type 0
+SessionAnswers roster before too_long reply flow after = (reply ≡ session_refusal 65) × (flow ≡ GoesOn) × (after ≡ before)
+SessionAnswers roster before not_ascii reply flow after = (reply ≡ session_refusal 66) × (flow ≡ GoesOn) × (after ≡ before)
+SessionAnswers roster before (text line) reply Ends after = IsQuit line × (reply ≡ session_line (codes "bye")) × (after ≡ before)
+SessionAnswers roster before (text line) reply GoesOn after =
     (IsQuit line → ⊥) × (after.rows ≡ before.rows) × Tells before.rows before.pass line reply after.pass
+    × IfSome after.pass (λ p. IsLegal roster p.seen)
 
--- What went out of a session, by its lines that are not blank and by how it ended. Want of memory comes before anything is
--- written.
-abbrev pub SessionWrote : List Row → List Line → SessionEnd → (List ℕ → Type 0) → Type 0
-SessionWrote rows lines Memory went_out = went_out []
-SessionWrote rows lines end went_out = Conversed SessionAnswers (record { rows = rows; pass = None }) lines end went_out
+-- What went out of a session at a desk of these tenants, by its lines that are not blank and by how it ended, and the pass that it
+-- had then. Want of memory comes before anything is written.
+abbrev pub SessionWrote :
+    List (List ℕ × Quota) → List Row → List Line → SessionEnd → Option PassState → (List ℕ → Type 0) → Type 0
+SessionWrote roster rows lines Memory pass went_out = went_out [] × (pass ≡ None)
+SessionWrote roster rows lines end pass went_out = Conversed (SessionAnswers roster)
+    (record { rows = rows; pass = None }) (record { rows = rows; pass = pass }) lines end went_out

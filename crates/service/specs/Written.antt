@@ -4,6 +4,7 @@ use Rattle.std.specs.{List.concat, Io.KnownBytes.Appends}
 use Rattle.service.specs.declared.conversations.{Flow.Flow, Flow.TheVariants.GoesOn, Flow.TheVariants.Ends, SessionEnd.SessionEnd}
 use Rattle.service.specs.declared.conversations.SessionEnd.TheVariants as end
 use Rattle.service.specs.declared.faults.ScriptFault.{ScriptFault, TheVariants.Roster, TheVariants.Read, TheVariants.Write}
+use Rattle.service.specs.declared.lines.{NextLine.NextLine, NextLine.TheVariants.End, NextLine.TheVariants.Fault}
 use Rattle.service.specs.Line.{Line}
 use Rattle.service.specs.LineReader.{Source}
 use Rattle.service.specs.Roster.{Row, tenant_of, HasRoster, HasNoRoster, ReadsRoster}
@@ -21,14 +22,17 @@ pub record WroteFront (output reply : List ℕ) (went_out : List ℕ → Type 0)
 abbrev pub WritesFront : Option (List ℕ) → Option (List ℕ) → List ℕ → Type 0
 WritesFront old new reply = WroteFront [] reply (Appends old new)
 
+-- of this text a front went out, and the rest waits
+abbrev pub SendsUpTo : Option (List ℕ) → Option (List ℕ) → List ℕ → List ℕ → Type 0
+SendsUpTo old new said waits = (sent : List ℕ) × (said ≡ sent ++ waits) × Appends old new sent
+
 -- How a conversation ended after these replies, with these lines left, and what went out: all replies, up to the one that ended
--- it, to all lines, or to those that could be read; or where a write failed those before the last and a front of that.
+-- it, to all lines, or to those that could be read; or where a write failed a front of them.
 abbrev pub WentOut : SessionEnd → Flow → List Line → List (List ℕ) → (List ℕ → Type 0) → Type 0
 WentOut end.Quit flow rest replies went_out = (flow ≡ Ends) × went_out (concat replies)
 WentOut end.EndOfInput flow rest replies went_out = (flow ≡ GoesOn) × (rest ≡ []) × went_out (concat replies)
 WentOut end.Read flow rest replies went_out = (flow ≡ GoesOn) × went_out (concat replies)
-WentOut end.Write flow rest replies went_out =
-    (sent : List (List ℕ)) × (last : List ℕ) × (replies ≡ sent ++ last ∷ []) × WroteFront (concat sent) last went_out
+WentOut end.Write flow rest replies went_out = WroteFront [] (concat replies) went_out
 WentOut end.Memory flow rest replies went_out = ⊥
 
 -- a script that begins with a roster, as it was answered: all lines behind that, or where a device failed the first of them
@@ -39,6 +43,13 @@ pub record ScriptRun (input : List Line) : Type 0 where
   pub outcomes : List Outcome
   pub roster : HasRoster input rows (lines ++ rest)
   pub transcript : IsTranscript (map tenant_of rows) lines outcomes
+
+-- Before a line is given what waited went out up to some place, and all of it where the line had to be read: at the end of the input
+-- and at a fault.
+abbrev pub SendsBefore : NextLine → Option (List ℕ) → Option (List ℕ) → List ℕ → List ℕ → Type 0
+SendsBefore End old new waited waits = (waits ≡ []) × Appends old new waited
+SendsBefore Fault old new waited waits = (waits ≡ []) × Appends old new waited
+SendsBefore line old new waited waits = SendsUpTo old new waited waits
 
 -- the end of a script's conversation, by how the script ended
 abbrev pub end_of : Result (Unit {0}) ScriptFault → SessionEnd

@@ -26,7 +26,7 @@ const FIRST_PAUSE: u64 = 1;
 const LONGEST_PAUSE: u64 = 100;
 
 /// What answers the peers of a service. Several threads may call it at once.
-pub(crate) trait Service {
+pub(crate) trait Answers {
     /// Answers a peer, up to the end of what it says, and tells how that ended.
     fn answer<I: Read + Drop, W: Write>(
         &self,
@@ -34,7 +34,10 @@ pub(crate) trait Service {
         reader: I,
         writer: &mut W,
     ) -> SessionEnd;
+}
 
+/// A service, which who answers a peer can't stop.
+pub(crate) trait Service: Answers {
     /// Lets nobody wait for a search any more.
     fn stop(&self);
 }
@@ -135,7 +138,7 @@ fn is_lasting(error: &Error) -> bool
 }
 
 /// Answers connection after connection until the queue ends, and keeps each in this place meanwhile.
-fn answer_queue<S: Service, R: Wait + Clock>(
+fn answer_queue<S: Answers, R: Wait + Clock>(
     rt: &R,
     alloc: Global,
     service: &S,
@@ -155,7 +158,7 @@ fn answer_queue<S: Service, R: Wait + Clock>(
 }
 
 /// Answers a peer, each reply at once. One whose connection can't be bounded isn't answered.
-fn answer_peer<S: Service, R: Clock>(
+fn answer_peer<S: Answers, R: Clock>(
     rt: &R,
     alloc: Global,
     service: &S,

@@ -1,11 +1,14 @@
-//! A conversation: each line that comes in is answered before the next one is read.
-ghost use Rattle.std.specs.{Prelude.◌≡◌, Prelude.ℕ, Prelude.List, Io.KnownBytes.Appends};
+//! A conversation: each line that comes in is answered before the next one is taken, and what is ready goes out before a line is read.
+ghost use Rattle.std.specs.Prelude.{◌≡◌, ℕ, List, [], IfOk, OnOk, OnErr};
+ghost use Rattle.std.specs.Io.KnownBytes.{Appends};
 ghost use Rattle.service.specs.declared.refusals.Refusal.TheVariants as refusal;
-ghost use Rattle.service.specs.{Conversation.Conversed, Line.Line, Line.text, Line.too_long, Line.not_ascii, LineReader.IfKnown};
+ghost use Rattle.service.specs.{Conversation.Conversed, Line.Line, Line.text, Line.too_long, Line.not_ascii};
+ghost use Rattle.service.specs.{LineReader.IfKnown, Written.WritesFront, Written.SendsUpTo};
 
 use crate::lines::{LineReader, NextLine};
+use crate::outboxes::Outbox;
 use crate::refusals::Refusal;
-use crate::replies::{Room, write_reply};
+use crate::replies::{Room, WriteFault};
 use names::texts::is_blank;
 use std::io::{Read, Write};
 
@@ -38,6 +41,9 @@ pub(crate) trait Host {
     /// How a line may be answered: what the host was, the line, the reply, whether it goes on, and what the host is then.
     ghost Answers: { Self → Line → List ℕ → Flow → Self → Type 0 };
 
+    /// Whether the reply to a text may have to wait for others.
+    fn may_wait(&self, line: &[u8]) -> bool;
+
     /// Puts the reply to a text that isn't blank into the room.
     fn answer(&mut self, line: &[u8], reply: &mut Room) -> Flow
         ensures { Answers self.old (text line.now) reply.new result self.new };
@@ -48,32 +54,73 @@ pub(crate) trait Host {
         ensures not_ascii { why ≡ refusal.NotAscii → Answers self.now not_ascii reply.new result self.now };
 }
 
-/// Answers each line that is left and isn't blank, up to the end of the input or of the conversation.
+/// Answers each line that is left and isn't blank, up to the end of the input or of the conversation. Replies wait for one another
+/// while the lines to answer were read ahead; all that are ready go out before a line is read, and before a line is answered that
+/// may wait for others.
 pub(crate) fn converse<H: Host, I: Read + Drop, W: Write>(
     host: &mut H,
     lines: &mut LineReader<I>,
     reply: &mut Room,
+    out: &mut Outbox,
     writer: &mut W,
 ) -> SessionEnd
-    ensures { IfKnown lines.old (λ commands. Conversed H.Answers host.old commands result
+    requires nothing_waits { out.old ≡ [] }
+    ensures { IfKnown lines.old (λ commands. Conversed H.Answers host.old host.new commands result
         (Appends (W.contents writer.old) (W.contents writer.new))) }
 {
     for _ in 0..u64::MAX {
-        let flow = match lines.next() {
+        let Ok(line) = lines.next_after(out, writer) else {
+            return SessionEnd::Write;
+        };
+        let flow = match line {
             NextLine::Text(line) if is_blank(line) => continue,
-            NextLine::Text(line) => host.answer(line, reply),
+            NextLine::Text(line) => {
+                let Ok(flow) = answer(host, line, reply, out, writer) else {
+                    return SessionEnd::Write;
+                };
+                flow
+            }
             NextLine::Long => host.refuse(Refusal::LineLong, reply),
             NextLine::NotAscii => host.refuse(Refusal::NotAscii, reply),
             NextLine::End => return SessionEnd::EndOfInput,
             NextLine::Fault => return SessionEnd::Read,
         };
-        let Ok(()) = write_reply(writer, reply.as_slice()) else {
+        let Ok(()) = out.put(writer, reply.as_slice()) else {
             return SessionEnd::Write;
         };
         match flow {
             Flow::GoesOn => {}
-            Flow::Ends => return SessionEnd::Quit,
+            Flow::Ends => {
+                let Ok(()) = out.send(writer) else {
+                    return SessionEnd::Write;
+                };
+                return SessionEnd::Quit;
+            }
         }
     }
+    let Ok(()) = out.send(writer) else {
+        return SessionEnd::Write;
+    };
     SessionEnd::Read
+}
+
+/// Answers a text. Where the reply may have to wait for others all that is ready goes out first.
+fn answer<H: Host, W: Write>(
+    host: &mut H,
+    line: &[u8],
+    reply: &mut Room,
+    out: &mut Outbox,
+    writer: &mut W,
+) -> Result<Flow, WriteFault>
+    ensures answers { IfOk result (λ flow. H.Answers host.old (text line.now) reply.new flow host.new) }
+    ensures sent { OnOk result (SendsUpTo (W.contents writer.old) (W.contents writer.new) out.old out.new) }
+    ensures err { OnErr result (WritesFront (W.contents writer.old) (W.contents writer.new) out.old) }
+    ensures unanswered { OnErr result (host.new ≡ host.old) }
+{
+    if host.may_wait(line) {
+        let Ok(()) = out.send(writer) else {
+            return Err(WriteFault);
+        };
+    }
+    Ok(host.answer(line, reply))
 }

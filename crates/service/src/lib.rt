@@ -7,6 +7,7 @@
 #![tactic(auto)]
 
 mod arrivals;
+mod callers;
 mod commands;
 mod connections;
 mod conversations;
@@ -15,6 +16,7 @@ mod fakes;
 mod faults;
 mod laws;
 mod lines;
+mod outboxes;
 mod peers;
 mod refusals;
 mod replies;
@@ -24,6 +26,7 @@ mod serving;
 mod sessions;
 mod words;
 
+pub use callers::{Caller, Door};
 pub use conversations::SessionEnd;
 pub use faults::{ScriptFault, ServeFault};
 pub use laws::{rosters_have_one_reading, scripts_are_isolated, two_scripts};
@@ -33,4 +36,4 @@ pub use refusals::fault_text;
 pub use rosters::{Roster, read_roster};
 pub use scripts::{run_script, run_script_keeping};
 pub use serving::{ServeOptions, serve};
-pub use sessions::serve_session;
+pub use sessions::{answer_session, serve_session};

@@ -1,15 +1,18 @@
 //! The lines of a reader.
-ghost use Rattle.std.specs.Prelude.{◌≡◌, ◌≤◌, ◌∷◌, ◌++◌, ◌^◌, [], Some, vec_len, vec_capacity, IfOk};
+ghost use Rattle.std.specs.Prelude.{◌≡◌, ◌≤◌, ◌∷◌, ◌++◌, ◌^◌, [], Some, vec_len, vec_capacity, IfOk, OnErr, IsTrue, IsFalse};
 ghost use Rattle.std.specs.{Borrow.sem, Io.BufRead.Rests, List.list_all, Str.Lines.strip_carriage_return};
 ghost use Rattle.service.specs.declared.lines.{TheConstants.KEPT, TheConstants.LINE_ROOM, limit.TheConstants.MOST_READS};
 ghost use Rattle.service.specs.Line.{line_of, is_printable};
-ghost use Rattle.service.specs.LineReader.{Shows, Gives, IsText, source_of, TakesBytes, unread_bytes};
+ghost use Rattle.service.specs.LineReader.{Shows, ShowsAt, stripped_at, IsEndAt, Gives, IsText, source_of, TakesBytes, unread_bytes};
+ghost use Rattle.service.specs.Written.{WritesFront, SendsBefore};
 ghost use Rattle.service.specs.contracts.lines.LineReader.{the_row as reader-row};
 
+use crate::outboxes::Outbox;
+use crate::replies::WriteFault;
 use limit::{Limited, MOST_READS};
 use names::texts::cut;
 use std::alloc::{AllocError, Global};
-use std::io::{BufRead, BufReader, ErrorKind, Read};
+use std::io::{BufRead, BufReader, ErrorKind, Read, Write};
 use std::marker::Model;
 
 pub(crate) mod limit;
@@ -80,25 +83,78 @@ impl<R: Read + Drop> LineReader<R> {
         Ok(LineReader { ahead, line, stage })
     }
 
+    /// The next line, as `next` gives it. Where it doesn't stand whole in what was read ahead all that waits goes out first.
+    pub(crate) fn next_after<W: Write>(
+        &mut self,
+        out: &mut Outbox,
+        writer: &mut W,
+    ) -> Result<NextLine<'_>, WriteFault>
+        ensures* after_borrow { sem 𝓛 (Rests (reader-row R.row R.Read) self.entry (λ new. IfOk result (λ line. Gives self.old line new))) }
+        ensures sent { IfOk result (λ line. SendsBefore line (W.contents writer.old) (W.contents writer.new) out.old out.new) }
+        ensures err { OnErr result (WritesFront (W.contents writer.old) (W.contents writer.new) out.old) }
+    {
+        let Stage::Open = self.stage else {
+            return match out.send(writer) {
+                Ok(()) => Ok(end_at(self.stage)),
+                Err(WriteFault) => Err(WriteFault),
+            };
+        };
+        if take_ahead(&mut self.ahead, &mut self.line) {
+            strip(Stage::Open, &mut self.line);
+            return Ok(show(Stage::Open, &self.line));
+        }
+        let Ok(()) = out.send(writer) else {
+            return Err(WriteFault);
+        };
+        let stage = read_line(&mut self.ahead, &mut self.line, out);
+        self.stage = stage;
+        strip(self.stage, &mut self.line);
+        Ok(show(self.stage, &self.line))
+    }
+
     /// The next line, lent from the room that `make` took, with no memory. The end and a fault stay: the reader is read no further.
     pub fn next(&mut self) -> NextLine<'_>
         ensures* after_borrow { sem 𝓛 (Rests (reader-row R.row R.Read) self.entry (λ new. Gives self.old result new)) }
         ensures text { IsText result }
     {
-        match self.stage {
-            Stage::Open => self.stage = take_line(&mut self.ahead, &mut self.line),
-            Stage::Ended => return NextLine::End,
-            Stage::Failed => return NextLine::Fault,
-        }
-        match self.stage {
-            Stage::Open => {
-                drop_carriage_return(&mut self.line);
-                classify(&self.line)
-            }
-            Stage::Ended if self.line.is_empty() => NextLine::End,
-            Stage::Ended => classify(&self.line),
-            Stage::Failed => NextLine::Fault,
-        }
+        let Stage::Open = self.stage else {
+            return end_at(self.stage);
+        };
+        self.stage = take_line(&mut self.ahead, &mut self.line);
+        strip(self.stage, &mut self.line);
+        show(self.stage, &self.line)
+    }
+}
+
+/// What a reader that stands here gives, which is read no further.
+fn end_at<'a>(stage: Stage) -> NextLine<'a>
+    ensures { IsEndAt stage result }
+{
+    match stage {
+        Stage::Failed => NextLine::Fault,
+        _ => NextLine::End,
+    }
+}
+
+/// Takes the carriage return off a line that a newline ended.
+fn strip(stage: Stage, line: &mut Vec<u8>)
+    ensures stripped { line.new.items ≡ stripped_at stage line.old.items }
+    ensures room { vec_capacity line.new ≡ vec_capacity line.old }
+{
+    if let Stage::Open = stage {
+        drop_carriage_return(line);
+    }
+}
+
+/// What is given of these bytes of a line, where the reader stands behind it.
+fn show(stage: Stage, line: &[u8]) -> NextLine<'_>
+    ensures shows { ShowsAt stage line.now result }
+    ensures text { IsText result }
+{
+    match stage {
+        Stage::Ended if line.is_empty() => NextLine::End,
+        Stage::Open | Stage::Ended => classify(line),
+        Stage::Failed => NextLine::Fault,
     }
 }
 
@@ -137,6 +193,41 @@ fn take_line<R: Read + Drop>(ahead: &mut BufReader<Limited<R>>, line: &mut Vec<u
         }
     }
     Stage::Failed
+}
+
+/// Takes a line as `take_line` does, while no reply waits.
+fn read_line<R: Read + Drop>(
+    ahead: &mut BufReader<Limited<R>>,
+    line: &mut Vec<u8>,
+    out: &Outbox,
+) -> Stage
+    requires nothing_waits { out.now ≡ [] }
+    requires space { KEPT ≤ vec_capacity line.old }
+    ensures taken { TakesBytes (unread_bytes R.remaining ahead.old) [] (Some result) (unread_bytes R.remaining ahead.new) line.new.items }
+    ensures space { KEPT ≤ vec_capacity line.new }
+{
+    let _none = out;
+    take_line(ahead, line)
+}
+
+/// Takes the bytes of a line and its newline where these were read ahead, and keeps the first of them. Tells whether they were.
+fn take_ahead<R: Read + Drop>(ahead: &mut BufReader<Limited<R>>, line: &mut Vec<u8>) -> bool
+    requires { KEPT ≤ vec_capacity line.old }
+    ensures taken { IsTrue result → TakesBytes (unread_bytes R.remaining ahead.old) [] (Some Stage.Open)
+        (unread_bytes R.remaining ahead.new) line.new.items }
+    ensures none { IsFalse result → ahead.new ≡ ahead.old }
+    ensures room { KEPT ≤ vec_capacity line.new }
+{
+    let (part, rest) = cut(ahead.buffer(), b'\n');
+    let Some(_rest) = rest else {
+        return false;
+    };
+    line.clear();
+    let kept = part.len().min(KEPT);
+    line.extend_from_slice(&part[..kept]).unwrap();
+    let count = part.len() + 1;
+    ahead.consume(count);
+    true
 }
 
 /// Takes what was read ahead of a line, or reads once, up to its newline. Answers where the reader then stands, unless the line goes on.

@@ -4,6 +4,7 @@ ghost use Rattle.std.specs.Prelude.{vec_len, vec_capacity, IfOk, OnOk, OnErr};
 ghost use Rattle.std.specs.{List.flat_map, Io.KnownBytes.Appends};
 ghost use Rattle.service.specs.Reply.{front_of, line_after, error_text, listed, seen_text, text_lines, lines_after, IsLong, IsFilled};
 ghost use Rattle.{service.specs.Session.session_line, service.specs.Written.WritesFront, credential_text.specs.Spelling.canonical};
+ghost use Rattle.vaults.specs.Blocks.{rows_in};
 
 use crate::refusals::fault_text;
 use credential_text::{Credential, write_credential};
@@ -13,7 +14,7 @@ use names::texts::cut;
 use std::alloc::{AllocError, Global};
 use std::io::Write;
 use std::marker::Model;
-use vaults::{Row, Seen};
+use vaults::{Rows, Seen};
 
 /// Who a reply is for: in a script the tenant that the line names, if it names one, and in a session the peer.
 #[derive(Clone, Copy)]
@@ -160,7 +161,7 @@ fn write_reply_lines(room: &mut Room, who: &Speaker, reply: &Reply) -> Result<()
         Reply::Opened(number) => fill_counted(room, who, b"search ", *number),
         Reply::Answered(answer) => return write_answer(room, who, answer),
         Reply::Closed => fill_text(room, who, b"ended"),
-        Reply::Vault(rows) => return write_vault(room, who, rows.as_slice()),
+        Reply::Vault(rows) => return write_vault(room, who, &rows.lent()),
         Reply::Sees(seen) => return write_sees(room, who, seen.as_slice()),
         Reply::Proof(proof) => return write_steps(room, who, proof),
         Reply::Refused(fault) => fill_error(room, who, fault.number()),
@@ -265,13 +266,13 @@ fn write_line(room: &mut Room, who: &Speaker, line: &[u8]) -> Result<(), AllocEr
 }
 
 /// How many credentials there are, and a line for each.
-fn write_vault(room: &mut Room, who: &Speaker, rows: &[Row]) -> Result<(), AllocError>
-    ensures { OnOk result (room.new ≡ lines_after (front_of who.now) (Reply.Vault rows.now)) }
+fn write_vault(room: &mut Room, who: &Speaker, rows: &Rows<'_>) -> Result<(), AllocError>
+    ensures { OnOk result (room.new ≡ lines_after (front_of who.now) (Reply.Vault (rows_in rows.now))) }
 {
     fill_counted(room, who, b"vault ", rows.len() as u64);
-    for row in rows {
+    for place in 0..rows.len() {
         room.extend_front(who)?;
-        room.extend_by(row.credential())?;
+        room.extend_by(rows.row(place).credential())?;
         room.extend(b"\n")?;
     }
     Ok(())

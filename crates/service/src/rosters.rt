@@ -105,7 +105,7 @@ impl Roster {
     #[tactic(auto, using(crate::proofs::TenantLemmas::names_of_tenants))]
     pub fn desk<L: Naming>(&self, alloc: Global, unnamed: Unnamed) -> Result<Desk<L>, Fault>
         requires roster { map tenant_of self.now ≡ L.roster }
-        requires named { unnamed ≡ record { ledger = L.name; parts = L.parts; table = L.table } }
+        requires named { unnamed ≡ record { ledger = L.name; parts = L.parts; table = L.table; letters = L.letters } }
         ensures tenants { IfOk result (λ desk. desk ≡ names_of self.now) }
         ensures only_memory { IfErr result (λ f. f ≡ Fault.Memory) }
     {

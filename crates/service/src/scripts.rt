@@ -1,5 +1,5 @@
 //! A script: a roster, then the commands of its tenants, each with its reply.
-ghost use Rattle.std.specs.{Prelude.◌≡◌, Prelude.◌⊎◌, Prelude.IfSome, Io.KnownBytes.Appends};
+ghost use Rattle.std.specs.{Prelude.◌≡◌, Prelude.◌⊎◌, Prelude.[], Prelude.IfSome, Io.KnownBytes.Appends};
 ghost use Rattle.hall.specs.Hall.{CarriesOut};
 ghost use Rattle.service.specs.Outcome.{IsSaid, deed_of, Becomes};
 ghost use Rattle.service.specs.{Command.form_of, Line.commands_of, LineReader.IfKnown, Written.end_of, Written.ScriptWrote};
@@ -8,6 +8,7 @@ use crate::commands::{Command, read_command};
 use crate::conversations::{Flow, Host, SessionEnd, converse};
 use crate::faults::ScriptFault;
 use crate::lines::LineReader;
+use crate::outboxes::Outbox;
 use crate::refusals::Refusal;
 use crate::replies::{Room, Speaker, fill_error, fill_reply};
 use crate::rosters::take_roster;
@@ -21,6 +22,11 @@ impl Host for Hall {
     ghost use Rattle.service.specs.Outcome.{ScriptAnswers};
 
     ghost Answers = { ScriptAnswers };
+
+    // A script's tenants wait for nobody else.
+    fn may_wait(&self, _line: &[u8]) -> bool {
+        false
+    }
 
     fn answer(&mut self, line: &[u8], reply: &mut Room) -> Flow {
         let (before, said) = cut(trim_start(line), b':');
@@ -43,7 +49,7 @@ impl Host for Hall {
 }
 
 /// Runs a script: a roster, then the commands of its tenants. Each line that isn't blank is answered before the next
-/// line is read. The room for a line and for a short reply is taken before anything is read.
+/// line is taken. The room for a line and for a short reply is taken before anything is read.
 pub fn run_script<R: Read + Drop, W: Write>(
     alloc: Global,
     reader: R,
@@ -68,7 +74,8 @@ pub fn run_script_keeping<R: Read + Drop, W: Write>(
 {
     let mut reply = Room::make(alloc)?;
     let mut lines = LineReader::make(alloc, reader)?;
-    run_lines(alloc, &mut lines, &mut reply, writer, kept)
+    let mut out = Outbox::make(alloc)?;
+    run_lines(alloc, &mut lines, &mut reply, &mut out, writer, kept)
 }
 
 /// Runs the script of these lines.
@@ -76,16 +83,18 @@ fn run_lines<R: Read + Drop, W: Write>(
     alloc: Global,
     lines: &mut LineReader<R>,
     reply: &mut Room,
+    out: &mut Outbox,
     writer: &mut W,
     kept: &mut Option<Hall>,
 ) -> Result<(), ScriptFault>
+    requires nothing_waits { out.old ≡ [] }
     ensures { IfKnown lines.old
         (λ lines. ScriptWrote lines result (Appends (W.contents writer.old) (W.contents writer.new))) }
 {
     let Ok(mut hall) = take_roster(alloc, lines, writer)?.hall(alloc) else {
         return Err(ScriptFault::Memory);
     };
-    let end = converse(&mut hall, lines, reply, writer);
+    let end = converse(&mut hall, lines, reply, out, writer);
     *kept = Some(hall);
     result_of(end)
 }

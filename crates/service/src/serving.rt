@@ -5,7 +5,7 @@ ghost use Rattle.service.specs.Served.{Answered, ServeWrote, WithPort, listening
 ghost use Rattle.service.specs.{Roster.names_of, Roster.tenant_of, Session.session_line, Written.WritesFront};
 
 use crate::arrivals::arrivals_at;
-use crate::connections::{Service, answer_connections, end_all};
+use crate::connections::{Answers, Service, answer_connections, end_all};
 use crate::conversations::SessionEnd;
 use crate::faults::ServeFault;
 use crate::replies::{Room, Speaker, WriteFault, fill_counted, write_reply};
@@ -77,7 +77,7 @@ fn serve_with<L: Naming + Send + Sync, R: Threads + Wait + Clock + Sync, W: Writ
     line: &mut Room,
 ) -> Result<u64, ServeFault>
     requires roster { map tenant_of roster.now ≡ L.roster }
-    requires named { unnamed ≡ record { ledger = L.name; parts = L.parts; table = L.table } }
+    requires named { unnamed ≡ record { ledger = L.name; parts = L.parts; table = L.table; letters = L.letters } }
     ensures count { IfOk result (λ n. options.accept ≡ Some n) }
     ensures told { OnOk result (WithPort (λ port. Appends (W.contents writer.old) (W.contents writer.new) (listening_line port))) }
     ensures fault { IfErr result (λ why. ServeWrote options.accept (Err why) (Appends (W.contents writer.old) (W.contents writer.new))) }
@@ -117,7 +117,7 @@ struct AtDesk<'a, L: Naming, R> {
     ghost tenants: { desk.now ≡ names_of roster.now },
 }
 
-impl<L: Naming, R: Wait> Service for AtDesk<'_, L, R> {
+impl<L: Naming, R: Wait> Answers for AtDesk<'_, L, R> {
     fn answer<I: Read + Drop, W: Write>(
         &self,
         alloc: Global,
@@ -126,7 +126,9 @@ impl<L: Naming, R: Wait> Service for AtDesk<'_, L, R> {
     ) -> SessionEnd {
         serve_session(self.rt, alloc, self.desk, self.roster, reader, writer)
     }
+}
 
+impl<L: Naming, R: Wait> Service for AtDesk<'_, L, R> {
     fn stop(&self) {
         self.desk.stop(self.rt);
     }

@@ -10,7 +10,7 @@ use Rattle.std.proofs.lemmas.Map.Keys.{Less-from_sorted}
 use Rattle.snapshots.specs.Span.{how_many}
 use Rattle.snapshots.specs.Places.{PassesBelow, FailsAt}
 
-none_pass : {X : Type 0} (p : X → Bool) (xs : List X) → ((k : ℕ) (d : X) → k < length xs → p (get_or xs k d) ≡ false) → how_many p xs ≡ 0
+pub none_pass : {X : Type 0} (p : X → Bool) (xs : List X) → ((k : ℕ) (d : X) → k < length xs → p (get_or xs k d) ≡ false) → how_many p xs ≡ 0
 none_pass p [] fails = refl
 none_pass {X} p (x ∷ xs) fails =
     ap (λ (b : Bool). length (cond b (x ∷ filter p xs) (filter p xs))) (fails 0 x (omega arith)) ∙ none_pass p xs (λ k d within. fails (suc k) d (omega arith))

@@ -21,7 +21,7 @@ use Rattle.snapshots.proofs.Counting.{how_many_at, fail_behind, point_at}
 use Rattle.snapshots.proofs.Cuts.{cut_at, parted_rows}
 
 -- among the rows of one owner the names of their roles tell a cut
-by_name : (cut : Cut) (role : Role) (c : Credential) → c.head.owner ≡ role.owner → is_cut_by_name cut role.name c ≡ is_cut cut role c
+pub by_name : (cut : Cut) (role : Role) (c : Credential) → c.head.owner ≡ role.owner → is_cut_by_name cut role.name c ≡ is_cut cut role c
 by_name cut role c own =
     ap (is_cut_at cut) (sym (ap (λ (o : Ordering). ordering_then o (name_order c.head.name role.name)) ((names_in_order.tied c.head.owner role.owner).1 own)))
     ∙ cut_at cut role c

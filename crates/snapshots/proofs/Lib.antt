@@ -2,3 +2,4 @@ pub mod Counting
 pub mod Cuts
 pub mod Views
 pub mod Fronts
+pub mod Through

@@ -1,3 +1,4 @@
 pub mod Span
 pub mod Places
 pub mod Snapshot
+pub mod Blocks

@@ -2,11 +2,12 @@ ghost use Rattle.std.specs.Prelude.{◌≡◌};
 ghost use Rattle.std.specs.List.Sorted.{IsStrictlySortedBy};
 ghost use Rattle.credential_text.specs.Credential.{credential_order};
 ghost use Rattle.vaults.specs.Version.{version_rows};
+ghost use Rattle.vaults.specs.Blocks.{rows_in};
 
 use names::Entity;
 use std::marker::Model;
 use std::sync::Arc;
-use vaults::{Row, Version};
+use vaults::{Rows, Version};
 
 /// An owner and the version of its vault, none where the vault is empty. Seen as a vault of a view.
 #[derive(Drop)]
@@ -38,13 +39,13 @@ impl Holding {
     }
 
     /// The rows of the vault, in order.
-    pub fn rows(&self) -> &[Row]
-        ensures rows { result.now ≡ self.now.rows }
+    pub fn rows(&self) -> Rows<'_>
+        ensures rows { rows_in result ≡ self.now.rows }
         ensures ordered { IsStrictlySortedBy credential_order self.now.rows }
     {
         match &self.version {
             Some(version) => version.rows(),
-            None => &[],
+            None => Rows::none(),
         }
     }
 }

@@ -4,6 +4,7 @@ ghost use Rattle.std.specs.List.Sorted.{IsStrictlySortedBy};
 ghost use Rattle.names.specs.declared.roles.Role.{Role};
 ghost use Rattle.credential_text.specs.Credential.{credential_order};
 ghost use Rattle.vaults.specs.Journal.{view};
+ghost use Rattle.vaults.specs.Blocks.{rows_in};
 ghost use Rattle.vaults.specs.declared.faults.VaultFault.TheVariants as faults;
 ghost use Rattle.snapshots.specs.Span.{is_below, place_of, rows_of, role_rows, span_of, comparisons};
 ghost use Rattle.snapshots.specs.Places.{PassesBelow, FailsAt, one, neighbours};
@@ -17,7 +18,7 @@ use names::{Entity, Role};
 use std::alloc::{AllocError, Global};
 use std::marker::Model;
 use std::sync::ledger::Ledger;
-use vaults::{Book, Row, VaultFault};
+use vaults::{Book, Rows, VaultFault};
 
 /// What a tenant could read at one time: its view, over versions that nobody can change.
 pub struct Snapshot {
@@ -78,7 +79,7 @@ impl Snapshot {
     {
         let place = vaults_below(&self.vaults, &role.owner);
         let rows = rows_at(&self.vaults, &role.owner, place);
-        let (lo, hi) = rows_between(rows, role);
+        let (lo, hi) = rows_between(&rows, role);
         Span {
             vault: place,
             lo,
@@ -96,8 +97,8 @@ impl Snapshot {
             return false;
         }
         let rows = steps.rows_at(&self.vaults, &role.owner, span.vault);
-        let lo = is_rows_until(rows, role, Cut::Before, span.lo, steps);
-        let hi = is_rows_until(rows, role, Cut::Through, span.hi, steps);
+        let lo = is_rows_until(&rows, role, Cut::Before, span.lo, steps);
+        let hi = is_rows_until(&rows, role, Cut::Through, span.hi, steps);
         both(lo, hi)
     }
 
@@ -108,7 +109,7 @@ impl Snapshot {
         ensures { (role : Role) → span ≡ span_of self.now.vaults role → slice_get (role_rows self.now.vaults role) i ≡ Some result.now }
     {
         let rows = self.vaults[span.vault as usize].rows();
-        row_at(rows, span.lo + i)
+        row_at(&rows, span.lo + i)
     }
 }
 
@@ -119,11 +120,11 @@ fn hold(vaults: &mut Vec<Holding>, holding: Holding) -> Result<(), AllocError>
     Ok(())
 }
 
-fn row_at(rows: &[Row], place: u64) -> &Credential
-    requires { place < length rows.now }
-    ensures { slice_get rows.now place ≡ Some result.now }
+fn row_at<'a>(rows: &Rows<'a>, place: u64) -> &'a Credential
+    requires { place < length (rows_in rows.now) }
+    ensures { slice_get (rows_in rows.now) place ≡ Some result.now }
 {
-    rows[place as usize].credential()
+    rows.row(place as usize).credential()
 }
 
 /// How many vaults stand before the owner's.
@@ -135,19 +136,19 @@ fn vaults_below(vaults: &[Holding], owner: &Entity) -> u64
 }
 
 /// The rows of the owner's vault, which stands at this place if it stands anywhere.
-pub(crate) fn rows_at<'a>(vaults: &'a [Holding], owner: &Entity, place: u64) -> &'a [Row]
+pub(crate) fn rows_at<'a>(vaults: &'a [Holding], owner: &Entity, place: u64) -> Rows<'a>
     requires ordered { IsOrdered vaults.now }
     requires place { place ≡ place_of vaults.now owner.now }
-    ensures rows { result.now ≡ rows_of vaults.now owner.now }
+    ensures rows { rows_in result ≡ rows_of vaults.now owner.now }
     ensures sorted { IsStrictlySortedBy credential_order (rows_of vaults.now owner.now) }
 {
     let Some(holding) = vaults.get(place as usize) else {
-        return &[];
+        return Rows::none();
     };
     if holding.owner() == *owner {
         holding.rows()
     } else {
-        &[]
+        Rows::none()
     }
 }
 

@@ -4,13 +4,16 @@ ghost use Rattle.std.specs.List.Sorted.{IsStrictlySortedBy};
 ghost use Rattle.credential_text.specs.declared.credentials.Credential.{Credential as AnyCredential};
 ghost use Rattle.credential_text.specs.Credential.{credential_order};
 ghost use Rattle.snapshots.specs.Span.{how_many, is_before, is_through, is_cut_at, is_cut, is_cut_by_name};
+ghost use Rattle.vaults.specs.Blocks.{rows_in};
+ghost use Rattle.snapshots.specs.Blocks.{starts_with, EndsBefore, IsCutThrough};
+ghost use Rattle.snapshots.specs.declared.spans.Cut.TheVariants as Cut;
 ghost use Rattle.snapshots.specs.Places.{PassesBelow, FailsAt, one, neighbours};
 
 use crate::steps::Steps;
 use names::{Role, RoleName};
 use std::cmp::Ordering;
 use std::sync::ledger::Ledger;
-use vaults::Row;
+use vaults::{Row, Rows};
 
 /// Where the rows of a role stand in a snapshot: the place of its owner's vault, and in it the rows from `lo` on and
 /// before `hi`. Where there are none, `vault`, `lo` and `hi` say where they would stand.
@@ -57,8 +60,50 @@ impl Cut {
 /// Among how many rows the cut is sought at first, since most roles have few.
 const FEW: usize = 16;
 
-/// How many of the owner's rows stand before the cut. Costs little where they are few, however many there are behind it.
-pub fn rows_until(rows: &[Row], role: &Role, cut: Cut) -> u64
+/// How many of the owner's rows stand before the cut: by the block that it goes through.
+fn rows_until(rows: &Rows<'_>, role: &Role, cut: Cut) -> u64
+    requires in_order { IsStrictlySortedBy credential_order (rows_in rows.now) }
+    requires own { All (λ c. c.head.owner ≡ role.now.owner) (rows_in rows.now) }
+    requires some { 0 < length rows.now }
+    ensures { result ≡ how_many (is_cut cut role.now) (rows_in rows.now) }
+{
+    let _all = rows.len();
+    let spot = spot_of(rows, role, cut);
+    rows.start(spot) as u64 + block_until(rows.block(spot), role, cut)
+}
+
+/// Which block the cut goes through: the last one that begins before it, or else the first.
+fn spot_of(rows: &Rows<'_>, role: &Role, cut: Cut) -> usize
+    requires own { All (λ c. c.head.owner ≡ role.now.owner) (rows_in rows.now) }
+    requires some { 0 < length rows.now }
+    ensures { IsCutThrough (is_cut cut role.now) result rows.now }
+{
+    let mut low = 0;
+    let mut high = rows.blocks_len() - 1;
+    while low < high {
+        let middle = low + (high - low) / 2;
+        if begins_before(rows.block(middle), role, cut) {
+            high = middle;
+        } else {
+            low = middle + 1;
+        }
+    }
+    low
+}
+
+/// Whether the first of the owner's rows stands before the cut.
+fn begins_before(rows: &[Row], role: &Role, cut: Cut) -> bool
+    requires { All (λ c. c.head.owner ≡ role.now.owner) rows.now }
+    ensures { result ≡ starts_with (is_cut cut role.now) rows.now }
+{
+    match rows.get(0) {
+        Some(row) => cut.passes_by_name(&role.name, row),
+        None => false,
+    }
+}
+
+/// How many of a block's rows stand before the cut. Costs little where they are few, however many there are behind it.
+fn block_until(rows: &[Row], role: &Role, cut: Cut) -> u64
     requires in_order { IsStrictlySortedBy credential_order rows.now }
     requires own { All (λ c. c.head.owner ≡ role.now.owner) rows.now }
     ensures count { result ≡ how_many (is_cut cut role.now) rows.now }
@@ -80,29 +125,64 @@ fn front_of(rows: &[Row], role: &Role, cut: Cut) -> usize
 }
 
 /// From where to where the role's rows stand among those of its owner.
-pub fn rows_between(rows: &[Row], role: &Role) -> (u64, u64)
+pub fn rows_between(rows: &Rows<'_>, role: &Role) -> (u64, u64)
+    requires in_order { IsStrictlySortedBy credential_order (rows_in rows.now) }
+    requires own { All (λ c. c.head.owner ≡ role.now.owner) (rows_in rows.now) }
+    ensures lo { result.0 ≡ how_many (is_before role.now) (rows_in rows.now) }
+    ensures hi { result.1 ≡ how_many (is_through role.now) (rows_in rows.now) }
+{
+    if rows.blocks_len() == 0 {
+        return (0, 0);
+    }
+    let spot = spot_of(rows, role, Cut::Before);
+    if goes_on(rows, role, spot) {
+        return (
+            rows_until(rows, role, Cut::Before),
+            rows_until(rows, role, Cut::Through),
+        );
+    }
+    let _all = rows.len();
+    let start = rows.start(spot) as u64;
+    let (lo, hi) = block_between(rows.block(spot), role);
+    (start + lo, start + hi)
+}
+
+/// Whether rows of the role may stand behind this block too.
+fn goes_on(rows: &Rows<'_>, role: &Role, spot: usize) -> bool
+    requires own { All (λ c. c.head.owner ≡ role.now.owner) (rows_in rows.now) }
+    requires within { spot < length rows.now }
+    ensures { result ≡ false → EndsBefore (is_cut Cut.Through role.now) spot rows.now }
+{
+    if spot == 0 {
+        return false;
+    }
+    begins_before(rows.block(spot - 1), role, Cut::Through)
+}
+
+/// From where to where the role's rows stand in a block of its owner's.
+fn block_between(rows: &[Row], role: &Role) -> (u64, u64)
     requires in_order { IsStrictlySortedBy credential_order rows.now }
     requires own { All (λ c. c.head.owner ≡ role.now.owner) rows.now }
     ensures lo { result.0 ≡ how_many (is_before role.now) rows.now }
     ensures hi { result.1 ≡ how_many (is_through role.now) rows.now }
 {
-    let lo = rows_until(rows, role, Cut::Before);
+    let lo = block_until(rows, role, Cut::Before);
     let behind = &rows[lo as usize..];
-    (lo, lo + rows_until(behind, role, Cut::Through))
+    (lo, lo + block_until(behind, role, Cut::Through))
 }
 
 /// Whether just so many rows stand before the cut, by the two rows next to it.
 pub fn is_rows_until<L: Ledger>(
-    rows: &[Row],
+    rows: &Rows<'_>,
     role: &Role,
     cut: Cut,
     count: u64,
     steps: &mut Steps<L>,
 ) -> bool
-    requires { IsStrictlySortedBy credential_order rows.now }
-    ensures exact { IsTrue result ↔ (count ≡ how_many (is_cut cut role.now) rows.now) }
+    requires { IsStrictlySortedBy credential_order (rows_in rows.now) }
+    ensures exact { IsTrue result ↔ (count ≡ how_many (is_cut cut role.now) (rows_in rows.now)) }
     ensures cost { steps.new ≤ steps.old + 2 }
-    ensures counted { steps.new ≡ steps.old + neighbours rows.now count }
+    ensures counted { steps.new ≡ steps.old + neighbours (rows_in rows.now) count }
 {
     if count > rows.len() as u64 {
         return false;
@@ -115,38 +195,38 @@ pub fn is_rows_until<L: Ledger>(
 
 /// Whether the row below the place, if there is one, stands before the cut.
 fn passes_below<L: Ledger>(
-    rows: &[Row],
+    rows: &Rows<'_>,
     role: &Role,
     cut: Cut,
     place: usize,
     steps: &mut Steps<L>,
 ) -> bool
-    requires { place ≤ length rows.now }
-    ensures exact { IsTrue result ↔ PassesBelow (is_cut cut role.now) rows.now place }
+    requires { place ≤ length (rows_in rows.now) }
+    ensures exact { IsTrue result ↔ PassesBelow (is_cut cut role.now) (rows_in rows.now) place }
     ensures counted { steps.new ≡ steps.old + one (nat_lt 0 place) }
 {
     if place == 0 {
         return true;
     }
-    steps.passes(cut, role, &rows[place - 1])
+    steps.passes(cut, role, rows.row(place - 1))
 }
 
 /// Whether the row at the place, if there is one, stands behind the cut.
 fn fails_at<L: Ledger>(
-    rows: &[Row],
+    rows: &Rows<'_>,
     role: &Role,
     cut: Cut,
     place: usize,
     steps: &mut Steps<L>,
 ) -> bool
-    requires { place ≤ length rows.now }
-    ensures exact { IsTrue result ↔ FailsAt (is_cut cut role.now) rows.now place }
-    ensures counted { steps.new ≡ steps.old + one (nat_lt place (length rows.now)) }
+    requires { place ≤ length (rows_in rows.now) }
+    ensures exact { IsTrue result ↔ FailsAt (is_cut cut role.now) (rows_in rows.now) place }
+    ensures counted { steps.new ≡ steps.old + one (nat_lt place (length (rows_in rows.now))) }
 {
     if place == rows.len() {
         return true;
     }
-    !steps.passes(cut, role, &rows[place])
+    !steps.passes(cut, role, rows.row(place))
 }
 
 /// Whether both hold.

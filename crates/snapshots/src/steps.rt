@@ -3,6 +3,7 @@ ghost use Rattle.snapshots.specs.Snapshot.{IsOrdered};
 ghost use Rattle.snapshots.specs.Span.{is_below, is_cut, place_of, rows_of};
 ghost use Rattle.std.specs.List.Sorted.{IsStrictlySortedBy};
 ghost use Rattle.credential_text.specs.Credential.{credential_order};
+ghost use Rattle.vaults.specs.Blocks.{rows_in};
 
 use crate::holdings::Holding;
 use crate::snapshots::rows_at;
@@ -10,7 +11,7 @@ use crate::spans::Cut;
 use names::{Entity, Role};
 use std::marker::Model;
 use std::sync::ledger::{Book, Ledger, Share};
-use vaults::Row;
+use vaults::{Row, Rows};
 
 /// A count of comparisons, which takes no bytes. Seen as a number. What checks a span compares by its methods alone.
 #[derive(Drop)]
@@ -69,10 +70,10 @@ impl<L: Ledger> Steps<L> {
         vaults: &'a [Holding],
         owner: &Entity,
         place: u64,
-    ) -> &'a [Row]
+    ) -> Rows<'a>
         requires ordered { IsOrdered vaults.now }
         requires place { place ≡ place_of vaults.now owner.now }
-        ensures rows { result.now ≡ rows_of vaults.now owner.now }
+        ensures rows { rows_in result ≡ rows_of vaults.now owner.now }
         ensures sorted { IsStrictlySortedBy credential_order (rows_of vaults.now owner.now) }
         ensures counted { self.new ≡ self.old + 1 }
     {

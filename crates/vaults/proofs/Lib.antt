@@ -6,6 +6,7 @@ pub mod Accepted
 pub mod Places
 pub mod Steps
 pub mod Parts
+pub mod Holders
 pub mod PageWrites
 pub mod Merging
 pub mod Granting

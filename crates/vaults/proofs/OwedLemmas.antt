@@ -17,7 +17,7 @@ use Rattle.vaults.specs.declared.faults.VaultFault.TheVariants.{NotIssuer, NotHe
 use Rattle.vaults.specs.Journal.{moves, concerns, is_for_all, uploads, grants, grants_all, entries_of, last_entry, entry_is, holds, granted, is_public, refusal, revokes}
 use Rattle.vaults.specs.Kept.{subject_of, framed, entry_bytes}
 use Rattle.vaults.specs.Owed.{gives, is_about, follows, stands, owed}
-use Rattle.vaults.specs.Page.{PageState, Leaf}
+use Rattle.vaults.specs.Page.{PageState}
 use Rattle.vaults.specs.Book.{ArePages}
 use Rattle.vaults.proofs.Elements.{same_from_tied}
 use Rattle.vaults.proofs.Orders.{credentials_exact}
@@ -221,11 +221,11 @@ revoker_entered journal who GrantAll accepted revoked = cc
 revoker_entered journal who RevokeAll accepted revoked = last_has_tenant grants_all is_for_all journal who (was_public (is_public journal who) accepted)
 
 -- and so a page
-pub revoker_has_page : (journal : List Entry) (who : List ℕ) (change : Change) (pages : BTreeMap (List ℕ) Leaf) → ArePages journal pages →
+pub revoker_has_page : (journal : List Entry) (who : List ℕ) (change : Change) (pages : BTreeMap (List ℕ) PageState) → ArePages journal pages →
     refusal journal who change ≡ None → revokes change ≡ true → IsSome (get name_order pages who)
 revoker_has_page journal who change pages right accepted revoked = by (get name_order pages who) refl
   where
-    by : (o : Option Leaf) → get name_order pages who ≡ o → IsSome o
+    by : (o : Option PageState) → get name_order pages who ≡ o → IsSome o
     by (Some page) found = refl
     by None none =
         let nothing : 0 ≡ length (entries_of who journal) = ap (λ (p : PageState). p.changes) (page_missing journal pages who right (sym none)) in

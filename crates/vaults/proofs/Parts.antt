@@ -1,13 +1,13 @@
 -- Rows in order that are parted: a change of the part that it belongs to is the change of all.
-use Rattle.std.proofs.Common.{ℕ, zero, suc, Bool, true, false, cond, not, List, [], ◌∷◌, ◌++◌, ◌≡◌, ◌∙◌, ◌||◌, ◌+◌, ◌<◌, ◌≤◌, sym, ap, refl, subst, length, get_or, arith, set, insert, remove, take, drop, Some, append_assoc}
+use Rattle.std.proofs.Common.{ℕ, zero, suc, Bool, true, false, cond, not, List, [], ◌∷◌, ◌++◌, ◌≡◌, ◌∙◌, ◌||◌, ◌+◌, ◌<◌, ◌≤◌, sym, ap, refl, subst, length, get_or, arith, set, insert, remove, take, drop, Some, append_assoc, inl, inr}
 use Rattle.std.specs.List.{AllByRecursion, slice_get}
 use Rattle.std.specs.List.Sorted.{IsStrictlySortedBy}
 use Rattle.std.specs.BTreeSet.{insert_key}
 use Rattle.std.specs.declared.cmp.Ordering.{Ordering}
 use Rattle.std.specs.declared.cmp.Ordering.TheVariants.{Less, Equal, Greater}
 use Rattle.std.specs.Ordering.{eq_by_cmp, is_eq, is_lt, match_ordering}
-use Rattle.std.proofs.lemmas.Bool.{or_parts}
-use Rattle.std.proofs.lemmas.List.{append-nil, set_split}
+use Rattle.std.proofs.lemmas.Bool.{or_parts, cases_lt}
+use Rattle.std.proofs.lemmas.List.{append-nil, drop_all, set_split}
 use Rattle.std.proofs.lemmas.List.Elements.{filter-append}
 use Rattle.std.proofs.lemmas.List.Folds.{list_any-append}
 use Rattle.std.proofs.lemmas.Option.{slice_get-get_or}
@@ -15,7 +15,7 @@ use Rattle.std.proofs.lemmas.Map.Keys.{sorted_head, sorted_tail}
 use Rattle.credential_text.specs.declared.credentials.Credential.{Credential}
 use Rattle.credential_text.specs.Credential.{credential_order}
 use Rattle.vaults.specs.InOrder.{without}
-use Rattle.vaults.specs.Blocks.{rows_behind, begins_above, IsSpot}
+use Rattle.vaults.specs.Blocks.{rows_in, begins_above, IsSpot}
 use Rattle.vaults.proofs.Elements.{has, turned, same_from_tied}
 use Rattle.vaults.proofs.Places.{without_absent, absent_behind}
 use Rattle.vaults.proofs.Orders.{credentials_exact}
@@ -142,101 +142,86 @@ without_before xs ys x above =
     ∙ ap (λ (l : List Credential). without credential_order x xs ++ l) (without_absent credentials_exact ys x (has_above ys x above))
 
 -- the rows of blocks, by the block at a place
-behind_append : (cs bs : List (List Credential)) → rows_behind (cs ++ bs) ≡ rows_behind bs ++ rows_behind cs
-behind_append [] bs = sym (append-nil (rows_behind bs))
-behind_append (c ∷ cs) bs = ap (λ (l : List Credential). l ++ c) (behind_append cs bs) ∙ append_assoc (rows_behind bs) (rows_behind cs) c
-
--- the last of the blocks comes first
-pub behind_pushed : (bs : List (List Credential)) (b : List Credential) → rows_behind (bs ++ b ∷ []) ≡ b ++ rows_behind bs
-behind_pushed bs b = behind_append bs (b ∷ [])
+pub behind_append : (cs bs : List (List Credential)) → rows_in (cs ++ bs) ≡ rows_in bs ++ rows_in cs
+behind_append [] bs = sym (append-nil (rows_in bs))
+behind_append (c ∷ cs) bs = ap (λ (l : List Credential). l ++ c) (behind_append cs bs) ∙ append_assoc (rows_in bs) (rows_in cs) c
 
 split_at : (bs : List (List Credential)) (n : ℕ) (b : List Credential) → slice_get bs n ≡ Some b → bs ≡ take n bs ++ b ∷ drop (suc n) bs
 split_at [] n b at = cc
 split_at (a ∷ bs) zero b at = cc
 split_at (a ∷ bs) (suc n) b at = ap (λ (l : List (List Credential)). a ∷ l) (split_at bs n b at)
 
-take_one_more : (bs : List (List Credential)) (n : ℕ) (b : List Credential) → slice_get bs n ≡ Some b → take (suc n) bs ≡ take n bs ++ b ∷ []
+pub take_one_more : {X : Type 0} (bs : List X) (n : ℕ) (b : X) → slice_get bs n ≡ Some b → take (suc n) bs ≡ take n bs ++ b ∷ []
 take_one_more [] n b at = cc
 take_one_more (a ∷ bs) zero b at = cc
-take_one_more (a ∷ bs) (suc n) b at = ap (λ (l : List (List Credential)). a ∷ l) (take_one_more bs n b at)
+take_one_more {X} (a ∷ bs) (suc n) b at = ap (λ (l : List X). a ∷ l) (take_one_more bs n b at)
 
 pub behind_at : (bs : List (List Credential)) (n : ℕ) (b : List Credential) → slice_get bs n ≡ Some b →
-    rows_behind bs ≡ rows_behind (drop (suc n) bs) ++ (b ++ rows_behind (take n bs))
+    rows_in bs ≡ rows_in (drop (suc n) bs) ++ (b ++ rows_in (take n bs))
 behind_at bs n b at =
-    ap rows_behind (split_at bs n b at) ∙ behind_append (take n bs) (b ∷ drop (suc n) bs) ∙ append_assoc (rows_behind (drop (suc n) bs)) b (rows_behind (take n bs))
+    ap rows_in (split_at bs n b at) ∙ behind_append (take n bs) (b ∷ drop (suc n) bs) ∙ append_assoc (rows_in (drop (suc n) bs)) b (rows_in (take n bs))
 
 pub behind_set : (bs : List (List Credential)) (n : ℕ) (b : List Credential) → n < length bs →
-    rows_behind (set bs n b) ≡ rows_behind (drop (suc n) bs) ++ (b ++ rows_behind (take n bs))
+    rows_in (set bs n b) ≡ rows_in (drop (suc n) bs) ++ (b ++ rows_in (take n bs))
 behind_set bs n b within =
-    ap rows_behind (set_split bs n b within) ∙ behind_append (take n bs) (b ∷ drop (suc n) bs) ∙ append_assoc (rows_behind (drop (suc n) bs)) b (rows_behind (take n bs))
+    ap rows_in (set_split bs n b within) ∙ behind_append (take n bs) (b ∷ drop (suc n) bs) ∙ append_assoc (rows_in (drop (suc n) bs)) b (rows_in (take n bs))
 
 -- what stands behind the spot is above the credential, and what stands before it below
-above_behind_spot : (bs : List (List Credential)) (n : ℕ) (x : Credential) → IsStrictlySortedBy credential_order (rows_behind bs) → IsSpot x n bs → Above x (rows_behind (take n bs))
+above_behind_spot : (bs : List (List Credential)) (n : ℕ) (x : Credential) → IsStrictlySortedBy credential_order (rows_in bs) → IsSpot x n bs → Above x (rows_in (take n bs))
 above_behind_spot bs zero x sorted spot = tt
 above_behind_spot bs (suc m) x sorted spot =
     let within : m < length bs = omega (arith, spot.within) in
     let at : slice_get bs m ≡ Some (get_or bs m []) = slice_get-get_or bs m [] within in
     by (get_or bs m []) at (spot.before m (get_or bs m []) (omega arith) at)
   where
-    by : (b : List Credential) → slice_get bs m ≡ Some b → begins_above x b ≡ true → Above x (rows_behind (take (suc m) bs))
+    by : (b : List Credential) → slice_get bs m ≡ Some b → begins_above x b ≡ true → Above x (rows_in (take (suc m) bs))
     by [] at above = cc
     by (d ∷ b) at above =
         let less : credential_order x d ≡ Less = less_from (credential_order x d) above in
-        let in_order : IsStrictlySortedBy credential_order (d ∷ (b ++ rows_behind (take m bs))) =
-        sorted_back (rows_behind (drop (suc m) bs)) (d ∷ (b ++ rows_behind (take m bs))) (subst (IsStrictlySortedBy credential_order) (behind_at bs m (d ∷ b) at) sorted) in
-        subst (Above x) (sym (ap rows_behind (take_one_more bs m (d ∷ b) at) ∙ behind_append (take m bs) ((d ∷ b) ∷ [])))
-        (less, raise x d less (b ++ rows_behind (take m bs)) (sorted_head credential_order d (b ++ rows_behind (take m bs)) in_order))
+        let in_order : IsStrictlySortedBy credential_order (d ∷ (b ++ rows_in (take m bs))) =
+        sorted_back (rows_in (drop (suc m) bs)) (d ∷ (b ++ rows_in (take m bs))) (subst (IsStrictlySortedBy credential_order) (behind_at bs m (d ∷ b) at) sorted) in
+        subst (Above x) (sym (ap rows_in (take_one_more bs m (d ∷ b) at) ∙ behind_append (take m bs) ((d ∷ b) ∷ [])))
+        (less, raise x d less (b ++ rows_in (take m bs)) (sorted_head credential_order d (b ++ rows_in (take m bs)) in_order))
 
-below_before_spot : (rows : List Credential) (bs : List (List Credential)) (n : ℕ) (x : Credential) (b : List Credential) → IsStrictlySortedBy credential_order (rows ++ rows_behind bs) → IsSpot x n bs →
-    slice_get bs n ≡ Some b → Below x (rows ++ rows_behind (drop (suc n) bs))
-below_before_spot rows bs n x [] sorted spot at = absurd (omega (arith, (spot.there [] at).0))
-below_before_spot rows bs n x (d ∷ b) sorted spot at =
-    lower x d (credential_order x d) refl (spot.there (d ∷ b) at).1 (rows ++ rows_behind (drop (suc n) bs))
-    (below_first (rows ++ rows_behind (drop (suc n) bs)) d (b ++ rows_behind (take n bs))
-    (subst (IsStrictlySortedBy credential_order)
-    (ap (λ (l : List Credential). rows ++ l) (behind_at bs n (d ∷ b) at) ∙ sym (append_assoc rows (rows_behind (drop (suc n) bs)) (d ∷ (b ++ rows_behind (take n bs))))) sorted))
-
--- the rows in front are below the credential where its spot is a block, and the blocks above it where it is none
-pub front_below : (rows : List Credential) (bs : List (List Credential)) (n : ℕ) (x : Credential) → IsStrictlySortedBy credential_order (rows ++ rows_behind bs) → IsSpot x n bs → n < length bs → Below x rows
-front_below rows bs n x sorted spot within =
-    all_front (λ y. credential_order y x ≡ Less) rows (rows_behind (drop (suc n) bs)) (below_before_spot rows bs n x (get_or bs n []) sorted spot (slice_get-get_or bs n [] within))
-
-take_whole : (bs : List (List Credential)) (n : ℕ) → length bs ≤ n → take n bs ≡ bs
-take_whole [] zero all = refl
-take_whole [] (suc n) all = refl
-take_whole (b ∷ bs) zero all = absurd (omega (arith, all))
-take_whole (b ∷ bs) (suc n) all = ap (λ (l : List (List Credential)). b ∷ l) (take_whole bs n (omega (arith, all)))
-
-pub behind_above : (rows : List Credential) (bs : List (List Credential)) (n : ℕ) (x : Credential) → IsStrictlySortedBy credential_order (rows ++ rows_behind bs) → IsSpot x n bs → length bs ≤ n → Above x (rows_behind bs)
-behind_above rows bs n x sorted spot all =
-    subst (λ (l : List (List Credential)). Above x (rows_behind l)) (take_whole bs n all) (above_behind_spot bs n x (sorted_back rows (rows_behind bs) sorted) spot)
+below_before_spot : (bs : List (List Credential)) (n : ℕ) (x : Credential) (b : List Credential) → IsStrictlySortedBy credential_order (rows_in bs) → IsSpot x n bs →
+    slice_get bs n ≡ Some b → Below x (rows_in (drop (suc n) bs))
+below_before_spot bs n x b sorted spot at = elim (cases_lt (n + 1) (length bs)) [
+  | inl more ↦ by b at (spot.there b more at)
+  | inr last ↦ subst (λ (l : List (List Credential)). Below x (rows_in l)) (sym (drop_all (suc n) bs (omega (arith, last)))) tt
+]
+  where
+    by : (b : List Credential) → slice_get bs n ≡ Some b → (0 < length b) × (begins_above x b ≡ false) → Below x (rows_in (drop (suc n) bs))
+    by [] at there = absurd (omega (arith, there.0))
+    by (d ∷ b) at there =
+        lower x d (credential_order x d) refl there.1 (rows_in (drop (suc n) bs))
+        (below_first (rows_in (drop (suc n) bs)) d (b ++ rows_in (take n bs)) (subst (IsStrictlySortedBy credential_order) (behind_at bs n (d ∷ b) at) sorted))
 
 -- a change at the spot
-pub put_at_spot : (bs : List (List Credential)) (n : ℕ) (x : Credential) (b : List Credential) → IsStrictlySortedBy credential_order (rows_behind bs) → IsSpot x n bs → n < length bs → slice_get bs n ≡ Some b →
-    rows_behind (set bs n (insert_key credential_order b x)) ≡ insert_key credential_order (rows_behind bs) x
+pub put_at_spot : (bs : List (List Credential)) (n : ℕ) (x : Credential) (b : List Credential) → IsStrictlySortedBy credential_order (rows_in bs) → IsSpot x n bs → n < length bs → slice_get bs n ≡ Some b →
+    rows_in (set bs n (insert_key credential_order b x)) ≡ insert_key credential_order (rows_in bs) x
 put_at_spot bs n x b sorted spot within at =
     behind_set bs n (insert_key credential_order b x) within
-    ∙ ap (λ (l : List Credential). rows_behind (drop (suc n) bs) ++ l) (sym (put_before b (rows_behind (take n bs)) x (above_behind_spot bs n x sorted spot)))
-    ∙ sym (put_after (rows_behind (drop (suc n) bs)) (b ++ rows_behind (take n bs)) x (below_before_spot [] bs n x b sorted spot at))
+    ∙ ap (λ (l : List Credential). rows_in (drop (suc n) bs) ++ l) (sym (put_before b (rows_in (take n bs)) x (above_behind_spot bs n x sorted spot)))
+    ∙ sym (put_after (rows_in (drop (suc n) bs)) (b ++ rows_in (take n bs)) x (below_before_spot bs n x b sorted spot at))
     ∙ ap (λ (l : List Credential). insert_key credential_order l x) (sym (behind_at bs n b at))
 
-taken_parts : (bs : List (List Credential)) (n : ℕ) (x : Credential) (b : List Credential) → IsStrictlySortedBy credential_order (rows_behind bs) → IsSpot x n bs → slice_get bs n ≡ Some b →
-    rows_behind (drop (suc n) bs) ++ (without credential_order x b ++ rows_behind (take n bs)) ≡ without credential_order x (rows_behind bs)
+taken_parts : (bs : List (List Credential)) (n : ℕ) (x : Credential) (b : List Credential) → IsStrictlySortedBy credential_order (rows_in bs) → IsSpot x n bs → slice_get bs n ≡ Some b →
+    rows_in (drop (suc n) bs) ++ (without credential_order x b ++ rows_in (take n bs)) ≡ without credential_order x (rows_in bs)
 taken_parts bs n x b sorted spot at =
-    ap (λ (l : List Credential). rows_behind (drop (suc n) bs) ++ l) (sym (without_before b (rows_behind (take n bs)) x (above_behind_spot bs n x sorted spot)))
-    ∙ sym (without_after (rows_behind (drop (suc n) bs)) (b ++ rows_behind (take n bs)) x (below_before_spot [] bs n x b sorted spot at))
+    ap (λ (l : List Credential). rows_in (drop (suc n) bs) ++ l) (sym (without_before b (rows_in (take n bs)) x (above_behind_spot bs n x sorted spot)))
+    ∙ sym (without_after (rows_in (drop (suc n) bs)) (b ++ rows_in (take n bs)) x (below_before_spot bs n x b sorted spot at))
     ∙ ap (without credential_order x) (sym (behind_at bs n b at))
 
-pub take_at_spot : (bs : List (List Credential)) (n : ℕ) (x : Credential) (b : List Credential) → IsStrictlySortedBy credential_order (rows_behind bs) → IsSpot x n bs → n < length bs → slice_get bs n ≡ Some b →
-    rows_behind (set bs n (without credential_order x b)) ≡ without credential_order x (rows_behind bs)
+pub take_at_spot : (bs : List (List Credential)) (n : ℕ) (x : Credential) (b : List Credential) → IsStrictlySortedBy credential_order (rows_in bs) → IsSpot x n bs → n < length bs → slice_get bs n ≡ Some b →
+    rows_in (set bs n (without credential_order x b)) ≡ without credential_order x (rows_in bs)
 take_at_spot bs n x b sorted spot within at = behind_set bs n (without credential_order x b) within ∙ taken_parts bs n x b sorted spot at
 
-pub has_at_spot : (bs : List (List Credential)) (n : ℕ) (x : Credential) (b : List Credential) → IsStrictlySortedBy credential_order (rows_behind bs) → IsSpot x n bs → slice_get bs n ≡ Some b →
-    has credential_order (rows_behind bs) x ≡ has credential_order b x
+pub has_at_spot : (bs : List (List Credential)) (n : ℕ) (x : Credential) (b : List Credential) → IsStrictlySortedBy credential_order (rows_in bs) → IsSpot x n bs → slice_get bs n ≡ Some b →
+    has credential_order (rows_in bs) x ≡ has credential_order b x
 has_at_spot bs n x b sorted spot at =
     ap (λ (l : List Credential). has credential_order l x) (behind_at bs n b at)
-    ∙ has_after (rows_behind (drop (suc n) bs)) (b ++ rows_behind (take n bs)) x (below_before_spot [] bs n x b sorted spot at)
-    ∙ has_before b (rows_behind (take n bs)) x (above_behind_spot bs n x sorted spot)
+    ∙ has_after (rows_in (drop (suc n) bs)) (b ++ rows_in (take n bs)) x (below_before_spot bs n x b sorted spot at)
+    ∙ has_before b (rows_in (take n bs)) x (above_behind_spot bs n x sorted spot)
 
 -- a block that goes with its only row
 none_left : (b : List Credential) (x : Credential) → length b ≤ 1 → has credential_order b x ≡ true → without credential_order x b ≡ []
@@ -248,18 +233,18 @@ none_left (y ∷ []) x few there = by (eq_by_cmp credential_order x y) there
     by true there = refl
     by false there = cc
 
-pub remove_at_spot : (bs : List (List Credential)) (n : ℕ) (x : Credential) (b : List Credential) → IsStrictlySortedBy credential_order (rows_behind bs) → IsSpot x n bs → slice_get bs n ≡ Some b →
-    has credential_order (rows_behind bs) x ≡ true → length b ≤ 1 → rows_behind (remove bs n) ≡ without credential_order x (rows_behind bs)
+pub remove_at_spot : (bs : List (List Credential)) (n : ℕ) (x : Credential) (b : List Credential) → IsStrictlySortedBy credential_order (rows_in bs) → IsSpot x n bs → slice_get bs n ≡ Some b →
+    has credential_order (rows_in bs) x ≡ true → length b ≤ 1 → rows_in (remove bs n) ≡ without credential_order x (rows_in bs)
 remove_at_spot bs n x b sorted spot at there few =
     behind_append (take n bs) (drop (suc n) bs)
-    ∙ ap (λ (l : List Credential). rows_behind (drop (suc n) bs) ++ (l ++ rows_behind (take n bs))) (sym (none_left b x few (sym (has_at_spot bs n x b sorted spot at) ∙ there)))
+    ∙ ap (λ (l : List Credential). rows_in (drop (suc n) bs) ++ (l ++ rows_in (take n bs))) (sym (none_left b x few (sym (has_at_spot bs n x b sorted spot at) ∙ there)))
     ∙ taken_parts bs n x b sorted spot at
 
 -- a block that is made two
 pub behind_halved : (bs : List (List Credential)) (n : ℕ) (whole front back : List Credential) → n < length bs → slice_get bs n ≡ Some whole → whole ≡ front ++ back →
-    rows_behind (insert (set bs n front) n back) ≡ rows_behind bs
+    rows_in (insert (set bs n front) n back) ≡ rows_in bs
 behind_halved (b ∷ bs) zero whole front back within at parted =
-    append_assoc (rows_behind bs) front back ∙ ap (λ (l : List Credential). rows_behind bs ++ l) (sym parted) ∙ ap (λ (l : List Credential). rows_behind bs ++ l) same
+    append_assoc (rows_in bs) front back ∙ ap (λ (l : List Credential). rows_in bs ++ l) (sym parted) ∙ ap (λ (l : List Credential). rows_in bs ++ l) same
   where
     same : whole ≡ b
     same = cc
@@ -283,31 +268,11 @@ length-taken_least rows x sorted = by (has credential_order rows x) refl
     by true there = omega (arith, length-taken rows x sorted there)
     by false absent = omega (arith, ap length (without_absent credentials_exact rows x absent))
 
--- the same among the rows in front too
-pub put_in_block : (rows : List Credential) (bs : List (List Credential)) (n : ℕ) (x : Credential) (new : List Credential) → IsStrictlySortedBy credential_order (rows ++ rows_behind bs) → IsSpot x n bs →
-    n < length bs → new ≡ insert_key credential_order (rows_behind bs) x → rows ++ new ≡ insert_key credential_order (rows ++ rows_behind bs) x
-put_in_block rows bs n x new sorted spot within put =
-    ap (λ (l : List Credential). rows ++ l) put ∙ sym (put_after rows (rows_behind bs) x (front_below rows bs n x sorted spot within))
+-- few rows in order
+pub none_sorted : IsStrictlySortedBy credential_order []
+unfolding IsStrictlySortedBy
+none_sorted = tt
 
-pub put_in_front : (rows : List Credential) (bs : List (List Credential)) (n : ℕ) (x : Credential) (new : List Credential) → IsStrictlySortedBy credential_order (rows ++ rows_behind bs) → IsSpot x n bs →
-    length bs ≤ n → new ≡ insert_key credential_order rows x → new ++ rows_behind bs ≡ insert_key credential_order (rows ++ rows_behind bs) x
-put_in_front rows bs n x new sorted spot none put =
-    ap (λ (l : List Credential). l ++ rows_behind bs) put ∙ sym (put_before rows (rows_behind bs) x (behind_above rows bs n x sorted spot none))
-
-pub take_in_block : (rows : List Credential) (bs : List (List Credential)) (n : ℕ) (x : Credential) (new : List Credential) → IsStrictlySortedBy credential_order (rows ++ rows_behind bs) → IsSpot x n bs →
-    n < length bs → new ≡ without credential_order x (rows_behind bs) → rows ++ new ≡ without credential_order x (rows ++ rows_behind bs)
-take_in_block rows bs n x new sorted spot within taken =
-    ap (λ (l : List Credential). rows ++ l) taken ∙ sym (without_after rows (rows_behind bs) x (front_below rows bs n x sorted spot within))
-
-pub take_in_front : (rows : List Credential) (bs : List (List Credential)) (n : ℕ) (x : Credential) (new : List Credential) → IsStrictlySortedBy credential_order (rows ++ rows_behind bs) → IsSpot x n bs →
-    length bs ≤ n → new ≡ without credential_order x rows → new ++ rows_behind bs ≡ without credential_order x (rows ++ rows_behind bs)
-take_in_front rows bs n x new sorted spot none taken =
-    ap (λ (l : List Credential). l ++ rows_behind bs) taken ∙ sym (without_before rows (rows_behind bs) x (behind_above rows bs n x sorted spot none))
-
-pub has_in_blocks : (rows : List Credential) (bs : List (List Credential)) (n : ℕ) (x : Credential) → IsStrictlySortedBy credential_order (rows ++ rows_behind bs) → IsSpot x n bs →
-    n < length bs → has credential_order (rows ++ rows_behind bs) x ≡ has credential_order (rows_behind bs) x
-has_in_blocks rows bs n x sorted spot within = has_after rows (rows_behind bs) x (front_below rows bs n x sorted spot within)
-
-pub has_in_front : (rows : List Credential) (bs : List (List Credential)) (n : ℕ) (x : Credential) → IsStrictlySortedBy credential_order (rows ++ rows_behind bs) → IsSpot x n bs →
-    length bs ≤ n → has credential_order (rows ++ rows_behind bs) x ≡ has credential_order rows x
-has_in_front rows bs n x sorted spot none = has_before rows (rows_behind bs) x (behind_above rows bs n x sorted spot none)
+pub one_sorted : (x : Credential) → IsStrictlySortedBy credential_order (x ∷ [])
+unfolding IsStrictlySortedBy
+one_sorted x = (tt, tt)

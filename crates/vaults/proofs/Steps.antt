@@ -13,7 +13,7 @@ use Rattle.vaults.specs.declared.changes.Change.TheVariants.{Upload, Withdraw, G
 use Rattle.vaults.specs.declared.changes.Entry.{Entry}
 use Rattle.vaults.specs.declared.faults.VaultFault.TheVariants.{NotIssuer, AlreadyHeld, NotHeld}
 use Rattle.vaults.specs.Journal.{moves, concerns, uploads, grants, entry_is, entries_of, last_entry, holds, granted, vault, readers, refusal}
-use Rattle.vaults.specs.Page.{PageState, Leaf, empty_page, empty_leaf, page_at, page_of, rows_after, readers_after, page_after, is_due}
+use Rattle.vaults.specs.Page.{PageState, empty_page, page_at, page_of, rows_after, readers_after, page_after, is_due}
 use Rattle.vaults.specs.Book.{ArePages, KeepsChange}
 use Rattle.vaults.proofs.Elements.{has, same_in_order, has-insert_key, sorted-insert_key, has-without, sorted-without, same_from_tied, tied_both_ways}
 use Rattle.names.proofs.SameNames.{is_same_tied, same_from_is_same, is_same_itself}
@@ -164,15 +164,15 @@ unfolding vault readers
 page_of_nothing tenant = refl
 
 -- a page that is found is what the journal gives
-pub page_found : (journal : List Entry) (pages : BTreeMap (List ℕ) Leaf) (tenant : List ℕ) (kept : Leaf) → ArePages journal pages → Some kept ≡ get name_order pages tenant → kept.page ≡ page_of journal tenant
-page_found journal pages tenant kept right found = ap (λ (o : Option Leaf). (unwrap_or o empty_leaf).page) found ∙ right tenant
+pub page_found : (journal : List Entry) (pages : BTreeMap (List ℕ) PageState) (tenant : List ℕ) (kept : PageState) → ArePages journal pages → Some kept ≡ get name_order pages tenant → kept ≡ page_of journal tenant
+page_found journal pages tenant kept right found = ap (λ (o : Option PageState). unwrap_or o empty_page) found ∙ right tenant
 
 -- where none is found, the journal gives nothing
-pub page_missing : (journal : List Entry) (pages : BTreeMap (List ℕ) Leaf) (tenant : List ℕ) → ArePages journal pages → None ≡ get name_order pages tenant → empty_page ≡ page_of journal tenant
-page_missing journal pages tenant right none = ap (λ (o : Option Leaf). (unwrap_or o empty_leaf).page) none ∙ right tenant
+pub page_missing : (journal : List Entry) (pages : BTreeMap (List ℕ) PageState) (tenant : List ℕ) → ArePages journal pages → None ≡ get name_order pages tenant → empty_page ≡ page_of journal tenant
+page_missing journal pages tenant right none = ap (λ (o : Option PageState). unwrap_or o empty_page) none ∙ right tenant
 
 -- pages that keep an accepted change are those of the journal with its entry
-pub pages_push : (journal : List Entry) (who : List ℕ) (change : Change) (old new : BTreeMap (List ℕ) Leaf) → refusal journal who change ≡ None →
+pub pages_push : (journal : List Entry) (who : List ℕ) (change : Change) (old new : BTreeMap (List ℕ) PageState) → refusal journal who change ≡ None →
     ArePages journal old → KeepsChange who change old new → ArePages (journal ++ entry who change ∷ []) new
 pages_push journal who change old new accepted right keeps tenant =
     keeps tenant ∙ by (is_same who tenant) refl
@@ -193,7 +193,7 @@ length-entries_of : (tenant : List ℕ) (journal : List Entry) → length (entri
 length-entries_of tenant journal = omega (arith, length-filter_both (λ (e : Entry). is_same e.tenant tenant) (λ e. not (is_same e.tenant tenant)) (λ e. refl) journal)
 
 -- so the number of its changes fits, and one more
-pub changes_fit : (journal : List Entry) (pages : BTreeMap (List ℕ) Leaf) (who : List ℕ) (n : ℕ) → ArePages journal pages → length journal ≤ n → n < 2 ^ 63 →
+pub changes_fit : (journal : List Entry) (pages : BTreeMap (List ℕ) PageState) (who : List ℕ) (n : ℕ) → ArePages journal pages → length journal ≤ n → n < 2 ^ 63 →
     (page_at pages who).changes + 1 < 2 ^ 64
 changes_fit journal pages who n right within small =
     let same : (page_at pages who).changes ≡ length (entries_of who journal) = ap (λ (k : PageState). k.changes) (right who) in
@@ -218,19 +218,19 @@ due journal who (Revoke reader) accepted = refl
 due journal who GrantAll accepted = refl
 due journal who RevokeAll accepted = refl
 
-pub page_due : (journal now : List Entry) (pages : BTreeMap (List ℕ) Leaf) (who : List ℕ) (change : Change) → journal ≡ now → ArePages journal pages → None ≡ refusal now who change →
+pub page_due : (journal now : List Entry) (pages : BTreeMap (List ℕ) PageState) (who : List ℕ) (change : Change) → journal ≡ now → ArePages journal pages → None ≡ refusal now who change →
     is_due change (page_at pages who).rows ≡ true
 page_due journal now pages who change is right accepted =
     ap (λ (k : PageState). is_due change k.rows) (right who) ∙ due journal who change (sym (subst (λ (j : List Entry). None ≡ refusal j who change) (sym is) accepted))
 
 -- an accepted change, entered in the journal and kept on the pages: now is the journal, and after is it with its entry
-pub pages_after : (journal now before after : List Entry) (who : List ℕ) (change : Change) (old new : BTreeMap (List ℕ) Leaf) → journal ≡ now → None ≡ refusal now who change →
+pub pages_after : (journal now before after : List Entry) (who : List ℕ) (change : Change) (old new : BTreeMap (List ℕ) PageState) → journal ≡ now → None ≡ refusal now who change →
     ArePages journal old → KeepsChange who change old new → before ≡ journal → after ≡ before ++ entry who change ∷ [] → ArePages after new
 pages_after journal now before after who change old new is accepted right keeps same entered =
     subst (λ (j : List Entry). ArePages j new) (sym (entered ∙ ap (λ (j : List Entry). j ++ entry who change ∷ []) same))
     (pages_push journal who change old new (sym (subst (λ (j : List Entry). None ≡ refusal j who change) (sym is) accepted)) right keeps)
 
-pub count_after : (journal before after : List Entry) (who : List ℕ) (change : Change) (pages : BTreeMap (List ℕ) Leaf) (n : ℕ) → ArePages journal pages →
+pub count_after : (journal before after : List Entry) (who : List ℕ) (change : Change) (pages : BTreeMap (List ℕ) PageState) (n : ℕ) → ArePages journal pages →
     n ≡ (page_at pages who).changes + 1 → before ≡ journal → after ≡ before ++ entry who change ∷ [] → n ≡ length (entries_of who after)
 count_after journal before after who change pages n right counted same entered =
     counted ∙ ap (λ (k : PageState). k.changes + 1) (right who) ∙ sym (changes_push journal who change)

@@ -7,10 +7,10 @@ use Rattle.names.specs.Name.{is_same, name_order}
 use Rattle.vaults.specs.declared.changes.Change.{Change}
 use Rattle.vaults.specs.declared.changes.Entry.{Entry}
 use Rattle.vaults.specs.Journal.{concerns, grants, granted, is_for_all, grants_all, is_public, AreAccepted}
-use Rattle.vaults.specs.Page.{Leaf, page_at, page_of, page_after}
+use Rattle.vaults.specs.Page.{PageState, page_at, page_of, page_after}
 
 -- each tenant's page is what the journal gives it
-abbrev pub ArePages : List Entry → BTreeMap (List ℕ) Leaf → Type 0
+abbrev pub ArePages : List Entry → BTreeMap (List ℕ) PageState → Type 0
 ArePages journal pages = (tenant : List ℕ) → page_at pages tenant ≡ page_of journal tenant
 
 -- whether the owner is kept among those that have granted the reader
@@ -30,7 +30,7 @@ abbrev pub ArePublic : List Entry → List (List ℕ) → Type 0
 ArePublic journal public = (owner : List ℕ) → is_listed public owner ≡ is_public journal owner
 
 -- the journal is of accepted changes, and the pages, who has granted whom and whose vaults are public are what it gives
-pub record IsBook (journal : List Entry) (pages : BTreeMap (List ℕ) Leaf) (granting : BTreeMap (List ℕ) (List (List ℕ)))
+pub record IsBook (journal : List Entry) (pages : BTreeMap (List ℕ) PageState) (granting : BTreeMap (List ℕ) (List (List ℕ)))
     (public : List (List ℕ)) : Type 0 where
   pub accepted : AreAccepted journal
   pub pages_are : ArePages journal pages
@@ -38,12 +38,12 @@ pub record IsBook (journal : List Entry) (pages : BTreeMap (List ℕ) Leaf) (gra
   pub public_are : ArePublic journal public
 
 -- the change is kept on the tenant's page, and every other page is as it was
-abbrev pub KeepsChange : List ℕ → Change → BTreeMap (List ℕ) Leaf → BTreeMap (List ℕ) Leaf → Type 0
+abbrev pub KeepsChange : List ℕ → Change → BTreeMap (List ℕ) PageState → BTreeMap (List ℕ) PageState → Type 0
 KeepsChange who change old new = (tenant : List ℕ) → page_at new tenant
     ≡ (if eq_by_cmp name_order who tenant then page_after change (page_at old who) else page_at old tenant)
 
 -- every page is as it was
-abbrev pub IsUnchanged : BTreeMap (List ℕ) Leaf → BTreeMap (List ℕ) Leaf → Type 0
+abbrev pub IsUnchanged : BTreeMap (List ℕ) PageState → BTreeMap (List ℕ) PageState → Type 0
 IsUnchanged old new = (tenant : List ℕ) → page_at new tenant ≡ page_at old tenant
 
 -- the change is kept for the reader that it concerns, and every other reader has the owners that it had

@@ -22,21 +22,9 @@ pub record PageState : Type 0 where
 abbrev pub empty_page : PageState
 empty_page = record { rows = []; readers = []; changes = 0 }
 
--- a page, and how many blocks of its rows stand apart
-pub record Leaf : Type 0 where
-  pub page : PageState
-  pub apart : ℕ
-
-abbrev pub empty_leaf : Leaf
-empty_leaf = record { page = empty_page; apart = 0 }
-
 -- what is kept of the tenant; one without a page has nothing
-abbrev pub page_at : BTreeMap (List ℕ) Leaf → List ℕ → PageState
-page_at pages tenant = (unwrap_or (get name_order pages tenant) empty_leaf).page
-
--- how many blocks of the tenant's rows stand apart
-abbrev pub apart_at : BTreeMap (List ℕ) Leaf → List ℕ → ℕ
-apart_at pages tenant = (unwrap_or (get name_order pages tenant) empty_leaf).apart
+abbrev pub page_at : BTreeMap (List ℕ) PageState → List ℕ → PageState
+page_at pages tenant = unwrap_or (get name_order pages tenant) empty_page
 
 -- what the journal gives the tenant
 abbrev pub page_of : List Entry → List ℕ → PageState

@@ -1,19 +1,15 @@
 ghost use Rattle.std.specs.Prelude.{◌≡◌, ◌++◌, ◌+◌, ◌<◌, ◌^◌, ℕ, List, [], ◌∷◌, None, length, unwrap_or};
-ghost use Rattle.std.specs.Prelude.{true, false, ⊤, IsSome, IsOk, IfOk, IfErr, OnOk, OnErr};
-ghost use mathlib.Core.Option.{none};
-ghost use types.Logic.{sem};
-ghost use Rattle.std.specs.Borrow.{follows_so};
+ghost use Rattle.std.specs.Prelude.{true, false, IsSome, IsOk, IfOk, IfErr, OnOk, OnErr};
 ghost use Rattle.std.specs.BTreeMap.{get};
 ghost use Rattle.names.specs.Name.{name_order};
 ghost use Rattle.vaults.specs.Journal.{entries_of, holds, granted, is_public, reads, revokes, refusal, AreAccepted};
-ghost use Rattle.vaults.specs.Journal.{vault, readers, grant_count, marked_names};
-ghost use Rattle.vaults.specs.Page.{page_at, apart_at, is_due};
+ghost use Rattle.vaults.specs.Journal.{vault, readers, grant_count, one_if, marked_names};
+ghost use Rattle.vaults.specs.Page.{page_at, is_due};
 ghost use Rattle.vaults.specs.Version.{version_rows};
 ghost use Rattle.vaults.specs.Book.{is_granting, is_listed, KeepsChange, IsUnchanged, KeepsGrant, SameGranting, KeepsPublic, SamePublic};
 ghost use Rattle.vaults.specs.declared.changes.Change.TheVariants.{Grant, Revoke, GrantAll};
 
 use crate::changes::Change;
-use crate::copies::copy_of;
 use crate::entries::Entries;
 use crate::faults::VaultFault;
 use crate::journals::Journal;
@@ -21,7 +17,6 @@ use crate::marks::Seen;
 use crate::merges::merged;
 use crate::name_sets::NameSet;
 use crate::pages::Page;
-use crate::rows::Row;
 use crate::versions::Version;
 use credential_text::Credential;
 use names::Entity;
@@ -29,6 +24,14 @@ use std::alloc::{AllocError, Global};
 use std::collections::BTreeMap;
 use std::marker::Model;
 use std::sync::Arc;
+
+/// How many credentials a tenant holds, how many of its grants stand, and how many of its changes were accepted.
+#[derive(Clone, Copy)]
+pub struct Counts {
+    pub creds: u64,
+    pub grants: u64,
+    pub changes: u64,
+}
 
 /// The journal of accepted changes, and seen as it. Beside the journal it keeps a page for each tenant with what the
 /// journal gives it, for each reader those that have granted it, and those whose vaults are public, so that no call walks
@@ -67,8 +70,6 @@ impl Drop for Book {
 }
 
 impl Book {
-    ghost use Rattle.vaults.specs.contracts.books.Book.{the_row};
-
     /// A book with no entry.
     pub fn new(alloc: Global) -> Book
         ensures { result ≡ [] }
@@ -165,25 +166,6 @@ impl Book {
         owner == who || self.grants(&owner, &who) || self.is_public(&owner)
     }
 
-    /// The credentials that the tenant issues and holds, in order.
-    pub fn vault_of(&mut self, who: Entity) -> &[Row]
-        ensures vault { result.now ≡ vault self.old who }
-        ensures* same { sem 𝓛 (follows_so the_row the_row self.entry.ghost_name none (λ _ _. ⊤) (λ book. book ≡ self.old)) }
-    {
-        settle_page(&mut self.pages, who);
-        rows_on_page(&self.pages, who)
-    }
-
-    /// A copy of the credentials that the tenant issues and holds, in order.
-    pub fn copy_of_vault(&mut self, who: Entity) -> Result<Vec<Credential>, VaultFault>
-        ensures rows { IfOk result (λ rows. rows.items ≡ vault self.old who) }
-        ensures only_memory { IfErr result (λ f. f ≡ VaultFault.Memory) }
-        ensures same { self.new ≡ self.old }
-    {
-        settle_page(&mut self.pages, who);
-        Ok(copy_of(self.alloc, rows_on_page(&self.pages, who))?)
-    }
-
     /// How many credentials the tenant issues and holds.
     pub fn creds_of(&self, who: Entity) -> u64
         ensures { result ≡ length (vault self.now who) }
@@ -226,6 +208,35 @@ impl Book {
         } else {
             readers
         }
+    }
+
+    /// What the tenant uses of what may be limited, by one look at its page.
+    pub fn used_by(&self, who: &Entity) -> Counts
+        ensures creds { result.creds ≡ length (vault self.now who.now) }
+        ensures grants { result.grants ≡ grant_count self.now who.now }
+        ensures changes { result.changes ≡ length (entries_of who.now self.now) }
+    {
+        let public = self.public_of(who);
+        match self.pages.get(who) {
+            Some(page) => Counts {
+                creds: page.rows_len() as u64,
+                grants: page.readers_len() as u64 + public,
+                changes: page.changes(),
+            },
+            None => Counts {
+                creds: 0,
+                grants: public,
+                changes: 0,
+            },
+        }
+    }
+
+    /// One where the tenant's vault is public.
+    fn public_of(&self, who: &Entity) -> u64
+        ensures count { result ≡ one_if (is_public self.now who.now) }
+        ensures fits { result < 2 }
+    {
+        if self.is_public(who) { 1 } else { 0 }
     }
 
     /// How many readers the tenant has granted.
@@ -385,27 +396,6 @@ fn keep_on_page(
             pages.insert(who, page)?;
             Ok(count)
         }
-    }
-}
-
-/// Gathers the rows on the tenant's page in one list.
-fn settle_page(pages: &mut BTreeMap<Entity, Page>, who: Entity)
-    ensures unchanged { IsUnchanged pages.old pages.new }
-    ensures settled { apart_at pages.new who ≡ 0 }
-{
-    if let Some(page) = pages.get_mut(&who) {
-        page.settle();
-    }
-}
-
-/// The rows on the tenant's page.
-fn rows_on_page(pages: &BTreeMap<Entity, Page>, who: Entity) -> &[Row]
-    requires { apart_at pages.now who ≡ 0 }
-    ensures { result.now ≡ (page_at pages.now who).rows }
-{
-    match pages.get(&who) {
-        Some(page) => page.rows(),
-        None => &[],
     }
 }
 

@@ -12,7 +12,6 @@
 mod blocks;
 mod books;
 mod changes;
-mod copies;
 mod entries;
 mod faults;
 mod journals;
@@ -24,9 +23,10 @@ mod own_rows;
 mod pages;
 mod parting;
 mod rows;
+mod shared_rows;
 mod versions;
 
-pub use books::Book;
+pub use books::{Book, Counts};
 pub use changes::{Change, Entry};
 pub use entries::Entries;
 pub use faults::VaultFault;
@@ -36,4 +36,4 @@ pub use laws::{
 };
 pub use marks::Seen;
 pub use rows::Row;
-pub use versions::Version;
+pub use versions::{Rows, Version};

@@ -1,124 +1,100 @@
-ghost use Rattle.std.specs.Prelude.{◌≡◌, ◌++◌, true, false, [], length, OnOk, OnErr};
+ghost use Rattle.std.specs.Prelude.{◌≡◌, not, true, false, [], length, OnOk, OnErr, IfOk};
 ghost use Rattle.std.specs.List.{list_any};
 ghost use Rattle.std.specs.BTreeSet.{insert_key};
 ghost use Rattle.std.specs.Ordering.{eq_by_cmp};
 ghost use Rattle.std.specs.List.Sorted.{IsStrictlySortedBy};
 ghost use Rattle.credential_text.specs.Credential.{credential_order};
 ghost use Rattle.vaults.specs.InOrder.{without};
+ghost use Rattle.vaults.specs.Blocks.{rows_in};
 
 use crate::blocks::Block;
-use crate::parting::{gather, has_row, put_row, take_row};
-use crate::rows::Row;
+use crate::parting::{has_row, put_row, take_row};
+use crate::versions::Version;
 use credential_text::Credential;
 use std::alloc::{AllocError, Global};
 use std::marker::Model;
-use std::mem;
 
-/// The rows of a vault that nobody else holds, seen as their list: those in front, and behind them the others in blocks, the
-/// last block first. Changes part blocks off, and they are gathered where the rows are lent or shared. That takes no memory,
-/// since each upload takes the room for it first.
+/// The rows of a vault as they are now, seen as their list. They stand in blocks, the last block first, and versions share
+/// those that didn't change since.
 #[derive(Drop)]
 pub struct OwnRows {
-    rows: Vec<Row>,
-    behind: Vec<Block>,
+    blocks: Vec<Block>,
     count: usize,
 }
 
 impl Model for OwnRows {
-    ghost use Rattle.std.specs.Prelude.{◌++◌, length};
-    ghost use Rattle.std.specs.Vec.{vec_capacity};
-    ghost use Rattle.vaults.specs.Blocks.{LooseRows, rows_behind, AreOwnRows};
+    ghost use Rattle.std.specs.Prelude.{List};
+    ghost use Rattle.vaults.specs.Blocks.{rows_in, AreOwnRows};
+    ghost use Rattle.credential_text.specs.declared.credentials.Credential.{Credential};
 
-    ghost Value = { LooseRows };
+    ghost Value = { List Credential };
 
-    ghost view = { λ r. record { all = r.rows.items ++ rows_behind r.behind.items; apart = length r.behind.items } };
+    ghost view = { λ r. rows_in r.blocks.items };
 
-    ghost invariant = { λ r. AreOwnRows (r.rows.items ++ rows_behind r.behind.items) (vec_capacity r.rows) r.count };
+    ghost invariant = { λ r. AreOwnRows (rows_in r.blocks.items) r.count };
 }
 
 impl OwnRows {
     /// No row.
     pub fn new(alloc: Global) -> OwnRows
-        ensures { result.all ≡ [] }
+        ensures { result ≡ [] }
     {
-        OwnRows::of(Vec::new(alloc))
-    }
-
-    /// These rows.
-    pub fn of(rows: Vec<Row>) -> OwnRows
-        requires { IsStrictlySortedBy credential_order rows.items }
-        ensures { result.all ≡ rows.items }
-    {
-        let behind = Vec::new(*rows.allocator());
-        let count = rows.len();
         OwnRows {
-            rows,
-            behind,
-            count,
+            blocks: Vec::new(alloc),
+            count: 0,
         }
     }
 
     /// How many rows there are.
     pub fn len(&self) -> usize
-        ensures { result ≡ length self.now.all }
+        ensures { result ≡ length self.now }
     {
         self.count
     }
 
     /// Whether the credential is a row.
     pub fn has(&self, credential: &Credential) -> bool
-        ensures { result ≡ list_any (eq_by_cmp credential_order credential.now) self.now.all }
+        ensures { result ≡ list_any (eq_by_cmp credential_order credential.now) self.now }
     {
-        has_row(&self.rows, &self.behind, credential)
+        has_row(&self.blocks, credential)
     }
 
-    /// Puts a credential that isn't there into its place.
-    pub fn put(&mut self, credential: &Credential) -> Result<(), AllocError>
-        requires { list_any (eq_by_cmp credential_order credential.now) self.old.all ≡ false }
-        ensures put { OnOk result (self.new.all ≡ insert_key credential_order self.old.all credential.now) }
-        ensures unchanged { OnErr result (self.new.all ≡ self.old.all) }
+    /// Puts the credential into its place, if it isn't there, and answers whether it wasn't.
+    pub fn put(&mut self, credential: &Credential) -> Result<bool, AllocError>
+        ensures put { OnOk result (self.new ≡ insert_key credential_order self.old credential.now) }
+        ensures missed { IfOk result (λ missed. missed ≡ not (list_any (eq_by_cmp credential_order credential.now) self.old)) }
+        ensures unchanged { OnErr result (self.new ≡ self.old) }
+        ensures growth { OnErr result (list_any (eq_by_cmp credential_order credential.now) self.old ≡ false) }
     {
-        self.rows.try_reserve(self.count - self.rows.len() + 1)?;
-        put_row(&mut self.rows, &mut self.behind, credential)?;
-        self.count += 1;
-        Ok(())
+        if self.count == usize::MAX {
+            return if self.has(credential) {
+                Ok(false)
+            } else {
+                Err(AllocError)
+            };
+        }
+        let missed = put_row(&mut self.blocks, credential)?;
+        if missed {
+            self.count += 1;
+        }
+        Ok(missed)
     }
 
     /// Takes out a credential that is there.
-    pub fn take_out(&mut self, credential: &Credential)
-        requires { list_any (eq_by_cmp credential_order credential.now) self.old.all ≡ true }
-        ensures { self.new.all ≡ without credential_order credential.now self.old.all }
+    pub fn take_out(&mut self, credential: &Credential) -> Result<(), AllocError>
+        requires { list_any (eq_by_cmp credential_order credential.now) self.old ≡ true }
+        ensures taken { OnOk result (self.new ≡ without credential_order credential.now self.old) }
+        ensures unchanged { OnErr result (self.new ≡ self.old) }
     {
-        take_row(&mut self.rows, &mut self.behind, credential);
+        take_row(&mut self.blocks, credential)?;
         self.count -= 1;
+        Ok(())
     }
 
-    /// Gathers all rows in one list.
-    pub fn settle(&mut self)
-        ensures same { self.new.all ≡ self.old.all }
-        ensures settled { self.new.apart ≡ 0 }
+    /// The rows as they are now, to be held by others: no row is copied.
+    pub fn version(&self) -> Result<Version, AllocError>
+        ensures { IfOk result (λ version. version ≡ self.now) }
     {
-        gather(&mut self.rows, &mut self.behind);
-    }
-
-    /// The rows, in order.
-    pub fn rows(&self) -> &[Row]
-        requires { self.now.apart ≡ 0 }
-        ensures { result.now ≡ self.now.all }
-    {
-        &self.rows
-    }
-
-    /// Takes all rows out.
-    pub fn take_rows(&mut self) -> Vec<Row>
-        ensures rows { result.items ≡ self.old.all }
-        ensures in_order { IsStrictlySortedBy credential_order self.old.all }
-        ensures none_left { self.new.all ≡ [] }
-    {
-        gather(&mut self.rows, &mut self.behind);
-        let alloc = *self.rows.allocator();
-        let rows = mem::replace(&mut self.rows, Vec::new(alloc));
-        self.count = 0;
-        rows
+        Version::of(&self.blocks, self.count)
     }
 }

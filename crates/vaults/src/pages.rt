@@ -10,16 +10,15 @@ ghost use Rattle.vaults.specs.Page.{empty_page, page_after, is_due};
 use crate::changes::Change;
 use crate::name_sets::NameSet;
 use crate::own_rows::OwnRows;
-use crate::rows::Row;
-use crate::versions::{Version, make_own, share, shared};
+use crate::versions::{Version, shared};
 use credential_text::Credential;
 use names::Entity;
 use std::alloc::{AllocError, Global};
 use std::marker::Model;
 use std::sync::Arc;
 
-/// What is kept of one tenant beside the journal: the rows of its vault, in a version where they were shared since their
-/// last change, its readers, in order, and how many of its changes were accepted.
+/// What is kept of one tenant beside the journal: the rows of its vault, and the version of them where they were shared since
+/// their last change, its readers, in order, and how many of its changes were accepted.
 pub struct Page {
     version: Option<Arc<Version>>,
     own: OwnRows,
@@ -28,15 +27,14 @@ pub struct Page {
 }
 
 impl Model for Page {
-    ghost use Rattle.vaults.specs.Version.{rows_shown, apart_shown};
-    ghost use Rattle.vaults.specs.Page.{Leaf};
+    ghost use Rattle.vaults.specs.Version.{IsCurrent};
+    ghost use Rattle.vaults.specs.Page.{PageState};
 
-    ghost Value = { Leaf };
+    ghost Value = { PageState };
 
-    ghost view = { λ p. record {
-      page = record { rows = rows_shown p.version p.own.all; readers = p.readers; changes = p.changes };
-      apart = apart_shown p.version p.own.apart;
-    } };
+    ghost view = { λ p. record { rows = p.own; readers = p.readers; changes = p.changes } };
+
+    ghost invariant = { λ p. IsCurrent p.version p.own };
 }
 
 // By hand, so that who holds one drops it by one call, whose proof stands here.
@@ -54,7 +52,7 @@ impl Drop for Page {
 impl Page {
     /// The page of a tenant without a change.
     pub fn new(alloc: Global) -> Page
-        ensures { result.page ≡ empty_page }
+        ensures { result ≡ empty_page }
     {
         Page {
             version: None,
@@ -64,49 +62,31 @@ impl Page {
         }
     }
 
-    /// Gathers the rows in one list.
-    pub fn settle(&mut self)
-        ensures page { self.new.page ≡ self.old.page }
-        ensures settled { self.new.apart ≡ 0 }
-    {
-        if self.version.is_none() {
-            self.own.settle();
-        }
-    }
-
-    /// The rows of the tenant's vault, in order.
-    pub fn rows(&self) -> &[Row]
-        requires { self.now.apart ≡ 0 }
-        ensures { result.now ≡ self.now.page.rows }
-    {
-        match &self.version {
-            Some(version) => version.rows(),
-            None => self.own.rows(),
-        }
-    }
-
     /// How many rows the tenant's vault has.
     pub fn rows_len(&self) -> usize
-        ensures { result ≡ length self.now.page.rows }
+        ensures { result ≡ length self.now.rows }
     {
-        match &self.version {
-            Some(version) => version.rows().len(),
-            None => self.own.len(),
-        }
+        self.own.len()
     }
 
     /// The version of the tenant's vault, to be held by others too; none where the vault is empty.
     pub fn version(&mut self, alloc: Global) -> Result<Option<Arc<Version>>, AllocError>
-        ensures version { IfOk result (λ version. version_rows version ≡ self.old.page.rows) }
-        ensures same { self.new.page ≡ self.old.page }
+        ensures version { IfOk result (λ version. version_rows version ≡ self.old.rows) }
+        ensures same { self.new ≡ self.old }
     {
-        share(alloc, &mut self.version, &mut self.own)?;
+        if self.own.len() == 0 {
+            return Ok(None);
+        }
+        if self.version.is_none() {
+            let version = self.own.version()?;
+            self.version = Some(Arc::new(alloc, version)?);
+        }
         shared(&self.version)
     }
 
     /// How many readers the tenant has.
     pub fn readers_len(&self) -> usize
-        ensures count { result ≡ length self.now.page.readers }
+        ensures count { result ≡ length self.now.readers }
         ensures fits { result < 2 ^ 63 }
     {
         self.readers.len()
@@ -114,45 +94,42 @@ impl Page {
 
     /// How many changes of the tenant were accepted.
     pub fn changes(&self) -> u64
-        ensures { result ≡ self.now.page.changes }
+        ensures { result ≡ self.now.changes }
     {
         self.changes
     }
 
     /// Whether the credential is a row of the tenant's vault.
     pub fn has_row(&self, credential: &Credential) -> bool
-        ensures { result ≡ list_any (eq_by_cmp credential_order credential.now) self.now.page.rows }
+        ensures { result ≡ list_any (eq_by_cmp credential_order credential.now) self.now.rows }
     {
-        match &self.version {
-            Some(version) => version.has(credential),
-            None => self.own.has(credential),
-        }
+        self.own.has(credential)
     }
 
     /// Whether the reader is among those of the tenant.
     pub fn has_reader(&self, reader: &Entity) -> bool
-        ensures { result ≡ list_any (eq_by_cmp name_order reader.now) self.now.page.readers }
+        ensures { result ≡ list_any (eq_by_cmp name_order reader.now) self.now.readers }
     {
         self.readers.has(reader)
     }
 
     /// Keeps one change more, and answers how many there are.
     pub fn keep(&mut self, change: &Change) -> Result<u64, AllocError>
-        requires fits { self.old.page.changes + 1 < 2 ^ 64 }
-        requires due { is_due change.now self.old.page.rows ≡ true }
-        ensures kept { OnOk result (self.new.page ≡ page_after change.now self.old.page) }
-        ensures count { IfOk result (λ n. n ≡ self.old.page.changes + 1) }
+        requires fits { self.old.changes + 1 < 2 ^ 64 }
+        requires due { is_due change.now self.old.rows ≡ true }
+        ensures kept { OnOk result (self.new ≡ page_after change.now self.old) }
+        ensures count { IfOk result (λ n. n ≡ self.old.changes + 1) }
         ensures revocable { revokes change.now ≡ true → IsOk result }
-        ensures unchanged { OnErr result (self.new.page ≡ self.old.page) }
+        ensures unchanged { OnErr result (self.new ≡ self.old) }
     {
         match change {
             Change::Upload(credential) => {
-                make_own(&mut self.version, &mut self.own)?;
+                self.version = None;
                 self.own.put(credential)?;
             }
             Change::Withdraw(credential) => {
-                make_own(&mut self.version, &mut self.own)?;
-                self.own.take_out(credential);
+                self.version = None;
+                self.own.take_out(credential)?;
             }
             Change::Grant(reader) => self.readers.add(reader)?,
             Change::Revoke(reader) => self.readers.remove(reader),

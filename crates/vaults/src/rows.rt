@@ -38,19 +38,21 @@ impl Row {
         Ok(Row { held })
     }
 
-    /// The row once more: the credential isn't copied.
-    pub(crate) fn again(&self) -> Result<Row, AllocError>
-        ensures { IfOk result (λ r. r ≡ self.now) }
-    {
-        let held = Arc::try_clone(&self.held)?;
-        Ok(Row { held })
-    }
-
     /// The credential.
     pub fn credential(&self) -> &Credential
         ensures { result.now ≡ self.now }
     {
         &self.held
+    }
+}
+
+/// The row once more: the credential isn't copied.
+impl Clone for Row {
+    ghost is_clone = { λ row copy. copy ≡ row };
+
+    fn clone(&self) -> Result<Row, AllocError> {
+        let held = Arc::try_clone(&self.held)?;
+        Ok(Row { held })
     }
 }
 
@@ -60,29 +62,4 @@ pub fn place_of(rows: &[Row], credential: &Credential) -> Result<usize, usize>
     ensures { IsPlace credential_order rows.now credential.now result }
 {
     rows.binary_search_by(|row| row.credential().compare(credential))
-}
-
-/// Puts the credential into its place among the rows, if it isn't there.
-pub fn put_in(rows: &mut Vec<Row>, credential: &Credential) -> Result<(), AllocError>
-    requires { IsStrictlySortedBy credential_order rows.old.items }
-    ensures put { OnOk result (rows.new.items ≡ insert_key credential_order rows.old.items credential.now) }
-    ensures unchanged { OnErr result (rows.new.items ≡ rows.old.items) }
-    ensures no_less_room { vec_capacity rows.old ≤ vec_capacity rows.new }
-{
-    if let Err(place) = place_of(rows, credential) {
-        let row = Row::of(*rows.allocator(), credential)?;
-        rows.insert(place, row)?;
-    }
-    Ok(())
-}
-
-/// Takes the credential out of the rows, if it is there.
-pub fn take_from(rows: &mut Vec<Row>, credential: &Credential)
-    requires { IsStrictlySortedBy credential_order rows.old.items }
-    ensures taken { rows.new.items ≡ without credential_order credential.now rows.old.items }
-    ensures room { vec_capacity rows.new ≡ vec_capacity rows.old }
-{
-    if let Ok(place) = place_of(rows, credential) {
-        rows.remove(place);
-    }
 }

@@ -58,7 +58,7 @@ done_exact tenant old new (t ∷ more) sound free (middle, carried, done) =
     (carried_free old middle t.tenant t.deed t.reply free carried) done))
 
 -- what a name of a roster begins with is its account in the new hall
-started : (name : List ℕ) (roster : List (List ℕ × Quota)) → account_of (new_hall roster) name ≡ start_of name roster
+pub started : (name : List ℕ) (roster : List (List ℕ × Quota)) → account_of (new_hall roster) name ≡ start_of name roster
 started name roster =
     ap (option_map (account [] name)) (get-from_entries names_exact.total (map (λ row. (row.0, new_tenant row.1)) roster) name)
     ∙ rows roster

@@ -9,7 +9,7 @@ use snapshots::Span;
 use std::alloc::Global;
 use std::mem;
 use std::sync::Wait;
-use vaults::{Change, Row, Seen};
+use vaults::{Change, Rows, Seen};
 
 /// What is asked of a desk.
 #[derive(Clone, Copy)]
@@ -166,11 +166,12 @@ fn waited<L: Naming, R: Wait>(
     }
 }
 
-fn rows_told(rows: &[Row], credential: &Credential) -> Told {
-    match rows {
-        [first, ..] => Told::Rows(rows.len(), first.credential().compare(credential).is_eq()),
-        [] => Told::Rows(0, false),
+fn rows_told(rows: &Rows<'_>, credential: &Credential) -> Told {
+    if rows.len() == 0 {
+        return Told::Rows(0, false);
     }
+    let first = rows.row(0).credential();
+    Told::Rows(rows.len(), first.compare(credential).is_eq())
 }
 
 fn held<L: Naming, R: Wait>(
@@ -180,7 +181,7 @@ fn held<L: Naming, R: Wait>(
     credential: &Credential,
 ) -> Told {
     match desk.vault(rt, pass) {
-        Ok(rows) => rows_told(rows.as_slice(), credential),
+        Ok(rows) => rows_told(&rows.lent(), credential),
         Err(fault) => refused(fault),
     }
 }

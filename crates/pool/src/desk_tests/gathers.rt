@@ -60,7 +60,7 @@ fn at_a_desk<L: Naming + Send + Sync, R: Threads + Wait + Clock + Sync>(
 ) -> bool
     requires roster { roster.items ≡ L.roster }
     requires distinct { IsDistinct is_same (map (λ row. row.0) roster.items) }
-    requires named { unnamed ≡ record { ledger = L.name; parts = L.parts; table = L.table } }
+    requires named { unnamed ≡ record { ledger = L.name; parts = L.parts; table = L.table; letters = L.letters } }
 {
     match Desk::<L>::make(alloc, roster, unnamed) {
         Ok(desk) => goes_on(rt, alloc, &desk, a),

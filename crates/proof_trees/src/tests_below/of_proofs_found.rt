@@ -152,10 +152,22 @@ fn link_all(alloc: Global, book: &mut Book) -> Result<(), Fail> {
     upload(alloc, book, b"A.r10000 <- D")
 }
 
+/// A copy of the credentials that the tenant issues and holds, in order.
+fn vault_of(alloc: Global, book: &mut Book, who: Entity) -> Result<Vec<Credential>, Fail> {
+    let mut copy = Vec::new(alloc);
+    if let Some(version) = book.version_of(who)? {
+        let rows = version.rows();
+        for place in 0..rows.len() {
+            copy.push(rows.row(place).credential().try_clone()?)?;
+        }
+    }
+    Ok(copy)
+}
+
 fn proves_the_whole_chain(alloc: Global, book: &mut Book) -> Result<bool, Fail> {
     let role = Role::read(b"A.r00000")?;
     let who = Entity::read(b"D")?;
-    let view = book.copy_of_vault(role.owner)?;
+    let view = vault_of(alloc, book, role.owner)?;
     let mut search = opened_over(alloc, &seen(alloc, book)?, Query::Who(role), WORK)?;
     let proof = proof_at_end(alloc, &mut search, &who)?;
     Ok(proof.steps().len() == 10002 && check_proof(&view, &role, &who, &proof))

@@ -2,7 +2,7 @@ use super::is_text;
 use credential_text::{CredFault, Credential, read_credential};
 use names::Entity;
 use std::alloc::{AllocError, Global};
-use vaults::{Book, Change, Entries, Row, Seen, VaultFault, Version};
+use vaults::{Book, Change, Entries, Rows, Seen, VaultFault, Version};
 
 /// A change, by the spelling of its credential or the name of its reader.
 #[derive(Clone, Copy)]
@@ -95,9 +95,9 @@ fn reads_back(alloc: Global, book: &Book, rows: &[(&[u8], Word)]) -> Result<bool
 }
 
 /// Whether these are the rows, in this order.
-fn are_rows(alloc: Global, rows: &[Row], texts: &[&[u8]]) -> Result<bool, CredFault> {
-    for (row, text) in rows.iter().zip(texts) {
-        if !is_spelled(alloc, row.credential(), text)? {
+fn are_rows(alloc: Global, rows: &Rows<'_>, texts: &[&[u8]]) -> Result<bool, CredFault> {
+    for (place, text) in texts.iter().enumerate() {
+        if place >= rows.len() || !is_spelled(alloc, rows.row(place).credential(), text)? {
             return Ok(false);
         }
     }
@@ -154,11 +154,11 @@ fn accepts_withdrawals(alloc: Global, book: &mut Book, who: Entity) -> Result<bo
 }
 
 /// Whether the rows are `A.r <- E000` and each second one on to the 899th.
-fn are_even(alloc: Global, rows: &[Row]) -> Result<bool, CredFault> {
-    for (place, row) in rows.iter().enumerate() {
+fn are_even(alloc: Global, rows: &Rows<'_>) -> Result<bool, CredFault> {
+    for place in 0..rows.len() {
         if !is_spelled(
             alloc,
-            row.credential(),
+            rows.row(place).credential(),
             &numbered((place as u64).wrapping_mul(2)),
         )? {
             return Ok(false);
@@ -191,8 +191,6 @@ enum Act {
     ComeAndGo,
     /// The credentials of the vault, in order.
     Vault(&'static [&'static [u8]]),
-    /// The vault is each second one of the 900.
-    Even,
     /// The names that the tenant reads, in order, and whether their vaults are public.
     Reads(&'static [(&'static [u8], bool)]),
     /// Whether the tenant reads the vault of this one.
@@ -219,8 +217,21 @@ type Line = (&'static [u8], Act);
 /// Whether a version of the vault is as it is to be, where it has one.
 fn has_version(alloc: Global, book: &mut Book, who: Entity, act: &Act) -> Result<bool, CredFault> {
     match book.version_of(who).or(Err(CredFault::Memory))? {
-        Some(version) => Ok(matches!(act, Act::EvenVersion) && are_even(alloc, version.rows())?),
+        Some(version) => Ok(matches!(act, Act::EvenVersion) && are_even(alloc, &version.rows())?),
         None => Ok(matches!(act, Act::NoVersion)),
+    }
+}
+
+/// Whether these are the rows of the vault, in this order.
+fn has_rows(
+    alloc: Global,
+    book: &mut Book,
+    who: Entity,
+    texts: &[&[u8]],
+) -> Result<bool, CredFault> {
+    match book.version_of(who).or(Err(CredFault::Memory))? {
+        Some(version) => are_rows(alloc, &version.rows(), texts),
+        None => Ok(texts.is_empty()),
     }
 }
 
@@ -231,8 +242,7 @@ fn is_so(alloc: Global, book: &mut Book, who: Entity, act: &Act) -> Result<bool,
         Act::Uploads => accepts_uploads(alloc, book, who),
         Act::Withdrawals => accepts_withdrawals(alloc, book, who),
         Act::ComeAndGo => comes_and_goes(alloc, book, who),
-        Act::Vault(texts) => are_rows(alloc, book.vault_of(who), texts),
-        Act::Even => are_even(alloc, book.vault_of(who)),
+        Act::Vault(texts) => has_rows(alloc, book, who, texts),
         Act::Reads(names) => reads(book, who, names),
         Act::Readable(owner, told) => Ok(book.readable(who, Entity::read(owner)?) == *told),
         Act::Held(count) => Ok(book.creds_of(who) == *count),
@@ -332,7 +342,7 @@ static COME_AND_GO: [Line; 13] = [
     (b"A", Act::Change(Drop(b"A.r <- E449"), 33)),
     (b"A", Act::Change(Drop(b"A.r <- E899"), 33)),
     (b"A", Act::Held(450)),
-    (b"A", Act::Even),
+    (b"A", Act::EvenVersion),
     (b"A", Act::Change(Put(b"A.r <- E451"), 1_351)),
     (b"A", Act::Change(Drop(b"A.r <- E451"), 1_352)),
     (b"A", Act::EvenVersion),
@@ -467,7 +477,7 @@ fn each_book_answers_its_lines_and_faults(rt: HostRuntime) -> Result<(), CredFau
 
 /// Whether a version of the vault of `B` stays while that vault is changed.
 fn stays(alloc: Global, book: &mut Book, version: &Version) -> Result<bool, CredFault> {
-    Ok(all_so(alloc, book, &ROW_GONE)? && are_rows(alloc, version.rows(), &[b"B.s <- D"])?)
+    Ok(all_so(alloc, book, &ROW_GONE)? && are_rows(alloc, &version.rows(), &[b"B.s <- D"])?)
 }
 
 /// Whether a version of the vault of `B` with its first row stays while that vault is changed.

@@ -3,7 +3,7 @@ ghost use Rattle.service.specs.Roster.{names_of, tenant_of};
 
 use super::*;
 use crate::fakes::{Drips, NEVER, Refuses, Trickles, roster_of};
-use pool::{NoGate, Unnamed, run_workers};
+use pool::{Desk, NoGate, Unnamed, run_workers};
 use std::alloc::AllocError;
 use std::marker::Brand;
 use std::thread;
@@ -57,7 +57,7 @@ fn ends_at<L: Naming, R: Wait>(
     writer: &mut Trickles<'_>,
 ) -> bool
     requires roster { map tenant_of roster.now ≡ L.roster }
-    requires named { unnamed ≡ record { ledger = L.name; parts = L.parts; table = L.table } }
+    requires named { unnamed ≡ record { ledger = L.name; parts = L.parts; table = L.table; letters = L.letters } }
 {
     let Ok(desk) = roster.desk::<L>(alloc, unnamed) else {
         return false;
@@ -406,7 +406,7 @@ fn are_told_at<L: Naming + Send + Sync, R: Threads + Wait + Sync>(
     unnamed: Unnamed,
 ) -> bool
     requires roster { map tenant_of roster.now ≡ L.roster }
-    requires named { unnamed ≡ record { ledger = L.name; parts = L.parts; table = L.table } }
+    requires named { unnamed ≡ record { ledger = L.name; parts = L.parts; table = L.table; letters = L.letters } }
 {
     let Ok(desk) = roster.desk::<L>(alloc, unnamed) else {
         return false;

@@ -1,12 +1,12 @@
-use Rattle.std.proofs.Common.{◌≡◌, ◌∙◌, ◌∷◌, [], arith, map, ap, sym, subst, refl, true, None, Some, option_copied}
+use Rattle.std.proofs.Common.{◌∙◌, ◌∷◌, [], arith, map, ap, sym, refl, true, None, Some, option_copied}
 use Rattle.std.proofs.lemmas.List.{map-append, append-nil}
 use Rattle.hall.specs.declared.batches.HeldLetter.{HeldLetter}
 use Rattle.search.specs.declared.queries.Hint.TheVariants.{Nothing}
-use Rattle.search.specs.declared.queries.Need.{Need}
-use Rattle.search.specs.Finish.{need_for, Takes}
+use Rattle.search.specs.Finish.{need_for}
 use Rattle.search.specs.Stage.{Delivers}
 use Rattle.hall.specs.Batches.{letter_of}
-use Rattle.search.proofs.Driven.{first_goes, nothing_first, same_need}
+use Rattle.search.proofs.Driven.{first_goes, nothing_first}
+use Rattle.search.proofs.Taking.{takes_needing, taken_there}
 use Rattle.hall.proofs.Batched.{delivered_sound}
 use Rattle.hall.proofs.working.make_step.Goals as goal
 
@@ -32,17 +32,17 @@ returns-in_default-clause-made c =
       nothing_first c.args.search.now.stage (omega (arith, c.if-signals-gt0.false, c.signals.ensures)) none.0,
     )
 
+pub rows_for-requires : goal.rows_for-requires
+rows_for-requires c =
+    taken_there c.args.search.now c.take_held.new.self 0 c.in-Some.letter c.in-Some.held c.in-Some.ensures.taken
+
 pub returns-clause-made : goal.returns-clause-made
 returns-clause-made c =
-    let s = c.args.search.now in
-    let t = c.take_number.new.self in
-    let (needed, takes) = c.in-Some.ensures.taken in
-    let need = need_for (option_copied c.rows_needed.result) in
-    let one : HeldLetter = record { letter = c.in-Some.letter; need = need; hint = Nothing } in
-    let same : need ≡ needed = same_need s t t c.in-Some.letter needed takes _ need takes.holds.held (c.rows_needed.ensures.needs _ takes.holds.held) in (
+    let need = need_for (option_copied c.rows_for.result) in
+    let one : HeldLetter = record { letter = c.in-Some.letter; need = need; hint = Nothing } in (
       Some (letter_of one),
       λ name. record {
-        is_made = (Some (letter_of one), subst (λ (n : Need). Takes s t 0 c.in-Some.letter n) (sym same) takes, refl);
+        is_made = (Some (letter_of one), takes_needing c.args.search.now c.take_held.new.self 0 c.in-Some.letter c.in-Some.held need c.in-Some.ensures.taken c.rows_for.ensures, refl);
         settles = c.in-Some.ensures.settles;
         sound = c.kept.ensures.sound;
       },

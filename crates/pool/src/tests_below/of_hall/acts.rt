@@ -5,7 +5,7 @@ use hall::{Answer, Event, Fault, Hall, Proof, Query, Reply, Request, Step, Stepp
 use names::{Entity, Role};
 use search::{Hint, Need};
 use std::alloc::Global;
-use vaults::{Change, Row as Held, Seen};
+use vaults::{Change, Rows as Held, Seen};
 
 /// What a tenant asks of a hall, or what is done for its search; a step names the number of the search first.
 pub(super) enum Act {
@@ -140,9 +140,11 @@ fn is_spelled(alloc: Global, credential: &Credential, text: &[u8]) -> Result<boo
 }
 
 /// Whether these are the credentials that the texts spell, in this order.
-fn are_spelled(alloc: Global, rows: &[Held], wanted: &[&str]) -> Result<bool, CredFault> {
-    for (row, text) in rows.iter().zip(wanted) {
-        if !is_spelled(alloc, row.credential(), text.as_bytes())? {
+fn are_spelled(alloc: Global, rows: &Held<'_>, wanted: &[&str]) -> Result<bool, CredFault> {
+    for (place, text) in wanted.iter().enumerate() {
+        if place >= rows.len()
+            || !is_spelled(alloc, rows.row(place).credential(), text.as_bytes())?
+        {
             return Ok(false);
         }
     }
@@ -208,7 +210,7 @@ fn is_told(alloc: Global, reply: &Reply, wanted: &Told) -> Result<bool, Fault> {
         (Reply::Opened(number), Told::Opened(wanted)) => Ok(number == wanted),
         (Reply::Closed, Told::Closed) => Ok(true),
         (Reply::Vault(rows), Told::Vault(wanted)) => {
-            are_spelled(alloc, rows.as_slice(), wanted).or(Err(Fault::Memory))
+            are_spelled(alloc, &rows.lent(), wanted).or(Err(Fault::Memory))
         }
         (Reply::Sees(sights), Told::Sees(wanted)) => Ok(are_seen(sights.as_slice(), wanted)),
         (Reply::Proof(proof), Told::Proof(wanted)) => is_written(alloc, proof, wanted),

@@ -1,6 +1,6 @@
 -- The letter that was taken is in hand.
 use Rattle.std.proofs.Common.{◌≡◌, ◌∙◌, List, None, Some, ap, refl, slice_get, sym, subst, true, ℕ}
-use Rattle.std.specs.Option.{option_copied, option_map}
+use Rattle.std.specs.Option.{option_map}
 use Rattle.credential_text.specs.declared.exprs.Expr.{Expr}
 use Rattle.scholten_core.specs.Computation.{Computation, letter_of, letter_with, named_with}
 use Rattle.scholten_core.proofs.Named.{by_number-named, letter_of-named, letter_says, marked_say, takes-named}
@@ -12,7 +12,7 @@ use Rattle.search.specs.Numbered.{IsLoad, IsStage, load_at, stage_at}
 use Rattle.search.proofs.InHand.{holds_taken}
 use Rattle.search.proofs.Numbered.{AreLetters, shown, shows, loads_shown, past_waiting}
 use Rattle.search.proofs.stages.hold.Goals as goal
-use Rattle.search.proofs.stages.hold.Goals.{After-unwrap-letter}
+use Rattle.search.proofs.stages.hold.Goals.{After-take_letter-number}
 
 -- where nothing runs no letter waits
 none_waits : (nodes : List Expr) (st : NumberedStage) (place : ℕ) → ((d : Computation (Load ℕ)) → st ≡ numbered_stage.Running d → ⊥) → slice_get (waiting_in (stage_at nodes st)) place ≡ None
@@ -32,32 +32,32 @@ returns-then-place-waiting-clause-held c =
     λ (nodes : List Expr). (past_waiting nodes c.args.stage.now c.in-Running.running c.in-Running.is c.args.place c.waiting.result c.waiting.ensures c.if-place-waiting.true, ap (stage_at nodes) (sym c.in-Running.is))
 
 -- the letter of the number is there
-letter_is : (c : After-unwrap-letter) → Some c.unwrap-letter.result.now ≡ letter_of c.take-number.new.self c.take-number.result
-letter_is c = sym (ap option_copied c.unwrap-letter.ensures) ∙ c.letter.ensures.letter
+letter_is : (c : After-take_letter-number) → Some c.take_letter-number.result.1 ≡ letter_of c.take_letter-number.new.self c.take_letter-number.result.0
+letter_is c = sym c.take_letter-number.ensures.letter
 
 pub returns-clause-held : goal.returns-clause-held
 returns-clause-held c =
     λ (nodes : List Expr).
     let st = c.args.stage.now in
     let d = c.in-Running.running in
-    let e = c.take-number.new.self in
-    holds_taken (stage_at nodes st) (shown nodes st d c.in-Running.is) (named_with (load_at nodes) e) c.args.place c.take-number.result (letter_with (load_at nodes) c.unwrap-letter.result.now) (shows nodes st d c.in-Running.is)
-    (takes-named (load_at nodes) d e c.args.place c.take-number.result c.take-number.ensures)
-    (ap (option_map (letter_with (load_at nodes))) (letter_is (goal.at.returns-clause-held c).After-unwrap-letter) ∙ sym (letter_of-named (load_at nodes) e c.take-number.result))
-    (by_number-named (load_at nodes) e c.take-number.ensures.sound)
+    let e = c.take_letter-number.new.self in
+    holds_taken (stage_at nodes st) (shown nodes st d c.in-Running.is) (named_with (load_at nodes) e) c.args.place c.take_letter-number.result.0 (letter_with (load_at nodes) c.take_letter-number.result.1) (shows nodes st d c.in-Running.is)
+    (takes-named (load_at nodes) d e c.args.place c.take_letter-number.result.0 c.take_letter-number.ensures.takes)
+    (ap (option_map (letter_with (load_at nodes))) (letter_is (goal.at.returns-clause-held c).After-take_letter-number) ∙ sym (letter_of-named (load_at nodes) e c.take_letter-number.result.0))
+    (by_number-named (load_at nodes) e c.take_letter-number.ensures.takes.sound)
 
 pub returns-clause-loads : goal.returns-clause-loads
 returns-clause-loads c =
     λ (nodes : List Expr) are.
-    subst (λ (e : Computation (Load ℕ)). AreLetters nodes e.letters) (sym c.take-number.ensures.marked)
-    (marked_say (IsLoad nodes) c.in-Running.running c.take-number.result true (loads_shown nodes c.args.stage.now c.in-Running.running c.in-Running.is are))
+    subst (λ (e : Computation (Load ℕ)). AreLetters nodes e.letters) (sym c.take_letter-number.ensures.takes.marked)
+    (marked_say (IsLoad nodes) c.in-Running.running c.take_letter-number.result.0 true (loads_shown nodes c.args.stage.now c.in-Running.running c.in-Running.is are))
 
 pub returns-clause-load : goal.returns-clause-load
 returns-clause-load c =
     λ (nodes : List Expr) are.
-    let all = subst (λ (e : Computation (Load ℕ)). AreLetters nodes e.letters) (sym c.take-number.ensures.marked)
-    (marked_say (IsLoad nodes) c.in-Running.running c.take-number.result true (loads_shown nodes c.args.stage.now c.in-Running.running c.in-Running.is are)) in
-    letter_says (IsLoad nodes) c.take-number.new.self c.take-number.result c.unwrap-letter.result.now all (sym (letter_is (goal.at.returns-clause-load c).After-unwrap-letter))
+    let all = subst (λ (e : Computation (Load ℕ)). AreLetters nodes e.letters) (sym c.take_letter-number.ensures.takes.marked)
+    (marked_say (IsLoad nodes) c.in-Running.running c.take_letter-number.result.0 true (loads_shown nodes c.args.stage.now c.in-Running.running c.in-Running.is are)) in
+    letter_says (IsLoad nodes) c.take_letter-number.new.self c.take_letter-number.result.0 c.take_letter-number.result.1 all (sym (letter_is (goal.at.returns-clause-load c).After-take_letter-number))
 
 pub returns-then-place-waiting-clause-load : goal.returns-then-place-waiting-clause-load
 returns-then-place-waiting-clause-load c = λ (nodes : List Expr) are. tt

@@ -1,7 +1,15 @@
 -- Each credential is one line more.
-use Rattle.std.proofs.Common.{arith}
-use Rattle.std.proofs.lemmas.Grind.{common_steps}
+use Rattle.std.proofs.Common.{◌++◌, ap, length, codes, ◌∙◌}
+use Rattle.std.specs.Fmt.{decimal}
+use Rattle.credential_text.specs.Spelling.{canonical}
+use Rattle.vaults.specs.Blocks.{rows_in}
+use Rattle.service.specs.Reply.{front_of, line_after}
+use Rattle.service.proofs.ReplyLemmas.{credential-next}
 use Rattle.service.proofs.replies.write_vault.Goals as goal
 
-pub loop-row-preserved : goal.loop-row-preserved
-loop-row-preserved c = grind (arith, common_steps)
+pub loop-place-preserved : goal.loop-place-preserved
+loop-place-preserved c =
+    let front = front_of c.args.who.now in
+    let rows = rows_in c.args.rows.now in
+    credential-next front (line_after front (codes "vault " ++ decimal (length rows))) c.loop-place.room c.extend_front.new.self c.extend_by.new.self c.extend.new.self rows
+    c.loop-place.place c.row.result.now c.row.ensures c.loop-place.invariant c.in_ok-extend_front.ensures (rw c.credential.ensures at c.in_ok-extend_by.ensures) c.in_ok-extend.ensures

@@ -13,5 +13,5 @@ returns-in_err-take_roster g c =
 
 pub returns : goal.returns
 returns g c =
-    ScriptWrote-after_roster c.args.lines.now c.take_roster.new.lines c.in_ok-take_roster.field-0 c.converse-end.result c.result_of.result _ c.in_ok-take_roster.ensures.roster
+    ScriptWrote-after_roster c.args.lines.now c.take_roster.new.lines c.in_ok-take_roster.field-0 c.converse-end.new.host c.converse-end.result c.result_of.result _ c.in_ok-take_roster.ensures.roster
     (rw (c.in_ok-take_roster.ensures.silent, c.in-Ok.ensures.hall) at c.converse-end.ensures) c.result_of.ensures

@@ -1,12 +1,36 @@
-use Rattle.std.proofs.Common.{rules, refl}
-use Rattle.std.proofs.lemmas.Fn.{always_returns_same}
-use Rattle.snapshots.specs.Span.{is_cut_by_name}
-use Rattle.snapshots.proofs.Fronts.{front_parted, cut_in_front}
+use Rattle.std.proofs.Common.{arith}
+use Rattle.vaults.specs.Blocks.{rows_in}
+use Rattle.snapshots.specs.Span.{is_cut}
+use Rattle.snapshots.proofs.Counting.{point_at}
+use Rattle.snapshots.proofs.Cuts.{parted_rows}
+use Rattle.snapshots.proofs.Through.{cut_through, block_sorted, block_own}
 use Rattle.snapshots.proofs.spans.rows_until.Goals as goal
 
-pub returns-clause-count : goal.returns-clause-count
-returns-clause-count c =
-    cut_in_front c.args.cut c.args.role.now c.args.rows.now _ c.front_of-front.result c.requires.in_order c.requires.own c.front_of-front.ensures.within refl
-    c.partition_point.result c.front_of-front.ensures.cut c.partition_point.ensures.bound
-    (c.partition_point.ensures.partitioned (is_cut_by_name c.args.cut c.args.role.now.name) (always_returns_same _ _ _ (λ a r f' k. search rules))
-    (front_parted c.args.cut c.args.role.now c.args.rows.now _ c.front_of-front.result c.requires.in_order c.requires.own c.front_of-front.ensures.within refl))
+pub block_until-requires-clause-in_order : goal.block_until-requires-clause-in_order
+block_until-requires-clause-in_order c = block_sorted c.args.rows.now c.spot_of-spot.result c.block.result.now c.block.ensures.block c.requires.in_order
+
+pub block_until-requires-clause-own : goal.block_until-requires-clause-own
+block_until-requires-clause-own c = block_own c.args.role.now.owner c.args.rows.now c.spot_of-spot.result c.block.result.now c.block.ensures.block c.requires.own
+
+pub overflow_add-result : goal.overflow_add-result
+overflow_add-result c =
+    let parted = parted_rows c.args.cut c.args.role.now (rows_in c.args.rows.now) c.requires.in_order in
+    omega (
+      arith,
+      c.start.ensures,
+      c.block_until.ensures.count,
+      cut_through (is_cut c.args.cut c.args.role.now) c.args.rows.now c.spot_of-spot.result c.block.result.now parted c.spot_of-spot.ensures c.block.ensures.block,
+      (point_at (is_cut c.args.cut c.args.role.now) (rows_in c.args.rows.now) parted).0,
+      c.len-all.ensures.count,
+      c.len-all.ensures.fits,
+    )
+
+pub returns : goal.returns
+returns c =
+    omega (
+      arith,
+      c.start.ensures,
+      c.block_until.ensures.count,
+      cut_through (is_cut c.args.cut c.args.role.now) c.args.rows.now c.spot_of-spot.result c.block.result.now
+          (parted_rows c.args.cut c.args.role.now (rows_in c.args.rows.now) c.requires.in_order) c.spot_of-spot.ensures c.block.ensures.block,
+    )

@@ -3,7 +3,7 @@ use Rattle.std.specs.Ordering.{eq_by_cmp}
 use Rattle.std.proofs.lemmas.Result.{on_ok_weaker, on_err_weaker}
 use Rattle.std.specs.BTreeMap.{BTreeMap, get}
 use Rattle.names.specs.Name.{name_order}
-use Rattle.vaults.specs.Page.{Leaf, PageState, empty_leaf, page_after, page_at}
+use Rattle.vaults.specs.Page.{PageState, empty_page, page_after, page_at}
 use Rattle.vaults.proofs.PageWrites.{page_there, page_kept, page_same}
 use Rattle.vaults.proofs.books.keep_on_page.Goals as goal
 
@@ -25,14 +25,14 @@ returns-in-Some c =
 
 pub returns-in_ok-insert-in-None : goal.returns-in_ok-insert-in-None
 returns-in_ok-insert-in-None c =
-    let there = c.new-page.ensures ∙ ap (λ (o : Option Leaf). (unwrap_or o empty_leaf).page) c.in-None.ensures.value in
-    let after : c.keep-in-None.new.self.page ≡ page_after c.args.change.now (page_at c.args.pages.now c.args.who) =
+    let there = c.new-page.ensures ∙ ap (λ (o : Option PageState). unwrap_or o empty_page) c.in-None.ensures.value in
+    let after : c.keep-in-None.new.self ≡ page_after c.args.change.now (page_at c.args.pages.now c.args.who) =
     c.in_ok-count-in-None.ensures.kept ∙ ap (page_after c.args.change.now) there in
     record {
       kept = page_kept c.args.who c.args.change.now c.args.pages.now c.insert.new.self c.keep-in-None.new.self after
           (λ tenant.
           c.in_ok-insert-in-None.ensures.updates.0 tenant
-          ∙ ap (λ (m : BTreeMap (List ℕ) Leaf). cond (eq_by_cmp name_order c.args.who tenant) (Some c.keep-in-None.new.self) (get name_order m tenant)) c.get_mut.follows.holds-at-none);
+          ∙ ap (λ (m : BTreeMap (List ℕ) PageState). cond (eq_by_cmp name_order c.args.who tenant) (Some c.keep-in-None.new.self) (get name_order m tenant)) c.get_mut.follows.holds-at-none);
       count = c.in_ok-count-in-None.ensures.count ∙ ap (λ (p : PageState). p.changes + 1) there;
       unchanged = tt;
       revocable = λ revoked there. refl;

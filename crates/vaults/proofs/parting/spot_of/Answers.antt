@@ -21,7 +21,7 @@ loop-low-preserved c = record {
   in_turn = omega arith;
   within = omega (arith, c.loop-low-test.true, c.loop-low.invariant.within);
   before = c.loop-low.invariant.before;
-  there = λ b at.
+  there = λ b more at.
       let is : c.index-blocks-middle.result ≡ b =
       c.index-blocks-middle.is ∙ get_or_from_slice_get c.args.blocks.now (c.loop-low.low + (c.loop-low.high - c.loop-low.low) / 2) b c.index-blocks-middle.result at in (
         omega (arith, c.begins_above.ensures.some, ap length is),

@@ -1,4 +1,4 @@
-use Rattle.std.proofs.Common.{◌≤◌, ◌-◌, length}
+use Rattle.std.proofs.Common.{◌<◌, ◌≤◌, ◌-◌, length}
 use Rattle.vaults.specs.Blocks.{IsAboveBefore, IsNotAboveAt}
 use Rattle.vaults.proofs.parting.spot_of.Given as goal
 
@@ -6,7 +6,7 @@ use Rattle.vaults.proofs.parting.spot_of.Given as goal
 abbrev pub invariant-loop-low : goal.invariant-loop-low
 invariant-loop-low l = record {
   in_turn : l.low ≤ l.high;
-  within : l.high ≤ length l.blocks;
+  within : l.high < length l.blocks;
   before : IsAboveBefore l.credential l.low l.blocks;
   there : IsNotAboveAt l.credential l.high l.blocks;
 }

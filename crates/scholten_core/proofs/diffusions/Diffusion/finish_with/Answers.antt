@@ -7,11 +7,13 @@ use Rattle.scholten_core.specs.Step.{numbered}
 use Rattle.scholten_core.proofs.Complete.{sound}
 use Rattle.scholten_core.proofs.Fields.{unchanged_kept}
 use Rattle.scholten_core.proofs.Finished.{IsFinishedIn, finished_fields}
+use Rattle.scholten_core.proofs.Standing.{held_found, shown_there}
 use Rattle.scholten_core.proofs.Steps.{deficit-le-outstanding}
+use Rattle.std.proofs.lemmas.Option.{slice_get_within}
 use Rattle.scholten_core.specs.Computation.{IsHeldIn}
 use Rattle.scholten_core.proofs.diffusions.Diffusion.finish_with.Given.{Over}
 use Rattle.scholten_core.proofs.diffusions.Diffusion.finish_with.Goals as goal
-use Rattle.scholten_core.proofs.diffusions.Diffusion.finish_with.Goals.{After-send}
+use Rattle.scholten_core.proofs.diffusions.Diffusion.finish_with.Goals.{After-reserve, After-send}
 
 pub returns-in_err-reserve : goal.returns-in_err-reserve
 returns-in_err-reserve g c =
@@ -77,12 +79,13 @@ done : (g : Over) (c : After-send g) → IsFinishedIn (held_in c.self.inside.let
 done g c =
     let l = c.unwrap-letter.result.now in
     let outs = c.args.outs.now.items in
-    let got = sym (rw c.unwrap-letter.ensures at c.get.ensures) in
+    let stands = rw c.unwrap-at.ensures at c.find.ensures.found in
+    let got = sym (rw c.unwrap-letter.ensures at (c.letter_at.ensures c.args.number stands)) in
     let found = sym (ap (lookup (λ n. n == c.args.number)) c.reserve.ensures.letters) ∙ got in
     let to = Node l.to in
     let many = c.args.outs.now.ok.0 in
     let receives = subst (λ (n : ℕ). Receives c.self.inside.nodes.items c.receive.new.nodes.items l.from l.to n c.in_ok-by.by) (c.len-2.ensures ∙ many) c.in_ok-by.ensures.received in
-    let left = c.finish.ensures.letters ∙ ap (filter (λ x. not (x.0 == c.args.number))) c.reserve.ensures.letters in
+    let left = c.finish.ensures.letters c.args.number stands ∙ ap (filter (λ x. not (x.0 == c.args.number))) c.reserve.ensures.letters in
     let sent = c.finish.ensures.sent ∙ c.reserve.ensures.sent in
     let letters = c.send.ensures.letters ∙ (λ i. left i ++ numbered to (sent i + 1) outs) in
     finished_fields c.self.inside.letters c.self.inside.signals.items c.self.inside.environment c.self.inside.nodes.items c.self.invariant c.args.number l found outs c.receive.new.nodes.items c.in_ok-by.by receives c.send.new.self letters (c.send.ensures.sent ∙ (λ i. sent i + many i)) c.put.new.signals.items (c.put.ensures ∙ ap (λ s. s ++ option_to_list c.in_ok-by.by) c.reserve-2.ensures.items)
@@ -110,10 +113,28 @@ invariant_of-self-in_err-reserve-2 g c =
 pub put-requires : goal.put-requires
 put-requires g c = omega (arith, c.in_ok-reserve-2.ensures.ok)
 
+-- the letter is held, also where the table made room
+held : (g : Over) (c : After-reserve g) → IsHeldIn c.reserve.new.self.letters c.args.number
+held g c =
+    let is_held = rw (← c.self.view_is) at c.requires.held in
+    subst (λ letters. IsHeldIn letters c.args.number) (sym c.reserve.ensures.letters) is_held
+
+pub unwrap-at-requires : goal.unwrap-at-requires
+unwrap-at-requires g c =
+    held_found c.reserve.new.self.letters c.args.number (held g (goal.at.unwrap-at-requires g c).After-reserve) c.find.result c.find.ensures.none
+
+pub letter_at-requires : goal.letter_at-requires
+letter_at-requires g c = slice_get_within _ _ _ (rw c.unwrap-at.ensures at c.find.ensures.found)
+
+pub unwrap-letter-requires : goal.unwrap-letter-requires
+unwrap-letter-requires g c =
+    let stands = rw c.unwrap-at.ensures at c.find.ensures.found in
+    let is_held = held g (goal.at.unwrap-letter-requires g c).After-reserve in
+    shown_there _ _ _ (c.letter_at.ensures c.args.number stands) (held_found c.reserve.new.self.letters c.args.number is_held (lookup (λ n. n == c.args.number) c.reserve.new.self.letters) (λ none. none))
+
 pub finish-requires : goal.finish-requires
 finish-requires g c =
-    let held = rw (← c.self.view_is) at c.requires.held in
-    subst (λ letters. IsHeldIn letters c.args.number) (sym c.reserve.ensures.letters) held
+    (c.args.number, rw c.unwrap-at.ensures at c.find.ensures.found, held g (goal.at.finish-requires g c).After-reserve)
 
 pub send-requires : goal.send-requires
 send-requires g c =

@@ -3,6 +3,7 @@ use Rattle.std.specs.List.{slice_get}
 use Rattle.std.proofs.lemmas.Option.{slice_get_within}
 use Rattle.credential_text.specs.declared.credentials.Credential.{Credential}
 use Rattle.vaults.specs.Journal.{Vault}
+use Rattle.vaults.specs.Blocks.{rows_in}
 use Rattle.snapshots.specs.Span.{rows_of, role_rows, span_of}
 use Rattle.snapshots.specs.Snapshot.{SnapshotState}
 use Rattle.snapshots.proofs.Views.{span_vault, span_rows, span_within, span_row}
@@ -20,7 +21,7 @@ pub row_at-requires : goal.row_at-requires
 row_at-requires c =
     let is : c.args.span ≡ span_of c.self.inside.vaults.items c.requires.found.0 = c.requires.found.1 ∙ ap (λ (s : SnapshotState). span_of s.vaults c.requires.found.0) (sym c.self.view_is) in
     subst (λ (rows : List Credential). c.args.span.lo + c.args.i < length rows)
-    (sym (span_rows c.self.inside.vaults.items c.args.span c.args.i c.requires.found.0 c.index.result.now c.rows-rows.result.now c.self.invariant is c.requires.place c.index.ensures c.rows-rows.ensures.rows))
+    (sym (span_rows c.self.inside.vaults.items c.args.span c.args.i c.requires.found.0 c.index.result.now (rows_in c.rows-rows.result) c.self.invariant is c.requires.place c.index.ensures c.rows-rows.ensures.rows))
     (span_within c.self.inside.vaults.items c.args.span c.args.i c.requires.found.0 c.self.invariant is c.requires.place)
 
 pub returns : goal.returns
@@ -29,5 +30,5 @@ returns c role found =
     ap (λ (s : SnapshotState). slice_get (role_rows s.vaults role) c.args.i) (sym c.self.view_is)
     ∙ span_row c.self.inside.vaults.items c.args.span c.args.i role c.row_at.result.now c.self.invariant is c.requires.place
     (ap (λ (rows : List Credential). slice_get rows (c.args.span.lo + c.args.i))
-    (sym (span_rows c.self.inside.vaults.items c.args.span c.args.i role c.index.result.now c.rows-rows.result.now c.self.invariant is c.requires.place c.index.ensures c.rows-rows.ensures.rows))
+    (sym (span_rows c.self.inside.vaults.items c.args.span c.args.i role c.index.result.now (rows_in c.rows-rows.result) c.self.invariant is c.requires.place c.index.ensures c.rows-rows.ensures.rows))
     ∙ c.row_at.ensures)

@@ -2,6 +2,7 @@
 use Rattle.std.proofs.Common.{List, ◌≡◌, ◌∙◌, sym, ap}
 use Rattle.credential_text.specs.declared.credentials.Credential.{Credential}
 use Rattle.vaults.specs.Journal.{Vault}
+use Rattle.vaults.specs.Blocks.{rows_in}
 use Rattle.snapshots.specs.declared.spans.Span.{Span}
 use Rattle.snapshots.specs.Span.{how_many, is_before, is_through, place_of, rows_of}
 use Rattle.snapshots.specs.Snapshot.{SnapshotState}
@@ -12,7 +13,7 @@ returns-clause-exact g c =
     let role = c.args.role.now in
     let vaults = ap (λ (s : SnapshotState). s.vaults) c.self.view_is in
     let place = ap (λ (vs : List Vault). place_of vs role.owner) (c.deref.ensures.value ∙ vaults) in
-    let rows : c.rows_at-rows.result.now ≡ rows_of c.args.self.now.vaults role.owner =
+    let rows : rows_in c.rows_at-rows.result ≡ rows_of c.args.self.now.vaults role.owner =
     c.rows_at-rows.ensures.rows ∙ ap (λ (vs : List Vault). rows_of vs role.owner) (c.deref-2.ensures.value ∙ vaults) in
     let before = ap (λ (cs : List Credential). how_many (is_before role) cs) rows in
     let through = ap (λ (cs : List Credential). how_many (is_through role) cs) rows in (

@@ -4,4 +4,4 @@ use Rattle.vaults.proofs.Places.{has_searched}
 use Rattle.vaults.proofs.blocks.Block.has.Goals as goal
 
 pub returns : goal.returns
-returns c = c.is_ok.ensures.value ∙ has_searched credentials_exact c.args.self.now c.deref.result.now c.args.credential.now c.place_of.result (c.deref.ensures.value ∙ c.self.view_is) c.place_of.ensures
+returns c = c.is_ok.ensures.value ∙ has_searched credentials_exact c.args.self.now c.rows.result.now c.args.credential.now c.place_of.result c.rows.ensures.rows c.place_of.ensures

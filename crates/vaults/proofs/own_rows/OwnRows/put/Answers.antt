@@ -1,34 +1,38 @@
-use Rattle.std.proofs.Common.{List, ◌∙◌, ◌≡◌, ◌+◌, ◌++◌, arith, sym, ap, subst, length, length-append}
+use Rattle.std.proofs.Common.{Bool, true, false, not, List, ◌∙◌, ◌≡◌, arith, sym, ap, refl, subst, length}
 use Rattle.std.specs.List.Sorted.{IsStrictlySortedBy}
-use Rattle.std.specs.BTreeSet.{insert_key}
 use Rattle.credential_text.specs.declared.credentials.Credential.{Credential}
 use Rattle.credential_text.specs.Credential.{credential_order}
-use Rattle.vaults.specs.Blocks.{LooseRows, rows_behind}
+use Rattle.vaults.specs.Blocks.{rows_in, AreOwnRows}
 use Rattle.vaults.proofs.Elements.{has, sorted-insert_key}
 use Rattle.vaults.proofs.Orders.{credentials_exact}
+use Rattle.vaults.proofs.Places.{insert_key-present}
 use Rattle.vaults.proofs.Parts.{length-put}
 use Rattle.vaults.proofs.own_rows.OwnRows.put.Goals as goal
 
-pub invariant_of-self-2 : goal.invariant_of-self-2
-invariant_of-self-2 c =
-    let all : List Credential = c.self.inside.rows.items ++ rows_behind c.self.inside.behind.items in
-    let put : c.put_row.new.rows.items ++ rows_behind c.put_row.new.blocks.items ≡ insert_key credential_order all c.args.credential.now =
-    c.in_ok-put_row.ensures.put ∙ ap (λ (l : List Credential). insert_key credential_order (l ++ rows_behind c.self.inside.behind.items) c.args.credential.now) c.in_ok-try_reserve.ensures.items in
-    let longer : length (insert_key credential_order all c.args.credential.now) ≡ length all + 1 =
-    length-put all c.args.credential.now (ap (λ (k : LooseRows). has credential_order k.all c.args.credential.now) c.self.view_is ∙ c.requires) in
+is_false : (b : Bool) → not b ≡ true → b ≡ false
+is_false true e = cc
+is_false false e = refl
+
+is_true : (b : Bool) → not b ≡ false → b ≡ true
+is_true true e = refl
+is_true false e = cc
+
+pub returns-then-has-clause-put : goal.returns-then-has-clause-put
+returns-then-has-clause-put c =
+    insert_key-present credentials_exact c.args.self.now c.args.credential.now (subst (IsStrictlySortedBy credential_order) c.self.view_is c.self.invariant.in_order) (sym c.has.ensures ∙ c.if-has.true)
+
+pub invariant_of-self-then-missed : goal.invariant_of-self-then-missed
+invariant_of-self-then-missed c =
+    let rows : List Credential = rows_in c.self.inside.blocks.items in
+    let absent : has credential_order rows c.args.credential.now ≡ false = is_false (has credential_order rows c.args.credential.now) (sym c.in_ok-missed.ensures.missed ∙ c.if-missed.true) in
     record {
-      in_order = subst (IsStrictlySortedBy credential_order) (sym put) (sorted-insert_key credentials_exact all c.args.credential.now c.self.invariant.in_order);
-      room_for_all = omega (
-        arith,
-        ap length put,
-        longer,
-        c.in_ok-try_reserve.ensures.ok,
-        c.in_ok-try_reserve.ensures.len,
-        c.in_ok-put_row.ensures.no_less_room,
-        c.len.ensures,
-        c.self.invariant.counted,
-        length-append c.self.inside.rows.items (rows_behind c.self.inside.behind.items),
-        c.self.inside.rows.ok.0,
-      );
-      counted = omega (arith, ap length put, longer, c.self.invariant.counted);
+      in_order = subst (IsStrictlySortedBy credential_order) (sym c.in_ok-missed.ensures.put) (sorted-insert_key credentials_exact rows c.args.credential.now c.self.invariant.in_order);
+      counted = omega (arith, ap length c.in_ok-missed.ensures.put, length-put rows c.args.credential.now absent, c.self.invariant.counted);
     }
+
+pub invariant_of-self-else-missed : goal.invariant_of-self-else-missed
+invariant_of-self-else-missed c =
+    let rows : List Credential = rows_in c.self.inside.blocks.items in
+    let there : has credential_order rows c.args.credential.now ≡ true = is_true (has credential_order rows c.args.credential.now) (sym c.in_ok-missed.ensures.missed ∙ c.if-missed.false) in
+    subst (λ (l : List Credential). AreOwnRows l c.self.inside.count)
+    (insert_key-present credentials_exact rows c.args.credential.now c.self.invariant.in_order there ∙ sym c.in_ok-missed.ensures.put) c.self.invariant

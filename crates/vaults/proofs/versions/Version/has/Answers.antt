@@ -1,7 +1,0 @@
-use Rattle.std.proofs.Common.{◌∙◌}
-use Rattle.vaults.proofs.Orders.{credentials_exact}
-use Rattle.vaults.proofs.Places.{has_searched}
-use Rattle.vaults.proofs.versions.Version.has.Goals as goal
-
-pub returns : goal.returns
-returns c = c.is_ok.ensures.value ∙ has_searched credentials_exact c.args.self.now c.deref.result.now c.args.credential.now c.place_of.result (c.deref.ensures.value ∙ c.self.view_is) c.place_of.ensures
