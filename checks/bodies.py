@@ -41,12 +41,12 @@ WORKERS = "a bound of the design: a desk hires fewer than 2^64 workers in its li
 PLACES = [
     ("cred_graph/nodes.rt", "Nodes::add", "AllocError", "if number >= MOST", NODES),
     ("credential_text/faults.rt", "CredFault from AllocError::from", "CredFault::Memory", "", SAYS),
-    ("hall/carried.rt", "Carried::lend", "AllocError", "match self: _", SHARED),
+    ("hall/lendable_searches.rt", "LendableSearch::lend", "AllocError", "match self: _", SHARED),
     ("hall/faults.rt", "Fault from AllocError::from", "Fault::Memory", "", SAYS),
     ("hall/faults.rt", "Fault from AllocFailed::from", "Fault::Memory", "", SAYS),
-    ("hall/registry.rt", "Hall::take", "Fault::Memory", "match taken: Err(AllocError)", TOLD),
+    ("hall/halls.rt", "Hall::take", "Fault::Memory", "match taken: Err(AllocError)", TOLD),
     ("hall/working.rt", "go_on", "Went::NoMemory", "let Ok(snapshot) = search.snapshot().clone() else", SHARED),
-    ("pool/desks.rt", "Desk::give_back", "AllocError", "let(end, is_left) = match next: Next::NoMemory", TOLD),
+    ("pool/desks.rt", "Desk::release", "AllocError", "let(end, is_left) = match next: Next::NoMemory", TOLD),
     ("pool/rooms.rt", "Room::admit", "Fault::Memory", "if self.out == MOST_OUT", PASSES),
     ("pool/workers.rt", "run_all", "Fault::Memory", "let Ok(mut handles) = Vec::with_capacity(desk.alloc, n as usize) else", GROWTH),
     ("pool/workers.rt", "run_all", "Fault::Memory", "let Some(tally) = desk.hire(rt, n) else", WORKERS),
@@ -61,14 +61,14 @@ PLACES = [
     ("service/connections.rt", "accept_all", "ServeFault::Memory", "let Ok(()) = queue.send(rt, next_connection(rt, listener)?) else", "the queue can't be sent to: no session is left to receive"),
     ("service/faults.rt", "ScriptFault from AllocError::from", "ScriptFault::Memory", "", SAYS),
     ("service/lines.rt", "LineReader::make", "AllocError", "let Ok(ahead) = BufReader::new(alloc, Limited { inner, left }) else", GROWTH),
-    ("service/replies.rt", "fill_reply", "Fault::Memory", "if write_reply_lines(room, who, reply).is_err()", "the room for the reply couldn't grow"),
+    ("service/replies.rt", "fill_reply", "Fault::Memory", "if write_reply_lines(buffer, who, reply).is_err()", "the buffer couldn't grow"),
     ("service/rosters.rt", "add_row", "ScriptFault::Memory", "rows.push(row).or(Err(", GROWTH),
     ("service/scripts.rt", "run_lines", "ScriptFault::Memory", "let Ok(mut hall) = take_roster(alloc, lines, writer)?.hall(alloc) else", TOLD),
-    ("service/serving.rt", "serve", "ServeFault::Memory", "let Ok(mut line) = Room::make(alloc) else", TOLD),
+    ("service/serving.rt", "serve", "ServeFault::Memory", "let Ok(mut line) = ReplyBuffer::make(alloc) else", TOLD),
     ("service/serving.rt", "serve", "ServeFault::Memory", "let Ok(unnamed) = Unnamed::make(alloc) else", TOLD),
     ("service/serving.rt", "serve_with", "ServeFault::Memory", "let Ok(desk) = roster.desk::<L>(line.alloc(), unnamed) else", TOLD),
     ("service/serving.rt", "worked_well", "ServeFault::Memory", "match worked: Err(_fault)", TOLD),
-    ("service/sessions.rt", "answer_session", "SessionEnd::Memory", "let Ok(mut reply) = Room::make(alloc) else", TOLD),
+    ("service/sessions.rt", "answer_session", "SessionEnd::Memory", "let Ok(mut reply) = ReplyBuffer::make(alloc) else", TOLD),
     ("service/sessions.rt", "answer_session", "SessionEnd::Memory", "let Ok(mut lines) = LineReader::make(alloc, reader) else", TOLD),
     ("service/sessions.rt", "answer_session", "SessionEnd::Memory", "let Ok(mut out) = Outbox::make(alloc) else", TOLD),
     ("service/sessions.rt", "Session::let_in", "Refusal::Memory", "match door.let_in(self.rt, who): Err((door, _fault))", "a pass is refused to a known name at the bound of passes alone"),
@@ -104,9 +104,9 @@ ROOMS = [
     ("search/opening.rt", "ask_rows", "reserve(count)"),
     ("service/lines.rt", "LineReader::make", "with_capacity(alloc, KEPT)"),
     ("service/outboxes.rt", "Outbox::make", "with_capacity(alloc, OUTBOX)"),
-    ("service/replies.rt", "Room::make", "with_capacity(alloc, SHORT_REPLY)"),
+    ("service/reply_buffers.rt", "ReplyBuffer::make", "with_capacity(alloc, SHORT_REPLY)"),
     ("vaults/journals.rt", "Journal::prepare", "try_reserve(self.room + 2 * row)"),
-    ("vaults/parting.rt", "halve_full", "try_reserve(1)"),
+    ("vaults/parted_rows.rt", "halve_full", "try_reserve(1)"),
     ("vaults/versions.rt", "starts_in", "with_capacity(alloc, blocks.len())"),
 ]  # fmt: skip
 
@@ -119,14 +119,14 @@ BOUNDS = [
     ("search/findings.rt", "FIRST_NODES", "36"),
     ("service/arrivals.rt", "QUEUED", "1"),
     ("service/lines.rt", "KEPT", "4098"),
-    ("service/replies.rt", "SHORT_REPLY", "128"),
+    ("service/reply_buffers.rt", "SHORT_REPLY", "128"),
 ]  # fmt: skip
 
 # Which types have a fault of memory in them, beside results: the file, the type and the fault.
 HOLDERS = [
     ("hall/calls/replies.rt", "Reply", "Fault"),
     ("pool/faults.rt", "DeskFault", "Fault"),
-    ("pool/faults.rt", "Told", "DeskFault"),
+    ("pool/faults.rt", "DeskResult", "DeskFault"),
     ("pool/turns.rt", "Noted", "Fault"),
     ("service/refusals.rt", "Refusal", "CredFault"),
 ]  # fmt: skip
@@ -134,8 +134,8 @@ HOLDERS = [
 # The functions that check a span, and those that share a completed search, where not to share it is want of memory: the file,
 # the function, and what it calls and compares with a mark, in this order.
 CALLS = [
-    ("hall/carried.rt", "Carried::lend", "replace into_shared clone"),
-    ("hall/carried.rt", "Carried::into_shared", "new"),
+    ("hall/lendable_searches.rt", "LendableSearch::lend", "replace into_shared clone"),
+    ("hall/lendable_searches.rt", "LendableSearch::into_shared", "new"),
     ("snapshots/snapshots.rt", "Snapshot::span_is", "is_vaults_below rows_at is_rows_until is_rows_until both"),
     ("snapshots/snapshots.rt", "is_vaults_below", "> len owner_passes_below owner_fails_at both"),
     ("snapshots/snapshots.rt", "owner_passes_below", "== is_below"),
@@ -157,7 +157,7 @@ CALLS = [
 
 # The functions that call themselves: the file, the function, and how deep it goes.
 RECURSIVE = [
-    ("service/replies.rt", "append_digits", "as deep as a number has digits"),
+    ("service/reply_buffers.rt", "append_digits", "as deep as a number has digits"),
 ]
 
 TYPES = {"AllocError", "AllocFailed", "TryReserveError", "Layout"}
@@ -413,8 +413,8 @@ SMALL = [
     ("asks for more than there is", "rooms", "fn f(alloc: Global) -> Result<(), AllocError> { Vec::<u8>::with_capacity(alloc, usize::MAX)?; Ok(()) }"),
     ("asks for room that it doesn't need", "rooms", "fn f(&mut self) -> Result<(), AllocError> { self.names.try_reserve(1 << 60) }"),
     ("keeps a fault", "holders", "struct Seat { last: Option<Fault> }"),
-    ("spells the number", "numbers", "fn f(room: &mut Room) { fill_error(room, &Speaker::Peer, 90) }"),
-    ("reckons the number", "numbers", "fn f(room: &mut Room) { fill_error(room, &Speaker::Peer, 80 + 10) }"),
+    ("spells the number", "numbers", "fn f(buffer: &mut ReplyBuffer) { fill_error(buffer, &Speaker::Peer, 90) }"),
+    ("reckons the number", "numbers", "fn f(buffer: &mut ReplyBuffer) { fill_error(buffer, &Speaker::Peer, 80 + 10) }"),
     ("finds beside the check", "calls", "fn passes_below(p: usize) -> bool { if p == 0 { return true; } let _span = g.find(r); s.passes(c, r, p) }"),
     ("compares beside the check", "calls", "fn passes_below(p: usize) -> bool { if p == 0 { return true; } let _is = a == b; s.passes(c, r, p) }"),
     ("calls itself for each line", "recursive", "fn f(text: &[u8]) { let (line, rest) = cut(text); g(line); if let Some(rest) = rest { f(rest) } }"),

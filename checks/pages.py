@@ -37,14 +37,14 @@ DRAWINGS = {
     "search": "bench/trace/draw.py < bench/trace/clinic.trace",
 }
 MOST_BYTES = {
-    "README.md": 6000,
-    "CONTRIBUTING.md": 10500,
-    "CHANGELOG.md": 4000,
-    "docs/ARCHITECTURE.md": 12500,
-    "docs/DECISIONS.md": 16500,
-    "docs/FIGURES.md": 11000,
-    "docs/PROVED.md": 15500,
-    "docs/TESTING.md": 11500,
+    "README.md": 6144,
+    "CONTRIBUTING.md": 9216,
+    "CHANGELOG.md": 3072,
+    "docs/ARCHITECTURE.md": 11264,
+    "docs/DECISIONS.md": 15360,
+    "docs/FIGURES.md": 10240,
+    "docs/PROVED.md": 14336,
+    "docs/TESTING.md": 10240,
 }
 MOST_WORDS, MOST_CHARACTERS = 40, 700
 PATIENCE = 30  # seconds

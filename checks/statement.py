@@ -6,7 +6,7 @@
   checks/statement.py --count        how many definitions, lines and files there are, by crate
 
 It begins at what the contract of `run_script` cites, and goes on to each definition of specs/ that one before it names. Then comes
-what that of `serve_session` cites beyond these. What stands above the mark on the page is written by hand and stays."""
+what that of `answer_session` cites beyond these. What stands above the mark on the page is written by hand and stays."""
 import dataclasses
 import itertools
 import pathlib

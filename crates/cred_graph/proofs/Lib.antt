@@ -3,7 +3,7 @@ pub mod Found
 pub mod Growth
 pub mod Keys
 pub mod Lookups
-pub mod RowLemmas
+pub mod NodeListLemmas
 pub mod NumberLemmas
 pub mod SolutionLemmas
 pub mod ListenerLemmas

@@ -9,13 +9,13 @@
 
 mod graphs;
 mod listeners;
+mod node_lists;
 mod nodes;
 mod ports;
 mod reasons;
-mod rooms;
-mod rows;
 mod solutions;
 mod solved_hashes;
+mod table_space;
 mod tables;
 
 pub use graphs::Graph;

@@ -3,7 +3,7 @@ ghost use Rattle.credential_text.specs.declared.exprs.Expr.{Expr};
 ghost use Rattle.credential_text.specs.declared.exprs.Expr.TheVariants as exprs;
 ghost use Rattle.credential_text.specs.Expr.{HasPartsInRange};
 
-use crate::rooms::{kept_room, kept_when_empty};
+use crate::table_space::{kept_room, kept_when_empty};
 use credential_text::Expr;
 use indexmap::IndexSet;
 use names::Entity;

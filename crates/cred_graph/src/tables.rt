@@ -2,10 +2,10 @@ ghost use Rattle.std.specs.Prelude.{◌≡◌, ◌↔◌, ◌<◌, ◌≤◌, �
 ghost use Rattle.std.specs.Prelude.{IfOk, OnOk, OnErr, MatchOption, Contains};
 
 use crate::listeners::KeptListening;
-use crate::rooms::{kept_room, kept_when_empty, room_for_one};
-use crate::rows::{Row, add_listener, add_member};
+use crate::node_lists::{NodeLists, add_listener, add_member};
 use crate::solutions::Reason;
 use crate::solved_hashes::SolvedHasher;
+use crate::table_space::{kept_room, kept_when_empty, room_for_one};
 use indexmap::{IndexMap, IndexSet};
 use std::alloc::{AllocError, Global};
 use std::hash::BuildHasherDefault;
@@ -16,11 +16,11 @@ use std::marker::Model;
 const NEAR: usize = 8;
 
 /// The listeners of each node, each once and in order of adding, and the solutions of all nodes with their reasons, in
-/// order of adding. Entities are spoken of by number. A node's row has its listeners and who its solutions are; listeners
+/// order of adding. Entities are spoken of by number. A node's lists are its listeners and who its solutions are; listeners
 /// beyond the first ones of their node stand in a table too.
 #[derive(Drop)]
 pub struct Tables {
-    rows: Vec<Row>,
+    lists: Vec<NodeLists>,
     far: IndexSet<(u32, KeptListening)>,
     // By the numbers of the node and of the entity.
     reasons: IndexMap<(u32, u32), Reason<u32, u32>, BuildHasherDefault<SolvedHasher>>,
@@ -34,10 +34,10 @@ impl Model for Tables {
 
     ghost Value = { List (List KeptListening) × List ((ℕ × ℕ) × Reason ℕ ℕ) };
 
-    ghost view = { λ t. (map (λ r. r.listeners.items) t.rows.items, t.reasons.entries) };
+    ghost view = { λ t. (map (λ r. r.listeners.items) t.lists.items, t.reasons.entries) };
 
-    ghost invariant = { λ t. AreFar (map (λ r. r.listeners.items) t.rows.items) t.far.keys
-        × AreMembers t.reasons.entries (map (λ r. r.members.items) t.rows.items) };
+    ghost invariant = { λ t. AreFar (map (λ r. r.listeners.items) t.lists.items) t.far.keys
+        × AreMembers t.reasons.entries (map (λ r. r.members.items) t.lists.items) };
 }
 
 impl Tables {
@@ -49,7 +49,7 @@ impl Tables {
         ensures { result ≡ ([], []) }
     {
         Tables {
-            rows: Vec::new(alloc),
+            lists: Vec::new(alloc),
             far: IndexSet::new(alloc),
             reasons: IndexMap::with_hasher(alloc, BuildHasherDefault::new()),
         }
@@ -59,16 +59,16 @@ impl Tables {
     pub fn reserve(&mut self, nodes: u64) -> Result<(), AllocError>
         ensures { self.new ≡ self.old }
     {
-        let more = (nodes as usize).saturating_sub(self.rows.len());
-        self.rows.reserve(more)
+        let more = (nodes as usize).saturating_sub(self.lists.len());
+        self.lists.reserve(more)
     }
 
     /// Gives back the memory that nothing takes, where that is more than half of a table.
     pub fn give_back(&mut self)
         ensures { self.new ≡ self.old }
     {
-        self.rows
-            .shrink_to(kept_room(self.rows.len(), self.rows.capacity()));
+        self.lists
+            .shrink_to(kept_room(self.lists.len(), self.lists.capacity()));
         self.far.shrink_to_fit();
         self.reasons
             .shrink_to(kept_room(self.reasons.len(), self.reasons.capacity()));
@@ -78,8 +78,8 @@ impl Tables {
     pub fn clear(&mut self)
         ensures { self.new ≡ ([], []) }
     {
-        self.rows.clear();
-        self.rows.shrink_to(kept_when_empty(self.rows.capacity()));
+        self.lists.clear();
+        self.lists.shrink_to(kept_when_empty(self.lists.capacity()));
         self.far.clear();
         self.far.shrink_to(kept_when_empty(self.far.capacity()));
         self.reasons.clear();
@@ -92,8 +92,8 @@ impl Tables {
         ensures { result.now ≡ list_at self.now.0 n }
     {
         let n = n as usize;
-        if n < self.rows.len() {
-            self.rows[n].listeners.as_slice()
+        if n < self.lists.len() {
+            self.lists[n].listeners.as_slice()
         } else {
             &[]
         }
@@ -129,11 +129,11 @@ impl Tables {
             return Ok(false);
         }
         if self.listeners(n).len() < NEAR {
-            add_listener(&mut self.rows, n, listening)?;
+            add_listener(&mut self.lists, n, listening)?;
             return Ok(true);
         }
         self.far.reserve(1)?;
-        add_listener(&mut self.rows, n, listening)?;
+        add_listener(&mut self.lists, n, listening)?;
         let _is_new = self.far.insert((n, listening)).unwrap();
         Ok(true)
     }
@@ -165,7 +165,7 @@ impl Tables {
         }
         let room = room_for_one(self.reasons.len(), self.reasons.capacity());
         self.reasons.reserve(room)?;
-        add_member(&mut self.rows, node, who)?;
+        add_member(&mut self.lists, node, who)?;
         let _earlier = self.reasons.insert((node, who), reason).unwrap();
         Ok(true)
     }
@@ -175,8 +175,8 @@ impl Tables {
         ensures { result.now ≡ members_by n self.now.1 }
     {
         let n = n as usize;
-        if n < self.rows.len() {
-            self.rows[n].members.as_slice()
+        if n < self.lists.len() {
+            self.lists[n].members.as_slice()
         } else {
             &[]
         }

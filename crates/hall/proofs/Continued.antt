@@ -3,7 +3,7 @@ use Rattle.std.proofs.Common.{◌≡◌, ℕ, Bool, List, [], ap, sym, subst, Op
 use Rattle.std.specs.Prelude.{MatchOption}
 use Rattle.std.specs.declared.alloc.AllocError.{AllocError}
 use Rattle.search.specs.{declared.queries.Need.Need, declared.queries.Task.Task, Search.SearchState, Search.IsSoundStage}
-use Rattle.hall.specs.declared.{faults.Fault.Fault, calls.answers.Answer.Answer, calls.steps.Step.Step, calls.steps.Stepped.Stepped, visits.Order.Order, working.Went.Went}
+use Rattle.hall.specs.declared.{faults.Fault.Fault, calls.answers.Answer.Answer, calls.steps.Step.Step, calls.steps.Stepped.Stepped, orders.Order.Order, working.Went.Went}
 use Rattle.hall.specs.declared.working.Went.TheVariants.{Nowhere, On, NoMemory}
 use Rattle.hall.specs.Steps.{StepsSearch, StepsEach, SearchGoesOn}
 use Rattle.hall.specs.Hall.{Running}

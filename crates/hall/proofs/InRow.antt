@@ -10,7 +10,7 @@ use Rattle.hall.specs.declared.calls.steps.Stepped.TheVariants as stepped
 use Rattle.hall.specs.Steps.{StepsSearch, StepsEach, SearchGoesOn}
 use Rattle.hall.specs.Hall.{HallState, Running, StepsAt, IsStepped, search_at, step_name, step_search, with_search}
 use Rattle.hall.specs.Batches.{Named, BatchState, IsEmpty}
-use Rattle.hall.specs.declared.visits.Order.{Order}
+use Rattle.hall.specs.declared.orders.Order.{Order}
 use Rattle.hall.specs.declared.working.Went.TheVariants.{Nowhere}
 use Rattle.hall.specs.Work.{Makes, HandsIn, handing_in, going_on, gives_back, is_done}
 use Rattle.hall.specs.Working.{WorksThrough}

@@ -3,14 +3,14 @@ use Rattle.std.proofs.Common.{◌≡◌, ◌∙◌, ℕ, List, ap, sym, refl, Op
 use Rattle.std.specs.FinMap.{get}
 use Rattle.search.specs.Search.{settled_of}
 use Rattle.hall.specs.declared.faults.Fault.{Fault}
-use Rattle.hall.specs.declared.faults.Fault.TheVariants.{NoTenant, NoSuchSearch, Memory}
+use Rattle.hall.specs.declared.faults.Fault.TheVariants.{NoTenant, NoSuchSearch}
 use Rattle.hall.specs.declared.calls.requests.Request.{Request}
 use Rattle.hall.specs.declared.calls.requests.Request.TheVariants as request
 use Rattle.hall.specs.declared.calls.answers.Answer.{Answer}
 use Rattle.hall.specs.declared.calls.replies.Reply.{Reply}
 use Rattle.hall.specs.declared.calls.replies.Reply.TheVariants.{Answered, Refused}
 use Rattle.vaults.specs.Journal.{marked_view}
-use Rattle.hall.specs.Answers.{sight, Answers, IsClear, refuses, grants, lacks}
+use Rattle.hall.specs.Answers.{Asked, Account, Sight, sight, Answers, IsClear, refuses, grants, lacks}
 use Rattle.hall.specs.Hall.{Running, Tenant, HallState, seen, account, search_of, search_at, hall_after, IsServed, told_as}
 use Rattle.hall.specs.Kept.{IsNowhere, IsToldOf}
 use Rattle.hall.proofs.Maps.{numbers_exact, get_mapped}
@@ -43,6 +43,18 @@ none_there h who k f is = by (get h.tenants who) is
     by None is = refl
     by (Some t) (is, none) = none
 
+-- a search of an account is polled
+pub polled_of : (tenant : List ℕ) (sees : Sight) (a : Account) (k : ℕ) (s : Asked) → get a.searches k ≡ Some s → (told : Result Answer Fault) → IsToldOf s.settled told →
+    Answers tenant sees a (request.Poll k) (told_as Answered told) a
+polled_of tenant sees a k s at told is = by told is
+  where
+    clear : IsClear tenant a (request.Poll k)
+    clear f due = let clash : Some s ≡ None = sym at ∙ due.0 in cc
+
+    by : (r : Result Answer Fault) → IsToldOf s.settled r → Answers tenant sees a (request.Poll k) (told_as Answered r) a
+    by (Ok answer) is = grants clear (s, at, ap Answered is, refl)
+    by (Err f) (is, (names, lists)) = rw is (lacks clear (s, names, at, lists))
+
 module _ (h : HallState) (who : List ℕ) (k : ℕ) (t : Tenant) (here : get h.tenants who ≡ Some t) where
   pub asked_of : (o : Option Running) → get t.searches k ≡ o → get (account h.journal who t).searches k ≡ option_map seen o
   asked_of o at = get_mapped numbers_exact seen t.searches k ∙ ap (option_map seen) at
@@ -51,12 +63,8 @@ module _ (h : HallState) (who : List ℕ) (k : ℕ) (t : Tenant) (here : get h.t
   polled_nowhere none =
       answered_by h who t here (request.Poll k) (Refused NoSuchSearch) (refuses NoSuchSearch (asked_of None none, refl)) refl
 
-  clear : (r : Running) → get t.searches k ≡ Some r → IsClear who (account h.journal who t) (request.Poll k)
-  clear r at f due = let clash : Some (seen r) ≡ None = sym (asked_of (Some r) at) ∙ due.0 in cc
-
   pub polled_there : (r : Running) → get t.searches k ≡ Some r → (told : Result Answer Fault) → IsToldOf (settled_of r.search) told →
       IsServed h who (request.Poll k) (told_as Answered told) h
-  polled_there r at (Ok answer) is =
-      answered_by h who t here (request.Poll k) (Answered answer) (grants (clear r at) (seen r, asked_of (Some r) at, ap Answered is, refl)) refl
-  polled_there r at (Err f) (is, (names, lists)) =
-      rw is (answered_by h who t here (request.Poll k) (Refused Memory) (lacks (clear r at) (seen r, names, asked_of (Some r) at, lists)) refl)
+  polled_there r at told is =
+      answered_by h who t here (request.Poll k) (told_as Answered told)
+      (polled_of who (sight (marked_view h.journal who) (request.Poll k)) (account h.journal who t) k (seen r) (asked_of (Some r) at) told is) refl

@@ -1,8 +1,8 @@
 -- A completed search stays as it is, whatever is asked of it.
 use Rattle.std.proofs.Common.{◌≡◌, ℕ, List, Option, Some, Result, Ok, Err, ap, refl, subst}
-use Rattle.hall.specs.Carried.{IsCarried, carried_search}
-use Rattle.hall.specs.declared.carried.Carried.{Carried}
-use Rattle.hall.specs.declared.carried.Carried.TheVariants.{Own, Lent, Moving}
+use Rattle.hall.specs.LendableSearch.{IsLendable, lendable_search}
+use Rattle.hall.specs.declared.lendable_searches.LendableSearch.{LendableSearch}
+use Rattle.hall.specs.declared.lendable_searches.LendableSearch.TheVariants.{Own, Lent, Moving}
 use Rattle.search.specs.declared.stages.Stage.{Stage}
 use Rattle.search.specs.declared.stages.Stage.TheVariants as stage
 use Rattle.search.specs.Search.{SearchState, IsCompleted, IsOutstanding, IsSoundStage, settled_of, IsAnswered, status_of, come_to}
@@ -20,15 +20,15 @@ use Rattle.hall.specs.Work.{IsCompletedAt}
 use Rattle.hall.specs.Kept.{IsUnsettled, IsToldOf, IsShared, DrivesTo}
 
 -- a search that isn't its keeper's own is completed
-pub lent : (c : Carried) → IsCarried c → ((s : SearchState) → c ≡ Own s → ⊥) → IsCompleted (carried_search c).stage
+pub lent : (c : LendableSearch) → IsLendable c → ((s : SearchState) → c ≡ Own s → ⊥) → IsCompleted (lendable_search c).stage
 lent (Own s) carried other = absurd (other s refl)
 lent (Lent shared) carried other = carried
 lent Moving carried other = absurd carried
 
 -- an own search is the one that is carried
-pub own : {c : Carried} {s : SearchState} (n : ℕ) → c ≡ Own s →
-    ◌≡◌ {A = Option Running} (Some (record { opened_at = n; search = carried_search c })) (Some (record { opened_at = n; search = s }))
-own n is = ap (λ (c : Carried). Some (record { opened_at = n; search = carried_search c })) is
+pub own : {c : LendableSearch} {s : SearchState} (n : ℕ) → c ≡ Own s →
+    ◌≡◌ {A = Option Running} (Some (record { opened_at = n; search = lendable_search c })) (Some (record { opened_at = n; search = s }))
+own n is = ap (λ (c : LendableSearch). Some (record { opened_at = n; search = lendable_search c })) is
 
 -- nothing of it is outstanding
 pub ended : (st : Stage) → IsCompleted st → IsOutstanding st → ⊥

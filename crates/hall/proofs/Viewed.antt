@@ -4,7 +4,7 @@ use Rattle.std.specs.FinMap.{get}
 use Rattle.credential_text.specs.declared.credentials.Credential.{Credential}
 use Rattle.rt0_rules.specs.Membership.{IsMember}
 use Rattle.vaults.specs.declared.marks.Seen.{Seen}
-use Rattle.vaults.specs.Journal.{vault, marked_names}
+use Rattle.vaults.specs.Journal.{vault, marked_names, marked_view}
 use Rattle.vaults.proofs.Exactness.{vaults_own, marked_views_exact}
 use Rattle.search.specs.Ending.{asked_role}
 use Rattle.search.specs.Search.{SearchState, IsCompleted, rows_of, settled_of}
@@ -23,11 +23,11 @@ use Rattle.hall.specs.declared.calls.replies.Reply.{Reply}
 use Rattle.hall.specs.declared.calls.replies.Reply.TheVariants.{Refused}
 use Rattle.hall.specs.declared.calls.replies.Reply.TheVariants as reply
 use Rattle.hall.specs.Fault.{proof_fault}
-use Rattle.hall.specs.Answers.{RefusesProof, refuses, grants, lacks}
-use Rattle.hall.specs.Hall.{Running, Tenant, HallState, seen, account, search_of, search_at, IsServed, IsToldOver, told_as}
+use Rattle.hall.specs.Answers.{Account, Sight, RefusesProof, IsClear, IsToldOver, sight, refuses, grants, lacks}
+use Rattle.hall.specs.Hall.{Running, Tenant, HallState, known, seen, account, search_of, search_at, hall_after, IsServed, told_as}
 use Rattle.hall.specs.Kept.{IsNowhere, IsToldOf}
 use Rattle.hall.proofs.Completed.{answer_completed}
-use Rattle.hall.proofs.Polled.{nobody_refused, answered_by, asked_of, polled_nowhere, polled_there}
+use Rattle.hall.proofs.Polled.{nobody_refused, answered_by, asked_of, polled_nowhere, polled_of}
 use Rattle.hall.proofs.laws.HallChanges.{tenant_of}
 
 module _ (h : HallState) (who : List ℕ) (t : Tenant) (here : get h.tenants who ≡ Some t) where
@@ -58,53 +58,48 @@ module _ (h : HallState) (who : List ℕ) (t : Tenant) (here : get h.tenants who
     pub nothing_proved : search_at h who k ≡ None → IsServed h who (request.Proof k member) (Refused NoSuchSearch) h
     nothing_proved none = refused_for None (sym (ap (search_of k) here) ∙ none) NoSuchSearch refl
 
-    module _ (r : Running) (at : get t.searches k ≡ Some r) where
-      -- where there is a proof no refusal is due
-      clear : IsCompleted r.search.stage → IsMember (rows_of r.search) member (asked_role r.search.query) → (f : Fault) →
-          RefusesProof (get (account h.journal who t).searches k) member f → ⊥
-      clear done is_member f due = by (rw (asked_of h who k t here (Some r) at) at due)
-        where
-          by : RefusesProof (Some (seen r)) member f → ⊥
-          by (inl (e, working)) = working ((answer_completed r.search).1 done)
-          by (inr (e, answered, none)) = none is_member
-
-      pub proof_told : (steps : List ProofStep) → IsCompleted r.search.stage → IsProof (rows_of r.search) (asked_role r.search.query) member steps →
-          IsServed h who (request.Proof k member) (reply.Proof steps) h
-      proof_told steps done proves =
-          answered_by h who t here (request.Proof k member) (reply.Proof steps)
-          (grants (clear done (sound (rows_of r.search) (asked_role r.search.query) member steps proves)) (seen r, steps, asked_of h who k t here (Some r) at, proves, refl, refl)) refl
-
-      pub proof_refused : (f : ProofFault) → WhyRefused r.search member f → IsServed h who (request.Proof k member) (Refused (proof_fault f)) h
-      proof_refused faults.NotDone why = refused_for (Some r) at NotDone (inl (refl, λ answered. why ((answer_completed r.search).0 answered)))
-      proof_refused faults.NoProof (done, none) = refused_for (Some r) at NoProof (inr (refl, (answer_completed r.search).1 done, none))
-      proof_refused faults.Memory (done, is_member) = answered_by h who t here (request.Proof k member) (Refused Memory) (lacks (clear done is_member) tt) refl
-
--- what a search has come to is told alike in each hall that has it
-pub polled_over : (s : SearchState) (told : Result Answer Fault) → IsToldOf (settled_of s) told → IsToldOver s request.Poll (told_as reply.Answered told)
-polled_over s told is h who k r at same =
-    let (t, found, there) = tenant_of h who k r at in
-    polled_there h who k t found r there told (rw same is)
+-- what a search has come to is told alike to each account that has it
+pub polled_over : (s : SearchState) (told : Result Answer Fault) → IsToldOf (settled_of s) told → IsToldOver (known s) request.Poll (told_as reply.Answered told)
+polled_over s told is tenant sees a k at = polled_of tenant sees a k (known s) at told is
 
 module _ (s : SearchState) (member : List ℕ) where
-  pub proved_over : (steps : List ProofStep) → IsCompleted s.stage → IsProof (rows_of s) (asked_role s.query) member steps →
-      IsToldOver s (λ k. request.Proof k member) (reply.Proof steps)
-  proved_over steps done proves h who k r at same =
-      let (t, found, there) = tenant_of h who k r at in
-      proof_told h who t found k member r there steps (rw same done) (rw same proves)
+  module _ (tenant : List ℕ) (a : Account) (k : ℕ) (at : get a.searches k ≡ Some (known s)) where
+    -- where there is a proof no refusal is due
+    clear : IsCompleted s.stage → IsMember (rows_of s) member (asked_role s.query) → IsClear tenant a (request.Proof k member)
+    clear done is_member f due = by (rw at at due)
+      where
+        by : RefusesProof (Some (known s)) member f → ⊥
+        by (inl (e, working)) = working ((answer_completed s).1 done)
+        by (inr (e, answered, none)) = none is_member
 
-  pub unproved_over : (f : ProofFault) (g : Fault) → g ≡ proof_fault f → WhyRefused s member f → IsToldOver s (λ k. request.Proof k member) (Refused g)
-  unproved_over f g is why h who k r at same =
-      let (t, found, there) = tenant_of h who k r at in
-      rw is (proof_refused h who t found k member r there f (rw same why))
+    -- a refusal that is due
+    due_for : (f : Fault) → RefusesProof (Some (known s)) member f → RefusesProof (get a.searches k) member f
+    due_for f due = rw at due
+
+  pub proved_over : (steps : List ProofStep) → IsCompleted s.stage → IsProof (rows_of s) (asked_role s.query) member steps →
+      IsToldOver (known s) (λ k. request.Proof k member) (reply.Proof steps)
+  proved_over steps done proves tenant sees a k at =
+      grants (clear tenant a k at done (sound (rows_of s) (asked_role s.query) member steps proves)) (known s, steps, at, proves, refl, refl)
+
+  pub unproved_over : (f : ProofFault) (g : Fault) → g ≡ proof_fault f → WhyRefused s member f → IsToldOver (known s) (λ k. request.Proof k member) (Refused g)
+  unproved_over faults.NotDone g is why tenant sees a k at =
+      rw is (refuses NotDone (due_for tenant a k at NotDone (inl (refl, λ answered. why ((answer_completed s).0 answered)))))
+  unproved_over faults.NoProof g is (done, none) tenant sees a k at =
+      rw is (refuses NoProof (due_for tenant a k at NoProof (inr (refl, (answer_completed s).1 done, none))))
+  unproved_over faults.Memory g is (done, is_member) tenant sees a k at = rw is (lacks (clear tenant a k at done is_member) tt)
 
 -- a hall that has the search serves what is told over it
-pub served_over : (h : HallState) (who : List ℕ) (k : ℕ) (s : SearchState) (wanted : ℕ → Request) (told : Reply) →
-    Some s ≡ option_map (λ (r : Running). r.search) (search_at h who k) → IsToldOver s wanted told → IsServed h who (wanted k) told h
-served_over h who k s wanted told at over = by (search_at h who k) refl at
+pub served_over : (h : HallState) (who : List ℕ) (k : ℕ) (s : SearchState) (wanted : ℕ → Request) (told : Reply) → hall_after h who (wanted k) told ≡ h →
+    Some s ≡ option_map (λ (r : Running). r.search) (search_at h who k) → IsToldOver (known s) wanted told → IsServed h who (wanted k) told h
+served_over h who k s wanted told after at over = by (search_at h who k) refl at
   where
     by : (o : Option Running) → search_at h who k ≡ o → Some s ≡ option_map (λ (r : Running). r.search) o → IsServed h who (wanted k) told h
     by None is at = cc
-    by (Some r) is at = over h who k r is cc
+    by (Some r) is at =
+        let (t, found, there) = tenant_of h who k r is in
+        let same : s ≡ r.search = cc in
+        answered_by h who t found (wanted k) told
+        (over who (sight (marked_view h.journal who) (wanted k)) (account h.journal who t) k (asked_of h who k t found (Some r) there ∙ ap (λ (x : SearchState). Some (known x)) (sym same))) after
 
 -- one that shows no search of the number has none
 pub no_search : (shown h : HallState) → h ≡ shown → (who : List ℕ) (k : ℕ) → None ≡ option_map (λ (r : Running). r.search) (search_at shown who k) →

@@ -3,9 +3,9 @@ use Rattle.std.proofs.Common.{◌≡◌, ◌∙◌, ◌⊎◌, ℕ, List, length
 use Rattle.std.proofs.lemmas.Option.{same_Some}
 use Rattle.std.specs.Prelude.{MatchOption, MatchBool, IsSomeAnd}
 use Rattle.search.specs.{declared.queries.Need.Need, Stage.IsQuiet}
-use Rattle.hall.specs.declared.{visits.Order.Order, visits.Next.Next, working.Went.Went, picking.Standing.Standing}
-use Rattle.hall.specs.declared.visits.Order.TheVariants.{GoOn, TakeTurn}
-use Rattle.hall.specs.declared.visits.Next.TheVariants as goes_so
+use Rattle.hall.specs.declared.{orders.Order.Order, orders.Next.Next, working.Went.Went, picking.Standing.Standing}
+use Rattle.hall.specs.declared.orders.Order.TheVariants.{GoOn, TakeTurn}
+use Rattle.hall.specs.declared.orders.Next.TheVariants as goes_so
 use Rattle.hall.specs.declared.working.Went.TheVariants.{Nowhere, On, NoMemory}
 use Rattle.hall.specs.declared.picking.Standing.TheVariants.{Moves, Rests, Over}
 use Rattle.hall.specs.declared.calls.steps.Stepped.TheVariants.{Gone}

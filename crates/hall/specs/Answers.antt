@@ -147,3 +147,8 @@ pub data Answers (tenant : List ℕ) (sees : Sight) (a : Account) (q : Request) 
   refuses : (f : Fault) → Refuses tenant a q f → Answers tenant sees a q (reply.Refused f) a
   grants : {told : Reply} {b : Account} → IsClear tenant a q → Grants tenant sees a q told b → Answers tenant sees a q told b
   lacks : IsClear tenant a q → MayLack a q → Answers tenant sees a q (reply.Refused fault.Memory) a
+
+-- whatever account has this search under whatever number, its request for it is told this, and changes nothing
+abbrev pub IsToldOver : Asked → (ℕ → Request) → Reply → Type 0
+IsToldOver s wanted told =
+    (tenant : List ℕ) (sees : Sight) (a : Account) (k : ℕ) → get a.searches k ≡ Some s → Answers tenant sees a (wanted k) told a

@@ -49,8 +49,11 @@ pub record HallState : Type 0 where
   pub tenants : Tenants
 
 -- a search as its asker knows it
+abbrev pub known : SearchState → Asked
+known s = record { query = s.query; view = s.snapshot.vaults; settled = settled_of s }
+
 abbrev pub seen : Running → Asked
-seen r = record { query = r.search.query; view = r.search.snapshot.vaults; settled = settled_of r.search }
+seen r = known r.search
 
 -- a tenant's account
 abbrev pub account : List Entry → List ℕ → Tenant → Account
@@ -109,11 +112,6 @@ pub record IsServed (old : HallState) (name : List ℕ) (q : Request) (told : Re
 abbrev pub told_as : {X : Type 0} → (X → Reply) → Result X Fault → Reply
 told_as reply (Ok x) = reply x
 told_as reply (Err f) = Refused f
-
--- in each hall that has this search, its tenant's request for it is told this, and changes nothing
-abbrev pub IsToldOver : SearchState → (ℕ → Request) → Reply → Type 0
-IsToldOver s wanted told =
-    (h : HallState) (who : List ℕ) (k : ℕ) (r : Running) → search_at h who k ≡ Some r → r.search ≡ s → IsServed h who (wanted k) told h
 
 -- whose search a step is made of, and its number
 abbrev pub step_name : Step → List ℕ

@@ -7,7 +7,7 @@ use Rattle.hall.specs.Hall.{Running, Tenant, Tenants, HallState, with_search, se
 use Rattle.hall.specs.Kept.{IsNowhere, Stands}
 use Rattle.hall.specs.contracts.tenants.Tenants as tenants
 use Rattle.hall.specs.contracts.seats.Seat as seat
-use Rattle.hall.specs.contracts.opened.Opened as opened
+use Rattle.hall.specs.contracts.open_searches.OpenSearch as opened
 
 -- the tenant is what was left behind the loan
 abbrev pub LendsSeat : MutBor Tenants → List ℕ → Result (MutBor Tenant) Fault → Fml

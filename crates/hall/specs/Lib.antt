@@ -1,4 +1,4 @@
-pub mod Carried
+pub mod LendableSearch
 pub mod Batches
 pub mod Fault
 pub mod Answers

@@ -6,14 +6,14 @@ use Rattle.search.specs.{declared.queries.Need.Need, Search.SearchState, Search.
 use Rattle.snapshots.specs.Snapshot.{SnapshotState}
 use Rattle.hall.specs.declared.calls.steps.Step.TheVariants.{Take, GiveBack, Finish, Signal}
 use Rattle.hall.specs.declared.calls.steps.Stepped.TheVariants.{Took, Nothing, Signalled, Done, Gone}
-use Rattle.hall.specs.declared.visits.Next.TheVariants.{Worked, Idle, NoMemory, Unasked}
+use Rattle.hall.specs.declared.orders.Next.TheVariants.{Worked, Idle, NoMemory, Unasked}
 use Rattle.hall.specs.declared.calls.steps.{Step.Step, Stepped.Stepped}
-use Rattle.hall.specs.declared.visits.{Order.Order, Visit.Visit, Next.Next}
+use Rattle.hall.specs.declared.orders.{Order.Order, Visit.Visit, Next.Next}
 use Rattle.hall.specs.Hall.{HallState, Running, search_at, IsStepped, Run}
 use Rattle.hall.specs.Batches.{Named, BatchState, name_of, batch_of, IsEmpty}
 use Rattle.hall.specs.Kept.{IsUnsettled}
 use Rattle.hall.specs.declared.calls.{events.Event.TheVariants.Step as Stepping, replies.Reply.TheVariants.Stepped as Reported}
-use Rattle.hall.specs.declared.visits.Order.TheVariants as order
+use Rattle.hall.specs.declared.orders.Order.TheVariants as order
 
 -- a letter that was taken: whose, of which search, what it needs, and what it is to be looked up in
 pub record TakenLetter : Type 0 where

@@ -2,11 +2,11 @@
 use Rattle.std.specs.Prelude.{◌≡◌, ℕ, Bool, true, false, List, ◌++◌, ◌∷◌, [], Option, None, Some, MatchOption}
 use Rattle.std.specs.List.{filter_map}
 use Rattle.search.specs.{declared.queries.Need.Need, Search.SearchState, Stage.IsQuiet}
-use Rattle.hall.specs.declared.{visits.Order.Order, visits.Next.Next, calls.steps.Stepped.Stepped}
+use Rattle.hall.specs.declared.{orders.Order.Order, orders.Next.Next, calls.steps.Stepped.Stepped}
 use Rattle.hall.specs.declared.{working.Went.Went, picking.Standing.Standing}
 use Rattle.hall.specs.declared.picking.Standing.TheVariants.{Moves, Rests, Over}
-use Rattle.hall.specs.declared.{visits.Order.TheVariants.GoOn, visits.Next.TheVariants.Worked}
-use Rattle.hall.specs.declared.visits.Next.TheVariants as goes_so
+use Rattle.hall.specs.declared.{orders.Order.TheVariants.GoOn, orders.Next.TheVariants.Worked}
+use Rattle.hall.specs.declared.orders.Next.TheVariants as goes_so
 use Rattle.hall.specs.declared.working.Went.TheVariants.{Nowhere, On, NoMemory}
 use Rattle.hall.specs.Work.{HandsInBatch, GoesOn, GoesOnAs, Makes, SearchIsQuiet, TellsEnds}
 use Rattle.hall.specs.Work.{handing_in, going_on, went_on, is_done, gives_back}

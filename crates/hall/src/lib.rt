@@ -10,36 +10,36 @@
 
 mod batches;
 mod calls;
-mod carried;
 mod ends;
 mod faults;
-mod hands;
+mod halls;
 mod jobs;
+mod lendable_searches;
 mod lists;
-mod opened;
+mod open_searches;
+mod orders;
 mod picking;
-mod registry;
+mod places;
 mod remains;
 mod run_laws;
 mod running;
 mod seats;
 mod tenants;
-mod visits;
 mod working;
 
 pub use batches::Batch;
 pub use calls::{Answer, Event, Reply, Request, Step, Stepped};
 pub use ends::Ends;
 pub use faults::Fault;
+pub use halls::Hall;
 pub use jobs::Job;
 pub use lists::{Listed, Names, Rows, Sights};
-pub use opened::{proof_of, told_of};
+pub use open_searches::{proof_of, told_of};
+pub use orders::{Next, Order, Visit};
 pub use proof_trees::{Proof, write_proof};
-pub use registry::Hall;
 pub use remains::Remains;
 pub use run_laws::{
     answers_are_true, refusals_come_first, runs_are_allowed, scripts_are_exact,
     scripts_are_isolated, two_worlds,
 };
 pub use search::Query;
-pub use visits::{Next, Order, Visit};

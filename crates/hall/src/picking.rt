@@ -6,8 +6,8 @@ ghost use Rattle.hall.specs.Work.{SearchIsQuiet, NothingToDo, CanBeMade};
 ghost use Rattle.hall.specs.Kept.{IsUnsettled, Lists, KeepsBut, Stands};
 
 use crate::calls::Step;
-use crate::opened::next_step;
-use crate::registry::Hall;
+use crate::halls::Hall;
+use crate::open_searches::next_step;
 use indexmap::{IndexMap, IndexSet};
 use names::Entity;
 use search::{Search, Status};

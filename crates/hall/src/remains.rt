@@ -1,29 +1,29 @@
 //! What is left of a search that was ended.
 
-use crate::carried::Carried;
-use crate::opened::Opened;
+use crate::lendable_searches::LendableSearch;
+use crate::open_searches::OpenSearch;
 use search::Tables;
 
 /// What is left of a search that was ended. No call reads it any more, and to drop it may take long.
 #[derive(Drop)]
 pub struct Remains {
-    ended: Opened,
+    ended: OpenSearch,
 }
 
 impl Remains {
     /// All of the search.
-    pub(crate) fn of(ended: Opened) -> Remains {
+    pub(crate) fn of(ended: OpenSearch) -> Remains {
         Remains { ended }
     }
 
     /// Drops it. Where nobody else has the search, its tables are spare then.
     pub(crate) fn leave_tables(self, spare: &mut Tables) {
         let Remains { ended } = self;
-        let Opened {
+        let OpenSearch {
             opened_at: _,
             carried,
         } = ended;
-        if let Carried::Own(search) = carried {
+        if let LendableSearch::Own(search) = carried {
             *spare = search.into_tables();
         }
     }

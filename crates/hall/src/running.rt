@@ -7,7 +7,7 @@ ghost use Rattle.hall.specs.Hall.{account_of, IsServed, told_as, Happens, Run};
 
 use crate::calls::{Event, Reply, Request};
 use crate::faults::Fault;
-use crate::registry::Hall;
+use crate::halls::Hall;
 use names::Entity;
 
 impl Hall {

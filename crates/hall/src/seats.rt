@@ -7,9 +7,9 @@ ghost use Rattle.hall.specs.{Fault.vault_fault, Answers.alter_refusal, Answers.s
 ghost use Rattle.hall.specs.Hall.{account, beginning, new_tenant};
 ghost use Rattle.hall.specs.Kept.{Lists, KeepsBut};
 
-use crate::carried::Carried;
 use crate::faults::Fault;
-use crate::opened::Opened;
+use crate::lendable_searches::LendableSearch;
+use crate::open_searches::OpenSearch;
 use crate::picking::{Busy, enter};
 use crate::remains::Remains;
 use indexmap::IndexMap;
@@ -27,7 +27,7 @@ use vaults::{Book, Change};
 pub(crate) struct Seat {
     limits: Limits,
     opens: u64,
-    pub(crate) searches: IndexMap<u64, Opened>,
+    pub(crate) searches: IndexMap<u64, OpenSearch>,
     // Where the search stands that was lent last.
     pub(crate) hand: usize,
 }
@@ -144,11 +144,12 @@ impl Seat {
         ensures changes { result.changes ≡ length (entries_of who.now book.now) }
         ensures opens { result.opens ≡ self.now.opens }
     {
+        let counts = book.used_by(who);
         Used {
-            creds: book.creds_of(*who),
-            grants: book.grants_of(*who),
+            creds: counts.creds,
+            grants: counts.grants,
             searches: self.searches.len() as u64,
-            changes: book.changes_of(*who),
+            changes: counts.changes,
             opens: self.opens,
         }
     }
@@ -162,7 +163,7 @@ fn begin(
     query: Query,
     work: u64,
     spare: &mut Tables,
-) -> Result<Opened, Fault>
+) -> Result<OpenSearch, Fault>
     requires { 0 < work }
     ensures begun { IfOk result (λ opened. opened ≡ beginning book.old who query work) }
     ensures only_memory { IfErr result (λ f. f ≡ Fault.Memory) }
@@ -170,8 +171,8 @@ fn begin(
 {
     let snapshot = Arc::new(alloc, Snapshot::take(alloc, book, who)?)?;
     let tables = mem::replace(spare, Tables::new(alloc));
-    let carried = Carried::Own(Search::open_in(tables, alloc, snapshot, query, work)?);
-    Ok(Opened {
+    let carried = LendableSearch::Own(Search::open_in(tables, alloc, snapshot, query, work)?);
+    Ok(OpenSearch {
         opened_at: book.journal_len(),
         carried,
     })

@@ -4,8 +4,8 @@ ghost use Rattle.std.specs.{FinMap.get, FinMap.from_entries, List.IsDistinct, Bo
 ghost use Rattle.{names.specs.Name.is_same, hall.specs.Hall.new_tenant, hall.specs.Hall.search_of, hall.specs.Kept.IsNowhere};
 
 use crate::faults::Fault;
-use crate::hands::place_of;
-use crate::opened::Opened;
+use crate::open_searches::OpenSearch;
+use crate::places::place_of;
 use crate::seats::Seat;
 use indexmap::IndexMap;
 use names::Entity;
@@ -79,7 +79,7 @@ impl Tenants {
 
     /// The tenant's search of the number, to go on with. The order of refusals: 62, 51.
     #[inline(always)]
-    pub(crate) fn opened_mut(&mut self, who: &Entity, number: u64) -> Result<&mut Opened, Fault>
+    pub(crate) fn opened_mut(&mut self, who: &Entity, number: u64) -> Result<&mut OpenSearch, Fault>
         ensures* lends { sem 𝓛 (LendsSearch self.entry who.now number result) }
         ensures here { IfOk result (λ opened. search_of number (get self.old who.now) ≡ Some opened.now) }
         ensures nowhere { IfErr result (IsNowhere number (get self.old who.now)) }

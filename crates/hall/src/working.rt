@@ -10,8 +10,8 @@ ghost use Rattle.hall.specs.Work.{HandsIn, HandsInBatch, GoesOn, gives_back};
 ghost use Rattle.hall.specs.Working.{HandsInOne, MakesStep, WentAs, WorksThrough};
 
 use crate::batches::{Batch, HeldLetter, NamedSearch};
+use crate::orders::{Next, Order};
 use crate::picking::Standing;
-use crate::visits::{Next, Order};
 use names::{Entity, Role};
 use search::{Finished, Hint, Need, Search};
 use snapshots::Snapshot;

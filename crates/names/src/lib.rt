@@ -7,9 +7,9 @@
 //! Why so: docs/DECISIONS.md#names.
 #![tactic(auto)]
 
-mod cells;
 mod entities;
 mod faults;
+mod held_names;
 mod laws;
 mod reading;
 mod role_names;

@@ -2,8 +2,8 @@ ghost use Rattle.std.specs.Prelude.{◌≡◌, ◌↔◌, ℕ, List, Some, IsOk,
 ghost use Rattle.names.specs.Name.{IsName, name_order};
 ghost use Rattle.names.specs.Fault.{name_fault};
 
-use crate::cells::Name;
 use crate::faults::NameFault;
+use crate::held_names::Name;
 use std::cmp::Ordering;
 use std::marker::Model;
 

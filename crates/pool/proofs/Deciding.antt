@@ -22,11 +22,11 @@ use Rattle.hall.specs.declared.calls.requests.Request.{Request}
 use Rattle.hall.specs.declared.calls.requests.Request.TheVariants.{Poll, Proof}
 use Rattle.hall.specs.declared.calls.replies.Reply.{Reply}
 use Rattle.hall.specs.Answers.{IsAnswer}
-use Rattle.hall.specs.Hall.{HallState, IsSound}
+use Rattle.hall.specs.Hall.{HallState, known, IsSound}
 use Rattle.hall.specs.Work.{IsCompletedAt}
 use Rattle.hall.proofs.Completed.{answer_completed}
 use Rattle.hall.proofs.laws.HallChanges.{tenant_of}
-use Rattle.pool.specs.Histories.{Reads, IsReadOff}
+use Rattle.pool.specs.Histories.{ReadsIn, IsReadOff}
 use Rattle.pool.proofs.Admitting.{poll_admits, proof_admits}
 
 -- it is, or it is not
@@ -87,7 +87,7 @@ completed_decides h who k s d sound at =
     (subst (λ (x : SearchState). MaySettle t.limits.work (rows_of x) x.query Nothing (settled_of x)) at.is kept.settled)
 
 -- something is told of the search that is read
-pub reads_admit : (h : HallState) (who : List ℕ) (q : Request) (s : SearchState) → IsSound h → Reads h who q s → (told : Reply) × IsReadOff s q told
+pub reads_admit : (h : HallState) (who : List ℕ) (q : Request) (s : SearchState) → IsSound h → ReadsIn h who q s → (told : Reply) × IsReadOff (known s) q told
 reads_admit h who (Poll k) s sound reads = poll_admits k s
 reads_admit h who (Proof k member) s sound reads = proof_admits k member s reads.completed (completed_decides h who k s member sound reads)
 reads_admit h who _ s sound reads = absurd reads

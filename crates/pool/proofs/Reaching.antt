@@ -19,7 +19,7 @@ use Rattle.hall.specs.declared.calls.steps.Stepped.{Stepped}
 use Rattle.hall.specs.Steps.{just_opened}
 use Rattle.hall.specs.Answers.{Account, start_of}
 use Rattle.hall.specs.Run.{Told, any_time, IsRunOf}
-use Rattle.hall.specs.Hall.{HallState, Tenant, Running, account_of, search_at, beginning, IsSound, IsServed, StepsAt, IsStepped, step_name, step_search, told_as, new_hall}
+use Rattle.hall.specs.Hall.{HallState, Tenant, Running, known, account_of, search_at, beginning, IsSound, IsServed, StepsAt, IsStepped, step_name, step_search, told_as, new_hall}
 use Rattle.hall.proofs.laws.HallChanges.{EachSearch, inserted_each, replaced_each, new_each}
 use Rattle.hall.proofs.laws.HallRequests.{opening, requested_each}
 use Rattle.hall.proofs.laws.HallRuns.{served_journal, stepped_journal}
@@ -28,8 +28,9 @@ use Rattle.hall.proofs.SearchSteps.{step_goes_on}
 use Rattle.pool.specs.declared.turns.Item.{Item}
 use Rattle.pool.specs.declared.turns.Item.TheVariants as item
 use Rattle.pool.specs.declared.turns.Noted.TheVariants as noted
-use Rattle.pool.specs.Histories.{AreRuns, journal_by, entered_by, turn, EndsIn, Reads, Admits, is_turn, turns_of, AreTold, IsOpening, IsLegal, Reaches, item_of}
+use Rattle.pool.specs.Histories.{AreRuns, journal_by, entered_by, turn, EndsIn, ReadsIn, Admits, is_turn, turns_of, AreTold, IsOpening, IsLegal, Reaches, item_of}
 use Rattle.pool.proofs.GoOn.{serve_on, step_on}
+use Rattle.pool.proofs.Admitting.{read_served}
 use Rattle.pool.proofs.Deciding.{reads_admit}
 use Rattle.hall.proofs.laws.ExactRuns.{started}
 
@@ -135,17 +136,17 @@ module _ (roster : List (List ℕ × Quota)) (items : List Item) (old : HallStat
   }
 
   -- a request that reads a search
-  pub read_on : (name : ℕ) (who : List ℕ) (q : Request) (s : SearchState) → Reads old who q s → Reaches roster (items ++ item.Read name who q s ∷ []) old
+  pub read_on : (name : ℕ) (who : List ℕ) (q : Request) (s : SearchState) → ReadsIn old who q s → Reaches roster (items ++ item.Read name who q (known s) ∷ []) old
   read_on name who q s reads = record {
-    journal = reaches.journal ∙ sym (journal_by_append [] items (item.Read name who q s ∷ []));
+    journal = reaches.journal ∙ sym (journal_by_append [] items (item.Read name who q (known s) ∷ []));
     ends = λ all are.
-        let (before, t, is, were, (told, off, last)) = told_last items (item.Read name who q s) refl all are in
+        let (before, t, is, were, (told, off, last)) = told_last items (item.Read name who q (known s)) refl all are in
         subst (λ (w : List Told). EndsIn roster w old) (sym (is ∙ ap (λ (x : Told). before ++ x ∷ []) last))
-        (serve_on roster before old old who q told sound (reaches.ends before were) (off old who reads));
+        (serve_on roster before old old who q told sound (reaches.ends before were) (read_served old who q s told reads off));
     some =
         let (told, off) = reads_admit old who q s sound reads in
-        some_more items (item.Read name who q s) refl (turn who q told) reaches.some (told, off, refl);
-    opened = all_stay items (item.Read name who q s) old reaches.opened;
+        some_more items (item.Read name who q (known s)) refl (turn who q told) reaches.some (told, off, refl);
+    opened = all_stay items (item.Read name who q (known s)) old reaches.opened;
   }
 
   -- a stop
@@ -176,10 +177,10 @@ module _ (roster : List (List ℕ × Quota)) (items : List Item) (old : HallStat
       told_on name new who asked.value (told_as (λ (x : Reply). x) told.value)
       (subst₂ (λ (x : Request) (y : Result Reply Fault). IsServed old who x (told_as (λ (z : Reply). z) y) new) (sym is) (sym so) served)
 
-  pub read_noted : (name : ℕ) (who : List ℕ) (q : Request) (s : SearchState) (asked : Snapshot Request) (read : Snapshot SearchState) → Reads old who q s →
+  pub read_noted : (name : ℕ) (who : List ℕ) (q : Request) (s : SearchState) (asked : Snapshot Request) (read : Snapshot SearchState) → ReadsIn old who q s →
       asked.value ≡ q → read.value ≡ s → Reaches roster (items ++ item_of name (noted.Read who asked read) ∷ []) old
   read_noted name who q s asked read reads is so =
-      read_on name who asked.value read.value (subst₂ (λ (x : Request) (y : SearchState). Reads old who x y) (sym is) (sym so) reads)
+      read_on name who asked.value read.value (subst₂ (λ (x : Request) (y : SearchState). ReadsIn old who x y) (sym is) (sym so) reads)
 
 pub legal_at : (roster : List (List ℕ × Quota)) (items : List Item) (h : HallState) → Reaches roster items h → IsLegal roster items
 legal_at roster items h reaches = record { runs = λ told are tenant. (account_of h tenant, (reaches.ends told are).runs tenant); some = reaches.some }

@@ -13,9 +13,9 @@ use Rattle.hall.specs.declared.calls.replies.Reply.{Reply}
 use Rattle.hall.specs.declared.calls.requests.Request.{Request}
 use Rattle.hall.specs.declared.calls.requests.Request.TheVariants.{Seek, Poll, Proof}
 use Rattle.hall.specs.declared.calls.replies.Reply.TheVariants.{Opened}
-use Rattle.hall.specs.Answers.{Account, start_of}
+use Rattle.hall.specs.Answers.{Asked, Account, Sight, Answers, start_of}
 use Rattle.hall.specs.Run.{asks, Told, told_in, entered, told_to, any_time, IsRunOf}
-use Rattle.hall.specs.Hall.{HallState, Tenant, Running, search_at, account_of, IsSound, Run, IsServed, told_as}
+use Rattle.hall.specs.Hall.{HallState, Tenant, Running, known, search_at, account_of, IsSound, Run, told_as}
 use Rattle.hall.specs.Work.{IsCompletedAt}
 use Rattle.pool.specs.declared.turns.Item.{Item}
 use Rattle.pool.specs.declared.turns.Item.TheVariants as item
@@ -47,15 +47,15 @@ HistoriesGoOn =
     (roster : List (List ℕ × Quota)) (told : List Told) (old new : HallState) (events : List Event) (replies : List Reply)
     → IsSound old → EndsIn roster told old → Run old events replies new → EndsIn roster (told ++ told_in events replies) new
 
--- the request reads this search of the hall's and nothing else; for a proof it is completed
-abbrev pub Reads : HallState → List ℕ → Request → SearchState → Type 0
-Reads h who (Poll k) s = option_map (λ r. r.search) (search_at h who k) ≡ Some s
-Reads h who (Proof k member) s = IsCompletedAt h who k s
-Reads h who _ s = ⊥
+-- the request reads this search of the account and nothing else
+abbrev pub Reads : Account → Request → Asked → Type 0
+Reads a (Poll k) s = get a.searches k ≡ Some s
+Reads a (Proof k member) s = get a.searches k ≡ Some s
+Reads a _ s = ⊥
 
--- in each hall where the request reads this search it is told this, and changes nothing
-abbrev pub IsReadOff : SearchState → Request → Reply → Type 0
-IsReadOff s q told = (h : HallState) (who : List ℕ) → Reads h who q s → IsServed h who q told h
+-- whatever account has this search, its request that reads it is told this, and changes nothing
+abbrev pub IsReadOff : Asked → Request → Reply → Type 0
+IsReadOff s q told = (tenant : List ℕ) (sees : Sight) (a : Account) → Reads a q s → Answers tenant sees a q told a
 
 -- what a tenant may have been told by an item: one reply, or one that is made of the search that was read
 abbrev pub Admits : Item → Told → Type 0
@@ -99,6 +99,12 @@ pub record IsOpening (items : List Item) (who : List ℕ) (k : ℕ) (query : Que
   pub split : items ≡ before ++ item.Told name who (Seek query) (Opened k) ∷ after
   pub sees : shown ≡ record { asker = who; vaults = view (journal_by [] before) who }
 
+-- the request reads this search of the hall's and nothing else; for a proof it is completed
+abbrev pub ReadsIn : HallState → List ℕ → Request → SearchState → Type 0
+ReadsIn h who (Poll k) s = option_map (λ r. r.search) (search_at h who k) ≡ Some s
+ReadsIn h who (Proof k member) s = IsCompletedAt h who k s
+ReadsIn h who _ s = ⊥
+
 -- the history ends in the hall, whatever was told by its items, and something was; and it has the opening of each search
 pub record Reaches (roster : List (List ℕ × Quota)) (items : List Item) (h : HallState) : Type 0 where
   pub journal : h.journal ≡ journal_by [] items
@@ -111,5 +117,5 @@ pub record Reaches (roster : List (List ℕ × Quota)) (items : List Item) (h : 
 -- the item of what was noted, under the name of a pass
 abbrev pub item_of : ℕ → Noted → Item
 item_of name (noted.Told who q told) = item.Told name who q.value (told_as (λ r. r) told.value)
-item_of name (noted.Read who q s) = item.Read name who q.value s.value
+item_of name (noted.Read who q s) = item.Read name who q.value (known s.value)
 item_of name noted.Stopped = item.Stopped name

@@ -12,14 +12,15 @@ use Rattle.hall.specs.declared.calls.requests.Request.{Request}
 use Rattle.hall.specs.declared.calls.requests.Request.TheVariants as request
 use Rattle.hall.specs.declared.calls.replies.Reply.{Reply}
 use Rattle.hall.specs.declared.calls.replies.Reply.TheVariants as reply
-use Rattle.hall.specs.Hall.{search_at, IsServed, IsToldOver}
+use Rattle.hall.specs.Answers.{Asked, IsToldOver}
+use Rattle.hall.specs.Hall.{known, search_at}
 use Rattle.pool.specs.declared.faults.DeskFault.{DeskFault}
 use Rattle.pool.specs.declared.faults.DeskFault.TheVariants.{Hall}
 use Rattle.pool.specs.declared.turns.Item.{Item}
 use Rattle.pool.specs.declared.turns.Item.TheVariants as item
 use Rattle.pool.specs.declared.verdicts.Verdict.{Verdict}
 use Rattle.pool.specs.Fronts.{HasStop}
-use Rattle.pool.specs.Histories.{turn, Admits, Reads, IsReadOff, IsOpening}
+use Rattle.pool.specs.Histories.{turn, Admits, ReadsIn, IsReadOff, IsOpening}
 use Rattle.pool.specs.Passes.{PassState, own_calls}
 use Rattle.pool.specs.Rooms.{RoomState, IsKept}
 
@@ -59,7 +60,7 @@ Suits (request.Proof k member) (reply.Proof steps) = Unit {0}
 Suits q _ = ⊥
 
 -- a call comes to the reply that is read off a search so, or to the refusal
-abbrev pub IsReadAs : SearchState → Request → Result Reply DeskFault → Type 0
+abbrev pub IsReadAs : Asked → Request → Result Reply DeskFault → Type 0
 IsReadAs s q (Ok told) = IsReadOff s q told
 IsReadAs s q (Err fault) = (f : Fault) × (fault ≡ Hall f) × IsReadOff s q (reply.Refused f)
 
@@ -75,12 +76,12 @@ IsPolled old new k (Err fault) =
 abbrev pub IsWaited : PassState → PassState → ℕ → Result Verdict DeskFault → Type 0
 IsWaited old new k result = IsPolled old new k result × IfOk result (λ v. v.answer ≡ Working → HasStop new.seen)
 
--- the verdict tells this of the search itself, in each hall that has it; memory may lack to tell it, or to share what it reads
+-- the verdict tells this of the search itself, to each account that has it; memory may lack to tell it, or to share what it reads
 abbrev pub IsVerdictOn : SearchState → Result Verdict DeskFault → Type 0
-IsVerdictOn s (Ok v) = IsToldOver s request.Poll (reply.Answered v.answer) × (v.query ≡ s.query) × (arc_value v.snapshot ≡ s.snapshot)
+IsVerdictOn s (Ok v) = IsToldOver (known s) request.Poll (reply.Answered v.answer) × (v.query ≡ s.query) × (arc_value v.snapshot ≡ s.snapshot)
 IsVerdictOn s (Err fault) =
-    ((f : Fault) × (fault ≡ Hall f) × IsToldOver s request.Poll (reply.Refused f))
-    ⊎ ((fault ≡ Hall Memory) × ((answer : Answer) × IsToldOver s request.Poll (reply.Answered answer)))
+    ((f : Fault) × (fault ≡ Hall f) × IsToldOver (known s) request.Poll (reply.Refused f))
+    ⊎ ((fault ≡ Hall Memory) × ((answer : Answer) × IsToldOver (known s) request.Poll (reply.Answered answer)))
 
 -- this holds of the number of the search that the request reads
 abbrev pub OfSearch : Request → (ℕ → Type 0) → Type 0
@@ -92,8 +93,8 @@ OfSearch q holds = Unit {0}
 pub record IsLent (at : RoomState) (old new : PassState) (q : Request) (s : SearchState) : Type 0 where
   pub kept : IsKept at
   pub began : IsPrefix at.told new.seen
-  pub next : IsNext old new (item.Read old.name old.tenant q s)
-  pub reads : Reads at.hall old.tenant q s
+  pub next : IsNext old new (item.Read old.name old.tenant q (known s))
+  pub reads : ReadsIn at.hall old.tenant q s
   pub opening : OfSearch q (λ k. IsOpening new.seen old.tenant k s.query s.snapshot)
 
 -- the search is there, and has come to nothing yet

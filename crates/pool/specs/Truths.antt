@@ -6,11 +6,11 @@ use Rattle.search.specs.Search.{SearchState}
 use Rattle.hall.specs.declared.calls.replies.Reply.{Reply}
 use Rattle.hall.specs.declared.calls.requests.Request.{Request}
 use Rattle.hall.specs.Answers.{new_account, start_of}
-use Rattle.hall.specs.Hall.{HallState, IsSound}
+use Rattle.hall.specs.Hall.{HallState, known, IsSound}
 use Rattle.hall.specs.Run.{request_of, Told, told_to, any_time}
 use Rattle.hall.specs.Laws.{IsRight, IsSameDeed, HasMemory, Agree}
 use Rattle.pool.specs.declared.turns.Item.{Item}
-use Rattle.pool.specs.Histories.{AreTold, IsLegal, Reads, IsReadOff}
+use Rattle.pool.specs.Histories.{AreTold, IsLegal, ReadsIn, IsReadOff}
 
 -- whatever a tenant was told by an item of a legal history is right, by what that tenant was told before
 abbrev pub HistoriesAreTrue : Type 0
@@ -32,4 +32,4 @@ HistoriesAgree =
 -- a request that reads a search of a sound hall is told something
 abbrev pub ReadsAreTold : Type 0
 ReadsAreTold =
-    (h : HallState) (who : List ℕ) (q : Request) (s : SearchState) → IsSound h → Reads h who q s → (told : Reply) × IsReadOff s q told
+    (h : HallState) (who : List ℕ) (q : Request) (s : SearchState) → IsSound h → ReadsIn h who q s → (told : Reply) × IsReadOff (known s) q told

@@ -14,7 +14,7 @@ ghost use Rattle.pool.specs.Served.{IsAnswered, Suits, IsPolled, IsPolledIn, IsW
 ghost use Rattle.pool.specs.Workers.{IsEndBy, IsLeftBy, HasEnded};
 
 use crate::bells::Bells;
-use crate::faults::{DeskFault, Told};
+use crate::faults::{DeskFault, DeskResult};
 use crate::keepers::{Front, Naming, Unnamed};
 use crate::passes::Pass;
 use crate::rooms::{Room, Served, read_off, verdict_on};
@@ -135,7 +135,7 @@ impl<L: Naming> Desk<L> {
     }
 
     /// A new pass of a tenant, which has made no call. Refused as 62 to a stranger, and as 90 where 2^32 passes are out.
-    pub fn pass<R: Wait>(&self, rt: &R, who: Entity) -> Told<Pass<L>>
+    pub fn pass<R: Wait>(&self, rt: &R, who: Entity) -> DeskResult<Pass<L>>
         ensures tenant { IfOk result (λ p. p.tenant ≡ who) }
         ensures none { IfOk result (λ p. own_calls p ≡ []) }
         ensures known { OnOk result (Contains self.now who) }
@@ -149,7 +149,7 @@ impl<L: Naming> Desk<L> {
     }
 
     /// Serves the pass's tenant. Refused as the hall refuses.
-    pub fn serve<R: Wait>(&self, rt: &R, pass: &mut Pass<L>, request: Request) -> Told<Reply>
+    pub fn serve<R: Wait>(&self, rt: &R, pass: &mut Pass<L>, request: Request) -> DeskResult<Reply>
         ensures answered { IsAnswered (λ r. r) pass.old pass.new request result }
         ensures suits { IfOk result (Suits request) }
     {
@@ -173,7 +173,7 @@ impl<L: Naming> Desk<L> {
     }
 
     /// Makes a change, and answers how many changes of the tenant were accepted. Refused as `serve` is.
-    pub fn change<R: Wait>(&self, rt: &R, pass: &mut Pass<L>, change: Change) -> Told<u64>
+    pub fn change<R: Wait>(&self, rt: &R, pass: &mut Pass<L>, change: Change) -> DeskResult<u64>
         ensures { IsAnswered reply.Counted pass.old pass.new (request.Alter change) result }
     {
         match self.serve(rt, pass, Request::Alter(change))? {
@@ -184,7 +184,7 @@ impl<L: Naming> Desk<L> {
     }
 
     /// Opens a search over what the tenant sees now. Refused as `serve` is.
-    pub fn open<R: Wait>(&self, rt: &R, pass: &mut Pass<L>, query: Query) -> Told<Ticket>
+    pub fn open<R: Wait>(&self, rt: &R, pass: &mut Pass<L>, query: Query) -> DeskResult<Ticket>
         ensures answered { IsAnswered (λ t. reply.Opened t.no) pass.old pass.new (request.Seek query) result }
         ensures opened_at { IfOk result (λ t. t.opened_at ≡ front_of pass.new) }
     {
@@ -199,14 +199,18 @@ impl<L: Naming> Desk<L> {
     }
 
     /// What the tenant's search has come to. Refused as `serve` is, and where memory lacks to share what the search reads.
-    pub fn poll<R: Wait>(&self, rt: &R, pass: &mut Pass<L>, number: u64) -> Told<Verdict>
+    pub fn poll<R: Wait>(&self, rt: &R, pass: &mut Pass<L>, number: u64) -> DeskResult<Verdict>
         ensures { IsPolled pass.old pass.new number result }
     {
         Self::look(self.enter(rt), pass, number)
     }
 
     /// Gives the lock back, and tells what the search has come to: of a completed one when nobody waits for the lock any more.
-    fn look(mut room: MutexGuard<'_, Room<L>>, pass: &mut Pass<L>, number: u64) -> Told<Verdict>
+    fn look(
+        mut room: MutexGuard<'_, Room<L>>,
+        pass: &mut Pass<L>,
+        number: u64,
+    ) -> DeskResult<Verdict>
         ensures { IsPolledIn (mutex_guard_value room.entry) pass.old pass.new number result }
     {
         let Some(search) = room.lent(pass, &Request::Poll(number)) else {
@@ -217,7 +221,7 @@ impl<L: Naming> Desk<L> {
     }
 
     /// Waits until the search has come to an end or isn't there, or the desk was stopped, and then answers as `poll` does.
-    pub fn wait<R: Wait>(&self, rt: &R, pass: &mut Pass<L>, number: u64) -> Told<Verdict>
+    pub fn wait<R: Wait>(&self, rt: &R, pass: &mut Pass<L>, number: u64) -> DeskResult<Verdict>
         ensures { IsWaited pass.old pass.new number result }
     {
         let who = pass.tenant();
@@ -229,7 +233,7 @@ impl<L: Naming> Desk<L> {
     }
 
     /// Ends the tenant's search of the number. Refused as `serve` is.
-    pub fn end<R: Wait>(&self, rt: &R, pass: &mut Pass<L>, number: u64) -> Told<()>
+    pub fn end<R: Wait>(&self, rt: &R, pass: &mut Pass<L>, number: u64) -> DeskResult<()>
         ensures { IsAnswered (λ u. reply.Closed) pass.old pass.new (request.Close number) result }
     {
         match self.serve(rt, pass, Request::Close(number))? {
@@ -240,7 +244,7 @@ impl<L: Naming> Desk<L> {
     }
 
     /// The credentials that the tenant issues and holds, in order. Refused as `serve` is.
-    pub fn vault<R: Wait>(&self, rt: &R, pass: &mut Pass<L>) -> Told<Rows>
+    pub fn vault<R: Wait>(&self, rt: &R, pass: &mut Pass<L>) -> DeskResult<Rows>
         ensures { IsAnswered reply.Vault pass.old pass.new request.Vault result }
     {
         match self.serve(rt, pass, Request::Vault)? {
@@ -251,7 +255,7 @@ impl<L: Naming> Desk<L> {
     }
 
     /// The names whose vaults the tenant reads, its own among them, in order, public ones marked. Refused as `serve` is.
-    pub fn sees<R: Wait>(&self, rt: &R, pass: &mut Pass<L>) -> Told<Sights>
+    pub fn sees<R: Wait>(&self, rt: &R, pass: &mut Pass<L>) -> DeskResult<Sights>
         ensures { IsAnswered reply.Sees pass.old pass.new request.Sees result }
     {
         match self.serve(rt, pass, Request::Sees)? {
@@ -268,7 +272,7 @@ impl<L: Naming> Desk<L> {
         pass: &mut Pass<L>,
         number: u64,
         member: Entity,
-    ) -> Told<Proof>
+    ) -> DeskResult<Proof>
         ensures { IsAnswered reply.Proof pass.old pass.new (request.Proof number member) result }
     {
         match self.serve(rt, pass, Request::Proof(number, member))? {
@@ -340,13 +344,13 @@ impl<L: Naming> Desk<L> {
         let mut room = self.enter_after(rt, TRIES);
         let visit = room.work(turn, order, batch, ends, tally);
         let Next::Idle = visit.next else {
-            return self.give_back(room, turn, visit.next, ends);
+            return self.release(room, turn, visit.next, ends);
         };
         self.tell(ends);
         *line = None;
         let mut room = self.sleep(rt, room, turn, batch, line);
         let visit = room.work(turn, Order::TakeTurn, batch, ends, tally);
-        self.give_back(room, turn, visit.next, ends)
+        self.release(room, turn, visit.next, ends)
     }
 
     /// Sleeps until there is something to do, or the desk was stopped. Who does holds no letter, and not the line, since nobody is
@@ -376,7 +380,7 @@ impl<L: Naming> Desk<L> {
     /// Gives the lock back after a visit that went on so. Wakes who waits for a search that has come to its end, and one worker
     /// more if one sleeps and something is left. What the worker has seen of the history where it is to end.
     #[inline(always)]
-    fn give_back(
+    fn release(
         &self,
         mut room: MutexGuard<'_, Room<L>>,
         turn: u64,

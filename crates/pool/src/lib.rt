@@ -31,7 +31,7 @@ mod visits;
 mod workers;
 
 pub use desks::Desk;
-pub use faults::{DeskFault, Told};
+pub use faults::{DeskFault, DeskResult};
 pub use histories::{
     histories_agree, histories_are_true, histories_go_on, reads_are_told, replies_are_own,
     sessions_are_runs, shares_add_up,

@@ -10,7 +10,7 @@ use crate::keepers::{Front, Keeper, Naming};
 use crate::turns::Noted;
 use names::Entity;
 use std::marker::Model;
-use std::sync::ledger::{Book, Share};
+use std::sync::ledger::{Book as LedgerBook, Share};
 
 /// The right to call a desk for a tenant. It has seen a beginning of the history, and its own calls have a name there that no
 /// other pass has.
@@ -97,7 +97,7 @@ impl<L: Naming> Pass<L> {
     pub(crate) fn hear(
         &mut self,
         keeper: &mut Keeper<L>,
-        book: &mut Book<L>,
+        book: &mut LedgerBook<L>,
         noted: &Noted,
         before: u64,
         after: u64,

@@ -6,7 +6,7 @@ ghost use Rattle.std.specs.Arc.{arc_value};
 ghost use Rattle.search.specs.Search.{settled_of};
 ghost use Rattle.hall.specs.Answers.{answer_of};
 ghost use Rattle.hall.specs.declared.calls.requests.Request.TheVariants as request;
-ghost use Rattle.hall.specs.Hall.{IsServed, new_hall, search_at, told_as};
+ghost use Rattle.hall.specs.Hall.{IsServed, known, new_hall, search_at, told_as};
 ghost use Rattle.pool.specs.declared.turns.Item.TheVariants as item;
 ghost use Rattle.pool.specs.Passes.{own_calls, share_of, shares_of};
 ghost use Rattle.pool.specs.Fronts.{HasStop};
@@ -15,7 +15,7 @@ ghost use Rattle.pool.specs.Notices.{request_concern};
 ghost use Rattle.pool.specs.Served.{IsAnswered, IsTold, IsRefused, Suits, IsLent, IsReadAs, IsPolledIn, IsVerdictOn, GoesOnWaiting};
 ghost use Rattle.pool.specs.Verdicts.{IsTrueWhereCompleted, rows_read};
 
-use crate::faults::{DeskFault, Told};
+use crate::faults::{DeskFault, DeskResult};
 use crate::keepers::{Front, Keeper, Naming, Unnamed};
 use crate::notices::{Concern, Notice};
 use crate::passes::Pass;
@@ -29,7 +29,7 @@ use std::alloc::Global;
 use std::marker::Model;
 use std::snapshot::Snapshot;
 use std::sync::Arc;
-use std::sync::ledger::{Book, Share};
+use std::sync::ledger::{Book as LedgerBook, Share};
 
 /// How many passes may be out at once.
 const MOST_OUT: u64 = 1 << 32;
@@ -48,7 +48,7 @@ pub(crate) struct Served {
 pub(crate) struct Room<L: Naming> {
     pub(crate) hall: Hall,
     keeper: Keeper<L>,
-    book: Book<L>,
+    book: LedgerBook<L>,
     rest: Share<L>,
     pub(crate) crew: Crew<L>,
     out: u64,
@@ -122,7 +122,7 @@ impl<L: Naming> Room<L> {
     }
 
     /// A new pass of this tenant, which has seen all that was told, and has made no call.
-    pub(crate) fn admit(&mut self, who: Entity) -> Told<Pass<L>>
+    pub(crate) fn admit(&mut self, who: Entity) -> DeskResult<Pass<L>>
         ensures pass { IfOk result (λ p. p ≡ record { tenant = who; name = p.name; seen = self.old.told }) }
         ensures none { IfOk result (λ p. own_calls p ≡ []) }
         ensures ok { OnOk result (self.new ≡ record self.old { out = self.old.out + 1 }) }
@@ -168,7 +168,7 @@ impl<L: Naming> Room<L> {
         pass: &mut Pass<L>,
         request: Request,
         remains: &mut Option<Remains>,
-    ) -> Told<Served>
+    ) -> DeskResult<Served>
         ensures answered { IsAnswered (λ s. s.reply) pass.old pass.new request result }
         ensures suits { IfOk result (λ s. Suits request s.reply) }
         ensures notice { IfOk result (λ s. s.notice ≡ request_concern pass.old.tenant request) }
@@ -224,7 +224,7 @@ impl<L: Naming> Room<L> {
     }
 
     /// What the search of the pass's tenant has come to, with what it is for and what it reads.
-    pub(crate) fn poll(&mut self, pass: &mut Pass<L>, number: u64) -> Told<Verdict>
+    pub(crate) fn poll(&mut self, pass: &mut Pass<L>, number: u64) -> DeskResult<Verdict>
         ensures { IsPolledIn self.old pass.old pass.new number result }
     {
         let who = pass.tenant();
@@ -352,8 +352,8 @@ fn ask_hall(
 }
 
 /// The reply to a request that reads the search.
-pub(crate) fn read_off(alloc: Global, search: &Search, request: &Request) -> Told<Reply>
-    ensures { IsReadAs search.now request.now result }
+pub(crate) fn read_off(alloc: Global, search: &Search, request: &Request) -> DeskResult<Reply>
+    ensures { IsReadAs (known search.now) request.now result }
 {
     Ok(match request {
         Request::Proof(_, member) => Reply::Proof(proof_of(alloc, search, member)?),
@@ -362,7 +362,7 @@ pub(crate) fn read_off(alloc: Global, search: &Search, request: &Request) -> Tol
 }
 
 /// The verdict on the search as it stands.
-pub(crate) fn verdict_on(search: &Search) -> Told<Verdict>
+pub(crate) fn verdict_on(search: &Search) -> DeskResult<Verdict>
     requires { IsTrueWhereCompleted (rows_read search.now.snapshot) search.now.query (answer_of (settled_of search.now)) }
     ensures { IsVerdictOn search.now result }
 {

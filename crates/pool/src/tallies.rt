@@ -3,7 +3,7 @@ ghost use Rattle.std.specs.Prelude.{◌≡◌, ◌+◌, ◌-◌, ◌^◌, ◌<�
 
 use crate::keepers::Naming;
 use std::marker::{Model, PhantomData};
-use std::sync::ledger::{Blank, Book, Ledger, Share};
+use std::sync::ledger::{Blank, Book as LedgerBook, Ledger, Share};
 
 /// Into how many parts the ledger is cut: one for each worker that ever runs.
 pub(crate) const PARTS: u64 = u64::MAX;
@@ -22,7 +22,7 @@ impl<L: Naming> Ledger for Letters<L> {
 /// The book of that ledger, and the parts of workers that haven't run yet. Contracts see how many letters the book has.
 #[derive(Drop)]
 pub(crate) struct Crew<L: Naming> {
-    book: Book<Letters<L>>,
+    book: LedgerBook<Letters<L>>,
     rest: Share<Letters<L>>,
     hired: u64,
 }

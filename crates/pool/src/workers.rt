@@ -6,7 +6,7 @@ ghost use Rattle.hall.specs.Batches.{IsEmpty, IsLookedUp};
 ghost use Rattle.pool.specs.Workers.{AreLetThrough, IsLeftBy, workers_in};
 
 use crate::desks::Desk;
-use crate::faults::{DeskFault, Told};
+use crate::faults::{DeskFault, DeskResult};
 use crate::keepers::{Front, Naming};
 use crate::tallies::Tally;
 use crate::visits::BATCH;
@@ -238,7 +238,7 @@ pub fn run_workers<L: Naming + Send + Sync, G: Gate, R: Threads + Wait + Sync>(
     desk: &Desk<L>,
     n: u64,
     gate: &G,
-) -> Told<u64>
+) -> DeskResult<u64>
     requires { (1 ≤ n) × (n ≤ 64) }
     ensures { IfErr result IsWorkRefusal }
 {
@@ -251,7 +251,7 @@ fn run_all<L: Naming + Send + Sync, G: Gate, R: Threads + Wait + Sync>(
     desk: &Desk<L>,
     n: u64,
     gate: &G,
-) -> Told<Worked<L>>
+) -> DeskResult<Worked<L>>
     requires { (1 ≤ n) × (n ≤ 64) }
     ensures done { IfOk result (λ all. all.workers ≡ n) }
     ensures refused { IfErr result IsWorkRefusal }
@@ -265,7 +265,7 @@ fn run_all<L: Naming + Send + Sync, G: Gate, R: Threads + Wait + Sync>(
     thread::scope(
         thread::scope_env(),
         rt,
-        |scope| -> Told<Worked<L>>
+        |scope| -> DeskResult<Worked<L>>
             requires handles { (vec_len handles ≡ 0) × (n ≤ vec_capacity handles) }
             requires tally { (1 ≤ n) × (tally ≡ record { workers = n; letters = 0 }) }
             ensures done { IfOk result (λ all. all.workers ≡ n) }

@@ -16,19 +16,19 @@ use Rattle.indexmap.specs.IndexSet.{insert_key}
 use Rattle.indexmap.proofs.SetLemmas.{AllZip-push}
 use Rattle.search.specs.Net.{ByRow}
 use Rattle.search.proofs.Grow.{zip_left, zip_right}
-use Rattle.proof_trees.specs.declared.findings.Finding.{Finding}
+use Rattle.proof_trees.specs.declared.placed_solutions.PlacedSolution.{PlacedSolution}
 use Rattle.proof_trees.specs.declared.steps.Step.{Step}
 use Rattle.proof_trees.specs.declared.steps.Rule.{Rule}
 use Rattle.proof_trees.specs.declared.steps.Rule.TheVariants as rule
 use Rattle.proof_trees.specs.Proof.{Claims, IsBy}
 use Rattle.proof_trees.specs.Lean.{AreApart, cited}
-use Rattle.proof_trees.specs.Finding.{Stands, AreByRows, IsPremiseOf}
+use Rattle.proof_trees.specs.PlacedSolution.{Stands, AreByRows, IsPremiseOf}
 use Rattle.proof_trees.specs.Draft.{DraftState, IsStepOf, IsDraft, IsByReason, IsStepped}
 use Rattle.proof_trees.proofs.Numbered.{one_place_each, distinct_push, pushed_key}
 
 module _ (g : GraphState) (d : DraftState) (draft : IsDraft g d) where
   -- the step at the number of a solution's place claims it
-  pub claims_found : (number : ℕ) (f : Finding) (e : Expr) → Stands g f → IsNode g f.solution.node e → slice_get d.places number ≡ Some f.place → Claims d.steps number f.solution.who e
+  pub claims_found : (number : ℕ) (f : PlacedSolution) (e : Expr) → Stands g f → IsNode g f.solution.node e → slice_get d.places number ≡ Some f.place → Claims d.steps number f.solution.who e
   claims_found number f e stands node at =
       let (s, there, step) = zip_right (IsStepOf g) d.places d.steps draft.claims number f.place at in
       let same : record { node = step.node; who = s.who; reason = step.reason } ≡ f.solution = same_Some _ f.solution (sym step.solution ∙ stands) in
@@ -88,7 +88,7 @@ by_rule rows g steps n who reason.Parts (rule.Parts places) claim row node (p, p
 by_rule rows g steps n who why by claim row node is = absurd is
 
 -- a draft with one step more is a draft
-module _ (g : GraphState) (d e : DraftState) (draft : IsDraft g d) (f : Finding) (by : Rule) (stands : Stands g f) (absent : Contains d.places f.place → ⊥)
+module _ (g : GraphState) (d e : DraftState) (draft : IsDraft g d) (f : PlacedSolution) (by : Rule) (stands : Stands g f) (absent : Contains d.places f.place → ⊥)
     (is : IsByReason g d.steps f.solution.node f.solution.who f.solution.reason by) (stepped : IsStepped g d e f by) where
   abbrev new_step : Step
   new_step = record { who = f.solution.who; claim = stepped.claim; rule = by }
@@ -117,7 +117,7 @@ module _ (g : GraphState) (d e : DraftState) (draft : IsDraft g d) (f : Finding)
     by_rules = step_by_rule;
   })
 
-pub stepped_is : (g : GraphState) (d : DraftState) (f : Finding) (by : Rule) (claim : Expr) (places after : List ℕ) (steps grown : List Step) →
+pub stepped_is : (g : GraphState) (d : DraftState) (f : PlacedSolution) (by : Rule) (claim : Expr) (places after : List ℕ) (steps grown : List Step) →
     record { places = places; steps = steps } ≡ d → (Contains d.places f.place → ⊥) → IsNode g f.solution.node claim →
     after ≡ insert_key (λ x y. x == y) places f.place → grown ≡ steps ++ record { who = f.solution.who; claim = claim; rule = by } ∷ [] →
     IsStepped g d (record { places = after; steps = grown }) f by

@@ -3,7 +3,7 @@ pub mod Zipped
 pub mod Soundness
 pub mod RuleLemmas
 pub mod TextLemmas
-pub mod FindingLemmas
+pub mod PlacedSolutionLemmas
 pub mod Numbered
 pub mod DraftLemmas
 pub mod PremiseLemmas

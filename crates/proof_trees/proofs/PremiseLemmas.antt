@@ -6,10 +6,10 @@ use Rattle.credential_text.specs.declared.exprs.Expr.TheVariants.{Rol, Link, Mee
 use Rattle.credential_text.specs.Expr.{part_expr}
 use Rattle.cred_graph.specs.declared.solutions.Reason.TheVariants as reason
 use Rattle.cred_graph.specs.Graph.{GraphState, IsNode, Known, Fits}
-use Rattle.proof_trees.specs.declared.findings.Finding.{Finding}
+use Rattle.proof_trees.specs.declared.placed_solutions.PlacedSolution.{PlacedSolution}
 use Rattle.proof_trees.specs.Draft.{DraftState, IsMissing, IsMissingPart, IsMissingPremise}
 
-module _ (g : GraphState) (d : DraftState) (n : ℕ) (who : List ℕ) (f : Finding) where
+module _ (g : GraphState) (d : DraftState) (n : ℕ) (who : List ℕ) (f : PlacedSolution) where
   pub base_missing : (b : List ℕ) (base : Role) (name : List ℕ) → IsNode g n (Link base name) → IsNode g f.solution.node (Rol base) → IsMissing g d b f →
       IsMissingPremise g d (record { node = n; who = who; reason = reason.Via b }) f
   base_missing b base name node found missing =
@@ -46,5 +46,5 @@ via_known g n who b base name node (r, t, again, in_base, in_role) =
     (subst (λ (x : Role). Known g b (Rol x)) bases in_base, subst (λ (x : List ℕ). Known g who (Rol (record { owner = b; name = x }))) names in_role)
 
 -- what holds of the finding that a call answers holds of the answer
-pub missing_err : {T : Type 0} (P : Finding → Type 0) (r : Result T Finding) (f h : Finding) → r ≡ Err f → f ≡ h → P h → IfErr r P
+pub missing_err : {T : Type 0} (P : PlacedSolution → Type 0) (r : Result T PlacedSolution) (f h : PlacedSolution) → r ≡ Err f → f ≡ h → P h → IfErr r P
 missing_err P r f h is same p = subst (λ x. IfErr x P) (sym is) (subst P (sym same) p)

@@ -11,8 +11,8 @@ use Rattle.search.specs.declared.stages.Stage.{Stage}
 use Rattle.search.specs.declared.stages.Stage.TheVariants as stage
 use Rattle.search.specs.Search.{SearchState, IsCompleted, rows_of, asked_role}
 use Rattle.search.specs.Net.{IsJustified}
-use Rattle.proof_trees.specs.declared.findings.Finding.{Finding}
-use Rattle.proof_trees.specs.Finding.{Stands, AreByRows}
+use Rattle.proof_trees.specs.declared.placed_solutions.PlacedSolution.{PlacedSolution}
+use Rattle.proof_trees.specs.PlacedSolution.{Stands, AreByRows}
 use Rattle.proof_trees.specs.Fault.{IsNoMember, IsAsked}
 
 -- a completed search ran
@@ -23,7 +23,7 @@ if_completed P stage.Broken completed runs = absurd completed
 
 module _ (s : SearchState) (who : List ℕ) (justified : IsJustified (rows_of s) (asked_role s.query) s.graph)
     (exact : IsExact (rows_of s) (asked_role s.query) (Known s.graph)) where
-  pub asked_found : (found : Option Finding) →
+  pub asked_found : (found : Option PlacedSolution) →
       MatchOption found (IsSolution s.graph 0 who → ⊥) (λ f. Stands s.graph f × (f.solution.node ≡ 0) × (f.solution.who ≡ who)) →
       MatchOption found (IsNoMember s who) (IsAsked s who)
   asked_found None none = λ member.

@@ -12,12 +12,12 @@ use Rattle.cred_graph.specs.declared.solutions.Reason.{Reason}
 use Rattle.cred_graph.specs.declared.solutions.Reason.TheVariants as reason
 use Rattle.cred_graph.specs.declared.solutions.Solution.{Solution}
 use Rattle.cred_graph.specs.Graph.{GraphState, IsNode, IsGraph}
-use Rattle.proof_trees.specs.declared.findings.Finding.{Finding}
+use Rattle.proof_trees.specs.declared.placed_solutions.PlacedSolution.{PlacedSolution}
 use Rattle.proof_trees.specs.declared.steps.Step.{Step}
 use Rattle.proof_trees.specs.declared.steps.Rule.{Rule}
 use Rattle.proof_trees.specs.declared.steps.Rule.TheVariants as rule
 use Rattle.proof_trees.specs.Proof.{Claims, ClaimsEach, AreByRules}
-use Rattle.proof_trees.specs.Finding.{Stands, AreByRows, IsPremise}
+use Rattle.proof_trees.specs.PlacedSolution.{Stands, AreByRows, IsPremise}
 
 -- the steps so far, and where the solutions that they claim stand in the graph
 pub record DraftState : Type 0 where
@@ -39,20 +39,20 @@ pub record IsDraft (g : GraphState) (d : DraftState) : Type 0 where
   pub by_rules : (rows : List Credential) → AreByRows rows g → AreByRules rows d.steps
 
 -- it was found of the entity, and no step claims it
-pub record IsMissing (g : GraphState) (d : DraftState) (who : List ℕ) (f : Finding) : Type 0 where
+pub record IsMissing (g : GraphState) (d : DraftState) (who : List ℕ) (f : PlacedSolution) : Type 0 where
   pub stands : Stands g f
   pub entity : f.solution.who ≡ who
   pub absent : Contains d.places f.place → ⊥
 
 -- it was found of the entity in one of the parts, and no step claims it
-pub record IsMissingPart (g : GraphState) (d : DraftState) (parts : List Part) (who : List ℕ) (f : Finding) : Type 0 where
+pub record IsMissingPart (g : GraphState) (d : DraftState) (parts : List Part) (who : List ℕ) (f : PlacedSolution) : Type 0 where
   pub part : Part
   pub among : Contains parts part
   pub node : IsNode g f.solution.node (part_expr part)
   pub missing : IsMissing g d who f
 
 -- it is a premise of the solution, and no step claims it
-pub record IsMissingPremise (g : GraphState) (d : DraftState) (s : Solution) (f : Finding) : Type 0 where
+pub record IsMissingPremise (g : GraphState) (d : DraftState) (s : Solution) (f : PlacedSolution) : Type 0 where
   pub expr : Expr
   pub node : IsNode g f.solution.node expr
   pub premise : IsPremise g s f.solution.who expr
@@ -71,7 +71,7 @@ IsByReason g steps n who reason.Parts (rule.Parts places) =
 IsByReason g steps n who _ _ = ⊥
 
 -- the draft has one step more, which claims the solution by the rule
-pub record IsStepped (g : GraphState) (old new : DraftState) (f : Finding) (by : Rule) : Type 0 where
+pub record IsStepped (g : GraphState) (old new : DraftState) (f : PlacedSolution) (by : Rule) : Type 0 where
   pub claim : Expr
   pub node : IsNode g f.solution.node claim
   pub after : new ≡ record {

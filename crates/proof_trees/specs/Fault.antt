@@ -6,8 +6,8 @@ use Rattle.cred_graph.specs.Graph.{IsNode}
 use Rattle.search.specs.Search.{SearchState, IsCompleted, asked_role, rows_of}
 use Rattle.proof_trees.specs.declared.faults.ProofFault.{ProofFault}
 use Rattle.proof_trees.specs.declared.faults.ProofFault.TheVariants.{NotDone, NoProof, Memory}
-use Rattle.proof_trees.specs.declared.findings.Finding.{Finding}
-use Rattle.proof_trees.specs.Finding.{Stands}
+use Rattle.proof_trees.specs.declared.placed_solutions.PlacedSolution.{PlacedSolution}
+use Rattle.proof_trees.specs.PlacedSolution.{Stands}
 
 -- the number of each fault
 abbrev pub proof_fault_number : ProofFault → ℕ
@@ -26,7 +26,7 @@ WhyRefused s who NoProof = IsCompleted s.stage × IsNoMember s who
 WhyRefused s who Memory = IsCompleted s.stage × IsMember (rows_of s) who (asked_role s.query)
 
 -- the search found the entity in the asked role, and that is so
-pub record IsAsked (s : SearchState) (who : List ℕ) (f : Finding) : Type 0 where
+pub record IsAsked (s : SearchState) (who : List ℕ) (f : PlacedSolution) : Type 0 where
   pub stands : Stands s.graph f
   pub node : IsNode s.graph f.solution.node (Rol (asked_role s.query))
   pub entity : f.solution.who ≡ who

@@ -2,6 +2,6 @@ pub mod Proof
 pub mod Laws
 pub mod Text
 pub mod Lean
-pub mod Finding
+pub mod PlacedSolution
 pub mod Draft
 pub mod Fault

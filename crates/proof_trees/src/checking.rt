@@ -1,8 +1,8 @@
 ghost use Rattle.std.specs.Prelude.{◌≡◌, ◌↔◌, IsTrue, slice_get, option_copied};
 ghost use Rattle.proof_trees.specs.Proof.{Claims, ClaimsEach, IsBy, IsByCredential, IsByLink, IsByParts, AreByRules, IsProof};
 
+use crate::listed_credentials::has_credential;
 use crate::proofs::Proof;
-use crate::standing::has_credential;
 use crate::steps::{Rule, Step};
 use credential_text::{Credential, Expr, Part};
 use names::{Entity, Role};

@@ -1,9 +1,9 @@
 ghost use Rattle.std.specs.Prelude.{◌≡◌, [], IfOk, IfErr, OnOk, Contains, MatchResult};
 ghost use Rattle.cred_graph.specs.Graph.{IsNode, IsSolution, Known};
 ghost use Rattle.proof_trees.specs.Proof.{Claims};
-ghost use Rattle.proof_trees.specs.Finding.{Stands};
+ghost use Rattle.proof_trees.specs.PlacedSolution.{Stands};
 
-use crate::findings::{Finding, finding_of};
+use crate::placed_solutions::{PlacedSolution, placed_solution};
 use crate::proofs::Proof;
 use crate::steps::{Rule, Step};
 use cred_graph::Graph;
@@ -48,13 +48,18 @@ impl Draft {
     }
 
     /// The number of the step that claims the solution of the node, or the solution where none does.
-    pub(crate) fn number(&self, graph: &Graph, node: u64, who: &Entity) -> Result<usize, Finding>
+    pub(crate) fn number(
+        &self,
+        graph: &Graph,
+        node: u64,
+        who: &Entity,
+    ) -> Result<usize, PlacedSolution>
         requires draft { IsDraft graph.now self.now }
         requires solution { IsSolution graph.now node who.now }
         ensures claims { IfOk result (λ number. (e : Expr) → IsNode graph.now node e → Claims self.now.steps number who.now e) }
         ensures missing { IfErr result (λ f. (f.solution.node ≡ node) × IsMissing graph.now self.now who.now f) }
     {
-        let Some(found) = finding_of(graph, node, who) else {
+        let Some(found) = placed_solution(graph, node, who) else {
             unreachable!()
         };
         match self.places.get_index_of(&found.place) {
@@ -69,7 +74,7 @@ impl Draft {
         graph: &Graph,
         expr: &Expr,
         who: &Entity,
-    ) -> Result<usize, Finding>
+    ) -> Result<usize, PlacedSolution>
         requires draft { IsDraft graph.now self.now }
         requires known { Known graph.now who.now expr.now }
         ensures claims { IfOk result (λ number. Claims self.now.steps number who.now expr.now) }
@@ -85,7 +90,7 @@ impl Draft {
     pub(crate) fn add(
         &mut self,
         graph: &Graph,
-        found: &Finding,
+        found: &PlacedSolution,
         rule: Rule,
     ) -> Result<(), AllocError>
         requires draft { IsDraft graph.now self.old }
@@ -93,7 +98,7 @@ impl Draft {
         requires absent { Contains self.old.places found.now.place → ⊥ }
         ensures { OnOk result (IsStepped graph.now self.old self.new found.now rule) }
     {
-        let Finding { place, solution } = *found;
+        let PlacedSolution { place, solution } = *found;
         let claim = graph.expr(solution.node).try_clone()?;
         let _is_new = self.places.insert(place)?;
         self.proof.push(Step {

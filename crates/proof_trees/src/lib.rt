@@ -10,13 +10,13 @@
 mod checking;
 mod drafts;
 mod faults;
-mod findings;
 mod laws;
+mod listed_credentials;
+mod placed_solutions;
 mod premises;
 mod proofs;
 mod proving;
 mod rules;
-mod standing;
 mod steps;
 #[cfg(test)]
 mod tests_below;

@@ -8,12 +8,12 @@ ghost use Rattle.search.specs.Search.{IsCompleted, asked_role, rows_of};
 ghost use Rattle.search.specs.Net.{IsJustified};
 ghost use Rattle.proof_trees.specs.Proof.{AreByRules, Concludes, IsProof};
 ghost use Rattle.proof_trees.specs.Lean.{IsLean};
-ghost use Rattle.proof_trees.specs.Finding.{Stands, AreByRows};
+ghost use Rattle.proof_trees.specs.PlacedSolution.{Stands, AreByRows};
 ghost use Rattle.proof_trees.specs.Fault.{WhyRefused, IsAsked, IsNoMember};
 
 use crate::drafts::Draft;
 use crate::faults::ProofFault;
-use crate::findings::{Finding, finding_of};
+use crate::placed_solutions::{PlacedSolution, placed_solution};
 use crate::proofs::Proof;
 use crate::rules::rule_for;
 use cred_graph::Graph;
@@ -38,7 +38,7 @@ pub fn proof_of(alloc: Global, search: &Search, who: &Entity) -> Result<Proof, P
     if !search.is_completed() {
         return Err(ProofFault::NotDone);
     }
-    let Some(asked) = asked_finding(search, who) else {
+    let Some(asked) = asked_solution(search, who) else {
         return Err(ProofFault::NoProof);
     };
     let proof = written(alloc, search.graph(), asked)?;
@@ -46,17 +46,17 @@ pub fn proof_of(alloc: Global, search: &Search, who: &Entity) -> Result<Proof, P
 }
 
 /// That the entity is in the asked role, where the search found it.
-fn asked_finding(search: &Search, who: &Entity) -> Option<Finding>
+fn asked_solution(search: &Search, who: &Entity) -> Option<PlacedSolution>
     requires completed { IsCompleted search.now.stage }
     requires exact { IsExact (rows_of search.now) (asked_role search.now.query) (Known search.now.graph) }
     ensures found { MatchOption result (IsNoMember search.now who.now) (IsAsked search.now who.now) }
     ensures justified { IsJustified (rows_of search.now) (asked_role search.now.query) search.now.graph }
 {
-    finding_of(search.graph(), ASKED_NODE, who)
+    placed_solution(search.graph(), ASKED_NODE, who)
 }
 
 /// The proof of the solution, by the reasons that the graph keeps.
-fn written(alloc: Global, graph: &Graph, asked: Finding) -> Result<Proof, AllocError>
+fn written(alloc: Global, graph: &Graph, asked: PlacedSolution) -> Result<Proof, AllocError>
     requires graph { IsGraph graph.now }
     requires stands { Stands graph.now asked }
     ensures by_rules { IfOk result (λ proof. (rows : List Credential) → AreByRows rows graph.now → AreByRules rows proof) }

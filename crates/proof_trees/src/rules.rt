@@ -7,7 +7,7 @@ ghost use Rattle.proof_trees.specs.Proof.{ClaimsEach};
 ghost use Rattle.proof_trees.specs.Draft.{IsDraft, IsMissingPart, IsMissingPremise, IsByReason};
 
 use crate::drafts::Draft;
-use crate::findings::Finding;
+use crate::placed_solutions::PlacedSolution;
 use crate::premises::{MOST_PREMISES, Premises};
 use crate::steps::Rule;
 use cred_graph::{Graph, Reason, Solution};
@@ -22,7 +22,7 @@ pub(crate) fn rule_for(
     graph: &Graph,
     draft: &Draft,
     solution: &Solution,
-) -> Result<Rule, Finding>
+) -> Result<Rule, PlacedSolution>
     requires draft { IsDraft graph.now draft.now }
     requires fits { Fits graph.now solution.now.node solution.now.who solution.now.reason }
     ensures by_reason { IfOk result (IsByReason graph.now draft.now.steps solution.now.node solution.now.who solution.now.reason) }
@@ -43,7 +43,7 @@ fn link_rule(
     node: u64,
     member: &Entity,
     who: &Entity,
-) -> Result<Rule, Finding>
+) -> Result<Rule, PlacedSolution>
     requires draft { IsDraft graph.now draft.now }
     requires fits { Fits graph.now node who.now (reason.Via member.now) }
     ensures by_reason { IfOk result (IsByReason graph.now draft.now.steps node who.now (reason.Via member.now)) }
@@ -69,7 +69,7 @@ fn parts_rule(
     draft: &Draft,
     node: u64,
     who: &Entity,
-) -> Result<Rule, Finding>
+) -> Result<Rule, PlacedSolution>
     requires draft { IsDraft graph.now draft.now }
     requires fits { Fits graph.now node who.now reason.Parts }
     ensures by_reason { IfOk result (IsByReason graph.now draft.now.steps node who.now reason.Parts) }
@@ -93,7 +93,7 @@ fn part_numbers(
     draft: &Draft,
     parts: &[Part],
     who: &Entity,
-) -> Result<[usize; MOST_PREMISES], Finding>
+) -> Result<[usize; MOST_PREMISES], PlacedSolution>
     requires draft { IsDraft graph.now draft.now }
     requires few { length parts.now ≤ 8 }
     requires known { All (λ p. Known graph.now who.now (part_expr p)) parts.now }

@@ -11,7 +11,7 @@ use Rattle.hall.specs.Run.{Turn, at_waits}
 use Rattle.hall.specs.Laws.{Agree}
 use Rattle.hall.proofs.laws.Worlds.{scripts_isolated as told_alike}
 use Rattle.service.specs.Command.{form_of}
-use Rattle.service.specs.Roster.{Row, tenant_of, HasRows}
+use Rattle.service.specs.Roster.{RosterLine, tenant_of, HasRows}
 use Rattle.service.specs.Line.{Line, text, too_long, not_ascii}
 use Rattle.service.specs.Outcome.{Outcome, outcome_text, is_speaker, IsSaid, told_in}
 use Rattle.service.specs.Written.{ScriptRun}
@@ -21,7 +21,7 @@ use Rattle.service.proofs.OwnLemmas.{own_said, own_none}
 use Rattle.service.proofs.AlikeLemmas.{AreOneLine, one_lines, same_turns, replies_agree, printed_alike}
 
 -- the tenants of a roster, as a hall has them
-abbrev roster_of : List Row → List (List ℕ × Quota)
+abbrev roster_of : List RosterLine → List (List ℕ × Quota)
 roster_of rows = map tenant_of rows
 
 -- a tenant stands in the roster where it begins with anything
@@ -70,7 +70,7 @@ pub scripts_isolated : ScriptsAreIsolated
 scripts_isolated tenant input other one two same = isolated_by tenant input other one two same (is_speaker (roster_of one.rows) tenant) refl
 
 -- each row of a roster has a name
-rows_named : (ls : List Line) (rows : List Row) (rest : List Line) → HasRows ls rows rest → AllByRecursion (λ row. IsName row.name) rows
+rows_named : (ls : List Line) (rows : List RosterLine) (rest : List Line) → HasRows ls rows rest → AllByRecursion (λ row. IsName row.name) rows
 rows_named [] rows rest has = absurd has
 rows_named (too_long ∷ ls) rows rest has = absurd has
 rows_named (not_ascii ∷ ls) rows rest has = absurd has
@@ -78,7 +78,7 @@ rows_named (text line ∷ ls) [] rest has = tt
 rows_named (text line ∷ ls) (row ∷ rows) rest has = (has.0.is_name, rows_named ls rows rest has.1)
 
 -- so a tenant of the roster does
-listed_named : (tenant : List ℕ) (rows : List Row) (start : Account) → AllByRecursion (λ row. IsName row.name) rows → start_of tenant (roster_of rows) ≡ Some start → IsName tenant
+listed_named : (tenant : List ℕ) (rows : List RosterLine) (start : Account) → AllByRecursion (λ row. IsName row.name) rows → start_of tenant (roster_of rows) ≡ Some start → IsName tenant
 listed_named tenant [] start named is = cc
 listed_named tenant (row ∷ rows) start named is = by (is_same row.name tenant) refl is (listed_named tenant rows start named.1)
   where

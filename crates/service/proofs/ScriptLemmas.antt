@@ -14,13 +14,13 @@ use Rattle.service.specs.LineReader.{Source, IfKnown}
 use Rattle.service.specs.Conversation.{Conversed}
 use Rattle.service.specs.Outcome.{outcome_text, told_in, ScriptAnswers}
 use Rattle.service.specs.Written.{WentOut, ScriptRun, TakesRoster, OpensWith, end_of, ScriptWrote}
-use Rattle.service.specs.Roster.{Row, tenant_of, HasRoster, ReadsRoster}
+use Rattle.service.specs.Roster.{RosterLine, tenant_of, HasRoster, ReadsRoster}
 use Rattle.service.proofs.LinesLemmas.{IfKnown-map}
 use Rattle.service.proofs.SpeakerLemmas.{HasTenants-new}
 use Rattle.service.proofs.TranscriptLemmas.{answered, never_ends}
 
 -- a conversation with the hall of a roster is a run
-ran : (lines commands : List Line) (rows : List Row) (after : HallState) (how : SessionEnd) (out : List ℕ → Type 0) → HasRoster lines rows commands →
+ran : (lines commands : List Line) (rows : List RosterLine) (after : HallState) (how : SessionEnd) (out : List ℕ → Type 0) → HasRoster lines rows commands →
     Conversed ScriptAnswers (new_hall (map tenant_of rows)) after commands how out → (run : ScriptRun lines) × WentOut how GoesOn run.rest (map outcome_text run.outcomes) out
 ran lines commands rows after how out roster talk =
     let tenants = map tenant_of rows in
@@ -46,7 +46,7 @@ wrote lines how result out (inl quit) (run, went) =
 wrote lines how result out (inr is) (run, went) = inr (run, subst (λ (e : SessionEnd). WentOut e GoesOn run.rest (map outcome_text run.outcomes) out) is went)
 
 -- the roster, and then its commands
-pub ScriptWrote-after_roster : (source mid : Source) (rows : List Row) (after : HallState) (how : SessionEnd) (result : Result (Unit {0}) ScriptFault) (out : List ℕ → Type 0) →
+pub ScriptWrote-after_roster : (source mid : Source) (rows : List RosterLine) (after : HallState) (how : SessionEnd) (result : Result (Unit {0}) ScriptFault) (out : List ℕ → Type 0) →
     IfKnown source (λ lines. ReadsRoster lines (Ok rows) mid) → IfKnown mid (λ lines. Conversed ScriptAnswers (new_hall (map tenant_of rows)) after lines how out) →
     (how ≡ end.Quit) ⊎ (how ≡ end_of result) → IfKnown source (λ lines. ScriptWrote lines result out)
 ScriptWrote-after_roster source mid rows after how result out roster talk is =
@@ -56,6 +56,6 @@ ScriptWrote-after_roster source mid rows after how result out roster talk is =
     (ran lines _ rows after how out reads.2 (subst (λ (s : Source). IfKnown s (λ commands. Conversed ScriptAnswers (new_hall (map tenant_of rows)) after commands how out)) reads.1 talk)))
 
 -- what was taken of the lines is what they begin with
-pub OpensWith-taken : (lines : List Line) (result : Result (List Row) ScriptFault) (new : Source) (out : List ℕ → Type 0) → TakesRoster lines result new out → OpensWith lines result out
+pub OpensWith-taken : (lines : List Line) (result : Result (List RosterLine) ScriptFault) (new : Source) (out : List ℕ → Type 0) → TakesRoster lines result new out → OpensWith lines result out
 OpensWith-taken lines (Ok rows) new out (rest, left, has) = (commands_of rest, has)
 OpensWith-taken lines (Err why) new out faulty = faulty

@@ -8,7 +8,7 @@ use Rattle.service.specs.declared.conversations.SessionEnd.{SessionEnd}
 use Rattle.service.specs.declared.conversations.SessionEnd.TheVariants as end
 use Rattle.service.specs.Line.{Line, text, too_long, not_ascii, commands_of}
 use Rattle.service.specs.LineReader.{Source, source_of, IfKnown}
-use Rattle.service.specs.Roster.{Row}
+use Rattle.service.specs.Roster.{RosterLine}
 use Rattle.service.specs.Conversation.{Talks, Conversed}
 use Rattle.service.specs.Session.{SessionState, SessionAnswers, SessionWrote}
 
@@ -27,7 +27,7 @@ module _ (roster : List (List ℕ × Quota)) where
   talks-rows before after [] (reply ∷ replies) talks = absurd talks
   talks-rows before after (line ∷ lines) [] talks = absurd talks
 
-module _ (roster : List (List ℕ × Quota)) (rows : List Row) (pass : Option PassState) (out : List ℕ → Type 0) where
+module _ (roster : List (List ℕ × Quota)) (rows : List RosterLine) (pass : Option PassState) (out : List ℕ → Type 0) where
   -- these lines were answered, it ended so, and the session was this behind them
   abbrev pub Talked : SessionState → SessionEnd → List Line → Type 0
   Talked after how lines = Conversed (SessionAnswers roster) (record { rows = rows; pass = None }) after lines how out
@@ -35,7 +35,7 @@ module _ (roster : List (List ℕ × Quota)) (rows : List Row) (pass : Option Pa
   -- the session behind its lines
   behind : (after : SessionState) → after.rows ≡ rows → pass ≡ after.pass → after ≡ record { rows = rows; pass = pass }
   behind after same its =
-      ap (λ (r : List Row). record { rows = r; pass = after.pass }) same ∙ ap (λ (p : Option PassState). record { rows = rows; pass = p }) (sym its)
+      ap (λ (r : List RosterLine). record { rows = r; pass = after.pass }) same ∙ ap (λ (p : Option PassState). record { rows = rows; pass = p }) (sym its)
 
   SessionWrote-talked : (how : SessionEnd) (lines : List Line) → Talked (record { rows = rows; pass = pass }) how lines → SessionWrote roster rows lines how pass out
   SessionWrote-talked end.Quit lines wrote = wrote

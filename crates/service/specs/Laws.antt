@@ -10,7 +10,7 @@ use Rattle.service.specs.declared.refusals.Refusal.TheVariants.{Memory}
 use Rattle.service.specs.Command.{form_of}
 use Rattle.service.specs.Line.{Line, text}
 use Rattle.service.specs.Words.{is_colon, trim_start}
-use Rattle.service.specs.Roster.{Row, tenant_of, HasRoster}
+use Rattle.service.specs.Roster.{RosterLine, tenant_of, HasRoster}
 use Rattle.service.specs.Outcome.{Outcome, nobody, refused, served, outcome_text, IsSaid, told_in}
 use Rattle.service.specs.Written.{ScriptRun}
 
@@ -71,7 +71,7 @@ pub record IsSameFor (tenant : List ℕ) {input other : List Line} (one : Script
 -- lines that begin with a roster begin with one, and one list of lines follows it
 abbrev pub OneReading : Type 0
 OneReading =
-    (lines : List Line) (rows others : List Row) (rest more : List Line)
+    (lines : List Line) (rows others : List RosterLine) (rest more : List Line)
     → HasRoster lines rows rest → HasRoster lines others more → (rows ≡ others) × (rest ≡ more)
 
 -- where a tenant of two scripts has the same limits, asks and sees the same, and no memory lacked, the replies to it agree

@@ -11,7 +11,7 @@ use Rattle.hall.specs.declared.calls.replies.Reply.TheVariants as reply
 use Rattle.hall.specs.Fault.{fault_number}
 use Rattle.hall.specs.Answers.{proof_text}
 use Rattle.service.specs.declared.refusals.Refusal.{Refusal}
-use Rattle.service.specs.declared.replies.Speaker.{Speaker, TheVariants.Nobody, TheVariants.Tenant, TheVariants.Peer}
+use Rattle.service.specs.declared.speakers.Speaker.{Speaker, TheVariants.Nobody, TheVariants.Tenant, TheVariants.Peer}
 use Rattle.service.specs.Refusal.{text_of, refusal_number}
 
 -- what stands in front of each line of a reply: to nobody, or to a tenant; a session's peer gets no name

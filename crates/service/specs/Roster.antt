@@ -9,7 +9,7 @@ use Rattle.service.specs.LineReader.{Source, known}
 use Rattle.service.specs.Words.{words, number_of}
 
 -- one tenant of a roster: its name, its word and its limits
-pub record Row : Type 0 where
+pub record RosterLine : Type 0 where
   pub name : List ℕ
   pub word : List ℕ
   pub limits : Quota
@@ -23,7 +23,7 @@ abbrev pub IsLimits : List (List ℕ) → Quota → Type 0
 IsLimits ws q = ((ws ≡ []) × (q ≡ usual_quota)) ⊎ ((map number_of ws ≡ map Some (numbers_of q)) × IsQuota q)
 
 -- `tenant NAME WORD`, where the word has at most 64 bytes, and then the limits
-pub record IsRow (line : List ℕ) (row : Row) : Type 0 where
+pub record IsRow (line : List ℕ) (row : RosterLine) : Type 0 where
   pub numbers : List (List ℕ)
   pub by_words : words line ≡ codes "tenant" ∷ row.name ∷ row.word ∷ numbers
   pub is_name : IsName row.name
@@ -31,7 +31,7 @@ pub record IsRow (line : List ℕ) (row : Row) : Type 0 where
   pub limits : IsLimits numbers row.limits
 
 -- the lines are those of the rows, one each, then `begin`, and these follow
-abbrev pub HasRows : List Line → List Row → List Line → Type 0
+abbrev pub HasRows : List Line → List RosterLine → List Line → Type 0
 HasRows [] rows rest = ⊥
 HasRows (too_long ∷ lines) rows rest = ⊥
 HasRows (not_ascii ∷ lines) rows rest = ⊥
@@ -39,42 +39,42 @@ HasRows (text line ∷ lines) [] rest = (words line ≡ codes "begin" ∷ []) ×
 HasRows (text line ∷ lines) (row ∷ rows) rest = IsRow line row × HasRows lines rows rest
 
 -- the names of the tenants
-abbrev pub names_of : List Row → List (List ℕ)
+abbrev pub names_of : List RosterLine → List (List ℕ)
 names_of rows = map (λ row. row.name) rows
 
 -- a roster has 1 to 1,000 tenants, each name once
-pub record IsRoster (rows : List Row) : Type 0 where
+pub record IsRoster (rows : List RosterLine) : Type 0 where
   pub distinct : IsDistinct is_same (names_of rows)
   pub some : 0 < length rows
   pub most : length rows ≤ 1000
 
 -- the lines begin with a roster of these rows, and these follow it
-pub record HasRoster (lines : List Line) (rows : List Row) (rest : List Line) : Type 0 where
+pub record HasRoster (lines : List Line) (rows : List RosterLine) (rest : List Line) : Type 0 where
   pub one_each : HasRows lines rows rest
   pub roster : IsRoster rows
 
 -- the lines begin with no roster
 abbrev pub HasNoRoster : List Line → Type 0
-HasNoRoster lines = (rows : List Row) (rest : List Line) → HasRoster lines rows rest → ⊥
+HasNoRoster lines = (rows : List RosterLine) (rest : List Line) → HasRoster lines rows rest → ⊥
 
 -- a tenant's name and its limits
-abbrev pub tenant_of : Row → List ℕ × Quota
+abbrev pub tenant_of : RosterLine → List ℕ × Quota
 tenant_of row = (row.name, row.limits)
 
 -- some tenant has this name and this word
-abbrev pub IsTenant : List Row → List ℕ → List ℕ → Type 0
+abbrev pub IsTenant : List RosterLine → List ℕ → List ℕ → Type 0
 IsTenant rows name word = Any (λ row. (row.name ≡ name) × (row.word ≡ word)) rows
 
 -- the row of a line was added; or no roster has one there, unless memory lacked
-abbrev pub AddsRow : List Row → List ℕ → Result (Unit {0}) ScriptFault → List Row → Type 0
+abbrev pub AddsRow : List RosterLine → List ℕ → Result (Unit {0}) ScriptFault → List RosterLine → Type 0
 AddsRow old line (Ok _) new =
-    (row : Row) × IsRow line row × (new ≡ old ++ row ∷ []) × (IsDistinct is_same (names_of old) → IsRoster new)
-AddsRow old line (Err Roster) new = (row : Row) (more : List Row) → IsRow line row → IsRoster (old ++ row ∷ more) → ⊥
+    (row : RosterLine) × IsRow line row × (new ≡ old ++ row ∷ []) × (IsDistinct is_same (names_of old) → IsRoster new)
+AddsRow old line (Err Roster) new = (row : RosterLine) (more : List RosterLine) → IsRow line row → IsRoster (old ++ row ∷ more) → ⊥
 AddsRow old line (Err Memory) new = ⊤
 AddsRow old line (Err _) new = ⊥
 
 -- the roster was read, or there is none
-abbrev pub ReadsRoster : List Line → Result (List Row) ScriptFault → Source → Type 0
+abbrev pub ReadsRoster : List Line → Result (List RosterLine) ScriptFault → Source → Type 0
 ReadsRoster lines (Ok rows) new = (rest : List ℕ) × (new ≡ known rest) × HasRoster lines rows (commands_of rest)
 ReadsRoster lines (Err Roster) new = HasNoRoster lines
 ReadsRoster lines (Err Write) new = ⊥

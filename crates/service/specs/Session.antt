@@ -18,7 +18,7 @@ use Rattle.service.specs.Conversation.{Conversed}
 use Rattle.service.specs.Line.{Line, text, too_long, not_ascii}
 use Rattle.service.specs.Refusal.{refusal_number}
 use Rattle.service.specs.Reply.{error_text, line_after, IsFilled}
-use Rattle.service.specs.Roster.{Row, IsTenant}
+use Rattle.service.specs.Roster.{RosterLine, IsTenant}
 use Rattle.service.specs.Words.{words}
 
 -- `quit` stands alone
@@ -46,19 +46,19 @@ IsCarriedOut before after (Wait k) (Ok told) = (v : Verdict) × IsWaited before 
 IsCarriedOut before after (Wait k) (Err fault) = IsWaited before after k (Err fault)
 
 -- these are the lines of what it came to, or of want of memory for those
-abbrev pub IsToldBy : Result Reply DeskFault → List ℕ → Type 0
-IsToldBy (Ok reply) lines = IsFilled [] reply lines
-IsToldBy (Err fault) lines = lines ≡ session_refusal (desk_number_of fault)
+abbrev pub IsFilledBy : Result Reply DeskFault → List ℕ → Type 0
+IsFilledBy (Ok reply) lines = IsFilled [] reply lines
+IsFilledBy (Err fault) lines = lines ≡ session_refusal (desk_number_of fault)
 
 -- A tenant's command is refused by its text alone, and its pass stays as it was; or it is told what the desk came to.
-pub data IsTold (before : PassState) (form : Form) (reply : List ℕ) (after : PassState) : Type 0 where
+pub data IsSessionReply (before : PassState) (form : Form) (reply : List ℕ) (after : PassState) : Type 0 where
   refused : (why : Refusal) → Reads form (Err why) → reply ≡ session_refusal (refusal_number why) →
-      after ≡ before → IsTold before form reply after
+      after ≡ before → IsSessionReply before form reply after
   carried_out : (command : Command) (told : Result Reply DeskFault) → Reads form (Ok command) →
-      IsCarriedOut before after command told → IsToldBy told reply → IsTold before form reply after
+      IsCarriedOut before after command told → IsFilledBy told reply → IsSessionReply before form reply after
 
 -- The tenant whose word it says is greeted. Any other hello has the one answer, and nothing but a hello greets anyone.
-abbrev pub IsGreeted : List Row → Option (List (List ℕ)) → Result (List ℕ) Refusal → Type 0
+abbrev pub IsGreeted : List RosterLine → Option (List (List ℕ)) → Result (List ℕ) Refusal → Type 0
 IsGreeted rows (Some (name ∷ word ∷ [])) (Ok who) = IsTenant rows name word × (who ≡ name)
 IsGreeted rows (Some (name ∷ word ∷ [])) (Err why) = (IsTenant rows name word → ⊥) × (why ≡ refusal.BadHello)
 IsGreeted rows (Some words) (Err why) = why ≡ refusal.Command
@@ -75,15 +75,15 @@ IsLetIn (Err why) reply None = reply ≡ session_refusal (refusal_number why)
 
 -- What a line is told that doesn't end the session: to one who hasn't said who it is, and its pass if it is let in; or by the
 -- pass that it has.
-abbrev pub Tells : List Row → Option PassState → List ℕ → List ℕ → Option PassState → Type 0
+abbrev pub Tells : List RosterLine → Option PassState → List ℕ → List ℕ → Option PassState → Type 0
 Tells rows None line reply after =
     (greeted : Result (List ℕ) Refusal) × IsGreeted rows (greeting_in (words line)) greeted × IsLetIn greeted reply after
-Tells rows (Some before) line reply (Some after) = IsTold before (form_of line) reply after
+Tells rows (Some before) line reply (Some after) = IsSessionReply before (form_of line) reply after
 Tells rows (Some before) line reply None = ⊥
 
 -- a session: who may speak, and the pass of the tenant that has said who it is
 pub record SessionState : Type 0 where
-  pub rows : List Row
+  pub rows : List RosterLine
   pub pass : Option PassState
 
 -- how a session's line is answered at a desk of these tenants: what its pass has seen is a legal history of theirs
@@ -98,7 +98,7 @@ SessionAnswers roster before (text line) reply GoesOn after =
 -- What went out of a session at a desk of these tenants, by its lines that are not blank and by how it ended, and the pass that it
 -- had then. Want of memory comes before anything is written.
 abbrev pub SessionWrote :
-    List (List ℕ × Quota) → List Row → List Line → SessionEnd → Option PassState → (List ℕ → Type 0) → Type 0
+    List (List ℕ × Quota) → List RosterLine → List Line → SessionEnd → Option PassState → (List ℕ → Type 0) → Type 0
 SessionWrote roster rows lines Memory pass went_out = went_out [] × (pass ≡ None)
 SessionWrote roster rows lines end pass went_out = Conversed (SessionAnswers roster)
     (record { rows = rows; pass = None }) (record { rows = rows; pass = pass }) lines end went_out

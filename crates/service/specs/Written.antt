@@ -7,7 +7,7 @@ use Rattle.service.specs.declared.faults.ScriptFault.{ScriptFault, TheVariants.R
 use Rattle.service.specs.declared.lines.{NextLine.NextLine, NextLine.TheVariants.End, NextLine.TheVariants.Fault}
 use Rattle.service.specs.Line.{Line}
 use Rattle.service.specs.LineReader.{Source}
-use Rattle.service.specs.Roster.{Row, tenant_of, HasRoster, HasNoRoster, ReadsRoster}
+use Rattle.service.specs.Roster.{RosterLine, tenant_of, HasRoster, HasNoRoster, ReadsRoster}
 use Rattle.service.specs.Outcome.{Outcome, outcome_text, IsTranscript}
 
 -- a front of the text went out after the output, and not all of it
@@ -37,7 +37,7 @@ WentOut end.Memory flow rest replies went_out = ⊥
 
 -- a script that begins with a roster, as it was answered: all lines behind that, or where a device failed the first of them
 pub record ScriptRun (input : List Line) : Type 0 where
-  pub rows : List Row
+  pub rows : List RosterLine
   pub lines : List Line
   pub rest : List Line
   pub outcomes : List Outcome
@@ -69,12 +69,12 @@ AnswersFault lines Write went_out = HasNoRoster lines × WroteFront [] roster_re
 AnswersFault lines _ went_out = went_out []
 
 -- the roster was taken from the lines, or a fault of it was answered
-abbrev pub TakesRoster : List Line → Result (List Row) ScriptFault → Source → (List ℕ → Type 0) → Type 0
+abbrev pub TakesRoster : List Line → Result (List RosterLine) ScriptFault → Source → (List ℕ → Type 0) → Type 0
 TakesRoster lines (Ok rows) new went_out = ReadsRoster lines (Ok rows) new
 TakesRoster lines (Err why) new went_out = AnswersFault lines why went_out
 
 -- the lines begin with this roster, or a fault of it was answered
-abbrev pub OpensWith : List Line → Result (List Row) ScriptFault → (List ℕ → Type 0) → Type 0
+abbrev pub OpensWith : List Line → Result (List RosterLine) ScriptFault → (List ℕ → Type 0) → Type 0
 OpensWith lines (Ok rows) went_out = (rest : List Line) × HasRoster lines rows rest
 OpensWith lines (Err why) went_out = AnswersFault lines why went_out
 

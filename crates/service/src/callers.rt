@@ -7,7 +7,7 @@ ghost use Rattle.pool.specs.Served.{IsAnswered, Suits, IsWaited};
 
 use hall::{Fault, Reply, Request};
 use names::Entity;
-use pool::{Desk, DeskFault, Naming, Pass, Told, Verdict};
+use pool::{Desk, DeskFault, DeskResult, Naming, Pass, Verdict};
 use std::marker::Model;
 use std::sync::Wait;
 
@@ -85,7 +85,7 @@ impl<L: Naming> Caller<'_, L> {
     }
 
     /// As `Desk::serve`, by the pass.
-    pub fn serve<R: Wait>(&mut self, rt: &R, request: Request) -> Told<Reply>
+    pub fn serve<R: Wait>(&mut self, rt: &R, request: Request) -> DeskResult<Reply>
         ensures answered { IsAnswered (λ r. r) self.old self.new request result }
         ensures suits { IfOk result (Suits request) }
     {
@@ -93,7 +93,7 @@ impl<L: Naming> Caller<'_, L> {
     }
 
     /// As `Desk::wait`, by the pass.
-    pub fn wait<R: Wait>(&mut self, rt: &R, number: u64) -> Told<Verdict>
+    pub fn wait<R: Wait>(&mut self, rt: &R, number: u64) -> DeskResult<Verdict>
         ensures { IsWaited self.old self.new number result }
     {
         self.desk.wait(rt, &mut self.pass, number)

@@ -8,7 +8,8 @@ ghost use Rattle.service.specs.{LineReader.IfKnown, Written.WritesFront, Written
 use crate::lines::{LineReader, NextLine};
 use crate::outboxes::Outbox;
 use crate::refusals::Refusal;
-use crate::replies::{Room, WriteFault};
+use crate::reply_buffers::ReplyBuffer;
+use crate::writing::WriteFault;
 use names::texts::is_blank;
 use std::io::{Read, Write};
 
@@ -45,11 +46,11 @@ pub(crate) trait Host {
     fn may_wait(&self, line: &[u8]) -> bool;
 
     /// Puts the reply to a text that isn't blank into the room.
-    fn answer(&mut self, line: &[u8], reply: &mut Room) -> Flow
+    fn answer(&mut self, line: &[u8], reply: &mut ReplyBuffer) -> Flow
         ensures { Answers self.old (text line.now) reply.new result self.new };
 
     /// Puts the reply to a line that is no text into the room.
-    fn refuse(&self, why: Refusal, reply: &mut Room) -> Flow
+    fn refuse(&self, why: Refusal, reply: &mut ReplyBuffer) -> Flow
         ensures long { why ≡ refusal.LineLong → Answers self.now too_long reply.new result self.now }
         ensures not_ascii { why ≡ refusal.NotAscii → Answers self.now not_ascii reply.new result self.now };
 }
@@ -60,7 +61,7 @@ pub(crate) trait Host {
 pub(crate) fn converse<H: Host, I: Read + Drop, W: Write>(
     host: &mut H,
     lines: &mut LineReader<I>,
-    reply: &mut Room,
+    reply: &mut ReplyBuffer,
     out: &mut Outbox,
     writer: &mut W,
 ) -> SessionEnd
@@ -108,7 +109,7 @@ pub(crate) fn converse<H: Host, I: Read + Drop, W: Write>(
 fn answer<H: Host, W: Write>(
     host: &mut H,
     line: &[u8],
-    reply: &mut Room,
+    reply: &mut ReplyBuffer,
     out: &mut Outbox,
     writer: &mut W,
 ) -> Result<Flow, WriteFault>

@@ -1,14 +1,14 @@
 //! The lines of a reader.
 ghost use Rattle.std.specs.Prelude.{◌≡◌, ◌≤◌, ◌∷◌, ◌++◌, ◌^◌, [], Some, vec_len, vec_capacity, IfOk, OnErr, IsTrue, IsFalse};
 ghost use Rattle.std.specs.{Borrow.sem, Io.BufRead.Rests, List.list_all, Str.Lines.strip_carriage_return};
-ghost use Rattle.service.specs.declared.lines.{TheConstants.KEPT, TheConstants.LINE_ROOM, limit.TheConstants.MOST_READS};
+ghost use Rattle.service.specs.declared.lines.{TheConstants.KEPT, TheConstants.LONGEST_LINE, limit.TheConstants.MOST_READS};
 ghost use Rattle.service.specs.Line.{line_of, is_printable};
 ghost use Rattle.service.specs.LineReader.{Shows, ShowsAt, stripped_at, IsEndAt, Gives, IsText, source_of, TakesBytes, unread_bytes};
 ghost use Rattle.service.specs.Written.{WritesFront, SendsBefore};
 ghost use Rattle.service.specs.contracts.lines.LineReader.{the_row as reader-row};
 
 use crate::outboxes::Outbox;
-use crate::replies::WriteFault;
+use crate::writing::WriteFault;
 use limit::{Limited, MOST_READS};
 use names::texts::cut;
 use std::alloc::{AllocError, Global};
@@ -18,7 +18,7 @@ use std::marker::Model;
 pub(crate) mod limit;
 
 /// The most bytes that a line may have, without its end.
-pub const LINE_ROOM: usize = 4096;
+pub const LONGEST_LINE: usize = 4096;
 
 /// How many bytes of a line are kept: a carriage return, and one more by which a longer line is known.
 const KEPT: usize = 4098;
@@ -37,7 +37,7 @@ pub struct LineReader<R: Read> {
 pub enum NextLine<'a> {
     /// A line of spaces and visible characters, without its end.
     Text(&'a [u8]),
-    /// A line of more than `LINE_ROOM` bytes, whatever they are.
+    /// A line of more than `LONGEST_LINE` bytes, whatever they are.
     Long,
     /// A line with a byte outside 32 to 126.
     NotAscii,
@@ -71,7 +71,7 @@ impl<R: Read + Drop> LineReader<R> {
     pub fn make(alloc: Global, reader: R) -> Result<LineReader<R>, AllocError>
         ensures source { IfOk result (λ lines. lines ≡ source_of (R.remaining reader)) }
         ensures most_reads { MOST_READS ≡ 2 ^ 40 }
-        ensures most_bytes { LINE_ROOM ≡ 4096 }
+        ensures most_bytes { LONGEST_LINE ≡ 4096 }
     {
         let line = Vec::with_capacity(alloc, KEPT)?;
         let left = MOST_READS;
@@ -163,7 +163,7 @@ fn classify(line: &[u8]) -> NextLine<'_>
     ensures shows { Shows result (line_of line.now) }
     ensures text { IsText result }
 {
-    if line.len() > LINE_ROOM {
+    if line.len() > LONGEST_LINE {
         NextLine::Long
     } else if is_text(line) {
         NextLine::Text(line)

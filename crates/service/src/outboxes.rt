@@ -2,7 +2,7 @@
 ghost use Rattle.std.specs.{Prelude.◌≡◌, Prelude.◌++◌, Prelude.[], Prelude.IfOk, Prelude.OnOk, Prelude.OnErr, Io.KnownBytes.Appends};
 ghost use Rattle.service.specs.Written.{WritesFront, SendsUpTo};
 
-use crate::replies::{WriteFault, write_reply};
+use crate::writing::{WriteFault, write_reply};
 use std::alloc::{AllocError, Global};
 use std::io::Write;
 use std::marker::Model;

@@ -8,8 +8,8 @@ ghost use Rattle.service.specs.Roster.{IsLimits, IsRow, IsTenant, names_of, tena
 
 use crate::faults::ScriptFault;
 use crate::lines::{LineReader, NextLine};
-use crate::replies::{WriteFault, write_reply};
 use crate::words::{is_same, is_word, next_word, number};
+use crate::writing::{WriteFault, write_reply};
 use hall::{Fault, Hall};
 use names::Entity;
 use names::texts::is_blank;
@@ -27,21 +27,21 @@ const MOST_WORD: usize = 64;
 /// Who may speak: 1 to 1,000 tenants, each with a name of its own, a word and its limits.
 #[derive(Drop)]
 pub struct Roster {
-    rows: Vec<Row>,
+    rows: Vec<RosterLine>,
 }
 
 /// One tenant of a roster: its name, the word by which it is known, and its limits.
 #[derive(Drop)]
-struct Row {
+struct RosterLine {
     name: Entity,
     word: Vec<u8>,
     limits: Limits,
 }
 
-impl Model for Row {
+impl Model for RosterLine {
     ghost use Rattle.service.specs.Roster as roster;
 
-    ghost Value = { roster.Row };
+    ghost Value = { roster.RosterLine };
 
     ghost view = { λ r. record { name = r.name; word = r.word.items; limits = r.limits } };
 }
@@ -50,7 +50,7 @@ impl Model for Roster {
     ghost use Rattle.std.specs.Prelude.{List};
     ghost use Rattle.service.specs.Roster as roster;
 
-    ghost Value = { List roster.Row };
+    ghost Value = { List roster.RosterLine };
 
     ghost view = { λ r. r.rows.items };
 
@@ -126,7 +126,7 @@ impl Roster {
 }
 
 /// Adds the tenant of a line to those that stand before.
-fn add_row(rows: &mut Vec<Row>, text: &[u8]) -> Result<(), ScriptFault>
+fn add_row(rows: &mut Vec<RosterLine>, text: &[u8]) -> Result<(), ScriptFault>
     ensures { AddsRow rows.old.items text.now result rows.new.items }
 {
     let Some(parts) = read_row(text) else {
@@ -137,12 +137,12 @@ fn add_row(rows: &mut Vec<Row>, text: &[u8]) -> Result<(), ScriptFault>
         return Err(ScriptFault::Roster);
     }
     let word = Vec::from_slice(*rows.allocator(), word)?;
-    let row = Row { name, word, limits };
+    let row = RosterLine { name, word, limits };
     rows.push(row).or(Err(ScriptFault::Memory))
 }
 
 /// Whether a tenant has this name.
-fn is_named(rows: &[Row], name: &Entity) -> bool
+fn is_named(rows: &[RosterLine], name: &Entity) -> bool
     ensures { result ≡ list_any (λ row. is_same name.now row.name) rows.now }
 {
     rows.iter().any(|row| *name == row.name)
@@ -162,7 +162,7 @@ fn is_text(kept: &[u8], said: &[u8]) -> bool
 /// The name, the word and the limits of a tenant's line.
 fn read_row(text: &[u8]) -> Option<(Entity, &[u8], Limits)>
     ensures some { IfSome result (λ r. IsRow text.now (record { name = r.0; word = r.1.now; limits = r.2 })) }
-    ensures none { IfNone result ((row : roster.Row) → IsRow text.now row → ⊥) }
+    ensures none { IfNone result ((row : roster.RosterLine) → IsRow text.now row → ⊥) }
 {
     if let Some((first, rest)) = next_word(text)
         && is_same(first, b"tenant")

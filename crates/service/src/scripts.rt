@@ -10,8 +10,10 @@ use crate::faults::ScriptFault;
 use crate::lines::LineReader;
 use crate::outboxes::Outbox;
 use crate::refusals::Refusal;
-use crate::replies::{Room, Speaker, fill_error, fill_reply};
+use crate::replies::{fill_error, fill_reply};
+use crate::reply_buffers::ReplyBuffer;
 use crate::rosters::take_roster;
+use crate::speakers::Speaker;
 use hall::{Hall, Reply};
 use names::Entity;
 use names::texts::{cut, trim_start};
@@ -28,7 +30,7 @@ impl Host for Hall {
         false
     }
 
-    fn answer(&mut self, line: &[u8], reply: &mut Room) -> Flow {
+    fn answer(&mut self, line: &[u8], reply: &mut ReplyBuffer) -> Flow {
         let (before, said) = cut(trim_start(line), b':');
         let Some(said) = said else {
             fill_error(reply, &Speaker::Nobody, Refusal::Command.number());
@@ -42,7 +44,7 @@ impl Host for Hall {
     }
 
     #[tactic(auto, using(crate::proofs::OutcomeLemmas::long_answered, crate::proofs::OutcomeLemmas::not_ascii_answered))]
-    fn refuse(&self, why: Refusal, reply: &mut Room) -> Flow {
+    fn refuse(&self, why: Refusal, reply: &mut ReplyBuffer) -> Flow {
         fill_error(reply, &Speaker::Nobody, why.number());
         Flow::GoesOn
     }
@@ -72,7 +74,7 @@ pub fn run_script_keeping<R: Read + Drop, W: Write>(
     ensures { IfSome (R.remaining reader)
         (λ input. ScriptWrote (commands_of input) result (Appends (W.contents writer.old) (W.contents writer.new))) }
 {
-    let mut reply = Room::make(alloc)?;
+    let mut reply = ReplyBuffer::make(alloc)?;
     let mut lines = LineReader::make(alloc, reader)?;
     let mut out = Outbox::make(alloc)?;
     run_lines(alloc, &mut lines, &mut reply, &mut out, writer, kept)
@@ -82,7 +84,7 @@ pub fn run_script_keeping<R: Read + Drop, W: Write>(
 fn run_lines<R: Read + Drop, W: Write>(
     alloc: Global,
     lines: &mut LineReader<R>,
-    reply: &mut Room,
+    reply: &mut ReplyBuffer,
     out: &mut Outbox,
     writer: &mut W,
     kept: &mut Option<Hall>,
@@ -112,7 +114,7 @@ fn result_of(end: SessionEnd) -> Result<(), ScriptFault>
 }
 
 /// Answers what a tenant said.
-fn answer_tenant(alloc: Global, who: Entity, said: &[u8], hall: &mut Hall, reply: &mut Room)
+fn answer_tenant(alloc: Global, who: Entity, said: &[u8], hall: &mut Hall, reply: &mut ReplyBuffer)
     ensures { Becomes hall.old (IsSaid who (form_of said.now)) reply.new hall.new }
 {
     match read_command(alloc, said) {

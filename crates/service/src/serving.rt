@@ -8,9 +8,12 @@ use crate::arrivals::arrivals_at;
 use crate::connections::{Answers, Service, answer_connections, end_all};
 use crate::conversations::SessionEnd;
 use crate::faults::ServeFault;
-use crate::replies::{Room, Speaker, WriteFault, fill_counted, write_reply};
+use crate::replies::fill_counted;
+use crate::reply_buffers::ReplyBuffer;
 use crate::rosters::Roster;
 use crate::sessions::serve_session;
+use crate::speakers::Speaker;
+use crate::writing::{WriteFault, write_reply};
 use pool::{Desk, DeskFault, Naming, NoGate, Unnamed, run_workers};
 use std::alloc::Global;
 use std::io::{Read, Write};
@@ -51,7 +54,7 @@ pub fn serve<R: Threads + Wait + Clock + Sync, W: Write>(
     ensures count { IfOk result (λ n. options.accept ≡ Some n) }
     ensures wrote { ServeWrote options.accept result (Appends (W.contents writer.old) (W.contents writer.new)) }
 {
-    let Ok(mut line) = Room::make(alloc) else {
+    let Ok(mut line) = ReplyBuffer::make(alloc) else {
         return Err(ServeFault::Memory);
     };
     let Ok(unnamed) = Unnamed::make(alloc) else {
@@ -74,7 +77,7 @@ fn serve_with<L: Naming + Send + Sync, R: Threads + Wait + Clock + Sync, W: Writ
     listener: TcpListener,
     options: ServeOptions,
     writer: &mut W,
-    line: &mut Room,
+    line: &mut ReplyBuffer,
 ) -> Result<u64, ServeFault>
     requires roster { map tenant_of roster.now ≡ L.roster }
     requires named { unnamed ≡ record { ledger = L.name; parts = L.parts; table = L.table; letters = L.letters } }
@@ -98,7 +101,12 @@ fn serve_with<L: Naming + Send + Sync, R: Threads + Wait + Clock + Sync, W: Writ
 }
 
 /// Writes a line of these words and this number.
-fn tell<W: Write>(out: &mut W, line: &mut Room, words: &[u8], count: u64) -> Result<(), WriteFault>
+fn tell<W: Write>(
+    out: &mut W,
+    line: &mut ReplyBuffer,
+    words: &[u8],
+    count: u64,
+) -> Result<(), WriteFault>
     requires { length words.now ≤ 20 }
     ensures ok { OnOk result (Appends (W.contents out.old) (W.contents out.new) (session_line (words.now ++ decimal count))) }
     ensures err { OnErr result

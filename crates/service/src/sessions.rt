@@ -2,7 +2,7 @@
 ghost use Rattle.std.specs.{Prelude.◌≡◌, Prelude.Option, Prelude.None, Prelude.Ok, Prelude.IfSome, Io.KnownBytes.Appends};
 ghost use Rattle.pool.specs.{Histories.IsLegal, Passes.PassState};
 ghost use Rattle.service.specs.{Command.form_of, Line.commands_of, Roster.names_of, Words.words};
-ghost use Rattle.service.specs.Session.{greeting_in, IsGreeted, IsLetIn, IsCarriedOut, IsTold, SessionWrote};
+ghost use Rattle.service.specs.Session.{greeting_in, IsGreeted, IsLetIn, IsCarriedOut, IsSessionReply, SessionWrote};
 
 use crate::callers::{Caller, Door};
 use crate::commands::{Command, read_command};
@@ -10,8 +10,10 @@ use crate::conversations::{Flow, Host, SessionEnd, converse};
 use crate::lines::LineReader;
 use crate::outboxes::Outbox;
 use crate::refusals::Refusal;
-use crate::replies::{Room, Speaker, fill_error, fill_hello, fill_reply, fill_text};
+use crate::replies::{fill_error, fill_hello, fill_reply, fill_text};
+use crate::reply_buffers::ReplyBuffer;
 use crate::rosters::Roster;
+use crate::speakers::Speaker;
 use crate::words::{Arguments, is_same, is_word, next_word, split_words};
 use hall::Reply;
 use names::Entity;
@@ -57,7 +59,7 @@ impl<L: Naming, R: Wait> Host for Session<'_, '_, L, R> {
         matches!(next_word(line), Some((first, _rest)) if is_same(first, b"wait"))
     }
 
-    fn answer(&mut self, line: &[u8], reply: &mut Room) -> Flow {
+    fn answer(&mut self, line: &[u8], reply: &mut ReplyBuffer) -> Flow {
         if is_word(line, b"quit") {
             fill_text(reply, &Speaker::Peer, b"bye");
             return Flow::Ends;
@@ -74,7 +76,7 @@ impl<L: Naming, R: Wait> Host for Session<'_, '_, L, R> {
         Flow::GoesOn
     }
 
-    fn refuse(&self, why: Refusal, reply: &mut Room) -> Flow {
+    fn refuse(&self, why: Refusal, reply: &mut ReplyBuffer) -> Flow {
         fill_error(reply, &Speaker::Peer, why.number());
         Flow::GoesOn
     }
@@ -116,7 +118,7 @@ pub fn answer_session<L: Naming, R: Wait, I: Read + Drop, W: Write>(
         (λ input. SessionWrote L.roster roster.now (commands_of input) result.0 result.1
         (Appends (W.contents writer.old) (W.contents writer.new))) }
 {
-    let Ok(mut reply) = Room::make(alloc) else {
+    let Ok(mut reply) = ReplyBuffer::make(alloc) else {
         return (SessionEnd::Memory, None);
     };
     let Ok(mut lines) = LineReader::make(alloc, reader) else {
@@ -147,7 +149,7 @@ impl<L: Naming, R: Wait> Session<'_, '_, L, R> {
     }
 
     /// Lets in the tenant that said its word, unless memory lacks for that.
-    fn let_in(&mut self, who: Entity, reply: &mut Room)
+    fn let_in(&mut self, who: Entity, reply: &mut ReplyBuffer)
         requires outside { self.old.pass ≡ None }
         ensures rows { self.new.rows ≡ self.old.rows }
         ensures let_in { IsLetIn (Ok who) reply.new self.new.pass }
@@ -189,8 +191,13 @@ fn greeted(roster: &Roster, line: &[u8]) -> Result<Entity, Refusal>
 }
 
 /// Answers a tenant's command.
-fn tell<L: Naming, R: Wait>(rt: &R, caller: &mut Caller<'_, L>, line: &[u8], reply: &mut Room)
-    ensures { IsTold caller.old (form_of line.now) reply.new caller.new }
+fn tell<L: Naming, R: Wait>(
+    rt: &R,
+    caller: &mut Caller<'_, L>,
+    line: &[u8],
+    reply: &mut ReplyBuffer,
+)
+    ensures { IsSessionReply caller.old (form_of line.now) reply.new caller.new }
 {
     match read_command(reply.alloc(), line) {
         Ok(command) => match carry_out(rt, caller, command) {

@@ -4,7 +4,7 @@ pub mod LastEntries
 pub mod Exactness
 pub mod Accepted
 pub mod Places
-pub mod Steps
+pub mod PageLemmas
 pub mod Parts
 pub mod Holders
 pub mod PageWrites

@@ -22,7 +22,7 @@ use Rattle.vaults.specs.Book.{ArePages}
 use Rattle.vaults.proofs.Elements.{same_from_tied}
 use Rattle.vaults.proofs.Orders.{credentials_exact}
 use Rattle.vaults.proofs.LastEntries.{last_has_tenant}
-use Rattle.vaults.proofs.Steps.{page_missing}
+use Rattle.vaults.proofs.PageLemmas.{page_missing}
 
 entry : List ℕ → Change → Entry
 entry who change = record { tenant = who; change = change }

@@ -21,7 +21,7 @@ mod merges;
 mod name_sets;
 mod own_rows;
 mod pages;
-mod parting;
+mod parted_rows;
 mod rows;
 mod shared_rows;
 mod versions;

@@ -8,7 +8,7 @@ ghost use Rattle.vaults.specs.InOrder.{without};
 ghost use Rattle.vaults.specs.Blocks.{rows_in};
 
 use crate::blocks::Block;
-use crate::parting::{has_row, put_row, take_row};
+use crate::parted_rows::{has_row, put_row, take_row};
 use crate::versions::Version;
 use credential_text::Credential;
 use std::alloc::{AllocError, Global};

@@ -3,7 +3,8 @@ use Rattle.std.proofs.lemmas.Result.{err_from_is_err_and}
 use Rattle.hall.specs.declared.calls.answers.Answer.{Answer}
 use Rattle.hall.specs.declared.calls.requests.Request.TheVariants.{Poll}
 use Rattle.hall.specs.declared.calls.replies.Reply.TheVariants.{Answered}
-use Rattle.hall.specs.Hall.{IsToldOver}
+use Rattle.hall.specs.Answers.{IsToldOver}
+use Rattle.hall.specs.Hall.{known}
 use Rattle.pool.specs.declared.faults.DeskFault.TheVariants.{Hall}
 use Rattle.pool.specs.Verdicts.{IsTrueWhereCompleted, rows_read}
 use Rattle.pool.proofs.rooms.verdict_on.Goals as goal
@@ -23,7 +24,7 @@ returns-in_err-new c =
 
 pub returns : goal.returns
 returns c = (
-  subst (λ (a : Answer). IsToldOver c.args.search.now Poll (Answered a)) (sym c.in_ok-new.ensures.answer) c.in_ok-told_of.ensures.served,
+  subst (λ (a : Answer). IsToldOver (known c.args.search.now) Poll (Answered a)) (sym c.in_ok-new.ensures.answer) c.in_ok-told_of.ensures.served,
   c.in_ok-new.ensures.query,
   c.in_ok-new.ensures.snapshot,
 )

@@ -3,5 +3,5 @@ use Rattle.std.proofs.Common.{arith}
 use Rattle.service.proofs.LineLemmas.{line_of-long}
 use Rattle.service.proofs.lines.classify.Goals as goal
 
-pub returns-then-line-gt-LINE_ROOM-clause-shows : goal.returns-then-line-gt-LINE_ROOM-clause-shows
-returns-then-line-gt-LINE_ROOM-clause-shows c = line_of-long c.args.line.now (omega arith)
+pub returns-then-line-gt-LONGEST_LINE-clause-shows : goal.returns-then-line-gt-LONGEST_LINE-clause-shows
+returns-then-line-gt-LONGEST_LINE-clause-shows c = line_of-long c.args.line.now (omega arith)

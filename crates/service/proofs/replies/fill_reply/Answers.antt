@@ -16,10 +16,10 @@ succeeds (Err _) clash what = let no : false ≡ true = clash in cc
 
 pub returns-then-is_err : goal.returns-then-is_err
 returns-then-is_err c =
-    IsFilled-lacking (front_of c.args.who.now) c.fill_error.new.room c.args.reply.now
+    IsFilled-lacking (front_of c.args.who.now) c.fill_error.new.buffer c.args.reply.now
     (lacks c.write_reply_lines.result c.if-is_err.ensures.value c.write_reply_lines.ensures.lacking) (rw c.number.ensures at c.fill_error.ensures)
 
 pub returns-else-is_err : goal.returns-else-is_err
 returns-else-is_err c =
-    IsFilled-whole (front_of c.args.who.now) c.write_reply_lines.new.room c.args.reply.now
+    IsFilled-whole (front_of c.args.who.now) c.write_reply_lines.new.buffer c.args.reply.now
     (succeeds c.write_reply_lines.result c.if-is_err.ensures.value c.write_reply_lines.ensures.whole)

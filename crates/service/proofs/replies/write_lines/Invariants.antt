@@ -11,7 +11,7 @@ lines_left (Some text) = text_lines text.now
 
 -- what is there and the lines that are left come to all lines
 abbrev pub invariant-loop-left : goal.invariant-loop-left
-invariant-loop-left l = l.room ++ flat_map (line_after (front_of l.who)) (lines_left l.left) ≡ l.fn.room ++ flat_map (line_after (front_of l.who)) (text_lines l.text)
+invariant-loop-left l = l.buffer ++ flat_map (line_after (front_of l.who)) (lines_left l.left) ≡ l.fn.buffer ++ flat_map (line_after (front_of l.who)) (text_lines l.text)
 
 abbrev pub decreases-loop-left : goal.decreases-loop-left
 decreases-loop-left l = bytes_left l.left

@@ -4,4 +4,4 @@ use Rattle.service.proofs.replies.write_members.Given as goal
 
 -- the first names stand in the line
 abbrev pub invariant-loop-name : goal.invariant-loop-name
-invariant-loop-name l = l.room ≡ front_of l.who ++ codes "members" ++ listed (take l.name-index l.names)
+invariant-loop-name l = l.buffer ≡ front_of l.who ++ codes "members" ++ listed (take l.name-index l.names)

@@ -4,4 +4,4 @@ use Rattle.service.proofs.replies.write_sees.Given as goal
 
 -- the first names stand in the line
 abbrev pub invariant-loop-one : goal.invariant-loop-one
-invariant-loop-one l = l.room ≡ front_of l.who ++ codes "sees" ++ listed (map seen_text (take l.one-index l.seen))
+invariant-loop-one l = l.buffer ≡ front_of l.who ++ codes "sees" ++ listed (map seen_text (take l.one-index l.seen))

@@ -9,4 +9,4 @@ use Rattle.service.proofs.replies.write_vault.Given as goal
 -- the lines of the first credentials stand behind the one with their number
 abbrev pub invariant-loop-place : goal.invariant-loop-place
 invariant-loop-place l =
-    l.room ≡ line_after (front_of l.who) (codes "vault " ++ decimal (length (rows_in l.rows))) ++ flat_map (line_after (front_of l.who)) (take l.place (map canonical (rows_in l.rows)))
+    l.buffer ≡ line_after (front_of l.who) (codes "vault " ++ decimal (length (rows_in l.rows))) ++ flat_map (line_after (front_of l.who)) (take l.place (map canonical (rows_in l.rows)))

@@ -2,7 +2,7 @@
 use Rattle.std.proofs.Common.{◌≡◌, ◌∙◌, ap, sym, ℕ, Bool, List, [], ◌∷◌, codes, true, false, arith, rules}
 use Rattle.std.specs.Str.{bytes_eq}
 use Rattle.quotas.specs.Quota.{Quota}
-use Rattle.service.specs.Roster.{Row, IsRow, IsLimits}
+use Rattle.service.specs.Roster.{RosterLine, IsRow, IsLimits}
 use Rattle.service.specs.Words.{words}
 use Rattle.service.proofs.rosters.read_row.Goals as goal
 use Rattle.service.proofs.rosters.read_row.Goals.{in_default-via-in-None-1, in_default-via-in-Some+else-is_same, in_default-via-in-Some+then-is_same+in-None-1, in_default-via-in-Some+then-is_same+in-Some-next_word+in-None-1, in_default-via-in-Some+then-is_same+in-Some-next_word+in-Some-next_word-2+else-word-le-MOST_WORD, in_default-via-in-Some+then-is_same+in-Some-next_word+in-Some-next_word-2+then-word-le-MOST_WORD+in-Err-1, in_default-via-in-Some+then-is_same+in-Some-next_word+in-Some-next_word-2+then-word-le-MOST_WORD+in-Ok+in-None-1}
@@ -11,7 +11,7 @@ apart : {b : Bool} → b ≡ false → b ≡ true → ⊥
 apart is other = cc
 
 -- a tenant's line has three words at least, and the first is `tenant`
-module _ (line : List ℕ) (row : Row) (is : IsRow line row) where
+module _ (line : List ℕ) (row : RosterLine) (is : IsRow line row) where
   none : words line ≡ [] → ⊥
   none empty = let tenant = is.by_words in cc
 

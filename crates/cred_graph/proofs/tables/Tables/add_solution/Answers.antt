@@ -3,7 +3,7 @@ use Rattle.std.proofs.lemmas.Result.{IfOk-from_err}
 use Rattle.cred_graph.proofs.ListenerLemmas.{far_same}
 use Rattle.cred_graph.proofs.Lists.{Contains-at_place, on_err}
 use Rattle.cred_graph.proofs.SolutionLemmas.{entry_added, members_added, members_same}
-use Rattle.cred_graph.proofs.RowLemmas.{listeners_in, members_in}
+use Rattle.cred_graph.proofs.NodeListLemmas.{listeners_in, members_in}
 use Rattle.cred_graph.proofs.tables.Tables.add_solution.Goals as goal
 
 pub returns-in-Some : goal.returns-in-Some
@@ -16,12 +16,12 @@ returns-in-Some c = record {
 
 pub invariant_of-self : goal.invariant_of-self
 invariant_of-self c =
-    (c.self.invariant.0, members_same c.self.inside.reasons.entries _ (members_in c.self.inside.rows.items) _ c.self.invariant.1 c.in_err-reserve.ensures.entries (λ n. refl))
+    (c.self.invariant.0, members_same c.self.inside.reasons.entries _ (members_in c.self.inside.lists.items) _ c.self.invariant.1 c.in_err-reserve.ensures.entries (λ n. refl))
 
 pub invariant_of-self-in_err-add_member : goal.invariant_of-self-in_err-add_member
 invariant_of-self-in_err-add_member c = (
-  far_same (listeners_in c.self.inside.rows.items) _ c.self.inside.far.keys _ c.self.invariant.0 refl c.in_err-add_member.ensures.listeners,
-  members_same c.self.inside.reasons.entries _ (members_in c.self.inside.rows.items) _ c.self.invariant.1 c.in_ok-reserve.ensures.entries c.in_err-add_member.ensures.unchanged,
+  far_same (listeners_in c.self.inside.lists.items) _ c.self.inside.far.keys _ c.self.invariant.0 refl c.in_err-add_member.ensures.listeners,
+  members_same c.self.inside.reasons.entries _ (members_in c.self.inside.lists.items) _ c.self.invariant.1 c.in_ok-reserve.ensures.entries c.in_err-add_member.ensures.unchanged,
 )
 
 pub invariant_of-self-2 : goal.invariant_of-self-2
@@ -29,8 +29,8 @@ invariant_of-self-2 c =
     let absent = rw (← c.self.view_is) at c.in_default.ensures in
     let inserted = rw c.unwrap-earlier.ensures at c.insert.ensures.entries in
     let entries = entry_added c.self.inside.reasons.entries _ _ (c.args.node, c.args.who) c.args.reason absent c.in_ok-reserve.ensures.entries inserted in (
-      far_same (listeners_in c.self.inside.rows.items) _ c.self.inside.far.keys _ c.self.invariant.0 refl c.in_ok-add_member.ensures.listeners,
-      members_added c.self.inside.reasons.entries _ (members_in c.self.inside.rows.items) _ (c.args.node, c.args.who) c.args.reason c.self.invariant.1 c.in_ok-add_member.ensures.added entries,
+      far_same (listeners_in c.self.inside.lists.items) _ c.self.inside.far.keys _ c.self.invariant.0 refl c.in_ok-add_member.ensures.listeners,
+      members_added c.self.inside.reasons.entries _ (members_in c.self.inside.lists.items) _ (c.args.node, c.args.who) c.args.reason c.self.invariant.1 c.in_ok-add_member.ensures.added entries,
     )
 
 pub returns-in_err-reserve : goal.returns-in_err-reserve

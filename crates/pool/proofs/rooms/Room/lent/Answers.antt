@@ -2,7 +2,7 @@ use Rattle.std.proofs.Common.{◌∙◌, ◌++◌, ◌∷◌, [], ap, length, re
 use Rattle.hall.specs.Hall.{HallState, IsSound}
 use Rattle.hall.specs.Work.{IsCompletedAt}
 use Rattle.pool.specs.declared.turns.Item.{Item}
-use Rattle.pool.specs.Histories.{Reaches, Reads}
+use Rattle.pool.specs.Histories.{Reaches, ReadsIn}
 use Rattle.pool.specs.Rooms.{RoomState, IsKept}
 use Rattle.pool.proofs.Reaching.{read_noted, legal_at}
 use Rattle.pool.proofs.Polled.{stop_seen}
@@ -14,7 +14,7 @@ pub hear-requires-clause-legal : goal.hear-requires-clause-legal
 hear-requires-clause-legal g c =
     let s = c.in-Ok-Some.search.value in
     let at : IsCompletedAt c.self.inside.hall c.tenant-who.result c.match-request.number s = rw c.in-Ok-Some.field-0-is at c.in-Ok-Some.ensures.completed in
-    let reads : Reads c.self.inside.hall c.tenant-who.result c.args.request.now s = elim c.match-request.branch [
+    let reads : ReadsIn c.self.inside.hall c.tenant-who.result c.args.request.now s = elim c.match-request.branch [
       | in-Poll w ↦ completed_read c.self.inside.hall c.tenant-who.result c.args.request.now c.match-request.number s
           (names_same c.args.request.now c.match-request.number w.in-Poll.number w.in-Poll.is w.number-is) at
       | in-Poll-2 w ↦ completed_read c.self.inside.hall c.tenant-who.result c.args.request.now c.match-request.number s
@@ -28,7 +28,7 @@ pub hear-requires-clause-after : goal.hear-requires-clause-after
 hear-requires-clause-after g c =
     let s = c.in-Ok-Some.search.value in
     let at : IsCompletedAt c.self.inside.hall c.tenant-who.result c.match-request.number s = rw c.in-Ok-Some.field-0-is at c.in-Ok-Some.ensures.completed in
-    let reads : Reads c.self.inside.hall c.tenant-who.result c.args.request.now s = elim c.match-request.branch [
+    let reads : ReadsIn c.self.inside.hall c.tenant-who.result c.args.request.now s = elim c.match-request.branch [
       | in-Poll w ↦ completed_read c.self.inside.hall c.tenant-who.result c.args.request.now c.match-request.number s
           (names_same c.args.request.now c.match-request.number w.in-Poll.number w.in-Poll.is w.number-is) at
       | in-Poll-2 w ↦ completed_read c.self.inside.hall c.tenant-who.result c.args.request.now c.match-request.number s
@@ -43,7 +43,7 @@ pub invariant_of-self-2 : goal.invariant_of-self-2
 invariant_of-self-2 g c =
     let s = c.in-Ok-Some.search.value in
     let at : IsCompletedAt c.self.inside.hall c.tenant-who.result c.match-request.number s = rw c.in-Ok-Some.field-0-is at c.in-Ok-Some.ensures.completed in
-    let reads : Reads c.self.inside.hall c.tenant-who.result c.args.request.now s = elim c.match-request.branch [
+    let reads : ReadsIn c.self.inside.hall c.tenant-who.result c.args.request.now s = elim c.match-request.branch [
       | in-Poll w ↦ completed_read c.self.inside.hall c.tenant-who.result c.args.request.now c.match-request.number s
           (names_same c.args.request.now c.match-request.number w.in-Poll.number w.in-Poll.is w.number-is) at
       | in-Poll-2 w ↦ completed_read c.self.inside.hall c.tenant-who.result c.args.request.now c.match-request.number s

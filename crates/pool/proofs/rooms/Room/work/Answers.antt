@@ -1,5 +1,5 @@
 use Rattle.std.proofs.Common.{◌≡◌, ◌∙◌, Bool, ap, cond, length, option_map, refl, sym, subst}
-use Rattle.hall.specs.declared.visits.{Order.Order, Order.TheVariants.GiveBack}
+use Rattle.hall.specs.declared.orders.{Order.Order, Order.TheVariants.GiveBack}
 use Rattle.hall.specs.Batches.{name_of}
 use Rattle.hall.specs.Hall.{IsSound}
 use Rattle.hall.specs.Work.{IsVisit, TellsEnds}

@@ -5,7 +5,7 @@ use Rattle.vaults.specs.Book.{ArePages, AreGranting, ArePublic, IsBook}
 use Rattle.vaults.proofs.Accepted.{accepted_after}
 use Rattle.vaults.proofs.Keeping.{kept_fit}
 use Rattle.vaults.proofs.OwedLemmas.{revoker_has_page}
-use Rattle.vaults.proofs.Steps.{changes_fit, page_due, pages_after, count_after}
+use Rattle.vaults.proofs.PageLemmas.{changes_fit, page_due, pages_after, count_after}
 use Rattle.vaults.proofs.Granting.{granted_first, granting_after, public_first, public_after}
 use Rattle.vaults.proofs.books.Book.change.Goals as goal
 

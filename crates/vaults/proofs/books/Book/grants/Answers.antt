@@ -5,7 +5,7 @@ use Rattle.vaults.specs.Journal.{granted}
 use Rattle.vaults.specs.Page.{PageState}
 use Rattle.vaults.proofs.Elements.{has}
 use Rattle.vaults.proofs.Exactness.{has-readers}
-use Rattle.vaults.proofs.Steps.{page_found, page_missing}
+use Rattle.vaults.proofs.PageLemmas.{page_found, page_missing}
 use Rattle.vaults.proofs.books.Book.grants.Goals as goal
 
 pub returns-in-Some : goal.returns-in-Some

@@ -5,7 +5,7 @@ use Rattle.vaults.specs.Journal.{holds}
 use Rattle.vaults.specs.Page.{PageState}
 use Rattle.vaults.proofs.Elements.{has}
 use Rattle.vaults.proofs.Accepted.{has-vault_accepted}
-use Rattle.vaults.proofs.Steps.{page_found, page_missing}
+use Rattle.vaults.proofs.PageLemmas.{page_found, page_missing}
 use Rattle.vaults.proofs.books.Book.holds.Goals as goal
 
 pub returns-in-Some : goal.returns-in-Some

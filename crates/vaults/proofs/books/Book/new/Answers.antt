@@ -1,6 +1,6 @@
 use Rattle.std.proofs.Common.{refl}
 use Rattle.vaults.proofs.Accepted.{accepted_none}
-use Rattle.vaults.proofs.Steps.{page_of_nothing}
+use Rattle.vaults.proofs.PageLemmas.{page_of_nothing}
 use Rattle.vaults.proofs.books.Book.new.Goals as goal
 
 pub invariant_of-result : goal.invariant_of-result

@@ -2,7 +2,7 @@ use Rattle.std.proofs.Common.{List, ◌≡◌, ◌∙◌, arith, ap, length}
 use Rattle.vaults.specs.declared.changes.Entry.{Entry}
 use Rattle.vaults.specs.Journal.{entries_of, vault, readers}
 use Rattle.vaults.specs.Page.{PageState}
-use Rattle.vaults.proofs.Steps.{page_found, page_missing}
+use Rattle.vaults.proofs.PageLemmas.{page_found, page_missing}
 use Rattle.vaults.proofs.books.Book.used_by.Goals as goal
 
 pub returns-in-Some-clause-creds : goal.returns-in-Some-clause-creds

@@ -1,0 +1,26 @@
+use Rattle.std.proofs.Common.{rules, sym, subst}
+use Rattle.hall.specs.Hall.{CarriesOut}
+use Rattle.hall.specs.declared.calls.replies.Reply.TheVariants.{Refused}
+use Rattle.hall.specs.Run.{waits}
+use Rattle.hall.specs.Kept.{DrivesTo}
+use Rattle.hall.proofs.Carrying.{drives_as, drives_quiet, nowhere_driven}
+use Rattle.hall.proofs.halls.Hall.drive.Goals as goal
+use Rattle.hall.proofs.halls.Hall.drive.Goals.{In-Ok}
+
+did : (c : In-Ok) → DrivesTo c.in-Ok.ensures.lent.now.search c.in-Ok.told c.in-Ok.ensures.left.now.search
+did c = search (rules, c.in-Ok.ensures.did)
+
+pub returns-in-Ok-clause-driven : goal.returns-in-Ok-clause-driven
+returns-in-Ok-clause-driven c =
+    let lent = c.in-Ok.ensures in
+    drives_as c.args.self.now c.args.who c.args.number lent.lent.now lent.there lent.left.now lent.opened c.lend.new.self lent.after c.in-Ok.told (did c)
+
+pub returns-in-Ok-clause-quiet : goal.returns-in-Ok-clause-quiet
+returns-in-Ok-clause-quiet c =
+    let lent = c.in-Ok.ensures in
+    drives_quiet c.args.self.now c.args.who c.args.number lent.lent.now lent.there lent.left.now lent.opened c.lend.new.self lent.after c.in-Ok.told (did c)
+
+pub returns-in-Err-clause-driven : goal.returns-in-Err-clause-driven
+returns-in-Err-clause-driven c =
+    subst (CarriesOut c.args.self.now c.args.who (waits c.args.number) (Refused c.in-Err.nowhere)) (sym c.in-Err.ensures.1)
+    (nowhere_driven c.args.self.now c.args.who c.args.number c.in-Err.nowhere c.in-Err.ensures.0)

@@ -1,4 +1,0 @@
-use Rattle.hall.proofs.registry.Hall.finish.Goals as goal
-
-pub returns : goal.returns
-returns c = rw (← c.job.view_is) c.step.ensures
