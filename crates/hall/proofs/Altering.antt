@@ -7,7 +7,7 @@ use Rattle.vaults.specs.declared.changes.Entry.{Entry}
 use Rattle.vaults.specs.declared.faults.VaultFault.{VaultFault}
 use Rattle.vaults.specs.declared.faults.VaultFault.TheVariants as vault
 use Rattle.vaults.specs.Journal.{entries_of, refusal, revokes}
-use Rattle.vaults.proofs.Steps.{own_entries_push}
+use Rattle.vaults.proofs.PageLemmas.{own_entries_push}
 use Rattle.hall.specs.declared.faults.Fault.{Fault}
 use Rattle.hall.specs.declared.faults.Fault.TheVariants.{Memory}
 use Rattle.hall.specs.declared.calls.requests.Request.TheVariants.{Alter}

@@ -16,4 +16,5 @@ pub mod Polled
 pub mod Visiting
 pub mod Lent
 pub mod Told
+pub mod Accounts
 pub mod Own

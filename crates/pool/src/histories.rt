@@ -1,6 +1,6 @@
 //! What holds of each history of a desk.
 ghost use Rattle.pool.specs.Histories.{HistoriesGoOn};
-ghost use Rattle.pool.specs.Laws.{CountsAreSeen, NumbersAreCounted, VaultsAreOwn, SightsAreOwn};
+ghost use Rattle.pool.specs.Laws.{CountsAreExact, NumbersAreExact, VaultsAreExact, SightsAreExact};
 ghost use Rattle.pool.specs.Sessions.{SessionsAreRuns};
 ghost use Rattle.pool.specs.Shares.{SharesAddUp};
 ghost use Rattle.pool.specs.Truths.{HistoriesAreTrue, HistoriesAgree, ReadsAreTold};
@@ -36,10 +36,10 @@ pub fn shares_add_up()
     ensures { SharesAddUp }
 {}
 
-/// What a tenant is told of vaults and names in a legal history is its own, and changes and searches are counted from 1.
-pub fn replies_are_own()
-    ensures counts { CountsAreSeen }
-    ensures numbers { NumbersAreCounted }
-    ensures vaults { VaultsAreOwn }
-    ensures sights { SightsAreOwn }
+/// What a tenant is told in a legal history of changes, openings, vaults and names is what the turns before give it.
+pub fn replies_are_exact()
+    ensures counts { CountsAreExact }
+    ensures numbers { NumbersAreExact }
+    ensures vaults { VaultsAreExact }
+    ensures sights { SightsAreExact }
 {}

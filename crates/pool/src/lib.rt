@@ -33,7 +33,7 @@ mod workers;
 pub use desks::Desk;
 pub use faults::{DeskFault, DeskResult};
 pub use histories::{
-    histories_agree, histories_are_true, histories_go_on, reads_are_told, replies_are_own,
+    histories_agree, histories_are_true, histories_go_on, reads_are_told, replies_are_exact,
     sessions_are_runs, shares_add_up,
 };
 pub use keepers::{Naming, Unnamed};

@@ -2,7 +2,7 @@
 use crate::tests_below::is_text;
 use crate::{
     DeskFault, histories_agree, histories_are_true, histories_go_on, reads_are_told,
-    replies_are_own, sessions_are_runs, shares_add_up,
+    replies_are_exact, sessions_are_runs, shares_add_up,
 };
 use hall::Fault;
 use std::alloc::AllocError;
@@ -32,5 +32,5 @@ fn each_law_of_histories_once() {
     reads_are_told();
     sessions_are_runs();
     shares_add_up();
-    replies_are_own();
+    replies_are_exact();
 }
