@@ -23,9 +23,9 @@ use Rattle.pool.specs.Histories.{journal_after}
 use Rattle.pool.specs.Laws.{is_opening, openings_of}
 
 -- the account has just these entries of the tenant's, and so many openings
-pub record Holds (who : List ℕ) (journal : List Entry) (opens : ℕ) (a : Account) : Type 0 where
+pub record Holds (who : List ℕ) (journal : List Entry) (count : ℕ) (a : Account) : Type 0 where
   pub entries : a.entries ≡ entries_of who journal
-  pub opens : a.opens ≡ opens
+  pub opens : a.opens ≡ count
 
 module _ (who : List ℕ) (journal : List Entry) (sees : Sight) where
   -- what was told of a deed
@@ -100,35 +100,42 @@ apart who journal t not = by t.deed t.reply
         ∙ append-nil (entries_of who journal)
     by _ _ = refl
 
--- a run comes to such an account behind what the tenant was told first
-pub account_behind : (who : List ℕ) (journal : List Entry) (n : ℕ) (before : List Told) (more : List Turn) (a c : Account) → Holds who journal n a →
-    IsRun any_time who a (told_to who journal before ++ more) c →
-    (b : Account) × Holds who (journal_after journal before) (n + openings_of who before) b × IsRun any_time who b more c
-account_behind who journal n [] more a c holds run =
-    (a, record { entries = holds.entries; opens = (let same = holds.opens in omega (arith, same)) }, run)
-account_behind who journal n (t ∷ before) more a c holds run = by (is_same t.tenant who) refl run
-  where
-    goes_on : (m : ℕ) (b : Account) → m ≡ n + one_if (is_same t.tenant who && is_opening t.deed t.reply) → Holds who (entered journal t) m b →
-        IsRun any_time who b (told_to who (entered journal t) before ++ more) c →
-        (b : Account) × Holds who (journal_after journal (t ∷ before)) (n + openings_of who (t ∷ before)) b × IsRun any_time who b more c
-    goes_on m b is holds run =
-        let (after, has, left) = account_behind who (entered journal t) m before more b c holds run in
-        (after, record { entries = has.entries; opens = (let same = has.opens in omega (arith, same, is)) }, left)
+-- what the turns behind come to, from any account that has this
+abbrev pub Behind : List ℕ → List Entry → List Told → List Turn → Account → Type 0
+Behind who journal before more c =
+    (n : ℕ) (a : Account) → Holds who journal n a → IsRun any_time who a (told_to who journal before ++ more) c
+    → (b : Account) × Holds who (journal_after journal before) (n + openings_of who before) b × IsRun any_time who b more c
 
-    by : (own : Bool) → is_same t.tenant who ≡ own →
-        IsRun any_time who a ((cond own (turn_at who journal t ∷ []) [] ++ told_to who (entered journal t) before) ++ more) c →
-        (b : Account) × Holds who (journal_after journal (t ∷ before)) (n + openings_of who (t ∷ before)) b × IsRun any_time who b more c
-    by true own (middle, after, between, took, run) =
-        let same : t.tenant ≡ who = same_from_is_same t.tenant who own in
-        let there : Holds who journal n middle = record {
-          entries = ap (λ (x : Account). x.entries) between.0 ∙ holds.entries;
-          opens = ap (λ (x : Account). x.opens) between.0 ∙ holds.opens;
-        } in
-        let here = taken who journal _ n middle after t.deed t.reply there took in
-        goes_on (n + one_if (is_opening t.deed t.reply)) after (rw own refl)
-        (subst (λ (w : List ℕ). Holds who (entered journal (record { tenant = w; deed = t.deed; reply = t.reply })) (n + one_if (is_opening t.deed t.reply)) after) (sym same) here) run
-    by false own run =
-        goes_on n a (rw own (omega arith)) (record { entries = holds.entries ∙ sym (apart who journal t own); opens = holds.opens }) run
+module _ (who : List ℕ) (journal : List Entry) (t : Told) (before : List Told) (more : List Turn) (c : Account)
+    (behind : Behind who (entered journal t) before more c) (n : ℕ) (a : Account) (holds : Holds who journal n a) where
+  goes_on : (m : ℕ) (b : Account) → m ≡ n + one_if (is_same t.tenant who && is_opening t.deed t.reply) → Holds who (entered journal t) m b →
+      IsRun any_time who b (told_to who (entered journal t) before ++ more) c →
+      (d : Account) × Holds who (journal_after journal (t ∷ before)) (n + openings_of who (t ∷ before)) d × IsRun any_time who d more c
+  goes_on m b is has run =
+      let (d, then, left) = behind m b has run in
+      (d, record { entries = then.entries; opens = (let same = then.opens in omega (arith, same, is)) }, left)
+
+  first_turn : (own : Bool) → is_same t.tenant who ≡ own →
+      IsRun any_time who a ((cond own (turn_at who journal t ∷ []) [] ++ told_to who (entered journal t) before) ++ more) c →
+      (d : Account) × Holds who (journal_after journal (t ∷ before)) (n + openings_of who (t ∷ before)) d × IsRun any_time who d more c
+  first_turn true own (middle, after, between, took, run) =
+      let same : t.tenant ≡ who = same_from_is_same t.tenant who own in
+      let there : Holds who journal n middle = record {
+        entries = ap (λ (x : Account). x.entries) between.0 ∙ holds.entries;
+        opens = ap (λ (x : Account). x.opens) between.0 ∙ holds.opens;
+      } in
+      let here = taken who journal _ n middle after t.deed t.reply there took in
+      goes_on (n + one_if (is_opening t.deed t.reply)) after (rw own refl)
+      (subst (λ (w : List ℕ). Holds who (entered journal (record { tenant = w; deed = t.deed; reply = t.reply })) (n + one_if (is_opening t.deed t.reply)) after) (sym same) here) run
+  first_turn false own run =
+      goes_on n a (rw own (omega arith)) (record { entries = holds.entries ∙ sym (apart who journal t own); opens = holds.opens }) run
+
+-- a run comes to such an account behind what the tenant was told first
+pub account_behind : (who : List ℕ) (journal : List Entry) (before : List Told) (more : List Turn) (c : Account) → Behind who journal before more c
+account_behind who journal [] more c n a holds run =
+    (a, record { entries = holds.entries; opens = (let same = holds.opens in omega (arith, same)) }, run)
+account_behind who journal (t ∷ before) more c n a holds run =
+    first_turn who journal t before more c (account_behind who (entered journal t) before more c) n a holds (is_same t.tenant who) refl run
 
 -- a tenant begins with nothing
 pub begins_empty : (who : List ℕ) (roster : List (List ℕ × Quota)) (a : Account) → start_of who roster ≡ Some a → Holds who [] 0 a

@@ -42,11 +42,11 @@ module _ (before : List Told) (who : List ℕ) (q : Request) (told : Reply) (oth
   granted_in : (more : List Turn) (a c : Account) → Holds who [] 0 a → IsRun any_time who a (told_to who [] before ++ turn_at who (journal_after [] before) (turn who q told) ∷ more) c →
       WasGranted before who q told
   granted_in more a c begins run =
-      let (b, holds, (m, d, between, took, left)) = account_behind who [] 0 before (turn_at who (journal_after [] before) (turn who q told) ∷ more) a c begins run in record {
+      let (b, holds, (m, d, between, took, left)) = account_behind who [] before (turn_at who (journal_after [] before) (turn who q told) ∷ more) c 0 a begins run in record {
         account = m;
         after = d;
         entries = ap (λ (x : Account). x.entries) between.0 ∙ holds.entries;
-        opens = ap (λ (x : Account). x.opens) between.0 ∙ holds.opens;
+        opens = (let kept = ap (λ (x : Account). x.opens) between.0 in let same = holds.opens in omega (arith, kept, same));
         gets = answers_grant who (sight (marked_view (journal_after [] before) who) q) m d q told told refl other took;
       }
 
