@@ -5,19 +5,17 @@ use Rattle.std.specs.FinMap.{get}
 use Rattle.names.specs.Name.{is_same}
 use Rattle.names.proofs.SameNames.{same_from_is_same}
 use Rattle.quotas.specs.Quota.{Quota}
-use Rattle.vaults.specs.declared.changes.Change.{Change}
 use Rattle.vaults.specs.declared.changes.Entry.{Entry}
 use Rattle.vaults.specs.Journal.{entries_of, one_if}
 use Rattle.vaults.proofs.LastEntries.{entries_push}
 use Rattle.vaults.proofs.PageLemmas.{own_entries_push}
-use Rattle.search.specs.declared.queries.Query.{Query}
 use Rattle.hall.specs.declared.faults.Fault.{Fault}
 use Rattle.hall.specs.declared.calls.requests.Request.{Request}
 use Rattle.hall.specs.declared.calls.requests.Request.TheVariants as request
 use Rattle.hall.specs.declared.calls.replies.Reply.{Reply}
 use Rattle.hall.specs.declared.calls.replies.Reply.TheVariants as reply
 use Rattle.hall.specs.Answers.{Asked, Account, Sight, new_account, start_of, Grants, Answers, refuses, grants, lacks}
-use Rattle.hall.specs.Run.{Deed, asks, waits, Told, entered, Turn, turn_of, told_to, any_time, Between, Ends, IsTaken, IsRun}
+use Rattle.hall.specs.Run.{Deed, asks, waits, Told, entered, Turn, told_to, any_time, Ends, IsTaken, IsRun}
 use Rattle.hall.proofs.laws.HallTurns.{turn_at}
 use Rattle.pool.specs.Histories.{journal_after}
 use Rattle.pool.specs.Laws.{is_opening, openings_of}

@@ -1,9 +1,7 @@
 -- What a tenant is told of changes, openings, vaults and names is what the turns before give it.
 use Rattle.std.proofs.Common.{◌≡◌, ◌≢◌, ◌∙◌, ◌+◌, ℕ, List, [], ◌∷◌, ◌++◌, length, Option, Some, None, map, ap, sym, subst, refl, arith}
 use Rattle.std.specs.List.{AllByRecursion}
-use Rattle.credential_text.specs.declared.credentials.Credential.{Credential}
 use Rattle.vaults.specs.declared.changes.Entry.{Entry}
-use Rattle.vaults.specs.declared.marks.Seen.{Seen}
 use Rattle.vaults.specs.Journal.{entries_of, vault, marked_view, seen_of}
 use Rattle.vaults.proofs.Exactness.{vaults_own, marked_views_exact}
 use Rattle.hall.specs.declared.faults.Fault.{Fault}
