@@ -23,7 +23,7 @@ use Rattle.hall.specs.declared.calls.replies.Reply.{Reply}
 use Rattle.hall.specs.declared.calls.replies.Reply.TheVariants.{Refused}
 use Rattle.hall.specs.declared.calls.replies.Reply.TheVariants as reply
 use Rattle.hall.specs.Fault.{proof_fault}
-use Rattle.hall.specs.Answers.{Account, Sight, RefusesProof, IsClear, IsToldOver, sight, refuses, grants, lacks}
+use Rattle.hall.specs.Answers.{Account, RefusesProof, IsClear, IsToldOver, sight, refuses, grants, lacks}
 use Rattle.hall.specs.Hall.{Running, Tenant, HallState, known, seen, account, search_of, search_at, hall_after, IsServed, told_as}
 use Rattle.hall.specs.Kept.{IsNowhere, IsToldOf}
 use Rattle.hall.proofs.Completed.{answer_completed}

@@ -1,6 +1,5 @@
 -- A request that reads a search is told something, and served so by the hall that has the search.
 use Rattle.std.proofs.Common.{◌≡◌, ◌∙◌, ◌⊎◌, inl, inr, ℕ, List, Ok, Option, Some, None, option_map, ap, refl}
-use Rattle.std.specs.FinMap.{get}
 use Rattle.rt0_rules.specs.Membership.{IsMember}
 use Rattle.vaults.specs.Journal.{marked_view}
 use Rattle.search.specs.Ending.{asked_role}
@@ -11,7 +10,7 @@ use Rattle.hall.specs.declared.calls.requests.Request.{Request}
 use Rattle.hall.specs.declared.calls.requests.Request.TheVariants.{Poll, Proof}
 use Rattle.hall.specs.declared.calls.replies.Reply.{Reply}
 use Rattle.hall.specs.declared.calls.replies.Reply.TheVariants.{Answered, Refused}
-use Rattle.hall.specs.Answers.{Asked, answer_of, sight}
+use Rattle.hall.specs.Answers.{answer_of, sight}
 use Rattle.hall.specs.Hall.{HallState, Running, known, account, search_at, IsServed}
 use Rattle.hall.proofs.Viewed.{polled_over, unproved_over}
 use Rattle.hall.proofs.Polled.{asked_of, answered_by}

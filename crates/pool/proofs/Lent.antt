@@ -1,6 +1,6 @@
 -- What is told of a search that is read, under the lock or once it was given back.
 use Rattle.std.specs.Prelude.{IfOk}
-use Rattle.std.proofs.Common.{◌≡◌, ◌∙◌, ◌⊎◌, ◌++◌, ◌∷◌, [], ℕ, List, Some, Option, option_map, Result, Ok, Err, inl, inr, ap, sym, subst, subst₂, refl}
+use Rattle.std.proofs.Common.{◌≡◌, ◌∙◌, ◌⊎◌, ◌++◌, ◌∷◌, [], ℕ, List, Some, option_map, Result, Ok, Err, inl, inr, ap, sym, subst, subst₂, refl}
 use mathlib.Core.List.{IsPrefix}
 use Rattle.std.specs.declared.snapshot.Snapshot.{Snapshot}
 use Rattle.quotas.specs.Quota.{Quota}
@@ -24,7 +24,7 @@ use Rattle.pool.specs.Histories.{Reaches, ReadsIn, IsReadOff, IsOpening, item_of
 use Rattle.pool.specs.Verdicts.{IsTrueWhereCompleted}
 use Rattle.pool.specs.Passes.{PassState, own_calls}
 use Rattle.pool.specs.Rooms.{RoomState, IsKept}
-use Rattle.pool.specs.Served.{IsNext, IsTold, IsRefused, IsAnswered, Suits, IsReadAs, OfSearch, IsLent, IsVerdictOn, IsPolled, IsPolledIn, IsAtWork}
+use Rattle.pool.specs.Served.{IsTold, IsRefused, IsAnswered, Suits, IsReadAs, OfSearch, IsLent, IsVerdictOn, IsPolled, IsPolledIn, IsAtWork}
 use Rattle.pool.proofs.Admitting.{search_found, read_served}
 use Rattle.pool.proofs.Reaching.{opening_stays}
 use Rattle.pool.proofs.Told.{next_item}
