@@ -1,14 +1,14 @@
 -- What goes out where the program serves.
 use Rattle.std.specs.Prelude.{◌⊎◌, ℕ, List, [], Option, Some, Ok, Err}
 use Rattle.service.specs.Line.{Line}
-use Rattle.service.specs.Roster.{Row, HasRoster, HasNoRoster}
+use Rattle.service.specs.Roster.{RosterLine, HasRoster, HasNoRoster}
 use Rattle.service.specs.Served.{ServeWrote}
 use Rattle.service.specs.Written.{WroteFront, roster_refusal}
 use Rattle.service.specs.declared.faults.ServeFault.{ServeFault}
 
 -- the input begins with a roster
 abbrev pub BeginsWithRoster : List Line → Type 0
-BeginsWithRoster lines = (rows : List Row) × (rest : List Line) × HasRoster lines rows rest
+BeginsWithRoster lines = (rows : List RosterLine) × (rest : List Line) × HasRoster lines rows rest
 
 -- so many connections were served
 abbrev pub Served : List Line → ℕ → (List ℕ → Type 0) → Type 0
