@@ -44,7 +44,7 @@ def search_all(session, opened):
 
 # of each case what a session does in its turn, and the bytes of its open searches
 CASES = {
-    "versions": (hold_versions, lambda rows: OPEN * (16_000 + 100 + 2 * 400 + 8 * rows)),
+    "versions": (hold_versions, lambda rows: OPEN * (16_000 + 100 + 2 * 400 + 10_000 + rows // 8)),
     "letters": (search_all, lambda rows: 16_000 + 100 + 2 * 400 * rows),
 }
 

@@ -189,7 +189,7 @@ def versions(rows, held=32):
         peer = service.session()
         peer.say(f"put T0.doctors <- E{at}" for at in range(rows))
         lines = [line for at in range(held) for line in ("ask T0.r0 Ada", f"{'drop' if at % 2 else 'put'} T0.more <- Ada")]
-        row("row of a version that an open search holds", rows * held, service.more(lambda: peer.say(lines)))
+        row(f"version of a vault of {rows:,} that an open search holds", held, service.more(lambda: peer.say(lines)))
 
 
 def sessions(count):
