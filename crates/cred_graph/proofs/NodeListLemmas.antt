@@ -1,4 +1,4 @@
--- Rows that get one more element, and rows that are made.
+-- Nodes' lists that get one more element, and records that are made.
 use Rattle.std.proofs.Common.{ℕ, zero, suc, ◌<◌, ◌≤◌, ◌≡◌, ◌==◌, ◌∙◌, ap, refl, sym, subst, arith, inl, inr, List, [], ◌∷◌, ◌++◌, get_or, length, map, set}
 use Rattle.std.proofs.lemmas.Bool.{cases_eq, cond-true, cond-false, eq-eqb, ne_eqb}
 use Rattle.std.proofs.lemmas.List.{length-map, map_push, get_or-map, get_or_past, get_or-set_same, get_or-set_other}
@@ -21,35 +21,35 @@ empty_last (l ∷ lists) zero = refl
 empty_last (l ∷ lists) (suc m) = empty_last lists m
 
 module _ {R X : Type 0} (f : R → List X) where
-  -- the list of the row that is there, or of none
-  pub entry_at : (rows : List R) (n : ℕ) (row : R) → n < length rows → row ≡ get_or rows n row → f row ≡ list_at (map f rows) n
-  entry_at rows n row within at = ap f at ∙ sym (get_or-map f rows n row [] within)
+  -- the list of the record that is there, or of none
+  pub entry_at : (all : List R) (n : ℕ) (one : R) → n < length all → one ≡ get_or all n one → f one ≡ list_at (map f all) n
+  entry_at all n one within at = ap f at ∙ sym (get_or-map f all n one [] within)
 
-  pub no_entry : (rows : List R) (n : ℕ) → length rows ≤ n → [] ≡ list_at (map f rows) n
-  no_entry rows n beyond = sym (get_or_past (map f rows) n [] (omega (arith, length-map rows f)))
+  pub no_entry : (all : List R) (n : ℕ) → length all ≤ n → [] ≡ list_at (map f all) n
+  no_entry all n beyond = sym (get_or_past (map f all) n [] (omega (arith, length-map all f)))
 
-  -- an empty row is made
-  pub entry_made : (old rows after : List R) (row : R) → AreSame (map f old) (map f rows) → after ≡ rows ++ row ∷ [] → f row ≡ [] → AreSame (map f old) (map f after)
-  entry_made old rows after row same is empty m =
+  -- an empty record is made
+  pub entry_made : (old all after : List R) (one : R) → AreSame (map f old) (map f all) → after ≡ all ++ one ∷ [] → f one ≡ [] → AreSame (map f old) (map f after)
+  entry_made old all after one same is empty m =
       ap (λ rs. list_at (map f rs) m) is
-      ∙ ap (λ ls. list_at ls m) (map_push f rows row ∙ ap (λ l. map f rows ++ l ∷ []) empty)
-      ∙ empty_last (map f rows) m ∙ same m
+      ∙ ap (λ ls. list_at ls m) (map_push f all one ∙ ap (λ l. map f all ++ l ∷ []) empty)
+      ∙ empty_last (map f all) m ∙ same m
 
-  -- a row is another with the same list, or with a list that has got one more element
-  module _ (old : List (List X)) (rows : List R) (n : ℕ) (was row : R) (same : AreSame old (map f rows)) (at : was ≡ get_or rows n was) where
-    pub entry_kept : f row ≡ f was → AreSame old (map f (set rows n row))
-    entry_kept is m = ap (λ ls. list_at ls m) (map-set_same f rows n row was (is ∙ ap f at)) ∙ same m
+  -- a record is another with the same list, or with a list that has got one more element
+  module _ (old : List (List X)) (all : List R) (n : ℕ) (was one : R) (same : AreSame old (map f all)) (at : was ≡ get_or all n was) where
+    pub entry_kept : f one ≡ f was → AreSame old (map f (set all n one))
+    entry_kept is m = ap (λ ls. list_at ls m) (map-set_same f all n one was (is ∙ ap f at)) ∙ same m
 
-    pub entry_adds : (x : X) → n < length rows → f row ≡ f was ++ x ∷ [] → AddsAt old (map f (set rows n row)) n x
+    pub entry_adds : (x : X) → n < length all → f one ≡ f was ++ x ∷ [] → AddsAt old (map f (set all n one)) n x
     entry_adds x within is m =
-        let longer = list_at (map f rows) n ++ x ∷ [] in
-        ap (λ ls. list_at ls m) (map-pushed_at f rows n was row x within at is) ∙ elim (cases_eq m n) [
+        let longer = list_at (map f all) n ++ x ∷ [] in
+        ap (λ ls. list_at ls m) (map-pushed_at f all n was one x within at is) ∙ elim (cases_eq m n) [
           | inl here ↦
-              ap (list_at (set (map f rows) n longer)) here
-              ∙ get_or-set_same (map f rows) n longer [] (subst (λ k. n < k) (sym (length-map rows f)) within)
+              ap (list_at (set (map f all) n longer)) here
+              ∙ get_or-set_same (map f all) n longer [] (subst (λ k. n < k) (sym (length-map all f)) within)
               ∙ ap (λ l. l ++ x ∷ []) (same n) ∙ ap (λ i. list_at old i ++ x ∷ []) (sym here)
               ∙ sym (cond-true (m == n) (list_at old m ++ x ∷ []) (list_at old m) (eq-eqb m n here))
           | inr other ↦
-              get_or-set_other (map f rows) n m longer [] other ∙ same m
+              get_or-set_other (map f all) n m longer [] other ∙ same m
               ∙ sym (cond-false (m == n) (list_at old m ++ x ∷ []) (list_at old m) (ne_eqb m n other))
         ]

@@ -6,7 +6,7 @@ use smallvec::SmallVec;
 use std::alloc::AllocError;
 
 /// The listeners of a node and the numbers of its solutions, each in order of adding. Four listeners and eight numbers
-/// stand in the row itself.
+/// stand in the record itself.
 pub struct NodeLists {
     pub listeners: SmallVec<KeptListening, 4>,
     pub members: SmallVec<u32, 8>,

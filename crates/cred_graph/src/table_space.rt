@@ -32,7 +32,7 @@ pub fn kept_when_empty(room: usize) -> usize
 }
 
 /// The room that a table keeps beyond what is taken: all of it, unless less than half is taken. Memory is given back only
-/// then, since a list has to be moved for it, which costs more than its last rows take.
+/// then, since a list has to be moved for it, which costs more than its last entries take.
 pub fn kept_room(taken: usize, room: usize) -> usize
     ensures { result ≡ (if nat_lt taken (room / 2) then 0 else 2 ^ 64 - 1) }
 {

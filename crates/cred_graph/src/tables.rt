@@ -55,7 +55,7 @@ impl Tables {
         }
     }
 
-    /// Makes room for the rows of so many nodes.
+    /// Makes room for the lists of so many nodes.
     pub fn reserve(&mut self, nodes: u64) -> Result<(), AllocError>
         ensures { self.new ≡ self.old }
     {

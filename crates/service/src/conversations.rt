@@ -45,11 +45,11 @@ pub(crate) trait Host {
     /// Whether the reply to a text may have to wait for others.
     fn may_wait(&self, line: &[u8]) -> bool;
 
-    /// Puts the reply to a text that isn't blank into the room.
+    /// Puts the reply to a text that isn't blank into the buffer.
     fn answer(&mut self, line: &[u8], reply: &mut ReplyBuffer) -> Flow
         ensures { Answers self.old (text line.now) reply.new result self.new };
 
-    /// Puts the reply to a line that is no text into the room.
+    /// Puts the reply to a line that is no text into the buffer.
     fn refuse(&self, why: Refusal, reply: &mut ReplyBuffer) -> Flow
         ensures long { why ≡ refusal.LineLong → Answers self.now too_long reply.new result self.now }
         ensures not_ascii { why ≡ refusal.NotAscii → Answers self.now not_ascii reply.new result self.now };
