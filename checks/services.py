@@ -13,7 +13,7 @@
 
 Wrong bodies that are refused here: the desk has the usual limits, whatever the roster says; a session thread
 ends after 1,000 connections; `--idle` is 60 seconds at most; each worker begins at one search in each of its turns; the end of
-a search wakes one of those who wait for it, or nobody.
+a search wakes one of those who wait for it, or nobody; a session stops the desk as it ends.
 
 Prints a line for each; the last line is `N passed, M failed`."""
 import contextlib
