@@ -78,7 +78,8 @@ IsWaited old new k result = IsPolled old new k result × IfOk result (λ v. v.an
 
 -- the verdict tells this of the search itself, to each account that has it; memory may lack to tell it, or to share what it reads
 abbrev pub IsVerdictOn : SearchState → Result Verdict DeskFault → Type 0
-IsVerdictOn s (Ok v) = IsToldOver (known s) request.Poll (reply.Answered v.answer) × (v.query ≡ s.query) × (arc_value v.snapshot ≡ s.snapshot)
+IsVerdictOn s (Ok v) =
+    IsToldOver (known s) request.Poll (reply.Answered v.answer) × (v.query ≡ s.query) × (arc_value v.snapshot ≡ s.snapshot)
 IsVerdictOn s (Err fault) =
     ((f : Fault) × (fault ≡ Hall f) × IsToldOver (known s) request.Poll (reply.Refused f))
     ⊎ ((fault ≡ Hall Memory) × ((answer : Answer) × IsToldOver (known s) request.Poll (reply.Answered answer)))

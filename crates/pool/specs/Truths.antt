@@ -32,4 +32,5 @@ HistoriesAgree =
 -- a request that reads a search of a sound hall is told something
 abbrev pub ReadsAreTold : Type 0
 ReadsAreTold =
-    (h : HallState) (who : List ℕ) (q : Request) (s : SearchState) → IsSound h → ReadsIn h who q s → (told : Reply) × IsReadOff (known s) q told
+    (h : HallState) (who : List ℕ) (q : Request) (s : SearchState) → IsSound h → ReadsIn h who q s
+    → (told : Reply) × IsReadOff (known s) q told
