@@ -5,18 +5,18 @@
 
 A function is proved by its own contract and by those of what it calls, so whether a wrong body is refused doesn't depend on
 what stands in other bodies. So the edits of a crate are applied to one copy of it, all that turn different functions at
-once, and one process proves the functions that they turn. Each of these has to be refused by a goal of its own: that
-something which it calls isn't proved is no refusal, nor is a name that a proof lacks. What isn't refused so is tried again
-alone, and so is at once what changes a line outside functions. An edit that turns no function's body, but a definition or a
-type, has a line `# at FUNCTION`, and has to be refused there. Its other `#` line is for docs/EDITS.md (checks/index.py). `rt ci` and `rt must-fail NAME` try each edit in a process of its
-own, which loads the crates below each time.
+once, and one process proves the functions that they turn, and those that they call. Each of these has to be refused by a goal
+of its own: that something which it calls isn't proved is no refusal, nor is a name that a proof lacks. What isn't refused so is
+tried again alone, and so is at once what changes a line outside functions. A crate's first such round keeps what it proves, and
+each later one begins with that, so it proves again what was turned and no more. An edit that turns no function's body, but a
+definition or a type, has a line `# at FUNCTION`, and has to be refused there. Its other `#` line is for docs/EDITS.md
+(checks/index.py). `rt ci` and `rt must-fail NAME` try each edit in a process of its own, which loads the crates below each time.
 
 The crates below are taken from FOLDER/crates/NAME/out/rlib, as `rt ci` leaves them while it goes on there and writes what it says
 to FOLDER/said, which ends with a line `ended`; a crate's edits begin once those below it are proved. Without the option these are
 built here first. One line for each edit; the last line is `N passed, M failed`."""
 import argparse
 import concurrent.futures
-import contextlib
 import dataclasses
 import difflib
 import itertools
@@ -27,7 +27,6 @@ import shutil
 import subprocess
 import sys
 import tempfile
-import threading
 import time
 
 ROOT = pathlib.Path(__file__).resolve().parent.parent
@@ -127,7 +126,7 @@ def read_edit(folder, file):
 
 
 def rounds_of(edits):
-    """Shares out a crate's edits, so that those of one round can be tried at once."""
+    """Shares out a crate's edits, so that those of one round can be tried at once; the longest round comes first."""
     rounds = []
     for edit in edits:
         fitting = next((it for it in rounds if all(edit.fits_beside(other) for other in it)), None)
@@ -135,7 +134,7 @@ def rounds_of(edits):
             fitting.append(edit)
         else:
             rounds.append([edit])
-    return rounds
+    return sorted(rounds, key=len, reverse=True)
 
 
 def copy_with(edits, folder, room):
@@ -152,10 +151,10 @@ def copy_with(edits, folder, room):
         (room / path).write_text("\n".join(lines))
 
 
-def try_at_once(crate, edits, toolchain):
-    """Tries edits of a crate in one copy of it, and returns for each whether it is refused, and a text."""
+def try_at_once(crate, edits, toolchain, kept):
+    """Tries edits of a crate in one copy of it, over what that folder keeps, and returns for each whether it is refused, and a text."""
     functions = sorted(it for edit in edits for it in edit.functions)
-    words = [*toolchain.prover("check", crate), *(word for it in functions for word in ("--only", it))]
+    words = [*toolchain.prover("check", crate), "--incremental", str(kept), *(word for it in functions for word in ("--only", it))]
     with tempfile.TemporaryDirectory(prefix="edits-") as room:
         copy_with(edits, crate.folder, pathlib.Path(room))
         how = {"cwd": room, "stdin": subprocess.DEVNULL, "stdout": subprocess.PIPE, "stderr": subprocess.STDOUT, "errors": "replace"}
@@ -192,46 +191,75 @@ def judge(crate, edit, said):
     return False, "NOT REFUSED: " + "; ".join(others)
 
 
-def try_round(crate, edits, toolchain, gate):
-    """Tries a round of a crate's edits, once the crates below are proved; and alone what wasn't refused in it."""
-    with gate.lane(crate.below) as are_proved:
-        if not are_proved:
-            return [(False, f"{crate.name}/{edit.name}: not tried: a crate below isn't proved") for edit in edits]
-        told = try_at_once(crate, edits, toolchain)
-        if len(edits) > 1:
-            told = [it if it[0] else try_at_once(crate, [edit], toolchain)[0] for edit, it in zip(edits, told)]
-    return [(well, f"{crate.name}/{edit.name}: {text}") for edit, (well, text) in zip(edits, told)]
+def link_or_copy(one, other):
+    """Links a module that was proved, since a prover replaces its file and never writes into it; copies what else it keeps."""
+    if one.endswith(".oantt"):
+        os.link(one, other)
+    else:
+        shutil.copy2(one, other)
 
 
-class Gate:
-    """What `rt ci`, which goes on beside this, has said so far; None where all is proved. While it goes on it has half of the lanes."""
+@dataclasses.dataclass
+class Round:
+    """Edits of a crate that are tried at once, after its first round, and what that one keeps."""
 
-    def __init__(self, said, lanes):
-        self.said, self.lanes, self.running, self.turn = said, lanes, 0, threading.Lock()
+    crate: object
+    edits: list
+    kept: pathlib.Path
+    first: "Round | None" = None
+    has_ended: bool = False
 
-    def begins(self, crates):
-        """Whether these crates are proved and there is a lane, which then is taken; None where they won't be."""
-        lines = self.said.read_text(errors="replace").splitlines() if self.said else ["ended"]
-        has_ended = lines[-1:] == ["ended"]
-        proved = {found[1] for found in map(PROVED.match, lines) if found}
-        if self.said and not {it.name for it in crates} <= proved:
-            return None if has_ended else False
-        with self.turn:
-            if self.running >= (self.lanes if has_ended else max(1, self.lanes // 2)):
-                return False
-            self.running += 1
-            return True
+    def may_begin(self, proved):
+        """Whether it can be tried where these crates are proved."""
+        return (self.first is None or self.first.has_ended) and {it.name for it in self.crate.below} <= proved
 
-    @contextlib.contextmanager
-    def lane(self, crates):
-        """Waits for these crates and for a lane, and gives whether the crates are proved."""
-        while (begun := self.begins(crates)) is False:
+    def try_over_a_copy(self, edits, toolchain):
+        """Tries these over a copy of what is kept, which stays as it is."""
+        with tempfile.TemporaryDirectory(prefix="kept-") as room:
+            kept = shutil.copytree(self.kept, pathlib.Path(room, "kept"), copy_function=link_or_copy)
+            return try_at_once(self.crate, edits, toolchain, kept)
+
+    def tell(self, toolchain):
+        """Tries the round, and alone what wasn't refused in it; returns for each edit whether it is refused, and a text."""
+        told = self.try_over_a_copy(self.edits, toolchain) if self.first else try_at_once(self.crate, self.edits, toolchain, self.kept)
+        if len(self.edits) > 1:
+            told = [it if it[0] else self.try_over_a_copy([edit], toolchain)[0] for edit, it in zip(self.edits, told)]
+        return self.named(told)
+
+    def untried(self):
+        return self.named((False, "not tried: a crate below isn't proved") for _ in self.edits)
+
+    def named(self, told):
+        return [(well, f"{self.crate.name}/{edit.name}: {text}") for edit, (well, text) in zip(self.edits, told)]
+
+
+def proved_so_far(crates, said):
+    """The crates that are proved by what `rt ci`, which goes on beside this, has said so far, and whether it has ended: all, and
+    yes, where there is no such file."""
+    if said is None:
+        return {it.name for it in crates}, True
+    lines = said.read_text(errors="replace").splitlines()
+    return {found[1] for found in map(PROVED.match, lines) if found}, lines[-1:] == ["ended"]
+
+
+def try_all(rounds, toolchain, lanes, look):
+    """Tries each round as soon as it may begin, those first that others wait for, and of these the lowest crate's; yields what comes
+    of each edit. `look` tells which crates are proved, and whether no more will be: before that half of the lanes are taken."""
+    waiting, running = sorted(rounds, key=lambda it: it.first is not None), {}
+    with concurrent.futures.ThreadPoolExecutor(lanes) as pool:
+        while waiting or running:
+            proved, has_ended = look()
+            for it in list(waiting):
+                if it.may_begin(proved) and len(running) < (lanes if has_ended else max(1, lanes // 2)):
+                    waiting.remove(it)
+                    running[pool.submit(it.tell, toolchain)] = it
+                elif has_ended and not {below.name for below in it.crate.below} <= proved:
+                    waiting.remove(it)
+                    yield from it.untried()
             time.sleep(0.5)
-        try:
-            yield begun is True
-        finally:
-            with self.turn:
-                self.running -= begun is True
+            for one in [it for it in running if it.done()]:
+                running.pop(one).has_ended = True
+                yield from one.result()
 
 
 def edits_of(crate):
@@ -260,20 +288,22 @@ def main():
     else:
         for it in crates:
             it.left = given.over.resolve() / "crates" / it.name / "out" / "rlib" / f"{it.name}.rlib"
-    rounds, told = [], []
-    for crate in wanted:
-        edits, bad = edits_of(crate)
-        rounds += [(crate, it) for it in rounds_of(edits)]
-        told += bad
-    # (lowest crates first, as they come)
     lanes = max(1, min(len(os.sched_getaffinity(0)), free_memory() // memory_of(crates[-1], 1)))
-    gate = Gate(given.over / "said" if given.over else None, lanes)
     passed = failed = 0
-    with concurrent.futures.ThreadPoolExecutor(lanes) as pool:
-        for tried in itertools.chain([told], pool.map(lambda it: try_round(*it, toolchain, gate), rounds)):
-            for is_refused, text in tried:
-                print(f"edits: {text}", flush=True)
-                passed, failed = passed + is_refused, failed + (not is_refused)
+    with tempfile.TemporaryDirectory(prefix="kept-") as room:
+        rounds, told = [], []
+        for crate in wanted:
+            edits, bad = edits_of(crate)
+            told += bad
+            kept, first = pathlib.Path(room, crate.name), None
+            kept.mkdir()
+            for it in rounds_of(edits):
+                rounds.append(Round(crate, it, kept, first))
+                first = first or rounds[-1]
+        said = given.over / "said" if given.over else None
+        for is_refused, text in itertools.chain(told, try_all(rounds, toolchain, lanes, lambda: proved_so_far(crates, said))):
+            print(f"edits: {text}", flush=True)
+            passed, failed = passed + is_refused, failed + (not is_refused)
     print(f"{passed} passed, {failed} failed")
     return 1 if failed else 0
 
