@@ -114,12 +114,12 @@ accepted_push journal who change accepted none n e at =
     last : Entry
     last = record { tenant = who; change = change }
 
--- the same of a journal that is now seen as one, has room after, and has the entry in the end
-pub accepted_after : (journal now before after : List Entry) (who : List ℕ) (change : Change) → journal ≡ now → None ≡ refusal now who change →
+-- the same of a journal that has room before, and has the entry after
+pub accepted_after : (journal before after : List Entry) (who : List ℕ) (change : Change) → refusal journal who change ≡ None →
     AreAccepted journal → before ≡ journal → after ≡ before ++ record { tenant = who; change = change } ∷ [] → AreAccepted after
-accepted_after journal now before after who change is none accepted same entered =
+accepted_after journal before after who change none accepted same entered =
     subst AreAccepted (sym (entered ∙ ap (λ (j : List Entry). j ++ record { tenant = who; change = change } ∷ []) same))
-    (accepted_push journal who change accepted (sym (subst (λ (j : List Entry). None ≡ refusal j who change) (sym is) none)))
+    (accepted_push journal who change accepted none)
 
 -- and none
 pub accepted_none : AreAccepted []

@@ -14,8 +14,8 @@ use Rattle.vaults.specs.declared.changes.Entry.{Entry}
 use Rattle.vaults.specs.declared.faults.VaultFault.TheVariants.{GrantSelf, AlreadyGranted}
 use Rattle.vaults.specs.InOrder.{without}
 use Rattle.vaults.specs.declared.marks.Seen.{Seen}
-use Rattle.vaults.specs.Journal.{concerns, grants, granted, is_for_all, grants_all, is_public, entry_is, last_entry, names_read, marked_name_of, marked_names, names_in, refusal}
-use Rattle.vaults.specs.Book.{is_granting, AreGranting, KeepsGrant, SameGranting, is_listed, ArePublic, KeepsPublic, SamePublic}
+use Rattle.vaults.specs.Journal.{concerns, grants, granted, is_for_all, grants_all, is_public, entry_is, last_entry, names_read, marked_name_of, marked_names, names_in}
+use Rattle.vaults.specs.Book.{early_refusal, is_granting, AreGranting, KeepsGrant, SameGranting, is_listed, ArePublic, KeepsPublic, SamePublic}
 use Rattle.vaults.specs.Merge.{AreMerged}
 use Rattle.vaults.proofs.Elements.{has, has-insert_key, has-without, same_in_order, tied_both_ways}
 use Rattle.names.proofs.SameNames.{is_same_tied, same_from_is_same}
@@ -118,10 +118,10 @@ pub same_granting : (old new : BTreeMap (List ℕ) (List (List ℕ))) → ((read
 same_granting old new same owner reader = ap (λ (l : Option (List (List ℕ))). has name_order (unwrap_or l []) owner) (same reader)
 
 -- an accepted grant is of a reader that wasn't granted before
-pub granted_first : (journal : List Entry) (who : List ℕ) (change : Change) (granting : BTreeMap (List ℕ) (List (List ℕ))) → refusal journal who change ≡ None →
+pub granted_first : (journal : List Entry) (who : List ℕ) (change : Change) (granting : BTreeMap (List ℕ) (List (List ℕ))) → early_refusal journal who change ≡ None →
     AreGranting journal granting → (reader : List ℕ) → change ≡ Grant reader → is_granting granting who reader ≡ false
 granted_first journal who change granting accepted right reader is =
-    right who reader ∙ by (is_same reader who) (granted journal who reader) (subst (λ (x : Change). refusal journal who x ≡ None) is accepted)
+    right who reader ∙ by (is_same reader who) (granted journal who reader) (subst (λ (x : Change). early_refusal journal who x ≡ None) is accepted)
   where
     by : (a g : Bool) → cond a (Some GrantSelf) (cond g (Some AlreadyGranted) None) ≡ None → g ≡ false
     by true g refused = cc
@@ -162,10 +162,10 @@ public_dropped who old new after owner =
     ∙ sym (and_true (is_same who owner) false (has name_order old owner))
 
 -- public reading that is granted wasn't before
-pub public_first : (journal : List Entry) (who : List ℕ) (change : Change) (public : List (List ℕ)) → refusal journal who change ≡ None → ArePublic journal public →
+pub public_first : (journal : List Entry) (who : List ℕ) (change : Change) (public : List (List ℕ)) → early_refusal journal who change ≡ None → ArePublic journal public →
     change ≡ GrantAll → is_listed public who ≡ false
 public_first journal who change public accepted right is =
-    right who ∙ by (is_public journal who) (subst (λ (x : Change). refusal journal who x ≡ None) is accepted)
+    right who ∙ by (is_public journal who) (subst (λ (x : Change). early_refusal journal who x ≡ None) is accepted)
   where
     by : (b : Bool) → cond b (Some AlreadyGranted) None ≡ None → b ≡ false
     by true refused = cc

@@ -1,4 +1,4 @@
--- What is kept of each tenant after one entry more.
+-- What is kept of each tenant after one entry more, and which changes its rows refuse.
 use Rattle.std.proofs.Common.{ℕ, Bool, true, false, cond, not, List, [], ◌∷◌, ◌++◌, ◌+◌, ◌≤◌, ◌<◌, ◌^◌, arith, ◌≡◌, ◌∙◌, ◌||◌, ◌&&◌, sym, ap, refl, subst, length, Option, Some, None, unwrap_or, length-append}
 use Rattle.std.specs.Ordering.{eq_by_cmp}
 use Rattle.std.specs.BTreeMap.{BTreeMap, get}
@@ -11,10 +11,11 @@ use Rattle.credential_text.specs.Credential.{credential_order}
 use Rattle.vaults.specs.declared.changes.Change.{Change}
 use Rattle.vaults.specs.declared.changes.Change.TheVariants.{Upload, Withdraw, Grant, Revoke, GrantAll, RevokeAll}
 use Rattle.vaults.specs.declared.changes.Entry.{Entry}
-use Rattle.vaults.specs.declared.faults.VaultFault.TheVariants.{NotIssuer, AlreadyHeld, NotHeld}
+use Rattle.vaults.specs.declared.faults.VaultFault.{VaultFault}
+use Rattle.vaults.specs.declared.faults.VaultFault.TheVariants.{NotIssuer, AlreadyHeld, NotHeld, Memory}
 use Rattle.vaults.specs.Journal.{moves, concerns, uploads, grants, entry_is, entries_of, last_entry, holds, granted, vault, readers, refusal}
-use Rattle.vaults.specs.Page.{PageState, empty_page, page_at, page_of, rows_after, readers_after, page_after, is_due}
-use Rattle.vaults.specs.Book.{ArePages, KeepsChange}
+use Rattle.vaults.specs.Page.{PageState, empty_page, page_at, page_of, rows_after, readers_after, page_after, page_fault, is_due}
+use Rattle.vaults.specs.Book.{ArePages, KeepsChange, early_refusal}
 use Rattle.vaults.proofs.Elements.{has, same_in_order, has-insert_key, sorted-insert_key, has-without, sorted-without, same_from_tied, tied_both_ways}
 use Rattle.names.proofs.SameNames.{is_same_tied, same_from_is_same, is_same_itself}
 use Rattle.vaults.proofs.Orders.{credentials_exact, names_exact}
@@ -218,17 +219,62 @@ due journal who (Revoke reader) accepted = refl
 due journal who GrantAll accepted = refl
 due journal who RevokeAll accepted = refl
 
-pub page_due : (journal now : List Entry) (pages : BTreeMap (List ℕ) PageState) (who : List ℕ) (change : Change) → journal ≡ now → ArePages journal pages → None ≡ refusal now who change →
-    is_due change (page_at pages who).rows ≡ true
-page_due journal now pages who change is right accepted =
-    ap (λ (k : PageState). is_due change k.rows) (right who) ∙ due journal who change (sym (subst (λ (j : List Entry). None ≡ refusal j who change) (sym is) accepted))
+-- where nothing refuses a change before its rows are looked at, they decide
+decided : (journal : List Entry) (who : List ℕ) (change : Change) → early_refusal journal who change ≡ None →
+    refusal journal who change ≡ cond (is_due change (vault journal who)) None (Some AlreadyHeld)
+decided journal who (Upload c) early =
+    by (is_same c.head.owner who) (holds journal who c) early
+    ∙ ap (λ (b : Bool). cond (not b) None (Some AlreadyHeld)) (sym (has-vault journal who c))
+  where
+    by : (s h : Bool) → cond s None (Some NotIssuer) ≡ None →
+        cond (not s) (Some NotIssuer) (cond h (Some AlreadyHeld) None) ≡ cond (not (s && h)) None (Some AlreadyHeld)
+    by true true early = refl
+    by true false early = refl
+    by false h refused = cc
+decided journal who (Withdraw c) early =
+    early ∙ ap (λ (b : Bool). cond b None (Some AlreadyHeld)) (sym (due journal who (Withdraw c) early))
+decided journal who (Grant reader) early = early
+decided journal who (Revoke reader) early = early
+decided journal who GrantAll early = early
+decided journal who RevokeAll early = early
 
--- an accepted change, entered in the journal and kept on the pages: now is the journal, and after is it with its entry
-pub pages_after : (journal now before after : List Entry) (who : List ℕ) (change : Change) (old new : BTreeMap (List ℕ) PageState) → journal ≡ now → None ≡ refusal now who change →
+-- but for an upload's, they are as it needs them
+pub page_due : (journal : List Entry) (pages : BTreeMap (List ℕ) PageState) (who : List ℕ) (change : Change) → ArePages journal pages → early_refusal journal who change ≡ None →
+    uploads change ≡ false → is_due change (page_at pages who).rows ≡ true
+page_due journal pages who change right early other = ap (λ (k : PageState). is_due change k.rows) (right who) ∙ by change early other
+  where
+    by : (x : Change) → early_refusal journal who x ≡ None → uploads x ≡ false → is_due x (vault journal who) ≡ true
+    by (Upload c) early upload = cc
+    by (Withdraw c) early other = due journal who (Withdraw c) early
+    by (Grant reader) early other = refl
+    by (Revoke reader) early other = refl
+    by GrantAll early other = refl
+    by RevokeAll early other = refl
+
+-- the change that they let be made is accepted
+pub page_accepts : (journal : List Entry) (pages : BTreeMap (List ℕ) PageState) (who : List ℕ) (change : Change) → ArePages journal pages → early_refusal journal who change ≡ None →
+    is_due change (page_at pages who).rows ≡ true → refusal journal who change ≡ None
+page_accepts journal pages who change right early made =
+    decided journal who change early
+    ∙ ap (λ (b : Bool). cond b None (Some AlreadyHeld)) (ap (λ (k : PageState). is_due change k.rows) (sym (right who)) ∙ made)
+
+-- and the fault of one that isn't made is its refusal, or want of memory
+pub page_refuses : (journal : List Entry) (pages : BTreeMap (List ℕ) PageState) (who : List ℕ) (change : Change) (fault : VaultFault) → ArePages journal pages →
+    early_refusal journal who change ≡ None → fault ≡ page_fault change (page_at pages who).rows → fault ≡ unwrap_or (refusal journal who change) Memory
+page_refuses journal pages who change fault right early is =
+    is ∙ ap (λ (k : PageState). page_fault change k.rows) (right who) ∙ by (is_due change (vault journal who))
+    ∙ ap (λ (o : Option VaultFault). unwrap_or o Memory) (sym (decided journal who change early))
+  where
+    by : (b : Bool) → cond b Memory AlreadyHeld ≡ unwrap_or (cond b None (Some AlreadyHeld)) Memory
+    by true = refl
+    by false = refl
+
+-- an accepted change, entered in the journal and kept on the pages: before is the journal, and after is it with its entry
+pub pages_after : (journal before after : List Entry) (who : List ℕ) (change : Change) (old new : BTreeMap (List ℕ) PageState) → refusal journal who change ≡ None →
     ArePages journal old → KeepsChange who change old new → before ≡ journal → after ≡ before ++ entry who change ∷ [] → ArePages after new
-pages_after journal now before after who change old new is accepted right keeps same entered =
+pages_after journal before after who change old new accepted right keeps same entered =
     subst (λ (j : List Entry). ArePages j new) (sym (entered ∙ ap (λ (j : List Entry). j ++ entry who change ∷ []) same))
-    (pages_push journal who change old new (sym (subst (λ (j : List Entry). None ≡ refusal j who change) (sym is) accepted)) right keeps)
+    (pages_push journal who change old new accepted right keeps)
 
 pub count_after : (journal before after : List Entry) (who : List ℕ) (change : Change) (pages : BTreeMap (List ℕ) PageState) (n : ℕ) → ArePages journal pages →
     n ≡ (page_at pages who).changes + 1 → before ≡ journal → after ≡ before ++ entry who change ∷ [] → n ≡ length (entries_of who after)

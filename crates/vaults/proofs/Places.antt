@@ -7,6 +7,7 @@ use Rattle.std.specs.declared.cmp.Ordering.{Ordering}
 use Rattle.std.specs.declared.cmp.Ordering.TheVariants.{Less, Equal, Greater}
 use Rattle.std.specs.Ordering.{eq_by_cmp, is_eq, is_lt, match_ordering}
 use Rattle.std.proofs.lemmas.Bool.{cases_lt, or_parts}
+use Rattle.std.proofs.lemmas.Option.{slice_get_read, get_or_from_slice_get}
 use Rattle.std.proofs.lemmas.List.Elements.{All-from_recursion, All-weaker}
 use Rattle.std.proofs.lemmas.List.Sorted.{searchable_from_sorted}
 use Rattle.std.proofs.lemmas.List.Folds.{list_any_none, list_any_at}
@@ -22,6 +23,32 @@ module _ {K : Type 0} {R : K → K → Ordering} (o : IsExactOrder R) where
   pub place_found : (xs : List K) (x : K) (r : Result ℕ ℕ) → IsStrictlySortedBy R xs → IsSearchInRange r (length xs) → IsBinarySearchResult (λ y. R y x) xs r → IsPlace R xs x r
   place_found xs x (Ok i) sorted within found = (within, found)
   place_found xs x (Err i) sorted within found = (within, found (searchable_from_sorted o.total (λ (y : K). y) xs x (rises xs sorted)))
+
+  -- what is above the last of a list in order would stand behind it
+  pub place_behind : (xs : List K) (x last : K) (n : ℕ) → IsStrictlySortedBy R xs → n + 1 ≡ length xs → last ≡ get_or xs n last → is_lt (R last x) ≡ true → IsPlace R xs x (Err (length xs))
+  place_behind xs x last n sorted long at above = (
+    omega arith,
+    (λ k d low high. below k d high, λ k d low high. absurd (omega (arith, low, high))),
+  )
+    where
+      less : (r : Ordering) → is_lt r ≡ true → r ≡ Less
+      less Less e = refl
+      less Equal e = cc
+      less Greater e = cc
+
+      is : (d : K) → get_or xs n d ≡ last
+      is d = get_or_from_slice_get xs n last d (slice_get_read xs (length xs) n last refl (omega (arith, long)) at)
+
+      below : (k : ℕ) (d : K) → k < length xs → R (get_or xs k d) x ≡ Less
+      below k d within = elim (cases_lt k n) [
+        | inl before ↦
+            o.total.trans (get_or xs k d) last x
+            (subst (λ (y : K). R (get_or xs k d) y ≡ Less) (is d) (Less-from_sorted R xs k n d sorted before (omega (arith, long))))
+            (less (R last x) above)
+        | inr behind ↦
+            let same : n ≡ k = omega (arith, behind, within, long) in
+            subst (λ (y : K). R y x ≡ Less) (sym (ap (λ (m : ℕ). get_or xs m d) (sym same) ∙ is d)) (less (R last x) above)
+      ]
 
   -- what stands behind in a list in order is in order
   pub sorted_behind : (n : ℕ) (xs : List K) → IsStrictlySortedBy R xs → IsStrictlySortedBy R (drop n xs)

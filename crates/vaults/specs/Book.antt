@@ -1,12 +1,15 @@
 -- What a book keeps beside its journal, which is what contracts see of it.
-use Rattle.std.specs.Prelude.{ℕ, Bool, List, [], ◌≡◌, ◌&&◌, unwrap_or, if◌then◌else◌}
+use Rattle.std.specs.Prelude.{ℕ, Bool, List, [], ◌≡◌, ◌&&◌, Option, Some, None, unwrap_or, if◌then◌else◌}
 use Rattle.std.specs.List.{list_any}
 use Rattle.std.specs.Ordering.{eq_by_cmp}
 use Rattle.std.specs.BTreeMap.{BTreeMap, get}
 use Rattle.names.specs.Name.{is_same, name_order}
 use Rattle.vaults.specs.declared.changes.Change.{Change}
+use Rattle.vaults.specs.declared.changes.Change.TheVariants.{Upload}
 use Rattle.vaults.specs.declared.changes.Entry.{Entry}
-use Rattle.vaults.specs.Journal.{concerns, grants, granted, is_for_all, grants_all, is_public, AreAccepted}
+use Rattle.vaults.specs.declared.faults.VaultFault.{VaultFault}
+use Rattle.vaults.specs.declared.faults.VaultFault.TheVariants.{NotIssuer}
+use Rattle.vaults.specs.Journal.{concerns, grants, granted, is_for_all, grants_all, is_public, refusal, AreAccepted}
 use Rattle.vaults.specs.Page.{PageState, page_at, page_of, page_after}
 
 -- each tenant's page is what the journal gives it
@@ -36,6 +39,11 @@ pub record IsBook (journal : List Entry) (pages : BTreeMap (List ℕ) PageState)
   pub pages_are : ArePages journal pages
   pub granting_are : AreGranting journal granting
   pub public_are : ArePublic journal public
+
+-- the refusal that a change is due before its rows are looked at: an upload's page says itself whether they have it
+abbrev pub early_refusal : List Entry → List ℕ → Change → Option VaultFault
+early_refusal journal who (Upload c) = if is_same c.head.owner who then None else Some NotIssuer
+early_refusal journal who other = refusal journal who other
 
 -- the change is kept on the tenant's page, and every other page is as it was
 abbrev pub KeepsChange : List ℕ → Change → BTreeMap (List ℕ) PageState → BTreeMap (List ℕ) PageState → Type 0

@@ -1,5 +1,5 @@
 -- What is kept of one tenant beside the journal.
-use Rattle.std.specs.Prelude.{ℕ, Bool, true, not, List, [], ◌+◌, length, unwrap_or}
+use Rattle.std.specs.Prelude.{ℕ, Bool, true, not, List, [], ◌+◌, length, unwrap_or, if◌then◌else◌}
 use Rattle.std.specs.List.{list_any}
 use Rattle.std.specs.Ordering.{eq_by_cmp}
 use Rattle.std.specs.BTreeMap.{BTreeMap, get}
@@ -10,6 +10,8 @@ use Rattle.credential_text.specs.Credential.{credential_order}
 use Rattle.vaults.specs.declared.changes.Change.{Change}
 use Rattle.vaults.specs.declared.changes.Change.TheVariants.{Upload, Withdraw, Grant, Revoke, GrantAll, RevokeAll}
 use Rattle.vaults.specs.declared.changes.Entry.{Entry}
+use Rattle.vaults.specs.declared.faults.VaultFault.{VaultFault}
+use Rattle.vaults.specs.declared.faults.VaultFault.TheVariants.{AlreadyHeld, Memory}
 use Rattle.vaults.specs.InOrder.{without}
 use Rattle.vaults.specs.Journal.{entries_of, vault, readers}
 
@@ -42,6 +44,10 @@ is_due (Grant reader) rows = true
 is_due (Revoke reader) rows = true
 is_due GrantAll rows = true
 is_due RevokeAll rows = true
+
+-- why an upload isn't made of the rows: what it puts is there, or else memory lacks
+abbrev pub page_fault : Change → List Credential → VaultFault
+page_fault change rows = if is_due change rows then Memory else AlreadyHeld
 
 -- the rows after a change
 abbrev pub rows_after : Change → List Credential → List Credential

@@ -7,7 +7,7 @@ ghost use Rattle.credential_text.specs.Credential.{credential_order};
 ghost use Rattle.vaults.specs.InOrder.{without};
 ghost use Rattle.vaults.specs.Blocks.{begins_above};
 
-use crate::rows::{Row, place_of};
+use crate::rows::{Row, place_of, place_to_put};
 use crate::shared_rows::{insert_row, part_rows, remove_row};
 use credential_text::Credential;
 use std::alloc::{AllocError, Global};
@@ -90,7 +90,7 @@ impl Block {
         ensures unchanged { OnErr result (self.new ≡ self.old) }
         ensures growth { OnErr result (list_any (eq_by_cmp credential_order credential.now) self.old ≡ false) }
     {
-        match place_of(self.rows(), credential) {
+        match place_to_put(self.rows(), credential) {
             Ok(_) => Ok(false),
             Err(place) => {
                 let row = Row::of(*self.rows.allocator(), credential)?;

@@ -3,10 +3,10 @@ ghost use Rattle.std.specs.Prelude.{true, false, IsSome, IsOk, IfOk, IfErr, OnOk
 ghost use Rattle.std.specs.BTreeMap.{get};
 ghost use Rattle.names.specs.Name.{name_order};
 ghost use Rattle.vaults.specs.Journal.{entries_of, holds, granted, is_public, reads, revokes, refusal, AreAccepted};
-ghost use Rattle.vaults.specs.Journal.{vault, readers, grant_count, one_if, marked_names};
-ghost use Rattle.vaults.specs.Page.{page_at, is_due};
+ghost use Rattle.vaults.specs.Journal.{vault, readers, grant_count, one_if, marked_names, uploads};
+ghost use Rattle.vaults.specs.Page.{page_at, page_fault, is_due};
 ghost use Rattle.vaults.specs.Version.{version_rows};
-ghost use Rattle.vaults.specs.Book.{is_granting, is_listed, KeepsChange, IsUnchanged, KeepsGrant, SameGranting, KeepsPublic, SamePublic};
+ghost use Rattle.vaults.specs.Book.{early_refusal, is_granting, is_listed, KeepsChange, IsUnchanged, KeepsGrant, SameGranting, KeepsPublic, SamePublic};
 ghost use Rattle.vaults.specs.declared.changes.Change.TheVariants.{Grant, Revoke, GrantAll};
 
 use crate::changes::Change;
@@ -95,19 +95,33 @@ impl Book {
         ensures unchanged { OnErr result (self.new ≡ self.old) }
         ensures revocable { revokes change ≡ true → refusal self.old who change ≡ None → IsOk result }
     {
-        if let Some(fault) = self.refusal_of(&who, &change) {
+        self.enter(who, &change)
+    }
+
+    /// Enters a change that stays the caller's, as `change` does. An upload's row is looked up where it is put.
+    pub fn enter(&mut self, who: Entity, change: &Change) -> Result<u64, VaultFault>
+        ensures accepted { OnOk result (refusal self.old who change.now ≡ None) }
+        ensures entered { OnOk result (self.new ≡ self.old ++ record { tenant = who; change = change.now } ∷ []) }
+        ensures counted { IfOk result (λ n. n ≡ length (entries_of who self.new)) }
+        ensures refused { IfErr result (λ f. f ≡ unwrap_or (refusal self.old who change.now) VaultFault.Memory) }
+        ensures unchanged { OnErr result (self.new ≡ self.old) }
+        ensures revocable { revokes change.now ≡ true → refusal self.old who change.now ≡ None → IsOk result }
+    {
+        if let Some(fault) = self.early_refusal_of(&who, change) {
             return Err(fault);
         }
-        self.journal.prepare(&who, &change)?;
+        if let Err(lack) = self.journal.prepare(&who, change) {
+            return Err(self.refusal_of(&who, change).unwrap_or(lack.into()));
+        }
         let count = keep(
             self.alloc,
             &mut self.pages,
             &mut self.granting,
             &mut self.public,
             who,
-            &change,
+            change,
         )?;
-        self.journal.enter(&who, &change);
+        self.journal.enter(&who, change);
         Ok(count)
     }
 
@@ -115,9 +129,21 @@ impl Book {
     pub fn refusal_of(&self, who: &Entity, change: &Change) -> Option<VaultFault>
         ensures { result ≡ refusal self.now who.now change.now }
     {
+        match change {
+            Change::Upload(credential)
+                if credential.head.owner == *who && self.holds(who, credential) => {
+                Some(VaultFault::AlreadyHeld)
+            }
+            _ => self.early_refusal_of(who, change),
+        }
+    }
+
+    /// The refusal that the change is due before its rows are looked at.
+    fn early_refusal_of(&self, who: &Entity, change: &Change) -> Option<VaultFault>
+        ensures { result ≡ early_refusal self.now who.now change.now }
+    {
         let fault = match change {
             Change::Upload(credential) if credential.head.owner != *who => VaultFault::NotIssuer,
-            Change::Upload(credential) if self.holds(who, credential) => VaultFault::AlreadyHeld,
             Change::Withdraw(credential) if credential.head.owner != *who => VaultFault::NotIssuer,
             Change::Withdraw(credential) if !self.holds(who, credential) => VaultFault::NotHeld,
             Change::Grant(reader) if *reader == *who => VaultFault::GrantSelf,
@@ -277,7 +303,7 @@ impl Book {
 }
 
 /// Keeps the change on the tenant's page and for the readers that it concerns, and answers how many changes stand on the
-/// page.
+/// page. An upload of what is there is refused.
 fn keep(
     alloc: Global,
     pages: &mut BTreeMap<Entity, Page>,
@@ -285,15 +311,17 @@ fn keep(
     public: &mut NameSet,
     who: Entity,
     change: &Change,
-) -> Result<u64, AllocError>
+) -> Result<u64, VaultFault>
     requires fits { (page_at pages.old who).changes + 1 < 2 ^ 64 }
-    requires due { is_due change.now (page_at pages.old who).rows ≡ true }
+    requires due { uploads change.now ≡ false → is_due change.now (page_at pages.old who).rows ≡ true }
     requires first { (reader : List ℕ) → change.now ≡ Grant reader → is_granting granting.old who reader ≡ false }
     requires first_for_all { change.now ≡ GrantAll → is_listed public.old who ≡ false }
     ensures kept { OnOk result (KeepsChange who change.now pages.old pages.new) }
     ensures grant { OnOk result (KeepsGrant who change.now granting.old granting.new) }
     ensures public { OnOk result (KeepsPublic who change.now public.old public.new) }
+    ensures due { OnOk result (is_due change.now (page_at pages.old who).rows ≡ true) }
     ensures count { IfOk result (λ n. n ≡ (page_at pages.old who).changes + 1) }
+    ensures refused { IfErr result (λ f. f ≡ page_fault change.now (page_at pages.old who).rows) }
     ensures unchanged { OnErr result (IsUnchanged pages.old pages.new) }
     ensures same_granting { OnErr result (SameGranting granting.old granting.new) }
     ensures same_public { OnErr result (SamePublic public.old public.new) }
@@ -374,17 +402,19 @@ fn granting_names(
     }
 }
 
-/// Keeps the change on the tenant's page, and answers how many changes stand there.
+/// Keeps the change on the tenant's page, and answers how many changes stand there. An upload of what is there is refused.
 fn keep_on_page(
     alloc: Global,
     pages: &mut BTreeMap<Entity, Page>,
     who: Entity,
     change: &Change,
-) -> Result<u64, AllocError>
+) -> Result<u64, VaultFault>
     requires fits { (page_at pages.old who).changes + 1 < 2 ^ 64 }
-    requires due { is_due change.now (page_at pages.old who).rows ≡ true }
+    requires due { uploads change.now ≡ false → is_due change.now (page_at pages.old who).rows ≡ true }
     ensures kept { OnOk result (KeepsChange who change.now pages.old pages.new) }
+    ensures due { OnOk result (is_due change.now (page_at pages.old who).rows ≡ true) }
     ensures count { IfOk result (λ n. n ≡ (page_at pages.old who).changes + 1) }
+    ensures refused { IfErr result (λ f. f ≡ page_fault change.now (page_at pages.old who).rows) }
     ensures unchanged { OnErr result (IsUnchanged pages.old pages.new) }
     ensures revocable { revokes change.now ≡ true → IsSome (get name_order pages.old who) → IsOk result }
 {
@@ -393,8 +423,10 @@ fn keep_on_page(
         None => {
             let mut page = Page::new(alloc);
             let count = page.keep(change)?;
-            pages.insert(who, page)?;
-            Ok(count)
+            match pages.insert(who, page) {
+                Ok(_none) => Ok(count),
+                Err(refused) => Err(AllocError::from(refused).into()),
+            }
         }
     }
 }

@@ -64,6 +64,7 @@ impl OwnRows {
         ensures put { OnOk result (self.new ≡ insert_key credential_order self.old credential.now) }
         ensures missed { IfOk result (λ missed. missed ≡ not (list_any (eq_by_cmp credential_order credential.now) self.old)) }
         ensures unchanged { OnErr result (self.new ≡ self.old) }
+        ensures same { IfOk result (λ missed. missed ≡ false → self.new ≡ self.old) }
         ensures growth { OnErr result (list_any (eq_by_cmp credential_order credential.now) self.old ≡ false) }
     {
         if self.count == usize::MAX {

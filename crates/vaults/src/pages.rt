@@ -1,13 +1,15 @@
-ghost use Rattle.std.specs.Prelude.{◌≡◌, ◌+◌, ◌<◌, ◌^◌, true, IsOk, IfOk, OnOk, OnErr, length};
+ghost use Rattle.std.specs.Prelude.{◌≡◌, ◌+◌, ◌<◌, ◌^◌, true, false, IsOk, IfOk, IfErr, OnOk, OnErr, length};
 ghost use Rattle.std.specs.List.{list_any};
 ghost use Rattle.std.specs.Ordering.{eq_by_cmp};
 ghost use Rattle.names.specs.Name.{name_order};
 ghost use Rattle.credential_text.specs.Credential.{credential_order};
-ghost use Rattle.vaults.specs.Journal.{revokes};
+ghost use Rattle.vaults.specs.Journal.{revokes, uploads};
 ghost use Rattle.vaults.specs.Version.{version_rows};
-ghost use Rattle.vaults.specs.Page.{empty_page, page_after, is_due};
+ghost use Rattle.vaults.specs.Page.{empty_page, page_after, page_fault, rows_after, is_due};
+ghost use Rattle.vaults.specs.declared.changes.Change.TheVariants.{Upload};
 
 use crate::changes::Change;
+use crate::faults::VaultFault;
 use crate::name_sets::NameSet;
 use crate::own_rows::OwnRows;
 use crate::versions::{Version, shared};
@@ -113,20 +115,19 @@ impl Page {
         self.readers.has(reader)
     }
 
-    /// Keeps one change more, and answers how many there are.
-    pub fn keep(&mut self, change: &Change) -> Result<u64, AllocError>
+    /// Keeps one change more, and answers how many there are. An upload of what is there is refused.
+    pub fn keep(&mut self, change: &Change) -> Result<u64, VaultFault>
         requires fits { self.old.changes + 1 < 2 ^ 64 }
-        requires due { is_due change.now self.old.rows ≡ true }
+        requires due { uploads change.now ≡ false → is_due change.now self.old.rows ≡ true }
         ensures kept { OnOk result (self.new ≡ page_after change.now self.old) }
+        ensures due { OnOk result (is_due change.now self.old.rows ≡ true) }
         ensures count { IfOk result (λ n. n ≡ self.old.changes + 1) }
+        ensures refused { IfErr result (λ f. f ≡ page_fault change.now self.old.rows) }
         ensures revocable { revokes change.now ≡ true → IsOk result }
         ensures unchanged { OnErr result (self.new ≡ self.old) }
     {
         match change {
-            Change::Upload(credential) => {
-                self.version = None;
-                self.own.put(credential)?;
-            }
+            Change::Upload(credential) => self.put(credential)?,
             Change::Withdraw(credential) => {
                 self.version = None;
                 self.own.take_out(credential)?;
@@ -137,5 +138,24 @@ impl Page {
         }
         self.changes += 1;
         Ok(self.changes)
+    }
+
+    /// Puts the credential into its place among the rows, where it isn't there yet. What was shared before goes first, since
+    /// the block that takes the row would have to be copied.
+    fn put(&mut self, credential: &Credential) -> Result<(), VaultFault>
+        ensures put { OnOk result (self.new ≡ record self.old { rows = rows_after (Upload credential.now) self.old.rows }) }
+        ensures due { OnOk result (is_due (Upload credential.now) self.old.rows ≡ true) }
+        ensures refused { IfErr result (λ f. f ≡ page_fault (Upload credential.now) self.old.rows) }
+        ensures unchanged { OnErr result (self.new ≡ self.old) }
+    {
+        if self.version.is_some() && self.own.has(credential) {
+            return Err(VaultFault::AlreadyHeld);
+        }
+        self.version = None;
+        if self.own.put(credential)? {
+            Ok(())
+        } else {
+            Err(VaultFault::AlreadyHeld)
+        }
     }
 }

@@ -63,3 +63,17 @@ pub fn place_of(rows: &[Row], credential: &Credential) -> Result<usize, usize>
 {
     rows.binary_search_by(|row| row.credential().compare(credential))
 }
+
+/// The same among some rows for one that is to be put there. It is held against the last row first, since what is put in
+/// order goes behind that.
+pub fn place_to_put(rows: &[Row], credential: &Credential) -> Result<usize, usize>
+    requires some { 0 < length rows.now }
+    requires in_order { IsStrictlySortedBy credential_order rows.now }
+    ensures { IsPlace credential_order rows.now credential.now result }
+{
+    let last = rows.len() - 1;
+    if rows[last].credential().compare(credential).is_lt() {
+        return Err(rows.len());
+    }
+    place_of(rows, credential)
+}

@@ -2,6 +2,7 @@ use Rattle.std.proofs.Common.{ℕ, List, true, false, ◌≡◌, ◌∙◌, Resu
 use Rattle.std.proofs.lemmas.Result.{err_from_is_err_and}
 use Rattle.vaults.specs.declared.changes.Change.{Change}
 use Rattle.vaults.specs.Journal.{concerns, is_for_all, revokes}
+use Rattle.vaults.specs.Page.{page_at, page_fault}
 use Rattle.vaults.specs.Book.{KeepsGrant, KeepsPublic, is_listed}
 use Rattle.vaults.proofs.Granting.{granting_stays, public_stays, of_rows, granting_undone, public_undone, public_added, public_dropped}
 use Rattle.vaults.proofs.Outcomes.{on_ok, on_err}
@@ -22,6 +23,8 @@ returns-in_err-add_granting-in-Grant c =
       kept = tt;
       grant = tt;
       public = tt;
+      due = tt;
+      refused = p.2 ∙ ap (λ (x : Change). page_fault x (page_at c.args.pages.now c.args.who).rows) (sym c.in-Grant.is);
       count = tt;
       unchanged = λ tenant. refl;
       same_granting = c.in_err-add_granting-in-Grant.ensures.unchanged;
@@ -34,6 +37,8 @@ returns-then-is_err c = record {
   kept = c.keep_on_page-kept.ensures.kept;
   grant = none_on_ok _ c.keep_on_page-kept.result (sym c.is_err.ensures.value ∙ c.if-is_err.true);
   public = none_on_ok _ c.keep_on_page-kept.result (sym c.is_err.ensures.value ∙ c.if-is_err.true);
+  due = c.keep_on_page-kept.ensures.due;
+  refused = c.keep_on_page-kept.ensures.refused;
   count = c.keep_on_page-kept.ensures.count;
   unchanged = c.keep_on_page-kept.ensures.unchanged;
   same_granting = on_err c.keep_on_page-kept.result (granting_undone c.args.who c.in-Grant.reader c.args.granting.now c.add_granting.new.granting c.drop_granting.new.granting
@@ -47,6 +52,8 @@ returns-else-is_err c = record {
   kept = c.keep_on_page-kept.ensures.kept;
   grant = on_ok c.keep_on_page-kept.result (subst (λ (x : Change). KeepsGrant c.args.who x c.args.granting.now c.add_granting.new.granting) (sym c.in-Grant.is) c.in_ok-add_granting-in-Grant.ensures.kept);
   public = on_ok c.keep_on_page-kept.result (public_stays c.args.who c.args.change.now c.args.public.now (ap is_for_all c.in-Grant.is));
+  due = c.keep_on_page-kept.ensures.due;
+  refused = c.keep_on_page-kept.ensures.refused;
   count = c.keep_on_page-kept.ensures.count;
   unchanged = c.keep_on_page-kept.ensures.unchanged;
   same_granting = none_on_err _ c.keep_on_page-kept.result (sym c.is_err.ensures.value ∙ c.if-is_err.false);
@@ -61,6 +68,8 @@ returns-in_err-count-in-Revoke c =
       kept = tt;
       grant = tt;
       public = tt;
+      due = tt;
+      refused = p.2 ∙ c.in_err-count-in-Revoke.ensures.refused;
       count = tt;
       unchanged = c.in_err-count-in-Revoke.ensures.unchanged;
       same_granting = λ owner reader. refl;
@@ -73,6 +82,8 @@ returns-in_ok-count-in-Revoke c = record {
   kept = c.in_ok-count-in-Revoke.ensures.kept;
   grant = subst (λ (x : Change). KeepsGrant c.args.who x c.args.granting.now c.drop_granting-in-Revoke.new.granting) (sym c.in-Revoke.is) c.drop_granting-in-Revoke.ensures;
   public = public_stays c.args.who c.args.change.now c.args.public.now (ap is_for_all c.in-Revoke.is);
+  due = c.in_ok-count-in-Revoke.ensures.due;
+  refused = tt;
   count = c.in_ok-count-in-Revoke.ensures.count;
   unchanged = tt;
   same_granting = tt;
@@ -87,6 +98,8 @@ returns-in_err-add-in-GrantAll c =
       kept = tt;
       grant = tt;
       public = tt;
+      due = tt;
+      refused = p.2 ∙ ap (λ (x : Change). page_fault x (page_at c.args.pages.now c.args.who).rows) (sym c.in-GrantAll.is);
       count = tt;
       unchanged = λ tenant. refl;
       same_granting = λ owner reader. refl;
@@ -99,6 +112,8 @@ returns-then-is_err-2 c = record {
   kept = c.keep_on_page-counted.ensures.kept;
   grant = none_on_ok _ c.keep_on_page-counted.result (sym c.is_err-in-GrantAll.ensures.value ∙ c.if-is_err-2.true);
   public = none_on_ok _ c.keep_on_page-counted.result (sym c.is_err-in-GrantAll.ensures.value ∙ c.if-is_err-2.true);
+  due = c.keep_on_page-counted.ensures.due;
+  refused = c.keep_on_page-counted.ensures.refused;
   count = c.keep_on_page-counted.ensures.count;
   unchanged = c.keep_on_page-counted.ensures.unchanged;
   same_granting = on_err c.keep_on_page-counted.result (λ owner reader. refl);
@@ -114,6 +129,8 @@ returns-else-is_err-2 c = record {
   grant = on_ok c.keep_on_page-counted.result (granting_stays c.args.who c.args.change.now c.args.granting.now (λ reader. ap (concerns reader) c.in-GrantAll.is));
   public = on_ok c.keep_on_page-counted.result (subst (λ (x : Change). KeepsPublic c.args.who x c.args.public.now c.add.new.self)
       (sym c.in-GrantAll.is) (public_added _ _ _ c.in_ok-add-in-GrantAll.ensures.added));
+  due = c.keep_on_page-counted.ensures.due;
+  refused = c.keep_on_page-counted.ensures.refused;
   count = c.keep_on_page-counted.ensures.count;
   unchanged = c.keep_on_page-counted.ensures.unchanged;
   same_granting = on_err c.keep_on_page-counted.result (λ owner reader. refl);
@@ -128,6 +145,8 @@ returns-in_err-count-in-RevokeAll c =
       kept = tt;
       grant = tt;
       public = tt;
+      due = tt;
+      refused = p.2 ∙ c.in_err-count-in-RevokeAll.ensures.refused;
       count = tt;
       unchanged = c.in_err-count-in-RevokeAll.ensures.unchanged;
       same_granting = λ owner reader. refl;
@@ -141,6 +160,8 @@ returns-in_ok-count-in-RevokeAll c = record {
   grant = granting_stays c.args.who c.args.change.now c.args.granting.now (λ reader. ap (concerns reader) c.in-RevokeAll.is);
   public = subst (λ (x : Change). KeepsPublic c.args.who x c.args.public.now c.remove-in-RevokeAll.new.self)
       (sym c.in-RevokeAll.is) (public_dropped _ _ _ c.remove-in-RevokeAll.ensures);
+  due = c.in_ok-count-in-RevokeAll.ensures.due;
+  refused = tt;
   count = c.in_ok-count-in-RevokeAll.ensures.count;
   unchanged = tt;
   same_granting = tt;
@@ -155,6 +176,8 @@ returns-in-Upload c =
       kept = c.keep_on_page-in-Upload.ensures.kept;
       grant = on_ok c.keep_on_page-in-Upload.result (granting_stays c.args.who c.args.change.now c.args.granting.now none.0);
       public = on_ok c.keep_on_page-in-Upload.result (public_stays c.args.who c.args.change.now c.args.public.now none.1);
+      due = c.keep_on_page-in-Upload.ensures.due;
+      refused = c.keep_on_page-in-Upload.ensures.refused;
       count = c.keep_on_page-in-Upload.ensures.count;
       unchanged = c.keep_on_page-in-Upload.ensures.unchanged;
       same_granting = on_err c.keep_on_page-in-Upload.result (λ owner reader. refl);

@@ -1,9 +1,9 @@
-use Rattle.std.proofs.Common.{List, ℕ, Some, Option, unwrap_or, is_some, ◌≡◌, ◌∙◌, ◌+◌, sym, ap, refl, cond, subst, IfOk}
+use Rattle.std.proofs.Common.{List, ℕ, Some, Option, unwrap_or, is_some, ◌≡◌, ◌∙◌, ◌+◌, sym, ap, refl, cond, subst, true, IfOk, IfErr, OnOk}
 use Rattle.std.specs.Ordering.{eq_by_cmp}
 use Rattle.std.proofs.lemmas.Result.{on_ok_weaker, on_err_weaker}
 use Rattle.std.specs.BTreeMap.{BTreeMap, get}
 use Rattle.names.specs.Name.{name_order}
-use Rattle.vaults.specs.Page.{PageState, empty_page, page_after, page_at}
+use Rattle.vaults.specs.Page.{PageState, empty_page, page_after, page_at, page_fault, is_due}
 use Rattle.vaults.proofs.PageWrites.{page_there, page_kept, page_same}
 use Rattle.vaults.proofs.books.keep_on_page.Goals as goal
 
@@ -16,6 +16,8 @@ returns-in-Some c =
           (λ kept. page_kept c.args.who c.args.change.now c.args.pages.now (c.get_mut.follows.lender c.keep.new.self) c.keep.new.self
           (kept ∙ ap (page_after c.args.change.now) there) written)
           c.keep.ensures.kept;
+      due = subst (λ (p : PageState). OnOk c.keep.result (is_due c.args.change.now p.rows ≡ true)) there c.keep.ensures.due;
+      refused = subst (λ (p : PageState). IfErr c.keep.result (λ f. f ≡ page_fault c.args.change.now p.rows)) there c.keep.ensures.refused;
       count = subst (λ (p : PageState). IfOk c.keep.result (λ n. n ≡ p.changes + 1)) there c.keep.ensures.count;
       unchanged = on_err_weaker c.keep.result
           (λ same. page_same c.args.who c.args.pages.now (c.get_mut.follows.lender c.keep.new.self) c.keep.new.self (same ∙ there) written)
@@ -23,17 +25,11 @@ returns-in-Some c =
       revocable = λ revoked there. c.keep.ensures.revocable revoked;
     }
 
-pub returns-in_ok-insert-in-None : goal.returns-in_ok-insert-in-None
-returns-in_ok-insert-in-None c =
-    let there = c.new-page.ensures ∙ ap (λ (o : Option PageState). unwrap_or o empty_page) c.in-None.ensures.value in
-    let after : c.keep-in-None.new.self ≡ page_after c.args.change.now (page_at c.args.pages.now c.args.who) =
-    c.in_ok-count-in-None.ensures.kept ∙ ap (page_after c.args.change.now) there in
-    record {
-      kept = page_kept c.args.who c.args.change.now c.args.pages.now c.insert.new.self c.keep-in-None.new.self after
-          (λ tenant.
-          c.in_ok-insert-in-None.ensures.updates.0 tenant
-          ∙ ap (λ (m : BTreeMap (List ℕ) PageState). cond (eq_by_cmp name_order c.args.who tenant) (Some c.keep-in-None.new.self) (get name_order m tenant)) c.get_mut.follows.holds-at-none);
-      count = c.in_ok-count-in-None.ensures.count ∙ ap (λ (p : PageState). p.changes + 1) there;
-      unchanged = tt;
-      revocable = λ revoked there. refl;
-    }
+pub returns-in-Ok-clause-kept : goal.returns-in-Ok-clause-kept
+returns-in-Ok-clause-kept c =
+    page_kept c.args.who c.args.change.now c.args.pages.now c.insert.new.self c.keep-in-None.new.self
+    (c.in_ok-count-in-None.ensures.kept
+    ∙ ap (page_after c.args.change.now) (c.new-page.ensures ∙ ap (λ (o : Option PageState). unwrap_or o empty_page) c.in-None.ensures.value))
+    (λ tenant.
+    c.in-Ok.ensures.updates.0 tenant
+    ∙ ap (λ (m : BTreeMap (List ℕ) PageState). cond (eq_by_cmp name_order c.args.who tenant) (Some c.keep-in-None.new.self) (get name_order m tenant)) c.get_mut.follows.holds-at-none)

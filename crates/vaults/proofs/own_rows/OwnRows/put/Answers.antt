@@ -21,6 +21,13 @@ pub returns-then-has-clause-put : goal.returns-then-has-clause-put
 returns-then-has-clause-put c =
     insert_key-present credentials_exact c.args.self.now c.args.credential.now (subst (IsStrictlySortedBy credential_order) c.self.view_is c.self.invariant.in_order) (sym c.has.ensures ∙ c.if-has.true)
 
+pub returns-else-missed-clause-same : goal.returns-else-missed-clause-same
+returns-else-missed-clause-same c = λ none.
+    c.in_ok-missed.ensures.put
+    ∙ sym (insert_key-present credentials_exact (rows_in c.self.inside.blocks.items) c.args.credential.now c.self.invariant.in_order
+    (is_true (has credential_order (rows_in c.self.inside.blocks.items) c.args.credential.now) (sym c.in_ok-missed.ensures.missed ∙ none)))
+    ∙ c.self.view_is
+
 pub invariant_of-self-then-missed : goal.invariant_of-self-then-missed
 invariant_of-self-then-missed c =
     let rows : List Credential = rows_in c.self.inside.blocks.items in
