@@ -6,7 +6,8 @@ ghost use Rattle.vaults.specs.Journal.{entries_of, holds, granted, is_public, re
 ghost use Rattle.vaults.specs.Journal.{vault, readers, grant_count, one_if, marked_names, uploads};
 ghost use Rattle.vaults.specs.Page.{page_at, page_fault, is_due};
 ghost use Rattle.vaults.specs.Version.{version_rows};
-ghost use Rattle.vaults.specs.Book.{early_refusal, is_granting, is_listed, KeepsChange, IsUnchanged, KeepsGrant, SameGranting, KeepsPublic, SamePublic};
+ghost use Rattle.vaults.specs.Book.{is_granting, is_listed, KeepsChange, IsUnchanged, KeepsGrant, SameGranting, KeepsPublic, SamePublic};
+ghost use Rattle.vaults.specs.Book.{early_refusal};
 ghost use Rattle.vaults.specs.declared.changes.Change.TheVariants.{Grant, Revoke, GrantAll};
 
 use crate::changes::Change;
