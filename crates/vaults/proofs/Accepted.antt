@@ -6,15 +6,14 @@ use Rattle.credential_text.specs.declared.credentials.Credential.{Credential}
 use Rattle.credential_text.specs.Credential.{credential_order}
 use Rattle.names.specs.Name.{is_same}
 use Rattle.vaults.specs.declared.changes.Change.{Change}
-use Rattle.vaults.specs.declared.changes.Change.TheVariants.{Upload, Withdraw, Grant, Revoke, GrantAll, RevokeAll}
+use Rattle.vaults.specs.declared.changes.Change.TheVariants.{Upload, Grant}
 use Rattle.vaults.specs.declared.changes.Entry.{Entry}
-use Rattle.vaults.specs.declared.faults.VaultFault.TheVariants.{NotIssuer, AlreadyHeld, NotHeld, AlreadyGranted, NotGranted, GrantSelf}
-use Rattle.vaults.specs.Journal.{moves, concerns, uploads, grants, holds, granted, vault, refusal, AreAccepted}
+use Rattle.vaults.specs.declared.faults.VaultFault.TheVariants.{NotIssuer, AlreadyHeld, AlreadyGranted, GrantSelf}
+use Rattle.vaults.specs.Journal.{gives_same, stands, holds, granted, vault, refusal, AreAccepted}
 use Rattle.vaults.specs.Laws.{HeldAreIssued, GrantedAreOthers}
-use Rattle.vaults.proofs.Elements.{has, same_from_tied}
+use Rattle.vaults.proofs.Elements.{has}
 use Rattle.names.proofs.SameNames.{same_from_is_same, is_same_itself}
-use Rattle.vaults.proofs.Orders.{credentials_exact}
-use Rattle.vaults.proofs.LastEntries.{last_entry_any}
+use Rattle.vaults.proofs.LastEntries.{same_change, stands_any}
 use Rattle.vaults.proofs.Exactness.{has-vault}
 
 -- where an element passes, it stands at some place
@@ -36,42 +35,21 @@ not_self : {F : Type 0} (b : Bool) (fault : F) (rest : Option F) → cond b (Som
 not_self true fault rest refused = cc
 not_self false fault rest accepted = refl
 
-not_self_revoked : {F : Type 0} (b g : Bool) (fault : F) → cond (not b && g) None (Some fault) ≡ None → b ≡ false
-not_self_revoked true g fault refused = cc
-not_self_revoked false g fault accepted = refl
-
--- an accepted change moves what its tenant issues
-issued_by : (journal : List Entry) (who : List ℕ) (c : Credential) (change : Change) → refusal journal who change ≡ None → moves c change ≡ true → c.head.owner ≡ who
-issued_by journal who c (Upload d) accepted moved =
-    ap (λ (e : Credential). e.head.owner) (sym (same_from_tied credentials_exact d c moved))
-    ∙ same_from_is_same d.head.owner who (not_refused (is_same d.head.owner who) NotIssuer (cond (holds journal who d) (Some AlreadyHeld) None) accepted)
-issued_by journal who c (Withdraw d) accepted moved =
-    ap (λ (e : Credential). e.head.owner) (sym (same_from_tied credentials_exact d c moved))
-    ∙ same_from_is_same d.head.owner who (not_refused (is_same d.head.owner who) NotIssuer (cond (holds journal who d) None (Some NotHeld)) accepted)
-issued_by journal who c (Grant reader) accepted moved = cc
-issued_by journal who c (Revoke reader) accepted moved = cc
-issued_by journal who c GrantAll accepted moved = cc
-issued_by journal who c RevokeAll accepted moved = cc
-
--- and concerns another reader than its tenant
-concerns_another : (journal : List Entry) (who reader : List ℕ) (change : Change) → refusal journal who change ≡ None → concerns reader change ≡ true → is_same reader who ≡ false
-concerns_another journal who reader (Upload d) accepted concerned = cc
-concerns_another journal who reader (Withdraw d) accepted concerned = cc
-concerns_another journal who reader (Grant other) accepted concerned =
-    ap (λ (r : List ℕ). is_same r who) (sym (same_from_is_same other reader concerned))
-    ∙ not_self (is_same other who) GrantSelf (cond (granted journal who other) (Some AlreadyGranted) None) accepted
-concerns_another journal who reader (Revoke other) accepted concerned =
-    ap (λ (r : List ℕ). is_same r who) (sym (same_from_is_same other reader concerned))
-    ∙ not_self_revoked (is_same other who) (granted journal who other) NotGranted accepted
-concerns_another journal who reader GrantAll accepted concerned = cc
-concerns_another journal who reader RevokeAll accepted concerned = cc
+-- what stands was accepted
+stood : (change : Change) (journal : List Entry) (owner : List ℕ) → AreAccepted journal → stands journal owner change ≡ true → (before : List Entry) × (refusal before owner change ≡ None)
+stood change journal owner accepted standing =
+    let some : list_any (λ e. is_same e.tenant owner && gives_same e.change change) journal ≡ true = stands_any change (λ e. gives_same e.change change) (λ e same. same) journal owner standing in
+    let found : (n : ℕ) × (e : Entry) × (slice_get journal n ≡ Some e) × ((is_same e.tenant owner && gives_same e.change change) ≡ true) = place_passing (λ e. is_same e.tenant owner && gives_same e.change change) journal some in
+    let both : (is_same found.1.tenant owner ≡ true) × (gives_same found.1.change change ≡ true) = and_parts _ _ found.3 in (
+      take found.0 journal,
+      subst (λ (c : Change). refusal (take found.0 journal) owner c ≡ None) (same_change found.1.change change both.1)
+          (subst (λ (who : List ℕ). refusal (take found.0 journal) who found.1.change ≡ None) (same_from_is_same found.1.tenant owner both.0) (accepted found.0 found.1 found.2)),
+    )
 
 pub held_issued : HeldAreIssued
 held_issued journal owner c accepted held =
-    let some : list_any (λ e. is_same e.tenant owner && moves c e.change) journal ≡ true = last_entry_any uploads (moves c) journal owner held in
-    let found : (n : ℕ) × (e : Entry) × (slice_get journal n ≡ Some e) × ((is_same e.tenant owner && moves c e.change) ≡ true) = place_passing (λ e. is_same e.tenant owner && moves c e.change) journal some in
-    let both : (is_same found.1.tenant owner ≡ true) × (moves c found.1.change ≡ true) = and_parts _ _ found.3 in
-    issued_by (take found.0 journal) found.1.tenant c found.1.change (accepted found.0 found.1 found.2) both.1 ∙ same_from_is_same found.1.tenant owner both.0
+    let found : (before : List Entry) × (refusal before owner (Upload c) ≡ None) = stood (Upload c) journal owner accepted held in
+    same_from_is_same c.head.owner owner (not_refused (is_same c.head.owner owner) NotIssuer (cond (holds found.0 owner c) (Some AlreadyHeld) None) found.1)
 
 absorbed : (b h : Bool) → (h ≡ true → b ≡ true) → (b && h) ≡ h
 absorbed b true issued = ap (λ (x : Bool). x && true) (issued refl)
@@ -85,11 +63,9 @@ has-vault_accepted journal owner c accepted =
 
 pub granted_others : GrantedAreOthers
 granted_others journal owner reader accepted given same =
-    let some : list_any (λ e. is_same e.tenant owner && concerns reader e.change) journal ≡ true = last_entry_any grants (concerns reader) journal owner given in
-    let found : (n : ℕ) × (e : Entry) × (slice_get journal n ≡ Some e) × ((is_same e.tenant owner && concerns reader e.change) ≡ true) = place_passing (λ e. is_same e.tenant owner && concerns reader e.change) journal some in
-    let both : (is_same found.1.tenant owner ≡ true) × (concerns reader found.1.change ≡ true) = and_parts _ _ found.3 in
-    let apart : is_same reader found.1.tenant ≡ false = concerns_another (take found.0 journal) found.1.tenant reader found.1.change (accepted found.0 found.1 found.2) both.1 in
-    let as_one : is_same reader found.1.tenant ≡ true = is_same_itself reader found.1.tenant (same ∙ sym (same_from_is_same found.1.tenant owner both.0)) in
+    let found : (before : List Entry) × (refusal before owner (Grant reader) ≡ None) = stood (Grant reader) journal owner accepted given in
+    let apart : is_same reader owner ≡ false = not_self (is_same reader owner) GrantSelf (cond (granted found.0 owner reader) (Some AlreadyGranted) None) found.1 in
+    let as_one : is_same reader owner ≡ true = is_same_itself reader owner same in
     cc
 
 -- what stands in a list with one element more

@@ -13,7 +13,7 @@ use Rattle.vaults.specs.declared.changes.Change.{Change}
 use Rattle.vaults.specs.declared.changes.Change.TheVariants.{Upload, Withdraw, Grant, Revoke, GrantAll, RevokeAll}
 use Rattle.vaults.specs.declared.changes.Entry.{Entry}
 use Rattle.vaults.specs.InOrder.{in_order}
-use Rattle.vaults.specs.Journal.{moves, concerns, change_credential, moved_credential, change_reader, named_reader, uploads, grants, is_for_all, grants_all, entry_is, entries_of, last_entry, holds, granted, is_public, reads, vault, readers, names_read, Vault, vault_record, view, credentials}
+use Rattle.vaults.specs.Journal.{gives_same, stands, uploaded, named_reader, entries_of, holds, granted, is_public, reads, vault, readers, names_read, Vault, vault_record, view, credentials}
 use Rattle.vaults.specs.Journal.{marked_name_of, marked_names, names_in, marked_record, marked_view, unmarked, seen_of}
 use Rattle.vaults.specs.declared.marks.Seen.{Seen}
 use Rattle.vaults.specs.Laws.{VaultsAreExact, ReadersAreExact, NamesReadAreExact, ViewsAreOfNamesRead, MarksAreExact, MarkedViewsAreExact, ViewsAreExact}
@@ -21,53 +21,45 @@ use Rattle.vaults.specs.Laws.{HoldingIsOwn, GrantingIsOwn, PublishingIsOwn, Vaul
 use Rattle.vaults.proofs.Elements.{has, has-in_order, has-filter, sorted-in_order, has_iff, tied_both_ways}
 use Rattle.names.proofs.SameNames.{is_same_tied, same_from_is_same, is_same_itself}
 use Rattle.vaults.proofs.Orders.{credentials_exact, names_exact}
-use Rattle.vaults.proofs.LastEntries.{asked, last_named, list_any_agree, last_has_tenant, last_entry_own, entries_own}
+use Rattle.vaults.proofs.LastEntries.{asked, list_any_agree, stands_named, stands_entered, stands_own, entries_own}
 
 and_absorbs : (b m : Bool) → (b ≡ true → m ≡ true) → (b && m) ≡ b
 and_absorbs true m follows = follows refl
 and_absorbs false m follows = refl
 
-moves_named : (c : Credential) (change : Change) → moves c change ≡ true → asked (eq_by_cmp credential_order c) (change_credential change) ≡ true
-moves_named c (Upload d) e = tied_both_ways credentials_exact c d ∙ e
-moves_named c (Withdraw d) e = tied_both_ways credentials_exact c d ∙ e
-moves_named c (Grant reader) e = cc
-moves_named c (Revoke reader) e = cc
-moves_named c GrantAll e = cc
-moves_named c RevokeAll e = cc
+upload_named : (c : Credential) (change : Change) → gives_same change (Upload c) ≡ true → asked (eq_by_cmp credential_order c) (uploaded change) ≡ true
+upload_named c (Upload d) same = tied_both_ways credentials_exact c d ∙ same
+upload_named c _ same = cc
 
-concerns_named : (reader : List ℕ) (change : Change) → concerns reader change ≡ true → asked (eq_by_cmp name_order reader) (change_reader change) ≡ true
-concerns_named reader (Upload d) e = cc
-concerns_named reader (Withdraw d) e = cc
-concerns_named reader (Grant other) e = tied_both_ways names_exact reader other ∙ is_same_tied other reader ∙ e
-concerns_named reader (Revoke other) e = tied_both_ways names_exact reader other ∙ is_same_tied other reader ∙ e
-concerns_named reader GrantAll e = cc
-concerns_named reader RevokeAll e = cc
+reader_named : (reader : List ℕ) (change : Change) → gives_same change (Grant reader) ≡ true → asked (eq_by_cmp name_order reader) (named_reader change) ≡ true
+reader_named reader (Grant other) same = tied_both_ways names_exact reader other ∙ is_same_tied other reader ∙ same
+reader_named reader _ same = cc
 
 -- the vault has what its owner issues and holds
 pub has-vault : (journal : List Entry) (owner : List ℕ) (c : Credential) → has credential_order (vault journal owner) c ≡ (is_same c.head.owner owner && holds journal owner c)
 unfolding vault
 has-vault journal owner c =
-    has-in_order credentials_exact (filter (λ d. is_same d.head.owner owner && holds journal owner d) (filter_map moved_credential (entries_of owner journal))) c
-    ∙ has-filter credentials_exact (λ d. is_same d.head.owner owner && holds journal owner d) (filter_map moved_credential (entries_of owner journal)) c
-    ∙ and_absorbs (is_same c.head.owner owner && holds journal owner c) (has credential_order (filter_map moved_credential (entries_of owner journal)) c)
-    (λ held. last_named moved_credential (eq_by_cmp credential_order c) uploads (moves c) (λ e. moves_named c e.change) journal owner (and_parts _ _ held).1)
+    has-in_order credentials_exact (filter (λ d. is_same d.head.owner owner && holds journal owner d) (filter_map (λ e. uploaded e.change) (entries_of owner journal))) c
+    ∙ has-filter credentials_exact (λ d. is_same d.head.owner owner && holds journal owner d) (filter_map (λ e. uploaded e.change) (entries_of owner journal)) c
+    ∙ and_absorbs (is_same c.head.owner owner && holds journal owner c) (has credential_order (filter_map (λ e. uploaded e.change) (entries_of owner journal)) c)
+    (λ held. stands_named (Upload c) uploaded (eq_by_cmp credential_order c) (upload_named c) journal owner (and_parts _ _ held).1)
 
 pub sorted-vault : (journal : List Entry) (owner : List ℕ) → IsStrictlySortedBy credential_order (vault journal owner)
 unfolding vault
-sorted-vault journal owner = sorted-in_order credentials_exact (filter (λ d. is_same d.head.owner owner && holds journal owner d) (filter_map moved_credential (entries_of owner journal)))
+sorted-vault journal owner = sorted-in_order credentials_exact (filter (λ d. is_same d.head.owner owner && holds journal owner d) (filter_map (λ e. uploaded e.change) (entries_of owner journal)))
 
 -- the readers are those that the owner has granted
 pub has-readers : (journal : List Entry) (owner reader : List ℕ) → has name_order (readers journal owner) reader ≡ granted journal owner reader
 unfolding readers
 has-readers journal owner reader =
-    has-in_order names_exact (filter (granted journal owner) (filter_map named_reader (entries_of owner journal))) reader
-    ∙ has-filter names_exact (granted journal owner) (filter_map named_reader (entries_of owner journal)) reader
-    ∙ and_absorbs (granted journal owner reader) (has name_order (filter_map named_reader (entries_of owner journal)) reader)
-    (λ given. last_named named_reader (eq_by_cmp name_order reader) grants (concerns reader) (λ e. concerns_named reader e.change) journal owner given)
+    has-in_order names_exact (filter (granted journal owner) (filter_map (λ e. named_reader e.change) (entries_of owner journal))) reader
+    ∙ has-filter names_exact (granted journal owner) (filter_map (λ e. named_reader e.change) (entries_of owner journal)) reader
+    ∙ and_absorbs (granted journal owner reader) (has name_order (filter_map (λ e. named_reader e.change) (entries_of owner journal)) reader)
+    (λ given. stands_named (Grant reader) named_reader (eq_by_cmp name_order reader) (reader_named reader) journal owner given)
 
 pub sorted-readers : (journal : List Entry) (owner : List ℕ) → IsStrictlySortedBy name_order (readers journal owner)
 unfolding readers
-sorted-readers journal owner = sorted-in_order names_exact (filter (granted journal owner) (filter_map named_reader (entries_of owner journal)))
+sorted-readers journal owner = sorted-in_order names_exact (filter (granted journal owner) (filter_map (λ e. named_reader e.change) (entries_of owner journal)))
 
 list_any-map : {X Y : Type 0} (p : Y → Bool) (f : X → Y) (xs : List X) → list_any p (map f xs) ≡ list_any (λ x. p (f x)) xs
 list_any-map p f [] = refl
@@ -81,12 +73,12 @@ read_candidates true g m follows = refl
 read_candidates false true m follows = follows refl
 read_candidates false false m follows = refl
 
--- an owner whose last entry is of the kind is among the tenants of the journal
-among_tenants : (kind test : Change → Bool) (journal : List Entry) (owner : List ℕ) → entry_is kind (last_entry journal owner test) ≡ true → has name_order (map (λ e. e.tenant) journal) owner ≡ true
-among_tenants kind test journal owner found =
+-- an owner of whom something stands is among the tenants of the journal
+among_tenants : (change : Change) (journal : List Entry) (owner : List ℕ) → stands journal owner change ≡ true → has name_order (map (λ e. e.tenant) journal) owner ≡ true
+among_tenants change journal owner standing =
     list_any-map (eq_by_cmp name_order owner) (λ (e : Entry). e.tenant) journal
     ∙ list_any_agree (λ (e : Entry). eq_by_cmp name_order owner e.tenant) (λ e. is_same e.tenant owner) (λ e. is_same_tied owner e.tenant ∙ same_either_way owner e.tenant) journal
-    ∙ last_has_tenant kind test journal owner found
+    ∙ stands_entered change journal owner standing
 
 -- the names read are those that the reader reads
 pub has-names_read : (journal : List Entry) (reader owner : List ℕ) → has name_order (names_read journal reader) owner ≡ reads journal reader owner
@@ -97,8 +89,8 @@ has-names_read journal reader owner =
     ∙ ap (λ (b : Bool). reads journal reader owner && (b || has name_order (map (λ e. e.tenant) journal) owner)) (is_same_tied owner reader)
     ∙ read_candidates (is_same owner reader) (granted journal owner reader || is_public journal owner) (has name_order (map (λ e. e.tenant) journal) owner)
     (λ open_to. elim (or_cases (granted journal owner reader) (is_public journal owner) open_to) [
-      | inl given ↦ among_tenants grants (concerns reader) journal owner given
-      | inr public ↦ among_tenants grants_all is_for_all journal owner public
+      | inl given ↦ among_tenants (Grant reader) journal owner given
+      | inr public ↦ among_tenants GrantAll journal owner public
     ])
 
 pub sorted-names_read : (journal : List Entry) (reader : List ℕ) → IsStrictlySortedBy name_order (names_read journal reader)
@@ -210,26 +202,26 @@ views_exact journal reader c = (
 )
 
 pub holding_own : HoldingIsOwn
-holding_own journal tenant c = ap (entry_is uploads) (last_entry_own journal tenant (moves c))
+holding_own journal tenant c = stands_own journal tenant (Upload c)
 
 pub granting_own : GrantingIsOwn
-granting_own journal tenant reader = ap (entry_is grants) (last_entry_own journal tenant (concerns reader))
+granting_own journal tenant reader = stands_own journal tenant (Grant reader)
 
 pub publishing_own : PublishingIsOwn
-publishing_own journal tenant = ap (entry_is grants_all) (last_entry_own journal tenant is_for_all)
+publishing_own journal tenant = stands_own journal tenant GrantAll
 
 pub vaults_own : VaultsAreOwn
 unfolding vault
 vaults_own journal tenant =
-    ap (λ (es : List Entry). in_order credential_order (filter (λ c. is_same c.head.owner tenant && holds (entries_of tenant journal) tenant c) (filter_map moved_credential es))) (entries_own journal tenant)
+    ap (λ (es : List Entry). in_order credential_order (filter (λ c. is_same c.head.owner tenant && holds (entries_of tenant journal) tenant c) (filter_map (λ e. uploaded e.change) es))) (entries_own journal tenant)
     ∙ ap (in_order credential_order) (filter_agree (λ c. is_same c.head.owner tenant && holds (entries_of tenant journal) tenant c) (λ c. is_same c.head.owner tenant && holds journal tenant c)
-    (λ c. ap (λ (b : Bool). is_same c.head.owner tenant && b) (holding_own journal tenant c)) (filter_map moved_credential (entries_of tenant journal)))
+    (λ c. ap (λ (b : Bool). is_same c.head.owner tenant && b) (holding_own journal tenant c)) (filter_map (λ e. uploaded e.change) (entries_of tenant journal)))
 
 pub readers_own : ReadersAreOwn
 unfolding readers
 readers_own journal tenant =
-    ap (λ (es : List Entry). in_order name_order (filter (granted (entries_of tenant journal) tenant) (filter_map named_reader es))) (entries_own journal tenant)
-    ∙ ap (in_order name_order) (filter_agree (granted (entries_of tenant journal) tenant) (granted journal tenant) (granting_own journal tenant) (filter_map named_reader (entries_of tenant journal)))
+    ap (λ (es : List Entry). in_order name_order (filter (granted (entries_of tenant journal) tenant) (filter_map (λ e. named_reader e.change) es))) (entries_own journal tenant)
+    ∙ ap (in_order name_order) (filter_agree (granted (entries_of tenant journal) tenant) (granted journal tenant) (granting_own journal tenant) (filter_map (λ e. named_reader e.change) (entries_of tenant journal)))
 
 pub grant_counts_own : GrantCountsAreOwn
 grant_counts_own journal tenant = rw (readers_own journal tenant, publishing_own journal tenant)

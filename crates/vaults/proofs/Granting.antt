@@ -14,13 +14,14 @@ use Rattle.vaults.specs.declared.changes.Entry.{Entry}
 use Rattle.vaults.specs.declared.faults.VaultFault.TheVariants.{GrantSelf, AlreadyGranted}
 use Rattle.vaults.specs.InOrder.{without}
 use Rattle.vaults.specs.declared.marks.Seen.{Seen}
-use Rattle.vaults.specs.Journal.{concerns, grants, granted, is_for_all, grants_all, is_public, entry_is, last_entry, names_read, marked_name_of, marked_names, names_in}
+use Rattle.vaults.specs.Journal.{gift, gives_same, granted, is_public, names_read, marked_name_of, marked_names, names_in}
+use Rattle.vaults.specs.Owed.{gives}
 use Rattle.vaults.specs.Book.{early_refusal, is_granting, AreGranting, KeepsGrant, SameGranting, is_listed, ArePublic, KeepsPublic, SamePublic}
 use Rattle.vaults.specs.Merge.{AreMerged}
 use Rattle.vaults.proofs.Elements.{has, has-insert_key, has-without, same_in_order, tied_both_ways}
 use Rattle.names.proofs.SameNames.{is_same_tied, same_from_is_same}
 use Rattle.vaults.proofs.Orders.{names_exact}
-use Rattle.vaults.proofs.LastEntries.{last_entry_push}
+use Rattle.vaults.proofs.LastEntries.{stands_push}
 use Rattle.vaults.proofs.Exactness.{has-names_read, sorted-names_read}
 
 and_false : (a : Bool) (x y : Bool) → cond (a && false) x y ≡ y
@@ -80,19 +81,19 @@ granting_dropped owner reader was names old new before after writes =
     ∙ ap (λ (l : List (List ℕ)). cond (is_same owner other) false (has name_order l other)) before)
 
 -- what concerns no reader leaves each reader the owners that it had, and what isn't for all leaves the public vaults
-pub granting_stays : (who : List ℕ) (change : Change) (granting : BTreeMap (List ℕ) (List (List ℕ))) → ((reader : List ℕ) → concerns reader change ≡ false) → KeepsGrant who change granting granting
+pub granting_stays : (who : List ℕ) (change : Change) (granting : BTreeMap (List ℕ) (List (List ℕ))) → ((reader : List ℕ) → gives_same (gift change) (Grant reader) ≡ false) → KeepsGrant who change granting granting
 granting_stays who change granting none owner reader =
-    sym (ap (λ (b : Bool). cond (is_same who owner && b) (grants change) (is_granting granting owner reader)) (none reader) ∙ and_false (is_same who owner) (grants change) (is_granting granting owner reader))
+    sym (ap (λ (b : Bool). cond (is_same who owner && b) (gives change) (is_granting granting owner reader)) (none reader) ∙ and_false (is_same who owner) (gives change) (is_granting granting owner reader))
 
-pub public_stays : (who : List ℕ) (change : Change) (public : List (List ℕ)) → is_for_all change ≡ false → KeepsPublic who change public public
+pub public_stays : (who : List ℕ) (change : Change) (public : List (List ℕ)) → gives_same (gift change) GrantAll ≡ false → KeepsPublic who change public public
 public_stays who change public none owner =
-    sym (ap (λ (b : Bool). cond (is_same who owner && b) (grants_all change) (is_listed public owner)) none ∙ and_false (is_same who owner) (grants_all change) (is_listed public owner))
+    sym (ap (λ (b : Bool). cond (is_same who owner && b) (gives change) (is_listed public owner)) none ∙ and_false (is_same who owner) (gives change) (is_listed public owner))
 
 -- an upload or a withdrawal concerns no reader, and isn't for all
 pub of_rows : (change : Change) → ((c : Credential) × (change ≡ Upload c)) ⊎ ((c : Credential) × (change ≡ Withdraw c)) →
-    ((reader : List ℕ) → concerns reader change ≡ false) × (is_for_all change ≡ false)
-of_rows change (inl uploads) = (λ reader. ap (concerns reader) uploads.1, ap is_for_all uploads.1)
-of_rows change (inr withdraws) = (λ reader. ap (concerns reader) withdraws.1, ap is_for_all withdraws.1)
+    ((reader : List ℕ) → gives_same (gift change) (Grant reader) ≡ false) × (gives_same (gift change) GrantAll ≡ false)
+of_rows change (inl uploads) = (λ reader. ap (λ (x : Change). gives_same (gift x) (Grant reader)) uploads.1, ap (λ (x : Change). gives_same (gift x) GrantAll) uploads.1)
+of_rows change (inr withdraws) = (λ reader. ap (λ (x : Change). gives_same (gift x) (Grant reader)) withdraws.1, ap (λ (x : Change). gives_same (gift x) GrantAll) withdraws.1)
 
 -- a first grant that is taken back leaves all as it was
 pub granting_undone : (owner reader : List ℕ) (old added dropped : BTreeMap (List ℕ) (List (List ℕ))) → is_granting old owner reader ≡ false →
@@ -128,22 +129,12 @@ granted_first journal who change granting accepted right reader is =
     by false true refused = cc
     by false false accepted = refl
 
--- the answer of the last entry after one entry more
-answer_push : (kind test : Change → Bool) (journal : List Entry) (who : List ℕ) (change : Change) (owner : List ℕ) →
-    entry_is kind (last_entry (journal ++ record { tenant = who; change = change } ∷ []) owner test) ≡ cond (is_same who owner && test change) (kind change) (entry_is kind (last_entry journal owner test))
-answer_push kind test journal who change owner =
-    ap (entry_is kind) (last_entry_push journal (record { tenant = who; change = change }) owner test) ∙ by (is_same who owner && test change)
-  where
-    by : (b : Bool) → entry_is kind (cond b (Some (record { tenant = who; change = change })) (last_entry journal owner test)) ≡ cond b (kind change) (entry_is kind (last_entry journal owner test))
-    by true = refl
-    by false = refl
-
 -- after an accepted change: journal is now seen as one, has room before, and has the entry after
 pub granting_after : (journal before after : List Entry) (who : List ℕ) (change : Change) (old new : BTreeMap (List ℕ) (List (List ℕ))) →
     AreGranting journal old → KeepsGrant who change old new → before ≡ journal → after ≡ before ++ record { tenant = who; change = change } ∷ [] → AreGranting after new
 granting_after journal before after who change old new right keeps same entered =
     subst (λ (j : List Entry). AreGranting j new) (sym (entered ∙ ap (λ (j : List Entry). j ++ record { tenant = who; change = change } ∷ []) same)) (λ owner reader.
-    keeps owner reader ∙ ap (cond (is_same who owner && concerns reader change) (grants change)) (right owner reader) ∙ sym (answer_push grants (concerns reader) journal who change owner))
+    keeps owner reader ∙ ap (cond (is_same who owner && gives_same (gift change) (Grant reader)) (gives change)) (right owner reader) ∙ sym (stands_push journal (record { tenant = who; change = change }) owner (Grant reader)))
 
 -- with the owner put among the public ones, it is as after public reading is granted
 pub public_added : (who : List ℕ) (old new : List (List ℕ)) → new ≡ insert_key name_order old who → KeepsPublic who GrantAll old new
@@ -175,7 +166,7 @@ pub public_after : (journal before after : List Entry) (who : List ℕ) (change 
     ArePublic journal old → KeepsPublic who change old new → before ≡ journal → after ≡ before ++ record { tenant = who; change = change } ∷ [] → ArePublic after new
 public_after journal before after who change old new right keeps same entered =
     subst (λ (j : List Entry). ArePublic j new) (sym (entered ∙ ap (λ (j : List Entry). j ++ record { tenant = who; change = change } ∷ []) same)) (λ owner.
-    keeps owner ∙ ap (cond (is_same who owner && is_for_all change) (grants_all change)) (right owner) ∙ sym (answer_push grants_all is_for_all journal who change owner))
+    keeps owner ∙ ap (cond (is_same who owner && gives_same (gift change) GrantAll) (gives change)) (right owner) ∙ sym (stands_push journal (record { tenant = who; change = change }) owner GrantAll))
 
 -- what is marked where it is listed is marked where its vault is public
 marked_as_public : (journal : List Entry) (public : List (List ℕ)) → ArePublic journal public → (seen : List Seen) → AllByRecursion (λ (s : Seen). s.to_all ≡ is_listed public s.name) seen →

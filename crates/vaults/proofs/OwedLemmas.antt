@@ -9,19 +9,19 @@ use Rattle.std.proofs.lemmas.List.Folds.{list_any-append}
 use Rattle.std.proofs.lemmas.List.Sorted.{list_any-IsPermutation, IsPermutation-reverse}
 use Rattle.names.specs.Name.{is_same, name_order}
 use Rattle.names.proofs.SameNames.{same_from_is_same, is_same_itself}
-use Rattle.credential_text.specs.declared.credentials.Credential.{Credential}
+use Rattle.std.specs.Ordering.{eq_by_cmp}
+use Rattle.credential_text.specs.Credential.{credential_order}
 use Rattle.vaults.specs.declared.changes.Change.{Change}
 use Rattle.vaults.specs.declared.changes.Change.TheVariants.{Upload, Withdraw, Grant, Revoke, GrantAll, RevokeAll}
 use Rattle.vaults.specs.declared.changes.Entry.{Entry}
 use Rattle.vaults.specs.declared.faults.VaultFault.TheVariants.{NotIssuer, NotHeld, NotGranted}
-use Rattle.vaults.specs.Journal.{moves, concerns, is_for_all, uploads, grants, grants_all, entries_of, last_entry, entry_is, holds, granted, is_public, refusal, revokes}
+use Rattle.vaults.specs.Journal.{gift, gives_same, entries_of, holds, granted, is_public, refusal, revokes}
 use Rattle.vaults.specs.Kept.{subject_of, framed, entry_bytes}
-use Rattle.vaults.specs.Owed.{gives, is_about, follows, stands, owed}
+use Rattle.vaults.specs.Owed.{gives, follows, lasts, owed}
 use Rattle.vaults.specs.Page.{PageState}
 use Rattle.vaults.specs.Book.{ArePages}
-use Rattle.vaults.proofs.Elements.{same_from_tied}
 use Rattle.vaults.proofs.Orders.{credentials_exact}
-use Rattle.vaults.proofs.LastEntries.{last_has_tenant}
+use Rattle.vaults.proofs.LastEntries.{same_change, gift_itself, is_gift, stands_last, stands_entered}
 use Rattle.vaults.proofs.PageLemmas.{page_missing}
 
 entry : List ℕ → Change → Entry
@@ -39,64 +39,68 @@ fewer true false true n = omega arith
 fewer true false false n = omega arith
 
 -- an entry more ends what stood, and adds nothing but itself
-stands_less : (e x : Entry) (later : List Entry) (n : ℕ) → cond (stands e (later ++ x ∷ [])) n 0 ≤ cond (stands e later) n 0
-stands_less e x later n =
-    subst (λ (b : Bool). cond (gives e.change && not b) n 0 ≤ cond (stands e later) n 0) (sym (list_any-append (follows e) later (x ∷ [])))
+lasts_less : (e x : Entry) (later : List Entry) (n : ℕ) → cond (lasts e (later ++ x ∷ [])) n 0 ≤ cond (lasts e later) n 0
+lasts_less e x later n =
+    subst (λ (b : Bool). cond (gives e.change && not b) n 0 ≤ cond (lasts e later) n 0) (sym (list_any-append (follows e) later (x ∷ [])))
     (fewer (gives e.change) (list_any (follows e) later) (list_any (follows e) (x ∷ [])) n)
 
 owed_push : (es : List Entry) (x : Entry) → owed (es ++ x ∷ []) ≤ owed es + owed (x ∷ [])
 owed_push [] x = omega arith
-owed_push (e ∷ es) x = omega (arith, owed_push es x, stands_less e x es (length (entry_bytes e)))
+owed_push (e ∷ es) x = omega (arith, owed_push es x, lasts_less e x es (length (entry_bytes e)))
 
 owed_alone : (b : Bool) (n : ℕ) → cond (b && true) n 0 + 0 ≤ n
 owed_alone true n = omega arith
 owed_alone false n = omega arith
 
 -- the last one that passes, where one stands in front
-last_found : (kind : Change → Bool) (p : Entry → Bool) (xs : List Entry) (e : Entry) →
-    entry_is kind (find p (xs ++ e ∷ [])) ≡ cond (list_any p xs) (entry_is kind (find p xs)) (p e && kind e.change)
-last_found kind p [] e = by (p e)
+last_found : (p : Entry → Bool) (xs : List Entry) (e : Entry) → is_gift (find p (xs ++ e ∷ [])) ≡ cond (list_any p xs) (is_gift (find p xs)) (p e && gives e.change)
+last_found p [] e = by (p e)
   where
-    by : (b : Bool) → entry_is kind (cond b (Some e) None) ≡ (b && kind e.change)
+    by : (b : Bool) → is_gift (cond b (Some e) None) ≡ (b && gives e.change)
     by true = refl
     by false = refl
-last_found kind p (y ∷ ys) e = by (p y) (last_found kind p ys e)
+last_found p (y ∷ ys) e = by (p y) (last_found p ys e)
   where
-    by : (b : Bool) → entry_is kind (find p (ys ++ e ∷ [])) ≡ cond (list_any p ys) (entry_is kind (find p ys)) (p e && kind e.change) →
-        entry_is kind (cond b (Some y) (find p (ys ++ e ∷ []))) ≡ cond (b || list_any p ys) (entry_is kind (cond b (Some y) (find p ys))) (p e && kind e.change)
+    by : (b : Bool) → is_gift (find p (ys ++ e ∷ [])) ≡ cond (list_any p ys) (is_gift (find p ys)) (p e && gives e.change) →
+        is_gift (cond b (Some y) (find p (ys ++ e ∷ []))) ≡ cond (b || list_any p ys) (is_gift (cond b (Some y) (find p ys))) (p e && gives e.change)
     by true rest = refl
     by false rest = rest
 
-last_in_front : (kind : Change → Bool) (g e : Entry) (es : List Entry) →
-    entry_is kind (last_entry (e ∷ es) g.tenant (is_about g.change)) ≡ cond (list_any (follows g) es) (entry_is kind (last_entry es g.tenant (is_about g.change))) (follows g e && kind e.change)
-last_in_front kind g e es =
-    ap (λ (l : List Entry). entry_is kind (find (follows g) l)) (reverse-append (e ∷ []) es)
-    ∙ last_found kind (follows g) (reverse es) e
-    ∙ ap (λ (b : Bool). cond b (entry_is kind (last_entry es g.tenant (is_about g.change))) (follows g e && kind e.change))
-    (sym (list_any-IsPermutation (follows g) es (reverse es) (IsPermutation-reverse es)))
+last_in_front : (p : Entry → Bool) (e : Entry) (es : List Entry) →
+    is_gift (find p (reverse (e ∷ es))) ≡ cond (list_any p es) (is_gift (find p (reverse es))) (p e && gives e.change)
+last_in_front p e es =
+    ap (λ (l : List Entry). is_gift (find p l)) (reverse-append (e ∷ []) es)
+    ∙ last_found p (reverse es) e
+    ∙ ap (λ (b : Bool). cond b (is_gift (find p (reverse es))) (p e && gives e.change)) (sym (list_any-IsPermutation p es (reverse es) (IsPermutation-reverse es)))
+
+-- the entry of the tenant that gives the same is that one
+the_same : (g e : Entry) → gives g.change ≡ true → follows g e ≡ true → gives e.change ≡ true → e ≡ g
+the_same g e given about gave =
+    let both : (is_same e.tenant g.tenant ≡ true) × (gives_same (gift e.change) (gift g.change) ≡ true) = and_parts _ _ about in
+    let change : e.change ≡ g.change = sym (gift_itself e.change gave) ∙ same_change (gift e.change) (gift g.change) both.1 ∙ gift_itself g.change given in
+    λ i. record { tenant = same_from_is_same e.tenant g.tenant both.0 i; change = change i }
 
 -- what is taken back was owed
-owed_taken : (g x : Entry) (kind : Change → Bool) → gives g.change ≡ true → length (entry_bytes g) ≡ length (entry_bytes x) → follows g x ≡ true → gives x.change ≡ false →
-    ((e : Entry) → follows g e ≡ true → kind e.change ≡ true → e ≡ g) →
-    (es : List Entry) → entry_is kind (last_entry es g.tenant (is_about g.change)) ≡ true → length (entry_bytes x) + owed (es ++ x ∷ []) ≤ owed es
-owed_taken g x kind given long taken ends only [] last = cc
-owed_taken g x kind given long taken ends only (e ∷ es) last =
-    by (list_any (follows g) es) refl (owed_taken g x kind given long taken ends only es) (sym (last_in_front kind g e es) ∙ last)
+owed_taken : (g x : Entry) → gives g.change ≡ true → length (entry_bytes g) ≡ length (entry_bytes x) → follows g x ≡ true → gives x.change ≡ false →
+    (es : List Entry) → is_gift (find (follows g) (reverse es)) ≡ true → length (entry_bytes x) + owed (es ++ x ∷ []) ≤ owed es
+owed_taken g x given long taken ends [] last = cc
+owed_taken g x given long taken ends (e ∷ es) last =
+    by (list_any (follows g) es) refl (owed_taken g x given long taken ends es) (sym (last_in_front (follows g) e es) ∙ last)
   where
-    by : (b : Bool) → list_any (follows g) es ≡ b → (entry_is kind (last_entry es g.tenant (is_about g.change)) ≡ true → length (entry_bytes x) + owed (es ++ x ∷ []) ≤ owed es) →
-        cond b (entry_is kind (last_entry es g.tenant (is_about g.change))) (follows g e && kind e.change) ≡ true →
+    by : (b : Bool) → list_any (follows g) es ≡ b → (is_gift (find (follows g) (reverse es)) ≡ true → length (entry_bytes x) + owed (es ++ x ∷ []) ≤ owed es) →
+        cond b (is_gift (find (follows g) (reverse es))) (follows g e && gives e.change) ≡ true →
         length (entry_bytes x) + owed ((e ∷ es) ++ x ∷ []) ≤ owed (e ∷ es)
-    by true later rest here = omega (arith, rest here, stands_less e x es (length (entry_bytes e)))
+    by true later rest here = omega (arith, rest here, lasts_less e x es (length (entry_bytes e)))
     by false none rest here =
-        let both : (follows g e ≡ true) × (kind e.change ≡ true) = and_parts _ _ here in
-        let is : e ≡ g = only e both.0 both.1 in
-        let stood : stands e es ≡ true =
+        let both : (follows g e ≡ true) × (gives e.change ≡ true) = and_parts _ _ here in
+        let is : e ≡ g = the_same g e given both.0 both.1 in
+        let stood : lasts e es ≡ true =
         ap (λ (d : Entry). gives d.change && not (list_any (follows d) es)) is ∙ ap (λ (b : Bool). b && not (list_any (follows g) es)) given ∙ ap not none in
-        let ended : stands e (es ++ x ∷ []) ≡ false =
+        let ended : lasts e (es ++ x ∷ []) ≡ false =
         ap (λ (d : Entry). gives d.change && not (list_any (follows d) (es ++ x ∷ []))) is ∙ ap (λ (b : Bool). b && not (list_any (follows g) (es ++ x ∷ []))) given
         ∙ ap not (list_any-append (follows g) es (x ∷ []) ∙ ap (λ (b : Bool). b || list_any (follows g) (x ∷ [])) none ∙ ap (λ (b : Bool). b || false) taken) in
-        let before : cond (stands e es) (length (entry_bytes e)) 0 ≡ length (entry_bytes e) = ap (λ (b : Bool). cond b (length (entry_bytes e)) 0) stood in
-        let after : cond (stands e (es ++ x ∷ [])) (length (entry_bytes e)) 0 ≡ 0 = ap (λ (b : Bool). cond b (length (entry_bytes e)) 0) ended in
+        let before : cond (lasts e es) (length (entry_bytes e)) 0 ≡ length (entry_bytes e) = ap (λ (b : Bool). cond b (length (entry_bytes e)) 0) stood in
+        let after : cond (lasts e (es ++ x ∷ [])) (length (entry_bytes e)) 0 ≡ 0 = ap (λ (b : Bool). cond b (length (entry_bytes e)) 0) ended in
         let alone : owed (x ∷ []) ≡ 0 = ap (λ (b : Bool). cond (b && true) (length (entry_bytes x)) 0 + 0) ends in
         omega (arith, before, after, alone, owed_push es x, ap (λ (d : Entry). length (entry_bytes d)) is, long)
 
@@ -115,34 +119,10 @@ was_held false held refused = cc
 was_held true true accepted = refl
 was_held true false refused = cc
 
-the_grant : (who reader tenant : List ℕ) (change : Change) → is_same tenant who ≡ true → concerns reader change ≡ true → grants change ≡ true → entry tenant change ≡ entry who (Grant reader)
+-- what takes back is as long as what it takes back
+long_alike : (who : List ℕ) (gift change : Change) → subject_of gift ≡ subject_of change → length (entry_bytes (entry who gift)) ≡ length (entry_bytes (entry who change))
 unfolding entry
-the_grant who reader tenant (Upload c) same about kind = cc
-the_grant who reader tenant (Withdraw c) same about kind = cc
-the_grant who reader tenant (Grant other) same about kind =
-    λ i. record { tenant = same_from_is_same tenant who same i; change = Grant (same_from_is_same other reader about i) }
-the_grant who reader tenant (Revoke other) same about kind = cc
-the_grant who reader tenant GrantAll same about kind = cc
-the_grant who reader tenant RevokeAll same about kind = cc
-
-the_upload : (who tenant : List ℕ) (c : Credential) (change : Change) → is_same tenant who ≡ true → moves c change ≡ true → uploads change ≡ true → entry tenant change ≡ entry who (Upload c)
-unfolding entry
-the_upload who tenant c (Upload d) same about kind =
-    λ i. record { tenant = same_from_is_same tenant who same i; change = Upload (same_from_tied credentials_exact d c about i) }
-the_upload who tenant c (Withdraw d) same about kind = cc
-the_upload who tenant c (Grant other) same about kind = cc
-the_upload who tenant c (Revoke other) same about kind = cc
-the_upload who tenant c GrantAll same about kind = cc
-the_upload who tenant c RevokeAll same about kind = cc
-
-the_public : (who tenant : List ℕ) (change : Change) → is_same tenant who ≡ true → grants_all change ≡ true → entry tenant change ≡ entry who GrantAll
-unfolding entry
-the_public who tenant (Upload d) same kind = cc
-the_public who tenant (Withdraw d) same kind = cc
-the_public who tenant (Grant other) same kind = cc
-the_public who tenant (Revoke other) same kind = cc
-the_public who tenant GrantAll same kind = λ i. record { tenant = same_from_is_same tenant who same i; change = GrantAll }
-the_public who tenant RevokeAll same kind = cc
+long_alike who gift change same = length_row (entry who gift) ∙ ap (λ (text : List ℕ). length who + length text + 5) same ∙ sym (length_row (entry who change))
 
 -- so what is taken back makes room for its entry
 taken : (es : List Entry) (who : List ℕ) (change : Change) → refusal es who change ≡ None → gives change ≡ false → length (entry_bytes (entry who change)) + owed (es ++ entry who change ∷ []) ≤ owed es
@@ -151,20 +131,17 @@ taken es who (Upload c) accepted takes = cc
 taken es who (Grant reader) accepted takes = cc
 taken es who GrantAll accepted takes = cc
 taken es who (Revoke reader) accepted takes =
-    owed_taken (entry who (Grant reader)) (entry who (Revoke reader)) grants refl (length_row (entry who (Grant reader)) ∙ sym (length_row (entry who (Revoke reader))))
+    owed_taken (entry who (Grant reader)) (entry who (Revoke reader)) refl (long_alike who (Grant reader) (Revoke reader) refl)
     (ap (λ (b : Bool). b && is_same reader reader) (is_same_itself who who refl) ∙ is_same_itself reader reader refl) refl
-    (λ e about kind. let both : (is_same e.tenant who ≡ true) × (concerns reader e.change ≡ true) = and_parts _ _ about in the_grant who reader e.tenant e.change both.0 both.1 kind)
-    es (was_granted (is_same reader who) (granted es who reader) accepted)
+    es (sym (stands_last es who (Grant reader)) ∙ was_granted (is_same reader who) (granted es who reader) accepted)
 taken es who (Withdraw c) accepted takes =
-    owed_taken (entry who (Upload c)) (entry who (Withdraw c)) uploads refl (length_row (entry who (Upload c)) ∙ sym (length_row (entry who (Withdraw c))))
-    (ap (λ (b : Bool). b && moves c (Withdraw c)) (is_same_itself who who refl) ∙ (eq_by_cmp_equiv credentials_exact.total).refl c) refl
-    (λ e about kind. let both : (is_same e.tenant who ≡ true) × (moves c e.change ≡ true) = and_parts _ _ about in the_upload who e.tenant c e.change both.0 both.1 kind)
-    es (was_held (is_same c.head.owner who) (holds es who c) accepted)
+    owed_taken (entry who (Upload c)) (entry who (Withdraw c)) refl (long_alike who (Upload c) (Withdraw c) refl)
+    (ap (λ (b : Bool). b && eq_by_cmp credential_order c c) (is_same_itself who who refl) ∙ (eq_by_cmp_equiv credentials_exact.total).refl c) refl
+    es (sym (stands_last es who (Upload c)) ∙ was_held (is_same c.head.owner who) (holds es who c) accepted)
 taken es who RevokeAll accepted takes =
-    owed_taken (entry who GrantAll) (entry who RevokeAll) grants_all refl (length_row (entry who GrantAll) ∙ sym (length_row (entry who RevokeAll)))
+    owed_taken (entry who GrantAll) (entry who RevokeAll) refl (long_alike who GrantAll RevokeAll refl)
     (ap (λ (b : Bool). b && true) (is_same_itself who who refl)) refl
-    (λ e about kind. let both : (is_same e.tenant who ≡ true) × (is_for_all e.change ≡ true) = and_parts _ _ about in the_public who e.tenant e.change both.0 kind)
-    es (was_public (is_public es who) accepted)
+    es (sym (stands_last es who GrantAll) ∙ was_public (is_public es who) accepted)
 
 -- the room that a row takes: it is owed, or taken beside what is owed, once for the row and once for the one that takes it back
 pub record IsRoom (es : List Entry) (who : List ℕ) (change : Change) (row room len capacity : ℕ) : Type 0 where
@@ -216,9 +193,9 @@ revoker_entered : (journal : List Entry) (who : List ℕ) (change : Change) → 
 revoker_entered journal who (Upload c) accepted revoked = cc
 revoker_entered journal who (Withdraw c) accepted revoked = cc
 revoker_entered journal who (Grant reader) accepted revoked = cc
-revoker_entered journal who (Revoke reader) accepted revoked = last_has_tenant grants (concerns reader) journal who (was_granted (is_same reader who) (granted journal who reader) accepted)
+revoker_entered journal who (Revoke reader) accepted revoked = stands_entered (Grant reader) journal who (was_granted (is_same reader who) (granted journal who reader) accepted)
 revoker_entered journal who GrantAll accepted revoked = cc
-revoker_entered journal who RevokeAll accepted revoked = last_has_tenant grants_all is_for_all journal who (was_public (is_public journal who) accepted)
+revoker_entered journal who RevokeAll accepted revoked = stands_entered GrantAll journal who (was_public (is_public journal who) accepted)
 
 -- and so a page
 pub revoker_has_page : (journal : List Entry) (who : List ℕ) (change : Change) (pages : BTreeMap (List ℕ) PageState) → ArePages journal pages →

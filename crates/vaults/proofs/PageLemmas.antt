@@ -13,29 +13,25 @@ use Rattle.vaults.specs.declared.changes.Change.TheVariants.{Upload, Withdraw, G
 use Rattle.vaults.specs.declared.changes.Entry.{Entry}
 use Rattle.vaults.specs.declared.faults.VaultFault.{VaultFault}
 use Rattle.vaults.specs.declared.faults.VaultFault.TheVariants.{NotIssuer, AlreadyHeld, NotHeld, Memory}
-use Rattle.vaults.specs.Journal.{moves, concerns, uploads, grants, entry_is, entries_of, last_entry, holds, granted, vault, readers, refusal}
+use Rattle.vaults.specs.Journal.{gift, gives_same, stands, uploaded, entries_of, holds, granted, vault, readers, refusal}
+use Rattle.vaults.specs.Owed.{gives}
 use Rattle.vaults.specs.Page.{PageState, empty_page, page_at, page_of, rows_after, readers_after, page_after, page_fault, is_due}
 use Rattle.vaults.specs.Book.{ArePages, KeepsChange, early_refusal}
 use Rattle.vaults.proofs.Elements.{has, same_in_order, has-insert_key, sorted-insert_key, has-without, sorted-without, same_from_tied, tied_both_ways}
 use Rattle.names.proofs.SameNames.{is_same_tied, same_from_is_same, is_same_itself}
 use Rattle.vaults.proofs.Orders.{credentials_exact, names_exact}
-use Rattle.vaults.proofs.LastEntries.{last_entry_push, entries_push}
+use Rattle.vaults.proofs.LastEntries.{stands_push, entries_push}
 use Rattle.vaults.proofs.Exactness.{has-vault, sorted-vault, has-readers, sorted-readers, vaults_own, readers_own}
 
 abbrev entry : List ℕ → Change → Entry
 entry who change = record { tenant = who; change = change }
 
--- the answer of the last entry after one entry more of the tenant
-asked_last : (kind test : Change → Bool) (journal : List Entry) (who : List ℕ) (change : Change) →
-    entry_is kind (last_entry (journal ++ entry who change ∷ []) who test) ≡ cond (test change) (kind change) (entry_is kind (last_entry journal who test))
-asked_last kind test journal who change =
-    ap (entry_is kind) (last_entry_push journal (entry who change) who test)
-    ∙ ap (λ (b : Bool). entry_is kind (cond (b && test change) (Some (entry who change)) (last_entry journal who test))) (is_same_itself who who refl)
-    ∙ by (test change)
-  where
-    by : (b : Bool) → entry_is kind (cond b (Some (entry who change)) (last_entry journal who test)) ≡ cond b (kind change) (entry_is kind (last_entry journal who test))
-    by true = refl
-    by false = refl
+-- what stands after one entry more of the tenant
+stands_push_own : (journal : List Entry) (who : List ℕ) (change other : Change) →
+    stands (journal ++ entry who change ∷ []) who other ≡ cond (gives_same (gift change) other) (gives change) (stands journal who other)
+stands_push_own journal who change other =
+    stands_push journal (entry who change) who other
+    ∙ ap (λ (b : Bool). cond (b && gives_same (gift change) other) (gives change) (stands journal who other)) (is_same_itself who who refl)
 
 -- a change leaves the vault in order
 sorted-rows_after : (journal : List Entry) (who : List ℕ) (change : Change) → IsStrictlySortedBy credential_order (rows_after change (vault journal who))
@@ -64,7 +60,7 @@ issued journal who c accepted = by (is_same c.head.owner who) refl accepted
     by false e refused = cc
 
 has-rows_after : (journal : List Entry) (who : List ℕ) (change : Change) → refusal journal who change ≡ None → (x : Credential) →
-    (is_same x.head.owner who && cond (moves x change) (uploads change) (holds journal who x)) ≡ has credential_order (rows_after change (vault journal who)) x
+    (is_same x.head.owner who && cond (gives_same (gift change) (Upload x)) (gives change) (holds journal who x)) ≡ has credential_order (rows_after change (vault journal who)) x
 has-rows_after journal who (Upload c) accepted x =
     ap (λ (e : Bool). is_same x.head.owner who && cond e true (holds journal who x)) (tied_both_ways credentials_exact c x)
     ∙ issued_then (is_same x.head.owner who) (holds journal who x) (eq_by_cmp credential_order x c)
@@ -88,7 +84,7 @@ vault_push journal who change accepted =
     (sorted-vault (journal ++ entry who change ∷ []) who) (sorted-rows_after journal who change)
     (λ x.
     has-vault (journal ++ entry who change ∷ []) who x
-    ∙ ap (λ (b : Bool). is_same x.head.owner who && b) (asked_last uploads (moves x) journal who change)
+    ∙ ap (λ (b : Bool). is_same x.head.owner who && b) (stands_push_own journal who change (Upload x))
     ∙ has-rows_after journal who change accepted x)
 
 sorted-readers_after : (journal : List Entry) (who : List ℕ) (change : Change) → IsStrictlySortedBy name_order (readers_after change (readers journal who))
@@ -108,7 +104,7 @@ revoked_then h true = refl
 revoked_then h false = refl
 
 has-readers_after : (journal : List Entry) (who : List ℕ) (change : Change) (x : List ℕ) →
-    cond (concerns x change) (grants change) (granted journal who x) ≡ has name_order (readers_after change (readers journal who)) x
+    cond (gives_same (gift change) (Grant x)) (gives change) (granted journal who x) ≡ has name_order (readers_after change (readers journal who)) x
 has-readers_after journal who (Upload c) x = sym (has-readers journal who x)
 has-readers_after journal who (Withdraw c) x = sym (has-readers journal who x)
 has-readers_after journal who (Grant reader) x =
@@ -129,7 +125,7 @@ readers_push : (journal : List Entry) (who : List ℕ) (change : Change) → rea
 readers_push journal who change =
     same_in_order names_exact (readers (journal ++ entry who change ∷ []) who) (readers_after change (readers journal who))
     (sorted-readers (journal ++ entry who change ∷ []) who) (sorted-readers_after journal who change)
-    (λ x. has-readers (journal ++ entry who change ∷ []) who x ∙ asked_last grants (concerns x) journal who change ∙ has-readers_after journal who change x)
+    (λ x. has-readers (journal ++ entry who change ∷ []) who x ∙ stands_push_own journal who change (Grant x) ∙ has-readers_after journal who change x)
 
 pub own_entries_push : (journal : List Entry) (who : List ℕ) (change : Change) → entries_of who (journal ++ entry who change ∷ []) ≡ entries_of who journal ++ entry who change ∷ []
 own_entries_push journal who change =
@@ -240,10 +236,10 @@ decided journal who RevokeAll early = early
 
 -- but for an upload's, they are as it needs them
 pub page_due : (journal : List Entry) (pages : BTreeMap (List ℕ) PageState) (who : List ℕ) (change : Change) → ArePages journal pages → early_refusal journal who change ≡ None →
-    uploads change ≡ false → is_due change (page_at pages who).rows ≡ true
+    uploaded change ≡ None → is_due change (page_at pages who).rows ≡ true
 page_due journal pages who change right early other = ap (λ (k : PageState). is_due change k.rows) (right who) ∙ by change early other
   where
-    by : (x : Change) → early_refusal journal who x ≡ None → uploads x ≡ false → is_due x (vault journal who) ≡ true
+    by : (x : Change) → early_refusal journal who x ≡ None → uploaded x ≡ None → is_due x (vault journal who) ≡ true
     by (Upload c) early upload = cc
     by (Withdraw c) early other = due journal who (Withdraw c) early
     by (Grant reader) early other = refl

@@ -5,11 +5,12 @@ use Rattle.std.specs.Ordering.{eq_by_cmp}
 use Rattle.std.specs.BTreeMap.{BTreeMap, get}
 use Rattle.names.specs.Name.{is_same, name_order}
 use Rattle.vaults.specs.declared.changes.Change.{Change}
-use Rattle.vaults.specs.declared.changes.Change.TheVariants.{Upload}
+use Rattle.vaults.specs.declared.changes.Change.TheVariants.{Upload, Grant, GrantAll}
 use Rattle.vaults.specs.declared.changes.Entry.{Entry}
 use Rattle.vaults.specs.declared.faults.VaultFault.{VaultFault}
 use Rattle.vaults.specs.declared.faults.VaultFault.TheVariants.{NotIssuer}
-use Rattle.vaults.specs.Journal.{concerns, grants, granted, is_for_all, grants_all, is_public, refusal, AreAccepted}
+use Rattle.vaults.specs.Journal.{gift, gives_same, granted, is_public, refusal, AreAccepted}
+use Rattle.vaults.specs.Owed.{gives}
 use Rattle.vaults.specs.Page.{PageState, page_at, page_of, page_after}
 
 -- each tenant's page is what the journal gives it
@@ -57,7 +58,7 @@ IsUnchanged old new = (tenant : List ℕ) → page_at new tenant ≡ page_at old
 -- the change is kept for the reader that it concerns, and every other reader has the owners that it had
 abbrev pub KeepsGrant : List ℕ → Change → BTreeMap (List ℕ) (List (List ℕ)) → BTreeMap (List ℕ) (List (List ℕ)) → Type 0
 KeepsGrant who change old new = (owner reader : List ℕ) → is_granting new owner reader
-    ≡ (if is_same who owner && concerns reader change then grants change else is_granting old owner reader)
+    ≡ (if is_same who owner && gives_same (gift change) (Grant reader) then gives change else is_granting old owner reader)
 
 -- every reader has the owners that it had
 abbrev pub SameGranting : BTreeMap (List ℕ) (List (List ℕ)) → BTreeMap (List ℕ) (List (List ℕ)) → Type 0
@@ -66,7 +67,7 @@ SameGranting old new = (owner reader : List ℕ) → is_granting new owner reade
 -- where the change is for all readers it is kept of the owner, and every other owner's vault is public or not as it was
 abbrev pub KeepsPublic : List ℕ → Change → List (List ℕ) → List (List ℕ) → Type 0
 KeepsPublic who change old new = (owner : List ℕ) → is_listed new owner
-    ≡ (if is_same who owner && is_for_all change then grants_all change else is_listed old owner)
+    ≡ (if is_same who owner && gives_same (gift change) GrantAll then gives change else is_listed old owner)
 
 -- the same vaults are public
 abbrev pub SamePublic : List (List ℕ) → List (List ℕ) → Type 0

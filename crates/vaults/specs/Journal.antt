@@ -2,6 +2,7 @@
 use Rattle.std.specs.Prelude.{ℕ, Bool, true, false, not, ◌≡◌, ◌+◌, ◌&&◌, ◌||◌, if◌then◌else◌, Option, Some, None}
 use Rattle.std.specs.Prelude.{List, [], ◌∷◌, ◌++◌, length, map, filter, find, reverse, take}
 use Rattle.std.specs.List.{filter_map, slice_get}
+use Rattle.std.specs.Option.{option_map_or}
 use Rattle.std.specs.Ordering.{eq_by_cmp}
 use Rattle.names.specs.Name.{is_same, name_order}
 use Rattle.credential_text.specs.declared.credentials.Credential.{Credential}
@@ -15,123 +16,56 @@ use Rattle.vaults.specs.declared.faults.VaultFault.TheVariants.{NotIssuer, Alrea
 use Rattle.vaults.specs.declared.faults.VaultFault.TheVariants.{AlreadyGranted, NotGranted, GrantSelf}
 use Rattle.vaults.specs.InOrder.{in_order}
 
--- the same credential: equally placed in the order
-abbrev pub is_same_credential : Credential → Credential → Bool
-is_same_credential = eq_by_cmp credential_order
+-- the change that gives what this one gives or takes back
+abbrev pub gift : Change → Change
+gift (Withdraw c) = Upload c
+gift (Revoke reader) = Grant reader
+gift RevokeAll = GrantAll
+gift change = change
 
--- the change uploads or withdraws the credential
-abbrev pub moves : Credential → Change → Bool
-moves c (Upload d) = is_same_credential d c
-moves c (Withdraw d) = is_same_credential d c
-moves c (Grant reader) = false
-moves c (Revoke reader) = false
-moves c GrantAll = false
-moves c RevokeAll = false
-
--- the change grants to the reader or revokes from it; what it does for all readers concerns none of them
-abbrev pub concerns : List ℕ → Change → Bool
-concerns reader (Upload c) = false
-concerns reader (Withdraw c) = false
-concerns reader (Grant other) = is_same other reader
-concerns reader (Revoke other) = is_same other reader
-concerns reader GrantAll = false
-concerns reader RevokeAll = false
-
--- the change grants to all readers or revokes from all
-abbrev pub is_for_all : Change → Bool
-is_for_all (Upload c) = false
-is_for_all (Withdraw c) = false
-is_for_all (Grant reader) = false
-is_for_all (Revoke reader) = false
-is_for_all GrantAll = true
-is_for_all RevokeAll = true
-
--- the credential that the change uploads or withdraws
-abbrev pub change_credential : Change → Option Credential
-change_credential (Upload c) = Some c
-change_credential (Withdraw c) = Some c
-change_credential (Grant reader) = None
-change_credential (Revoke reader) = None
-change_credential GrantAll = None
-change_credential RevokeAll = None
-
--- the credential that an entry uploads or withdraws
-abbrev pub moved_credential : Entry → Option Credential
-moved_credential e = change_credential e.change
-
--- the reader whom the change grants or revokes
-abbrev pub change_reader : Change → Option (List ℕ)
-change_reader (Upload c) = None
-change_reader (Withdraw c) = None
-change_reader (Grant reader) = Some reader
-change_reader (Revoke reader) = Some reader
-change_reader GrantAll = None
-change_reader RevokeAll = None
-
--- the reader whom an entry grants or revokes
-abbrev pub named_reader : Entry → Option (List ℕ)
-named_reader e = change_reader e.change
-
--- there is an entry, and its change is of this kind
-abbrev pub entry_is : (Change → Bool) → Option Entry → Bool
-entry_is kind None = false
-entry_is kind (Some e) = kind e.change
-
--- the change is an upload
-abbrev pub uploads : Change → Bool
-uploads (Upload c) = true
-uploads (Withdraw c) = false
-uploads (Grant reader) = false
-uploads (Revoke reader) = false
-uploads GrantAll = false
-uploads RevokeAll = false
-
--- the change grants to one reader
-abbrev pub grants : Change → Bool
-grants (Upload c) = false
-grants (Withdraw c) = false
-grants (Grant reader) = true
-grants (Revoke reader) = false
-grants GrantAll = false
-grants RevokeAll = false
-
--- the change grants to all readers
-abbrev pub grants_all : Change → Bool
-grants_all (Upload c) = false
-grants_all (Withdraw c) = false
-grants_all (Grant reader) = false
-grants_all (Revoke reader) = false
-grants_all GrantAll = true
-grants_all RevokeAll = false
-
--- the change ends what one reader or all readers were granted
-abbrev pub revokes : Change → Bool
-revokes (Upload c) = false
-revokes (Withdraw c) = false
-revokes (Grant reader) = false
-revokes (Revoke reader) = true
-revokes GrantAll = false
-revokes RevokeAll = true
+-- both give the same: the same credential to the vault, or reading to the same reader or to all
+abbrev pub gives_same : Change → Change → Bool
+gives_same (Upload c) (Upload d) = eq_by_cmp credential_order c d
+gives_same (Grant reader) (Grant other) = is_same reader other
+gives_same GrantAll GrantAll = true
+gives_same _ _ = false
 
 -- the tenant's own entries, in order
 abbrev pub entries_of : List ℕ → List Entry → List Entry
 entries_of tenant journal = filter (λ e. is_same e.tenant tenant) journal
 
--- the last entry of the tenant whose change passes the test
-abbrev pub last_entry : List Entry → List ℕ → (Change → Bool) → Option Entry
-last_entry journal tenant test = find (λ e. is_same e.tenant tenant && test e.change) (reverse journal)
+-- the owner's last entry that gives or takes back what the change gives is one that gives it
+abbrev pub stands : List Entry → List ℕ → Change → Bool
+stands journal owner change = option_map_or (λ e. gives_same e.change change)
+    (find (λ e. gives_same (gift e.change) change) (reverse (entries_of owner journal))) false
 
--- the owner's last entry that uploads or withdraws the credential is an upload
+-- the owner's upload of the credential stands
 abbrev pub holds : List Entry → List ℕ → Credential → Bool
-holds journal owner c = entry_is uploads (last_entry journal owner (moves c))
+holds journal owner c = stands journal owner (Upload c)
 
--- the owner's last entry that grants to the reader or revokes from it is a grant
+-- the owner's grant to the reader stands
 abbrev pub granted : List Entry → List ℕ → List ℕ → Bool
-granted journal owner reader = entry_is grants (last_entry journal owner (concerns reader))
+granted journal owner reader = stands journal owner (Grant reader)
 
--- the owner's last entry that grants to all or revokes from all is a grant
+-- the owner's grant to all readers stands
 abbrev pub is_public : List Entry → List ℕ → Bool
-is_public journal owner = entry_is grants_all (last_entry journal owner is_for_all)
+is_public journal owner = stands journal owner GrantAll
+
+-- the change ends what one reader or all readers were granted
+abbrev pub revokes : Change → Bool
+revokes (Revoke reader) = true
+revokes RevokeAll = true
+revokes _ = false
+
+-- the credential that the change uploads
+abbrev pub uploaded : Change → Option Credential
+uploaded (Upload c) = Some c
+uploaded _ = None
+
+-- the reader whom the change grants
+abbrev pub named_reader : Change → Option (List ℕ)
+named_reader (Grant reader) = Some reader
+named_reader _ = None
 
 -- the reader reads the owner's vault: its own, one that it is granted, or one that is public
 abbrev pub reads : List Entry → List ℕ → List ℕ → Bool
@@ -140,11 +74,13 @@ reads journal reader owner = is_same owner reader || (granted journal owner read
 -- the credentials that the owner issues and holds, in order, each once
 unfoldable pub vault : List Entry → List ℕ → List Credential
 vault journal owner = in_order credential_order
-    (filter (λ c. is_same c.head.owner owner && holds journal owner c) (filter_map moved_credential (entries_of owner journal)))
+    (filter (λ c. is_same c.head.owner owner && holds journal owner c)
+    (filter_map (λ e. uploaded e.change) (entries_of owner journal)))
 
 -- the readers that the owner has granted, in order, each once
 unfoldable pub readers : List Entry → List ℕ → List (List ℕ)
-readers journal owner = in_order name_order (filter (granted journal owner) (filter_map named_reader (entries_of owner journal)))
+readers journal owner =
+    in_order name_order (filter (granted journal owner) (filter_map (λ e. named_reader e.change) (entries_of owner journal)))
 
 -- one where it holds
 abbrev pub one_if : Bool → ℕ

@@ -5,7 +5,7 @@ use Rattle.names.specs.Name.{is_same, IsName}
 use Rattle.vaults.specs.declared.changes.Change.{Change}
 use Rattle.vaults.specs.declared.changes.Change.TheVariants.{Upload, Withdraw, Grant, Revoke, GrantAll, RevokeAll}
 use Rattle.vaults.specs.declared.changes.Entry.{Entry}
-use Rattle.vaults.specs.Journal.{moves, concerns, is_for_all}
+use Rattle.vaults.specs.Journal.{gift, gives_same}
 use Rattle.vaults.specs.Kept.{subject_of, entry_bytes, drafted, HasNames}
 
 -- the change gives what another takes back
@@ -17,27 +17,18 @@ gives (Revoke reader) = false
 gives GrantAll = true
 gives RevokeAll = false
 
--- the other change is about the same credential, the same reader, or all readers too
-abbrev pub is_about : Change → Change → Bool
-is_about (Upload c) other = moves c other
-is_about (Withdraw c) other = moves c other
-is_about (Grant reader) other = concerns reader other
-is_about (Revoke reader) other = concerns reader other
-is_about GrantAll other = is_for_all other
-is_about RevokeAll other = is_for_all other
-
--- the other entry is of the same tenant and about the same
+-- the other entry is of the same tenant, and gives or takes back the same
 abbrev pub follows : Entry → Entry → Bool
-follows e other = is_same other.tenant e.tenant && is_about e.change other.change
+follows e other = is_same other.tenant e.tenant && gives_same (gift other.change) (gift e.change)
 
--- the entry gives something, and no later one is about that
-abbrev pub stands : Entry → List Entry → Bool
-stands e later = gives e.change && not (list_any (follows e) later)
+-- the entry gives something, and no later one gives it or takes it back
+abbrev pub lasts : Entry → List Entry → Bool
+lasts e later = gives e.change && not (list_any (follows e) later)
 
--- for each entry that stands as many bytes as it has itself, since the one that takes it back has as many
+-- for each entry that lasts as many bytes as it has itself, since the one that takes it back has as many
 abbrev pub owed : List Entry → ℕ
 owed [] = 0
-owed (e ∷ later) = (if stands e later then length (entry_bytes e) else 0) + owed later
+owed (e ∷ later) = (if lasts e later then length (entry_bytes e) else 0) + owed later
 
 -- the tenant's change may be entered: its text is there, and where it gives something there is room for its entry and for the
 -- one that takes it back, beside the room that is kept already

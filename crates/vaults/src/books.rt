@@ -3,7 +3,7 @@ ghost use Rattle.std.specs.Prelude.{true, false, IsSome, IsOk, IfOk, IfErr, OnOk
 ghost use Rattle.std.specs.BTreeMap.{get};
 ghost use Rattle.names.specs.Name.{name_order};
 ghost use Rattle.vaults.specs.Journal.{entries_of, holds, granted, is_public, reads, revokes, refusal, AreAccepted};
-ghost use Rattle.vaults.specs.Journal.{vault, readers, grant_count, one_if, marked_names, uploads};
+ghost use Rattle.vaults.specs.Journal.{vault, readers, grant_count, one_if, marked_names, uploaded};
 ghost use Rattle.vaults.specs.Page.{page_at, page_fault, is_due};
 ghost use Rattle.vaults.specs.Version.{version_rows};
 ghost use Rattle.vaults.specs.Book.{is_granting, is_listed, KeepsChange, IsUnchanged, KeepsGrant, SameGranting, KeepsPublic, SamePublic};
@@ -314,7 +314,7 @@ fn keep(
     change: &Change,
 ) -> Result<u64, VaultFault>
     requires fits { (page_at pages.old who).changes + 1 < 2 ^ 64 }
-    requires due { uploads change.now ≡ false → is_due change.now (page_at pages.old who).rows ≡ true }
+    requires due { uploaded change.now ≡ None → is_due change.now (page_at pages.old who).rows ≡ true }
     requires first { (reader : List ℕ) → change.now ≡ Grant reader → is_granting granting.old who reader ≡ false }
     requires first_for_all { change.now ≡ GrantAll → is_listed public.old who ≡ false }
     ensures kept { OnOk result (KeepsChange who change.now pages.old pages.new) }
@@ -411,7 +411,7 @@ fn keep_on_page(
     change: &Change,
 ) -> Result<u64, VaultFault>
     requires fits { (page_at pages.old who).changes + 1 < 2 ^ 64 }
-    requires due { uploads change.now ≡ false → is_due change.now (page_at pages.old who).rows ≡ true }
+    requires due { uploaded change.now ≡ None → is_due change.now (page_at pages.old who).rows ≡ true }
     ensures kept { OnOk result (KeepsChange who change.now pages.old pages.new) }
     ensures due { OnOk result (is_due change.now (page_at pages.old who).rows ≡ true) }
     ensures count { IfOk result (λ n. n ≡ (page_at pages.old who).changes + 1) }

@@ -1,9 +1,9 @@
-ghost use Rattle.std.specs.Prelude.{◌≡◌, ◌+◌, ◌<◌, ◌^◌, true, false, IsOk, IfOk, IfErr, OnOk, OnErr, length};
+ghost use Rattle.std.specs.Prelude.{◌≡◌, ◌+◌, ◌<◌, ◌^◌, true, false, None, IsOk, IfOk, IfErr, OnOk, OnErr, length};
 ghost use Rattle.std.specs.List.{list_any};
 ghost use Rattle.std.specs.Ordering.{eq_by_cmp};
 ghost use Rattle.names.specs.Name.{name_order};
 ghost use Rattle.credential_text.specs.Credential.{credential_order};
-ghost use Rattle.vaults.specs.Journal.{revokes, uploads};
+ghost use Rattle.vaults.specs.Journal.{revokes, uploaded};
 ghost use Rattle.vaults.specs.Version.{version_rows};
 ghost use Rattle.vaults.specs.Page.{empty_page, page_after, page_fault, rows_after, is_due};
 ghost use Rattle.vaults.specs.declared.changes.Change.TheVariants.{Upload};
@@ -118,7 +118,7 @@ impl Page {
     /// Keeps one change more, and answers how many there are. An upload of what is there is refused.
     pub fn keep(&mut self, change: &Change) -> Result<u64, VaultFault>
         requires fits { self.old.changes + 1 < 2 ^ 64 }
-        requires due { uploads change.now ≡ false → is_due change.now self.old.rows ≡ true }
+        requires due { uploaded change.now ≡ None → is_due change.now self.old.rows ≡ true }
         ensures kept { OnOk result (self.new ≡ page_after change.now self.old) }
         ensures due { OnOk result (is_due change.now self.old.rows ≡ true) }
         ensures count { IfOk result (λ n. n ≡ self.old.changes + 1) }

@@ -1,7 +1,8 @@
 use Rattle.std.proofs.Common.{ℕ, List, true, false, ◌≡◌, ◌∙◌, Result, Ok, Err, OnOk, OnErr, is_err, sym, ap, refl, subst}
 use Rattle.std.proofs.lemmas.Result.{err_from_is_err_and}
 use Rattle.vaults.specs.declared.changes.Change.{Change}
-use Rattle.vaults.specs.Journal.{concerns, is_for_all, revokes}
+use Rattle.vaults.specs.declared.changes.Change.TheVariants.{Grant, GrantAll}
+use Rattle.vaults.specs.Journal.{gift, gives_same, revokes}
 use Rattle.vaults.specs.Page.{page_at, page_fault}
 use Rattle.vaults.specs.Book.{KeepsGrant, KeepsPublic, is_listed}
 use Rattle.vaults.proofs.Granting.{granting_stays, public_stays, of_rows, granting_undone, public_undone, public_added, public_dropped}
@@ -51,7 +52,7 @@ pub returns-else-is_err : goal.returns-else-is_err
 returns-else-is_err c = record {
   kept = c.keep_on_page-kept.ensures.kept;
   grant = on_ok c.keep_on_page-kept.result (subst (λ (x : Change). KeepsGrant c.args.who x c.args.granting.now c.add_granting.new.granting) (sym c.in-Grant.is) c.in_ok-add_granting-in-Grant.ensures.kept);
-  public = on_ok c.keep_on_page-kept.result (public_stays c.args.who c.args.change.now c.args.public.now (ap is_for_all c.in-Grant.is));
+  public = on_ok c.keep_on_page-kept.result (public_stays c.args.who c.args.change.now c.args.public.now (ap (λ (x : Change). gives_same (gift x) GrantAll) c.in-Grant.is));
   due = c.keep_on_page-kept.ensures.due;
   refused = c.keep_on_page-kept.ensures.refused;
   count = c.keep_on_page-kept.ensures.count;
@@ -81,7 +82,7 @@ pub returns-in_ok-count-in-Revoke : goal.returns-in_ok-count-in-Revoke
 returns-in_ok-count-in-Revoke c = record {
   kept = c.in_ok-count-in-Revoke.ensures.kept;
   grant = subst (λ (x : Change). KeepsGrant c.args.who x c.args.granting.now c.drop_granting-in-Revoke.new.granting) (sym c.in-Revoke.is) c.drop_granting-in-Revoke.ensures;
-  public = public_stays c.args.who c.args.change.now c.args.public.now (ap is_for_all c.in-Revoke.is);
+  public = public_stays c.args.who c.args.change.now c.args.public.now (ap (λ (x : Change). gives_same (gift x) GrantAll) c.in-Revoke.is);
   due = c.in_ok-count-in-Revoke.ensures.due;
   refused = tt;
   count = c.in_ok-count-in-Revoke.ensures.count;
@@ -126,7 +127,7 @@ returns-then-is_err-2 c = record {
 pub returns-else-is_err-2 : goal.returns-else-is_err-2
 returns-else-is_err-2 c = record {
   kept = c.keep_on_page-counted.ensures.kept;
-  grant = on_ok c.keep_on_page-counted.result (granting_stays c.args.who c.args.change.now c.args.granting.now (λ reader. ap (concerns reader) c.in-GrantAll.is));
+  grant = on_ok c.keep_on_page-counted.result (granting_stays c.args.who c.args.change.now c.args.granting.now (λ reader. ap (λ (x : Change). gives_same (gift x) (Grant reader)) c.in-GrantAll.is));
   public = on_ok c.keep_on_page-counted.result (subst (λ (x : Change). KeepsPublic c.args.who x c.args.public.now c.add.new.self)
       (sym c.in-GrantAll.is) (public_added _ _ _ c.in_ok-add-in-GrantAll.ensures.added));
   due = c.keep_on_page-counted.ensures.due;
@@ -157,7 +158,7 @@ returns-in_err-count-in-RevokeAll c =
 pub returns-in_ok-count-in-RevokeAll : goal.returns-in_ok-count-in-RevokeAll
 returns-in_ok-count-in-RevokeAll c = record {
   kept = c.in_ok-count-in-RevokeAll.ensures.kept;
-  grant = granting_stays c.args.who c.args.change.now c.args.granting.now (λ reader. ap (concerns reader) c.in-RevokeAll.is);
+  grant = granting_stays c.args.who c.args.change.now c.args.granting.now (λ reader. ap (λ (x : Change). gives_same (gift x) (Grant reader)) c.in-RevokeAll.is);
   public = subst (λ (x : Change). KeepsPublic c.args.who x c.args.public.now c.remove-in-RevokeAll.new.self)
       (sym c.in-RevokeAll.is) (public_dropped _ _ _ c.remove-in-RevokeAll.ensures);
   due = c.in_ok-count-in-RevokeAll.ensures.due;

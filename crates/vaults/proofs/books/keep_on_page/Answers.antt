@@ -1,9 +1,9 @@
-use Rattle.std.proofs.Common.{List, ℕ, Some, Option, unwrap_or, is_some, ◌≡◌, ◌∙◌, ◌+◌, sym, ap, refl, cond, subst, true, IfOk, IfErr, OnOk}
+use Rattle.std.proofs.Common.{List, ℕ, Some, Option, unwrap_or, is_some, ◌≡◌, ◌∙◌, ◌+◌, sym, ap, cond, subst, true, IfOk, IfErr, OnOk}
 use Rattle.std.specs.Ordering.{eq_by_cmp}
 use Rattle.std.proofs.lemmas.Result.{on_ok_weaker, on_err_weaker}
 use Rattle.std.specs.BTreeMap.{BTreeMap, get}
 use Rattle.names.specs.Name.{name_order}
-use Rattle.vaults.specs.Page.{PageState, empty_page, page_after, page_at, page_fault, is_due}
+use Rattle.vaults.specs.Page.{PageState, empty_page, page_after, page_fault, is_due}
 use Rattle.vaults.proofs.PageWrites.{page_there, page_kept, page_same}
 use Rattle.vaults.proofs.books.keep_on_page.Goals as goal
 
