@@ -20,7 +20,7 @@ use Rattle.proof_trees.specs.declared.placed_solutions.PlacedSolution.{PlacedSol
 use Rattle.proof_trees.specs.declared.steps.Step.{Step}
 use Rattle.proof_trees.specs.declared.steps.Rule.{Rule}
 use Rattle.proof_trees.specs.declared.steps.Rule.TheVariants as rule
-use Rattle.proof_trees.specs.Proof.{Claims, IsBy}
+use Rattle.proof_trees.specs.Proof.{Claims, IsBy, leaf, credential, link, meet}
 use Rattle.proof_trees.specs.Lean.{AreApart, cited}
 use Rattle.proof_trees.specs.PlacedSolution.{Stands, AreByRows, IsPremiseOf}
 use Rattle.proof_trees.specs.Draft.{DraftState, IsStepOf, IsDraft, IsByReason, IsStepped}
@@ -77,14 +77,17 @@ module _ (g : GraphState) (d : DraftState) (draft : IsDraft g d) where
 -- a rule that follows the reason is RT0's
 by_rule : (rows : List Credential) (g : GraphState) (steps : List Step) (n : ℕ) (who : List ℕ) (why : Reason ℕ (List ℕ)) (by : Rule) (claim : Expr) →
     ByRow rows g n why → IsNode g n claim → IsByReason g steps n who why by → IsBy rows steps who claim by
-by_rule rows g steps n who reason.Leaf rule.Leaf claim row node is = same_Some claim (expr.Ent who) (sym node ∙ is)
+by_rule rows g steps n who reason.Leaf rule.Leaf claim row node is =
+    subst (λ (e : Expr). IsBy rows steps who e rule.Leaf) (same_Some (expr.Ent who) claim (sym is ∙ node)) leaf
 by_rule rows g steps n who (reason.Body m) (rule.Cred place) claim (c, among, head, body) node (e, again, claims) =
     let exprs : e ≡ c.body = cc in
-    (c.head, c.body, same_Some claim (expr.Rol c.head) (sym node ∙ head), (c, among, refl, refl), subst (Claims steps place who) exprs claims)
+    subst (λ (x : Expr). IsBy rows steps who x (rule.Cred place)) (same_Some (expr.Rol c.head) claim (sym head ∙ node))
+    (credential c among refl (subst (Claims steps place who) exprs claims))
 by_rule rows g steps n who (reason.Via b) (rule.Link base_place role_place) claim row node (base, name, again, in_base, in_role) =
-    (base, name, b, same_Some claim (expr.Link base name) (sym node ∙ again), in_base, in_role)
+    subst (λ (x : Expr). IsBy rows steps who x (rule.Link base_place role_place)) (same_Some (expr.Link base name) claim (sym again ∙ node))
+    (link b in_base in_role)
 by_rule rows g steps n who reason.Parts (rule.Parts places) claim row node (p, ps, again, each) =
-    (p, ps, same_Some claim (expr.Meet (p ∷ ps)) (sym node ∙ again), each)
+    subst (λ (x : Expr). IsBy rows steps who x (rule.Parts places)) (same_Some (expr.Meet (p ∷ ps)) claim (sym again ∙ node)) (meet each)
 by_rule rows g steps n who why by claim row node is = absurd is
 
 -- a draft with one step more is a draft

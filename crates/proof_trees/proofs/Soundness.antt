@@ -1,16 +1,16 @@
 -- What a proof proves is derivable.
-use Rattle.std.proofs.Common.{◌≡◌, ℕ, zero, suc, ◌+◌, ◌<◌, List, [], ◌∷◌, Some, take, sym, subst, arith}
+use Rattle.std.proofs.Common.{◌≡◌, ℕ, zero, suc, ◌+◌, ◌<◌, List, [], ◌∷◌, Some, take, subst, arith}
 use Rattle.std.specs.Prelude.{slice_get}
 use Rattle.credential_text.specs.declared.credentials.Credential.{Credential}
 use Rattle.credential_text.specs.declared.intersections.Part.{Part}
 use Rattle.credential_text.specs.declared.exprs.Expr.{Expr}
 use Rattle.credential_text.specs.declared.exprs.Expr.TheVariants as expr
 use Rattle.credential_text.specs.Expr.{part_expr}
-use Rattle.rt0_rules.specs.Derivation.{Derives, DerivesEach, leaf, credential, link, meet, last, more}
+use Rattle.rt0_rules.specs.Derivation.{Derives, DerivesEach}
+use Rattle.rt0_rules.specs.Derivation as derives
 use Rattle.proof_trees.specs.declared.steps.Step.{Step}
 use Rattle.proof_trees.specs.declared.steps.Rule.{Rule}
-use Rattle.proof_trees.specs.declared.steps.Rule.TheVariants as rule
-use Rattle.proof_trees.specs.Proof.{Claims, ClaimsEach, IsBy, AreByRules, Concludes}
+use Rattle.proof_trees.specs.Proof.{Claims, ClaimsEach, IsBy, leaf, credential, link, meet, AreByRules, Concludes}
 use Rattle.proof_trees.specs.Laws.{ProofsAreSound}
 use Rattle.proof_trees.proofs.Taken.{from_front}
 
@@ -26,20 +26,16 @@ module _ (credentials : List Credential) (steps : List Step) (i : ℕ) (earlier 
 
   claimed_each : (places : List ℕ) (who : List ℕ) (p : Part) (ps : List Part) → ClaimsEach (take i steps) places who (p ∷ ps) → DerivesEach credentials who (p ∷ ps)
   claimed_each [] who p ps each = absurd each
-  claimed_each (k ∷ ks) who p [] each = last (claimed k who (part_expr p) each.0)
-  claimed_each (k ∷ ks) who p (q ∷ ps) each = more (claimed k who (part_expr p) each.0) (claimed_each ks who q ps each.1)
+  claimed_each (k ∷ ks) who p [] each = derives.last (claimed k who (part_expr p) each.0)
+  claimed_each (k ∷ ks) who p (q ∷ ps) each = derives.more (claimed k who (part_expr p) each.0) (claimed_each ks who q ps each.1)
 
   -- a step by its rule from derivable steps is derivable
   derived_by : (who : List ℕ) (claim : Expr) (r : Rule) → IsBy credentials (take i steps) who claim r → Derives credentials who claim
-  derived_by who claim rule.Leaf is = subst (λ (e : Expr). Derives credentials who e) (sym is) leaf
-  derived_by who claim (rule.Cred place) (head, body, is, (c, among, heads, bodies), body_claimed) =
-      subst (λ (e : Expr). Derives credentials who e) (sym is)
-      (credential c among heads (subst (λ (e : Expr). Derives credentials who e) (sym bodies) (claimed place who body body_claimed)))
-  derived_by who claim (rule.Link base_place role_place) (base, name, member, is, in_base, in_role) =
-      subst (λ (e : Expr). Derives credentials who e) (sym is)
-      (link member (claimed base_place member (expr.Rol base) in_base) (claimed role_place who (expr.Rol (record { owner = member; name = name })) in_role))
-  derived_by who claim (rule.Parts places) (part, parts, is, each) =
-      subst (λ (e : Expr). Derives credentials who e) (sym is) (meet (claimed_each places who part parts each))
+  derived_by who claim r leaf = derives.leaf
+  derived_by who claim r (credential {i = place} c among is claims) = derives.credential c among is (claimed place who c.body claims)
+  derived_by who claim r (link {base = base} {n = name} {i = base_place} {j = role_place} b in_base in_role) =
+      derives.link b (claimed base_place b (expr.Rol base) in_base) (claimed role_place who (expr.Rol (record { owner = b; name = name })) in_role)
+  derived_by who claim r (meet {p = p} {parts = ps} {places = places} each) = derives.meet (claimed_each places who p ps each)
 
 -- every claim below the bound is derivable
 derived_below : (credentials : List Credential) (steps : List Step) → AreByRules credentials steps → (bound : ℕ) → AreDerived credentials steps bound

@@ -5,50 +5,33 @@ use Rattle.names.specs.declared.roles.Role.{Role}
 use Rattle.credential_text.specs.declared.credentials.Credential.{Credential}
 use Rattle.credential_text.specs.declared.intersections.Part.{Part}
 use Rattle.credential_text.specs.declared.exprs.Expr.{Expr}
-use Rattle.credential_text.specs.declared.exprs.Expr.TheVariants as expr
+use Rattle.credential_text.specs.declared.exprs.Expr.TheVariants.{Ent, Rol, Link, Meet}
 use Rattle.credential_text.specs.Expr.{part_expr}
 use Rattle.proof_trees.specs.declared.steps.Step.{Step}
 use Rattle.proof_trees.specs.declared.steps.Rule.{Rule}
-use Rattle.proof_trees.specs.declared.steps.Rule.TheVariants.{Leaf, Cred, Link, Parts}
+use Rattle.proof_trees.specs.declared.steps.Rule.TheVariants as rule
 
 -- the step at the place claims the entity in the expression
 abbrev pub Claims : List Step → ℕ → List ℕ → Expr → Type 0
 Claims steps place who claim = (s : Step) × (slice_get steps place ≡ Some s) × (s.who ≡ who) × (s.claim ≡ claim)
 
--- the credential of this head and body is among them
-abbrev pub HasCredential : List Credential → Role → Expr → Type 0
-HasCredential credentials head body = (c : Credential) × Contains credentials c × (c.head ≡ head) × (c.body ≡ body)
-
--- an entity is in itself
-abbrev pub IsByLeaf : List ℕ → Expr → Type 0
-IsByLeaf who claim = claim ≡ expr.Ent who
-
--- who is in the body of a credential is in its head
-abbrev pub IsByCredential : List Credential → List Step → List ℕ → Expr → ℕ → Type 0
-IsByCredential credentials before who claim place =
-    (head : Role) × (body : Expr) × (claim ≡ expr.Rol head) × HasCredential credentials head body × Claims before place who body
-
--- who is in the role of this name of a member of the base is in the linked role
-abbrev pub IsByLink : List Step → List ℕ → Expr → ℕ → ℕ → Type 0
-IsByLink before who claim base_place role_place =
-    (base : Role) × (name : List ℕ) × (member : List ℕ) × (claim ≡ expr.Link base name)
-    × Claims before base_place member (expr.Rol base) × Claims before role_place who (expr.Rol (record { owner = member; name = name }))
-
 -- the steps at these places claim the entity in these parts, one for each
 abbrev pub ClaimsEach : List Step → List ℕ → List ℕ → List Part → Type 0
-ClaimsEach before places who parts = AllZip (λ place part. Claims before place who (part_expr part)) places parts
+ClaimsEach steps places who parts = AllZip (λ place part. Claims steps place who (part_expr part)) places parts
 
--- who is in every part, of one or more, is in the intersection
-abbrev pub IsByParts : List Step → List ℕ → Expr → List ℕ → Type 0
-IsByParts before who claim places =
-    (part : Part) × (parts : List Part) × (claim ≡ expr.Meet (part ∷ parts)) × ClaimsEach before places who (part ∷ parts)
-
--- the rule gives the claim from the steps before it
-abbrev pub IsBy : List Credential → List Step → List ℕ → Expr → Rule → Type 0
-IsBy credentials before who claim Leaf = IsByLeaf who claim
-IsBy credentials before who claim (Cred place) = IsByCredential credentials before who claim place
-IsBy credentials before who claim (Link base role) = IsByLink before who claim base role
-IsBy credentials before who claim (Parts places) = IsByParts before who claim places
+-- by the rule the entity d is in the expression, over the credentials C, from what the steps before claim
+pub data IsBy (C : List Credential) (before : List Step) : List ℕ → Expr → Rule → Type 0 where
+  -- an entity is in itself
+  leaf : {d : List ℕ} → IsBy C before d (Ent d) rule.Leaf
+  -- who is in the body is in the head
+  credential : {d : List ℕ} {r : Role} {i : ℕ} (c : Credential) → Contains C c → c.head ≡ r → Claims before i d c.body →
+      IsBy C before d (Rol r) (rule.Cred i)
+  -- who is in B.n for some B in the base is in the linked role
+  link : {d : List ℕ} {base : Role} {n : List ℕ} {i j : ℕ} (b : List ℕ) → Claims before i b (Rol base) →
+      Claims before j d (Rol (record { owner = b; name = n })) → IsBy C before d (Link base n) (rule.Link i j)
+  -- who is in every part, of one or more, is in the intersection
+  meet : {d : List ℕ} {p : Part} {parts : List Part} {places : List ℕ} → ClaimsEach before places d (p ∷ parts) →
+      IsBy C before d (Meet (p ∷ parts)) (rule.Parts places)
 
 -- each step is by its rule from the steps before it
 abbrev pub AreByRules : List Credential → List Step → Type 0
@@ -62,4 +45,4 @@ Concludes steps who claim = (last : ℕ) × (length steps ≡ last + 1) × Claim
 -- a proof that the entity is a member of the role
 pub record IsProof (credentials : List Credential) (role : Role) (who : List ℕ) (steps : List Step) : Type 0 where
   pub by_rules : AreByRules credentials steps
-  pub concludes : Concludes steps who (expr.Rol role)
+  pub concludes : Concludes steps who (Rol role)

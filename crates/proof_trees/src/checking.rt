@@ -1,5 +1,6 @@
-ghost use Rattle.std.specs.Prelude.{◌≡◌, ◌↔◌, IsTrue, slice_get, option_copied};
-ghost use Rattle.proof_trees.specs.Proof.{Claims, ClaimsEach, IsBy, IsByCredential, IsByLink, IsByParts, AreByRules, IsProof};
+ghost use Rattle.std.specs.Prelude.{◌≡◌, ◌↔◌, List, IsTrue, slice_get, option_copied};
+ghost use Rattle.credential_text.specs.declared.credentials.Credential.{Credential as AnyCredential};
+ghost use Rattle.proof_trees.specs.Proof.{Claims, ClaimsEach, IsBy, AreByRules, IsProof};
 
 use crate::listed_credentials::has_credential;
 use crate::proofs::Proof;
@@ -49,7 +50,7 @@ fn is_by_rule(credentials: &[Credential], before: &[Step], step: &Step) -> bool
 
 /// Whether a credential gives the claim from the step at this place.
 fn is_by_credential(credentials: &[Credential], before: &[Step], step: &Step, place: usize) -> bool
-    ensures { IsTrue result ↔ IsByCredential credentials.now before.now step.now.who step.now.claim place }
+    ensures { IsTrue result ↔ IsBy credentials.now before.now step.now.who step.now.claim (Rule.Cred place) }
 {
     let Some(body) = step_at(before, place) else {
         return false;
@@ -64,7 +65,8 @@ fn is_by_credential(credentials: &[Credential], before: &[Step], step: &Step, pl
 
 /// Whether the claim is of a linked role, and the steps at these places are of its base and of the role of a member.
 fn is_by_link(before: &[Step], step: &Step, base_place: usize, role_place: usize) -> bool
-    ensures { IsTrue result ↔ IsByLink before.now step.now.who step.now.claim base_place role_place }
+    ensures { (credentials : List AnyCredential) → (IsTrue result ↔
+        IsBy credentials before.now step.now.who step.now.claim (Rule.Link base_place role_place)) }
 {
     let Some(member) = step_at(before, base_place) else {
         return false;
@@ -84,7 +86,8 @@ fn is_by_link(before: &[Step], step: &Step, base_place: usize, role_place: usize
 
 /// Whether the claim is of an intersection, and the steps at these places are of its parts.
 fn is_by_parts(before: &[Step], step: &Step, places: &[usize]) -> bool
-    ensures { IsTrue result ↔ IsByParts before.now step.now.who step.now.claim places.now }
+    ensures { (credentials : List AnyCredential) → (IsTrue result ↔
+        IsBy credentials before.now step.now.who step.now.claim (Rule.Parts places.now)) }
 {
     match &step.claim {
         Expr::Meet(parts) => claims_each(before, places, &step.who, parts.as_slice()),

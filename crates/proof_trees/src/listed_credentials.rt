@@ -1,5 +1,5 @@
-ghost use Rattle.std.specs.Prelude.{◌≡◌, ◌↔◌, IsTrue};
-ghost use Rattle.proof_trees.specs.Proof.{HasCredential};
+ghost use Rattle.std.specs.Prelude.{◌≡◌, ◌↔◌, IsTrue, Contains};
+ghost use Rattle.credential_text.specs.declared.credentials.Credential.{Credential as AnyCredential};
 
 use credential_text::{Credential, Expr};
 use names::Role;
@@ -7,7 +7,7 @@ use names::Role;
 /// Whether the credential of this head and body is among these. Where they are sorted, one that is there is found by
 /// halving; a credential that this doesn't find is looked for one by one.
 pub(crate) fn has_credential(credentials: &[Credential], head: &Role, body: &Expr) -> bool
-    ensures { IsTrue result ↔ HasCredential credentials.now head.now body.now }
+    ensures { IsTrue result ↔ ((c : AnyCredential) × Contains credentials.now c × (c.head ≡ head.now) × (c.body ≡ body.now)) }
 {
     if let Ok(place) = credentials.binary_search_by(|other| other
         .head

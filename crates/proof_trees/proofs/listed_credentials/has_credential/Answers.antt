@@ -2,8 +2,7 @@ use Rattle.std.proofs.Common.{◌≡◌, ◌∙◌, ℕ, Some, sym, refl, true�
 use Rattle.std.specs.Prelude.{slice_get}
 use Rattle.std.proofs.lemmas.Option.{slice_get_read}
 use Rattle.credential_text.specs.declared.credentials.Credential.{Credential}
-use Rattle.proof_trees.specs.Proof.{HasCredential}
-use Rattle.proof_trees.proofs.RuleLemmas.{never}
+use Rattle.proof_trees.proofs.RuleLemmas.{HasCredential, never}
 use Rattle.proof_trees.proofs.Taken.{up_to}
 use Rattle.proof_trees.proofs.listed_credentials.has_credential.Goals as goal
 
