@@ -1,12 +1,13 @@
 -- The lines of the first steps and of one more.
 use Rattle.std.proofs.Common.{◌≡◌, ◌∙◌, ℕ, ◌+◌, List, [], ◌∷◌, ◌++◌, length, ap, sym, arith, append_assoc, Option, codes, Result, Ok, Err, OnOk, OnErr, take}
 use Rattle.std.proofs.lemmas.List.{append-nil}
+use Rattle.std.specs.Option.{option_map_or}
 use Rattle.names.specs.Role.{role_text}
 use Rattle.credential_text.specs.declared.exprs.Expr.{Expr}
 use Rattle.credential_text.specs.Expr.{expr_text}
 use Rattle.credential_text.proofs.Keeping.{Keeps, keeps-append, keeps_same}
 use Rattle.proof_trees.specs.declared.steps.Step.{Step}
-use Rattle.proof_trees.specs.Text.{claim_text, line_text, lines_from}
+use Rattle.proof_trees.specs.Text.{line_text, lines_from}
 use Rattle.proof_trees.specs.Laws.{CitedAreCanonical}
 
 -- what four writes append
@@ -32,6 +33,10 @@ lines_push steps number [] s n is = append-nil (line_text steps number s) ∙ ap
 lines_push steps number (t ∷ some) s n is =
     ap (λ (text : List ℕ). line_text steps number t ++ text) (lines_push steps (number + 1) some s n (omega arith))
     ∙ sym (append_assoc (line_text steps number t) (lines_from steps (number + 1) some) (line_text steps n s))
+
+-- the claim of a step, if there is one
+abbrev pub claim_text : Option Step → List ℕ
+claim_text found = option_map_or (λ (s : Step). expr_text s.claim) found []
 
 -- the step of its body gives a credential's text its second half
 pub cited_canonical : CitedAreCanonical

@@ -1,11 +1,20 @@
 -- The solutions that a walk over the reasons still needs, each a premise of the one before it.
-use Rattle.std.proofs.Common.{ℕ, ◌+◌, ◌-◌, ◌*◌, ◌≡◌, ◌⊎◌, List, [], ◌∷◌, ◌++◌, Some, Contains, length, slice_get}
-use Rattle.cred_graph.specs.Graph.{GraphState}
+use Rattle.std.proofs.Common.{ℕ, ◌+◌, ◌-◌, ◌*◌, ◌<◌, ◌≡◌, ◌⊎◌, List, [], ◌∷◌, ◌++◌, Some, Contains, length, slice_get}
+use Rattle.credential_text.specs.declared.exprs.Expr.{Expr}
+use Rattle.cred_graph.specs.Graph.{GraphState, IsNode}
 use Rattle.proof_trees.specs.declared.placed_solutions.PlacedSolution.{PlacedSolution}
 use Rattle.proof_trees.specs.declared.steps.Step.{Step}
 use Rattle.proof_trees.specs.Lean.{IsCitedLater}
-use Rattle.proof_trees.specs.PlacedSolution.{IsPremise, Supports}
+use Rattle.proof_trees.specs.PlacedSolution.{Stands, IsPremise}
 use Rattle.proof_trees.specs.Draft.{DraftState, IsDraft}
+
+-- the second stands in the graph as a premise of the first, found earlier
+pub record Supports (g : GraphState) (f p : PlacedSolution) : Type 0 where
+  pub stands : Stands g p
+  pub earlier : p.place < f.place
+  pub expr : Expr
+  pub node : IsNode g p.solution.node expr
+  pub premise : IsPremise g f.solution p.solution.who expr
 
 -- each is a premise of the one before it, and the first of this one
 abbrev pub IsPath : GraphState → PlacedSolution → List PlacedSolution → Type 0

@@ -13,13 +13,13 @@ use Rattle.proof_trees.specs.declared.steps.Step.{Step}
 use Rattle.proof_trees.specs.declared.steps.Rule.{Rule}
 use Rattle.proof_trees.specs.Proof.{Concludes}
 use Rattle.proof_trees.specs.Lean.{IsLean}
-use Rattle.proof_trees.specs.PlacedSolution.{Stands, Supports, IsPremise}
+use Rattle.proof_trees.specs.PlacedSolution.{Stands, IsPremise}
 use Rattle.proof_trees.specs.Draft.{DraftState, IsStepOf, IsDraft, IsMissingPremise, IsByReason, IsStepped}
 use Rattle.proof_trees.proofs.PlacedSolutionLemmas.{premise_earlier}
 use Rattle.proof_trees.proofs.DraftLemmas.{claims_found, are_apart, cites_premise, draft_stepped}
 use Rattle.proof_trees.proofs.Numbered.{element_at, bounded-le}
 use Rattle.proof_trees.proofs.Zipped.{zip_length}
-use Rattle.proof_trees.proofs.Walk.{IsPath, IsNeeded, IsOfUse, IsWalk, first_need, walk_left}
+use Rattle.proof_trees.proofs.Walk.{Supports, IsPath, IsNeeded, IsOfUse, IsWalk, first_need, walk_left}
 
 -- the one that the last of a path is a premise of
 pub record HasCause (g : GraphState) (fs : List PlacedSolution) (p : PlacedSolution) : Type 0 where

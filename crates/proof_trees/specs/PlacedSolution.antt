@@ -1,5 +1,5 @@
 -- What a search found, by the order of finding, and the premises that it was found by.
-use Rattle.std.specs.Prelude.{ℕ, ◌<◌, ◌≡◌, ◌⊎◌, List, Some, Contains, slice_get}
+use Rattle.std.specs.Prelude.{ℕ, ◌≡◌, ◌⊎◌, List, Some, Contains, slice_get}
 use Rattle.names.specs.declared.roles.Role.{Role}
 use Rattle.credential_text.specs.declared.credentials.Credential.{Credential}
 use Rattle.credential_text.specs.declared.intersections.Part.{Part}
@@ -34,11 +34,3 @@ IsPremiseOf g n who reason.Parts d e =
 -- the same of a whole solution
 abbrev pub IsPremise : GraphState → Solution → List ℕ → Expr → Type 0
 IsPremise g s d e = IsPremiseOf g s.node s.who s.reason d e
-
--- the second stands in the graph as a premise of the first, found earlier
-pub record Supports (g : GraphState) (f p : PlacedSolution) : Type 0 where
-  pub stands : Stands g p
-  pub earlier : p.place < f.place
-  pub expr : Expr
-  pub node : IsNode g p.solution.node expr
-  pub premise : IsPremise g f.solution p.solution.who expr

@@ -1,6 +1,7 @@
 -- The text of a proof: a line for each step. In text, steps are counted from 1.
-use Rattle.std.specs.Prelude.{ℕ, ◌+◌, List, [], ◌∷◌, ◌++◌, Option, Some, None, slice_get, codes}
+use Rattle.std.specs.Prelude.{ℕ, ◌+◌, List, [], ◌∷◌, ◌++◌, slice_get, codes}
 use Rattle.std.specs.List.{flat_map}
+use Rattle.std.specs.Option.{option_map_or}
 use Rattle.std.specs.Fmt.{decimal}
 use Rattle.credential_text.specs.declared.exprs.Expr.{Expr}
 use Rattle.credential_text.specs.Expr.{expr_text}
@@ -8,18 +9,9 @@ use Rattle.proof_trees.specs.declared.steps.Step.{Step}
 use Rattle.proof_trees.specs.declared.steps.Rule.{Rule}
 use Rattle.proof_trees.specs.declared.steps.Rule.TheVariants.{Leaf, Cred, Link, Parts}
 
--- what a step claims its entity to be in; nothing where there is no step
-abbrev pub claim_text : Option Step → List ℕ
-claim_text None = []
-claim_text (Some s) = expr_text s.claim
-
--- the claim of the step at a place
-abbrev pub claim_at : List Step → ℕ → List ℕ
-claim_at steps place = claim_text (slice_get steps place)
-
--- the credential of this head whose body the step at the place is about
+-- the credential of this head whose body is what the step at the place claims; where there is no step, nothing stands for it
 abbrev pub cited_text : List Step → Expr → ℕ → List ℕ
-cited_text steps head place = expr_text head ++ codes " <- " ++ claim_at steps place
+cited_text steps head place = expr_text head ++ codes " <- " ++ option_map_or (λ s. expr_text s.claim) (slice_get steps place) []
 
 -- the numbers of the steps at these places, with a space before each
 abbrev pub numbers_text : List ℕ → List ℕ
@@ -32,13 +24,10 @@ rule_text steps claim (Cred place) = cited_text steps claim place ++ codes " fro
 rule_text steps claim (Link base role) = codes "link from" ++ numbers_text (base ∷ role ∷ [])
 rule_text steps claim (Parts places) = codes "parts from" ++ numbers_text places
 
--- the step's number, its entity, and what that is in
-abbrev pub claimed_text : ℕ → Step → List ℕ
-claimed_text number s = decimal number ++ codes " " ++ s.who ++ codes " in " ++ expr_text s.claim
-
--- the line of a step: what it claims, and by which rule
+-- the line of a step: its number, its entity, what that is in, and by which rule
 abbrev pub line_text : List Step → ℕ → Step → List ℕ
-line_text steps number s = claimed_text number s ++ codes " by " ++ rule_text steps s.claim s.rule ++ 10 ∷ []
+line_text steps number s =
+    decimal number ++ codes " " ++ s.who ++ codes " in " ++ expr_text s.claim ++ codes " by " ++ rule_text steps s.claim s.rule ++ 10 ∷ []
 
 -- the lines of these of the steps, from this number on
 abbrev pub lines_from : List Step → ℕ → List Step → List ℕ

@@ -1,7 +1,8 @@
-ghost use Rattle.std.specs.Prelude.{◌≡◌, ◌+◌, ◌<◌, ◌≤◌, ◌++◌, codes, OnOk, OnErr, length, take, vec_capacity};
+ghost use Rattle.std.specs.Prelude.{◌≡◌, ◌+◌, ◌<◌, ◌≤◌, [], ◌++◌, codes, OnOk, OnErr, length, take, slice_get, vec_capacity};
 ghost use Rattle.std.specs.Fmt.{decimal};
+ghost use Rattle.std.specs.Option.{option_map_or};
 ghost use Rattle.credential_text.specs.Expr.{expr_text};
-ghost use Rattle.proof_trees.specs.Text.{claim_at, claimed_text, numbers_text, rule_text, line_text, proof_text};
+ghost use Rattle.proof_trees.specs.Text.{numbers_text, rule_text, line_text, proof_text};
 
 use crate::proofs::Proof;
 use crate::steps::{Rule, Step};
@@ -38,7 +39,8 @@ fn append_credential(
     place: usize,
     out: &mut Vec<u8>,
 ) -> Result<(), AllocError>
-    ensures written { OnOk result (out.new.items ≡ out.old.items ++ expr_text head.now ++ codes " <- " ++ claim_at steps.now place) }
+    ensures written { OnOk result (out.new.items ≡ out.old.items ++ expr_text head.now ++ codes " <- "
+        ++ option_map_or (λ s. expr_text s.claim) (slice_get steps.now place) []) }
     ensures kept { take (length out.old.items) out.new.items ≡ out.old.items }
     ensures capacity { vec_capacity out.old ≤ vec_capacity out.new }
 {
@@ -76,7 +78,8 @@ fn append_rule(steps: &[Step], step: &Step, out: &mut Vec<u8>) -> Result<(), All
 
 /// Appends who the step at the place is about, and what the step claims that to be in.
 fn append_claim(place: usize, step: &Step, out: &mut Vec<u8>) -> Result<(), AllocError>
-    ensures written { OnOk result (out.new.items ≡ out.old.items ++ claimed_text (place + 1) step.now) }
+    ensures written { OnOk result (out.new.items ≡ out.old.items
+        ++ (decimal (place + 1) ++ codes " " ++ step.now.who ++ codes " in " ++ expr_text step.now.claim)) }
     ensures kept { take (length out.old.items) out.new.items ≡ out.old.items }
     ensures capacity { vec_capacity out.old ≤ vec_capacity out.new }
 {

@@ -5,8 +5,7 @@ use Rattle.std.proofs.lemmas.Result.{on_ok_weaker}
 use Rattle.credential_text.proofs.Keeping.{keeps_more, keeps_same, nothing_written}
 use Rattle.credential_text.specs.Expr.{expr_text}
 use Rattle.proof_trees.specs.declared.steps.Step.{Step}
-use Rattle.proof_trees.specs.Text.{claim_text}
-use Rattle.proof_trees.proofs.TextLemmas.{keeps_written}
+use Rattle.proof_trees.proofs.TextLemmas.{claim_text, keeps_written}
 use Rattle.proof_trees.proofs.writing.append_credential.Goals as goal
 
 pub returns-in_err-write_expr : goal.returns-in_err-write_expr
