@@ -140,8 +140,8 @@ impl Page {
         Ok(self.changes)
     }
 
-    /// Puts the credential into its place among the rows, where it isn't there yet. What was shared before goes first, since
-    /// the block that takes the row would have to be copied.
+    /// Puts the credential into its place among the rows. Where it is there, what was shared stays. Else that goes first,
+    /// since the block that takes the row would have to be copied.
     fn put(&mut self, credential: &Credential) -> Result<(), VaultFault>
         ensures put { OnOk result (self.new ≡ record self.old { rows = rows_after (Upload credential.now) self.old.rows }) }
         ensures due { OnOk result (is_due (Upload credential.now) self.old.rows ≡ true) }
