@@ -108,21 +108,16 @@ impl Hall {
     pub fn change(&mut self, who: Entity, change: Change) -> Result<u64, Fault>
         ensures served { IsServed self.old who (request.Alter change) (told_as reply.Counted result) self.new }
     {
-        let seat = self.tenants.seat(who)?;
-        seat.may_alter(&self.book, &who, &change)?;
-        Ok(self.book.change(who, change)?)
+        self.alter(who, &change)
     }
 
-    /// Enters a copy of the change. It is copied where no refusal is due.
+    /// Enters the change, which stays the caller's.
     pub(crate) fn alter(&mut self, who: Entity, change: &Change) -> Result<u64, Fault>
         ensures served { IsServed self.old who (request.Alter change.now) (told_as reply.Counted result) self.new }
     {
         let seat = self.tenants.seat(who)?;
         seat.may_alter(&self.book, &who, change)?;
-        match self.book.refusal_of(&who, change) {
-            Some(fault) => Err(Fault::from(fault)),
-            None => self.change(who, change.try_clone()?),
-        }
+        Ok(self.book.enter(who, change)?)
     }
 
     /// Opens a search over what the tenant sees now, and answers its number. Refused as 62, 43, 45, then for want of memory.
