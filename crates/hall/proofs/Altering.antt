@@ -3,6 +3,7 @@ use Rattle.std.proofs.Common.{Bool, true, false, ◌≡◌, ◌∙◌, ◌+◌, 
 use Rattle.std.proofs.lemmas.List.{length-append}
 use Rattle.std.specs.FinMap.{get}
 use Rattle.vaults.specs.declared.changes.Change.{Change}
+use Rattle.vaults.specs.declared.changes.Change.TheVariants.{Revoke, RevokeAll}
 use Rattle.vaults.specs.declared.changes.Entry.{Entry}
 use Rattle.vaults.specs.declared.faults.VaultFault.{VaultFault}
 use Rattle.vaults.specs.declared.faults.VaultFault.TheVariants as vault
@@ -13,7 +14,7 @@ use Rattle.hall.specs.declared.faults.Fault.TheVariants.{Memory}
 use Rattle.hall.specs.declared.calls.requests.Request.TheVariants.{Alter}
 use Rattle.hall.specs.declared.calls.replies.Reply.TheVariants.{Counted, Refused}
 use Rattle.hall.specs.Fault.{vault_fault}
-use Rattle.hall.specs.Answers.{alter_refusal, refuses, grants, lacks}
+use Rattle.hall.specs.Answers.{Account, MayLack, alter_refusal, refuses, grants, lacks}
 use Rattle.hall.specs.Hall.{Tenant, HallState, account, IsServed}
 use Rattle.hall.proofs.Polled.{answered_by}
 
@@ -21,6 +22,11 @@ use Rattle.hall.proofs.Polled.{answered_by}
 pub not_revoked : (b : Bool) → (b ≡ true → false ≡ true) → b ≡ false
 not_revoked true went_well = sym (went_well refl)
 not_revoked false went_well = refl
+
+may_lack : (a : Account) (change : Change) → revokes change ≡ false → MayLack a (Alter change)
+may_lack a (Revoke reader) not_revoking = cc
+may_lack a RevokeAll not_revoking = cc
+may_lack a _ not_revoking = tt
 
 module _ (h : HallState) (who : List ℕ) (change : Change) (t : Tenant) (here : get h.tenants who ≡ Some t) where
   -- a limit that is reached, or another refusal
@@ -43,7 +49,7 @@ module _ (h : HallState) (who : List ℕ) (change : Change) (t : Tenant) (here :
             ∙ ap Some (sym (is ∙ ap vault_fault own ∙ ap (λ (p : Option VaultFault). vault_fault (unwrap_or p vault.Memory)) due)))
         by None none =
             rw (is ∙ ap vault_fault own ∙ ap (λ (p : Option VaultFault). vault_fault (unwrap_or p vault.Memory)) none)
-            (answered_by h who t here (Alter change) (Refused Memory) (lacks (clear none) (may none)) refl)
+            (answered_by h who t here (Alter change) (Refused Memory) (lacks (clear none) (may_lack (account h.journal who t) change (may none))) refl)
 
     -- a change that is entered
     pub accepted : (n : ℕ) (after : List Entry) → refusal h.journal who change ≡ None →

@@ -3,7 +3,6 @@ use Rattle.std.proofs.Common.{◌≡◌, ◌∙◌, ℕ, List, ap, refl, Some}
 use Rattle.std.specs.Ordering.{nat_cmp}
 use Rattle.std.specs.FinMap.{FinMap, get, insert}
 use Rattle.names.specs.Name.{name_order}
-use Rattle.vaults.specs.Journal.{marked_view}
 use Rattle.vaults.proofs.Orders.{names_exact}
 use Rattle.hall.specs.declared.calls.requests.Request.{Request}
 use Rattle.hall.specs.declared.calls.replies.Reply.{Reply}
@@ -28,7 +27,7 @@ module _ (h : HallState) (who : List ℕ) (t u : Tenant) (here : get h.tenants w
 
   -- a request that is answered by the tenant's account
   pub served_as : (q : Request) (told : Reply) →
-      Answers who (sight (marked_view h.journal who) q) (account h.journal who t) q told (account h.journal who u) →
+      Answers who (sight h.journal who q) (account h.journal who t) q told (account h.journal who u) →
       put h who u ≡ hall_after h who q told → IsServed h who q told (put h who u)
   served_as q told answers after = record {
     answers = rw (here, get_inserted names_exact h.tenants who u) (account h.journal who u, refl, answers);

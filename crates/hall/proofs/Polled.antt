@@ -9,7 +9,6 @@ use Rattle.hall.specs.declared.calls.requests.Request.TheVariants as request
 use Rattle.hall.specs.declared.calls.answers.Answer.{Answer}
 use Rattle.hall.specs.declared.calls.replies.Reply.{Reply}
 use Rattle.hall.specs.declared.calls.replies.Reply.TheVariants.{Answered, Refused}
-use Rattle.vaults.specs.Journal.{marked_view}
 use Rattle.hall.specs.Answers.{Asked, Account, Sight, sight, Answers, IsClear, refuses, grants, lacks}
 use Rattle.hall.specs.Hall.{Running, Tenant, HallState, seen, account, search_of, search_at, hall_after, IsServed, told_as}
 use Rattle.hall.specs.Kept.{IsNowhere, IsToldOf}
@@ -29,7 +28,7 @@ nobody_refused h who q none = record {
 
 -- a request that changes nothing, answered by the tenant's account
 pub answered_by : (h : HallState) (who : List ℕ) (t : Tenant) → get h.tenants who ≡ Some t → (q : Request) (told : Reply) →
-    Answers who (sight (marked_view h.journal who) q) (account h.journal who t) q told (account h.journal who t) → hall_after h who q told ≡ h → IsServed h who q told h
+    Answers who (sight h.journal who q) (account h.journal who t) q told (account h.journal who t) → hall_after h who q told ≡ h → IsServed h who q told h
 answered_by h who t here q told answers after = record {
   answers = rw here (account h.journal who t, refl, answers);
   after = sym after;
@@ -67,4 +66,4 @@ module _ (h : HallState) (who : List ℕ) (k : ℕ) (t : Tenant) (here : get h.t
       IsServed h who (request.Poll k) (told_as Answered told) h
   polled_there r at told is =
       answered_by h who t here (request.Poll k) (told_as Answered told)
-      (polled_of who (sight (marked_view h.journal who) (request.Poll k)) (account h.journal who t) k (seen r) (asked_of (Some r) at) told is) refl
+      (polled_of who (sight h.journal who (request.Poll k)) (account h.journal who t) k (seen r) (asked_of (Some r) at) told is) refl

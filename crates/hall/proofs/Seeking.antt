@@ -2,8 +2,7 @@
 use Rattle.std.proofs.Common.{◌≡◌, ◌∙◌, ◌+◌, ℕ, List, ap, sym, refl, subst, Option, Some, None, option_map, unwrap_or, Result, Ok, Err, IfOk, IfErr, OnOk, OnErr}
 use Rattle.std.specs.Ordering.{nat_cmp}
 use Rattle.std.specs.FinMap.{FinMap, get, insert}
-use Rattle.vaults.specs.Journal.{marked_view, unmarked, view}
-use Rattle.vaults.proofs.Exactness.{marked_views_exact}
+use Rattle.vaults.specs.Journal.{view}
 use Rattle.search.specs.declared.queries.Query.{Query}
 use Rattle.search.specs.Ending.{Nothing}
 use Rattle.hall.specs.declared.faults.Fault.{Fault}
@@ -21,11 +20,11 @@ use Rattle.hall.proofs.laws.HallRequests.{opening, closing}
 
 -- a search that is opened now, as its asker knows it
 seen_beginning : (h : HallState) (who : List ℕ) (query : Query) (work : ℕ) →
-    seen (beginning h.journal who query work) ≡ record { query = query; view = unmarked (marked_view h.journal who); settled = Nothing }
+    seen (beginning h.journal who query work) ≡ record { query = query; view = view h.journal who; settled = Nothing }
 unfolding just_opened
 seen_beginning h who query work = λ i. record {
   query = query;
-  view = sym (marked_views_exact h.journal who).0 i;
+  view = view h.journal who;
   settled = nothing_yet who (view h.journal who) query work i;
 }
 
@@ -43,7 +42,7 @@ module _ (h : HallState) (who : List ℕ) (t u : Tenant) (here : get h.tenants w
       (put_changed h who t u here (opening h.journal who query n) is)
     where
       asked : Asked
-      asked = record { query = query; view = unmarked (marked_view h.journal who); settled = Nothing }
+      asked = record { query = query; view = view h.journal who; settled = Nothing }
 
       grown : account h.journal who (opening h.journal who query n t) ≡ opened (account h.journal who t) asked
       grown =

@@ -4,8 +4,8 @@ use Rattle.std.specs.FinMap.{get}
 use Rattle.credential_text.specs.declared.credentials.Credential.{Credential}
 use Rattle.rt0_rules.specs.Membership.{IsMember}
 use Rattle.vaults.specs.declared.marks.Seen.{Seen}
-use Rattle.vaults.specs.Journal.{vault, marked_names, marked_view}
-use Rattle.vaults.proofs.Exactness.{vaults_own, marked_views_exact}
+use Rattle.vaults.specs.Journal.{vault, marked_names}
+use Rattle.vaults.proofs.Exactness.{vaults_own}
 use Rattle.search.specs.Ending.{asked_role}
 use Rattle.search.specs.Search.{SearchState, IsCompleted, rows_of, settled_of}
 use Rattle.proof_trees.specs.declared.steps.Step.{Step as ProofStep}
@@ -39,7 +39,7 @@ module _ (h : HallState) (who : List ℕ) (t : Tenant) (here : get h.tenants who
 
   pub names_told : (names : List Seen) → names ≡ marked_names h.journal who → IsServed h who request.Sees (reply.Sees names) h
   names_told names read =
-      answered_by h who t here request.Sees (reply.Sees names) (grants (λ f due. due) (ap reply.Sees (read ∙ sym (marked_views_exact h.journal who).1), refl)) refl
+      answered_by h who t here request.Sees (reply.Sees names) (grants (λ f due. due) (ap reply.Sees read, refl)) refl
 
   pub names_lack : IsServed h who request.Sees (Refused Memory) h
   names_lack = answered_by h who t here request.Sees (Refused Memory) (lacks (λ f due. due) tt) refl
@@ -99,7 +99,7 @@ served_over h who k s wanted told after at over = by (search_at h who k) refl at
         let (t, found, there) = tenant_of h who k r is in
         let same : s ≡ r.search = cc in
         answered_by h who t found (wanted k) told
-        (over who (sight (marked_view h.journal who) (wanted k)) (account h.journal who t) k (asked_of h who k t found (Some r) there ∙ ap (λ (x : SearchState). Some (known x)) (sym same))) after
+        (over who (sight h.journal who (wanted k)) (account h.journal who t) k (asked_of h who k t found (Some r) there ∙ ap (λ (x : SearchState). Some (known x)) (sym same))) after
 
 -- one that shows no search of the number has none
 pub no_search : (shown h : HallState) → h ≡ shown → (who : List ℕ) (k : ℕ) → None ≡ option_map (λ (r : Running). r.search) (search_at shown who k) →

@@ -1,5 +1,5 @@
 -- What one tenant has, and what answers a request of it: its own account, and what it has in sight, alone. No letter stands here.
-use Rattle.std.specs.Prelude.{◌≡◌, ◌⊎◌, ℕ, ◌+◌, nat_le, false, List, [], ◌∷◌, ◌++◌, length, map, find}
+use Rattle.std.specs.Prelude.{◌≡◌, ◌⊎◌, ℕ, ◌+◌, nat_le, List, [], ◌∷◌, ◌++◌, length, find}
 use Rattle.std.specs.Prelude.{Option, None, Some, option_map, if◌then◌else◌}
 use Rattle.std.specs.Option.{option_or}
 use Rattle.std.specs.Ordering.{nat_cmp}
@@ -8,10 +8,10 @@ use Rattle.quotas.specs.Quota.{Quota}
 use Rattle.names.specs.Name.{is_same}
 use Rattle.rt0_rules.specs.Membership.{IsMember}
 use Rattle.vaults.specs.declared.changes.Change.{Change}
-use Rattle.vaults.specs.declared.changes.Change.TheVariants.{Upload, Grant, GrantAll}
+use Rattle.vaults.specs.declared.changes.Change.TheVariants.{Upload, Grant, GrantAll, Revoke, RevokeAll}
 use Rattle.vaults.specs.declared.changes.Entry.{Entry}
 use Rattle.vaults.specs.declared.marks.Seen.{Seen}
-use Rattle.vaults.specs.Journal.{Vault, Marked, vault, grant_count, refusal, unmarked, seen_of, credentials, revokes}
+use Rattle.vaults.specs.Journal.{Vault, vault, view, marked_names, grant_count, refusal, credentials}
 use Rattle.search.specs.declared.queries.Query.{Query}
 pub use Rattle.search.specs.declared.queries.Query.TheVariants.{Ask, Who}
 use Rattle.search.specs.Ending.{Settled, Nothing, Yes, No, Members, Spent, Broken, asked_role}
@@ -73,11 +73,11 @@ pub record Sight : Type 0 where
   pub vaults : List Vault
   pub names : List Seen
 
--- an opening looks at the vaults, marks left out, `sees` at the names, and no other request at anything
-abbrev pub sight : List Marked → Request → Sight
-sight view (request.Seek query) = record { vaults = unmarked view; names = [] }
-sight view request.Sees = record { vaults = []; names = map seen_of view }
-sight view _ = record { vaults = []; names = [] }
+-- an opening looks at the vaults, `sees` at the names, and no other request at anything
+abbrev pub sight : List Entry → List ℕ → Request → Sight
+sight journal tenant (request.Seek query) = record { vaults = view journal tenant; names = [] }
+sight journal tenant request.Sees = record { vaults = []; names = marked_names journal tenant }
+sight journal tenant _ = record { vaults = []; names = [] }
 
 -- what is told of a search
 abbrev pub answer_of : Settled → Answer
@@ -133,7 +133,8 @@ Grants tenant sees a (request.Proof k who) told b =
 
 -- memory may lack for each request but a revocation and an ending, and for a poll only where it lists members
 abbrev pub MayLack : Account → Request → Type 0
-MayLack a (request.Alter change) = revokes change ≡ false
+MayLack a (request.Alter (Revoke reader)) = ⊥
+MayLack a (request.Alter RevokeAll) = ⊥
 MayLack a (request.Poll k) = (s : Asked) × (names : List (List ℕ)) × (get a.searches k ≡ Some s) × (s.settled ≡ Members names)
 MayLack a (request.Close k) = ⊥
 MayLack a _ = Unit {0}

@@ -6,7 +6,7 @@ use Rattle.std.specs.FinMap.{FinMap, empty, get, insert, remove, entries, from_e
 use Rattle.quotas.specs.Quota.{Quota}
 use Rattle.names.specs.Name.{name_order}
 use Rattle.vaults.specs.declared.changes.Entry.{Entry}
-use Rattle.vaults.specs.Journal.{entries_of, view, marked_view, credentials}
+use Rattle.vaults.specs.Journal.{entries_of, view, credentials}
 use Rattle.search.specs.declared.queries.Query.{Query}
 use Rattle.search.specs.Ending.{Nothing, MaySettle}
 use Rattle.search.specs.Search.{SearchState, IsSoundStage, settled_of}
@@ -101,7 +101,7 @@ hall_after h name _ _ = h
 -- a name that is no tenant's is refused, and a tenant is answered by its account
 abbrev pub AnswersTo : HallState → List ℕ → Option Account → Request → Reply → Option Account → Type 0
 AnswersTo h name None q told after = (told ≡ Refused NoTenant) × (after ≡ None)
-AnswersTo h name (Some a) q told after = (b : Account) × (after ≡ Some b) × Answers name (sight (marked_view h.journal name) q) a q told b
+AnswersTo h name (Some a) q told after = (b : Account) × (after ≡ Some b) × Answers name (sight h.journal name q) a q told b
 
 -- a request is answered by the account of who asks, and the hall changes accordingly
 pub record IsServed (old : HallState) (name : List ℕ) (q : Request) (told : Reply) (new : HallState) : Type 0 where

@@ -5,7 +5,7 @@ use Rattle.std.specs.FinMap.{get, insert}
 use Rattle.names.specs.Name.{is_same}
 use Rattle.quotas.specs.Quota.{Quota}
 use Rattle.vaults.specs.declared.changes.Entry.{Entry}
-use Rattle.vaults.specs.Journal.{marked_view, credentials}
+use Rattle.vaults.specs.Journal.{credentials}
 use Rattle.search.specs.Ending.{Settled, Nothing, MaySettle}
 use Rattle.hall.specs.declared.faults.Fault.TheVariants.{NoTenant}
 use Rattle.hall.specs.declared.calls.requests.Request.{Request}
@@ -55,7 +55,7 @@ pub record Turn : Type 0 where
 abbrev pub turn_of : List ℕ → List Entry → Told → List Turn
 turn_of tenant journal t =
     if is_same t.tenant tenant
-    then record { sees = sight (marked_view journal tenant) (request_of t.deed); deed = t.deed; reply = t.reply } ∷ []
+    then record { sees = sight journal tenant (request_of t.deed); deed = t.deed; reply = t.reply } ∷ []
     else []
 
 -- the tenant's own turns

@@ -1,7 +1,6 @@
 -- A request that reads a search is told something, and served so by the hall that has the search.
 use Rattle.std.proofs.Common.{◌≡◌, ◌∙◌, ◌⊎◌, inl, inr, ℕ, List, Ok, Option, Some, None, option_map, ap, refl}
 use Rattle.rt0_rules.specs.Membership.{IsMember}
-use Rattle.vaults.specs.Journal.{marked_view}
 use Rattle.search.specs.Ending.{asked_role}
 use Rattle.search.specs.Search.{SearchState, IsCompleted, rows_of, settled_of}
 use Rattle.proof_trees.specs.declared.faults.ProofFault.TheVariants as faults
@@ -37,10 +36,10 @@ read_served h who (Poll k) s told reads off =
     let (r, found, is) = search_found (search_at h who k) s reads in
     let (t, here, there) = tenant_of h who k r found in
     answered_by h who t here (Poll k) told
-    (off who (sight (marked_view h.journal who) (Poll k)) (account h.journal who t) (asked_of h who k t here (Some r) there ∙ ap (λ (x : SearchState). Some (known x)) is)) refl
+    (off who (sight h.journal who (Poll k)) (account h.journal who t) (asked_of h who k t here (Some r) there ∙ ap (λ (x : SearchState). Some (known x)) is)) refl
 read_served h who (Proof k member) s told reads off =
     let (t, here, there) = tenant_of h who k reads.running reads.there in
     answered_by h who t here (Proof k member) told
-    (off who (sight (marked_view h.journal who) (Proof k member)) (account h.journal who t)
+    (off who (sight h.journal who (Proof k member)) (account h.journal who t)
     (asked_of h who k t here (Some reads.running) there ∙ ap (λ (x : SearchState). Some (known x)) reads.is)) refl
 read_served h who _ s told reads off = absurd reads

@@ -1,9 +1,9 @@
 -- What a tenant is told of changes, openings, vaults and names is what the turns before give it.
-use Rattle.std.proofs.Common.{◌≡◌, ◌≢◌, ◌∙◌, ◌+◌, ℕ, List, [], ◌∷◌, ◌++◌, length, Option, Some, None, map, ap, sym, subst, refl, arith}
+use Rattle.std.proofs.Common.{◌≡◌, ◌≢◌, ◌∙◌, ◌+◌, ℕ, List, [], ◌∷◌, ◌++◌, length, Option, Some, None, ap, sym, subst, refl, arith}
 use Rattle.std.specs.List.{AllByRecursion}
 use Rattle.vaults.specs.declared.changes.Entry.{Entry}
-use Rattle.vaults.specs.Journal.{entries_of, vault, marked_view, seen_of}
-use Rattle.vaults.proofs.Exactness.{vaults_own, marked_views_exact}
+use Rattle.vaults.specs.Journal.{entries_of, vault}
+use Rattle.vaults.proofs.Exactness.{vaults_own}
 use Rattle.hall.specs.declared.faults.Fault.{Fault}
 use Rattle.hall.specs.declared.faults.Fault.TheVariants.{NoTenant, Memory}
 use Rattle.hall.specs.declared.calls.requests.Request.{Request}
@@ -34,7 +34,7 @@ pub record WasGranted (before : List Told) (who : List ℕ) (q : Request) (told 
   pub after : Account
   pub entries : account.entries ≡ entries_of who (journal_after [] before)
   pub opens : account.opens ≡ openings_of who before
-  pub gets : Grants who (sight (marked_view (journal_after [] before) who) q) account q told after
+  pub gets : Grants who (sight (journal_after [] before) who q) account q told after
 
 module _ (before : List Told) (who : List ℕ) (q : Request) (told : Reply) (other : (f : Fault) → told ≢ reply.Refused f) where
   granted_in : (more : List Turn) (a c : Account) → Holds who [] 0 a → IsRun any_time who a (told_to who [] before ++ turn_at who (journal_after [] before) (turn who q told) ∷ more) c →
@@ -45,7 +45,7 @@ module _ (before : List Told) (who : List ℕ) (q : Request) (told : Reply) (oth
         after = d;
         entries = ap (λ (x : Account). x.entries) between.0 ∙ holds.entries;
         opens = (let kept = ap (λ (x : Account). x.opens) between.0 in let same = holds.opens in omega (arith, kept, same));
-        gets = answers_grant who (sight (marked_view (journal_after [] before) who) q) m d q told told refl other took;
+        gets = answers_grant who (sight (journal_after [] before) who q) m d q told told refl other took;
       }
 
   was_granted : WasTold before who q told → WasGranted before who q told
@@ -80,5 +80,4 @@ vaults_exact before who rows was =
 pub sights_exact : SightsAreExact
 sights_exact before who seen was =
     let has = was_granted before who request.Sees (reply.Sees seen) (λ f is. cc) was in
-    let is : seen ≡ map seen_of (marked_view (journal_after [] before) who) = (let told = has.gets.0 in cc) in
-    is ∙ (marked_views_exact (journal_after [] before) who).1
+    let told = has.gets.0 in cc

@@ -3,7 +3,6 @@ use Rattle.std.proofs.Common.{◌≡◌, ◌≢◌, ℕ, Bool, true, false, cond
 use Rattle.std.specs.List.{AllZip, AllByRecursion}
 use Rattle.names.specs.Name.{is_same}
 use Rattle.vaults.specs.declared.changes.Entry.{Entry}
-use Rattle.vaults.specs.Journal.{marked_view}
 use Rattle.hall.specs.declared.calls.replies.Reply.{Reply}
 use Rattle.hall.specs.Answers.{sight}
 use Rattle.hall.specs.Run.{Deed, request_of, Told, entered, Turn, told_to, any_time, at_waits}
@@ -88,7 +87,7 @@ told_own {X} tenant part journal (served who command reply ∷ outcomes) = by (i
     told = record { tenant = who; deed = deed_of command; reply = reply }
 
     turn : Turn
-    turn = record { sees = sight (marked_view journal tenant) (request_of (deed_of command)); deed = deed_of command; reply = reply }
+    turn = record { sees = sight journal tenant (request_of (deed_of command)); deed = deed_of command; reply = reply }
 
     later : List Turn
     later = told_to tenant (entered journal told) (told_in outcomes)

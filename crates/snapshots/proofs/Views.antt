@@ -15,8 +15,8 @@ use Rattle.credential_text.specs.declared.credentials.Credential.{Credential}
 use Rattle.credential_text.specs.Credential.{credential_order}
 use Rattle.vaults.specs.declared.changes.Entry.{Entry}
 use Rattle.vaults.specs.declared.marks.Seen.{Seen}
-use Rattle.vaults.specs.Journal.{vault, marked_names, names_in, Vault, vault_record, view, credentials}
-use Rattle.vaults.proofs.Exactness.{sorted-names_read, views_of_names_read, marks_exact, vaults_exact}
+use Rattle.vaults.specs.Journal.{vault, marked_names, Vault, view, credentials}
+use Rattle.vaults.proofs.Exactness.{with_vault, sorted-names_seen, views_of_names_read, vaults_exact}
 use Rattle.vaults.proofs.Elements.{turned}
 use Rattle.names.proofs.SameNames.{is_same_tied}
 use Rattle.vaults.proofs.Orders.{names_exact}
@@ -97,24 +97,18 @@ placed_rows owner vs place there ordered at is =
 -- a view is in order
 pub ordered_view : (journal : List Entry) (who : List ℕ) → IsOrdered (view journal who)
 ordered_view journal who = record {
-  owners = subst (IsStrictlySortedBy name_order) (sym (views_of_names_read journal who).0) (sorted-names_read journal who);
+  owners = subst (IsStrictlySortedBy name_order) (sym (views_of_names_read journal who).0) (sorted-names_seen journal who);
   own = λ v among. subst (All (λ (c : Credential). c.head.owner ≡ v.owner)) (sym ((views_of_names_read journal who).1 v among)) (λ k d within.
       (((vaults_exact journal v.owner).exact (get_or (vault journal v.owner) k d)).0 (Contains-get_or (vault journal v.owner) k d within)).0);
   rows = λ v among. subst (IsStrictlySortedBy credential_order) (sym ((views_of_names_read journal who).1 v among)) (vaults_exact journal v.owner).in_order;
 }
 
--- vaults of names, taken with their marks or without
-of_names : (journal : List Entry) (seen : List Seen) → map (λ (s : Seen). vault_record journal s.name) seen ≡ map (vault_record journal) (names_in seen)
-of_names journal [] = refl
-of_names journal (s ∷ seen) = ap (λ (vs : List Vault). vault_record journal s.name ∷ vs) (of_names journal seen)
-
 -- what was taken of all names that are seen is the view
-pub view_taken : (journal : List Entry) (who : List ℕ) (seen : List Seen) (vs : List Vault) (k : ℕ) → vs ≡ map (λ (s : Seen). vault_record journal s.name) (take k seen) → length seen ≤ k →
+pub view_taken : (journal : List Entry) (who : List ℕ) (seen : List Seen) (vs : List Vault) (k : ℕ) → vs ≡ map (with_vault journal) (take k seen) → length seen ≤ k →
     seen ≡ marked_names journal who → vs ≡ view journal who
 unfolding view
 view_taken journal who seen vs k taken whole read =
-    taken ∙ ap (map (λ (s : Seen). vault_record journal s.name)) (take_all k seen whole ∙ read)
-    ∙ of_names journal (marked_names journal who) ∙ ap (map (vault_record journal)) (marks_exact journal who).0
+    taken ∙ ap (map (with_vault journal)) (take_all k seen whole ∙ read)
 
 -- where a span has a row, the owner's vault stands at its place
 pub row_vault : (vs : List Vault) (role : Role) (i : ℕ) → IsOrdered vs → how_many (is_before role) (rows_of vs role.owner) + i < how_many (is_through role) (rows_of vs role.owner) →

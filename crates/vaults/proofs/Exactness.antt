@@ -1,5 +1,5 @@
 -- What stands in vaults, in lists of readers and in views.
-use Rattle.std.proofs.Common.{ℕ, Bool, true, false, List, [], ◌∷◌, ◌≡◌, ◌∙◌, ◌||◌, ◌&&◌, inl, inr, sym, ap, refl, filter, map, IsTrue}
+use Rattle.std.proofs.Common.{ℕ, Bool, true, false, List, [], ◌∷◌, ◌≡◌, ◌∙◌, ◌||◌, ◌&&◌, inl, inr, sym, ap, refl, subst, filter, map, IsTrue}
 use Rattle.std.specs.List.{list_any, filter_map, Contains}
 use Rattle.std.specs.List.Sorted.{IsStrictlySortedBy}
 use Rattle.std.specs.Ordering.{eq_by_cmp}
@@ -13,10 +13,9 @@ use Rattle.vaults.specs.declared.changes.Change.{Change}
 use Rattle.vaults.specs.declared.changes.Change.TheVariants.{Upload, Withdraw, Grant, Revoke, GrantAll, RevokeAll}
 use Rattle.vaults.specs.declared.changes.Entry.{Entry}
 use Rattle.vaults.specs.InOrder.{in_order}
-use Rattle.vaults.specs.Journal.{gives_same, stands, uploaded, named_reader, entries_of, holds, granted, is_public, reads, vault, readers, names_read, Vault, vault_record, view, credentials}
-use Rattle.vaults.specs.Journal.{marked_name_of, marked_names, names_in, marked_record, marked_view, unmarked, seen_of}
+use Rattle.vaults.specs.Journal.{gives_same, stands, uploaded, named_reader, entries_of, holds, granted, is_public, reads, vault, readers, marked_names, names_in, Vault, view, credentials}
 use Rattle.vaults.specs.declared.marks.Seen.{Seen}
-use Rattle.vaults.specs.Laws.{VaultsAreExact, ReadersAreExact, NamesReadAreExact, ViewsAreOfNamesRead, MarksAreExact, MarkedViewsAreExact, ViewsAreExact}
+use Rattle.vaults.specs.Laws.{VaultsAreExact, ReadersAreExact, NamesReadAreExact, ViewsAreOfNamesRead, MarksAreExact, ViewsAreExact}
 use Rattle.vaults.specs.Laws.{HoldingIsOwn, GrantingIsOwn, PublishingIsOwn, VaultsAreOwn, ReadersAreOwn, GrantCountsAreOwn, RefusalsAreOwn}
 use Rattle.vaults.proofs.Elements.{has, has-in_order, has-filter, sorted-in_order, has_iff, tied_both_ways}
 use Rattle.names.proofs.SameNames.{is_same_tied, same_from_is_same, is_same_itself}
@@ -80,11 +79,27 @@ among_tenants change journal owner standing =
     ∙ list_any_agree (λ (e : Entry). eq_by_cmp name_order owner e.tenant) (λ e. is_same e.tenant owner) (λ e. is_same_tied owner e.tenant ∙ same_either_way owner e.tenant) journal
     ∙ stands_entered change journal owner standing
 
--- the names read are those that the reader reads
-pub has-names_read : (journal : List Entry) (reader owner : List ℕ) → has name_order (names_read journal reader) owner ≡ reads journal reader owner
-unfolding names_read
-has-names_read journal reader owner =
-    has-in_order names_exact (filter (reads journal reader) (reader ∷ map (λ e. e.tenant) journal)) owner
+-- a name with its mark, and a name that is seen with its vault
+abbrev pub with_mark : List Entry → List ℕ → Seen
+with_mark journal owner = record { name = owner; to_all = is_public journal owner }
+
+abbrev pub with_vault : List Entry → Seen → Vault
+with_vault journal s = record { owner = s.name; rows = vault journal s.name }
+
+names_again : (journal : List Entry) (names : List (List ℕ)) → names_in (map (with_mark journal) names) ≡ names
+names_again journal [] = refl
+names_again journal (name ∷ names) = ap (λ (l : List (List ℕ)). name ∷ l) (names_again journal names)
+
+pub names_seen : (journal : List Entry) (reader : List ℕ) →
+    names_in (marked_names journal reader) ≡ in_order name_order (filter (reads journal reader) (reader ∷ map (λ e. e.tenant) journal))
+unfolding marked_names
+names_seen journal reader = names_again journal (in_order name_order (filter (reads journal reader) (reader ∷ map (λ e. e.tenant) journal)))
+
+-- the names seen are those that the reader reads
+pub has-names_seen : (journal : List Entry) (reader owner : List ℕ) → has name_order (names_in (marked_names journal reader)) owner ≡ reads journal reader owner
+has-names_seen journal reader owner =
+    ap (λ (l : List (List ℕ)). has name_order l owner) (names_seen journal reader)
+    ∙ has-in_order names_exact (filter (reads journal reader) (reader ∷ map (λ e. e.tenant) journal)) owner
     ∙ has-filter names_exact (reads journal reader) (reader ∷ map (λ e. e.tenant) journal) owner
     ∙ ap (λ (b : Bool). reads journal reader owner && (b || has name_order (map (λ e. e.tenant) journal) owner)) (is_same_tied owner reader)
     ∙ read_candidates (is_same owner reader) (granted journal owner reader || is_public journal owner) (has name_order (map (λ e. e.tenant) journal) owner)
@@ -93,9 +108,9 @@ has-names_read journal reader owner =
       | inr public ↦ among_tenants GrantAll journal owner public
     ])
 
-pub sorted-names_read : (journal : List Entry) (reader : List ℕ) → IsStrictlySortedBy name_order (names_read journal reader)
-unfolding names_read
-sorted-names_read journal reader = sorted-in_order names_exact (filter (reads journal reader) (reader ∷ map (λ e. e.tenant) journal))
+pub sorted-names_seen : (journal : List Entry) (reader : List ℕ) → IsStrictlySortedBy name_order (names_in (marked_names journal reader))
+sorted-names_seen journal reader =
+    subst (IsStrictlySortedBy name_order) (sym (names_seen journal reader)) (sorted-in_order names_exact (filter (reads journal reader) (reader ∷ map (λ e. e.tenant) journal)))
 
 pub vaults_exact : VaultsAreExact
 vaults_exact journal owner = record {
@@ -120,54 +135,38 @@ readers_exact journal owner = record {
 
 pub names_read_exact : NamesReadAreExact
 names_read_exact journal reader = record {
-  in_order = sorted-names_read journal reader;
+  in_order = sorted-names_seen journal reader;
   exact = λ owner. (
-    λ (among : Contains (names_read journal reader) owner). sym (has-names_read journal reader owner) ∙ (has_iff names_exact (names_read journal reader) owner).1 among,
-    λ (read : IsTrue (reads journal reader owner)). (has_iff names_exact (names_read journal reader) owner).0 (has-names_read journal reader owner ∙ read),
+    λ (among : Contains (names_in (marked_names journal reader)) owner).
+        sym (has-names_seen journal reader owner) ∙ (has_iff names_exact (names_in (marked_names journal reader)) owner).1 among,
+    λ (read : IsTrue (reads journal reader owner)). (has_iff names_exact (names_in (marked_names journal reader)) owner).0 (has-names_seen journal reader owner ∙ read),
   );
 }
 
-owners_again : (journal : List Entry) (names : List (List ℕ)) → map (λ (v : Vault). v.owner) (map (vault_record journal) names) ≡ names
+owners_again : (journal : List Entry) (seen : List Seen) → map (λ (v : Vault). v.owner) (map (with_vault journal) seen) ≡ names_in seen
 owners_again journal [] = refl
-owners_again journal (name ∷ names) = ap (λ (l : List (List ℕ)). name ∷ l) (owners_again journal names)
+owners_again journal (s ∷ seen) = ap (λ (l : List (List ℕ)). s.name ∷ l) (owners_again journal seen)
 
 pub views_of_names_read : ViewsAreOfNamesRead
 unfolding view
 views_of_names_read journal reader = (
-  owners_again journal (names_read journal reader),
+  owners_again journal (marked_names journal reader),
   λ v among. All-contains (λ (w : Vault). w.rows ≡ vault journal w.owner) (view journal reader) v
-      (All-map (λ (w : Vault). w.rows ≡ vault journal w.owner) (vault_record journal) (names_read journal reader) (λ k d within. refl)) among,
+      (All-map (λ (w : Vault). w.rows ≡ vault journal w.owner) (with_vault journal) (marked_names journal reader) (λ k d within. refl)) among,
 )
-
-names_again : (journal : List Entry) (names : List (List ℕ)) → names_in (map (marked_name_of journal) names) ≡ names
-names_again journal [] = refl
-names_again journal (name ∷ names) = ap (λ (l : List (List ℕ)). name ∷ l) (names_again journal names)
 
 pub marks_exact : MarksAreExact
 unfolding marked_names
-marks_exact journal reader = (
-  names_again journal (names_read journal reader),
-  λ s among. All-contains (λ (s : Seen). s.to_all ≡ is_public journal s.name) (marked_names journal reader) s
-      (All-map (λ (s : Seen). s.to_all ≡ is_public journal s.name) (marked_name_of journal) (names_read journal reader) (λ k d within. refl)) among,
-)
+marks_exact journal reader s among =
+    All-contains (λ (s : Seen). s.to_all ≡ is_public journal s.name) (marked_names journal reader) s
+    (All-map (λ (s : Seen). s.to_all ≡ is_public journal s.name) (with_mark journal)
+    (in_order name_order (filter (reads journal reader) (reader ∷ map (λ e. e.tenant) journal))) (λ k d within. refl)) among
 
-vaults_again : (journal : List Entry) (names : List (List ℕ)) → unmarked (map (marked_record journal) names) ≡ map (vault_record journal) names
-vaults_again journal [] = refl
-vaults_again journal (name ∷ names) = ap (λ (l : List Vault). vault_record journal name ∷ l) (vaults_again journal names)
-
-marks_again : (journal : List Entry) (names : List (List ℕ)) → map seen_of (map (marked_record journal) names) ≡ map (marked_name_of journal) names
-marks_again journal [] = refl
-marks_again journal (name ∷ names) = ap (λ (l : List Seen). marked_name_of journal name ∷ l) (marks_again journal names)
-
-pub marked_views_exact : MarkedViewsAreExact
-unfolding marked_names view marked_view
-marked_views_exact journal reader = (vaults_again journal (names_read journal reader), marks_again journal (names_read journal reader))
-
-rows_any : (journal : List Entry) (t : Credential → Bool) (names : List (List ℕ)) →
-    list_any t (credentials (map (vault_record journal) names)) ≡ list_any (λ name. list_any t (vault journal name)) names
+rows_any : (journal : List Entry) (t : Credential → Bool) (seen : List Seen) →
+    list_any t (credentials (map (with_vault journal) seen)) ≡ list_any (λ s. list_any t (vault journal s.name)) seen
 rows_any journal t [] = refl
-rows_any journal t (name ∷ names) =
-    list_any-append t (vault journal name) (credentials (map (vault_record journal) names)) ∙ ap (λ (b : Bool). list_any t (vault journal name) || b) (rows_any journal t names)
+rows_any journal t (s ∷ seen) =
+    list_any-append t (vault journal s.name) (credentials (map (with_vault journal) seen)) ∙ ap (λ (b : Bool). list_any t (vault journal s.name) || b) (rows_any journal t seen)
 
 list_any-and : {X : Type 0} (p : X → Bool) (b : Bool) (xs : List X) → list_any (λ x. p x && b) xs ≡ (list_any p xs && b)
 list_any-and p b [] = refl
@@ -182,10 +181,11 @@ pub has-credentials : (journal : List Entry) (reader : List ℕ) (c : Credential
     has credential_order (credentials (view journal reader)) c ≡ (reads journal reader c.head.owner && holds journal c.head.owner c)
 unfolding view
 has-credentials journal reader c =
-    rows_any journal (eq_by_cmp credential_order c) (names_read journal reader)
-    ∙ list_any_agree (λ name. has credential_order (vault journal name) c) (λ name. eq_by_cmp name_order c.head.owner name && holds journal c.head.owner c) agree (names_read journal reader)
-    ∙ list_any-and (eq_by_cmp name_order c.head.owner) (holds journal c.head.owner c) (names_read journal reader)
-    ∙ ap (λ (b : Bool). b && holds journal c.head.owner c) (has-names_read journal reader c.head.owner)
+    rows_any journal (eq_by_cmp credential_order c) (marked_names journal reader)
+    ∙ list_any_agree (λ (s : Seen). has credential_order (vault journal s.name) c) (λ s. eq_by_cmp name_order c.head.owner s.name && holds journal c.head.owner c) (λ s. agree s.name) (marked_names journal reader)
+    ∙ list_any-and (λ (s : Seen). eq_by_cmp name_order c.head.owner s.name) (holds journal c.head.owner c) (marked_names journal reader)
+    ∙ ap (λ (b : Bool). b && holds journal c.head.owner c)
+    (sym (list_any-map (eq_by_cmp name_order c.head.owner) (λ (s : Seen). s.name) (marked_names journal reader)) ∙ has-names_seen journal reader c.head.owner)
   where
     by : (name : List ℕ) (b : Bool) → is_same c.head.owner name ≡ b → (b && holds journal name c) ≡ (b && holds journal c.head.owner c)
     by name true e = ap (λ (n : List ℕ). holds journal n c) (sym (same_from_is_same c.head.owner name e))

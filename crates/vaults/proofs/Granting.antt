@@ -14,7 +14,7 @@ use Rattle.vaults.specs.declared.changes.Entry.{Entry}
 use Rattle.vaults.specs.declared.faults.VaultFault.TheVariants.{GrantSelf, AlreadyGranted}
 use Rattle.vaults.specs.InOrder.{without}
 use Rattle.vaults.specs.declared.marks.Seen.{Seen}
-use Rattle.vaults.specs.Journal.{gift, gives_same, granted, is_public, names_read, marked_name_of, marked_names, names_in}
+use Rattle.vaults.specs.Journal.{gift, gives_same, granted, is_public, marked_names, names_in}
 use Rattle.vaults.specs.Owed.{gives}
 use Rattle.vaults.specs.Book.{early_refusal, is_granting, AreGranting, KeepsGrant, SameGranting, is_listed, ArePublic, KeepsPublic, SamePublic}
 use Rattle.vaults.specs.Merge.{AreMerged}
@@ -22,7 +22,7 @@ use Rattle.vaults.proofs.Elements.{has, has-insert_key, has-without, same_in_ord
 use Rattle.names.proofs.SameNames.{is_same_tied, same_from_is_same}
 use Rattle.vaults.proofs.Orders.{names_exact}
 use Rattle.vaults.proofs.LastEntries.{stands_push}
-use Rattle.vaults.proofs.Exactness.{has-names_read, sorted-names_read}
+use Rattle.vaults.proofs.Exactness.{with_mark, names_seen, has-names_seen, sorted-names_seen}
 
 and_false : (a : Bool) (x y : Bool) → cond (a && false) x y ≡ y
 and_false true x y = refl
@@ -170,12 +170,12 @@ public_after journal before after who change old new right keeps same entered =
 
 -- what is marked where it is listed is marked where its vault is public
 marked_as_public : (journal : List Entry) (public : List (List ℕ)) → ArePublic journal public → (seen : List Seen) → AllByRecursion (λ (s : Seen). s.to_all ≡ is_listed public s.name) seen →
-    seen ≡ map (marked_name_of journal) (names_in seen)
+    seen ≡ map (with_mark journal) (names_in seen)
 marked_as_public journal public right [] marked = refl
 marked_as_public journal public right (s ∷ seen) marked =
-    let with_mark : Bool → Seen = λ to_all. record { name = s.name; to_all = to_all } in
-    ap (λ (b : Bool). with_mark b ∷ seen) (marked.0 ∙ right s.name)
-    ∙ ap (λ (l : List Seen). marked_name_of journal s.name ∷ l) (marked_as_public journal public right seen marked.1)
+    let marking : Bool → Seen = λ to_all. record { name = s.name; to_all = to_all } in
+    ap (λ (b : Bool). marking b ∷ seen) (marked.0 ∙ right s.name)
+    ∙ ap (λ (l : List Seen). with_mark journal s.name ∷ l) (marked_as_public journal public right seen marked.1)
 
 -- the reader and those that have granted it, merged with the public ones, are what it sees
 pub seen_from_merged : (journal : List Entry) (who : List ℕ) (granting : BTreeMap (List ℕ) (List (List ℕ))) (public was names : List (List ℕ)) (seen : List Seen) →
@@ -184,7 +184,7 @@ pub seen_from_merged : (journal : List Entry) (who : List ℕ) (granting : BTree
 unfolding marked_names
 seen_from_merged journal who granting public was names seen right publicly before after merged =
     marked_as_public journal public publicly seen (recursion_from_All (λ (s : Seen). s.to_all ≡ is_listed public s.name) seen merged.marked)
-    ∙ ap (map (marked_name_of journal)) (same_in_order names_exact (names_in seen) (names_read journal who) merged.in_order (sorted-names_read journal who) (λ owner.
+    ∙ ap (map (with_mark journal)) (same_in_order names_exact (names_in seen) (names_in (marked_names journal who)) merged.in_order (sorted-names_seen journal who) (λ owner.
     merged.of_both owner
     ∙ ap (λ (l : List (List ℕ)). has name_order l owner || is_listed public owner) after
     ∙ ap (λ (b : Bool). b || is_listed public owner) (has-insert_key names_exact was who owner)
@@ -193,4 +193,4 @@ seen_from_merged journal who granting public was names seen right publicly befor
     ∙ ap (λ (b : Bool). (eq_by_cmp name_order owner who || granted journal owner who) || b) (publicly owner)
     ∙ ap (λ (b : Bool). (b || granted journal owner who) || is_public journal owner) (is_same_tied owner who)
     ∙ or_assoc (is_same owner who) (granted journal owner who) (is_public journal owner)
-    ∙ sym (has-names_read journal who owner)))
+    ∙ sym (has-names_seen journal who owner)) ∙ names_seen journal who)

@@ -91,17 +91,10 @@ one_if false = 0
 abbrev pub grant_count : List Entry → List ℕ → ℕ
 grant_count journal owner = length (readers journal owner) + one_if (is_public journal owner)
 
--- the names that the reader reads, in order, each once
-unfoldable pub names_read : List Entry → List ℕ → List (List ℕ)
-names_read journal reader = in_order name_order (filter (reads journal reader) (reader ∷ map (λ e. e.tenant) journal))
-
--- a name that is read, with its mark: whether its vault is public
-abbrev pub marked_name_of : List Entry → List ℕ → Seen
-marked_name_of journal owner = record { name = owner; to_all = is_public journal owner }
-
--- the names that the reader reads, in order, each with its mark
+-- the names that the reader reads, in order, each once and with its mark: whether its vault is public
 unfoldable pub marked_names : List Entry → List ℕ → List Seen
-marked_names journal reader = map (marked_name_of journal) (names_read journal reader)
+marked_names journal reader = map (λ owner. record { name = owner; to_all = is_public journal owner })
+    (in_order name_order (filter (reads journal reader) (reader ∷ map (λ e. e.tenant) journal)))
 
 -- the names alone
 abbrev pub names_in : List Seen → List (List ℕ)
@@ -112,34 +105,9 @@ pub record Vault : Type 0 where
   pub owner : List ℕ
   pub rows : List Credential
 
--- an owner with its vault
-abbrev pub vault_record : List Entry → List ℕ → Vault
-vault_record journal owner = record { owner = owner; rows = vault journal owner }
-
 -- what the reader sees: the names that it reads, in order, each with its vault
 unfoldable pub view : List Entry → List ℕ → List Vault
-view journal reader = map (vault_record journal) (names_read journal reader)
-
--- one owner of a view, with its mark
-pub record Marked : Type 0 where
-  pub vault : Vault
-  pub to_all : Bool
-
--- an owner with its vault and its mark
-abbrev pub marked_record : List Entry → List ℕ → Marked
-marked_record journal owner = record { vault = vault_record journal owner; to_all = is_public journal owner }
-
--- what the reader sees, each name with its mark
-unfoldable pub marked_view : List Entry → List ℕ → List Marked
-marked_view journal reader = map (marked_record journal) (names_read journal reader)
-
--- the view without its marks
-abbrev pub unmarked : List Marked → List Vault
-unmarked vs = map (λ v. v.vault) vs
-
--- the names of a view, with their marks
-abbrev pub seen_of : Marked → Seen
-seen_of v = record { name = v.vault.owner; to_all = v.to_all }
+view journal reader = map (λ s. record { owner = s.name; rows = vault journal s.name }) (marked_names journal reader)
 
 -- all credentials of a view
 abbrev pub credentials : List Vault → List Credential

@@ -10,8 +10,8 @@ use Rattle.vaults.specs.declared.changes.Change.TheVariants.{Grant, Revoke, Gran
 use Rattle.vaults.specs.declared.changes.Entry.{Entry}
 use Rattle.vaults.specs.declared.marks.Seen.{Seen}
 use Rattle.vaults.specs.Journal.{entries_of, holds, granted, is_public, grant_count, reads, refusal, AreAccepted}
-use Rattle.vaults.specs.Journal.{vault, readers, names_read, marked_names, names_in}
-use Rattle.vaults.specs.Journal.{Vault, view, marked_view, unmarked, seen_of, credentials}
+use Rattle.vaults.specs.Journal.{vault, readers, marked_names, names_in}
+use Rattle.vaults.specs.Journal.{Vault, view, credentials}
 
 -- the list is in the order, each element once, and has exactly what the fact holds of
 pub record ListsInOrder {K : Type 0} (InOrder : List K → Type 0) (P : K → Type 0) (xs : List K) : Type 0 where
@@ -32,24 +32,19 @@ ReadersAreExact = (journal : List Entry) (owner : List ℕ) →
 -- the names read are exactly those that the reader reads
 abbrev pub NamesReadAreExact : Type 0
 NamesReadAreExact = (journal : List Entry) (reader : List ℕ) →
-    ListsInOrder (IsStrictlySortedBy name_order) (λ owner. IsTrue (reads journal reader owner)) (names_read journal reader)
+    ListsInOrder (IsStrictlySortedBy name_order) (λ owner. IsTrue (reads journal reader owner))
+    (names_in (marked_names journal reader))
 
 -- a view has the names read, in their order, and each has its vault
 abbrev pub ViewsAreOfNamesRead : Type 0
 ViewsAreOfNamesRead = (journal : List Entry) (reader : List ℕ) →
-    (map (λ v. v.owner) (view journal reader) ≡ names_read journal reader)
+    (map (λ v. v.owner) (view journal reader) ≡ names_in (marked_names journal reader))
     × ((v : Vault) → Contains (view journal reader) v → v.rows ≡ vault journal v.owner)
 
--- the names seen are the names read, and each mark says whether the vault is public
+-- each mark says whether the vault is public
 abbrev pub MarksAreExact : Type 0
-MarksAreExact = (journal : List Entry) (reader : List ℕ) →
-    (names_in (marked_names journal reader) ≡ names_read journal reader)
-    × ((s : Seen) → Contains (marked_names journal reader) s → s.to_all ≡ is_public journal s.name)
-
--- a view with its marks is the view and the names seen
-abbrev pub MarkedViewsAreExact : Type 0
-MarkedViewsAreExact = (journal : List Entry) (reader : List ℕ) →
-    (unmarked (marked_view journal reader) ≡ view journal reader) × (map seen_of (marked_view journal reader) ≡ marked_names journal reader)
+MarksAreExact = (journal : List Entry) (reader : List ℕ) (s : Seen) →
+    Contains (marked_names journal reader) s → s.to_all ≡ is_public journal s.name
 
 -- a public vault is read by everybody
 abbrev pub PublicIsRead : Type 0

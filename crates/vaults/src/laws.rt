@@ -1,5 +1,5 @@
 ghost use Rattle.vaults.specs.Laws.{VaultsAreExact, ReadersAreExact, NamesReadAreExact, ViewsAreOfNamesRead, ViewsAreExact};
-ghost use Rattle.vaults.specs.Laws.{MarksAreExact, MarkedViewsAreExact, PublicIsRead, GrantsAreApart, HeldAreIssued, GrantedAreOthers};
+ghost use Rattle.vaults.specs.Laws.{MarksAreExact, PublicIsRead, GrantsAreApart, HeldAreIssued, GrantedAreOthers};
 ghost use Rattle.vaults.specs.Laws.{HoldingIsOwn, GrantingIsOwn, PublishingIsOwn};
 ghost use Rattle.vaults.specs.Laws.{VaultsAreOwn, ReadersAreOwn, GrantCountsAreOwn, RefusalsAreOwn};
 
@@ -18,11 +18,9 @@ pub fn views_are_exact()
     ensures credentials { ViewsAreExact }
 {}
 
-/// What is seen are the names that are read, each marked exactly where its vault is public; a view with its marks is the
-/// view and what is seen; and everybody reads a public vault.
+/// Each name that is read is marked exactly where its vault is public, and everybody reads a public vault.
 pub fn marks_are_exact()
     ensures marks { MarksAreExact }
-    ensures views { MarkedViewsAreExact }
     ensures public { PublicIsRead }
 {}
 

@@ -3,7 +3,7 @@ use Rattle.std.proofs.Common.{◌≡◌, ◌∙◌, ℕ, Bool, true, false, cond
 use Rattle.std.specs.FinMap.{get}
 use Rattle.names.specs.Name.{is_same}
 use Rattle.vaults.specs.declared.changes.Entry.{Entry}
-use Rattle.vaults.specs.Journal.{marked_view, credentials}
+use Rattle.vaults.specs.Journal.{credentials}
 use Rattle.hall.specs.declared.faults.Fault.TheVariants.{NoTenant}
 use Rattle.hall.specs.declared.calls.replies.Reply.{Reply}
 use Rattle.hall.specs.declared.calls.replies.Reply.TheVariants.{Refused}
@@ -78,7 +78,7 @@ done_told name deed told = record { tenant = name; deed = deed; reply = told }
 -- a tenant's turn, of what was told
 abbrev pub turn_at : List ℕ → List Entry → Told → Turn
 turn_at tenant journal t =
-    record { sees = sight (marked_view journal tenant) (request_of t.deed); deed = t.deed; reply = t.reply }
+    record { sees = sight journal tenant (request_of t.deed); deed = t.deed; reply = t.reply }
 
 -- one thing more was done at the start of a run: a turn of the tenant, or nothing to it
 pub done_first : (when : When) (tenant : List ℕ) (journal : List Entry) (t : Told)
