@@ -1,6 +1,6 @@
--- A step of a search goes on with one question, and what is known of a search just opened.
+-- A step of a search goes on with one question, and what is known of a new search.
 use Rattle.std.proofs.Common.{refl, ◌+◌, ◌==◌, ℕ, Bool, true, false, cond, List, [], ◌∷◌, ◌≡◌, ap, Option, Some, None, ne_eqb, arith}
-use Rattle.vaults.specs.Journal.{Vault}
+use Rattle.snapshots.specs.Snapshot.{SnapshotState}
 use Rattle.search.specs.declared.queries.Query.{Query}
 use Rattle.search.specs.declared.queries.Hint.{Hint}
 use Rattle.search.specs.declared.queries.Need.{Need}
@@ -13,14 +13,14 @@ use Rattle.search.specs.declared.letters.Load.{Load}
 use Rattle.search.specs.declared.letters.Load.TheVariants as load
 use Rattle.search.specs.declared.stages.Stage.{Stage}
 use Rattle.search.specs.Ending.{Settled, Nothing, asked_role}
-use Rattle.search.specs.Search.{found, SearchState, SameQuestion, settled_of}
+use Rattle.search.specs.Search.{found, SearchState, new_search, SameQuestion, settled_of}
 use Rattle.search.specs.Finish.{Finishes}
 use Rattle.search.specs.Stage.{if_held, NoneHeld}
 use Rattle.scholten_core.specs.declared.parents.Parent.TheVariants.{Environment}
 use Rattle.hall.specs.declared.calls.steps.Step.{Step}
 use Rattle.hall.specs.declared.calls.steps.Step.TheVariants as step
 use Rattle.hall.specs.declared.calls.steps.Stepped.{Stepped}
-use Rattle.hall.specs.Steps.{just_opened, TakesAt, PutsBack, IsMade, StepsSearch, SearchGoesOn}
+use Rattle.hall.specs.Steps.{TakesAt, PutsBack, IsMade, StepsSearch, SearchGoesOn}
 
 -- another stage is no other question
 pub staged : (old new : SearchState) (at : Stage) → new ≡ record old { stage = at } → SameQuestion old new
@@ -61,18 +61,18 @@ first_load = load.Start
 first_waits : outstanding (started 0 first_load) ≡ 0 → ⊥
 first_waits none = omega (arith, none)
 
--- a search just opened has come to nothing
-pub nothing_yet : (asker : List ℕ) (v : List Vault) (q : Query) (work : ℕ) → settled_of (just_opened asker v q work) ≡ Nothing
-unfolding settled_of just_opened
-nothing_yet asker v q work = ap (λ (b : Bool). cond b (come q) Nothing) (ne_eqb (outstanding (started 0 first_load)) 0 first_waits)
+-- a new search has come to nothing
+pub nothing_yet : (q : Query) (work : ℕ) (snapshot : SnapshotState) → settled_of (new_search q work snapshot) ≡ Nothing
+unfolding settled_of new_search
+nothing_yet q work snapshot = ap (λ (b : Bool). cond b (come q) Nothing) (ne_eqb (outstanding (started 0 first_load)) 0 first_waits)
   where
     come : Query → Settled
     come q = found (record { nodes = Rol (asked_role q) ∷ []; listeners = [] ∷ []; solutions = [] }) q
 
 -- and none of its letters is held
-pub none_held_yet : (asker : List ℕ) (v : List Vault) (q : Query) (work : ℕ) → NoneHeld (just_opened asker v q work).stage
-unfolding just_opened
-none_held_yet asker v q work number = by (0 + 1 == number)
+pub none_held_yet : (q : Query) (work : ℕ) (snapshot : SnapshotState) → NoneHeld (new_search q work snapshot).stage
+unfolding new_search
+none_held_yet q work snapshot number = by (0 + 1 == number)
   where
     by : (b : Bool) → if_held (cond b (Some (record { from = Environment; to = 0; held = false; load = load.Start })) None) ≡ None
     by true = refl

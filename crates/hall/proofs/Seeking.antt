@@ -5,27 +5,27 @@ use Rattle.std.specs.FinMap.{FinMap, get, insert}
 use Rattle.vaults.specs.Journal.{view}
 use Rattle.search.specs.declared.queries.Query.{Query}
 use Rattle.search.specs.Ending.{Nothing}
+use Rattle.search.specs.Search.{new_search}
 use Rattle.hall.specs.declared.faults.Fault.{Fault}
 use Rattle.hall.specs.declared.faults.Fault.TheVariants.{NoSuchSearch, Memory}
 use Rattle.hall.specs.declared.calls.requests.Request.TheVariants.{Seek, Close}
 use Rattle.hall.specs.declared.calls.replies.Reply.TheVariants.{Opened, Closed, Refused}
-use Rattle.hall.specs.Steps.{just_opened}
-use Rattle.hall.specs.Answers.{Asked, seek_refusal, opened, refuses, grants, lacks}
+use Rattle.hall.specs.Answers.{Asked, seek_refusal, refuses, grants, lacks}
 use Rattle.hall.specs.Hall.{Running, Tenant, HallState, seen, account, beginning, IsServed, told_as}
 use Rattle.hall.proofs.Maps.{numbers_exact, get_removed, get_mapped, mapped_insert, mapped_remove}
 use Rattle.hall.proofs.SearchSteps.{nothing_yet}
 use Rattle.hall.proofs.Polled.{answered_by}
 use Rattle.hall.proofs.Placed.{put, put_changed, put_again, served_as}
-use Rattle.hall.proofs.laws.HallRequests.{opening, closing}
+use Rattle.hall.proofs.laws.HallRequests.{opening, with_opened, closing}
 
 -- a search that is opened now, as its asker knows it
 seen_beginning : (h : HallState) (who : List ℕ) (query : Query) (work : ℕ) →
     seen (beginning h.journal who query work) ≡ record { query = query; view = view h.journal who; settled = Nothing }
-unfolding just_opened
+unfolding new_search
 seen_beginning h who query work = λ i. record {
   query = query;
   view = view h.journal who;
-  settled = nothing_yet who (view h.journal who) query work i;
+  settled = nothing_yet query work (record { asker = who; vaults = view h.journal who }) i;
 }
 
 module _ (h : HallState) (who : List ℕ) (t u : Tenant) (here : get h.tenants who ≡ Some t) where
@@ -44,7 +44,7 @@ module _ (h : HallState) (who : List ℕ) (t u : Tenant) (here : get h.tenants w
       asked : Asked
       asked = record { query = query; view = view h.journal who; settled = Nothing }
 
-      grown : account h.journal who (opening h.journal who query n t) ≡ opened (account h.journal who t) asked
+      grown : account h.journal who (opening h.journal who query n t) ≡ with_opened (account h.journal who t) asked
       grown =
           ap (λ (m : FinMap nat_cmp Asked). record (account h.journal who t) { opens = n; searches = m })
           (mapped_insert numbers_exact seen t.searches n (beginning h.journal who query t.limits.work)

@@ -111,17 +111,17 @@ Refuses tenant a (request.Close k) f = (get a.searches k ≡ None) × (f ≡ fau
 Refuses tenant a (request.Proof k who) f = RefusesProof (get a.searches k) who f
 Refuses tenant a _ f = ⊥
 
--- the account with one more search, of the next number, which has come to nothing yet
-abbrev pub opened : Account → Asked → Account
-opened a s = record a { opens = a.opens + 1; searches = insert a.searches (a.opens + 1) s }
-
 -- the reply to the request where no refusal is due, and the account after it
 abbrev pub Grants : List ℕ → Sight → Account → Request → Reply → Account → Type 0
 Grants tenant sees a (request.Alter change) told b =
     (told ≡ reply.Counted (length a.entries + 1))
     × (b ≡ record a { entries = a.entries ++ record { tenant = tenant; change = change } ∷ [] })
 Grants tenant sees a (request.Seek query) told b =
-    (told ≡ reply.Opened (a.opens + 1)) × (b ≡ opened a (record { query = query; view = sees.vaults; settled = Nothing }))
+    (told ≡ reply.Opened (a.opens + 1))
+    × (b ≡ record a {
+      opens = a.opens + 1;
+      searches = insert a.searches (a.opens + 1) (record { query = query; view = sees.vaults; settled = Nothing });
+    })
 Grants tenant sees a (request.Poll k) told b =
     (s : Asked) × (get a.searches k ≡ Some s) × (told ≡ reply.Answered (answer_of s.settled)) × (b ≡ a)
 Grants tenant sees a (request.Close k) told b = (told ≡ reply.Closed) × (b ≡ record a { searches = remove a.searches k })

@@ -9,7 +9,7 @@ use Rattle.vaults.specs.declared.changes.Entry.{Entry}
 use Rattle.vaults.specs.Journal.{entries_of, view, credentials}
 use Rattle.search.specs.declared.queries.Query.{Query}
 use Rattle.search.specs.Ending.{Nothing, MaySettle}
-use Rattle.search.specs.Search.{SearchState, IsSoundStage, settled_of}
+use Rattle.search.specs.Search.{SearchState, new_search, IsSoundStage, settled_of}
 use Rattle.search.specs.Finish.{IsDriven}
 use Rattle.search.specs.Stage.{NoneHeld, IsQuiet}
 use Rattle.hall.specs.declared.faults.Fault.{Fault}
@@ -24,7 +24,7 @@ use Rattle.hall.specs.declared.calls.steps.Stepped.{Stepped}
 use Rattle.hall.specs.declared.calls.steps.Stepped.TheVariants.{Gone}
 use Rattle.hall.specs.declared.calls.events.Event.{Event}
 use Rattle.hall.specs.declared.calls.events.Event.TheVariants as event
-use Rattle.hall.specs.Steps.{just_opened, StepsSearch}
+use Rattle.hall.specs.Steps.{StepsSearch}
 use Rattle.hall.specs.Answers.{Asked, Account, sight, Answers}
 use Rattle.hall.specs.Run.{Deed, asks, waits, Told}
 
@@ -88,7 +88,10 @@ with_search h name k r = with_tenant h name (λ t. record t { searches = insert 
 
 -- a search that is opened now: its first letter waits, and nothing else is outstanding
 abbrev pub beginning : List Entry → List ℕ → Query → ℕ → Running
-beginning journal name query work = record { opened_at = length journal; search = just_opened name (view journal name) query work }
+beginning journal name query work = record {
+  opened_at = length journal;
+  search = new_search query work (record { asker = name; vaults = view journal name });
+}
 
 -- the hall after a request and its reply: an accepted change is entered, an opened search begins, an ended one is gone
 abbrev pub hall_after : HallState → List ℕ → Request → Reply → HallState

@@ -4,14 +4,13 @@ use Rattle.std.specs.Arc.{arc_value}
 use Rattle.hall.specs.declared.lendable_searches.LendableSearch.{LendableSearch}
 use Rattle.hall.specs.declared.lendable_searches.LendableSearch.TheVariants.{Own, Lent, Moving}
 use Rattle.search.specs.declared.queries.Query.TheVariants.{Who}
-use Rattle.search.specs.Search.{SearchState, IsCompleted}
-use Rattle.hall.specs.Steps.{just_opened}
+use Rattle.search.specs.Search.{SearchState, new_search, IsCompleted}
 
 -- the search that is carried; what stands for it where there is none is never seen
 abbrev pub lendable_search : LendableSearch → SearchState
 lendable_search (Own s) = s
 lendable_search (Lent shared) = arc_value shared
-lendable_search Moving = just_opened [] [] (Who (record { owner = []; name = [] })) 0
+lendable_search Moving = new_search (Who (record { owner = []; name = [] })) 0 (record { asker = []; vaults = [] })
 
 -- there is a search, and one that is shared is completed
 abbrev pub IsLendable : LendableSearch → Type 0

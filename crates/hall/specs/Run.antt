@@ -51,17 +51,14 @@ pub record Turn : Type 0 where
   pub deed : Deed
   pub reply : Reply
 
--- the turn of that tenant, if it is one of its own
-abbrev pub turn_of : List ℕ → List Entry → Told → List Turn
-turn_of tenant journal t =
-    if is_same t.tenant tenant
-    then record { sees = sight journal tenant (request_of t.deed); deed = t.deed; reply = t.reply } ∷ []
-    else []
-
--- the tenant's own turns
+-- the tenant's own turns, each with what it had in sight
 abbrev pub told_to : List ℕ → List Entry → List Told → List Turn
 told_to tenant journal [] = []
-told_to tenant journal (t ∷ more) = turn_of tenant journal t ++ told_to tenant (entered journal t) more
+told_to tenant journal (t ∷ more) =
+    (if is_same t.tenant tenant
+    then record { sees = sight journal tenant (request_of t.deed); deed = t.deed; reply = t.reply } ∷ []
+    else [])
+    ++ told_to tenant (entered journal t) more
 
 -- when a search may settle: at any time, where others make its steps; or where its tenant waits for it, and then it does
 pub data When : Type 0 where

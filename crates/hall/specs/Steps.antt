@@ -1,33 +1,15 @@
--- A search as a hall sees it: as it is opened, what a step does to it, and what steps in a row do.
+-- A search as a hall sees it: what a step does to it, and what steps in a row do.
 use Rattle.std.specs.Prelude.{◌≡◌, ℕ, Bool, true, false, List, [], ◌∷◌, Option, None, Some, slice_get, if◌then◌else◌}
 use Rattle.std.specs.Option.{option_map_or}
-use Rattle.credential_text.specs.declared.exprs.Expr.TheVariants.{Rol}
-use Rattle.vaults.specs.Journal.{Vault, credentials}
-use Rattle.scholten_core.specs.{declared.letters.Letter.Letter, Step.started}
-use Rattle.search.specs.declared.{queries.Query.Query, queries.Need.Need, outcomes.Finished.Finished}
-use Rattle.search.specs.{Net.Said, Ending.asked_role, Ending.MaySettle, Finish.Takes, Finish.Finishes}
+use Rattle.scholten_core.specs.declared.letters.Letter.{Letter}
+use Rattle.search.specs.declared.{queries.Need.Need, outcomes.Finished.Finished}
+use Rattle.search.specs.{Net.Said, Finish.Takes, Finish.Finishes}
 use Rattle.search.specs.Search.{SearchState, SameQuestion, Settles, IsSoundStage}
 use Rattle.search.specs.Stage.{waiting_in, held_in, stage_marked, Delivers}
 use Rattle.hall.specs.declared.calls.steps.{Step.Step, Stepped.Stepped}
-use Rattle.search.specs.declared.letters.Load.TheVariants as load
-use Rattle.search.specs.declared.findings.Monitor.TheVariants as monitor
 use Rattle.search.specs.declared.outcomes.Finished.TheVariants as finished
-use Rattle.search.specs.declared.stages.Stage.TheVariants as stage
-pub use Rattle.search.specs.Search.{found}
-unfoldable pub use Rattle.search.specs.Search.{settled_of}
 use Rattle.hall.specs.declared.calls.steps.Step.TheVariants as step
 use Rattle.hall.specs.declared.calls.steps.Stepped.TheVariants as stepped
-
--- a search of the asker over its view, which may send so many letters: one letter, to the asked role, waits
-unfoldable pub just_opened : List ℕ → List Vault → Query → ℕ → SearchState
-just_opened asker view query work = record {
-  query = query;
-  work = work;
-  snapshot = record { asker = asker; vaults = view };
-  graph = record { nodes = Rol (asked_role query) ∷ []; listeners = [] ∷ []; solutions = [] };
-  monitors = monitor.Plain ∷ [];
-  stage = stage.Running (started 0 load.Start);
-}
 
 -- the waiting letter at a place is taken, where there is one
 abbrev pub TakesAt : SearchState → ℕ → Option (ℕ × Need) → SearchState → Type 0
@@ -84,4 +66,4 @@ StepsEach old new (made ∷ more) [] = ⊥
 -- the search goes on with its question, and may settle
 pub record SearchGoesOn (old new : SearchState) : Type 0 where
   pub question : SameQuestion old new
-  pub settles : MaySettle old.work (credentials old.snapshot.vaults) old.query (settled_of old) (settled_of new)
+  pub settles : Settles old new

@@ -1,10 +1,10 @@
 //! A search that was opened and not ended: its steps, what one of its tenant's calls does to it, and what is told of it.
 ghost use Rattle.std.specs.Prelude.{◌≡◌, MatchOption};
-ghost use Rattle.search.specs.{Stage.IsQuiet, Search.SearchState, Search.IsCompleted, Search.Settles};
+ghost use Rattle.search.specs.{Stage.IsQuiet, Search.SearchState, Search.IsCompleted, Search.Settles, Search.settled_of};
 ghost use Rattle.hall.specs.declared.calls.requests.Request.TheVariants as request;
 ghost use Rattle.hall.specs.declared.calls.replies.Reply.TheVariants as reply;
 ghost use Rattle.hall.specs.{Answers.IsToldOver, Hall.known, Hall.told_as};
-ghost use Rattle.hall.specs.{Kept.DrivesTo, Kept.IsToldOf, Kept.IsNext, Steps.settled_of, Steps.IsMade, Steps.StepsSearch};
+ghost use Rattle.hall.specs.{Kept.DrivesTo, Kept.IsToldOf, Kept.IsNext, Steps.IsMade, Steps.StepsSearch};
 
 use crate::batches::Batch;
 use crate::calls::{Answer, Step, Stepped};

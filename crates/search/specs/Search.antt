@@ -90,14 +90,16 @@ IsAnswered status.No = Unit {0}
 IsAnswered status.Members = Unit {0}
 IsAnswered _ = ⊥
 
--- the letter to the asked role waits, and nothing else was done
-pub record IsNew (s : SearchState) (query : Query) (work : ℕ) (snapshot : SnapshotState) : Type 0 where
-  pub query_is : s.query ≡ query
-  pub work_is : s.work ≡ work
-  pub snapshot_is : s.snapshot ≡ snapshot
-  pub graph_is : s.graph ≡ record { nodes = Rol (asked_role query) ∷ []; listeners = [] ∷ []; solutions = [] }
-  pub monitors_is : s.monitors ≡ monitor.Plain ∷ []
-  pub stage_is : s.stage ≡ stage.Running (started 0 load.Start)
+-- a search over the snapshot, which may send so many letters: one letter, to the asked role, waits
+unfoldable pub new_search : Query → ℕ → SnapshotState → SearchState
+new_search query work snapshot = record {
+  query = query;
+  work = work;
+  snapshot = snapshot;
+  graph = record { nodes = Rol (asked_role query) ∷ []; listeners = [] ∷ []; solutions = [] };
+  monitors = monitor.Plain ∷ [];
+  stage = stage.Running (started 0 load.Start);
+}
 
 abbrev pub net_of : GraphState → List Monitor → Computation Said → Net
 net_of g ms c = record { graph = g; monitors = ms; pending = sent_of c.letters }

@@ -86,7 +86,7 @@ impl Drop for Search {
 }
 
 impl Search {
-    ghost use Rattle.search.specs.Search.{SearchState, IsNew, IsOutstanding, IsCompleted, rows_of, asked_role, net_of};
+    ghost use Rattle.search.specs.Search.{SearchState, new_search, IsOutstanding, IsCompleted, rows_of, asked_role, net_of};
     ghost use Rattle.search.specs.Search.{SameQuestion, Settles, settled_of};
     ghost use Rattle.search.specs.Stage.{HoldsLetter, letter_in, waiting_in, signals_in, held_in, stage_marked, Delivers};
     ghost use Rattle.search.specs.Finish.{IsSpanFor, need_for, need_of, Needs, Takes, TakesHeld, Receives, Finishes};
@@ -99,7 +99,7 @@ impl Search {
         work: u64,
     ) -> Result<Search, AllocError>
         requires { 0 < work }
-        ensures { IfOk result (λ s. IsNew s query work (arc_value snapshot)) }
+        ensures { IfOk result (λ s. s ≡ new_search query work (arc_value snapshot)) }
     {
         Search::open_in(Tables::new(alloc), alloc, snapshot, query, work)
     }
@@ -113,7 +113,7 @@ impl Search {
         work: u64,
     ) -> Result<Search, AllocError>
         requires { 0 < work }
-        ensures { IfOk result (λ s. IsNew s query work (arc_value snapshot)) }
+        ensures { IfOk result (λ s. s ≡ new_search query work (arc_value snapshot)) }
     {
         let Tables { mut found } = tables;
         found.first(query.role())?;

@@ -31,7 +31,7 @@ served_free old new name q told free served =
     (λ query n t is said found.
     inserted_each (HoldsNone name (opening old.journal name query n t)) t.searches n
     (beginning old.journal name query t.limits.work) (λ k r at. free name t k r found at)
-    (none_held_yet name (view old.journal name) query t.limits.work))
+    (none_held_yet query t.limits.work (record { asker = name; vaults = view old.journal name })))
     (λ k t found j r at. free name t j r found at))
 
 driven_free : (old new : HallState) (name : List ℕ) (k : ℕ) → IsFree old → Drives old name k (search_at old name k) new →

@@ -11,7 +11,7 @@ use Rattle.hall.specs.declared.calls.requests.Request.{Request}
 use Rattle.hall.specs.declared.calls.requests.Request.TheVariants as request
 use Rattle.hall.specs.declared.calls.replies.Reply.{Reply}
 use Rattle.hall.specs.declared.calls.replies.Reply.TheVariants.{Counted, Opened, Closed}
-use Rattle.hall.specs.Answers.{Account, Sight, Answers, refuses, grants, lacks}
+use Rattle.hall.specs.Answers.{Asked, Account, Sight, Answers, refuses, grants, lacks}
 use Rattle.hall.specs.Run.{Deed, asks, Told, entered}
 use Rattle.hall.specs.Hall.{Running, Tenant, HallState, account, account_of, beginning, hall_after}
 use Rattle.hall.proofs.laws.HallChanges.{EachSearch, EachOf, changed_each, changed_elsewhere, removed_each}
@@ -20,6 +20,10 @@ use Rattle.hall.proofs.laws.HallChanges.{EachSearch, EachOf, changed_each, chang
 abbrev pub opening : List Entry → List ℕ → Query → ℕ → Tenant → Tenant
 opening journal name query n t =
     record t { opens = n; searches = insert t.searches n (beginning journal name query t.limits.work) }
+
+-- its account then
+abbrev pub with_opened : Account → Asked → Account
+with_opened a s = record a { opens = a.opens + 1; searches = insert a.searches (a.opens + 1) s }
 
 -- a tenant with one search less
 abbrev pub closing : ℕ → Tenant → Tenant

@@ -12,7 +12,7 @@ use Rattle.scholten_core.proofs.Complete.{settled_started, sound as first_sound}
 use Rattle.search.specs.declared.letters.Load.TheVariants.{Start}
 use Rattle.search.specs.declared.queries.Query.{Query}
 use Rattle.search.specs.Ending.{Nothing, MaySettle}
-use Rattle.search.specs.Search.{SearchState, IsSoundStage, settled_of}
+use Rattle.search.specs.Search.{SearchState, new_search, IsSoundStage, settled_of}
 use Rattle.hall.specs.declared.calls.requests.Request.{Request}
 use Rattle.hall.specs.declared.calls.requests.Request.TheVariants as request
 use Rattle.hall.specs.declared.calls.replies.Reply.{Reply}
@@ -20,7 +20,7 @@ use Rattle.hall.specs.declared.calls.replies.Reply.TheVariants.{Opened}
 use Rattle.hall.specs.declared.calls.steps.Step.{Step}
 use Rattle.hall.specs.declared.calls.steps.Stepped.{Stepped}
 use Rattle.hall.specs.declared.calls.events.Event.TheVariants as event
-use Rattle.hall.specs.Steps.{just_opened, SearchGoesOn}
+use Rattle.hall.specs.Steps.{SearchGoesOn}
 use Rattle.hall.specs.Run.{Deed, asks, waits}
 use Rattle.hall.specs.Hall.{Running, Tenant, HallState, with_search, search_at, beginning, hall_after}
 use Rattle.hall.specs.Hall.{IsServed, StepsAt, IsStepped, step_name, step_search, Drives, CarriesOut}
@@ -57,13 +57,13 @@ all_grown journal more h each name t k r found at =
 -- a search that is opened now
 beginning_sound : (journal : List Entry) (name : List ℕ) (query : Query) (limits : Quota) →
     IsSoundSearch journal name limits (beginning journal name query limits.work)
-unfolding just_opened
+unfolding new_search
 beginning_sound journal name query limits = record {
   opened = le_refl (length journal);
   asker = refl;
   view = ap (λ (j : List Entry). view j name) (sym (take_all (length journal) journal (le_refl (length journal))));
   work = refl;
-  settled = inl (nothing_yet name (view journal name) query limits.work);
+  settled = inl (nothing_yet query limits.work (record { asker = name; vaults = view journal name }));
   computation = first_sound (started 0 Start) (settled_started 0 Start);
 }
 

@@ -8,7 +8,7 @@ use Rattle.hall.specs.declared.faults.Fault.TheVariants.{NoTenant}
 use Rattle.hall.specs.declared.calls.replies.Reply.{Reply}
 use Rattle.hall.specs.declared.calls.replies.Reply.TheVariants.{Refused}
 use Rattle.hall.specs.Answers.{Asked, Account, sight}
-use Rattle.hall.specs.Run.{Deed, request_of, Told, Turn, turn_of, When, any_time, at_waits}
+use Rattle.hall.specs.Run.{Deed, request_of, Told, Turn, When, any_time, at_waits}
 use Rattle.hall.specs.Run.{GoesOn, Between, IsTaken, IsRun, IsRunOf}
 use Rattle.hall.proofs.Truths.{settles_twice}
 
@@ -79,6 +79,10 @@ done_told name deed told = record { tenant = name; deed = deed; reply = told }
 abbrev pub turn_at : List ℕ → List Entry → Told → Turn
 turn_at tenant journal t =
     record { sees = sight journal tenant (request_of t.deed); deed = t.deed; reply = t.reply }
+
+-- the turn of that tenant, if it is one of its own
+abbrev pub turn_of : List ℕ → List Entry → Told → List Turn
+turn_of tenant journal t = cond (is_same t.tenant tenant) (turn_at tenant journal t ∷ []) []
 
 -- one thing more was done at the start of a run: a turn of the tenant, or nothing to it
 pub done_first : (when : When) (tenant : List ℕ) (journal : List Entry) (t : Told)

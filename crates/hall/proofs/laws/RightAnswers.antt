@@ -19,7 +19,7 @@ use Rattle.hall.proofs.Truths.{came_to_end}
 use Rattle.hall.proofs.laws.RightOpenings.{Knows, knows_nothing, between_knows, ends_knows, taken_knows}
 
 -- what was told says what the search has come to
-same_answer : (x y : Settled) → answer_of x ≡ answer_of y → x ≡ y
+pub same_answer : (x y : Settled) → answer_of x ≡ answer_of y → x ≡ y
 same_answer x y e = grind arith
 
 -- an account of which it is known which turn opened each search

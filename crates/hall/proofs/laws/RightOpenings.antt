@@ -14,12 +14,13 @@ use Rattle.hall.specs.declared.calls.requests.Request.{Request}
 use Rattle.hall.specs.declared.calls.requests.Request.TheVariants as request
 use Rattle.hall.specs.declared.calls.replies.Reply.{Reply}
 use Rattle.hall.specs.declared.calls.replies.Reply.TheVariants.{Opened, Refused}
-use Rattle.hall.specs.Answers.{Asked, Account, new_account, Sight, Grants, opened as with_opened, Answers, refuses, grants, lacks}
+use Rattle.hall.specs.Answers.{Asked, Account, new_account, Sight, Grants, Answers, refuses, grants, lacks}
 use Rattle.hall.specs.Run.{Deed, asks, waits, Turn, When, any_time, at_waits, GoesOn, Between, Ends, IsTaken}
 use Rattle.hall.specs.Laws.{opens}
 use Rattle.std.proofs.lemmas.Option.{same_Some}
 use Rattle.hall.proofs.Maps.{numbers_exact, each_inserted, each_removed}
 use Rattle.hall.proofs.Truths.{settles_twice}
+use Rattle.hall.proofs.laws.HallRequests.{with_opened}
 
 -- among these turns the search got its number once, for its query and over its view; and it has come to nothing yet or to an end
 pub record WasOpened (limit : ℕ) (before : List Turn) (k : ℕ) (s : Asked) : Type 0 where
