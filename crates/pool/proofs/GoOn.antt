@@ -13,10 +13,10 @@ use Rattle.hall.specs.declared.calls.steps.Step.{Step}
 use Rattle.hall.specs.declared.calls.steps.Stepped.{Stepped}
 use Rattle.hall.specs.declared.faults.Fault.TheVariants.{NoTenant}
 use Rattle.hall.specs.Answers.{Account, start_of}
-use Rattle.hall.specs.Run.{Told, told_in, entered, turn_of, told_to, Turn, any_time, IsRun, IsRunOf}
+use Rattle.hall.specs.Run.{Told, told_in, entered, told_to, Turn, any_time, IsRun, IsRunOf}
 use Rattle.hall.specs.Hall.{HallState, account_of, IsSound, Run, IsServed, IsStepped}
 use Rattle.hall.proofs.laws.HallRuns.{runs_allowed, served_journal, stepped_journal}
-use Rattle.hall.proofs.laws.HallTurns.{later_run}
+use Rattle.hall.proofs.laws.HallTurns.{turn_of, later_run}
 use Rattle.pool.specs.Histories.{journal_after, turn, EndsIn, HistoriesGoOn}
 
 pub journal_append : (journal : List Entry) (xs ys : List Told) → journal_after journal (xs ++ ys) ≡ journal_after (journal_after journal xs) ys

@@ -1,5 +1,5 @@
 -- What is told of a search that is read, under the lock or once it was given back.
-use Rattle.std.specs.Prelude.{IfOk}
+use Rattle.std.specs.Prelude.{IfOk, IfSome}
 use Rattle.std.proofs.Common.{◌≡◌, ◌∙◌, ◌⊎◌, ◌++◌, ◌∷◌, [], ℕ, List, Some, option_map, Result, Ok, Err, inl, inr, ap, sym, subst, subst₂, refl}
 use mathlib.Core.List.{IsPrefix}
 use Rattle.std.specs.declared.snapshot.Snapshot.{Snapshot}
@@ -20,11 +20,11 @@ use Rattle.pool.specs.declared.turns.Item.{Item}
 use Rattle.pool.specs.declared.turns.Item.TheVariants as item
 use Rattle.pool.specs.declared.turns.Noted.TheVariants as noted
 use Rattle.pool.specs.declared.verdicts.Verdict.{Verdict}
-use Rattle.pool.specs.Histories.{Reaches, ReadsIn, IsReadOff, IsOpening, item_of}
+use Rattle.pool.specs.Histories.{Reaches, ReadsIn, number_read, IsReadOff, IsOpening, item_of}
 use Rattle.pool.specs.Verdicts.{IsTrueWhereCompleted}
 use Rattle.pool.specs.Passes.{PassState, own_calls}
 use Rattle.pool.specs.Rooms.{RoomState, IsKept}
-use Rattle.pool.specs.Served.{IsTold, IsRefused, IsAnswered, Suits, IsReadAs, OfSearch, IsLent, IsVerdictOn, IsPolled, IsPolledIn, IsAtWork}
+use Rattle.pool.specs.Served.{IsTold, IsRefused, IsAnswered, Suits, IsReadAs, IsLent, IsVerdictOn, IsPolled, IsPolledIn, IsAtWork}
 use Rattle.pool.proofs.Admitting.{search_found, read_served}
 use Rattle.pool.proofs.Reaching.{opening_stays}
 use Rattle.pool.proofs.Told.{next_item}
@@ -51,9 +51,9 @@ Names q k = (q ≡ request.Poll k) ⊎ ((member : List ℕ) × (q ≡ request.Pr
 pub names_same : (q : Request) (number k : ℕ) → Names q k → number ≡ k → Names q number
 names_same q number k names is = subst (Names q) (sym is) names
 
-of_search : (q : Request) (k : ℕ) (holds : ℕ → Type 0) → Names q k → holds k → OfSearch q holds
-of_search q k holds (inl is) here = subst (λ (r : Request). OfSearch r holds) (sym is) here
-of_search q k holds (inr (member, is)) here = subst (λ (r : Request). OfSearch r holds) (sym is) here
+of_search : (q : Request) (k : ℕ) (holds : ℕ → Type 0) → Names q k → holds k → IfSome (number_read q) holds
+of_search q k holds (inl is) here = subst (λ (r : Request). IfSome (number_read r) holds) (sym is) here
+of_search q k holds (inr (member, is)) here = subst (λ (r : Request). IfSome (number_read r) holds) (sym is) here
 
 pub completed_read : (h : HallState) (who : List ℕ) (q : Request) (k : ℕ) (s : SearchState) → Names q k → IsCompletedAt h who k s → ReadsIn h who q s
 completed_read h who q k s (inl is) at = subst (λ (r : Request). ReadsIn h who r s) (sym is) (completed_there h who k s at)

@@ -17,9 +17,10 @@ use Rattle.hall.specs.declared.calls.requests.Request.TheVariants.{Poll}
 use Rattle.hall.specs.declared.faults.Fault.{Fault}
 use Rattle.hall.specs.declared.calls.replies.Reply.{Reply}
 use Rattle.hall.specs.declared.calls.replies.Reply.TheVariants.{Answered, Refused}
-use Rattle.hall.specs.Answers.{Asked, answer_of}
+use Rattle.hall.specs.Answers.{Asked, answer_of, IsAnswer}
 use Rattle.hall.specs.Hall.{Running, Tenant, HallState, search_of, search_at, seen, IsSound, IsServed}
 use Rattle.hall.proofs.Maps.{numbers_exact, get_mapped}
+use Rattle.hall.proofs.laws.RightAnswers.{same_answer}
 use Rattle.pool.specs.declared.verdicts.Verdict.{Verdict}
 use Rattle.pool.specs.Verdicts.{IsTrueWhereCompleted}
 use Rattle.pool.specs.declared.faults.DeskFault.{DeskFault}
@@ -28,20 +29,19 @@ use Rattle.pool.specs.declared.turns.Item.TheVariants as item
 use Rattle.pool.specs.Fronts.{HasStop}
 use Rattle.pool.specs.Passes.{PassState}
 use Rattle.pool.specs.Rooms.{RoomState, IsKept}
-use Rattle.pool.specs.Served.{IsAtWork, GoesOnWaiting, IsPolledIn, IsWaited}
+use Rattle.pool.specs.Served.{IsAtWork, IsPolledIn, IsWaited}
 use Rattle.pool.proofs.Served.{granted}
 
-truth_told : (C : List Credential) (q : Query) (s : Settled) → IsTruth C q s → IsTrueWhereCompleted C q (answer_of s)
-truth_told C q Yes is = is
-truth_told C q No is = is
-truth_told C q (Members names) is = is
-truth_told C q s is = tt
+truth_told : (C : List Credential) (q : Query) (s : Settled) → (IsAnswer s → IsTruth C q s) → IsTrueWhereCompleted C q (answer_of s)
+truth_told C q s truth t told answered =
+    let same : s ≡ t = same_answer s t told in
+    subst (IsTruth C q) same (truth (subst IsAnswer (sym same) answered))
 
 ending_told : (limit : ℕ) (C : List Credential) (q : Query) (s : Settled) → MaySettle limit C q Nothing s → IsTrueWhereCompleted C q (answer_of s)
-ending_told limit C q s (inl is) = subst (λ (t : Settled). IsTrueWhereCompleted C q (answer_of t)) (sym is) tt
-ending_told limit C q s (inr (none, answers work of within truth)) = truth_told C q s truth
-ending_told limit C q s (inr (none, spends is exceeds)) = subst (λ (t : Settled). IsTrueWhereCompleted C q (answer_of t)) (sym is) tt
-ending_told limit C q s (inr (none, breaks is)) = subst (λ (t : Settled). IsTrueWhereCompleted C q (answer_of t)) (sym is) tt
+ending_told limit C q s (inl is) = truth_told C q s (λ answered. absurd (subst IsAnswer is answered))
+ending_told limit C q s (inr (none, answers work of within truth)) = truth_told C q s (λ answered. truth)
+ending_told limit C q s (inr (none, spends is exceeds)) = truth_told C q s (λ answered. absurd (subst IsAnswer is answered))
+ending_told limit C q s (inr (none, breaks is)) = truth_told C q s (λ answered. absurd (subst IsAnswer is answered))
 
 -- what a search of a sound hall has come to is the truth where it is completed
 pub running_truth : (h : HallState) (who : List ℕ) (k : ℕ) (r : Running) → IsSound h → search_at h who k ≡ Some r →
@@ -112,7 +112,7 @@ pub stop_seen : (told seen : List Item) → HasStop told → IsPrefix told seen 
 stop_seen told seen (name, has) (more, is) = (name, subst (λ (l : List Item). Contains l (item.Stopped name)) is (Contains-append_left told more (item.Stopped name) has))
 
 -- where a wait is over a poll tells nothing yet only after a stop
-pub waited : (at : RoomState) (old new : PassState) (k : ℕ) (result : Result Verdict DeskFault) → IsKept at → (GoesOnWaiting at old.tenant k → ⊥) → IsPolledIn at old new k result →
+pub waited : (at : RoomState) (old new : PassState) (k : ℕ) (result : Result Verdict DeskFault) → IsKept at → ((at.stopped ≡ false) × IsAtWork at old.tenant k → ⊥) → IsPolledIn at old new k result →
     IsWaited old new k result
 waited at old new k (Err fault) kept over polled = (polled.polled, tt)
 waited at old new k (Ok v) kept over polled = (polled.polled, λ working. by working at.stopped refl)

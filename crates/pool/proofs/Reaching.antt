@@ -9,13 +9,12 @@ use Rattle.vaults.specs.declared.changes.Entry.{Entry}
 use Rattle.vaults.specs.Journal.{view}
 use Rattle.snapshots.specs.Snapshot.{SnapshotState}
 use Rattle.search.specs.declared.queries.Query.{Query}
-use Rattle.search.specs.Search.{SearchState}
+use Rattle.search.specs.Search.{SearchState, new_search}
 use Rattle.hall.specs.declared.faults.Fault.{Fault}
 use Rattle.hall.specs.declared.calls.replies.Reply.{Reply}
 use Rattle.hall.specs.declared.calls.requests.Request.{Request}
 use Rattle.hall.specs.declared.calls.steps.Step.{Step}
 use Rattle.hall.specs.declared.calls.steps.Stepped.{Stepped}
-use Rattle.hall.specs.Steps.{just_opened}
 use Rattle.hall.specs.Answers.{Account, start_of}
 use Rattle.hall.specs.Run.{Told, any_time, IsRunOf}
 use Rattle.hall.specs.Hall.{HallState, Tenant, Running, known, account_of, search_at, beginning, IsSound, IsServed, StepsAt, IsStepped, step_name, step_search, told_as, new_hall}
@@ -89,7 +88,7 @@ all_stay items i h opened who t k r found at = opening_stays items i who k r.sea
 
 opened_on : (items : List Item) (old new : HallState) (name : ℕ) (who : List ℕ) (q : Request) (told : Reply) → old.journal ≡ journal_by [] items →
     EachSearch (Opens items) old → IsServed old who q told new → EachSearch (Opens (items ++ item.Told name who q told ∷ [])) new
-unfolding just_opened
+unfolding new_search
 opened_on items old new name who q told journal opened served =
     let more : List Item = items ++ item.Told name who q told ∷ [] in
     let still : EachSearch (Opens more) old = all_stay items (item.Told name who q told) old opened in

@@ -9,7 +9,7 @@ use Rattle.pool.specs.declared.turns.Item.TheVariants as item
 use Rattle.pool.specs.Fronts.{name_of, own_of}
 use Rattle.pool.specs.Histories.{entered_by, journal_by}
 use Rattle.pool.specs.Rules.{AreNamed}
-use Rattle.pool.specs.Shares.{accepted_in, sum_below, SharesAddUp}
+use Rattle.pool.specs.Passes.{accepted_in, sum_below, SharesAddUp}
 use Rattle.pool.proofs.Weaving.{own_here, own_elsewhere}
 
 -- an item enters as many changes, whatever was entered before

@@ -6,7 +6,7 @@ use Rattle.hall.specs.Run.{Told, entered, told_to, any_time, IsRunOf}
 use Rattle.hall.proofs.laws.HallTurns.{turn_at}
 use Rattle.hall.proofs.laws.RightAnswers.{answers_true}
 use Rattle.pool.specs.Histories.{journal_after}
-use Rattle.pool.specs.Truths.{HistoriesAreTrue}
+use Rattle.pool.specs.Laws.{HistoriesAreTrue}
 use Rattle.pool.proofs.GoOn.{told_append}
 
 -- what a tenant was told, up to its own turn and after

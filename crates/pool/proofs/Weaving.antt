@@ -6,7 +6,7 @@ use Rattle.hall.specs.Run.{Told}
 use Rattle.pool.specs.declared.turns.Item.{Item}
 use Rattle.pool.specs.Fronts.{name_of, own_of}
 use Rattle.pool.specs.Histories.{Admits, is_turn, turns_of}
-use Rattle.pool.specs.Sessions.{lines_of, SessionsAreRuns}
+use Rattle.pool.specs.Laws.{lines_of, SessionsAreRuns}
 
 told_none : (lines : List Told) → AllZip Admits [] lines → [] ≡ lines
 told_none [] are = refl

@@ -7,7 +7,7 @@ use Rattle.hall.specs.Answers.{Account, start_of}
 use Rattle.hall.specs.Run.{Turn, told_to, any_time, IsRun, IsRunOf}
 use Rattle.hall.specs.Laws.{Agree, same, HasMemory, IsSameDeed}
 use Rattle.hall.proofs.laws.Worlds.{two_worlds}
-use Rattle.pool.specs.Truths.{HistoriesAgree}
+use Rattle.pool.specs.Laws.{HistoriesAgree}
 
 -- a name that is no tenant's is told the same
 refused_same : (first second : List Turn) → AllZip IsSameDeed first second →

@@ -1,5 +1,5 @@
 -- All that tenants were told, in one order, and the hall in which it ends.
-use Rattle.std.specs.Prelude.{◌≡◌, ℕ, Bool, true, false, List, [], ◌∷◌, ◌++◌, Option, Some, option_map}
+use Rattle.std.specs.Prelude.{◌≡◌, ℕ, Bool, true, false, List, [], ◌∷◌, ◌++◌, Option, None, Some, IsSomeAnd, option_map}
 use Rattle.std.specs.List.{filter, AllZip}
 use Rattle.std.specs.FinMap.{get}
 use Rattle.quotas.specs.Quota.{Quota}
@@ -47,15 +47,17 @@ HistoriesGoOn =
     (roster : List (List ℕ × Quota)) (told : List Told) (old new : HallState) (events : List Event) (replies : List Reply)
     → IsSound old → EndsIn roster told old → Run old events replies new → EndsIn roster (told ++ told_in events replies) new
 
--- the request reads this search of the account and nothing else
-abbrev pub Reads : Account → Request → Asked → Type 0
-Reads a (Poll k) s = get a.searches k ≡ Some s
-Reads a (Proof k member) s = get a.searches k ≡ Some s
-Reads a _ s = ⊥
+-- the number of the search that the request reads
+abbrev pub number_read : Request → Option ℕ
+number_read (Poll k) = Some k
+number_read (Proof k member) = Some k
+number_read _ = None
 
 -- whatever account has this search, its request that reads it is told this, and changes nothing
 abbrev pub IsReadOff : Asked → Request → Reply → Type 0
-IsReadOff s q told = (tenant : List ℕ) (sees : Sight) (a : Account) → Reads a q s → Answers tenant sees a q told a
+IsReadOff s q told =
+    (tenant : List ℕ) (sees : Sight) (a : Account) → IsSomeAnd (number_read q) (λ k. get a.searches k ≡ Some s)
+    → Answers tenant sees a q told a
 
 -- what a tenant may have been told by an item: one reply, or one that is made of the search that was read
 abbrev pub Admits : Item → Told → Type 0

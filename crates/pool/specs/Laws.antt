@@ -1,19 +1,44 @@
--- What follows for a tenant from what a desk told it: from any turn in a legal history, by what was told before.
-use Rattle.std.specs.Prelude.{◌≡◌, ◌+◌, ◌&&◌, ℕ, Bool, true, false, List, [], ◌∷◌, ◌++◌, length}
+-- What follows for tenants from what a desk told them: of each thing that was told, of each turn, and of each session.
+use Rattle.std.specs.Prelude.{◌≡◌, ◌+◌, ◌&&◌, ◌==◌, if◌then◌else◌, ℕ, Bool, true, false, List, [], ◌∷◌, ◌++◌, length, Some}
+use Rattle.std.specs.List.{AllZip}
 use Rattle.names.specs.Name.{is_same}
 use Rattle.quotas.specs.Quota.{Quota}
 use Rattle.credential_text.specs.declared.credentials.Credential.{Credential}
-use Rattle.vaults.specs.declared.changes.Change.{Change}
-use Rattle.vaults.specs.declared.marks.Seen.{Seen}
+use Rattle.vaults.specs.declared.{changes.Change.Change, marks.Seen.Seen}
 use Rattle.vaults.specs.Journal.{entries_of, vault, marked_names, one_if}
-use Rattle.search.specs.declared.queries.Query.{Query}
-use Rattle.hall.specs.declared.calls.requests.Request.{Request}
+use Rattle.search.specs.{declared.queries.Query.Query, Search.SearchState}
+use Rattle.hall.specs.declared.calls.{requests.Request.Request, replies.Reply.Reply}
 use Rattle.hall.specs.declared.calls.requests.Request.TheVariants as request
-use Rattle.hall.specs.declared.calls.replies.Reply.{Reply}
 use Rattle.hall.specs.declared.calls.replies.Reply.TheVariants as reply
-use Rattle.hall.specs.Run.{Deed, asks, Told}
+use Rattle.hall.specs.{Answers.new_account, Answers.start_of, Hall.HallState, Hall.known, Hall.IsSound}
+use Rattle.hall.specs.Run.{Deed, asks, request_of, Told, told_to, any_time}
+use Rattle.hall.specs.Laws.{IsRight, IsSameDeed, HasMemory, Agree}
 use Rattle.pool.specs.declared.turns.Item.{Item}
-use Rattle.pool.specs.Histories.{turn, journal_after, AreTold, IsLegal}
+use Rattle.pool.specs.Fronts.{name_of, own_of}
+use Rattle.pool.specs.Histories.{turn, journal_after, turns_of, AreTold, AreRuns, IsLegal, ReadsIn, IsReadOff}
+
+-- whatever a tenant was told by an item of a legal history is right, by what that tenant was told before
+abbrev pub HistoriesAreTrue : Type 0
+HistoriesAreTrue =
+    (roster : List (List ℕ × Quota)) (items : List Item) (told before after : List Told) (t : Told) (limits : Quota)
+    → IsLegal roster items → AreTold items told → told ≡ before ++ t ∷ after → start_of t.tenant roster ≡ Some (new_account limits)
+    → IsRight limits.work (told_to t.tenant [] before) (request_of t.deed) t.reply
+
+-- two legal histories, perhaps of services with other tenants, in which a tenant begins alike, does the same and has the same
+-- in sight tell it what agrees
+abbrev pub HistoriesAgree : Type 0
+HistoriesAgree =
+    (tenant : List ℕ) (roster others : List (List ℕ × Quota)) (items more : List Item) (told said : List Told)
+    → IsLegal roster items → AreTold items told → IsLegal others more → AreTold more said
+    → start_of tenant roster ≡ start_of tenant others → AllZip IsSameDeed (told_to tenant [] told) (told_to tenant [] said)
+    → HasMemory (told_to tenant [] told) → HasMemory (told_to tenant [] said)
+    → AllZip (λ s t. Agree any_time s.reply t.reply) (told_to tenant [] told) (told_to tenant [] said)
+
+-- a request that reads a search of a sound hall is told something
+abbrev pub ReadsAreTold : Type 0
+ReadsAreTold =
+    (h : HallState) (who : List ℕ) (q : Request) (s : SearchState) → IsSound h → ReadsIn h who q s
+    → (told : Reply) × IsReadOff (known s) q told
 
 -- by a legal history the tenant's request was told this, after all of these
 pub record WasTold (before : List Told) (who : List ℕ) (q : Request) (answer : Reply) : Type 0 where
@@ -56,3 +81,16 @@ abbrev pub SightsAreExact : Type 0
 SightsAreExact =
     (before : List Told) (who : List ℕ) (seen : List Seen) → WasTold before who request.Sees (reply.Sees seen)
     → seen ≡ marked_names (journal_after [] before) who
+
+-- of what was told by these items, what was told under the name
+abbrev pub lines_of : ℕ → List Item → List Told → List Told
+lines_of name (i ∷ items) (t ∷ told) = if name_of i == name then t ∷ lines_of name items told else lines_of name items told
+lines_of name _ _ = []
+
+-- What sessions were told by the items of their names stands in one list of all that tenants were told, with nothing else under
+-- these names, and that is a run to each tenant
+abbrev pub SessionsAreRuns : Type 0
+SessionsAreRuns =
+    (roster : List (List ℕ × Quota)) (items : List Item) (lines : ℕ → List Told) → IsLegal roster items
+    → ((name : ℕ) → AreTold (own_of name items) (lines name))
+    → (told : List Told) × AreTold items told × AreRuns roster told × ((name : ℕ) → lines_of name (turns_of items) told ≡ lines name)

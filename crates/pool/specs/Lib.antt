@@ -1,9 +1,6 @@
 pub mod Fronts
 pub mod Rules
 pub mod Histories
-pub mod Shares
-pub mod Sessions
-pub mod Truths
 pub mod Passes
 pub mod Rooms
 pub mod Notices

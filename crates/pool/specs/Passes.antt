@@ -1,9 +1,9 @@
--- What callers see of a pass.
-use Rattle.std.specs.Prelude.{ℕ, List}
-use Rattle.std.specs.List.{sum_by}
+-- What callers see of a pass, and how many changes were accepted, by each name and in all.
+use Rattle.std.specs.Prelude.{◌≡◌, ◌+◌, ℕ, zero, suc, List, [], length}
 use Rattle.pool.specs.declared.turns.Item.{Item}
 use Rattle.pool.specs.Fronts.{own_of}
-use Rattle.pool.specs.Shares.{accepted_in}
+use Rattle.pool.specs.Histories.{journal_by}
+use Rattle.pool.specs.Rules.{AreNamed}
 
 -- the tenant, the name under which the history has the pass's calls, and the beginning of the history that the pass has seen
 pub record PassState : Type 0 where
@@ -15,6 +15,10 @@ pub record PassState : Type 0 where
 abbrev pub own_calls : PassState → List Item
 own_calls p = own_of p.name p.seen
 
+-- how many changes were accepted by these items
+abbrev pub accepted_in : List Item → ℕ
+accepted_in items = length (journal_by [] items)
+
 -- the length of the journal that the pass has seen
 abbrev pub front_of : PassState → ℕ
 front_of p = accepted_in p.seen
@@ -23,6 +27,12 @@ front_of p = accepted_in p.seen
 abbrev pub share_of : PassState → ℕ
 share_of p = accepted_in (own_calls p)
 
--- the same of all passes, added up
-abbrev pub shares_of : List PassState → ℕ
-shares_of passes = sum_by share_of passes
+-- the numbers of the names below this one, added up
+abbrev pub sum_below : (ℕ → ℕ) → ℕ → ℕ
+sum_below f zero = 0
+sum_below f (suc n) = sum_below f n + f n
+
+-- what each name was told of accepted changes is the journal's length, added up over the names that were drawn
+abbrev pub SharesAddUp : Type 0
+SharesAddUp =
+    (drawn : ℕ) (items : List Item) → AreNamed drawn items → sum_below (λ name. accepted_in (own_of name items)) drawn ≡ accepted_in items

@@ -6,9 +6,6 @@ use lib.ListN.{get_elem?}
 use Rattle.atomic_table.specs.Table.{Me, Step}
 use Rattle.atomic_table.specs.Seated.{TableId}
 use Rattle.pool.specs.declared.turns.Item.{Item}
-use Rattle.pool.specs.declared.turns.Item.TheVariants as item
-use Rattle.hall.specs.declared.calls.requests.Request.TheVariants.{Vault}
-use Rattle.hall.specs.declared.calls.replies.Reply.TheVariants.{Closed}
 use Rattle.pool.specs.declared.seats.Knows.{Knows}
 use Rattle.pool.specs.Fronts.{own_of}
 
@@ -18,10 +15,6 @@ pub record Names : Type 0 where
   pub parts : ℕ
   pub table : TableId
   pub letters : ℕ
-
--- the name of no table
-abbrev pub no_table : TableId
-no_table = record { words = 0; slots = 0; views_name = 0; atom = 0; block = 0; offset = 0; slot_names = [] }
 
 -- the seat that knows all that was told, and how many names were drawn
 abbrev pub keeper : ℕ → List Item → Knows
@@ -55,10 +48,6 @@ IsKept views =
 -- each item of the history has a name that was drawn
 abbrev pub AreNamed : ℕ → List Item → Type 0
 AreNamed drawn all = (name : ℕ) → drawn ≤ name → own_of name all ≡ []
-
--- an item that stands for none
-abbrev pub no_item : Item
-no_item = item.Told 0 [] Vault Closed
 
 -- the keeper compares a beginning with all, and the items of its name with all of that name
 abbrev pub Compares : Knows → Type 0

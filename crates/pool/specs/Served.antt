@@ -1,5 +1,5 @@
 -- What a call by a pass came to, in the one history of all that tenants were told.
-use Rattle.std.specs.Prelude.{◌≡◌, ◌⊎◌, ◌++◌, ◌∷◌, [], ℕ, List, false, Result, Ok, Err, IfOk, IsSomeAnd}
+use Rattle.std.specs.Prelude.{◌≡◌, ◌⊎◌, ◌++◌, ◌∷◌, [], ℕ, List, false, Result, Ok, Err, IfOk, IfSome, IsSomeAnd}
 use mathlib.Core.List.{IsPrefix}
 use Rattle.std.specs.Arc.{arc_value}
 use Rattle.search.specs.Search.{status_of, SearchState, settled_of}
@@ -20,7 +20,7 @@ use Rattle.pool.specs.declared.turns.Item.{Item}
 use Rattle.pool.specs.declared.turns.Item.TheVariants as item
 use Rattle.pool.specs.declared.verdicts.Verdict.{Verdict}
 use Rattle.pool.specs.Fronts.{HasStop}
-use Rattle.pool.specs.Histories.{turn, Admits, ReadsIn, IsReadOff, IsOpening}
+use Rattle.pool.specs.Histories.{turn, Admits, ReadsIn, number_read, IsReadOff, IsOpening}
 use Rattle.pool.specs.Passes.{PassState, own_calls}
 use Rattle.pool.specs.Rooms.{RoomState, IsKept}
 
@@ -84,27 +84,17 @@ IsVerdictOn s (Err fault) =
     ((f : Fault) × (fault ≡ Hall f) × IsToldOver (known s) request.Poll (reply.Refused f))
     ⊎ ((fault ≡ Hall Memory) × ((answer : Answer) × IsToldOver (known s) request.Poll (reply.Answered answer)))
 
--- this holds of the number of the search that the request reads
-abbrev pub OfSearch : Request → (ℕ → Type 0) → Type 0
-OfSearch (request.Poll k) holds = holds k
-OfSearch (request.Proof k member) holds = holds k
-OfSearch q holds = Unit {0}
-
 -- the request of the pass's tenant reads this search, as the last item says; and it is one that the history opened
 pub record IsLent (at : RoomState) (old new : PassState) (q : Request) (s : SearchState) : Type 0 where
   pub kept : IsKept at
   pub began : IsPrefix at.told new.seen
   pub next : IsNext old new (item.Read old.name old.tenant q (known s))
   pub reads : ReadsIn at.hall old.tenant q s
-  pub opening : OfSearch q (λ k. IsOpening new.seen old.tenant k s.query s.snapshot)
+  pub opening : IfSome (number_read q) (λ k. IsOpening new.seen old.tenant k s.query s.snapshot)
 
 -- the search is there, and has come to nothing yet
 abbrev pub IsAtWork : RoomState → List ℕ → ℕ → Type 0
 IsAtWork at who k = IsSomeAnd (search_at at.hall who k) (λ r. status_of (settled_of r.search) ≡ status.Working)
-
--- the desk goes on, and so does the search
-abbrev pub GoesOnWaiting : RoomState → List ℕ → ℕ → Type 0
-GoesOnWaiting at who k = (at.stopped ≡ false) × IsAtWork at who k
 
 -- a poll in this room, of which the pass has seen all that was told
 pub record IsPolledIn (at : RoomState) (old new : PassState) (k : ℕ) (result : Result Verdict DeskFault) : Type 0 where

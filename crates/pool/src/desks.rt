@@ -1,13 +1,13 @@
 //! A hall under one lock: passes ask of it, and workers work for it.
 ghost use Rattle.std.specs.Prelude.{◌≡◌, ◌↔◌, ◌+◌, ◌<◌, ◌≤◌, true, false, [], length, map, vec_len, None, Contains};
 ghost use Rattle.std.specs.Prelude.{IfOk, IfErr, IfSome, IfNone, OnOk, OnErr};
-ghost use Rattle.std.specs.List.{IsDistinct};
+ghost use Rattle.std.specs.List.{IsDistinct, sum_by};
 ghost use Rattle.std.specs.Sync.Mutex.{mutex_guard_value};
 ghost use Rattle.names.specs.Name.{is_same};
 ghost use Rattle.hall.specs.declared.calls.requests.Request.TheVariants as request;
 ghost use Rattle.hall.specs.declared.calls.replies.Reply.TheVariants as reply;
 ghost use Rattle.hall.specs.Batches.{IsEmpty, IsLookedUp};
-ghost use Rattle.pool.specs.Passes.{own_calls, front_of, shares_of};
+ghost use Rattle.pool.specs.Passes.{own_calls, front_of, share_of};
 ghost use Rattle.pool.specs.Rooms.{IsKept, IsIdle};
 ghost use Rattle.pool.specs.Refusals.{IsPassRefusal};
 ghost use Rattle.pool.specs.Served.{IsAnswered, Suits, IsPolled, IsPolledIn, IsWaited};
@@ -294,7 +294,7 @@ impl<L: Naming> Desk<L> {
         rt: &R,
         passes: Vec<Pass<L>>,
     ) -> Result<Gathered, (DeskFault, Vec<Pass<L>>)>
-        ensures total { IfOk result (λ g. g.length ≡ g.left + shares_of passes.items) }
+        ensures total { IfOk result (λ g. g.length ≡ g.left + sum_by share_of passes.items) }
         ensures out { IfErr result (λ e. (e.0 ≡ DeskFault.PassesOut) × (e.1.items ≡ passes.items)) }
     {
         self.enter(rt).gather(passes)

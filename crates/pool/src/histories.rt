@@ -1,9 +1,8 @@
 //! What holds of each history of a desk.
 ghost use Rattle.pool.specs.Histories.{HistoriesGoOn};
+ghost use Rattle.pool.specs.Passes.{SharesAddUp};
+ghost use Rattle.pool.specs.Laws.{HistoriesAreTrue, HistoriesAgree, ReadsAreTold, SessionsAreRuns};
 ghost use Rattle.pool.specs.Laws.{CountsAreExact, NumbersAreExact, VaultsAreExact, SightsAreExact};
-ghost use Rattle.pool.specs.Sessions.{SessionsAreRuns};
-ghost use Rattle.pool.specs.Shares.{SharesAddUp};
-ghost use Rattle.pool.specs.Truths.{HistoriesAreTrue, HistoriesAgree, ReadsAreTold};
 
 /// What happens to a sound hall goes on with the history that ends in it.
 pub fn histories_go_on()

@@ -28,9 +28,8 @@ pub trait Naming: Ledger {
 
 impl Naming for Brand {
     ghost use Rattle.std.specs.Prelude.{[]};
-    ghost use Rattle.pool.specs.Rules.{no_table};
 
-    ghost table = { no_table };
+    ghost table = { record { words = 0; slots = 0; views_name = 0; atom = 0; block = 0; offset = 0; slot_names = [] } };
 
     ghost letters = { 0 };
 

@@ -3,8 +3,7 @@ ghost use Rattle.std.specs.Prelude.{◌≡◌, ◌++◌, ◌∷◌, []};
 ghost use mathlib.Core.List.{IsPrefix};
 ghost use Rattle.pool.specs.Fronts.{own_items};
 ghost use Rattle.pool.specs.Histories.{IsLegal, item_of};
-ghost use Rattle.pool.specs.Passes.{own_calls, front_of, share_of};
-ghost use Rattle.pool.specs.Shares.{accepted_in};
+ghost use Rattle.pool.specs.Passes.{own_calls, accepted_in, front_of, share_of};
 
 use crate::keepers::{Front, Keeper, Naming};
 use crate::turns::Noted;
@@ -30,8 +29,7 @@ impl<L: Naming> Model for Pass<L> {
     ghost use Rattle.search.specs.contracts.stages.Stage as running;
     ghost use Rattle.search.specs.contracts.findings.Monitor as memory;
     ghost use Rattle.pool.specs.Fronts.{own_items};
-    ghost use Rattle.pool.specs.Passes.{PassState};
-    ghost use Rattle.pool.specs.Shares.{accepted_in};
+    ghost use Rattle.pool.specs.Passes.{PassState, accepted_in};
 
     ghost Value = { PassState };
 

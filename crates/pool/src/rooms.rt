@@ -3,17 +3,19 @@ ghost use Rattle.std.specs.Prelude.{◌≡◌, ◌↔◌, ◌+◌, ◌<◌, ◌+
 ghost use Rattle.std.specs.Prelude.{None, option_map, IfSome, IfOk, IfErr, OnOk, OnErr};
 ghost use mathlib.Core.List.{IsPrefix};
 ghost use Rattle.std.specs.Arc.{arc_value};
+ghost use Rattle.std.specs.List.{sum_by};
+ghost use Rattle.vaults.specs.Journal.{credentials};
 ghost use Rattle.search.specs.Search.{settled_of};
 ghost use Rattle.hall.specs.Answers.{answer_of};
 ghost use Rattle.hall.specs.declared.calls.requests.Request.TheVariants as request;
 ghost use Rattle.hall.specs.Hall.{IsServed, known, new_hall, search_at, told_as};
 ghost use Rattle.pool.specs.declared.turns.Item.TheVariants as item;
-ghost use Rattle.pool.specs.Passes.{own_calls, share_of, shares_of};
+ghost use Rattle.pool.specs.Passes.{own_calls, share_of};
 ghost use Rattle.pool.specs.Fronts.{HasStop};
 ghost use Rattle.pool.specs.Rooms.{IsKept};
 ghost use Rattle.pool.specs.Notices.{request_concern};
-ghost use Rattle.pool.specs.Served.{IsAnswered, IsTold, IsRefused, Suits, IsLent, IsReadAs, IsPolledIn, IsVerdictOn, GoesOnWaiting};
-ghost use Rattle.pool.specs.Verdicts.{IsTrueWhereCompleted, rows_read};
+ghost use Rattle.pool.specs.Served.{IsAnswered, IsTold, IsRefused, Suits, IsLent, IsReadAs, IsPolledIn, IsVerdictOn, IsAtWork};
+ghost use Rattle.pool.specs.Verdicts.{IsTrueWhereCompleted};
 
 use crate::faults::{DeskFault, DeskResult};
 use crate::keepers::{Front, Keeper, Naming, Unnamed};
@@ -241,7 +243,7 @@ impl<L: Naming> Room<L> {
 
     /// Whether a wait for the search of this tenant is over.
     pub(crate) fn is_over(&self, who: Entity, number: u64) -> bool
-        ensures { (result ≡ false) ↔ GoesOnWaiting self.now who number }
+        ensures { (result ≡ false) ↔ ((self.now.stopped ≡ false) × IsAtWork self.now who number) }
     {
         let is_working = match self.hall.search(who, number) {
             Some(search) => search.status() == Status::Working,
@@ -269,7 +271,7 @@ impl<L: Naming> Room<L> {
         &mut self,
         passes: Vec<Pass<L>>,
     ) -> Result<Gathered, (DeskFault, Vec<Pass<L>>)>
-        ensures total { IfOk result (λ g. g.length ≡ g.left + shares_of passes.items) }
+        ensures total { IfOk result (λ g. g.length ≡ g.left + sum_by share_of passes.items) }
         ensures found { IfOk result (λ g. (g.length ≡ length self.old.hall.journal) × (g.left ≡ self.old.left)) }
         ensures all_in { OnOk result (vec_len passes ≡ self.old.out) }
         ensures room { OnOk result (self.new ≡ record self.old { out = 0; left = length self.old.hall.journal }) }
@@ -363,7 +365,7 @@ pub(crate) fn read_off(alloc: Global, search: &Search, request: &Request) -> Des
 
 /// The verdict on the search as it stands.
 pub(crate) fn verdict_on(search: &Search) -> DeskResult<Verdict>
-    requires { IsTrueWhereCompleted (rows_read search.now.snapshot) search.now.query (answer_of (settled_of search.now)) }
+    requires { IsTrueWhereCompleted (credentials search.now.snapshot.vaults) search.now.query (answer_of (settled_of search.now)) }
     ensures { IsVerdictOn search.now result }
 {
     Ok(Verdict::new(search, told_of(search)?)?)

@@ -34,9 +34,9 @@ pub trait Telling {
 }
 
 impl Telling for Brand {
-    ghost use Rattle.pool.specs.Rules.{no_item};
+    ghost use Rattle.pool.specs.declared.turns.Item.TheVariants as item;
 
-    ghost item = { no_item };
+    ghost item = { item.Stopped 0 };
 }
 
 /// The keeper compares a beginning with all, and adds an item.

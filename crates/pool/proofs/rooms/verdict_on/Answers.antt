@@ -1,16 +1,17 @@
 use Rattle.std.proofs.Common.{ap, inl, inr, refl, subst, sym}
 use Rattle.std.proofs.lemmas.Result.{err_from_is_err_and}
+use Rattle.vaults.specs.Journal.{credentials}
 use Rattle.hall.specs.declared.calls.answers.Answer.{Answer}
 use Rattle.hall.specs.declared.calls.requests.Request.TheVariants.{Poll}
 use Rattle.hall.specs.declared.calls.replies.Reply.TheVariants.{Answered}
 use Rattle.hall.specs.Answers.{IsToldOver}
 use Rattle.hall.specs.Hall.{known}
 use Rattle.pool.specs.declared.faults.DeskFault.TheVariants.{Hall}
-use Rattle.pool.specs.Verdicts.{IsTrueWhereCompleted, rows_read}
+use Rattle.pool.specs.Verdicts.{IsTrueWhereCompleted}
 use Rattle.pool.proofs.rooms.verdict_on.Goals as goal
 
 pub new-requires : goal.new-requires
-new-requires c = subst (IsTrueWhereCompleted (rows_read c.args.search.now.snapshot) c.args.search.now.query) (sym c.in_ok-told_of.ensures.told) c.requires
+new-requires c = subst (IsTrueWhereCompleted (credentials c.args.search.now.snapshot.vaults) c.args.search.now.query) (sym c.in_ok-told_of.ensures.told) c.requires
 
 pub returns-in_err-told_of : goal.returns-in_err-told_of
 returns-in_err-told_of c =

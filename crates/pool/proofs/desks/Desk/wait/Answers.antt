@@ -1,12 +1,13 @@
-use Rattle.std.proofs.Common.{rules}
+use Rattle.std.proofs.Common.{◌≡◌, false, rules}
 use Rattle.std.specs.Sync.Mutex.{mutex_guard_value}
 use Rattle.pool.specs.Rooms.{IsKept}
-use Rattle.pool.specs.Served.{GoesOnWaiting}
+use Rattle.pool.specs.Served.{IsAtWork}
 use Rattle.pool.proofs.Polled.{waited}
 use Rattle.pool.proofs.desks.Desk.wait.Goals as goal
 
 pub returns : goal.returns
 returns g c =
-    let over : GoesOnWaiting (mutex_guard_value c.wait_while-room.result) c.args.pass.now.tenant c.args.number → ⊥ = search rules in
+    let at = mutex_guard_value c.wait_while-room.result in
+    let over : (at.stopped ≡ false) × IsAtWork at c.args.pass.now.tenant c.args.number → ⊥ = search rules in
     let kept : IsKept (mutex_guard_value c.wait_while-room.result) = search rules in
     waited _ c.args.pass.now _ c.args.number c.look.result kept over c.look.ensures

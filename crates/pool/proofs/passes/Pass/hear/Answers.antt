@@ -2,8 +2,7 @@ use Rattle.std.proofs.Common.{◌≡◌, ◌∙◌, ◌+◌, ◌-◌, ◌++◌, 
 use Rattle.pool.specs.declared.turns.Item.{Item}
 use Rattle.pool.specs.Fronts.{FrontState, own_items}
 use Rattle.pool.specs.Histories.{item_of}
-use Rattle.pool.specs.Passes.{PassState}
-use Rattle.pool.specs.Shares.{accepted_in}
+use Rattle.pool.specs.Passes.{PassState, accepted_in}
 use Rattle.pool.proofs.Sharing.{more_accepted, share_grown}
 use Rattle.pool.proofs.passes.Pass.hear.Goals as goal
 
