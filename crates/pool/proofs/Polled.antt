@@ -7,10 +7,10 @@ use Rattle.std.specs.FinMap.{get}
 use Rattle.std.proofs.Common.{◌≡◌, ◌∙◌, ℕ, Bool, true, false, List, ap, sym, subst, inl, inr, Some, Option, None, option_map, refl, Result, Ok, Err}
 use Rattle.credential_text.specs.declared.credentials.Credential.{Credential}
 use Rattle.vaults.specs.Journal.{credentials}
-use Rattle.search.specs.Search.{status_of, SearchState, settled_of}
+use Rattle.search.specs.Search.{status_of, settled_of}
 use Rattle.search.specs.declared.outcomes.Status.TheVariants as status
 use Rattle.search.specs.declared.queries.Query.{Query}
-use Rattle.search.specs.Ending.{Settled, Nothing, Yes, No, Members, IsTruth, answers, spends, breaks, MaySettle}
+use Rattle.search.specs.Ending.{Settled, Nothing, IsTruth, answers, spends, breaks, MaySettle}
 use Rattle.hall.specs.declared.calls.answers.Answer.{Answer}
 use Rattle.hall.specs.declared.calls.answers.Answer.TheVariants.{Working}
 use Rattle.hall.specs.declared.calls.requests.Request.TheVariants.{Poll}

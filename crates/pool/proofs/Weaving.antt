@@ -1,5 +1,5 @@
 -- What was told under each name is woven into one list.
-use Rattle.std.proofs.Common.{◌≡◌, ◌≢◌, ◌∙◌, ◌==◌, ℕ, Bool, true, false, cond, List, [], ◌∷◌, ap, sym, refl, subst, subst₂, inl, inr}
+use Rattle.std.proofs.Common.{◌≡◌, ◌≢◌, ◌∙◌, ◌==◌, ℕ, Bool, true, false, cond, List, [], ◌∷◌, ap, sym, refl, subst, inl, inr}
 use Rattle.std.specs.List.{AllZip, filter}
 use Rattle.std.proofs.lemmas.Bool.Decides.{eqb_tells}
 use Rattle.hall.specs.Run.{Told}

@@ -1,5 +1,5 @@
 -- What a call by a pass came to, in the one history of all that tenants were told.
-use Rattle.std.specs.Prelude.{◌≡◌, ◌⊎◌, ◌++◌, ◌∷◌, [], ℕ, List, false, Result, Ok, Err, IfOk, IfSome, IsSomeAnd}
+use Rattle.std.specs.Prelude.{◌≡◌, ◌⊎◌, ◌++◌, ◌∷◌, [], ℕ, List, Result, Ok, Err, IfOk, IfSome, IsSomeAnd}
 use mathlib.Core.List.{IsPrefix}
 use Rattle.std.specs.Arc.{arc_value}
 use Rattle.search.specs.Search.{status_of, SearchState, settled_of}

@@ -9,8 +9,8 @@ use Rattle.monitors.specs.MeetMonitor.{AllTold, MeetLines, MeetTold}
 use Rattle.search.specs.declared.findings.Monitor.TheVariants as monitor
 use Rattle.search.specs.declared.findings.NumberedMonitor.{NumberedMonitor}
 use Rattle.search.specs.declared.findings.NumberedMonitor.TheVariants as numbered_monitor
-use Rattle.search.specs.Answers.{PartHeard, Progress, Solves, TellsPart}
-use Rattle.search.specs.Numbered.{AreNumbered, monitors_at, progress_at}
+use Rattle.search.specs.Answers.{PartHeard, Progress, Solves}
+use Rattle.search.specs.Numbered.{AreNumbered, monitors_at}
 use Rattle.search.proofs.Heard.{meet_after, meet_at_node, monitor_there, part_heard, read_there, still_monitors}
 use Rattle.search.proofs.telling.told_part.Goals.{After-found, After-part_told, In_ok-part_told}
 use Rattle.search.proofs.telling.told_part.Goals as goal

@@ -1,4 +1,4 @@
-use Rattle.std.proofs.Common.{◌∙◌, ◌++◌, ◌∷◌, [], ap, length, refl, subst, sym, List, ℕ}
+use Rattle.std.proofs.Common.{◌∙◌, ap, length, subst, sym, List}
 use Rattle.hall.specs.Hall.{HallState, IsSound}
 use Rattle.hall.specs.Work.{IsCompletedAt}
 use Rattle.pool.specs.declared.turns.Item.{Item}

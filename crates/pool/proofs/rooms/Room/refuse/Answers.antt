@@ -1,9 +1,8 @@
-use Rattle.std.proofs.Common.{◌∙◌, ap, subst, Result, Ok}
+use Rattle.std.proofs.Common.{subst, Result}
 use Rattle.hall.specs.declared.faults.Fault.{Fault}
 use Rattle.hall.specs.declared.calls.replies.Reply.{Reply}
 use Rattle.hall.specs.declared.calls.requests.Request.TheVariants.{Poll}
 use Rattle.hall.specs.Hall.{IsServed, told_as}
-use Rattle.pool.specs.Served.{IsTold}
 use Rattle.pool.proofs.Polled.{nothing_granted}
 use Rattle.pool.proofs.rooms.Room.refuse.Goals as goal
 

@@ -1,4 +1,4 @@
-use Rattle.std.proofs.Common.{◌∙◌, ap, subst, Result, Ok, Err}
+use Rattle.std.proofs.Common.{◌∙◌, ap, subst, Result}
 use Rattle.hall.specs.declared.faults.Fault.{Fault}
 use Rattle.hall.specs.declared.calls.replies.Reply.{Reply}
 use Rattle.hall.specs.Hall.{IsServed, told_as}
