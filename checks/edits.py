@@ -244,13 +244,13 @@ def proved_so_far(crates, said):
 
 def try_all(rounds, toolchain, lanes, look):
     """Tries each round as soon as it may begin, those first that others wait for, and of these the lowest crate's; yields what comes
-    of each edit. `look` tells which crates are proved, and whether no more will be: before that half of the lanes are taken."""
+    of each edit. `look` tells which crates are proved, and whether no more will be: before that one lane is left free."""
     waiting, running = sorted(rounds, key=lambda it: it.first is not None), {}
     with concurrent.futures.ThreadPoolExecutor(lanes) as pool:
         while waiting or running:
             proved, has_ended = look()
             for it in list(waiting):
-                if it.may_begin(proved) and len(running) < (lanes if has_ended else max(1, lanes // 2)):
+                if it.may_begin(proved) and len(running) < (lanes if has_ended else max(1, lanes - 1)):
                     waiting.remove(it)
                     running[pool.submit(it.tell, toolchain)] = it
                 elif has_ended and not {below.name for below in it.crate.below} <= proved:
