@@ -156,7 +156,9 @@ impl Findings {
         ensures { self.new ≡ record self.old { outs = [] } }
     {
         self.outs.clear();
-        self.outs.shrink_to(MOST_ROOM);
+        if self.outs.capacity() > MOST_ROOM {
+            self.outs.shrink_to(MOST_ROOM);
+        }
     }
 
     // Gives back the memory that nothing takes. The list of monitors is moved for it only where less than half of its room

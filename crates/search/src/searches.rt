@@ -21,7 +21,7 @@ use crate::members::solutions_in_order;
 use crate::outcomes::{Finished, Status};
 use crate::queries::{Hint, Need, Query, Task};
 use crate::receiving::receive;
-use crate::stages::{NumberedStage, Stage, deliver, held_letter, hold, send};
+use crate::stages::{NumberedStage, Stage, break_off, deliver, held_letter, hold, send};
 use crate::tables::Tables;
 use cred_graph::{Graph, Port};
 use names::{Entity, Role};
@@ -300,7 +300,7 @@ impl Search {
         match receive(&mut self.found, snapshot, held, looked_up) {
             Ok(()) => send(&mut self.stage, self.work, letter, &mut self.found),
             Err(_refusal) => {
-                self.stage = NumberedStage::Broken;
+                break_off(&mut self.stage);
                 Finished::Broken
             }
         }

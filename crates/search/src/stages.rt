@@ -115,6 +115,15 @@ pub(crate) fn send(
     Finished::Done
 }
 
+// The search is broken. This stands apart, so that a receipt that isn't refused makes no other stage.
+#[cold]
+#[inline(never)]
+pub(crate) fn break_off(stage: &mut NumberedStage)
+    ensures { stage.new ≡ NumberedStage.Broken }
+{
+    *stage = NumberedStage::Broken;
+}
+
 // The signal at that place is delivered, where there is one. With the last one the memory that nothing takes is given back.
 #[inline(always)]
 pub(crate) fn deliver(stage: &mut NumberedStage, found: &mut Findings, place: u64) -> bool

@@ -136,17 +136,17 @@ returns-in-Err-clause-settles c =
     let s = the_view c.self.inside in
     let h = in_words after in
     let t : SearchState = record s { graph = c.receive.new.found.graph; monitors = c.receive.new.found.monitors; stage = stage.Broken } in
-    settles c.self.view_is (same_question s t.graph t.monitors stage.Broken) (broken_kept t refl)
-    (held_outstanding s.stage c.args.letter (letter_in h) (held_letter_is s.stage c.args.letter h (in_hand after)))
+    rw c.break_off.ensures (settles c.self.view_is (same_question s t.graph t.monitors stage.Broken) (broken_kept t refl)
+    (held_outstanding s.stage c.args.letter (letter_in h) (held_letter_is s.stage c.args.letter h (in_hand after))))
 
 pub returns-in-Err-clause-receives : goal.returns-in-Err-clause-receives
 returns-in-Err-clause-receives c =
     let s = the_view c.self.inside in
     let t = c.receive.new.found in
-    subst (λ (x : SearchState). Receives x (record s { graph = t.graph; monitors = t.monitors; stage = stage.Broken }) c.args.letter (letter_in (held_at x.graph.nodes c.args.held.now)) Broken) c.self.view_is
-    (refl, same_question s t.graph t.monitors stage.Broken)
+    rw c.break_off.ensures (subst (λ (x : SearchState). Receives x (record s { graph = t.graph; monitors = t.monitors; stage = stage.Broken }) c.args.letter (letter_in (held_at x.graph.nodes c.args.held.now)) Broken) c.self.view_is
+    (refl, same_question s t.graph t.monitors stage.Broken))
 
 pub invariant_of-self-in-Err : goal.invariant_of-self-in-Err
 invariant_of-self-in-Err c =
     let t = c.receive.new.found in
-    (broken_kept (record (the_view c.self.inside) { graph = t.graph; monitors = t.monitors; stage = stage.Broken }) refl, tt)
+    rw c.break_off.ensures (broken_kept (record (the_view c.self.inside) { graph = t.graph; monitors = t.monitors; stage = stage.Broken }) refl, tt)
