@@ -111,6 +111,11 @@ module _ {P : Type 0} where
   waits_full (Some l) waits = refl
 
   -- to drop the holes leaves the letters, and no hole
+  pub standing-none : (es : List (ℕ × Option (Letter P))) → count is_none es ≡ length es → standing es ≡ []
+  standing-none [] all = refl
+  standing-none ((k, None) ∷ es) all = standing-none es (omega (arith, all, counted is_none (k, None) es))
+  standing-none ((k, Some l) ∷ es) all = absurd (omega (arith, all, counted is_none (k, Some l) es, count-le-length is_none es))
+
   pub standing-full : (es : List (ℕ × Option (Letter P))) → standing (filter (λ e. is_some e.1) es) ≡ standing es
   standing-full [] = refl
   standing-full ((k, None) ∷ es) = standing-full es

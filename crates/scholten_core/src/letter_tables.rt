@@ -40,6 +40,10 @@ pub(crate) struct LetterTable<P> {
 /// growth takes fewer instructions, up to an eighth a letter, and mostly two to four times the memory.
 const FIRST_ROOM: usize = 36;
 
+/// To clear a table takes as long as to pop one in so many of the entries that it has room for, or less: all of its index is
+/// written.
+const INDEXED: usize = 32;
+
 /// How many of so many entries have to be holes before these are dropped: where entries are few, to move letters costs more
 /// than their bytes; where they are many, bytes count.
 fn holes_to_drop(entries: usize) -> usize {
@@ -394,18 +398,40 @@ impl<P: Drop> LetterTable<P> {
         }
     }
 
-    // Pops the holes at the end, so that a letter that is sent next stands beside the last one.
+    // Pops the holes at the end, so that a letter that is sent next stands beside the last one. Where nothing is left but many
+    // holes, they go at once.
     fn pop_holes(&mut self)
         ensures letters { self.new.letters ≡ self.old.letters }
         ensures sent { self.new.sent ≡ self.old.sent }
         ensures room { self.old.room ≤ self.new.room }
     {
+        let len = self.letters.len();
+        if self.holes == len && len > self.letters.capacity() / INDEXED {
+            self.clear_holes();
+            return;
+        }
         while ends_in_hole(&self.letters) {
             let _ = self.letters.pop();
             self.holes -= 1;
         }
         self.first = self.first.min(self.letters.len());
         self.last = self.last.min(self.letters.len());
+    }
+
+    // Takes out all entries, where all of them are holes.
+    #[cold]
+    #[inline(never)]
+    fn clear_holes(&mut self)
+        requires { self.old.letters ≡ [] }
+        ensures letters { self.new.letters ≡ self.old.letters }
+        ensures sent { self.new.sent ≡ self.old.sent }
+        ensures room { self.old.room ≤ self.new.room }
+    {
+        self.letters.clear();
+        self.holes = 0;
+        self.first = 0;
+        self.last = 0;
+        self.hand = 0;
     }
 
     // Drops all holes.

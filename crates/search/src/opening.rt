@@ -1,10 +1,9 @@
 //! How a node opens, at its first Ask: an entity is its own solution, any other expression asks.
 ghost use Rattle.std.specs.Prelude.{◌≡◌, ◌<◌, ◌≤◌, length, option_copied, OnOk};
-ghost use Rattle.names.specs.declared.roles.Role.{Role};
 ghost use Rattle.credential_text.specs.declared.exprs.Expr.{Expr};
 ghost use Rattle.snapshots.specs.Span.{role_rows, span_of};
 ghost use Rattle.cred_graph.specs.Graph.{IsNode};
-ghost use Rattle.search.specs.Answers.{AsksEach, row_asks, part_asks, own_rows, Opens};
+ghost use Rattle.search.specs.Answers.{AsksEach, AsksFor, row_asks, part_asks, own_rows, Opens};
 ghost use Rattle.search.specs.Finish.{IsSpanFor};
 
 use crate::asking::ask;
@@ -12,6 +11,7 @@ use crate::findings::Findings;
 use crate::solving::solve;
 use cred_graph::{Port, Reason};
 use credential_text::{Expr, Part};
+use names::Role;
 use snapshots::{Snapshot, Span};
 use std::alloc::AllocError;
 
@@ -52,6 +52,14 @@ fn ask_parts(found: &mut Findings, parts: &[Part]) -> Result<(), AllocError>
     Ok(())
 }
 
+// A linked role asks its base. This stands apart, so that no other node that opens makes room for an expression.
+#[inline(never)]
+fn ask_base(found: &mut Findings, base: Role) -> Result<(), AllocError>
+    ensures { OnOk result (AsksFor found.old found.new (Expr.Rol base) Port.Base) }
+{
+    ask(found, &Expr::Rol(base), Port::Base)
+}
+
 // The node opens. Where the rows of a role stand is sought in the snapshot, unless that was looked up before. Only the parts
 // of an intersection are copied.
 pub(crate) fn open(
@@ -78,8 +86,8 @@ pub(crate) fn open(
             ask_rows(found, snapshot, span)
         }
         Expr::Link(base, _name) => {
-            let base = Expr::Rol(*base);
-            ask(found, &base, Port::Base)
+            let base = *base;
+            ask_base(found, base)
         }
         Expr::Meet(parts) => {
             let parts = parts.try_clone()?;

@@ -39,18 +39,15 @@ solve-requires c =
 pub find-span-requires : goal.find-span-requires
 find-span-requires c = tt
 
-pub ask-requires : goal.ask-requires
-ask-requires c = tt
-
 pub returns-in-Link : goal.returns-in-Link
 returns-in-Link c =
     let nodes = c.args.found.now.graph.nodes in
     let is : slice_get nodes c.args.node ≡ Some c.expr.result.now = subst (λ (g : GraphState). slice_get g.nodes c.args.node ≡ Some c.expr.result.now) c.graph.ensures.graph c.expr.ensures.node in
     let at = is ∙ ap Some c.in-Link.is in
-    on_ok_weaker c.ask.result
-    (λ asks e there. subst (λ (x : Expr). Opens (own_rows c.args.snapshot.now.vaults x) c.args.found.now c.ask.new.found c.args.node x) (same_Some (Link c.in-Link.base c.in-Link._name) e (sym at ∙ there))
-    (c.ask.new.found, asks, refl))
-    c.ask.ensures
+    on_ok_weaker c.ask_base.result
+    (λ asks e there. subst (λ (x : Expr). Opens (own_rows c.args.snapshot.now.vaults x) c.args.found.now c.ask_base.new.found c.args.node x) (same_Some (Link c.in-Link.base c.in-Link._name) e (sym at ∙ there))
+    (c.ask_base.new.found, asks, refl))
+    c.ask_base.ensures
 
 pub returns-in_err-parts-in-Meet : goal.returns-in_err-parts-in-Meet
 returns-in_err-parts-in-Meet c =

@@ -1,5 +1,5 @@
 use Rattle.std.proofs.Common.{◌≡◌, ℕ, ◌++◌, [], ◌∷◌, None, sym, ◌∙◌, arith, ap, subst, length, ◌≤◌, length-append}
-use Rattle.scholten_core.proofs.Counts.{popped_hole}
+use Rattle.scholten_core.proofs.Counts.{popped_hole, standing-none}
 use Rattle.scholten_core.proofs.Tables.{holes-popped, numbered-popped, standing-popped, take-popped, waits-popped, cut_ends}
 use Rattle.indexmap.specs.IndexMap.{spare}
 use Rattle.scholten_core.proofs.letter_tables.LetterTable.pop_holes.Given.{Over}
@@ -59,3 +59,7 @@ returns g c = record {
   sent = c.loop-self.invariant.sent;
   room = c.loop-self.invariant.room;
 }
+
+pub clear_holes-requires : goal.clear_holes-requires
+clear_holes-requires g c =
+    rw (← c.self.view_is) (standing-none c.self.inside.letters.entries (omega (arith, c.self.invariant.gone, c.len-len.ensures.len, c.if-self-len.true)))
