@@ -1,7 +1,6 @@
 -- A node that is owed one less
-use Rattle.std.proofs.Common.{◌≡◌, ℕ, zero, suc, ◌+◌, ◌<◌, ◌==◌, ◌&&◌, if◌then◌else◌, List, [], ◌∷◌, length}
+use Rattle.std.proofs.Common.{◌≡◌, ℕ, zero, suc, ◌+◌, ◌<◌, ◌==◌, ◌&&◌, if◌then◌else◌, List}
 use Rattle.std.proofs.Common.{Option, Some, None, is_some, option_map, unwrap_or, refl, sym, ap, ◌∙◌, arith, eq-eqb, ne_eqb}
-use Rattle.std.proofs.lemmas.Option.{none-some}
 use Rattle.scholten_core.specs.declared.parents.Parent.{Parent}
 use Rattle.scholten_core.specs.declared.parents.Parent.TheVariants.{Neutral, Environment, Node}
 use Rattle.scholten_core.specs.declared.engagement.Engagement.{Engagement}
@@ -16,12 +15,6 @@ count_of o = unwrap_or (option_map (λ e. e.deficit) o) 0
 
 abbrev parent_in : Option Engagement → Option Parent
 parent_in o = option_map (λ e. e.parent) o
-
--- an engaged node is within the list
-pub engaged_within : (nodes : List (Option Engagement)) (n : ℕ) (e : Engagement) → Some e ≡ engagement_of nodes n → n < length nodes
-engaged_within [] n e there = absurd (none-some e (sym there))
-engaged_within (o ∷ nodes) zero e there = omega arith
-engaged_within (o ∷ nodes) (suc n) e there = omega (arith, engaged_within nodes n e there)
 
 module _ (nodes nodes_after : List (Option Engagement)) (node : ℕ) (by : Option Parent) (owed : 0 < deficit_kept nodes node) (pays : Pays nodes nodes_after node by) where
   cases : {C : Type 0} → ((e : Engagement) → engagement_of nodes node ≡ Some e → 1 < e.deficit → C) → ((e : Engagement) → engagement_of nodes node ≡ Some e → e.deficit ≡ 1 → C) → C

@@ -16,11 +16,6 @@ use Rattle.scholten_core.proofs.Counts.{entry_of}
 use Rattle.scholten_core.proofs.Engaged.{one_or_other}
 use Rattle.scholten_core.proofs.Lists.{changed, changed_past, filter_past, lookup_at, number_at, numbered_above}
 
--- what is shown of one that is there is there
-pub shown_there : {A B : Type 0} (f : A → B) (o : Option A) (p : Option B) → option_map f o ≡ p → is_some p ≡ true → is_some o ≡ true
-shown_there f None p is there = subst (λ q. is_some q ≡ true) (sym is) there
-shown_there f (Some a) p is there = refl
-
 -- the test of the map's keys
 pub flipped : (k n : ℕ) → nat_eq k n ≡ (n == k)
 flipped k n =

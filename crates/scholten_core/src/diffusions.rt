@@ -156,7 +156,7 @@ impl<P: Drop> Diffusion<P> {
         self.letters.reserve(outs.len())?;
         self.signals.reserve(1)?;
         let at = self.letters.find(number).unwrap();
-        let letter = self.letters.letter_at(at).unwrap();
+        let letter = self.letters.letter_there(at);
         let (from, to) = (letter.from, letter.to);
         let by = receive(&mut self.nodes, from, to, outs.len() as u64)?;
         put(&mut self.signals, by);
@@ -248,7 +248,7 @@ impl<P: Copy> Diffusion<P> {
         ensures letter { letter_of self.new result.0 ≡ Some result.1 }
     {
         let (number, at) = self.letters.take(place);
-        let letter = self.letters.letter_at(at).unwrap();
+        let letter = self.letters.letter_there(at);
         let taken = Letter {
             from: letter.from,
             to: letter.to,

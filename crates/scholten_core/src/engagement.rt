@@ -59,12 +59,12 @@ pub(crate) fn receive(
     ensures growth { OnErr result ((engagement_of nodes.old.items to ≡ None) × (0 < count)) }
     ensures unchanged { OnErr result (nodes.new.items ≡ nodes.old.items) }
 {
-    if let Some(engaged) = engaged_at(nodes, to) {
-        nodes[to as usize] = Some(Engagement {
-            parent: engaged.parent,
-            deficit: engaged.deficit + count,
-        });
-        return Ok(Some(from));
+    let place = to as usize;
+    if place < nodes.len() {
+        if let Some(engaged) = &mut nodes[place] {
+            engaged.deficit += count;
+            return Ok(Some(from));
+        }
     }
     if count == 0 {
         return Ok(Some(from));
@@ -82,16 +82,16 @@ fn pay(nodes: &mut Vec<Option<Engagement>>, node: u64) -> Option<Parent>
     requires { 0 < deficit_kept nodes.old.items node }
     ensures { Pays nodes.old.items nodes.new.items node result }
 {
-    let engaged = engaged_at(nodes, node).unwrap();
+    let Some(engaged) = &mut nodes[node as usize] else {
+        unreachable!()
+    };
     if engaged.deficit > 1 {
-        nodes[node as usize] = Some(Engagement {
-            parent: engaged.parent,
-            deficit: engaged.deficit - 1,
-        });
+        engaged.deficit -= 1;
         return None;
     }
+    let parent = engaged.parent;
     nodes[node as usize] = None;
-    Some(engaged.parent)
+    Some(parent)
 }
 
 // One is owed one less. A node that is then owed nothing is let go, and the answer is who engaged it.

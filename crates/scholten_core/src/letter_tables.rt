@@ -118,6 +118,15 @@ fn letter_at<P>(letters: &Numbered<P>, at: usize) -> Option<&Letter<P>>
     letters[at].letter()
 }
 
+// The letter at a place that is no hole.
+#[inline(always)]
+fn letter_there<P>(letters: &Numbered<P>, at: usize) -> &Letter<P>
+    requires { (l : Letter P) × (slice_get (values letters.now) at ≡ Some (Some l)) }
+    ensures { slice_get (values letters.now) at ≡ Some (Some result.now) }
+{
+    letters[at].full_letter()
+}
+
 // The letter at a place is held from now on, or waits again. Answers its number.
 #[inline(always)]
 fn hold<P>(letters: &mut Numbered<P>, at: usize, held: bool) -> u64
@@ -215,7 +224,7 @@ impl<P> Model for LetterTable<P> {
 
 impl<P: Drop> LetterTable<P> {
     ghost use Rattle.std.specs.Prelude.{◌≡◌, ◌+◌, ◌^◌, ◌<◌, ◌≤◌, ◌==◌, ◌++◌, [], ◌∷◌, true, false, not, length, filter, map};
-    ghost use Rattle.std.specs.Prelude.{ℕ, is_some, option_copied, IfOk, IfSome, None, OnOk};
+    ghost use Rattle.std.specs.Prelude.{ℕ, is_some, option_copied, IfOk, IfSome, None, Some, OnOk};
     ghost use Rattle.std.specs.VecDeque.{deque_len};
     ghost use Rattle.std.specs.Map.{lookup};
     ghost use Rattle.scholten_core.specs.declared.letters.Letter.{Letter};
@@ -281,6 +290,15 @@ impl<P: Drop> LetterTable<P> {
         ensures { (number : ℕ) → StandsAt self.now number at → option_copied result ≡ lookup (λ n. n == number) self.now.letters }
     {
         letter_at(&self.letters, at)
+    }
+
+    /// The letter that waits or is held and whose number stands there.
+    #[inline(always)]
+    pub(crate) fn letter_there(&self, at: usize) -> &Letter<P>
+        requires { (number : ℕ) × StandsAt self.now number at × (is_some (lookup (λ n. n == number) self.now.letters) ≡ true) }
+        ensures { (number : ℕ) → StandsAt self.now number at → lookup (λ n. n == number) self.now.letters ≡ Some result.now }
+    {
+        letter_there(&self.letters, at)
     }
 
     /// Takes the waiting letter at that place, in order of number, and answers its number, and where that stands.
@@ -406,7 +424,7 @@ impl<P: Drop> LetterTable<P> {
         ensures room { self.old.room ≤ self.new.room }
     {
         let len = self.letters.len();
-        if self.holes == len && len > self.letters.capacity() / INDEXED {
+        if self.holes == len && len > FIRST_ROOM && len > self.letters.capacity() / INDEXED {
             self.clear_holes();
             return;
         }

@@ -1,5 +1,5 @@
 //! A place in the table of letters.
-ghost use Rattle.std.specs.Prelude.{◌≡◌, false, is_none, None, Some, option_copied, option_map};
+ghost use Rattle.std.specs.Prelude.{◌≡◌, true, false, is_some, is_none, None, Some, option_copied, option_map};
 ghost use Rattle.scholten_core.specs.Computation.{same_parent};
 ghost use Rattle.scholten_core.specs.LetterTable.{does_wait};
 
@@ -76,5 +76,14 @@ impl<P> Slot<P> {
             Parent::Environment => Some(&self.letter),
             Parent::Node(_node) => Some(&self.letter),
         }
+    }
+
+    /// The letter of a place that is no hole.
+    #[inline(always)]
+    pub(crate) fn full_letter(&self) -> &Letter<P>
+        requires { is_some self.now ≡ true }
+        ensures { Some result.now ≡ self.now }
+    {
+        &self.letter
     }
 }

@@ -7,9 +7,8 @@ use Rattle.scholten_core.specs.Step.{numbered}
 use Rattle.scholten_core.proofs.Complete.{sound}
 use Rattle.scholten_core.proofs.Fields.{unchanged_kept}
 use Rattle.scholten_core.proofs.Finished.{IsFinishedIn, finished_fields}
-use Rattle.scholten_core.proofs.Standing.{held_found, shown_there}
+use Rattle.scholten_core.proofs.Standing.{held_found}
 use Rattle.scholten_core.proofs.Steps.{deficit-le-outstanding}
-use Rattle.std.proofs.lemmas.Option.{slice_get_within}
 use Rattle.scholten_core.specs.Computation.{IsHeldIn}
 use Rattle.scholten_core.proofs.diffusions.Diffusion.finish_with.Given.{Over}
 use Rattle.scholten_core.proofs.diffusions.Diffusion.finish_with.Goals as goal
@@ -50,7 +49,7 @@ returns-in_err-reserve-2 g c =
 pub receive-requires : goal.receive-requires
 receive-requires g c =
     let keeps = c.self.invariant in
-    let to = Node c.unwrap-letter.result.now.to in
+    let to = Node c.letter_there-letter.result.now.to in
     let room = rw (← c.self.view_is) at c.requires.room in
     omega (arith, room, keeps.counts to, deficit-le-outstanding (held_in c.self.inside.letters c.self.inside.signals.items c.self.inside.nodes.items) to, keeps.settled.one_each, c.len-2.ensures)
 
@@ -77,10 +76,10 @@ returns-in_err-by g c =
 -- the fields hold the computation with the letter finished
 done : (g : Over) (c : After-send g) → IsFinishedIn (held_in c.self.inside.letters c.self.inside.signals.items c.self.inside.nodes.items) c.args.number c.args.outs.now.items (held_in c.send.new.self c.put.new.signals.items c.receive.new.nodes.items) c.self.inside.environment c.receive.new.nodes.items
 done g c =
-    let l = c.unwrap-letter.result.now in
+    let l = c.letter_there-letter.result.now in
     let outs = c.args.outs.now.items in
     let stands = rw c.unwrap-at.ensures at c.find.ensures.found in
-    let got = sym (rw c.unwrap-letter.ensures at (c.letter_at.ensures c.args.number stands)) in
+    let got = c.letter_there-letter.ensures c.args.number stands in
     let found = sym (ap (lookup (λ n. n == c.args.number)) c.reserve.ensures.letters) ∙ got in
     let to = Node l.to in
     let many = c.args.outs.now.ok.0 in
@@ -123,14 +122,11 @@ pub unwrap-at-requires : goal.unwrap-at-requires
 unwrap-at-requires g c =
     held_found c.reserve.new.self.letters c.args.number (held g (goal.at.unwrap-at-requires g c).After-reserve) c.find.result c.find.ensures.none
 
-pub letter_at-requires : goal.letter_at-requires
-letter_at-requires g c = slice_get_within _ _ _ (rw c.unwrap-at.ensures at c.find.ensures.found)
-
-pub unwrap-letter-requires : goal.unwrap-letter-requires
-unwrap-letter-requires g c =
+pub letter_there-letter-requires : goal.letter_there-letter-requires
+letter_there-letter-requires g c =
     let stands = rw c.unwrap-at.ensures at c.find.ensures.found in
-    let is_held = held g (goal.at.unwrap-letter-requires g c).After-reserve in
-    shown_there _ _ _ (c.letter_at.ensures c.args.number stands) (held_found c.reserve.new.self.letters c.args.number is_held (lookup (λ n. n == c.args.number) c.reserve.new.self.letters) (λ none. none))
+    let is_held = held g (goal.at.letter_there-letter-requires g c).After-reserve in
+    (c.args.number, stands, held_found c.reserve.new.self.letters c.args.number is_held (lookup (λ n. n == c.args.number) c.reserve.new.self.letters) (λ none. none))
 
 pub finish-requires : goal.finish-requires
 finish-requires g c =

@@ -1,9 +1,7 @@
-use Rattle.std.proofs.Common.{is_some, ap, sym}
-use Rattle.std.proofs.lemmas.Option.{slice_get_within}
+use Rattle.std.proofs.Common.{is_some, ap}
 use Rattle.scholten_core.specs.Kept.{held_in}
 use Rattle.scholten_core.specs.Step.{TakesLetter}
 use Rattle.scholten_core.proofs.Fields.{taken_kept, takes_letter}
-use Rattle.scholten_core.proofs.Standing.{shown_there}
 use Rattle.scholten_core.proofs.diffusions.Diffusion.take_letter.Given.{Over}
 use Rattle.scholten_core.proofs.diffusions.Diffusion.take_letter.Goals as goal
 use Rattle.scholten_core.proofs.diffusions.Diffusion.take_letter.Goals.{After-take-number}
@@ -11,17 +9,14 @@ use Rattle.scholten_core.proofs.diffusions.Diffusion.take_letter.Goals.{After-ta
 pub take-number-requires : goal.take-number-requires
 take-number-requires g c = rw (← c.self.view_is) at c.requires
 
-pub letter_at-requires : goal.letter_at-requires
-letter_at-requires g c = slice_get_within _ _ _ c.take-number.ensures.stands
-
 -- the letter is taken
 takes : (g : Over) (c : After-take-number g) → TakesLetter (held_in c.self.inside.letters c.self.inside.signals.items c.self.inside.nodes.items) c.args.place c.take-number.result.0 (held_in c.take-number.new.self c.self.inside.signals.items c.self.inside.nodes.items)
 takes g c =
     takes_letter c.self.inside.letters c.take-number.new.self c.self.inside.signals.items c.self.inside.environment c.self.inside.nodes.items c.self.invariant c.args.place c.take-number.result.0 c.take-number.ensures.letters c.take-number.ensures.sent c.take-number.ensures.waited
 
-pub unwrap-letter-requires : goal.unwrap-letter-requires
-unwrap-letter-requires g c =
-    shown_there _ _ _ (c.letter_at.ensures c.take-number.result.0 c.take-number.ensures.stands) (ap is_some (takes g (goal.at.unwrap-letter-requires g c).After-take-number).taken)
+pub letter_there-letter-requires : goal.letter_there-letter-requires
+letter_there-letter-requires g c =
+    (c.take-number.result.0, c.take-number.ensures.stands, ap is_some (takes g (goal.at.letter_there-letter-requires g c).After-take-number).taken)
 
 pub invariant_of-self : goal.invariant_of-self
 invariant_of-self g c =
@@ -30,5 +25,5 @@ invariant_of-self g c =
 pub returns : goal.returns
 returns g c = record {
   takes = rw (← c.self.view_is) (takes g (goal.at.returns g c).After-take-number);
-  letter = sym (rw c.unwrap-letter.ensures at (c.letter_at.ensures c.take-number.result.0 c.take-number.ensures.stands));
+  letter = c.letter_there-letter.ensures c.take-number.result.0 c.take-number.ensures.stands;
 }
