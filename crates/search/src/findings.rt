@@ -2,7 +2,7 @@ ghost use Rattle.std.specs.Prelude.{◌≡◌, ℕ, [], ◌∷◌, ◌++◌, OnO
 ghost use Rattle.credential_text.specs.declared.exprs.Expr.TheVariants as exprs;
 ghost use Rattle.cred_graph.specs.Graph.{IsGraph, empty_graph};
 
-use crate::asking::node_for;
+use crate::answers::node_for;
 use crate::letters::Load;
 use cred_graph::{Graph, Port};
 use credential_text::Expr;

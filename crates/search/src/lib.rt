@@ -8,22 +8,17 @@
 //! Why so: docs/DECISIONS.md#search.
 #![tactic(auto)]
 
-mod asking;
+mod answers;
 mod driving;
 mod findings;
-mod hearing;
 mod hints;
 mod letters;
 mod members;
-mod opening;
 mod outcomes;
 mod queries;
-mod receiving;
 mod searches;
-mod solving;
 mod stages;
 mod tables;
-mod telling;
 
 pub use findings::{Findings, Monitor};
 pub use letters::{Held, Load};

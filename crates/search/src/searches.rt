@@ -14,13 +14,13 @@ ghost use Rattle.search.specs.Numbered.{IsLoad, IsStage, held_at, load_at, stage
 ghost use Rattle.search.specs.Stage.{IsQuiet, NoneHeld};
 ghost use Rattle.scholten_core.specs.Computation.{Computation};
 
+use crate::answers::receive;
 use crate::findings::Findings;
 use crate::hints::{hint_is_right, role_needed};
 use crate::letters::{Held, Load};
 use crate::members::solutions_in_order;
 use crate::outcomes::{Finished, Status};
 use crate::queries::{Hint, Need, Query, Task};
-use crate::receiving::receive;
 use crate::stages::{NumberedStage, Stage, break_off, deliver, held_letter, hold, send};
 use crate::tables::Tables;
 use cred_graph::{Graph, Port};
