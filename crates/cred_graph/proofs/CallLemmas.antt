@@ -4,7 +4,7 @@ use Rattle.std.proofs.lemmas.Bool.{cond-true, eq-eqb}
 use Rattle.credential_text.specs.declared.exprs.Expr.{Expr}
 use Rattle.cred_graph.specs.declared.listeners.Listening.{Listening}
 use Rattle.cred_graph.specs.declared.listeners.KeptListening.{KeptListening}
-use Rattle.cred_graph.specs.declared.ports.KeptPort.{KeptPort}
+use Rattle.cred_graph.specs.declared.listeners.KeptPort.{KeptPort}
 use Rattle.cred_graph.specs.declared.solutions.Solution.{Solution}
 use Rattle.cred_graph.specs.declared.solutions.Reason.{Reason}
 use Rattle.cred_graph.specs.Graph.{GraphState, IsSolution, Listens, Fits, IsGraph, ListenerGiven, SolutionGiven}

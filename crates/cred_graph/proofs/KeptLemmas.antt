@@ -6,8 +6,8 @@ use Rattle.credential_text.specs.declared.exprs.Expr.TheVariants.{Ent}
 use Rattle.cred_graph.specs.declared.listeners.Port.TheVariants as port
 use Rattle.cred_graph.specs.declared.listeners.Listening.{Listening}
 use Rattle.cred_graph.specs.declared.listeners.KeptListening.{KeptListening}
-use Rattle.cred_graph.specs.declared.ports.KeptPort.{KeptPort}
-use Rattle.cred_graph.specs.declared.ports.KeptPort.TheVariants as kept
+use Rattle.cred_graph.specs.declared.listeners.KeptPort.{KeptPort}
+use Rattle.cred_graph.specs.declared.listeners.KeptPort.TheVariants as kept
 use Rattle.cred_graph.specs.NodeLists.{IsOnce}
 use Rattle.cred_graph.specs.Numbers.{IsEntity, entity_at}
 use Rattle.cred_graph.specs.Stored.{kept_as, IsKept, Joins, listening_as}

@@ -8,8 +8,8 @@ use Rattle.cred_graph.specs.declared.listeners.Port.{Port}
 use Rattle.cred_graph.specs.declared.listeners.Port.TheVariants as port
 use Rattle.cred_graph.specs.declared.listeners.Listening.{Listening}
 use Rattle.cred_graph.specs.declared.listeners.KeptListening.{KeptListening}
-use Rattle.cred_graph.specs.declared.ports.KeptPort.{KeptPort}
-use Rattle.cred_graph.specs.declared.ports.KeptPort.TheVariants as kept
+use Rattle.cred_graph.specs.declared.listeners.KeptPort.{KeptPort}
+use Rattle.cred_graph.specs.declared.listeners.KeptPort.TheVariants as kept
 use Rattle.cred_graph.specs.Numbers.{entity_at, reason_at, IsEntity, IsReason}
 use Rattle.cred_graph.specs.NodeLists.{list_at, AddsAt, AreSame, AreShort, IsOnce}
 use Rattle.cred_graph.specs.declared.solutions.Reason.{Reason}

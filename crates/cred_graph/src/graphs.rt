@@ -1,11 +1,9 @@
 ghost use Rattle.std.specs.Prelude.{◌≡◌, ◌<◌, Some, IfOk, IfSome, OnOk, OnErr, MatchOption, Contains, length, slice_get};
 ghost use Rattle.credential_text.specs.declared.exprs.Expr.TheVariants as exprs;
 
-use crate::listeners::{KeptListening, Port};
+use crate::listeners::{KeptListening, Port, keep_port, kept_port, port_name, port_number};
 use crate::nodes::Nodes;
-use crate::ports::{keep_port, kept_port, port_name, port_number};
-use crate::reasons::{reason_name, reason_number};
-use crate::solutions::Reason;
+use crate::solutions::{Reason, reason_name, reason_number};
 use crate::tables::Tables;
 use credential_text::Expr;
 use names::Entity;

@@ -11,8 +11,6 @@ mod graphs;
 mod listeners;
 mod node_lists;
 mod nodes;
-mod ports;
-mod reasons;
 mod solutions;
 mod solved_hashes;
 mod table_space;

@@ -1,6 +1,6 @@
 use Rattle.std.proofs.Common.{ap, sym}
 use Rattle.cred_graph.specs.Numbers.{port_at}
-use Rattle.cred_graph.proofs.ports.kept_port.Goals as goal
+use Rattle.cred_graph.proofs.listeners.kept_port.Goals as goal
 
 pub returns-in-Body : goal.returns-in-Body
 returns-in-Body c = record { kept = tt; same = ap (port_at c.args.nodes.now) (sym c.in-Body.is) }

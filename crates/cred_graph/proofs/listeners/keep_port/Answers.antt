@@ -5,7 +5,7 @@ use Rattle.cred_graph.specs.declared.listeners.Port.TheVariants as port
 use Rattle.cred_graph.proofs.KeptLemmas.{not_kept}
 use Rattle.cred_graph.proofs.Lists.{on_err, slice_get_pushed}
 use Rattle.cred_graph.proofs.NumberLemmas.{entity_is}
-use Rattle.cred_graph.proofs.ports.keep_port.Goals as goal
+use Rattle.cred_graph.proofs.listeners.keep_port.Goals as goal
 
 pub returns-in-Some-clause-kept : goal.returns-in-Some-clause-kept
 returns-in-Some-clause-kept c = (

@@ -1,5 +1,5 @@
 use Rattle.std.proofs.Common.{sym}
-use Rattle.cred_graph.proofs.reasons.reason_number.Goals as goal
+use Rattle.cred_graph.proofs.solutions.reason_number.Goals as goal
 
 pub returns-in-Leaf : goal.returns-in-Leaf
 returns-in-Leaf c = record { same = sym c.in-Leaf.is; number = tt }

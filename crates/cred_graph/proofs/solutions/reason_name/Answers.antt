@@ -1,6 +1,6 @@
 use Rattle.std.proofs.Common.{ap, sym}
 use Rattle.cred_graph.specs.Numbers.{reason_at}
-use Rattle.cred_graph.proofs.reasons.reason_name.Goals as goal
+use Rattle.cred_graph.proofs.solutions.reason_name.Goals as goal
 
 pub returns-in-Leaf : goal.returns-in-Leaf
 returns-in-Leaf c = ap (reason_at c.args.nodes.now) (sym c.in-Leaf.is)

@@ -1,6 +1,6 @@
 use Rattle.std.proofs.Common.{ap, sym}
 use Rattle.cred_graph.specs.Stored.{kept_as}
-use Rattle.cred_graph.proofs.ports.port_name.Goals as goal
+use Rattle.cred_graph.proofs.listeners.port_name.Goals as goal
 
 pub returns-in-Body : goal.returns-in-Body
 returns-in-Body c = ap (kept_as c.args.nodes.now c.args.strangers.now) (sym c.in-Body.is)
