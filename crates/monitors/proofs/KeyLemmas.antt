@@ -21,7 +21,7 @@ module _ {K : Type 0} (eq : K → K → Bool) (laws : IsEquivalence eq) (exact :
   mirrored (k ∷ keys) key = λ i. laws.symm k key i || mirrored keys key i
 
   -- a key that the first ones have is no new one
-  pub near_has : (near far : List K) (key : K) → list_any (λ other. eq other key) near ≡ true → AddsKey (λ keys. keys) (near ++ far) (near ++ far) key false
+  pub near_has : (near far : List K) (key : K) → list_any (λ other. eq other key) near ≡ true → AddsKey (near ++ far) (near ++ far) key false
   near_has near far key e =
       (Contains-append_left near far key (is_old near key (sym (mirrored near key) ∙ e)), refl)
 
@@ -34,32 +34,27 @@ module _ {K : Type 0} (eq : K → K → Bool) (laws : IsEquivalence eq) (exact :
       ]
 
   -- a key is added to the first ones, where there are no others
-  pub near_adds : (near grown far : List K) (key : K) → list_any (λ other. eq other key) near ≡ false → grown ≡ near ++ key ∷ [] → far ≡ [] → AddsKey (λ keys. keys) (near ++ far) (grown ++ far) key true
+  pub near_adds : (near grown far : List K) (key : K) → list_any (λ other. eq other key) near ≡ false → grown ≡ near ++ key ∷ [] → far ≡ [] → AddsKey (near ++ far) (grown ++ far) key true
   near_adds near grown far key e is none = (
     near_lacks near far key e (subst (λ keys. Contains keys key → ⊥) (sym none) (λ there. absurd (omega (arith, there.1)))),
     (λ i. is i ++ none i) ∙ append-nil (near ++ key ∷ []) ∙ ap (λ keys. keys ++ key ∷ []) (sym (append-nil near) ∙ ap (λ keys. near ++ keys) (sym none)),
   )
 
   -- a key that the first ones lack is added to the others
-  pub far_adds : (near far after : List K) (key : K) (new : Bool) → list_any (λ other. eq other key) near ≡ false → new ≡ not (list_any (eq key) far) → after ≡ insert_key eq far key → AddsKey (λ keys. keys) (near ++ far) (near ++ after) key new
+  pub far_adds : (near far after : List K) (key : K) (new : Bool) → list_any (λ other. eq other key) near ≡ false → new ≡ not (list_any (eq key) far) → after ≡ insert_key eq far key → AddsKey (near ++ far) (near ++ after) key new
   far_adds near far after key new lacks answer inserted = by (list_any (eq key) far) refl
     where
-      by : (known : Bool) → list_any (eq key) far ≡ known → AddsKey (λ keys. keys) (near ++ far) (near ++ after) key new
-      by true e = subst (AddsKey (λ keys. keys) (near ++ far) (near ++ after) key) (sym (answer ∙ ap not e)) (
+      by : (known : Bool) → list_any (eq key) far ≡ known → AddsKey (near ++ far) (near ++ after) key new
+      by true e = subst (AddsKey (near ++ far) (near ++ after) key) (sym (answer ∙ ap not e)) (
         Contains-append_right near far key (is_old far key e),
         ap (λ keys. near ++ keys) (inserted ∙ ap (λ known. if known then far else far ++ key ∷ []) e),
       )
-      by false e = subst (AddsKey (λ keys. keys) (near ++ far) (near ++ after) key) (sym (answer ∙ ap not e)) (
+      by false e = subst (AddsKey (near ++ far) (near ++ after) key) (sym (answer ∙ ap not e)) (
         near_lacks near far key lacks (is_new far key e),
         ap (λ keys. near ++ keys) (inserted ∙ ap (λ known. if known then far else far ++ key ∷ []) e) ∙ sym (append_assoc near far (key ∷ [])),
       )
 
 -- the key is one of them now
-pub now_told : {K : Type 0} (keys after : List K) (key : K) (new : Bool) → AddsKey (λ keys. keys) keys after key new → Contains after key
+pub now_told : {K : Type 0} (keys after : List K) (key : K) (new : Bool) → AddsKey keys after key new → Contains after key
 now_told keys after key true (absent, is) = subst (λ keys. Contains keys key) (sym is) (Contains-push keys key)
 now_told keys after key false (there, is) = subst (λ keys. Contains keys key) (sym is) there
-
--- what holds the keys hears of it as they do
-pub held : {K S : Type 0} (holding : List K → S) (keys after : List K) (key : K) (new : Bool) → AddsKey (λ keys. keys) keys after key new → AddsKey holding keys (holding after) key new
-held holding keys after key true (absent, is) = (absent, ap holding is)
-held holding keys after key false (there, is) = (there, ap holding is)

@@ -1,25 +1,21 @@
 -- What the monitor of a linked role is seen as, and what it hears.
-use Rattle.std.specs.Prelude.{ℕ, Bool, true, false, List, [], ◌∷◌, ◌++◌, ◌≡◌, Contains}
+use Rattle.std.specs.Prelude.{Bool, true, false, List, [], ◌∷◌, ◌++◌, ◌≡◌, Contains}
 
 -- what a linked role was told, of entities by key: entities on its base, and entities by way of these, in order
 pub record LinkToldBy (K : Type 0) : Type 0 where
   pub bases : List K
   pub members : List K
 
--- the same, of entities by name
-abbrev pub LinkTold : Type 0
-LinkTold = LinkToldBy (List ℕ)
-
 module _ {K : Type 0} where
-  -- what holds these keys has this one too now, at their end, and the answer says whether that is new: a repeat changes nothing
-  abbrev pub AddsKey : {S : Type 0} → (List K → S) → List K → S → K → Bool → Type 0
-  AddsKey holding keys new key true = (Contains keys key → ⊥) × (new ≡ holding (keys ++ key ∷ []))
-  AddsKey holding keys new key false = Contains keys key × (new ≡ holding keys)
+  -- the key is among those that were told now, at their end, and the answer says whether that is new: a repeat changes nothing
+  abbrev pub AddsKey : List K → List K → K → Bool → Type 0
+  AddsKey old new key true = (Contains old key → ⊥) × (new ≡ old ++ key ∷ [])
+  AddsKey old new key false = Contains old key × (new ≡ old)
 
   -- the base has this member now
   abbrev pub HearsBase : LinkToldBy K → LinkToldBy K → K → Bool → Type 0
-  HearsBase old = AddsKey (λ bases. record old { bases = bases }) old.bases
+  HearsBase old new base is_new = AddsKey old.bases new.bases base is_new × (new.members ≡ old.members)
 
   -- the linked role has this member now
   abbrev pub HearsVia : LinkToldBy K → LinkToldBy K → K → Bool → Type 0
-  HearsVia old = AddsKey (λ members. record old { members = members }) old.members
+  HearsVia old new who is_new = AddsKey old.members new.members who is_new × (new.bases ≡ old.bases)

@@ -1,9 +1,8 @@
 ghost use Rattle.std.specs.Prelude.{◌≡◌, IfOk, OnErr, Contains};
 ghost use Rattle.monitors.specs.LinkMonitor.{AddsKey};
-ghost use Rattle.monitors.specs.Made.{keys_in};
 
 use crate::keys::Key;
-use crate::making::{Empty, make};
+use crate::making::Empty;
 use indexmap::IndexSet;
 use std::alloc::{AllocError, Global};
 use std::marker::Model;
@@ -56,8 +55,8 @@ impl<K: Key> KeySet<K> {
     ghost use Rattle.monitors.specs.LinkMonitor.{AddsKey};
 
     /// Adds the key behind the others, unless it is one of them, and answers whether it is new.
-    fn insert(&mut self, key: K) -> Result<bool, AllocError>
-        ensures ok { IfOk result (λ new. AddsKey (λ keys. keys) self.old self.new key new) }
+    pub(crate) fn insert(&mut self, key: K) -> Result<bool, AllocError>
+        ensures ok { IfOk result (AddsKey self.old self.new key) }
         ensures growth { OnErr result (Contains self.old key → ⊥) }
         ensures unchanged { OnErr result (self.new ≡ self.old) }
     {
@@ -69,22 +68,5 @@ impl<K: Key> KeySet<K> {
             return Ok(true);
         }
         Ok(self.far.insert(key)?)
-    }
-}
-
-/// Adds the key to a set that is made for the first one, as `KeySet::insert` does.
-pub fn insert<K: Key>(
-    keys: &mut Option<Box<KeySet<K>>>,
-    alloc: Global,
-    key: K,
-) -> Result<bool, AllocError>
-    ensures ok { IfOk result (λ new. AddsKey (λ keys. keys) (keys_in keys.old) (keys_in keys.new) key new) }
-    ensures growth { OnErr result (Contains (keys_in keys.old) key → ⊥) }
-    ensures unchanged { OnErr result (keys_in keys.new ≡ keys_in keys.old) }
-{
-    make(keys, alloc)?;
-    match keys {
-        Some(keys) => keys.insert(key),
-        None => unreachable!(),
     }
 }

@@ -17,7 +17,7 @@ use Rattle.cred_graph.specs.declared.listeners.Port.{Port}
 use Rattle.cred_graph.specs.declared.listeners.Port.TheVariants as port
 use Rattle.cred_graph.specs.declared.solutions.Reason.TheVariants as reason
 use Rattle.cred_graph.specs.Graph.{members_of}
-use Rattle.monitors.specs.LinkMonitor.{LinkTold, HearsBase}
+use Rattle.monitors.specs.LinkMonitor.{AddsKey}
 use Rattle.scholten_core.specs.declared.parents.Parent.TheVariants.{Environment, Node}
 use Rattle.search.specs.declared.letters.Load.{Load}
 use Rattle.search.specs.declared.letters.Load.TheVariants as load
@@ -103,12 +103,12 @@ module _ (rest : List Sent) (n sent : ℕ) {may_ask : NodeAsk → Type 0} (s t :
 module _ (rest : List Sent) (n sent : ℕ) {may_ask : NodeAsk → Type 0} (s t : Progress) (counted : IsCountedAt rest n sent may_ask s) where
   -- a linked role is told a member of its base
   counted_at_base : (base : List ℕ) →
-      ((x : LinkTold) → slice_get s.monitors n ≡ Some (monitor.Link x) → (Contains x.bases base → ⊥) → (a : NodeAsk) → a.asker ≡ n → a.why ≡ for_via base → may_ask a → ⊥) →
+      ((x : List (List ℕ)) → slice_get s.monitors n ≡ Some (monitor.Link x) → (Contains x base → ⊥) → (a : NodeAsk) → a.asker ≡ n → a.why ≡ for_via base → may_ask a → ⊥) →
       TellsBase s t n base → IsCountedAt rest n sent (λ a. may_ask a ⊎ ((a.asker ≡ n) × (a.why ≡ for_via base))) t
   counted_at_base base fresh (r, name, node, (new, ms, heard, inl (again, same))) =
       counted_stays (subst (IsCountedAt rest n sent may_ask) (sym same) counted) (λ a may. inl may)
   counted_at_base base fresh (r, name, node, (new, ms, (x, y, at, hears, set), inr (is_new, asks))) =
-      let absent : (Contains x.bases base → ⊥) = (subst (HearsBase x y base) is_new hears).0 in
+      let absent : (Contains x base → ⊥) = (subst (AddsKey x y base) is_new hears).0 in
       let w : Expr × Port (List ℕ) = (Rol (record { owner = base; name = name }), port.Via base) in
       let heard : Progress = record s { monitors = ms } in
       let asked : AskedFor n heard t (w ∷ []) = asked_each n heard t (w ∷ []) (t, asks, refl) in
@@ -130,7 +130,7 @@ module _ (rest : List Sent) (n sent : ℕ) {may_ask : NodeAsk → Type 0} (s t :
 
   -- a node takes in what it was told
   pub counted_at_taken : (m : ℕ) (p : Port (List ℕ)) (who : List ℕ) →
-      ((x : LinkTold) → slice_get s.monitors n ≡ Some (monitor.Link x) → (Contains x.bases who → ⊥) → (a : NodeAsk) → a.asker ≡ n → a.why ≡ for_via who → may_ask a → ⊥) →
+      ((x : List (List ℕ)) → slice_get s.monitors n ≡ Some (monitor.Link x) → (Contains x who → ⊥) → (a : NodeAsk) → a.asker ≡ n → a.why ≡ for_via who → may_ask a → ⊥) →
       TakesIn s t n m p who → IsCountedAt rest n sent (λ a. may_ask a ⊎ ((a.asker ≡ n) × AsksOnceTold p who a.why)) t
   counted_at_taken m port.Body who fresh takes = counted_stays (counted_at_solved rest n sent s t counted who (reason.Body m) takes) (λ a may. inl may)
   counted_at_taken m port.Base who fresh takes = counted_at_base who fresh takes
@@ -178,7 +178,7 @@ module _ (before after : List Sent) (n sent : ℕ) {may_ask more : NodeAsk → T
 
   -- the receipt of a Tell
   pub counted_by_tell : (who : List ℕ) →
-      ((x : LinkTold) → slice_get s.monitors n ≡ Some (monitor.Link x) → (Contains x.bases who → ⊥) → (a : NodeAsk) → a.asker ≡ n → a.why ≡ for_via who → may_ask a → ⊥) →
+      ((x : List (List ℕ)) → slice_get s.monitors n ≡ Some (monitor.Link x) → (Contains x who → ⊥) → (a : NodeAsk) → a.asker ≡ n → a.why ≡ for_via who → may_ask a → ⊥) →
       ((a : NodeAsk) → a.asker ≡ n → AsksOnceTold p who a.why → more a) → s.outs ≡ [] →
       IsCountedBy may_ask (members_of s.graph) (heard s.graph) (asks_in (before ++ (record { from = Node m; to = n; load = load.Tell p who } ∷ after))) sent →
       TakesIn s t n m p who → IsCountedAt (before ++ after) n sent more t

@@ -14,7 +14,7 @@ use Rattle.cred_graph.specs.NodeLists.{IsOnce}
 use Rattle.cred_graph.specs.Numbers.{IsEntity, entity_at}
 use Rattle.cred_graph.proofs.Lists.{Contains-at_place}
 use Rattle.cred_graph.proofs.NumberLemmas.{entity_is}
-use Rattle.monitors.specs.LinkMonitor.{LinkTold, LinkToldBy, HearsBase}
+use Rattle.monitors.specs.LinkMonitor.{AddsKey}
 use Rattle.monitors.specs.MeetMonitor.{MeetTold, MeetLines, TellsApart, told_by, HearsByName, HasKeysOf}
 use Rattle.search.specs.declared.findings.Monitor.{Monitor}
 use Rattle.search.specs.declared.findings.Monitor.TheVariants as monitor
@@ -22,10 +22,6 @@ use Rattle.search.specs.declared.findings.NumberedMonitor.{NumberedMonitor}
 use Rattle.search.specs.declared.findings.NumberedMonitor.TheVariants as numbered_monitor
 use Rattle.search.specs.Answers.{BaseHeard, PartHeard}
 use Rattle.search.specs.Numbered.{AreMonitors, IsMonitor, monitor_at, monitors_at}
-
--- what a linked role was told, by name
-abbrev link_at : List Expr → LinkToldBy ℕ → LinkTold
-link_at nodes x = record { bases = map (entity_at nodes) x.bases; members = map (entity_at nodes) x.members }
 
 -- a monitor that was read where one stands is the one there
 pub read_there : (ms : List NumberedMonitor) (node : ℕ) (k m read : NumberedMonitor) → slice_get ms node ≡ Some k → m ≡ get_or ms node m → m ≡ read → slice_get ms node ≡ Some read
@@ -47,10 +43,10 @@ module _ (nodes : List Expr) (ms : List NumberedMonitor) (node : ℕ) where
   pub monitor_there : (k : NumberedMonitor) → AreMonitors nodes ms → slice_get ms node ≡ Some k → IsMonitor nodes k
   monitor_there k are at = All-contains (IsMonitor nodes) ms k are (Contains-at_place ms node k at)
 
-  pub link_at_node : (x : LinkTold) → slice_get (monitors_at nodes ms) node ≡ Some (monitor.Link x) → (y : LinkToldBy ℕ) × (slice_get ms node ≡ Some (numbered_monitor.Link y))
+  pub link_at_node : (x : List (List ℕ)) → slice_get (monitors_at nodes ms) node ≡ Some (monitor.Link x) → (y : List ℕ) × (slice_get ms node ≡ Some (numbered_monitor.Link y))
   link_at_node x at = let (k, there, is) = seen_at (monitor.Link x) at in by k there is
     where
-      by : (k : NumberedMonitor) → slice_get ms node ≡ Some k → monitor_at nodes k ≡ monitor.Link x → (y : LinkToldBy ℕ) × (slice_get ms node ≡ Some (numbered_monitor.Link y))
+      by : (k : NumberedMonitor) → slice_get ms node ≡ Some k → monitor_at nodes k ≡ monitor.Link x → (y : List ℕ) × (slice_get ms node ≡ Some (numbered_monitor.Link y))
       by numbered_monitor.Plain there is = cc
       by (numbered_monitor.Link y) there is = (y, there)
       by (numbered_monitor.Meet y) there is = cc
@@ -75,14 +71,14 @@ module _ (nodes : List Expr) (ms : List NumberedMonitor) (node : ℕ) where
   still_monitors k are is = All-set (IsMonitor nodes) ms node k is are
 
 -- what was heard, where the answer says so
-bases_after : (nodes : List Expr) (x y : LinkToldBy ℕ) (k : ℕ) (new : Bool) → IsMonitor nodes (numbered_monitor.Link x) → IsEntity nodes k → HearsBase x y k new → IsMonitor nodes (numbered_monitor.Link y)
+bases_after : (nodes : List Expr) (x y : List ℕ) (k : ℕ) (new : Bool) → IsMonitor nodes (numbered_monitor.Link x) → IsEntity nodes k → AddsKey x y k new → IsMonitor nodes (numbered_monitor.Link y)
 bases_after nodes x y k true are is (absent, heard) =
-    subst (λ (z : LinkToldBy ℕ). IsMonitor nodes (numbered_monitor.Link z)) (sym heard) (All-push (IsEntity nodes) x.bases k are.0 is, are.1)
-bases_after nodes x y k false are is (there, same) = subst (λ (z : LinkToldBy ℕ). IsMonitor nodes (numbered_monitor.Link z)) (sym same) are
+    subst (λ (z : List ℕ). IsMonitor nodes (numbered_monitor.Link z)) (sym heard) (All-push (IsEntity nodes) x k are is)
+bases_after nodes x y k false are is (there, same) = subst (λ (z : List ℕ). IsMonitor nodes (numbered_monitor.Link z)) (sym same) are
 
-pub link_after : (nodes : List Expr) (x y : LinkToldBy ℕ) (k : ℕ) (r : Result Bool AllocError) → IsMonitor nodes (numbered_monitor.Link x) → IsEntity nodes k → IfOk r (λ new. HearsBase x y k new) → OnErr r (y ≡ x) → IsMonitor nodes (numbered_monitor.Link y)
+pub link_after : (nodes : List Expr) (x y : List ℕ) (k : ℕ) (r : Result Bool AllocError) → IsMonitor nodes (numbered_monitor.Link x) → IsEntity nodes k → IfOk r (λ new. AddsKey x y k new) → OnErr r (y ≡ x) → IsMonitor nodes (numbered_monitor.Link y)
 link_after nodes x y k (Ok new) are is heard same = bases_after nodes x y k new are is heard
-link_after nodes x y k (Err e) are is heard same = subst (λ (z : LinkToldBy ℕ). IsMonitor nodes (numbered_monitor.Link z)) (sym same) are
+link_after nodes x y k (Err e) are is heard same = subst (λ (z : List ℕ). IsMonitor nodes (numbered_monitor.Link z)) (sym same) are
 
 pub meet_after : (nodes : List Expr) (x y : MeetLines ℕ) (k : ℕ) → IsMonitor nodes (numbered_monitor.Meet x) → IsEntity nodes k → HasKeysOf x y k → IsMonitor nodes (numbered_monitor.Meet y)
 meet_after nodes x y k are is keys =
@@ -106,18 +102,18 @@ module _ (nodes : List Expr) (once : IsOnce nodes) where
       let from = mapped (entity_at nodes) keys (entity_at nodes k) there in
       subst (Contains keys) (one_number from.from k (All-contains (IsEntity nodes) keys from.from are from.among) is from.is) from.among
 
-  base_named : (x y : LinkToldBy ℕ) (k : ℕ) (new : Bool) → IsMonitor nodes (numbered_monitor.Link x) → IsEntity nodes k → HearsBase x y k new → HearsBase (link_at nodes x) (link_at nodes y) (entity_at nodes k) new
+  base_named : (x y : List ℕ) (k : ℕ) (new : Bool) → IsMonitor nodes (numbered_monitor.Link x) → IsEntity nodes k → AddsKey x y k new → AddsKey (map (entity_at nodes) x) (map (entity_at nodes) y) (entity_at nodes k) new
   base_named x y k true are is (absent, heard) = (
-    λ there. absent (among_named x.bases k is are.0 there),
-    ap (link_at nodes) heard ∙ ap (λ (names : List (List ℕ)). record (link_at nodes x) { bases = names }) (map-append (entity_at nodes) x.bases (k ∷ [])),
+    λ there. absent (among_named x k is are there),
+    ap (map (entity_at nodes)) heard ∙ map-append (entity_at nodes) x (k ∷ []),
   )
-  base_named x y k false are is (there, same) = (Contains-map (entity_at nodes) x.bases k there, ap (link_at nodes) same)
+  base_named x y k false are is (there, same) = (Contains-map (entity_at nodes) x k there, ap (map (entity_at nodes)) same)
 
-  pub base_heard : (ms : List NumberedMonitor) (node : ℕ) (x y : LinkToldBy ℕ) (k : ℕ) (new : Bool) → AreMonitors nodes ms → slice_get ms node ≡ Some (numbered_monitor.Link x) → IsEntity nodes k → HearsBase x y k new →
+  pub base_heard : (ms : List NumberedMonitor) (node : ℕ) (x y : List ℕ) (k : ℕ) (new : Bool) → AreMonitors nodes ms → slice_get ms node ≡ Some (numbered_monitor.Link x) → IsEntity nodes k → AddsKey x y k new →
       BaseHeard (monitors_at nodes ms) (monitors_at nodes (set ms node (numbered_monitor.Link y))) node (entity_at nodes k) new
   base_heard ms node x y k new are at is heard =
       let own : IsMonitor nodes (numbered_monitor.Link x) = monitor_there nodes ms node (numbered_monitor.Link x) are at in
-      (link_at nodes x, link_at nodes y, shown_at nodes ms node (numbered_monitor.Link x) at, base_named x y k new own is heard, shown_set nodes ms node (numbered_monitor.Link y))
+      (map (entity_at nodes) x, map (entity_at nodes) y, shown_at nodes ms node (numbered_monitor.Link x) at, base_named x y k new own is heard, shown_set nodes ms node (numbered_monitor.Link y))
 
   pub part_heard : (ms : List NumberedMonitor) (node part : ℕ) (x y : MeetLines ℕ) (k : ℕ) (last : Bool) → AreMonitors nodes ms → slice_get ms node ≡ Some (numbered_monitor.Meet x) → IsEntity nodes k → HearsByName x y part k last →
       PartHeard (monitors_at nodes ms) (monitors_at nodes (set ms node (numbered_monitor.Meet y))) node part (entity_at nodes k) last

@@ -17,7 +17,6 @@ use Rattle.cred_graph.specs.declared.listeners.Listening.{Listening}
 use Rattle.cred_graph.specs.Graph.{GraphState, Listens}
 use Rattle.cred_graph.proofs.Lists.{slice_get_stays, slice_get_push_cases}
 use Rattle.cred_graph.proofs.Growth.{with_node, graph_with_node, listed_at-pushed}
-use Rattle.monitors.specs.LinkMonitor.{LinkTold}
 use Rattle.monitors.specs.MeetMonitor.{MeetTold, HasTold, told_order}
 use Rattle.scholten_core.specs.declared.parents.Parent.TheVariants.{Environment, Node}
 use Rattle.search.specs.declared.letters.Load.{Load}
@@ -35,12 +34,12 @@ steady_grown grows steady rightly paid = record {
 }
 
 -- a new monitor was told nothing
-pub new_bases_none : (e : Expr) (x : LinkTold) (b : List ℕ) → new_monitor e ≡ monitor.Link x → Contains x.bases b → ⊥
+pub new_bases_none : (e : Expr) (x : List (List ℕ)) (b : List ℕ) → new_monitor e ≡ monitor.Link x → Contains x b → ⊥
 new_bases_none (Ent d) x b e among = cc
 new_bases_none (Rol r) x b e among = cc
 new_bases_none (Link r t) x b e among =
-    let same : record { bases = []; members = [] } ≡ x = cc in
-    Contains-none b (subst (λ (y : LinkTold). Contains y.bases b) (sym same) among)
+    let same : [] ≡ x = cc in
+    Contains-none b (subst (λ (y : List (List ℕ)). Contains y b) (sym same) among)
 new_bases_none (Meet parts) x b e among = cc
 
 pub new_parts_none : (e : Expr) (x : MeetTold) (i : ℕ) (who : List ℕ) → new_monitor e ≡ monitor.Meet x → HasTold x i who → ⊥

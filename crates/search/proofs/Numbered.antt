@@ -86,7 +86,7 @@ module _ (nodes more : List Expr) where
 
   monitor_goes_on : (m : NumberedMonitor) → IsMonitor nodes m → IsMonitor (nodes ++ more) m
   monitor_goes_on numbered_monitor.Plain is = tt
-  monitor_goes_on (numbered_monitor.Link x) is = (entities_go_on x.bases is.0, entities_go_on x.members is.1)
+  monitor_goes_on (numbered_monitor.Link x) is = entities_go_on x is
   monitor_goes_on (numbered_monitor.Meet x) is = entities_go_on (keys_of x.lines) is
 
   names_stay : (keys : List ℕ) → All (IsEntity nodes) keys → map (entity_at (nodes ++ more)) keys ≡ map (entity_at nodes) keys
@@ -101,7 +101,7 @@ module _ (nodes more : List Expr) where
 
   monitor_stays : (m : NumberedMonitor) → IsMonitor nodes m → monitor_at (nodes ++ more) m ≡ monitor_at nodes m
   monitor_stays numbered_monitor.Plain is = refl
-  monitor_stays (numbered_monitor.Link x) is = λ i. monitor.Link (record { bases = names_stay x.bases is.0 i; members = names_stay x.members is.1 i })
+  monitor_stays (numbered_monitor.Link x) is = λ i. monitor.Link (names_stay x is i)
   monitor_stays (numbered_monitor.Meet x) is =
       ap (λ (lines : List (List ℕ × Tellers)). monitor.Meet (record { parts = x.parts; told = set.from_list (pairs_of lines) })) (lines_stay x.lines is)
 

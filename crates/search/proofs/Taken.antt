@@ -16,7 +16,7 @@ use Rattle.cred_graph.specs.declared.listeners.Port.TheVariants as port
 use Rattle.cred_graph.specs.declared.solutions.Reason.TheVariants as reason
 use Rattle.cred_graph.specs.Graph.{GraphState, IsNode, IsSolution, Known, Fits, NodeGiven}
 use Rattle.cred_graph.proofs.Lists.{slice_get_stays}
-use Rattle.monitors.specs.LinkMonitor.{LinkTold, HearsBase}
+use Rattle.monitors.specs.LinkMonitor.{AddsKey}
 use Rattle.monitors.specs.MeetMonitor.{MeetTold, HasTold, AllTold, with_tell}
 use Rattle.search.specs.declared.letters.Load.{Load}
 use Rattle.search.specs.declared.letters.Load.TheVariants as load
@@ -145,7 +145,7 @@ module _ (rows : List Credential) (asked : Role) (rest : List Sent) (node m : �
       by j e f at asks (by_part parts k p place) = record { parts = parts; part = p; node = at; at = place; known = (m, asks, told.solution) }
 
   -- the monitor of a linked role, and of an intersection
-  link_at : (mon : Monitor) (r : Role) (n : List ℕ) → slice_get s.monitors node ≡ Some mon → MonitorFits (Link r n) mon → (x : LinkTold) × (slice_get s.monitors node ≡ Some (monitor.Link x))
+  link_at : (mon : Monitor) (r : Role) (n : List ℕ) → slice_get s.monitors node ≡ Some mon → MonitorFits (Link r n) mon → (x : List (List ℕ)) × (slice_get s.monitors node ≡ Some (monitor.Link x))
   link_at monitor.Plain r n at fits = absurd fits
   link_at (monitor.Link x) r n at fits = (x, at)
   link_at (monitor.Meet x) r n at fits = absurd fits
@@ -210,8 +210,8 @@ module _ (rows : List Credential) (asked : Role) (rest : List Sent) (node m : �
   same_base r q n k e = cc
 
   -- the member's role is asked, and the monitor has heard the member
-  base_after : (base : List ℕ) (r : Role) (name : List ℕ) (x : LinkTold) (u t : Progress) → IsNode s.graph node (Link r name) → Asked rows asked rest node s u (port.Via base) (Rol (record { owner = base; name = name })) →
-      slice_get u.monitors node ≡ Some (monitor.Link x) → t ≡ record u { monitors = set u.monitors node (monitor.Link (record x { bases = x.bases ++ base ∷ [] })) } → TakenIn t port.Base base
+  base_after : (base : List ℕ) (r : Role) (name : List ℕ) (x : List (List ℕ)) (u t : Progress) → IsNode s.graph node (Link r name) → Asked rows asked rest node s u (port.Via base) (Rol (record { owner = base; name = name })) →
+      slice_get u.monitors node ≡ Some (monitor.Link x) → t ≡ record u { monitors = set u.monitors node (monitor.Link (x ++ base ∷ [])) } → TakenIn t port.Base base
   base_after base r name x u t at asked_u mat same =
       let pending : List Sent = rest ++ sent_by node u.outs in
       let at_u : IsNode u.graph node (Link r name) = asked_u.moves.grows.nodes node (Link r name) at in
@@ -225,11 +225,11 @@ module _ (rows : List Credential) (asked : Role) (rest : List Sent) (node m : �
         taken = base_taken rows asked u.graph u.monitors pending node x base mat;
       })
 
-  told_base_new : (base : List ℕ) (t : Progress) (r : Role) (name : List ℕ) (ms : List Monitor) (x : LinkTold) → IsTold port.Base base → IsNode s.graph node (Link r name) → slice_get s.monitors node ≡ Some (monitor.Link x) →
-      ms ≡ set s.monitors node (monitor.Link (record x { bases = x.bases ++ base ∷ [] })) → AsksFor (record s { monitors = ms }) t (Rol (record { owner = base; name = name })) (port.Via base) → TakenIn t port.Base base
+  told_base_new : (base : List ℕ) (t : Progress) (r : Role) (name : List ℕ) (ms : List Monitor) (x : List (List ℕ)) → IsTold port.Base base → IsNode s.graph node (Link r name) → slice_get s.monitors node ≡ Some (monitor.Link x) →
+      ms ≡ set s.monitors node (monitor.Link (x ++ base ∷ [])) → AsksFor (record s { monitors = ms }) t (Rol (record { owner = base; name = name })) (port.Via base) → TakenIn t port.Base base
   told_base_new base t r name ms x told at mat ms_is (to, new, given, outs, monitors) =
       let e : Expr = Rol (record { owner = base; name = name }) in
-      let y : Monitor = monitor.Link (record x { bases = x.bases ++ base ∷ [] }) in
+      let y : Monitor = monitor.Link (x ++ base ∷ []) in
       let out : List (ℕ × Load (List ℕ)) = (to, load.Ask (port.Via base)) ∷ [] in
       let is = base_told base told in
       let same_role : is.role ≡ r = same_base is.role r is.name name (one_expr s.graph node (Link is.role is.name) (Link r name) is.at at) in
@@ -249,13 +249,13 @@ module _ (rows : List Credential) (asked : Role) (rest : List Sent) (node m : �
 
   pub takes_base : (base : List ℕ) (t : Progress) → IsTold port.Base base → TellsBase s t node base → TakenIn t port.Base base
   takes_base base t told (r, name, at, (new, ms, heard, inl (repeat, same))) =
-      let hears : HearsBase heard.0 heard.1 base false = subst (HearsBase heard.0 heard.1 base) repeat heard.3 in
-      let ms_is : ms ≡ s.monitors = heard.4 ∙ ap (λ (y : LinkTold). set s.monitors node (monitor.Link y)) hears.1 ∙ set_again s.monitors node (monitor.Link heard.0) heard.2 in
+      let hears : AddsKey heard.0 heard.1 base false = subst (AddsKey heard.0 heard.1 base) repeat heard.3 in
+      let ms_is : ms ≡ s.monitors = heard.4 ∙ ap (λ (y : List (List ℕ)). set s.monitors node (monitor.Link y)) hears.1 ∙ set_again s.monitors node (monitor.Link heard.0) heard.2 in
       let t_is : t ≡ s = same ∙ ap (λ (ns : List Monitor). record s { monitors = ns }) ms_is in
       subst (λ (v : Progress). TakenIn v port.Base base) (sym t_is) (record { moves = stays rows asked rest node s s steady refl; taken = (heard.0, heard.2, hears.0) })
   takes_base base t told (r, name, at, (new, ms, heard, inr (fresh, asks))) =
-      let hears : HearsBase heard.0 heard.1 base true = subst (HearsBase heard.0 heard.1 base) fresh heard.3 in
-      told_base_new base t r name ms heard.0 told at heard.2 (heard.4 ∙ ap (λ (y : LinkTold). set s.monitors node (monitor.Link y)) hears.1) asks
+      let hears : AddsKey heard.0 heard.1 base true = subst (AddsKey heard.0 heard.1 base) fresh heard.3 in
+      told_base_new base t r name ms heard.0 told at heard.2 (heard.4 ∙ ap (λ (y : List (List ℕ)). set s.monitors node (monitor.Link y)) hears.1) asks
 
   -- the monitor has heard the part
   part_after : (i : ℕ) (who : List ℕ) (x : MeetTold) (u t : Progress) → Moves rows asked rest node s u → u.monitors ≡ s.monitors → PartFits net node i who → slice_get s.monitors node ≡ Some (monitor.Meet x) →

@@ -15,7 +15,6 @@ use Rattle.cred_graph.specs.declared.listeners.Port.{Port}
 use Rattle.cred_graph.specs.declared.listeners.Port.TheVariants as port
 use Rattle.cred_graph.specs.declared.listeners.Listening.{Listening}
 use Rattle.cred_graph.specs.Graph.{GraphState, IsNode, Listens, members_of}
-use Rattle.monitors.specs.LinkMonitor.{LinkTold}
 use Rattle.scholten_core.specs.declared.parents.Parent.{Parent}
 use Rattle.scholten_core.specs.declared.parents.Parent.TheVariants.{Neutral, Environment, Node}
 use Rattle.search.specs.declared.letters.Load.{Load}
@@ -65,14 +64,14 @@ may_ask_on old new opens tells m for_base may = opens m may
 may_ask_on old new opens tells m (for_via b) may = tells m b may
 may_ask_on old new opens tells m (for_part i) may = opens m may
 
-same_link : (x y : LinkTold) → monitor.Link x ≡ monitor.Link y → x ≡ y
+same_link : (x y : List (List ℕ)) → monitor.Link x ≡ monitor.Link y → x ≡ y
 same_link x y e = cc
 
 -- a linked role that wasn't told of a member doesn't ask on its behalf yet
-not_told : (net : Net) (m : ℕ) (x : LinkTold) (b : List ℕ) → slice_get net.monitors m ≡ Some (monitor.Link x) → (Contains x.bases b → ⊥) → IsBaseTold net m b → ⊥
+not_told : (net : Net) (m : ℕ) (x : List (List ℕ)) (b : List ℕ) → slice_get net.monitors m ≡ Some (monitor.Link x) → (Contains x b → ⊥) → IsBaseTold net m b → ⊥
 not_told net m x b at absent told =
     let same : told.0 ≡ x = same_link told.0 x (same_Some (monitor.Link told.0) (monitor.Link x) (sym told.1 ∙ at)) in
-    absent (subst (λ (y : LinkTold). Contains y.bases b) same told.2)
+    absent (subst (λ (y : List (List ℕ)). Contains y b) same told.2)
 
 -- a node with a listener was heard of
 listener_heard : (g : GraphState) (n : ℕ) (l : Listening) → Listens g n l → 0 < length (heard g)

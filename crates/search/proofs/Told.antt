@@ -15,7 +15,6 @@ use Rattle.credential_text.specs.declared.exprs.Expr.{Expr}
 use Rattle.credential_text.specs.declared.exprs.Expr.TheVariants.{Ent, Rol, Link, Meet}
 use Rattle.cred_graph.specs.declared.listeners.Port.TheVariants as port
 use Rattle.cred_graph.specs.Graph.{GraphState, IsNode, IsSolution}
-use Rattle.monitors.specs.LinkMonitor.{LinkTold}
 use Rattle.monitors.specs.MeetMonitor.{MeetTold, HasTold, AllTold, with_tell, told_order}
 use Rattle.monitors.proofs.ToldOrder.{told_order_total, told_order_tied}
 use Rattle.search.specs.declared.findings.Monitor.{Monitor}
@@ -44,7 +43,7 @@ zip_set R (x ∷ xs) [] n y z all at holds = absurd all
 zip_set R (x ∷ xs) (w ∷ ys) zero y z all at holds = (holds x (subst (R x) (same_Some w y at) all.0), all.1)
 zip_set R (x ∷ xs) (w ∷ ys) (suc n) y z all at holds = (all.0, zip_set R xs ys n y z all.1 at holds)
 
-link_stays : (x y : LinkTold) (e : Expr) → MonitorFits e (monitor.Link x) → MonitorFits e (monitor.Link y)
+link_stays : (x y : List (List ℕ)) (e : Expr) → MonitorFits e (monitor.Link x) → MonitorFits e (monitor.Link y)
 link_stays x y (Ent d) fits = absurd fits
 link_stays x y (Rol r) fits = absurd fits
 link_stays x y (Link r t) fits = tt
@@ -56,16 +55,16 @@ meet_stays x y same (Rol r) fits = absurd fits
 meet_stays x y same (Link r t) fits = absurd fits
 meet_stays x y same (Meet parts) fits = same ∙ fits
 
-pub same_link : (x y : LinkTold) → monitor.Link x ≡ monitor.Link y → x ≡ y
+pub same_link : (x y : List (List ℕ)) → monitor.Link x ≡ monitor.Link y → x ≡ y
 same_link x y e = cc
 
 pub same_meet : (x y : MeetTold) → monitor.Meet x ≡ monitor.Meet y → x ≡ y
 same_meet x y e = cc
 
 -- the monitor of a linked role hears a member of its base
-module _ (rows : List Credential) (asked : Role) (g : GraphState) (ms : List Monitor) (pending : List Sent) (node : ℕ) (x : LinkTold) (base : List ℕ) (at : slice_get ms node ≡ Some (monitor.Link x)) where
-  abbrev told_link : LinkTold
-  told_link = record x { bases = x.bases ++ base ∷ [] }
+module _ (rows : List Credential) (asked : Role) (g : GraphState) (ms : List Monitor) (pending : List Sent) (node : ℕ) (x : List (List ℕ)) (base : List ℕ) (at : slice_get ms node ≡ Some (monitor.Link x)) where
+  abbrev told_link : List (List ℕ)
+  told_link = x ++ base ∷ []
 
   abbrev old : Net
   old = record { graph = g; monitors = ms; pending = pending }
@@ -81,7 +80,7 @@ module _ (rows : List Credential) (asked : Role) (g : GraphState) (ms : List Mon
             let is : y ≡ x = same_link y x (same_Some (monitor.Link y) (monitor.Link x) (sym here ∙ at)) in (
               told_link,
               subst (λ (k : ℕ). slice_get (set ms node (monitor.Link told_link)) k ≡ Some (monitor.Link told_link)) (sym same) (set_same ms node (monitor.Link x) (monitor.Link told_link) at),
-              Contains-append_left x.bases (base ∷ []) b (subst (λ (z : LinkTold). Contains z.bases b) is among),
+              Contains-append_left x (base ∷ []) b (subst (λ (z : List (List ℕ)). Contains z b) is among),
             )
         | inr other ↦ (y, set_other ms node m (monitor.Link told_link) other ∙ there, among)
       ]
@@ -92,7 +91,7 @@ module _ (rows : List Credential) (asked : Role) (g : GraphState) (ms : List Mon
         | inl same ↦
             let here : slice_get (set ms node (monitor.Link told_link)) node ≡ Some (monitor.Link y) = subst (λ (k : ℕ). slice_get (set ms node (monitor.Link told_link)) k ≡ Some (monitor.Link y)) same there in
             let is : y ≡ told_link = same_link y told_link (same_Some (monitor.Link y) (monitor.Link told_link) (sym here ∙ set_same ms node (monitor.Link x) (monitor.Link told_link) at)) in
-            elim (Contains-push_cases x.bases base b (subst (λ (z : LinkTold). Contains z.bases b) is among)) [
+            elim (Contains-push_cases x base b (subst (λ (z : List (List ℕ)). Contains z b) is among)) [
               | inl before ↦ inl (x, subst (λ (k : ℕ). slice_get ms k ≡ Some (monitor.Link x)) (sym same) at, before)
               | inr fresh ↦ inr (same, fresh)
             ]
@@ -131,7 +130,7 @@ module _ (rows : List Credential) (asked : Role) (g : GraphState) (ms : List Mon
   }
 
   pub base_taken : IsBaseTold new node base
-  base_taken = (told_link, set_same ms node (monitor.Link x) (monitor.Link told_link) at, Contains-push x.bases base)
+  base_taken = (told_link, set_same ms node (monitor.Link x) (monitor.Link told_link) at, Contains-push x base)
 
   pub base_steady : IsSteady rows asked old → ((r : Role) (t : List ℕ) → IsNode g node (Link r t) → IsAsked old node (port.Via base) (Rol (record { owner = base; name = t }))) → IsSteady rows asked new
   base_steady steady asks =

@@ -13,7 +13,7 @@ use Rattle.cred_graph.specs.declared.listeners.Port.TheVariants as port
 use Rattle.cred_graph.specs.declared.solutions.Reason.{Reason}
 use Rattle.cred_graph.specs.declared.solutions.Reason.TheVariants as reason
 use Rattle.cred_graph.specs.Graph.{Fits, GraphState, IsNode, ListenerGiven, NodeGiven, SolutionGiven, listeners_of, members_of}
-use Rattle.monitors.specs.LinkMonitor.{LinkTold, HearsBase}
+use Rattle.monitors.specs.LinkMonitor.{AddsKey}
 use Rattle.monitors.specs.MeetMonitor.{MeetTold, HearsPart, AllTold, with_tell}
 use Rattle.scholten_core.specs.declared.parents.Parent.{Parent}
 use Rattle.scholten_core.specs.declared.parents.Parent.TheVariants.{Environment, Node}
@@ -39,7 +39,7 @@ net_at s rest node = record { graph = s.graph; monitors = s.monitors; pending = 
 
 -- what a new node remembers: nothing was told yet
 abbrev pub new_monitor : Expr → Monitor
-new_monitor (Link r t) = monitor.Link (record { bases = []; members = [] })
+new_monitor (Link r t) = monitor.Link []
 new_monitor (Meet parts) = monitor.Meet (record { parts = length parts; told = set.empty })
 new_monitor _ = monitor.Plain
 
@@ -77,7 +77,7 @@ HearsAsk s t n m p =
 -- the monitor of a linked role hears a member of its base, and the answer says whether that is new
 abbrev pub BaseHeard : List Monitor → List Monitor → ℕ → List ℕ → Bool → Type 0
 BaseHeard ms ms' node base new =
-    (x y : LinkTold) × (slice_get ms node ≡ Some (monitor.Link x)) × HearsBase x y base new × (ms' ≡ slice_set ms node (monitor.Link y))
+    (x y : List (List ℕ)) × (slice_get ms node ≡ Some (monitor.Link x)) × AddsKey x y base new × (ms' ≡ slice_set ms node (monitor.Link y))
 
 -- a linked role is told a member of its base: where it is new, the member's role is asked
 abbrev pub TellsBase : Progress → Progress → ℕ → List ℕ → Type 0
@@ -115,7 +115,7 @@ TellsLast g ms n i who =
 abbrev pub MayTakeIn : GraphState → List Monitor → ℕ → ℕ → Port (List ℕ) → List ℕ → Type 0
 MayTakeIn g ms n m port.Body who = Fits g n who (reason.Body m)
 MayTakeIn g ms n m port.Base who =
-    ((r : Role) × (name : List ℕ) × IsNode g n (Link r name)) × ((x : LinkTold) × (slice_get ms n ≡ Some (monitor.Link x)))
+    ((r : Role) × (name : List ℕ) × IsNode g n (Link r name)) × ((x : List (List ℕ)) × (slice_get ms n ≡ Some (monitor.Link x)))
 MayTakeIn g ms n m (port.Via b) who = Fits g n who (reason.Via b)
 MayTakeIn g ms n m (port.Part i) who =
     ((x : MeetTold) × (slice_get ms n ≡ Some (monitor.Meet x)) × (i < x.parts)) × TellsLast g ms n i who

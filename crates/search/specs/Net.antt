@@ -16,7 +16,6 @@ use Rattle.cred_graph.specs.declared.solutions.Reason.{Reason}
 use Rattle.cred_graph.specs.declared.solutions.Reason.TheVariants as reason
 use Rattle.cred_graph.specs.declared.solutions.Solution.{Solution}
 use Rattle.cred_graph.specs.Graph.{GraphState, IsNode, IsSolution, Known, Listens, IsGraph}
-use Rattle.monitors.specs.LinkMonitor.{LinkTold}
 use Rattle.monitors.specs.MeetMonitor.{MeetTold, HasTold}
 use Rattle.scholten_core.specs.declared.parents.Parent.{Parent}
 use Rattle.scholten_core.specs.declared.parents.Parent.TheVariants.{Environment, Node}
@@ -67,7 +66,7 @@ IsPendingStart net = (n : ℕ) × Contains net.pending (record { from = Environm
 
 -- the linked role at m was told this member of its base
 abbrev pub IsBaseTold : Net → ℕ → List ℕ → Type 0
-IsBaseTold net m b = (x : LinkTold) × (slice_get net.monitors m ≡ Some (monitor.Link x)) × Contains x.bases b
+IsBaseTold net m b = (bases : List (List ℕ)) × (slice_get net.monitors m ≡ Some (monitor.Link bases)) × Contains bases b
 
 -- the intersection at m was told this entity by its part i
 abbrev pub IsPartTold : Net → ℕ → ℕ → List ℕ → Type 0

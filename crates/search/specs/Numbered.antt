@@ -59,8 +59,7 @@ IsStage nodes _ = Unit {0}
 -- what a node remembers
 abbrev pub monitor_at : List Expr → NumberedMonitor → Monitor
 monitor_at nodes numbered_monitor.Plain = monitor.Plain
-monitor_at nodes (numbered_monitor.Link x) =
-    monitor.Link (record { bases = map (entity_at nodes) x.bases; members = map (entity_at nodes) x.members })
+monitor_at nodes (numbered_monitor.Link x) = monitor.Link (map (entity_at nodes) x)
 monitor_at nodes (numbered_monitor.Meet x) = monitor.Meet (told_by (entity_at nodes) x)
 
 abbrev pub monitors_at : List Expr → List NumberedMonitor → List Monitor
@@ -69,7 +68,7 @@ monitors_at nodes ms = map (monitor_at nodes) ms
 -- the numbers that it remembers are entities'
 abbrev pub IsMonitor : List Expr → NumberedMonitor → Type 0
 IsMonitor nodes numbered_monitor.Plain = Unit {0}
-IsMonitor nodes (numbered_monitor.Link x) = All (IsEntity nodes) x.bases × All (IsEntity nodes) x.members
+IsMonitor nodes (numbered_monitor.Link x) = All (IsEntity nodes) x
 IsMonitor nodes (numbered_monitor.Meet x) = All (IsEntity nodes) (keys_of x.lines)
 
 abbrev pub AreMonitors : List Expr → List NumberedMonitor → Type 0

@@ -11,7 +11,6 @@ ghost use Rattle.search.specs.Answers.{row_asks, part_asks, own_rows, Opens, pro
 ghost use Rattle.search.specs.Numbered.{IsMonitor, monitor_at, IsLoad, load_at};
 ghost use Rattle.names.specs.declared.roles.Role.{Role};
 ghost use Rattle.credential_text.specs.declared.exprs.Expr.TheVariants as exprs;
-ghost use Rattle.monitors.specs.LinkMonitor.{LinkTold};
 ghost use Rattle.monitors.specs.MeetMonitor.{MeetTold};
 ghost use Rattle.search.specs.declared.findings.Monitor.TheVariants as Monitor;
 ghost use Rattle.snapshots.specs.Span.{role_rows, span_of};
@@ -23,7 +22,7 @@ use crate::findings::{Findings, NumberedMonitor};
 use crate::letters::{Held, Load};
 use cred_graph::{Graph, Port, Reason};
 use credential_text::{Expr, Part};
-use monitors::{KeyedMeet, LinkMonitor};
+use monitors::{KeyedMeet, ToldKeys};
 use names::Role;
 use scholten_core::Parent;
 use snapshots::{Snapshot, Span};
@@ -37,7 +36,7 @@ fn monitor_for(alloc: Global, expr: &Expr) -> NumberedMonitor
     match expr {
         Expr::Ent(_entity) => NumberedMonitor::Plain,
         Expr::Rol(_role) => NumberedMonitor::Plain,
-        Expr::Link(_base, _name) => NumberedMonitor::Link(LinkMonitor::new(alloc)),
+        Expr::Link(_base, _name) => NumberedMonitor::Link(ToldKeys::new(alloc)),
         Expr::Meet(parts) => NumberedMonitor::Meet(KeyedMeet::make(
             alloc,
             parts.as_slice().len() as u8,
@@ -139,13 +138,13 @@ fn given_role(graph: &Graph, node: u64, base: u32) -> Expr
 fn told_base(found: &mut Findings, node: u64, base: u32) -> Result<(), AllocError>
     requires entity { IsEntity found.old.graph.nodes base }
     requires link { (r : Role) × (name : List ℕ) × IsNode found.old.graph node (exprs.Link r name) }
-    requires monitor { (x : LinkTold) × (slice_get found.old.monitors node ≡ Some (Monitor.Link x)) }
+    requires monitor { (x : List (List ℕ)) × (slice_get found.old.monitors node ≡ Some (Monitor.Link x)) }
     ensures { OnOk result (TellsBase found.old found.new node (entity_at found.old.graph.nodes base)) }
 {
     let NumberedMonitor::Link(told) = &mut found.monitors[node as usize] else {
         unreachable!()
     };
-    if !told.base_told(base)? {
+    if !told.hear(base)? {
         return Ok(());
     }
     let role = given_role(found.graph(), node, base);

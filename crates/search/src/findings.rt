@@ -6,7 +6,7 @@ use crate::answers::node_for;
 use crate::letters::Load;
 use cred_graph::{Graph, Port};
 use credential_text::Expr;
-use monitors::{KeyedMeet, LinkMonitor, MeetMonitor};
+use monitors::{KeyedMeet, MeetMonitor, ToldKeys};
 use names::Role;
 use std::alloc::{AllocError, Global};
 use std::collections::VecDeque;
@@ -16,7 +16,8 @@ use std::marker::Model;
 pub enum Monitor {
     /// An entity or a role remembers its solutions alone.
     Plain,
-    Link(LinkMonitor),
+    /// A linked role remembers the members of its base.
+    Link(ToldKeys),
     Meet(MeetMonitor),
 }
 
@@ -24,7 +25,7 @@ pub enum Monitor {
 #[derive(Drop)]
 pub enum NumberedMonitor {
     Plain,
-    Link(LinkMonitor<u32>),
+    Link(ToldKeys<u32>),
     Meet(KeyedMeet<u32>),
 }
 

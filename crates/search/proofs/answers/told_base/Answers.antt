@@ -8,30 +8,29 @@ use Rattle.credential_text.specs.declared.exprs.Expr.TheVariants.{Link, Rol}
 use Rattle.cred_graph.specs.declared.listeners.Port.TheVariants as port
 use Rattle.cred_graph.specs.Graph.{GraphState, IsNode}
 use Rattle.cred_graph.specs.Numbers.{IsEntity, entity_at}
-use Rattle.monitors.specs.LinkMonitor.{LinkTold, LinkToldBy}
 use Rattle.search.specs.declared.findings.Monitor.TheVariants as monitor
 use Rattle.search.specs.declared.findings.NumberedMonitor.TheVariants as numbered_monitor
 use Rattle.search.specs.Answers.{Progress, AsksFor, BaseHeard}
 use Rattle.search.specs.Numbered.{AreNumbered, monitors_at, progress_at}
 use Rattle.search.proofs.Heard.{base_heard, link_after, link_at_node, monitor_there, read_there, still_monitors}
-use Rattle.search.proofs.answers.told_base.Goals.{After-found, After-base_told, In_ok-base_told}
+use Rattle.search.proofs.answers.told_base.Goals.{After-found, After-hear, In_ok-hear}
 use Rattle.search.proofs.answers.told_base.Goals as goal
 
 is_entity : (c : After-found) → IsEntity c.found.inside.graph.nodes c.args.base
 is_entity c = subst (λ (s : Progress). IsEntity s.graph.nodes c.args.base) (sym c.found.view_is) c.requires.entity
 
 -- the monitor at the node is a linked role's
-there : (c : After-found) → (x : LinkToldBy ℕ) × (slice_get c.found.inside.monitors.items c.args.node ≡ Some (numbered_monitor.Link x))
+there : (c : After-found) → (x : List ℕ) × (slice_get c.found.inside.monitors.items c.args.node ≡ Some (numbered_monitor.Link x))
 there c =
-    let at = subst (λ (s : Progress). (x : LinkTold) × (slice_get s.monitors c.args.node ≡ Some (monitor.Link x))) (sym c.found.view_is) c.requires.monitor in
+    let at = subst (λ (s : Progress). (x : List (List ℕ)) × (slice_get s.monitors c.args.node ≡ Some (monitor.Link x))) (sym c.found.view_is) c.requires.monitor in
     link_at_node c.found.inside.graph.nodes c.found.inside.monitors.items c.args.node at.0 at.1
 
-told_at : (c : After-base_told) → (x : LinkToldBy ℕ) → slice_get c.found.inside.monitors.items c.args.node ≡ Some (numbered_monitor.Link x) → slice_get c.found.inside.monitors.items c.args.node ≡ Some (numbered_monitor.Link c.in-Link.told)
+told_at : (c : After-hear) → (x : List ℕ) → slice_get c.found.inside.monitors.items c.args.node ≡ Some (numbered_monitor.Link x) → slice_get c.found.inside.monitors.items c.args.node ≡ Some (numbered_monitor.Link c.in-Link.told)
 told_at c x at = read_there c.found.inside.monitors.items c.args.node (numbered_monitor.Link x) _ (numbered_monitor.Link c.in-Link.told) at c.index_mut.ensures.value c.in-Link.is
 
 -- what was told is of entities
-still : (c : After-base_told) → IsEntity c.found.inside.graph.nodes c.args.base → (x : LinkToldBy ℕ) × (slice_get c.found.inside.monitors.items c.args.node ≡ Some (numbered_monitor.Link x)) →
-    AreNumbered c.found.inside.graph (set c.found.inside.monitors.items c.args.node (numbered_monitor.Link c.base_told.new.self)) c.found.inside.outs.items
+still : (c : After-hear) → IsEntity c.found.inside.graph.nodes c.args.base → (x : List ℕ) × (slice_get c.found.inside.monitors.items c.args.node ≡ Some (numbered_monitor.Link x)) →
+    AreNumbered c.found.inside.graph (set c.found.inside.monitors.items c.args.node (numbered_monitor.Link c.hear.new.self)) c.found.inside.outs.items
 still c is (x, at) =
     let nodes = c.found.inside.graph.nodes in
     let ms = c.found.inside.monitors.items in
@@ -39,7 +38,7 @@ still c is (x, at) =
     let own = monitor_there nodes ms c.args.node (numbered_monitor.Link c.in-Link.told) are.monitors (told_at c x at) in record {
       once = are.once;
       loads = are.loads;
-      monitors = still_monitors nodes ms c.args.node (numbered_monitor.Link c.base_told.new.self) are.monitors (link_after nodes c.in-Link.told c.base_told.new.self c.args.base c.base_told.result own is c.base_told.ensures.ok c.base_told.ensures.unchanged);
+      monitors = still_monitors nodes ms c.args.node (numbered_monitor.Link c.hear.new.self) are.monitors (link_after nodes c.in-Link.told c.hear.new.self c.args.base c.hear.result own is c.hear.ensures.ok c.hear.ensures.unchanged);
       ports = are.ports;
     }
 
@@ -57,17 +56,17 @@ unreachable-requires c =
 pub invariant_of-found : goal.invariant_of-found
 invariant_of-found c =
     let at = goal.at.invariant_of-found c in
-    still at.After-base_told (is_entity at.After-found) (there at.After-found)
+    still at.After-hear (is_entity at.After-found) (there at.After-found)
 
 pub invariant_of-found-then-not-branch : goal.invariant_of-found-then-not-branch
 invariant_of-found-then-not-branch c =
     let at = goal.at.invariant_of-found-then-not-branch c in
-    still at.After-base_told (is_entity at.After-found) (there at.After-found)
+    still at.After-hear (is_entity at.After-found) (there at.After-found)
 
 pub invariant_of-found-2 : goal.invariant_of-found-2
 invariant_of-found-2 c =
     let at = goal.at.invariant_of-found-2 c in
-    still at.After-base_told (is_entity at.After-found) (there at.After-found)
+    still at.After-hear (is_entity at.After-found) (there at.After-found)
 
 pub given_role-role-requires : goal.given_role-role-requires
 given_role-role-requires c =
@@ -78,29 +77,29 @@ pub ask-requires : goal.ask-requires
 ask-requires c = is_entity (goal.at.ask-requires c).After-found
 
 -- the base told a member
-heard : (c : In_ok-base_told) → IsEntity c.found.inside.graph.nodes c.args.base → slice_get c.found.inside.monitors.items c.args.node ≡ Some (numbered_monitor.Link c.in-Link.told) →
-    BaseHeard c.args.found.now.monitors (monitors_at c.found.inside.graph.nodes (set c.found.inside.monitors.items c.args.node (numbered_monitor.Link c.base_told.new.self))) c.args.node (entity_at c.args.found.now.graph.nodes c.args.base) c.in_ok-base_told.field-0
+heard : (c : In_ok-hear) → IsEntity c.found.inside.graph.nodes c.args.base → slice_get c.found.inside.monitors.items c.args.node ≡ Some (numbered_monitor.Link c.in-Link.told) →
+    BaseHeard c.args.found.now.monitors (monitors_at c.found.inside.graph.nodes (set c.found.inside.monitors.items c.args.node (numbered_monitor.Link c.hear.new.self))) c.args.node (entity_at c.args.found.now.graph.nodes c.args.base) c.in_ok-hear.field-0
 heard c is at =
     let old = c.found.inside in
-    let told = monitors_at old.graph.nodes (set old.monitors.items c.args.node (numbered_monitor.Link c.base_told.new.self)) in
-    subst (λ (s : Progress). BaseHeard s.monitors told c.args.node (entity_at s.graph.nodes c.args.base) c.in_ok-base_told.field-0) c.found.view_is
-    (base_heard old.graph.nodes c.found.invariant.once old.monitors.items c.args.node c.in-Link.told c.base_told.new.self c.args.base c.in_ok-base_told.field-0 c.found.invariant.monitors at is c.in_ok-base_told.ensures.ok)
+    let told = monitors_at old.graph.nodes (set old.monitors.items c.args.node (numbered_monitor.Link c.hear.new.self)) in
+    subst (λ (s : Progress). BaseHeard s.monitors told c.args.node (entity_at s.graph.nodes c.args.base) c.in_ok-hear.field-0) c.found.view_is
+    (base_heard old.graph.nodes c.found.invariant.once old.monitors.items c.args.node c.in-Link.told c.hear.new.self c.args.base c.in_ok-hear.field-0 c.found.invariant.monitors at is c.in_ok-hear.ensures.ok)
 
 pub returns-then-not-branch : goal.returns-then-not-branch
 returns-then-not-branch c =
     let at = goal.at.returns-then-not-branch c in
     let old = c.found.inside in
     let (r, name, node) = c.requires.link in
-    let told = set old.monitors.items c.args.node (numbered_monitor.Link c.base_told.new.self) in
+    let told = set old.monitors.items c.args.node (numbered_monitor.Link c.hear.new.self) in
     let (x, there) = there at.After-found in
-    (r, name, node, (c.in_ok-base_told.field-0, monitors_at old.graph.nodes told, heard at.In_ok-base_told (is_entity at.After-found) (told_at at.After-base_told x there), inl (c.if-not-branch.true, ap (λ (s : Progress). record s { monitors = monitors_at old.graph.nodes told }) c.found.view_is)))
+    (r, name, node, (c.in_ok-hear.field-0, monitors_at old.graph.nodes told, heard at.In_ok-hear (is_entity at.After-found) (told_at at.After-hear x there), inl (c.if-not-branch.true, ap (λ (s : Progress). record s { monitors = monitors_at old.graph.nodes told }) c.found.view_is)))
 
 pub returns : goal.returns
 returns c =
     let at = goal.at.returns c in
     let old = c.found.inside in
     let (r, name, node) = c.requires.link in
-    let told = monitors_at old.graph.nodes (set old.monitors.items c.args.node (numbered_monitor.Link c.base_told.new.self)) in
+    let told = monitors_at old.graph.nodes (set old.monitors.items c.args.node (numbered_monitor.Link c.hear.new.self)) in
     let (x, there) = there at.After-found in
     let here : c.graph.result.now ≡ c.args.found.now.graph = c.graph.ensures.graph ∙ ap (λ (s : Progress). s.graph) c.found.view_is in
     let linked = subst (λ (g : GraphState). IsNode g c.args.node (Link r name)) (sym here) node in
@@ -111,9 +110,9 @@ returns c =
       name,
       node,
       (
-        c.in_ok-base_told.field-0,
+        c.in_ok-hear.field-0,
         told,
-        heard at.In_ok-base_told (is_entity at.After-found) (told_at at.After-base_told x there),
+        heard at.In_ok-hear (is_entity at.After-found) (told_at at.After-hear x there),
         inr (
           c.if-not-branch.false,
           subst (λ (s : Progress). AsksFor (record s { monitors = told }) c.ask.new.found (Rol (record { owner = entity_at c.args.found.now.graph.nodes c.args.base; name = name })) (port.Via (entity_at s.graph.nodes c.args.base))) c.found.view_is
@@ -123,7 +122,7 @@ returns c =
     ))
     c.ask.ensures
 
-pub returns-in_err-base_told : goal.returns-in_err-base_told
-returns-in_err-base_told c =
+pub returns-in_err-hear : goal.returns-in_err-hear
+returns-in_err-hear c =
     let p = err_from_is_err_and c.from_residual.result c.from_residual.ensures.1 in
     rw p.1 tt
