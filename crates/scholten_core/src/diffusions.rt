@@ -76,6 +76,28 @@ impl<P: Drop> Diffusion<P> {
         })
     }
 
+    /// Another computation begins in the same tables: the environment sends its first letter, to the root. Where memory is refused,
+    /// nothing changes.
+    pub fn restart(&mut self, root: u64, load: P) -> Result<(), AllocError>
+        ensures started { OnOk result (self.new ≡ started root load) }
+        ensures unchanged { OnErr result (self.new ≡ self.old) }
+        ensures sound { IsSound self.new }
+    {
+        self.letters.reserve(1)?;
+        self.letters.restart();
+        self.signals.clear();
+        self.nodes.clear();
+        self.environment = 1;
+        let first = Letter {
+            from: Parent::Environment,
+            to: root,
+            held: false,
+            load,
+        };
+        self.letters.push(first);
+        Ok(())
+    }
+
     /// How many letters were ever sent.
     pub fn sent(&self) -> u64
         ensures { result ≡ self.now.sent }

@@ -253,6 +253,21 @@ impl<P: Drop> LetterTable<P> {
         })
     }
 
+    /// No letter, and none was sent: as it was made, with the room that it has.
+    pub(crate) fn restart(&mut self)
+        ensures sent { self.new.sent ≡ 0 }
+        ensures letters { self.new.letters ≡ [] }
+        ensures room { self.old.room ≤ self.new.room }
+    {
+        self.letters.clear();
+        self.sent = 0;
+        self.waits = 0;
+        self.holes = 0;
+        self.first = 0;
+        self.last = 0;
+        self.hand = 0;
+    }
+
     pub(crate) fn sent(&self) -> u64
         ensures { result ≡ self.now.sent }
     {

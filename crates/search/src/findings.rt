@@ -152,6 +152,11 @@ impl Findings {
         Ok(())
     }
 
+    // Whether the tables have room for no more than a small search needs.
+    pub(crate) fn is_small(&self) -> bool {
+        self.monitors.capacity() as u64 <= MOST_NODES
+    }
+
     // The list of answers is empty, with the room that it had if that isn't much.
     pub(crate) fn clear(&mut self)
         ensures { self.new ≡ record self.old { outs = [] } }

@@ -21,8 +21,8 @@ use crate::letters::{Held, Load};
 use crate::members::solutions_in_order;
 use crate::outcomes::{Finished, Status};
 use crate::queries::{Hint, Need, Query, Task};
-use crate::stages::{NumberedStage, Stage, break_off, deliver, held_letter, hold, send};
-use crate::tables::Tables;
+use crate::stages::{NumberedStage, Stage, break_off, deliver, give_back, held_letter, hold, send};
+use crate::tables::{Tables, begin};
 use cred_graph::{Graph, Port};
 use names::{Entity, Role};
 use scholten_core::Diffusion;
@@ -38,6 +38,8 @@ pub struct Search {
     snapshot: Arc<Snapshot>,
     found: Findings,
     stage: NumberedStage,
+    // Whether it keeps the room of its tables once it is completed, where that isn't much.
+    keeps_room: bool,
     alloc: Global,
 }
 
@@ -80,6 +82,7 @@ impl Drop for Search {
             snapshot: _snapshot,
             found: _found,
             stage: _stage,
+            keeps_room: _,
             alloc: _alloc,
         } = self;
     }
@@ -115,9 +118,9 @@ impl Search {
         requires { 0 < work }
         ensures { IfOk result (λ s. s ≡ new_search query work (arc_value snapshot)) }
     {
-        let Tables { mut found } = tables;
+        let Tables { mut found, letters } = tables;
         found.first(query.role())?;
-        let running = Diffusion::start(alloc, 0, Load::Start)?;
+        let running = begin(alloc, letters)?;
         let _ports: Option<Port> = None;
         Ok(Search {
             query,
@@ -125,6 +128,7 @@ impl Search {
             snapshot,
             found,
             stage: NumberedStage::Running(running),
+            keeps_room: true,
             alloc,
         })
     }
@@ -136,11 +140,26 @@ impl Search {
             work: _work,
             snapshot: _snapshot,
             mut found,
-            stage: _stage,
+            stage,
+            keeps_room: _,
             alloc: _alloc,
         } = self;
+        let letters = if found.is_small() {
+            stage.into_completed()
+        } else {
+            None
+        };
         found.forget();
-        Tables { found }
+        Tables { found, letters }
+    }
+
+    /// Gives back the memory that nothing takes, where the search is completed, and else as soon as it is. Before that is asked, a
+    /// search that isn't large keeps the room of its tables, for the next one that is opened in them.
+    pub fn give_back(&mut self)
+        ensures { self.new ≡ self.old }
+    {
+        self.keeps_room = false;
+        give_back(&mut self.stage, &mut self.found);
     }
 
     /// How many letters wait.
@@ -314,7 +333,7 @@ impl Search {
         ensures question { SameQuestion self.old self.new }
         ensures settles { Settles self.old self.new }
     {
-        deliver(&mut self.stage, &mut self.found, place)
+        deliver(&mut self.stage, &mut self.found, place, self.keeps_room)
     }
 
     /// Whether nothing of the search can be carried on before a letter that is held comes back. Where none is held, the

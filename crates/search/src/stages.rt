@@ -40,6 +40,16 @@ impl Drop for NumberedStage {
     }
 }
 
+impl NumberedStage {
+    // The computation of a search that is completed.
+    pub(crate) fn into_completed(self) -> Option<Diffusion<Load<u32>>> {
+        match self {
+            NumberedStage::Running(running) if running.is_complete() => Some(running),
+            _ => None,
+        }
+    }
+}
+
 // The held letter of that number.
 pub(crate) fn held_letter(stage: &NumberedStage, number: u64) -> Option<Held<Load<u32>>>
     ensures held { (nodes : List Expr) → MatchOption result (held_in (stage_at nodes stage.now) number ≡ None)
@@ -124,9 +134,41 @@ pub(crate) fn break_off(stage: &mut NumberedStage)
     *stage = NumberedStage::Broken;
 }
 
-// The signal at that place is delivered, where there is one. With the last one the memory that nothing takes is given back.
+// Gives back the memory that nothing takes, unless it is kept and isn't much.
+#[cold]
+#[inline(never)]
+fn rest(running: &mut Diffusion<Load<u32>>, found: &mut Findings, keeps_room: bool)
+    ensures same { running.new ≡ running.old }
+    ensures findings { (found.new.graph ≡ found.old.graph) × (found.new.monitors ≡ found.old.monitors) }
+{
+    if keeps_room && found.is_small() {
+        return;
+    }
+    running.give_back();
+    found.give_back();
+}
+
+// Gives back the memory that nothing takes, where nothing is outstanding.
+pub(crate) fn give_back(stage: &mut NumberedStage, found: &mut Findings)
+    ensures same { stage.new ≡ stage.old }
+    ensures findings { (found.new.graph ≡ found.old.graph) × (found.new.monitors ≡ found.old.monitors) }
+{
+    if let NumberedStage::Running(running) = stage {
+        if running.is_complete() {
+            rest(running, found, false);
+        }
+    }
+}
+
+// The signal at that place is delivered, where there is one. With the last one the memory that nothing takes is given back, unless
+// a search that isn't large keeps it.
 #[inline(always)]
-pub(crate) fn deliver(stage: &mut NumberedStage, found: &mut Findings, place: u64) -> bool
+pub(crate) fn deliver(
+    stage: &mut NumberedStage,
+    found: &mut Findings,
+    place: u64,
+    keeps_room: bool,
+) -> bool
     ensures delivers { (nodes : List Expr) → Delivers (stage_at nodes stage.old) (stage_at nodes stage.new) place result }
     ensures findings { (found.new.graph ≡ found.old.graph) × (found.new.monitors ≡ found.old.monitors) }
     ensures loads { (nodes : List Expr) → IsStage nodes stage.old → IsStage nodes stage.new }
@@ -139,8 +181,7 @@ pub(crate) fn deliver(stage: &mut NumberedStage, found: &mut Findings, place: u6
     }
     running.signal(place);
     if running.is_complete() {
-        running.give_back();
-        found.give_back();
+        rest(running, found, keeps_room);
     }
     true
 }

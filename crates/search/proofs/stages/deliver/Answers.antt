@@ -45,9 +45,9 @@ loads c nodes are = subst (AreLetters nodes) (sym c.signal.ensures.letters) (loa
 pub returns-then-is_complete : goal.returns-then-is_complete
 returns-then-is_complete c =
     let at = (goal.at.returns-then-is_complete c).After-signal in record {
-      delivers = λ nodes. subst (λ (e : Computation (Load ℕ)). Delivers (stage_at nodes c.args.stage.now) (stage_at nodes (numbered_stage.Running e)) c.args.place true) (sym c.give_back.ensures) (delivers at nodes);
-      findings = (ap (λ (s : Progress). s.graph) c.give_back-then-is_complete.ensures, ap (λ (s : Progress). s.monitors) c.give_back-then-is_complete.ensures);
-      loads = λ nodes are. subst (λ (e : Computation (Load ℕ)). IsStage nodes (numbered_stage.Running e)) (sym c.give_back.ensures) (loads at nodes are);
+      delivers = λ nodes. subst (λ (e : Computation (Load ℕ)). Delivers (stage_at nodes c.args.stage.now) (stage_at nodes (numbered_stage.Running e)) c.args.place true) (sym c.rest.ensures.same) (delivers at nodes);
+      findings = c.rest.ensures.findings;
+      loads = λ nodes are. subst (λ (e : Computation (Load ℕ)). IsStage nodes (numbered_stage.Running e)) (sym c.rest.ensures.same) (loads at nodes are);
     }
 
 pub returns-else-is_complete : goal.returns-else-is_complete

@@ -1,0 +1,23 @@
+use Rattle.std.proofs.Common.{refl, ap, arith}
+use Rattle.scholten_core.specs.LetterTable.{standing}
+use Rattle.scholten_core.proofs.letter_tables.LetterTable.restart.Goals as goal
+
+pub invariant_of-self : goal.invariant_of-self
+invariant_of-self g c =
+    rw c.clear.ensures.empty (record {
+      numbers = omega arith;
+      waiting = refl;
+      gone = refl;
+      before = refl;
+      all = refl;
+      within_first = omega arith;
+      within_last = omega arith;
+    })
+
+pub returns : goal.returns
+returns g c =
+    rw (← c.self.view_is) (record {
+      sent = refl;
+      letters = ap standing c.clear.ensures.empty;
+      room = omega (arith, c.clear.ensures.capacity);
+    })
