@@ -101,6 +101,15 @@ impl OpenSearch {
         Ok(Some(self.carried.lend(alloc)?))
     }
 
+    /// Keeps no more room than it needs: from now on, where it isn't completed yet.
+    pub(crate) fn give_back(&mut self)
+        ensures { self.new ≡ self.old }
+    {
+        if let LendableSearch::Own(search) = &mut self.carried {
+            search.give_back();
+        }
+    }
+
     /// Hands in the letters of the batch, which are of this search under that name, and goes on with it where that is asked and
     /// anything of it is left to do. Answers how many letters are done, and how it went on.
     #[inline(always)]

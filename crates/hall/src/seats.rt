@@ -118,6 +118,7 @@ impl Seat {
         let work = self.limits.work();
         self.searches
             .insert(number, begin(alloc, book, who, query, work, spare)?)?;
+        give_back(&mut self.searches, self.opens);
         self.opens = number;
         Ok(number)
     }
@@ -152,6 +153,15 @@ impl Seat {
             changes: counts.changes,
             opens: self.opens,
         }
+    }
+}
+
+/// The search of the number, which another one follows, keeps no more room than it needs.
+fn give_back(searches: &mut IndexMap<u64, OpenSearch>, number: u64)
+    ensures { searches.new.entries ≡ searches.old.entries }
+{
+    if let Some(opened) = searches.get_mut(&number) {
+        opened.give_back();
     }
 }
 

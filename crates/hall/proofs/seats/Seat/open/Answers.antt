@@ -61,7 +61,8 @@ begun c = c.in_ok-begin.ensures.begun ∙ ap (beginning c.args.book.now c.args.w
 pub returns : goal.returns
 returns c =
     let s = c.self.inside in
-    let searches = inserted numbers_exact (◌==◌) unsigned_tied s.searches c.insert.new.self (s.opens + 1) c.in_ok-begin.field-0 c.in_ok-insert.ensures.updates
+    let searches = ap (from_entries {R = _}) c.give_back.ensures
+    ∙ inserted numbers_exact (◌==◌) unsigned_tied s.searches c.insert.new.self (s.opens + 1) c.in_ok-begin.field-0 c.in_ok-insert.ensures.updates
     ∙ ap (insert (from_entries s.searches.entries) (s.opens + 1)) (begun (goal.at.returns c).After-branch-insert) in
     record {
       allowed = allowed (goal.at.returns c).After-branch-enter;
