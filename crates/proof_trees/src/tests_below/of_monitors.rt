@@ -2,7 +2,7 @@ ghost use Rattle.std.specs.Prelude.{◌≡◌, ◌<◌, OnOk, Contains};
 
 use monitors::{LinkMonitor, MeetMonitor};
 use names::{Entity, NameFault};
-use std::alloc::AllocError;
+use std::alloc::{AllocError, Global};
 use std::test::Fail;
 
 /// Tells it again where memory is refused, so that a test sees that the refusal changed nothing.
@@ -198,16 +198,34 @@ fn nine() -> Result<[Entity; 9], NameFault> {
     Ok(entities)
 }
 
-/// A linked role hears each member once, and an intersection its last part; and a refused telling changes neither.
+/// Whether a linked role hears each member once; and a refused telling changes nothing.
+fn links_hear(alloc: Global, entities: &[Entity; 9]) -> Result<bool, Fail> {
+    let is_once = hears_once(&mut LinkMonitor::new(alloc), entities[0], entities[1])?;
+    Ok(is_once && first_unheard(&mut LinkMonitor::new(alloc), entities)?.is_none())
+}
+
+/// Whether an intersection of two parts, and one of three, hear their last part once.
+fn meets_hear_parts(alloc: Global) -> Result<bool, Fail> {
+    Ok(
+        hears_parts(&mut MeetMonitor::make(alloc, 2), 2, &TWO_PARTS)?
+            && hears_parts(&mut MeetMonitor::make(alloc, 3), 3, &THREE_PARTS)?,
+    )
+}
+
+/// Whether an intersection of two parts hears the last of each entity once; and a refused telling changes nothing.
+fn meets_hear_entities(alloc: Global, entities: &[Entity; 9]) -> Result<bool, AllocError> {
+    let mut monitor = MeetMonitor::make(alloc, 2);
+    Ok(
+        first_complete(&mut monitor, entities)?.is_none()
+            && first_incomplete(&mut monitor, entities)?.is_none(),
+    )
+}
+
 #[test]
 fn monitors_hear_each_once(rt: HostRuntime) -> Result<(), Fail> {
     let entities = nine()?;
-    assert!(rt; hears_once(&mut LinkMonitor::new(rt.alloc()), entities[0], entities[1])?);
-    assert!(rt; first_unheard(&mut LinkMonitor::new(rt.alloc()), &entities)?.is_none());
-    assert!(rt; hears_parts(&mut MeetMonitor::make(rt.alloc(), 2), 2, &TWO_PARTS)?);
-    assert!(rt; hears_parts(&mut MeetMonitor::make(rt.alloc(), 3), 3, &THREE_PARTS)?);
-    let mut monitor = MeetMonitor::make(rt.alloc(), 2);
-    assert!(rt; first_complete(&mut monitor, &entities)?.is_none());
-    assert!(rt; first_incomplete(&mut monitor, &entities)?.is_none());
+    assert!(rt; links_hear(rt.alloc(), &entities)?);
+    assert!(rt; meets_hear_parts(rt.alloc())?);
+    assert!(rt; meets_hear_entities(rt.alloc(), &entities)?);
     Ok(())
 }
