@@ -177,7 +177,7 @@ impl<P: Drop> Diffusion<P> {
     {
         self.letters.reserve(outs.len())?;
         self.signals.reserve(1)?;
-        let at = self.letters.find(number).unwrap();
+        let at = self.letters.place(number);
         let letter = self.letters.letter_there(at);
         let (from, to) = (letter.from, letter.to);
         let by = receive(&mut self.nodes, from, to, outs.len() as u64)?;

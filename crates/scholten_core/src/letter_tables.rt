@@ -298,6 +298,18 @@ impl<P: Drop> LetterTable<P> {
         place_of(&self.letters, self.hand, number)
     }
 
+    /// Where the number of a held letter stands.
+    #[inline(always)]
+    pub(crate) fn place(&self, number: u64) -> usize
+        requires { IsHeldIn self.now.letters number }
+        ensures { StandsAt self.now number result }
+    {
+        if stands_at(&self.letters, self.hand, number) {
+            return self.hand;
+        }
+        place_near(&self.letters, self.hand, number).unwrap()
+    }
+
     /// The letter whose number stands there, where it waits or is held.
     #[inline(always)]
     pub(crate) fn letter_at(&self, at: usize) -> Option<&Letter<P>>

@@ -78,7 +78,7 @@ done : (g : Over) (c : After-send g) → IsFinishedIn (held_in c.self.inside.let
 done g c =
     let l = c.letter_there-letter.result.now in
     let outs = c.args.outs.now.items in
-    let stands = rw c.unwrap-at.ensures at c.find.ensures.found in
+    let stands = c.place-at.ensures in
     let got = c.letter_there-letter.ensures c.args.number stands in
     let found = sym (ap (lookup (λ n. n == c.args.number)) c.reserve.ensures.letters) ∙ got in
     let to = Node l.to in
@@ -118,19 +118,18 @@ held g c =
     let is_held = rw (← c.self.view_is) at c.requires.held in
     subst (λ letters. IsHeldIn letters c.args.number) (sym c.reserve.ensures.letters) is_held
 
-pub unwrap-at-requires : goal.unwrap-at-requires
-unwrap-at-requires g c =
-    held_found c.reserve.new.self.letters c.args.number (held g (goal.at.unwrap-at-requires g c).After-reserve) c.find.result c.find.ensures.none
+pub place-at-requires : goal.place-at-requires
+place-at-requires g c = held g (goal.at.place-at-requires g c).After-reserve
 
 pub letter_there-letter-requires : goal.letter_there-letter-requires
 letter_there-letter-requires g c =
-    let stands = rw c.unwrap-at.ensures at c.find.ensures.found in
+    let stands = c.place-at.ensures in
     let is_held = held g (goal.at.letter_there-letter-requires g c).After-reserve in
     (c.args.number, stands, held_found c.reserve.new.self.letters c.args.number is_held (lookup (λ n. n == c.args.number) c.reserve.new.self.letters) (λ none. none))
 
 pub finish-requires : goal.finish-requires
 finish-requires g c =
-    (c.args.number, rw c.unwrap-at.ensures at c.find.ensures.found, held g (goal.at.finish-requires g c).After-reserve)
+    (c.args.number, c.place-at.ensures, held g (goal.at.finish-requires g c).After-reserve)
 
 pub send-requires : goal.send-requires
 send-requires g c =
