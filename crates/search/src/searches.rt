@@ -318,8 +318,8 @@ impl Search {
         self.found.clear();
         match receive(&mut self.found, snapshot, held, looked_up) {
             Ok(()) => send(&mut self.stage, self.work, letter, &mut self.found),
-            Err(_refusal) => {
-                break_off(&mut self.stage);
+            Err(refusal) => {
+                break_off(&mut self.stage, refusal);
                 Finished::Broken
             }
         }

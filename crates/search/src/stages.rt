@@ -11,6 +11,7 @@ use crate::findings::Findings;
 use crate::letters::{Held, Load};
 use crate::outcomes::Finished;
 use scholten_core::Diffusion;
+use std::alloc::AllocError;
 
 /// Where a search stands, as contracts see it.
 pub enum Stage {
@@ -125,10 +126,10 @@ pub(crate) fn send(
     Finished::Done
 }
 
-// The search is broken. This stands apart, so that a receipt that isn't refused makes no other stage.
+// The search is broken by want of memory. This stands apart, so that a receipt that isn't refused makes no other stage.
 #[cold]
 #[inline(never)]
-pub(crate) fn break_off(stage: &mut NumberedStage)
+pub(crate) fn break_off(stage: &mut NumberedStage, _refusal: AllocError)
     ensures { stage.new ≡ NumberedStage.Broken }
 {
     *stage = NumberedStage::Broken;
