@@ -14,10 +14,11 @@ use Rattle.search.specs.declared.{queries.Hint.Hint, queries.Need.Need, stages.S
 use Rattle.search.specs.{Finish.right_hint, Net.Said, Search.SearchState, Search.IsSoundStage, Stage.held_in, Stage.stage_marked, Stage.Delivers}
 use Rattle.hall.specs.declared.batches.{HeldLetter.HeldLetter, NamedSearch.NamedSearch}
 use Rattle.hall.specs.declared.calls.steps.{Step.Step, Stepped.Stepped}
+use Rattle.hall.specs.declared.calls.steps.Stepped.TheVariants as stepped
 use Rattle.search.specs.declared.outcomes.Finished.{Finished}
 use Rattle.search.specs.declared.outcomes.Finished.TheVariants as finished
-use Rattle.hall.specs.Steps.{StepsEach, PutsBack, finish_answer, gave_back}
-use Rattle.hall.specs.Batches.{Named, BatchState, batch_of, IsBatch, IsLookedUpIn, IsNextLetter, named, letter_of}
+use Rattle.hall.specs.Steps.{StepsEach, PutsBack, finish_answer}
+use Rattle.hall.specs.Batches.{Named, BatchState, batch_of, IsBatch, IsLookedUpIn, named, letter_of}
 use Rattle.hall.specs.Work.{HandsIn, GoesOn, handing_in, going_on, went_on, is_done}
 use Rattle.hall.specs.Working.{HandsInOne, MakesStep}
 use Rattle.hall.proofs.InRow.{each_more}
@@ -38,7 +39,7 @@ filled_none of (e ∷ es) has room none same = cc
 
 -- the letter that is looked up next
 pub next_letter : (of : Option NamedSearch) (es : List HeldLetter) (looked room : ℕ) (e : HeldLetter) → slice_get es looked ≡ Some e →
-    IsNextLetter (batch of es looked room) e.letter
+    (need : Need) × (slice_get (map letter_of es) looked ≡ Some (e.letter, need))
 next_letter of es looked room e at = (e.need, slice_get-map letter_of es looked ∙ ap (option_map letter_of) at)
 
 -- where a letter is left to look up a search is named
@@ -145,7 +146,7 @@ isnt true never = absurd (never refl)
 isnt false never = refl
 
 -- what is given back isn't done, and a letter is where its search says so
-pub given_back : (back : Bool) → false ≡ is_done (gave_back back)
+pub given_back : (back : Bool) → false ≡ is_done (if back then stepped.Back else stepped.NotHeld)
 given_back true = refl
 given_back false = refl
 

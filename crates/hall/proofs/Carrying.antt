@@ -1,5 +1,5 @@
 -- A step of a search, a letter that is taken, and a search that is driven, as a hall has them.
-use Rattle.std.proofs.Common.{◌≡◌, ◌∙◌, ℕ, List, ap, sym, refl, subst, subst₂, inl, slice_get, IfSome, Option, Some, None, Result, Ok}
+use Rattle.std.proofs.Common.{◌≡◌, ◌∙◌, ℕ, List, ap, sym, refl, subst, subst₂, inl, slice_get, IfSome, IsSomeAnd, Option, Some, None, Result, Ok}
 use Rattle.std.specs.FinMap.{get}
 use Rattle.std.specs.Arc.{arc_value}
 use Rattle.search.specs.declared.queries.Task.{Task}
@@ -16,13 +16,11 @@ use Rattle.hall.specs.declared.calls.steps.Stepped.{Stepped}
 use Rattle.hall.specs.declared.calls.steps.Stepped.TheVariants.{Gone}
 use Rattle.hall.specs.declared.calls.steps.Stepped.TheVariants as stepped
 use Rattle.hall.specs.Steps.{StepsSearch}
-use Rattle.hall.specs.Answers.{answer_of}
 use Rattle.hall.specs.Run.{waits}
-use Rattle.hall.specs.Hall.{Running, Tenant, HallState, search_of, search_at, with_search, step_name, step_search, StepsAt, IsStepped}
-use Rattle.hall.specs.Hall.{Drives, CarriesOut, IsServed, told_as}
+use Rattle.hall.specs.Hall.{Running, Tenant, HallState, search_of, search_at, with_search, search_of_step, StepsAt, IsStepped}
+use Rattle.hall.specs.Hall.{IsCarriedOn, Drives, CarriesOut, IsServed, told_as}
 use Rattle.hall.specs.Work.{TakenLetter, IsTaken, IsJobOrNone, SearchIsQuiet}
-use Rattle.hall.specs.Kept.{IsNowhere, IsToldOf, DrivesTo, TakesTask}
-use Rattle.hall.proofs.Telling.{works}
+use Rattle.hall.specs.Kept.{IsNowhere, IsToldOf, TakesTask}
 use Rattle.hall.proofs.Polled.{none_there, polled_there}
 use Rattle.hall.proofs.Viewed.{nowhere_polled}
 use Rattle.hall.proofs.Placed.{found_after, put_back}
@@ -40,7 +38,7 @@ module _ (h : HallState) (who : List ℕ) (k : ℕ) where
   nowhere_driven f is = (h, none_driven (none_there h who k f is), nowhere_polled h who k f is)
 
   -- no step of such a search does anything
-  pub gone : (made : Step) → who ≡ step_name made → k ≡ step_search made → search_at h who k ≡ None → IsStepped h made Gone h
+  pub gone : (made : Step) → who ≡ (search_of_step made).0 → k ≡ (search_of_step made).1 → search_at h who k ≡ None → IsStepped h made Gone h
   gone made whose number none =
       subst (λ (o : Option Running). StepsAt h o made Gone h) (sym (subst₂ (λ (n : List ℕ) (m : ℕ). search_at h n m ≡ None) whose number none)) (refl, refl)
 
@@ -74,22 +72,12 @@ module _ (h : HallState) (who : List ℕ) (k : ℕ) (r : Running) (at : search_a
   found_left = ap (λ (g : HallState). search_at g who k) is ∙ found_after h who k r at s
 
   -- a search that is driven, and told of
-  module _ (told : Result Answer Fault) (drives : DrivesTo r.search told s.search) where
-    pub drives_as : CarriesOut h who (waits k) (told_as Answered told) new
-    drives_as = (
-      new,
-      subst (λ (o : Option Running). Drives h who k o new) (sym at) (
-        s.search,
-        drives.driven,
-        (drives.quiet, drives.sound),
-        (λ held. (drives.none_held held, λ nothing. drives.settled held (works s.search (sym (ap answer_of nothing))))),
-        left_as,
-      ),
-      polled_at new who k s found_left told drives.tells,
-    )
+  pub drives_as : IsCarriedOn r.search s.search → (told : Result Answer Fault) → IsToldOf (settled_of s.search) told → CarriesOut h who (waits k) (told_as Answered told) new
+  drives_as carried told tells =
+      (new, subst (λ (o : Option Running). Drives h who k o new) (sym at) (s.search, carried, left_as), polled_at new who k s found_left told tells)
 
-    pub drives_quiet : SearchIsQuiet new who k
-    drives_quiet = quiet_in new who k s found_left drives.quiet
+  pub drives_quiet : IsQuiet s.search.stage → SearchIsQuiet new who k
+  drives_quiet quiet = quiet_in new who k s found_left quiet
 
   -- a letter that is taken, with the job that it gives
   taken : (place : ℕ) (answer : Stepped) (job : Option TakenLetter) → ((name : List ℕ × ℕ) → StepsSearch r.search (Take name.0 name.1 place) answer s.search) →
@@ -102,7 +90,7 @@ module _ (h : HallState) (who : List ℕ) (k : ℕ) (r : Running) (at : search_a
   pub job_taken : (place : ℕ) (job : TakenLetter) → job.who ≡ who → job.number ≡ k → job.snapshot ≡ r.search.snapshot →
       ((name : List ℕ × ℕ) → StepsSearch r.search (Take name.0 name.1 place) (stepped.Took job.letter job.need) s.search) → IsTaken h who k place (Some job) new
   job_taken place job whose number reads steps =
-      taken place (stepped.Took job.letter job.need) (Some job) steps (record { tenant = whose; search = number; took = refl; reads = (r, at, reads) })
+      taken place (stepped.Took job.letter job.need) (Some job) steps (whose, number, refl, subst (λ (o : Option Running). IsSomeAnd o (λ r. job.snapshot ≡ r.search.snapshot)) (sym at) reads)
 
 -- what a search answers to a take is what its taker is told
 pub task_taken : (place : ℕ) (s t : SearchState) (o : Option Task) → (o ≡ None → (slice_get (waiting_in s.stage) place ≡ None) × (t ≡ s)) →

@@ -3,16 +3,16 @@ use Rattle.std.proofs.Common.{◌≡◌, ℕ, Bool, List, [], ap, sym, subst, Op
 use Rattle.std.specs.Prelude.{MatchOption}
 use Rattle.std.specs.declared.alloc.AllocError.{AllocError}
 use Rattle.search.specs.{declared.queries.Need.Need, declared.queries.Task.Task, Search.SearchState, Search.IsSoundStage}
-use Rattle.hall.specs.declared.{faults.Fault.Fault, calls.answers.Answer.Answer, calls.steps.Step.Step, calls.steps.Stepped.Stepped, orders.Order.Order, working.Went.Went}
+use Rattle.hall.specs.declared.{calls.steps.Step.Step, calls.steps.Stepped.Stepped, orders.Order.Order, working.Went.Went}
 use Rattle.hall.specs.declared.working.Went.TheVariants.{Nowhere, On, NoMemory}
-use Rattle.hall.specs.Steps.{StepsSearch, StepsEach, SearchGoesOn}
-use Rattle.hall.specs.Hall.{Running}
-use Rattle.hall.specs.Kept.{Continues, DrivesTo, TakesTask}
+use Rattle.hall.specs.Steps.{StepsSearch, StepsEach}
+use Rattle.hall.specs.Hall.{Running, IsCarriedOn}
+use Rattle.hall.specs.Kept.{Continues, TakesTask}
 use Rattle.hall.specs.Batches.{Named, BatchState}
 use Rattle.hall.specs.Work.{HandsIn, gives_back}
 use Rattle.hall.specs.Working.{WentAs, WorksThrough}
 use Rattle.hall.proofs.InRow.{each_goes_on, each_sound}
-use Rattle.hall.proofs.SearchSteps.{step_goes_on}
+use Rattle.hall.proofs.SearchSteps.{SearchGoesOn, step_goes_on}
 use Rattle.hall.proofs.laws.HallSteps.{drives_on, goes_nowhere, goes_twice}
 
 -- what goes on, and runs soundly where it did before
@@ -30,7 +30,7 @@ both : (s t u : SearchState) → GoesSoundly s t → GoesSoundly t u → GoesSou
 both s t u first second = record { goes = goes_twice s t u first.goes second.goes; sound = λ sound. second.sound (first.sound sound) }
 
 continues : (r s : Running) → s.opened_at ≡ r.opened_at → GoesSoundly r.search s.search → Continues r s
-continues r s opened goes = record { opened = opened; goes_on = goes.goes; sound = goes.sound }
+continues r s opened goes = record { opened = opened; question = goes.goes.question; settles = goes.goes.settles; sound = goes.sound }
 
 pub continues_same : (r s : Running) → s ≡ r → Continues r s
 continues_same r s same = continues r s (ap (λ (x : Running). x.opened_at) same) (stays_so r.search s.search (ap (λ (x : Running). x.search) same))
@@ -44,9 +44,9 @@ continues_taken r s place (Ok None) (same, steps) opened = continues r s opened 
 continues_taken r s place (Ok (Some task)) (reads, steps) opened = continues_stepped r s _ _ (steps ([], 0)) opened
 continues_taken r s place (Err f) (same, waits) opened = continues r s opened (stays_so r.search s.search same)
 
-pub continues_driven : (r s : Running) (told : Result Answer Fault) → DrivesTo r.search told s.search → s.opened_at ≡ r.opened_at → Continues r s
-continues_driven r s told drives opened =
-    continues r s opened (record { goes = drives_on r.search s.search drives.driven; sound = λ before. drives.sound })
+pub continues_driven : (r s : Running) → IsCarriedOn r.search s.search → s.opened_at ≡ r.opened_at → Continues r s
+continues_driven r s carried opened =
+    continues r s opened (record { goes = drives_on r.search s.search carried.driven; sound = λ before. carried.sound })
 
 -- letters that are handed in, and steps that are made then
 each : (s t : SearchState) (steps : List Step) (answers : List Stepped) → StepsEach s t steps answers → GoesSoundly s t

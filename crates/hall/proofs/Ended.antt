@@ -1,7 +1,7 @@
 -- Which searches come to their ends from one hall to another, and of which it is told.
 use Rattle.std.proofs.Common.{◌≡◌, ◌∙◌, ◌⊎◌, ◌∷◌, ◌++◌, ℕ, List, [], ap, sym, subst, refl, inl, inr, Option, Some, None}
 use Rattle.std.specs.Prelude.{IsSomeAnd, Contains}
-use Rattle.std.proofs.lemmas.{List.append-nil, List.append_assoc, Option.same_Some}
+use Rattle.std.proofs.lemmas.{List.append_assoc, Option.same_Some}
 use Rattle.std.proofs.lemmas.List.Elements.{Contains-append_left, Contains-append_right, Contains-append_cases}
 use Rattle.rt0_rules.proofs.Elements.{Contains-none, Contains-first, Contains-cons_cases}
 use Rattle.hall.specs.declared.picking.Standing.{Standing}
@@ -30,10 +30,6 @@ who_works h name = by (search_at h name.0 name.1) refl
     by None none works = absurd works
     by (Some r) at unsettled = (r, at, unsettled)
 
--- none that isn't there does
-pub none_works : (h : HallState) (name : Name) → search_at h name.0 name.1 ≡ None → StillWorks h name → ⊥
-none_works h name none works = subst (λ (o : Option Running). IsSomeAnd o (λ x. IsUnsettled x.search)) none works
-
 -- where one search goes on, what holds of it and of those before holds of each
 each_after : (P : Name → Running → Type 0) (h : HallState) (who : List ℕ) (k : ℕ) (r s : Running) → search_at h who k ≡ Some r → P (who, k) s →
     ((name : Name) (q : Running) → search_at h name.0 name.1 ≡ Some q → P name q) →
@@ -58,15 +54,6 @@ pub told_none : (standing : Standing) (name : Name) → (standing ≡ Over → �
 told_none Over name isnt = absurd (isnt refl)
 told_none Moves name isnt = refl
 told_none Rests name isnt = refl
-
--- nothing happened
-nothing_ends : (own : Option Name) (h : HallState) → TellsEnds own h h []
-nothing_ends own h = record {
-  each = λ name works. inl works;
-  were = λ name told. absurd (Contains-none name told);
-  over = λ name told. absurd (Contains-none name told);
-  none_again = λ name works. works;
-}
 
 module _ (h : HallState) (who : List ℕ) (k : ℕ) (r : Running) (at : search_at h who k ≡ Some r) (s : Running) (before : IsUnsettled s.search → IsUnsettled r.search)
     (standing : Standing) (stands : Stands s.search standing) where
@@ -128,11 +115,6 @@ ends_both own a b c x y first second = record {
   ];
   none_again = λ name works. first.none_again name (second.none_again name works);
 }
-
--- the same behind what was told before
-pub tells_none : (own : Option Name) (old new : HallState) (before later : List Name) → new ≡ old → later ≡ before → TellsMore own old new before later
-tells_none own old new before later same none =
-    ([], none ∙ sym (append-nil before), subst (λ (h : HallState). TellsEnds own old h []) (sym same) (nothing_ends own old))
 
 pub tells_both : (own : Option Name) (a b c : HallState) (x y z : List Name) → TellsMore own a b x y → TellsMore None b c y z → TellsMore own a c x z
 tells_both own a b c x y z (told, is, ends) (more, then, late) =

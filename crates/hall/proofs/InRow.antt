@@ -7,8 +7,8 @@ use Rattle.search.specs.declared.outcomes.Finished.TheVariants as finished
 use Rattle.search.proofs.Stays.{held_none}
 use Rattle.hall.specs.declared.calls.steps.{Step.Step, Stepped.Stepped}
 use Rattle.hall.specs.declared.calls.steps.Stepped.TheVariants as stepped
-use Rattle.hall.specs.Steps.{StepsSearch, StepsEach, SearchGoesOn}
-use Rattle.hall.specs.Hall.{HallState, Running, StepsAt, IsStepped, search_at, step_name, step_search, with_search}
+use Rattle.hall.specs.Steps.{StepsSearch, StepsEach}
+use Rattle.hall.specs.Hall.{HallState, Running, StepsAt, IsStepped, search_at, search_of_step, with_search}
 use Rattle.hall.specs.Batches.{Named, BatchState, IsEmpty}
 use Rattle.hall.specs.declared.orders.Order.{Order}
 use Rattle.hall.specs.declared.working.Went.TheVariants.{Nowhere}
@@ -16,7 +16,7 @@ use Rattle.hall.specs.Work.{Makes, HandsIn, handing_in, going_on, gives_back, is
 use Rattle.hall.specs.Working.{WorksThrough}
 use Rattle.hall.proofs.Placed.{found_after, put_back, put_twice}
 use Rattle.hall.proofs.Stays.{quiet}
-use Rattle.hall.proofs.SearchSteps.{step_goes_on}
+use Rattle.hall.proofs.SearchSteps.{SearchGoesOn, step_goes_on}
 use Rattle.hall.proofs.laws.HallSteps.{goes_nowhere, goes_twice}
 
 -- one step more
@@ -42,14 +42,14 @@ each_sound s t [] (answer ∷ answers) none sound = absurd none
 each_sound s t (made ∷ steps) [] none sound = absurd none
 
 -- a step that is made of the search that is there
-pub stepped_there : (h : HallState) (made : Step) (answer : Stepped) (new : HallState) (who : List ℕ) (k : ℕ) (r : Running) (s : SearchState) → step_name made ≡ who →
-    step_search made ≡ k → search_at h who k ≡ Some r → StepsSearch r.search made answer s → new ≡ with_search h who k (record r { search = s }) → IsStepped h made answer new
+pub stepped_there : (h : HallState) (made : Step) (answer : Stepped) (new : HallState) (who : List ℕ) (k : ℕ) (r : Running) (s : SearchState) → (search_of_step made).0 ≡ who →
+    (search_of_step made).1 ≡ k → search_at h who k ≡ Some r → StepsSearch r.search made answer s → new ≡ with_search h who k (record r { search = s }) → IsStepped h made answer new
 stepped_there h made answer new who k r s whose number at steps is =
     subst (λ (o : Option Running). StepsAt h o made answer new) (sym (subst₂ (λ (n : List ℕ) (m : ℕ). search_at h n m ≡ Some r) (sym whose) (sym number) at))
     (s, steps, subst₂ (λ (n : List ℕ) (m : ℕ). new ≡ with_search h n m (record r { search = s })) (sym whose) (sym number) is)
 
 -- steps that are all of one search
-module _ {X : Type 0} (step : X → Step) (who : List ℕ) (k : ℕ) (whose : (x : X) → step_name (step x) ≡ who) (number : (x : X) → step_search (step x) ≡ k) where
+module _ {X : Type 0} (step : X → Step) (who : List ℕ) (k : ℕ) (whose : (x : X) → (search_of_step (step x)).0 ≡ who) (number : (x : X) → (search_of_step (step x)).1 ≡ k) where
   module _ (h : HallState) (r : Running) (at : search_at h who k ≡ Some r) where
     abbrev running : SearchState → Running
     running s = record r { search = s }
@@ -127,18 +127,18 @@ stays_through asked most name s done sound had has none room = record {
     }
 
 -- whose search it is
-pub handed_to : (back : Bool) (of : Named) (letter : ℕ × Need) → step_name (handing_in back of letter) ≡ of.who
+pub handed_to : (back : Bool) (of : Named) (letter : ℕ × Need) → (search_of_step (handing_in back of letter)).0 ≡ of.who
 handed_to false of letter = refl
 handed_to true of letter = refl
 
-pub handed_to_number : (back : Bool) (of : Named) (letter : ℕ × Need) → step_search (handing_in back of letter) ≡ of.number
+pub handed_to_number : (back : Bool) (of : Named) (letter : ℕ × Need) → (search_of_step (handing_in back of letter)).1 ≡ of.number
 handed_to_number false of letter = refl
 handed_to_number true of letter = refl
 
-pub goes_on_of : (name : List ℕ × ℕ) (move : Option (ℕ × Need)) → step_name (going_on name move) ≡ name.0
+pub goes_on_of : (name : List ℕ × ℕ) (move : Option (ℕ × Need)) → (search_of_step (going_on name move)).0 ≡ name.0
 goes_on_of name None = refl
 goes_on_of name (Some letter) = refl
 
-pub goes_on_number : (name : List ℕ × ℕ) (move : Option (ℕ × Need)) → step_search (going_on name move) ≡ name.1
+pub goes_on_number : (name : List ℕ × ℕ) (move : Option (ℕ × Need)) → (search_of_step (going_on name move)).1 ≡ name.1
 goes_on_number name None = refl
 goes_on_number name (Some letter) = refl

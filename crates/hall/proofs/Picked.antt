@@ -21,9 +21,10 @@ use Rattle.search.specs.Stage.{waiting_in, signals_in, IsQuiet}
 use Rattle.hall.specs.declared.calls.steps.Step.{Step}
 use Rattle.hall.specs.declared.calls.steps.Stepped.TheVariants as stepped
 use Rattle.hall.specs.Steps.{TakesAt, Signals}
-use Rattle.hall.specs.Hall.{Running, HallState, search_at, step_name, step_search}
+use Rattle.hall.specs.Hall.{Running, HallState, search_at, search_of_step}
 use Rattle.hall.specs.Work.{SearchIsQuiet, NothingToDo, MadeProgress, CanBeMade}
-use Rattle.hall.specs.Kept.{IsNext, IsUnsettled, Index, IsIn, IsIndexed}
+use Rattle.hall.specs.Kept.{IsNext, IsUnsettled, Index, IsIndexed}
+use Rattle.hall.proofs.Unsettled.{IsIn}
 use Rattle.hall.proofs.Indexed.{looked_up, all_found}
 use Rattle.hall.proofs.Stays.{quiet}
 use Rattle.hall.proofs.laws.HallChanges.{tenant_of}
@@ -59,7 +60,7 @@ module _ (h : HallState) (who : List ℕ) (k : ℕ) (r : Running) (at : search_a
       rw (is, at) (λ made_so. let (got, signals, told) = made_so.1.is_made in rw told (delivered_one r.search made_so.0 got waits signals))
 
   -- and something of its search is left to do
-  is_left : (made : Step) → IsNext who k r.search made → SearchIsQuiet h (step_name made) (step_search made) → ⊥
+  is_left : (made : Step) → IsNext who k r.search made → SearchIsQuiet h (search_of_step made).0 (search_of_step made).1 → ⊥
   is_left made (inl (is, waits)) = rw is (λ quiet. waits (quiet r at).0)
   is_left made (inr (is, waits)) = rw is (λ quiet. waits (quiet r at).1)
 
@@ -113,19 +114,19 @@ module _ (h : HallState) (who : List ℕ) (k : ℕ) where
 -- a step that goes on with a search that is found makes progress, and something of that search is left
 pub picked : (h : HallState) (who : List ℕ) (k : ℕ) (s : SearchState) (made : Step) →
     Some s ≡ option_map (λ (r : Running). r.search) (search_at h who k) → IsNext who k s made →
-    CanBeMade h made × (SearchIsQuiet h (step_name made) (step_search made) → ⊥)
+    CanBeMade h made × (SearchIsQuiet h (search_of_step made).0 (search_of_step made).1 → ⊥)
 picked h who k s made found next = by (search_at h who k) refl found
   where
     by : (o : Option Running) → search_at h who k ≡ o → Some s ≡ option_map (λ (r : Running). r.search) o →
-        CanBeMade h made × (SearchIsQuiet h (step_name made) (step_search made) → ⊥)
+        CanBeMade h made × (SearchIsQuiet h (search_of_step made).0 (search_of_step made).1 → ⊥)
     by None at found = cc
     by (Some r) at found =
         let same : s ≡ r.search = cc found in
         let is = subst (λ (x : SearchState). IsNext who k x made) same next in
         (goes_on h who k r at made is, is_left h who k r at made is)
 
-pub picked_some : (h : HallState) (made : Step) → (SearchIsQuiet h (step_name made) (step_search made) → ⊥) → (Some made ≡ None) ↔ NothingToDo h
-picked_some h made left = (λ none. clash none, λ nothing. absurd (left (nothing (step_name made) (step_search made))))
+pub picked_some : (h : HallState) (made : Step) → (SearchIsQuiet h (search_of_step made).0 (search_of_step made).1 → ⊥) → (Some made ≡ None) ↔ NothingToDo h
+picked_some h made left = (λ none. clash none, λ nothing. absurd (left (nothing (search_of_step made).0 (search_of_step made).1)))
   where
     clash : Some made ≡ None → NothingToDo h
     clash e = cc

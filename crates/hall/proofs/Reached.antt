@@ -3,8 +3,8 @@ use Rattle.std.proofs.Common.{◌≡◌, ◌∙◌, ℕ, List, ap, sym, subst, S
 use Rattle.std.specs.Result.{IsOk, is_ok}
 use Rattle.vaults.specs.declared.changes.Entry.{Entry}
 use Rattle.hall.specs.Hall.{Running, Tenants, HallState, IsSound, search_at, with_search}
-use Rattle.hall.specs.Kept.{Continues, IsUnsettled, Index, KeepsBut, ListsUnsettled, IsIndexed}
-use Rattle.hall.proofs.Unsettled.{listed_after, unsettled_before}
+use Rattle.hall.specs.Kept.{Continues, IsUnsettled, Index, KeepsBut, IsIndexed}
+use Rattle.hall.proofs.Unsettled.{ListsUnsettled, listed_after, unsettled_before}
 use Rattle.hall.proofs.laws.HallChanges.{tenant_of}
 use Rattle.hall.proofs.laws.HallSound.{goes_sound}
 
@@ -30,12 +30,12 @@ module _ (h : HallState) (who : List ℕ) (k : ℕ) (r s : Running) (at : search
   pub lent_sound : IsSound new
   lent_sound =
       let (t, found, there) = tenant_of h who k r at in
-      subst IsSound (sym becomes) (goes_sound h who k r s.search sound at goes.goes_on (goes.sound (sound who t k r found there).2.computation))
+      subst IsSound (sym becomes) (goes_sound h who k r s.search sound at (record { question = goes.question; settles = goes.settles }) (goes.sound (sound who t k r found there).2.computation))
 
   -- and it is left out of the index where it has settled
   pub lent_indexed : {X Y : Type 0} (index kept : Index X Y) → KeepsBut (λ name j. (name ≡ who) × (j ≡ k) × (IsUnsettled s.search → ⊥)) index kept →
       ListsUnsettled index h → IsIndexed kept new
   lent_indexed index kept keeps listed = record {
     sound = lent_sound;
-    listed = subst (ListsUnsettled kept) (sym becomes) (listed_after index kept h who k r s.search at (unsettled_before r.search s.search goes.goes_on.settles) keeps listed);
+    listed = subst (ListsUnsettled kept) (sym becomes) (listed_after index kept h who k r s.search at (unsettled_before r.search s.search goes.settles) keeps listed);
   }

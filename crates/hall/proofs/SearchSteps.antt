@@ -13,14 +13,14 @@ use Rattle.search.specs.declared.letters.Load.{Load}
 use Rattle.search.specs.declared.letters.Load.TheVariants as load
 use Rattle.search.specs.declared.stages.Stage.{Stage}
 use Rattle.search.specs.Ending.{Settled, Nothing, asked_role}
-use Rattle.search.specs.Search.{found, SearchState, new_search, SameQuestion, settled_of}
+use Rattle.search.specs.Search.{found, SearchState, new_search, SameQuestion, Settles, settled_of}
 use Rattle.search.specs.Finish.{Finishes}
 use Rattle.search.specs.Stage.{if_held, NoneHeld}
 use Rattle.scholten_core.specs.declared.parents.Parent.TheVariants.{Environment}
 use Rattle.hall.specs.declared.calls.steps.Step.{Step}
 use Rattle.hall.specs.declared.calls.steps.Step.TheVariants as step
 use Rattle.hall.specs.declared.calls.steps.Stepped.{Stepped}
-use Rattle.hall.specs.Steps.{TakesAt, PutsBack, IsMade, StepsSearch, SearchGoesOn}
+use Rattle.hall.specs.Steps.{TakesAt, PutsBack, IsMade, StepsSearch}
 
 -- another stage is no other question
 pub staged : (old new : SearchState) (at : Stage) → new ≡ record old { stage = at } → SameQuestion old new
@@ -50,6 +50,11 @@ made_keeps old new (step.GiveBack name k letter) answer (back, puts, is) = by ba
     by true puts = staged old new _ puts.1
 made_keeps old new (step.Finish name k letter hint) answer (f, finishes, is) = finish_keeps old new letter hint f finishes
 made_keeps old new (step.Signal name k place) answer (delivered, signals, is) = signals.question
+
+-- the search goes on with its question, and may settle
+pub record SearchGoesOn (old new : SearchState) : Type 0 where
+  pub question : SameQuestion old new
+  pub settles : Settles old new
 
 pub step_goes_on : (old new : SearchState) (made : Step) (answer : Stepped) → StepsSearch old made answer new → SearchGoesOn old new
 step_goes_on old new made answer steps = record { question = made_keeps old new made answer steps.is_made; settles = steps.settles }

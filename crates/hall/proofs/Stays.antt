@@ -4,20 +4,17 @@ use Rattle.hall.specs.LendableSearch.{IsLendable, lendable_search}
 use Rattle.hall.specs.declared.lendable_searches.LendableSearch.{LendableSearch}
 use Rattle.hall.specs.declared.lendable_searches.LendableSearch.TheVariants.{Own, Lent, Moving}
 use Rattle.search.specs.declared.stages.Stage.{Stage}
-use Rattle.search.specs.declared.stages.Stage.TheVariants as stage
-use Rattle.search.specs.Search.{SearchState, IsCompleted, IsOutstanding, IsSoundStage, settled_of, IsAnswered, status_of, come_to}
+use Rattle.search.specs.Search.{SearchState, IsCompleted, IsSoundStage, settled_of, IsAnswered, status_of, come_to}
 use Rattle.search.specs.Finish.{IsDriven}
 use Rattle.search.specs.Stage.{IsQuiet}
 use Rattle.search.specs.Ending.{Settled}
 use Rattle.search.proofs.Answered.{answers_as}
 use Rattle.search.proofs.Stays.{waits_none, signals_none}
-use Rattle.hall.specs.declared.faults.Fault.{Fault}
-use Rattle.hall.specs.declared.calls.answers.Answer.{Answer}
-use Rattle.hall.specs.Hall.{HallState, Running, search_at}
+use Rattle.hall.specs.Hall.{HallState, Running, IsCarriedOn, search_at}
 use Rattle.std.specs.Result.{OnErr}
 use Rattle.std.specs.declared.alloc.AllocError.{AllocError}
 use Rattle.hall.specs.Work.{IsCompletedAt}
-use Rattle.hall.specs.Kept.{IsUnsettled, IsToldOf, IsShared, DrivesTo}
+use Rattle.hall.specs.Kept.{IsUnsettled, IsShared}
 
 -- a search that isn't its keeper's own is completed
 pub lent : (c : LendableSearch) → IsLendable c → ((s : SearchState) → c ≡ Own s → ⊥) → IsCompleted (lendable_search c).stage
@@ -30,13 +27,7 @@ pub own : {c : LendableSearch} {s : SearchState} (n : ℕ) → c ≡ Own s →
     ◌≡◌ {A = Option Running} (Some (record { opened_at = n; search = lendable_search c })) (Some (record { opened_at = n; search = s }))
 own n is = ap (λ (c : LendableSearch). Some (record { opened_at = n; search = lendable_search c })) is
 
--- nothing of it is outstanding
-pub ended : (st : Stage) → IsCompleted st → IsOutstanding st → ⊥
-ended (stage.Running c) done busy = busy done
-ended stage.Spent done busy = done
-ended stage.Broken done busy = done
-
--- and it has come to something
+-- it has come to something
 pub over : (s : SearchState) → IsCompleted s.stage → IsUnsettled s → ⊥
 unfolding settled_of
 over s done nothing =
@@ -53,13 +44,11 @@ module _ (h : HallState) (who : List ℕ) (k : ℕ) where
   lacks_there value r at (Ok o) is = tt
   lacks_there value r at (Err f) is = (r.search, record { running = r; there = at; is = refl; completed = is })
 
--- what is told of it where it was to be driven
-pub stays_driven : (s : SearchState) → IsCompleted s.stage → (told : Result Answer Fault) → IsToldOf (settled_of s) told → IsSoundStage s.stage → DrivesTo s told s
-stays_driven s done told tells sound = record {
+-- it stays where it was to be driven
+pub stays_driven : (s : SearchState) → IsCompleted s.stage → IsSoundStage s.stage → IsCarriedOn s s
+stays_driven s done sound = record {
   driven = IsDriven.rests;
-  tells = tells;
   quiet = quiet s.stage done;
-  settled = λ held. ended s.stage done;
-  none_held = λ held. held;
   sound = sound;
+  settled = λ held. (held, over s done);
 }

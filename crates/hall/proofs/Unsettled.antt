@@ -1,6 +1,6 @@
 -- An index of the searches that may still go on, beside the hall that has them.
 use Rattle.std.proofs.Common.{◌≡◌, ◌∙◌, ◌==◌, ℕ, Bool, true, false, cond, List, [], ◌∷◌, length, ap, sym, refl, subst, inl, inr, arith, Option, Some, None, is_some}
-use Rattle.std.specs.FinMap.{get}
+use Rattle.std.specs.{Prelude.IsSomeAnd, FinMap.get}
 use Rattle.std.specs.List.{list_any}
 use Rattle.std.proofs.lemmas.Bool.{false≢true}
 use Rattle.std.proofs.lemmas.Bool.Decides.{Decides-eqb}
@@ -17,12 +17,20 @@ use Rattle.hall.specs.declared.calls.requests.Request.{Request}
 use Rattle.hall.specs.declared.calls.requests.Request.TheVariants.{Seek}
 use Rattle.hall.specs.declared.calls.replies.Reply.{Reply}
 use Rattle.hall.specs.declared.calls.replies.Reply.TheVariants.{Opened}
-use Rattle.hall.specs.Hall.{Running, Tenant, HallState, with_search, search_of, search_at, IsServed}
-use Rattle.hall.specs.Kept.{IsUnsettled, Index, IsIn, Lists, KeepsBut, ListsUnsettled}
+use Rattle.hall.specs.Hall.{Running, Tenant, HallState, EachSearch, with_search, search_of, search_at, IsServed}
+use Rattle.hall.specs.Kept.{IsUnsettled, Index, Lists, KeepsBut}
 use Rattle.hall.proofs.Maps.{get_inserted}
 use Rattle.hall.proofs.Placed.{put, found_after}
 use Rattle.hall.proofs.laws.HallChanges.{replaced_each, inserted_each}
 use Rattle.hall.proofs.laws.HallRequests.{requested_each}
+
+-- the number is one of these, where there are any
+abbrev pub IsIn : {Z : Type 0} → ℕ → Option (IndexSet ℕ Z) → Type 0
+IsIn k o = IsSomeAnd o (λ numbers. contains (◌==◌) numbers k ≡ true)
+
+-- each search that has come to nothing yet is in the index
+abbrev pub ListsUnsettled : {S Z : Type 0} → Index S Z → HallState → Type 0
+ListsUnsettled index h = EachSearch (λ name t k r. IsUnsettled r.search → Lists index name k) h
 
 -- a search that has come to nothing yet had before
 pub unsettled_before : (s t : SearchState) → Settles s t → IsUnsettled t → IsUnsettled s

@@ -1,16 +1,12 @@
 -- What one tenant has, and what answers a request of it: its own account, and what it has in sight, alone. No letter stands here.
-use Rattle.std.specs.Prelude.{◌≡◌, ◌⊎◌, ℕ, ◌+◌, nat_le, List, [], ◌∷◌, ◌++◌, length, find}
-use Rattle.std.specs.Prelude.{Option, None, Some, option_map, if◌then◌else◌}
-use Rattle.std.specs.Option.{option_or}
-use Rattle.std.specs.Ordering.{nat_cmp}
+use Rattle.std.specs.Prelude.{◌≡◌, ◌⊎◌, ℕ, ◌+◌, nat_le, List, [], ◌∷◌, ◌++◌, length, find, Option, None, Some, option_map, if◌then◌else◌}
+use Rattle.std.specs.{Option.option_or, Ordering.nat_cmp}
 use Rattle.std.specs.FinMap.{FinMap, empty, get, insert, remove, len}
 use Rattle.quotas.specs.Quota.{Quota}
 use Rattle.names.specs.Name.{is_same}
 use Rattle.rt0_rules.specs.Membership.{IsMember}
-use Rattle.vaults.specs.declared.changes.Change.{Change}
+use Rattle.vaults.specs.declared.{changes.Change.Change, changes.Entry.Entry, marks.Seen.Seen}
 use Rattle.vaults.specs.declared.changes.Change.TheVariants.{Upload, Grant, GrantAll, Revoke, RevokeAll}
-use Rattle.vaults.specs.declared.changes.Entry.{Entry}
-use Rattle.vaults.specs.declared.marks.Seen.{Seen}
 use Rattle.vaults.specs.Journal.{Vault, vault, view, marked_names, grant_count, refusal, credentials}
 use Rattle.search.specs.declared.queries.Query.{Query}
 pub use Rattle.search.specs.declared.queries.Query.TheVariants.{Ask, Who}
@@ -18,13 +14,10 @@ use Rattle.search.specs.Ending.{Settled, Nothing, Yes, No, Members, Spent, Broke
 use Rattle.proof_trees.specs.declared.steps.Step.{Step as ProofStep}
 use Rattle.proof_trees.specs.Proof.{IsProof}
 pub use Rattle.proof_trees.specs.Text.{proof_text}
-use Rattle.hall.specs.declared.faults.Fault.{Fault}
+use Rattle.hall.specs.declared.{faults.Fault.Fault, calls.requests.Request.Request, calls.answers.Answer.Answer, calls.replies.Reply.Reply}
 use Rattle.hall.specs.declared.faults.Fault.TheVariants as fault
-use Rattle.hall.specs.declared.calls.requests.Request.{Request}
 use Rattle.hall.specs.declared.calls.requests.Request.TheVariants as request
-use Rattle.hall.specs.declared.calls.answers.Answer.{Answer}
 use Rattle.hall.specs.declared.calls.answers.Answer.TheVariants as answer
-use Rattle.hall.specs.declared.calls.replies.Reply.{Reply}
 use Rattle.hall.specs.declared.calls.replies.Reply.TheVariants as reply
 use Rattle.hall.specs.Fault.{vault_fault}
 

@@ -1,5 +1,5 @@
 -- Letters of one search that are taken in a row, looked up, and handed in together.
-use Rattle.std.specs.Prelude.{ℕ, ◌≤◌, List, [], ◌∷◌, ◌≡◌, length, slice_get, Option, Some, None}
+use Rattle.std.specs.Prelude.{ℕ, ◌≤◌, List, [], ◌∷◌, ◌≡◌, length, Option, Some, None}
 use Rattle.std.specs.{List.AllWithin, Arc.arc_value}
 use Rattle.snapshots.specs.Snapshot.{SnapshotState}
 use Rattle.search.specs.{declared.queries.Need.Need, Finish.right_hint}
@@ -11,8 +11,7 @@ pub record Named : Type 0 where
   pub number : ℕ
   pub snapshot : SnapshotState
 
--- which search the letters are of; the letters, in the order in which they were taken, each with what it needs; how many of them
--- are looked up, from the first on; and for how many there is room
+-- which search the letters are of; these in the order taken, each with what it needs; how many, from the first on, are looked up; the room
 pub record BatchState : Type 0 where
   pub of : Option Named
   pub letters : List (ℕ × Need)
@@ -48,7 +47,3 @@ IsEmpty b = b ≡ record { of = None; letters = []; looked = 0; room = b.room }
 
 abbrev pub IsLookedUp : BatchState → Type 0
 IsLookedUp b = b.looked ≡ length b.letters
-
--- this is the number of the letter that is looked up next
-abbrev pub IsNextLetter : BatchState → ℕ → Type 0
-IsNextLetter b letter = (need : Need) × (slice_get b.letters b.looked ≡ Some (letter, need))

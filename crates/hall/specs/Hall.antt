@@ -1,7 +1,6 @@
 -- A whole hall, with how its searches stand: each event is what one account is answered, or a step of one search.
 use Rattle.std.specs.Prelude.{◌≡◌, ◌≢◌, ℕ, ◌≤◌, List, [], ◌∷◌, ◌++◌, length, map, take, Option, None, Some, Result, Ok, Err, option_map}
-use Rattle.std.specs.Option.{option_map_or}
-use Rattle.std.specs.Ordering.{nat_cmp}
+use Rattle.std.specs.{Option.option_map_or, Ordering.nat_cmp}
 use Rattle.std.specs.FinMap.{FinMap, empty, get, insert, remove, entries, from_entries, from_sorted}
 use Rattle.quotas.specs.Quota.{Quota}
 use Rattle.names.specs.Name.{name_order}
@@ -12,17 +11,12 @@ use Rattle.search.specs.Ending.{Nothing, MaySettle}
 use Rattle.search.specs.Search.{SearchState, new_search, IsSoundStage, settled_of}
 use Rattle.search.specs.Finish.{IsDriven}
 use Rattle.search.specs.Stage.{NoneHeld, IsQuiet}
-use Rattle.hall.specs.declared.faults.Fault.{Fault}
-use Rattle.hall.specs.declared.faults.Fault.TheVariants.{NoTenant}
-use Rattle.hall.specs.declared.calls.requests.Request.{Request}
+use Rattle.hall.specs.declared.faults.Fault.{Fault, TheVariants.NoTenant}
+use Rattle.hall.specs.declared.calls.{requests.Request.Request, replies.Reply.Reply, events.Event.Event}
 use Rattle.hall.specs.declared.calls.requests.Request.TheVariants.{Alter, Seek, Poll, Close}
-use Rattle.hall.specs.declared.calls.replies.Reply.{Reply}
 use Rattle.hall.specs.declared.calls.replies.Reply.TheVariants.{Counted, Opened, Closed, Refused, Stepped as Reported}
-use Rattle.hall.specs.declared.calls.steps.Step.{Step}
+use Rattle.hall.specs.declared.calls.steps.{Step.Step, Stepped.Stepped, Stepped.TheVariants.Gone}
 use Rattle.hall.specs.declared.calls.steps.Step.TheVariants as step
-use Rattle.hall.specs.declared.calls.steps.Stepped.{Stepped}
-use Rattle.hall.specs.declared.calls.steps.Stepped.TheVariants.{Gone}
-use Rattle.hall.specs.declared.calls.events.Event.{Event}
 use Rattle.hall.specs.declared.calls.events.Event.TheVariants as event
 use Rattle.hall.specs.Steps.{StepsSearch}
 use Rattle.hall.specs.Answers.{Asked, Account, sight, Answers}
@@ -117,27 +111,21 @@ told_as reply (Ok x) = reply x
 told_as reply (Err f) = Refused f
 
 -- whose search a step is made of, and its number
-abbrev pub step_name : Step → List ℕ
-step_name (step.Take name k place) = name
-step_name (step.GiveBack name k letter) = name
-step_name (step.Finish name k letter hint) = name
-step_name (step.Signal name k place) = name
-
-abbrev pub step_search : Step → ℕ
-step_search (step.Take name k place) = k
-step_search (step.GiveBack name k letter) = k
-step_search (step.Finish name k letter hint) = k
-step_search (step.Signal name k place) = k
+abbrev pub search_of_step : Step → List ℕ × ℕ
+search_of_step (step.Take name k place) = (name, k)
+search_of_step (step.GiveBack name k letter) = (name, k)
+search_of_step (step.Finish name k letter hint) = (name, k)
+search_of_step (step.Signal name k place) = (name, k)
 
 -- a step is made of its search, and of nothing else
 abbrev pub StepsAt : HallState → Option Running → Step → Stepped → HallState → Type 0
 StepsAt old None made answer new = (answer ≡ Gone) × (new ≡ old)
 StepsAt old (Some r) made answer new =
     (s : SearchState) × StepsSearch r.search made answer s
-    × (new ≡ with_search old (step_name made) (step_search made) (record r { search = s }))
+    × (new ≡ with_search old (search_of_step made).0 (search_of_step made).1 (record r { search = s }))
 
 abbrev pub IsStepped : HallState → Step → Stepped → HallState → Type 0
-IsStepped old made answer new = StepsAt old (search_at old (step_name made) (step_search made)) made answer new
+IsStepped old made answer new = StepsAt old (search_at old (search_of_step made).0 (search_of_step made).1) made answer new
 
 -- an event of a run
 abbrev pub Happens : HallState → Event → Reply → HallState → Type 0
@@ -151,14 +139,17 @@ Run old (e ∷ events) (told ∷ replies) new = (middle : HallState) × Happens 
 Run old [] (told ∷ replies) new = ⊥
 Run old (e ∷ events) [] new = ⊥
 
--- the search carries itself on, oldest signal first, else the first waiting letter, until nothing is outstanding but what
--- others hold
+-- the search carries itself on, oldest signal first, else the first waiting letter, until nothing is outstanding but what others hold
+pub record IsCarriedOn (old new : SearchState) : Type 0 where
+  pub driven : IsDriven old new
+  pub quiet : IsQuiet new.stage
+  pub sound : IsSoundStage new.stage
+  pub settled : NoneHeld old.stage → NoneHeld new.stage × (settled_of new ≢ Nothing)
+
+-- it does, where there is one
 abbrev pub Drives : HallState → List ℕ → ℕ → Option Running → HallState → Type 0
 Drives old name k None new = new ≡ old
-Drives old name k (Some r) new =
-    (s : SearchState) × IsDriven r.search s × (IsQuiet s.stage × IsSoundStage s.stage)
-    × (NoneHeld r.search.stage → NoneHeld s.stage × (settled_of s ≢ Nothing))
-    × (new ≡ with_search old name k (record r { search = s }))
+Drives old name k (Some r) new = (s : SearchState) × IsCarriedOn r.search s × (new ≡ with_search old name k (record r { search = s }))
 
 -- a request is served; a wait drives its search, and is then a poll
 abbrev pub CarriesOut : HallState → List ℕ → Deed → Reply → HallState → Type 0
@@ -171,8 +162,7 @@ abbrev pub AreDone : HallState → List Told → HallState → Type 0
 AreDone old [] new = new ≡ old
 AreDone old (t ∷ more) new = (middle : HallState) × CarriesOut old t.tenant t.deed t.reply middle × AreDone middle more new
 
--- a search is its tenant's, over its view of the journal cut at the opening and with its limit of work, and has come to
--- nothing yet or to an end that is right there
+-- a search is its tenant's, over its view at the opening and with its limit of work, and has come to nothing yet or to a right end
 pub record IsSoundSearch (journal : List Entry) (name : List ℕ) (limits : Quota) (r : Running) : Type 0 where
   pub opened : r.opened_at ≤ length journal
   pub asker : r.search.snapshot.asker ≡ name
@@ -181,11 +171,14 @@ pub record IsSoundSearch (journal : List Entry) (name : List ℕ) (limits : Quot
   pub settled : MaySettle limits.work (credentials r.search.snapshot.vaults) r.search.query Nothing (settled_of r.search)
   pub computation : IsSoundStage r.search.stage
 
+-- this holds of each search, with its tenant and its number
+abbrev pub EachSearch : (List ℕ → Tenant → ℕ → Running → Type 0) → HallState → Type 0
+EachSearch P h =
+    (name : List ℕ) (t : Tenant) (k : ℕ) (r : Running) → get h.tenants name ≡ Some t → get t.searches k ≡ Some r → P name t k r
+
 -- what holds of every hall: each search has a number that its tenant was given
 abbrev pub IsSound : HallState → Type 0
-IsSound h =
-    (name : List ℕ) (t : Tenant) (k : ℕ) (r : Running) → get h.tenants name ≡ Some t → get t.searches k ≡ Some r
-    → (1 ≤ k) × (k ≤ t.opens) × IsSoundSearch h.journal name t.limits r
+IsSound h = EachSearch (λ name t k r. (1 ≤ k) × (k ≤ t.opens) × IsSoundSearch h.journal name t.limits r) h
 
 -- a tenant that has done nothing
 abbrev pub new_tenant : Quota → Tenant

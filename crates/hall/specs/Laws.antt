@@ -10,17 +10,13 @@ use Rattle.search.specs.declared.queries.Query.{Query}
 use Rattle.search.specs.Ending.{Settled, Nothing, IsEnding, asked_role}
 use Rattle.proof_trees.specs.declared.steps.Step.{Step as ProofStep}
 use Rattle.proof_trees.specs.Proof.{IsProof}
-use Rattle.hall.specs.declared.faults.Fault.{Fault}
-use Rattle.hall.specs.declared.faults.Fault.TheVariants.{NotDone, NoProof, Memory}
-use Rattle.hall.specs.declared.calls.requests.Request.{Request}
+use Rattle.hall.specs.declared.faults.Fault.{Fault, TheVariants.NotDone, TheVariants.NoProof, TheVariants.Memory}
+use Rattle.hall.specs.declared.calls.{requests.Request.Request, events.Event.Event, replies.Reply.Reply}
 use Rattle.hall.specs.declared.calls.requests.Request.TheVariants as request
-use Rattle.hall.specs.declared.calls.answers.Answer.{Answer}
-use Rattle.hall.specs.declared.calls.answers.Answer.TheVariants.{Working, Broken}
-use Rattle.hall.specs.declared.calls.events.Event.{Event}
-use Rattle.hall.specs.declared.calls.replies.Reply.{Reply}
+use Rattle.hall.specs.declared.calls.answers.Answer.{Answer, TheVariants.Working, TheVariants.Broken}
 use Rattle.hall.specs.declared.calls.replies.Reply.TheVariants.{Opened, Answered, Proof, Refused}
 use Rattle.hall.specs.Answers.{Account, new_account, start_of, Sight, answer_of, Refuses, Answers}
-use Rattle.hall.specs.Run.{asks, request_of, Told, told_in, told_to, Turn, When, any_time, at_waits, IsRun, IsRunOf, IsExact}
+use Rattle.hall.specs.Run.{asks, request_of, Told, told_in, told_to, Turn, When, any_time, at_waits, IsRun, IsRunOf, AreRuns}
 use Rattle.hall.specs.Hall.{HallState, account_of, Happens, Run, AreDone, IsSound, new_hall}
 
 -- two proofs of one membership, from the same credentials
@@ -93,7 +89,8 @@ RefusalsComeFirst =
 -- what two scripts tell a tenant that begins alike, does the same and sees the same in both is equal, or proves the same
 abbrev pub ScriptsAreIsolated : Type 0
 ScriptsAreIsolated =
-    (tenant : List ℕ) (roster others : List (List ℕ × Quota)) (told more : List Told) → IsExact roster told → IsExact others more
+    (tenant : List ℕ) (roster others : List (List ℕ × Quota)) (told more : List Told)
+    → AreRuns at_waits roster told → AreRuns at_waits others more
     → start_of tenant roster ≡ start_of tenant others → AllZip IsSameDeed (told_to tenant [] told) (told_to tenant [] more)
     → HasMemory (told_to tenant [] told) → HasMemory (told_to tenant [] more)
     → AllZip (λ s t. Agree at_waits s.reply t.reply) (told_to tenant [] told) (told_to tenant [] more)
@@ -116,4 +113,4 @@ RunsAreAllowed =
 -- where tenants do all themselves, from a new hall on, what they are told is exact
 abbrev pub ScriptsAreExact : Type 0
 ScriptsAreExact =
-    (roster : List (List ℕ × Quota)) (new : HallState) (told : List Told) → AreDone (new_hall roster) told new → IsExact roster told
+    (roster : List (List ℕ × Quota)) (new : HallState) (told : List Told) → AreDone (new_hall roster) told new → AreRuns at_waits roster told

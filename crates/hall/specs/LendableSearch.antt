@@ -1,8 +1,6 @@
 -- A search, however its keeper carries it.
-use Rattle.std.specs.Prelude.{[]}
-use Rattle.std.specs.Arc.{arc_value}
-use Rattle.hall.specs.declared.lendable_searches.LendableSearch.{LendableSearch}
-use Rattle.hall.specs.declared.lendable_searches.LendableSearch.TheVariants.{Own, Lent, Moving}
+use Rattle.std.specs.{Prelude.[], Arc.arc_value}
+use Rattle.hall.specs.declared.lendable_searches.LendableSearch.{LendableSearch, TheVariants.Own, TheVariants.Lent, TheVariants.Moving}
 use Rattle.search.specs.declared.queries.Query.TheVariants.{Who}
 use Rattle.search.specs.Search.{SearchState, new_search, IsCompleted}
 

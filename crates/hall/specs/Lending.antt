@@ -1,17 +1,12 @@
--- What the tenants of a hall end as, where one of their seats or searches was lent, and what becomes of a hall that lends a search.
+-- What the tenants of a hall end as, where one of their searches was lent, and what becomes of a hall that lends a search.
 use Rattle.std.specs.Prelude.{◌≡◌, ℕ, List, Some, Result, Ok, Err}
-use Rattle.std.specs.{Borrow.Fml, Borrow.MutBor, Borrow.LendsIfOk, Borrow.LendsSoOk, FinMap.get, FinMap.insert}
+use Rattle.std.specs.{Borrow.Fml, Borrow.MutBor, Borrow.LendsSoOk, FinMap.get}
 use Rattle.vaults.specs.declared.changes.Entry.{Entry}
 use Rattle.hall.specs.declared.{faults.Fault.Fault, picking.Standing.Standing}
-use Rattle.hall.specs.Hall.{Running, Tenant, Tenants, HallState, with_search, search_at}
+use Rattle.hall.specs.Hall.{Running, Tenants, HallState, with_search, search_at}
 use Rattle.hall.specs.Kept.{IsNowhere, Stands}
 use Rattle.hall.specs.contracts.tenants.Tenants as tenants
-use Rattle.hall.specs.contracts.seats.Seat as seat
 use Rattle.hall.specs.contracts.open_searches.OpenSearch as opened
-
--- the tenant is what was left behind the loan
-abbrev pub LendsSeat : MutBor Tenants → List ℕ → Result (MutBor Tenant) Fault → Fml
-LendsSeat s who r = LendsIfOk tenants.the_row seat.the_row s r (insert s.now who) s.now
 
 -- the search goes on, in whichever hall they are, as what was left behind the loan
 abbrev pub LendsSearch : MutBor Tenants → List ℕ → ℕ → Result (MutBor Running) Fault → Fml

@@ -1,18 +1,14 @@
 -- What one tenant is told, one turn after another, by its own account and by what it has in sight alone.
 use Rattle.std.specs.Prelude.{◌≡◌, ◌≢◌, ℕ, List, [], ◌∷◌, ◌++◌, Option, None, Some, if◌then◌else◌}
-use Rattle.std.specs.List.{AllByRecursion}
-use Rattle.std.specs.FinMap.{get, insert}
+use Rattle.std.specs.{List.AllByRecursion, FinMap.get, FinMap.insert}
 use Rattle.names.specs.Name.{is_same}
 use Rattle.quotas.specs.Quota.{Quota}
 use Rattle.vaults.specs.declared.changes.Entry.{Entry}
 use Rattle.vaults.specs.Journal.{credentials}
 use Rattle.search.specs.Ending.{Settled, Nothing, MaySettle}
-use Rattle.hall.specs.declared.faults.Fault.TheVariants.{NoTenant}
-use Rattle.hall.specs.declared.calls.requests.Request.{Request}
-use Rattle.hall.specs.declared.calls.requests.Request.TheVariants.{Alter, Poll}
-use Rattle.hall.specs.declared.calls.replies.Reply.{Reply}
-use Rattle.hall.specs.declared.calls.replies.Reply.TheVariants.{Counted, Refused}
-use Rattle.hall.specs.declared.calls.events.Event.{Event}
+use Rattle.hall.specs.declared.{faults.Fault.TheVariants.NoTenant, calls.events.Event.Event}
+use Rattle.hall.specs.declared.calls.requests.Request.{Request, TheVariants.Alter, TheVariants.Poll}
+use Rattle.hall.specs.declared.calls.replies.Reply.{Reply, TheVariants.Counted, TheVariants.Refused}
 use Rattle.hall.specs.declared.calls.events.Event.TheVariants as event
 use Rattle.hall.specs.Answers.{Asked, Account, start_of, Sight, sight, Answers}
 
@@ -101,8 +97,7 @@ abbrev pub IsRunOf : When → List ℕ → Option Account → List Turn → Opti
 IsRunOf when tenant None turns end = AllByRecursion (λ (t : Turn). t.reply ≡ Refused NoTenant) turns × (end ≡ None)
 IsRunOf when tenant (Some a) turns end = (b : Account) × (end ≡ Some b) × IsRun when tenant a turns b
 
--- to each tenant of a roster what was told is a run of its own turns that begins with nothing done and nothing entered, and in
--- which searches settle at its waits alone
-abbrev pub IsExact : List (List ℕ × Quota) → List Told → Type 0
-IsExact roster told =
-    (tenant : List ℕ) → (end : Option Account) × IsRunOf at_waits tenant (start_of tenant roster) (told_to tenant [] told) end
+-- to each tenant of a roster what was told is a run of its own turns that begins with nothing done and nothing entered
+abbrev pub AreRuns : When → List (List ℕ × Quota) → List Told → Type 0
+AreRuns when roster told =
+    (tenant : List ℕ) → (end : Option Account) × IsRunOf when tenant (start_of tenant roster) (told_to tenant [] told) end

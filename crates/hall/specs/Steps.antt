@@ -29,10 +29,6 @@ pub record Signals (old : SearchState) (place : ℕ) (delivered : Bool) (new : S
   pub monitors : new.monitors ≡ old.monitors
   pub question : SameQuestion old new
 
-abbrev pub gave_back : Bool → Stepped
-gave_back true = stepped.Back
-gave_back false = stepped.NotHeld
-
 abbrev pub finish_answer : Finished → Stepped
 finish_answer finished.Done = stepped.Done
 finish_answer finished.BadHint = stepped.BadHint
@@ -44,7 +40,8 @@ finish_answer finished.NotHeld = stepped.NotHeld
 abbrev pub IsMade : SearchState → Step → Stepped → SearchState → Type 0
 IsMade old (step.Take name k place) answer new =
     (got : Option (ℕ × Need)) × TakesAt old place got new × (answer ≡ option_map_or (λ l. stepped.Took l.0 l.1) got stepped.Nothing)
-IsMade old (step.GiveBack name k letter) answer new = (back : Bool) × PutsBack old letter back new × (answer ≡ gave_back back)
+IsMade old (step.GiveBack name k letter) answer new =
+    (back : Bool) × PutsBack old letter back new × (answer ≡ (if back then stepped.Back else stepped.NotHeld))
 IsMade old (step.Finish name k letter hint) answer new = (f : Finished) × Finishes old new letter hint f × (answer ≡ finish_answer f)
 IsMade old (step.Signal name k place) answer new =
     (delivered : Bool) × Signals old place delivered new × (answer ≡ (if delivered then stepped.Signalled else stepped.Nothing))
@@ -62,8 +59,3 @@ StepsEach old new (made ∷ more) (answer ∷ answers) =
     (middle : SearchState) × StepsSearch old made answer middle × StepsEach middle new more answers
 StepsEach old new [] (answer ∷ answers) = ⊥
 StepsEach old new (made ∷ more) [] = ⊥
-
--- the search goes on with its question, and may settle
-pub record SearchGoesOn (old new : SearchState) : Type 0 where
-  pub question : SameQuestion old new
-  pub settles : Settles old new

@@ -23,16 +23,11 @@ pub record TakenLetter : Type 0 where
   pub need : Need
   pub snapshot : SnapshotState
 
--- the job is the letter that was taken of that search, with what the search reads
-pub record IsJobOf (h : HallState) (who : List ℕ) (number : ℕ) (answer : Stepped) (job : TakenLetter) : Type 0 where
-  pub tenant : job.who ≡ who
-  pub search : job.number ≡ number
-  pub took : answer ≡ Took job.letter job.need
-  pub reads : (r : Running) × (search_at h who number ≡ Some r) × (job.snapshot ≡ r.search.snapshot)
-
+-- the job is the letter that was taken of that search, with what the search reads; or there is none
 abbrev pub IsJobOrNone : HallState → List ℕ → ℕ → Stepped → Option TakenLetter → Type 0
 IsJobOrNone h who number answer None = (answer ≡ Nothing) ⊎ (answer ≡ Gone)
-IsJobOrNone h who number answer (Some job) = IsJobOf h who number answer job
+IsJobOrNone h who number answer (Some job) = (job.who ≡ who) × (job.number ≡ number) × (answer ≡ Took job.letter job.need)
+    × IsSomeAnd (search_at h who number) (λ r. job.snapshot ≡ r.search.snapshot)
 
 -- a take, with the job that it gives
 abbrev pub IsTaken : HallState → List ℕ → ℕ → ℕ → Option TakenLetter → HallState → Type 0
@@ -114,8 +109,7 @@ AsksForSteps _ = ⊥
 abbrev pub StillWorks : HallState → List ℕ × ℕ → Type 0
 StillWorks h name = IsSomeAnd (search_at h name.0 name.1) (λ r. IsUnsettled r.search)
 
--- from one hall to another the searches come to their ends that are told, and no others: each of these worked, or is the one of this name,
--- and works no more; none works again
+-- from one hall to another these searches come to their ends, and no others: each worked, or is of this name; and none works again
 pub record TellsEnds (own : Option (List ℕ × ℕ)) (old new : HallState) (told : List (List ℕ × ℕ)) : Type 0 where
   pub each : (name : List ℕ × ℕ) → StillWorks old name → StillWorks new name ⊎ Contains told name
   pub were : (name : List ℕ × ℕ) → Contains told name → StillWorks old name ⊎ (own ≡ Some name)
@@ -158,7 +152,3 @@ pub record IsCompletedAt (h : HallState) (who : List ℕ) (number : ℕ) (s : Se
   pub there : search_at h who number ≡ Some running
   pub is : running.search ≡ s
   pub completed : IsCompleted s.stage
-
--- the tenant has no search of that number that is completed
-abbrev pub NoneIsCompletedAt : HallState → List ℕ → ℕ → Type 0
-NoneIsCompletedAt h who number = (s : SearchState) → IsCompletedAt h who number s → ⊥

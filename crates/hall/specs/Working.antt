@@ -3,9 +3,8 @@ use Rattle.std.specs.Prelude.{◌≡◌, ℕ, Bool, true, false, List, ◌++◌,
 use Rattle.std.specs.List.{filter_map}
 use Rattle.search.specs.{declared.queries.Need.Need, Search.SearchState, Stage.IsQuiet}
 use Rattle.hall.specs.declared.{orders.Order.Order, orders.Next.Next, calls.steps.Stepped.Stepped}
-use Rattle.hall.specs.declared.{working.Went.Went, picking.Standing.Standing}
+use Rattle.hall.specs.declared.{working.Went.Went, picking.Standing.Standing, orders.Order.TheVariants.GoOn, orders.Next.TheVariants.Worked}
 use Rattle.hall.specs.declared.picking.Standing.TheVariants.{Moves, Rests, Over}
-use Rattle.hall.specs.declared.{orders.Order.TheVariants.GoOn, orders.Next.TheVariants.Worked}
 use Rattle.hall.specs.declared.orders.Next.TheVariants as goes_so
 use Rattle.hall.specs.declared.working.Went.TheVariants.{Nowhere, On, NoMemory}
 use Rattle.hall.specs.Work.{HandsInBatch, GoesOn, GoesOnAs, Makes, SearchIsQuiet, TellsEnds}
@@ -24,8 +23,7 @@ MakesStep s true t held holds =
     × (holds ≡ held ++ filter_map (λ m. m) (move ∷ []))
 MakesStep s false t held holds = (t ≡ s) × (holds ≡ held) × IsQuiet s.stage
 
--- how the search of that name goes on once letters were handed in to it: it does where that was asked, something is left, and there is
--- memory to share what it reads
+-- how the search of that name goes on then: it does where that was asked, something is left, and there is memory to share what it reads
 abbrev pub WentAs : Order → ℕ → ℕ → List ℕ × ℕ → SearchState → Went → SearchState → BatchState → Type 0
 WentAs asked most room name s Nowhere t has = (asked ≡ GoOn → IsQuiet s.stage) × (t ≡ s) × IsEmpty has × (has.room ≡ room)
 WentAs asked most room name s On t has =
@@ -49,8 +47,7 @@ next_of Rests On = Some (Worked false)
 next_of Over On = Some (Worked false)
 next_of standing NoMemory = Some goes_so.NoMemory
 
--- the letters of the batch are handed in to the search of that name in a hall, and it goes on so, or doesn't, where that wasn't asked or
--- nothing of it is left
+-- the same in a hall: the search of that name goes on so, or doesn't, where that wasn't asked or nothing of it is left
 pub record WorksOnOne (asked : Order) (most : ℕ) (old : HallState) (name : List ℕ × ℕ) (had : BatchState) (finished : ℕ)
     (next : Option Next) (new : HallState) (has : BatchState) : Type 0 where
   pub middle : HallState

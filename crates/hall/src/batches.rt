@@ -64,8 +64,8 @@ impl Model for Batch {
 }
 
 impl Batch {
-    ghost use Rattle.std.specs.Prelude.{None, option_map};
-    ghost use Rattle.hall.specs.Batches.{IsEmpty, IsLookedUp, IsNextLetter, name_of};
+    ghost use Rattle.std.specs.Prelude.{None, Some, option_map, slice_get};
+    ghost use Rattle.hall.specs.Batches.{IsEmpty, IsLookedUp, name_of};
 
     /// No letter, with room for so many.
     pub fn make(alloc: Global, room: usize) -> Result<Batch, AllocError>
@@ -93,7 +93,8 @@ impl Batch {
 
     /// The number of the letter that is to be looked up next.
     pub fn next(&self) -> Option<u64>
-        ensures { MatchOption result (IsLookedUp self.now) (IsNextLetter self.now) }
+        ensures { MatchOption result (IsLookedUp self.now)
+            (λ letter. (need : Need) × (slice_get self.now.letters self.now.looked ≡ Some (letter, need))) }
     {
         let held_letter = self.held_letters.get(self.looked)?;
         Some(held_letter.letter)

@@ -65,12 +65,12 @@ impl Drop for Hall {
 
 impl Hall {
     ghost use Rattle.hall.specs.declared.calls.steps.Step.TheVariants as step;
-    ghost use Rattle.std.specs.Prelude.{MatchOption};
+    ghost use Rattle.std.specs.Prelude.{MatchOption, IsSomeAnd};
     ghost use Rattle.{std.specs.Arc.arc_value, search.specs.Search.SearchState, hall.specs.Run.waits};
     ghost use Rattle.hall.specs.Hall.{Running};
     ghost use Rattle.std.specs.Borrow.{MutBor};
-    ghost use Rattle.hall.specs.{Kept.Continues, Kept.LetterWaits, Lending.LendsTo};
-    ghost use Rattle.hall.specs.Work.{IsTaken, SearchIsQuiet, IsCompletedAt, NoneIsCompletedAt};
+    ghost use Rattle.hall.specs.{Kept.Continues, Kept.HasWaiting, Lending.LendsTo};
+    ghost use Rattle.hall.specs.Work.{IsTaken, SearchIsQuiet, IsCompletedAt};
 
     /// The hall of these tenants, where nothing was done yet.
     pub fn make(alloc: Global, roster: Vec<(Entity, Limits)>) -> Result<Hall, Fault>
@@ -208,7 +208,7 @@ impl Hall {
         ensures taken { IfOk result (λ job. IsTaken self.old who number place job self.new) }
         ensures only_memory { IfErr result (λ f. f ≡ Fault.Memory) }
         ensures unchanged { OnErr result (self.new ≡ self.old) }
-        ensures waits { OnErr result (LetterWaits self.old who number place) }
+        ensures waits { OnErr result (IsSomeAnd (search_at self.old who number) (λ r. HasWaiting place r.search)) }
     {
         let Ok((taken, _standing)) = self.lend(
             &who,
@@ -287,7 +287,7 @@ impl Hall {
     /// The tenant's search of the number, shared, where there is one that is completed. Nothing changes it again, so who has it
     /// makes its list and its proofs without the hall. Memory may lack the first time, to share it.
     pub fn completed(&mut self, who: Entity, number: u64) -> Result<Option<Arc<Search>>, AllocError>
-        ensures completed { IfOk result (λ r. MatchOption r (NoneIsCompletedAt self.old who number)
+        ensures completed { IfOk result (λ r. MatchOption r ((s : SearchState) → IsCompletedAt self.old who number s → ⊥)
             (λ shared. IsCompletedAt self.old who number (arc_value shared))) }
         ensures lacks { OnErr result ((s : SearchState) × IsCompletedAt self.old who number s) }
         ensures same { self.new ≡ self.old }

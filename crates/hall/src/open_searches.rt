@@ -4,7 +4,7 @@ ghost use Rattle.search.specs.{Stage.IsQuiet, Search.SearchState, Search.IsCompl
 ghost use Rattle.hall.specs.declared.calls.requests.Request.TheVariants as request;
 ghost use Rattle.hall.specs.declared.calls.replies.Reply.TheVariants as reply;
 ghost use Rattle.hall.specs.{Answers.IsToldOver, Hall.known, Hall.told_as};
-ghost use Rattle.hall.specs.{Kept.DrivesTo, Kept.IsToldOf, Kept.IsNext, Steps.IsMade, Steps.StepsSearch};
+ghost use Rattle.hall.specs.{Hall.IsCarriedOn, Kept.IsToldOf, Kept.IsNext, Steps.IsMade, Steps.StepsSearch};
 
 use crate::batches::Batch;
 use crate::calls::{Answer, Step, Stepped};
@@ -79,7 +79,8 @@ impl OpenSearch {
 
     /// Carries the search on until nothing more of it can be, and tells what it has come to.
     pub(crate) fn drive(&mut self) -> Result<Answer, Fault>
-        ensures driven { DrivesTo self.old.search result self.new.search }
+        ensures driven { IsCarriedOn self.old.search self.new.search }
+        ensures told { IsToldOf (settled_of self.new.search) result }
         ensures continues { Continues self.old self.new }
     {
         if let LendableSearch::Own(search) = &mut self.carried {

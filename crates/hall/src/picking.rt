@@ -1,7 +1,7 @@
 //! Which searches of a hall may still go on, and which of them has its turn.
 ghost use Rattle.std.specs.Prelude.{◌≡◌, ◌≤◌, ◌↔◌, None, IfSome, OnOk, MatchOption};
 ghost use Rattle.std.specs.List.{AllByRecursion};
-ghost use Rattle.{search.specs.Search.IsSoundStage, hall.specs.Hall.step_name, hall.specs.Hall.step_search};
+ghost use Rattle.{search.specs.Search.IsSoundStage, hall.specs.Hall.search_of_step};
 ghost use Rattle.hall.specs.Work.{SearchIsQuiet, NothingToDo, CanBeMade};
 ghost use Rattle.hall.specs.Kept.{IsUnsettled, Lists, KeepsBut, Stands};
 
@@ -88,7 +88,7 @@ impl Hall {
     /// A step that goes on with a search, if anything waits or is under way. Tenants take turns, and a tenant's searches do.
     pub fn pick(&self, turn: u64) -> Option<Step>
         ensures progress { IfSome result (λ step. CanBeMade self.now step) }
-        ensures left { IfSome result (λ step. SearchIsQuiet self.now (step_name step) (step_search step) → ⊥) }
+        ensures left { IfSome result (λ step. SearchIsQuiet self.now (search_of_step step).0 (search_of_step step).1 → ⊥) }
         ensures none { (result ≡ None) ↔ NothingToDo self.now }
     {
         let (place, round) = begin_at(self.busy.len(), turn);
@@ -104,7 +104,7 @@ impl Hall {
     /// A step of one of the tenant's searches of these numbers. The turn picks which of them is looked at first.
     fn pick_of(&self, who: Entity, numbers: &IndexSet<u64>, turn: u64) -> Option<Step>
         ensures { MatchOption result (AllByRecursion (SearchIsQuiet self.now who) numbers.now.keys)
-            (λ step. CanBeMade self.now step × (SearchIsQuiet self.now (step_name step) (step_search step) → ⊥)) }
+            (λ step. CanBeMade self.now step × (SearchIsQuiet self.now (search_of_step step).0 (search_of_step step).1 → ⊥)) }
     {
         let (place, _round) = begin_at(numbers.len(), turn);
         let (before, from_there) = numbers.as_slice().split_at(place);

@@ -36,7 +36,10 @@ impl Model for Tenants {
 }
 
 impl Tenants {
-    ghost use Rattle.hall.specs.Lending.{LendsSeat, LendsSearch};
+    ghost use Rattle.std.specs.{Borrow.LendsIfOk, FinMap.insert};
+    ghost use Rattle.hall.specs.Lending.{LendsSearch};
+    ghost use Rattle.hall.specs.contracts.tenants.Tenants as tenants;
+    ghost use Rattle.hall.specs.contracts.seats.Seat as seat;
 
     /// The tenants of the roster, none of which has done anything.
     pub(crate) fn new(alloc: Global, roster: &[(Entity, Limits)]) -> Result<Tenants, AllocError>
@@ -65,7 +68,7 @@ impl Tenants {
     /// The tenant's seat, to change.
     #[inline(always)]
     pub(crate) fn seat_mut(&mut self, who: &Entity) -> Result<&mut Seat, Fault>
-        ensures* lends { sem 𝓛 (LendsSeat self.entry who.now result) }
+        ensures* lends { sem 𝓛 (LendsIfOk tenants.the_row seat.the_row self.entry result (insert self.entry.now who.now) self.entry.now) }
         ensures here { IfOk result (λ seat. get self.old who.now ≡ Some seat.now) }
         ensures nobody { IfErr result (λ f. (f ≡ Fault.NoTenant) × (get self.old who.now ≡ None)) }
     {

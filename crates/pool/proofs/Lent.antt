@@ -13,7 +13,7 @@ use Rattle.hall.specs.declared.calls.requests.Request.TheVariants as request
 use Rattle.hall.specs.declared.calls.replies.Reply.{Reply}
 use Rattle.hall.specs.declared.calls.replies.Reply.TheVariants as reply
 use Rattle.hall.specs.Hall.{HallState, Running, known, search_at, IsSound}
-use Rattle.hall.specs.Work.{IsCompletedAt}
+use Rattle.hall.specs.Work.{IsCompletedAt, StillWorks}
 use Rattle.hall.proofs.laws.HallChanges.{tenant_of}
 use Rattle.pool.specs.declared.faults.DeskFault.{DeskFault}
 use Rattle.pool.specs.declared.turns.Item.{Item}
@@ -24,7 +24,7 @@ use Rattle.pool.specs.Histories.{Reaches, ReadsIn, number_read, IsReadOff, IsOpe
 use Rattle.pool.specs.Verdicts.{IsTrueWhereCompleted}
 use Rattle.pool.specs.Passes.{PassState, own_calls}
 use Rattle.pool.specs.Rooms.{RoomState, IsKept}
-use Rattle.pool.specs.Served.{IsTold, IsRefused, IsAnswered, Suits, IsReadAs, IsLent, IsVerdictOn, IsPolled, IsPolledIn, IsAtWork}
+use Rattle.pool.specs.Served.{IsTold, IsRefused, IsAnswered, Suits, IsReadAs, IsLent, IsVerdictOn, IsPolled, IsPolledIn}
 use Rattle.pool.proofs.Admitting.{search_found, read_served}
 use Rattle.pool.proofs.Reaching.{opening_stays}
 use Rattle.pool.proofs.Told.{next_item}
@@ -118,7 +118,7 @@ lent_polled at old new k s lent result on = record { polled = polled result on; 
     polled (Err fault) (inl (f, is, over)) = inl (subst (IsRefused old new (request.Poll k)) (sym is) (told (reply.Refused f) over))
     polled (Err fault) (inr (is, (answer, over))) = inr (is, (answer, told (reply.Answered answer) over))
 
-    working : (r : Result Verdict DeskFault) → IsVerdictOn s r → IfOk r (λ v. v.answer ≡ Working → IsAtWork at old.tenant k)
+    working : (r : Result Verdict DeskFault) → IsVerdictOn s r → IfOk r (λ v. v.answer ≡ Working → StillWorks at.hall (old.tenant, k))
     working (Ok v) (over, query, snapshot) = λ is.
         works_there at old.tenant k v.answer lent.kept.sound (read_served at.hall old.tenant (request.Poll k) s (reply.Answered v.answer) lent.reads (over_read s k (reply.Answered v.answer) over)) is
     working (Err fault) on = tt

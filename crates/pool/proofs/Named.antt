@@ -1,17 +1,11 @@
 -- The items of one name.
-use Rattle.std.proofs.Common.{◌≡◌, ◌≢◌, ◌∙◌, ◌==◌, ℕ, Bool, true, false, cond, List, [], ◌∷◌, ◌++◌, ◌<◌, ap, arith, inl, inr}
+use Rattle.std.proofs.Common.{◌≡◌, ◌≢◌, ◌∙◌, ◌==◌, ℕ, Bool, false, cond, List, [], ◌∷◌, ◌++◌, ◌<◌, ap, arith, inl, inr}
 use Rattle.std.proofs.lemmas.List.{append-nil}
 use Rattle.std.proofs.lemmas.List.Elements.{filter-append}
 use Rattle.std.proofs.lemmas.Bool.Decides.{eqb_tells}
 use Rattle.pool.specs.declared.turns.Item.{Item}
 use Rattle.pool.specs.Fronts.{name_of, own_of}
 use Rattle.pool.specs.Rules.{AreNamed}
-
--- an item of the name
-pub own_same : (name : ℕ) (xs : List Item) (i : Item) → name_of i ≡ name → own_of name (xs ++ i ∷ []) ≡ own_of name xs ++ i ∷ []
-own_same name xs i is =
-    let bit : (name_of i == name) ≡ true = elim (eqb_tells (name_of i) name) [ inl e ↦ e.0 | inr e ↦ absurd (e.1 is) ] in
-    filter-append (λ (j : Item). name_of j == name) xs (i ∷ []) ∙ ap (λ (b : Bool). own_of name xs ++ cond b (i ∷ []) []) bit
 
 -- an item of another
 pub own_other : (name : ℕ) (xs : List Item) (i : Item) → name_of i ≢ name → own_of name (xs ++ i ∷ []) ≡ own_of name xs

@@ -14,7 +14,7 @@ use Rattle.hall.specs.Answers.{Account, Sight, start_of, sight, Grants, Answers,
 use Rattle.hall.specs.Run.{Told, Turn, entered, told_to, any_time, IsRun, IsRunOf}
 use Rattle.hall.proofs.laws.HallTurns.{turn_at}
 use Rattle.pool.specs.Histories.{journal_after, turn}
-use Rattle.pool.specs.Laws.{openings_of, WasTold, CountsAreExact, NumbersAreExact, VaultsAreExact, SightsAreExact}
+use Rattle.pool.specs.Laws.{openings_of, WasTold, RepliesAreExact}
 use Rattle.pool.proofs.Accounts.{Holds, account_behind, begins_empty}
 use Rattle.pool.proofs.Truths.{own_turn}
 
@@ -59,25 +59,20 @@ module _ (before : List Told) (who : List ℕ) (q : Request) (told : Reply) (oth
       by end None none run = absurd (other NoTenant (refused_at (told_to who [] before) _ (turn_at who (journal_after [] before) (turn who q told)) run.0))
       by end (Some a) start run = granted_in _ a run.0 (begins_empty who was.roster a start) run.2
 
-pub counts_exact : CountsAreExact
-counts_exact before who change n was =
+pub replies_exact : RepliesAreExact
+replies_exact before who (request.Alter change) (reply.Counted n) was =
     let has = was_granted before who (request.Alter change) (reply.Counted n) (λ f is. cc) was in
     let is : n ≡ length has.account.entries + 1 = (let told = has.gets.0 in cc) in
     is ∙ ap (λ (es : List Entry). length es + 1) has.entries
-
-pub numbers_exact : NumbersAreExact
-numbers_exact before who query n was =
+replies_exact before who (request.Seek query) (reply.Opened n) was =
     let has = was_granted before who (request.Seek query) (reply.Opened n) (λ f is. cc) was in
     let is : n ≡ has.account.opens + 1 = (let told = has.gets.0 in cc) in
     is ∙ ap (λ (k : ℕ). k + 1) has.opens
-
-pub vaults_exact : VaultsAreExact
-vaults_exact before who rows was =
+replies_exact before who request.Vault (reply.Vault rows) was =
     let has = was_granted before who request.Vault (reply.Vault rows) (λ f is. cc) was in
     let is : rows ≡ vault has.account.entries who = (let told = has.gets.0 in cc) in
     is ∙ ap (λ (es : List Entry). vault es who) has.entries ∙ vaults_own (journal_after [] before) who
-
-pub sights_exact : SightsAreExact
-sights_exact before who seen was =
+replies_exact before who request.Sees (reply.Sees seen) was =
     let has = was_granted before who request.Sees (reply.Sees seen) (λ f is. cc) was in
     let told = has.gets.0 in cc
+replies_exact before who q answer was = tt

@@ -7,8 +7,7 @@ use Rattle.std.specs.FinMap.{get}
 use Rattle.std.proofs.Common.{◌≡◌, ◌∙◌, ℕ, Bool, true, false, List, ap, sym, subst, inl, inr, Some, Option, None, option_map, refl, Result, Ok, Err}
 use Rattle.credential_text.specs.declared.credentials.Credential.{Credential}
 use Rattle.vaults.specs.Journal.{credentials}
-use Rattle.search.specs.Search.{status_of, settled_of}
-use Rattle.search.specs.declared.outcomes.Status.TheVariants as status
+use Rattle.search.specs.Search.{settled_of}
 use Rattle.search.specs.declared.queries.Query.{Query}
 use Rattle.search.specs.Ending.{Settled, Nothing, IsTruth, answers, spends, breaks, MaySettle}
 use Rattle.hall.specs.declared.calls.answers.Answer.{Answer}
@@ -18,6 +17,7 @@ use Rattle.hall.specs.declared.faults.Fault.{Fault}
 use Rattle.hall.specs.declared.calls.replies.Reply.{Reply}
 use Rattle.hall.specs.declared.calls.replies.Reply.TheVariants.{Answered, Refused}
 use Rattle.hall.specs.Answers.{Asked, answer_of, IsAnswer}
+use Rattle.hall.specs.{Kept.IsUnsettled, Work.StillWorks}
 use Rattle.hall.specs.Hall.{Running, Tenant, HallState, search_of, search_at, seen, IsSound, IsServed}
 use Rattle.hall.proofs.Maps.{numbers_exact, get_mapped}
 use Rattle.hall.proofs.laws.RightAnswers.{same_answer}
@@ -29,7 +29,7 @@ use Rattle.pool.specs.declared.turns.Item.TheVariants as item
 use Rattle.pool.specs.Fronts.{HasStop}
 use Rattle.pool.specs.Passes.{PassState}
 use Rattle.pool.specs.Rooms.{RoomState, IsKept}
-use Rattle.pool.specs.Served.{IsAtWork, IsPolledIn, IsWaited}
+use Rattle.pool.specs.Served.{IsPolledIn, IsWaited}
 use Rattle.pool.proofs.Served.{granted}
 
 truth_told : (C : List Credential) (q : Query) (s : Settled) → (IsAnswer s → IsTruth C q s) → IsTrueWhereCompleted C q (answer_of s)
@@ -95,24 +95,24 @@ nothing_granted h new who k told other served none =
     by t s None at found there = let clash : None ≡ Some s = sym (ap (option_map seen) at) ∙ found in cc
     by t s (Some r) at found there = let clash : None ≡ Some r.search = there ∙ ap (option_map (λ (one : Running). one.search)) at in cc
 
--- nothing yet is told of a search at work
-at_work : (s : Settled) → answer_of s ≡ Working → status_of s ≡ status.Working
-at_work Nothing is = refl
-at_work s is = cc
+-- nothing yet is told of a search that still works
+still_works : (s : Settled) → answer_of s ≡ Working → s ≡ Nothing
+still_works Nothing is = refl
+still_works s is = cc
 
--- a search that tells nothing yet is at work
-pub works_there : (at : RoomState) (who : List ℕ) (k : ℕ) (a : Answer) → IsSound at.hall → IsServed at.hall who (Poll k) (Answered a) at.hall → a ≡ Working → IsAtWork at who k
+-- a search that tells nothing yet still works
+pub works_there : (at : RoomState) (who : List ℕ) (k : ℕ) (a : Answer) → IsSound at.hall → IsServed at.hall who (Poll k) (Answered a) at.hall → a ≡ Working → StillWorks at.hall (who, k)
 works_there at who k a sound served working =
     let (r, found) = polled_search at.hall who k a sound served in
-    subst (λ (o : Option Running). IsSomeAnd o (λ one. status_of (settled_of one.search) ≡ status.Working)) (sym found.there)
-    (at_work (settled_of r.search) (sym found.tells ∙ working))
+    subst (λ (o : Option Running). IsSomeAnd o (λ one. IsUnsettled one.search)) (sym found.there)
+    (still_works (settled_of r.search) (sym found.tells ∙ working))
 
 -- a stop that is told is seen by who has seen more
 pub stop_seen : (told seen : List Item) → HasStop told → IsPrefix told seen → HasStop seen
 stop_seen told seen (name, has) (more, is) = (name, subst (λ (l : List Item). Contains l (item.Stopped name)) is (Contains-append_left told more (item.Stopped name) has))
 
 -- where a wait is over a poll tells nothing yet only after a stop
-pub waited : (at : RoomState) (old new : PassState) (k : ℕ) (result : Result Verdict DeskFault) → IsKept at → ((at.stopped ≡ false) × IsAtWork at old.tenant k → ⊥) → IsPolledIn at old new k result →
+pub waited : (at : RoomState) (old new : PassState) (k : ℕ) (result : Result Verdict DeskFault) → IsKept at → ((at.stopped ≡ false) × StillWorks at.hall (old.tenant, k) → ⊥) → IsPolledIn at old new k result →
     IsWaited old new k result
 waited at old new k (Err fault) kept over polled = (polled.polled, tt)
 waited at old new k (Ok v) kept over polled = (polled.polled, λ working. by working at.stopped refl)

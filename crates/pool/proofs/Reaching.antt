@@ -16,9 +16,9 @@ use Rattle.hall.specs.declared.calls.requests.Request.{Request}
 use Rattle.hall.specs.declared.calls.steps.Step.{Step}
 use Rattle.hall.specs.declared.calls.steps.Stepped.{Stepped}
 use Rattle.hall.specs.Answers.{Account, start_of}
-use Rattle.hall.specs.Run.{Told, any_time, IsRunOf}
-use Rattle.hall.specs.Hall.{HallState, Tenant, Running, known, account_of, search_at, beginning, IsSound, IsServed, StepsAt, IsStepped, step_name, step_search, told_as, new_hall}
-use Rattle.hall.proofs.laws.HallChanges.{EachSearch, inserted_each, replaced_each, new_each}
+use Rattle.hall.specs.Run.{Told, any_time, IsRunOf, AreRuns}
+use Rattle.hall.specs.Hall.{HallState, EachSearch, Tenant, Running, known, account_of, search_at, beginning, IsSound, IsServed, StepsAt, IsStepped, search_of_step, told_as, new_hall}
+use Rattle.hall.proofs.laws.HallChanges.{inserted_each, replaced_each, new_each}
 use Rattle.hall.proofs.laws.HallRequests.{opening, requested_each}
 use Rattle.hall.proofs.laws.HallRuns.{served_journal, stepped_journal}
 use Rattle.hall.proofs.laws.HallTurns.{empty_run}
@@ -26,7 +26,7 @@ use Rattle.hall.proofs.SearchSteps.{step_goes_on}
 use Rattle.pool.specs.declared.turns.Item.{Item}
 use Rattle.pool.specs.declared.turns.Item.TheVariants as item
 use Rattle.pool.specs.declared.turns.Noted.TheVariants as noted
-use Rattle.pool.specs.Histories.{AreRuns, journal_by, entered_by, turn, EndsIn, ReadsIn, Admits, is_turn, turns_of, AreTold, IsOpening, IsLegal, Reaches, item_of}
+use Rattle.pool.specs.Histories.{journal_by, entered_by, turn, EndsIn, ReadsIn, Admits, is_turn, turns_of, AreTold, IsOpening, IsLegal, Reaches, item_of}
 use Rattle.pool.proofs.GoOn.{serve_on, step_on}
 use Rattle.pool.proofs.Admitting.{read_served}
 use Rattle.pool.proofs.Deciding.{reads_admit}
@@ -107,15 +107,15 @@ opened_on items old new name who q told journal opened served =
 
 opened_over : (items : List Item) (old new : HallState) (made : Step) (answer : Stepped) → EachSearch (Opens items) old → IsStepped old made answer new →
     EachSearch (Opens items) new
-opened_over items old new made answer opened = by (search_at old (step_name made) (step_search made)) refl
+opened_over items old new made answer opened = by (search_at old (search_of_step made).0 (search_of_step made).1) refl
   where
-    by : (o : Option Running) → search_at old (step_name made) (step_search made) ≡ o → StepsAt old o made answer new → EachSearch (Opens items) new
+    by : (o : Option Running) → search_at old (search_of_step made).0 (search_of_step made).1 ≡ o → StepsAt old o made answer new → EachSearch (Opens items) new
     by None none steps = subst (EachSearch (Opens items)) (sym steps.1) opened
     by (Some r) at (s, steps, after) =
         let same = (step_goes_on r.search s made answer steps).question in
         subst (EachSearch (Opens items)) (sym after)
-        (replaced_each (Opens items) old (step_name made) (step_search made) r (record r { search = s }) (λ t m j u here. here) at
-        (λ t here. subst₂ (IsOpening items (step_name made) (step_search made)) (sym same.query) (sym same.snapshot) here) opened)
+        (replaced_each (Opens items) old (search_of_step made).0 (search_of_step made).1 r (record r { search = s }) (λ t m j u here. here) at
+        (λ t here. subst₂ (IsOpening items (search_of_step made).0 (search_of_step made).1) (sym same.query) (sym same.snapshot) here) opened)
 
 module _ (roster : List (List ℕ × Quota)) (items : List Item) (old : HallState) (sound : IsSound old) (reaches : Reaches roster items old) where
   -- a request that is served
@@ -198,6 +198,6 @@ new_reaches roster = record { journal = refl; ends = ends; some = ([], tt); open
 pub nothing_legal : (roster : List (List ℕ × Quota)) → IsLegal roster []
 nothing_legal roster = record { runs = none; some = ([], tt) }
   where
-    none : (told : List Told) → AreTold [] told → AreRuns roster told
+    none : (told : List Told) → AreTold [] told → AreRuns any_time roster told
     none [] are tenant = (start_of tenant roster, empty_run any_time tenant (start_of tenant roster))
     none (t ∷ told) are tenant = absurd are

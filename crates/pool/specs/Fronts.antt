@@ -1,6 +1,5 @@
 -- Whose an item of the history is.
-use Rattle.std.specs.Prelude.{ℕ, ◌==◌, List}
-use Rattle.std.specs.List.{filter, Contains}
+use Rattle.std.specs.{Prelude.ℕ, Prelude.◌==◌, Prelude.List, List.filter, List.Contains}
 use Rattle.pool.specs.declared.turns.Item.{Item}
 use Rattle.pool.specs.declared.turns.Item.TheVariants as item
 

@@ -1,25 +1,20 @@
 -- All that tenants were told, in one order, and the hall in which it ends.
 use Rattle.std.specs.Prelude.{◌≡◌, ℕ, Bool, true, false, List, [], ◌∷◌, ◌++◌, Option, None, Some, IsSomeAnd, option_map}
-use Rattle.std.specs.List.{filter, AllZip}
-use Rattle.std.specs.FinMap.{get}
+use Rattle.std.specs.{List.filter, List.AllZip, FinMap.get}
 use Rattle.quotas.specs.Quota.{Quota}
 use Rattle.vaults.specs.declared.changes.Entry.{Entry}
 use Rattle.vaults.specs.Journal.{view}
 use Rattle.snapshots.specs.Snapshot.{SnapshotState}
 use Rattle.search.specs.declared.queries.Query.{Query}
 use Rattle.search.specs.Search.{SearchState}
-use Rattle.hall.specs.declared.calls.events.Event.{Event}
-use Rattle.hall.specs.declared.calls.replies.Reply.{Reply}
-use Rattle.hall.specs.declared.calls.requests.Request.{Request}
-use Rattle.hall.specs.declared.calls.requests.Request.TheVariants.{Seek, Poll, Proof}
-use Rattle.hall.specs.declared.calls.replies.Reply.TheVariants.{Opened}
+use Rattle.hall.specs.declared.calls.{events.Event.Event, replies.Reply.Reply, replies.Reply.TheVariants.Opened}
+use Rattle.hall.specs.declared.calls.requests.Request.{Request, TheVariants.Seek, TheVariants.Poll, TheVariants.Proof}
 use Rattle.hall.specs.Answers.{Asked, Account, Sight, Answers, start_of}
-use Rattle.hall.specs.Run.{asks, Told, told_in, entered, told_to, any_time, IsRunOf}
-use Rattle.hall.specs.Hall.{HallState, Tenant, Running, known, search_at, account_of, IsSound, Run, told_as}
+use Rattle.hall.specs.Run.{asks, Told, told_in, entered, told_to, any_time, IsRunOf, AreRuns}
+use Rattle.hall.specs.Hall.{HallState, EachSearch, known, search_at, account_of, IsSound, Run, told_as}
 use Rattle.hall.specs.Work.{IsCompletedAt}
-use Rattle.pool.specs.declared.turns.Item.{Item}
+use Rattle.pool.specs.declared.turns.{Item.Item, Noted.Noted}
 use Rattle.pool.specs.declared.turns.Item.TheVariants as item
-use Rattle.pool.specs.declared.turns.Noted.{Noted}
 use Rattle.pool.specs.declared.turns.Noted.TheVariants as noted
 
 -- the journal after all that was told
@@ -30,11 +25,6 @@ journal_after journal (t ∷ more) = journal_after (entered journal t) more
 -- a request of the tenant, and what it was told
 abbrev pub turn : List ℕ → Request → Reply → Told
 turn tenant q told = record { tenant = tenant; deed = asks q; reply = told }
-
--- to each tenant of the roster what was told is a run of its own turns, from nothing done on
-abbrev pub AreRuns : List (List ℕ × Quota) → List Told → Type 0
-AreRuns roster told =
-    (tenant : List ℕ) → (end : Option Account) × IsRunOf any_time tenant (start_of tenant roster) (told_to tenant [] told) end
 
 -- what was told is a run to each tenant, and the hall is the one in which it ends
 pub record EndsIn (roster : List (List ℕ × Quota)) (told : List Told) (h : HallState) : Type 0 where
@@ -90,7 +80,7 @@ journal_by journal (i ∷ items) = journal_by (entered_by journal i) items
 
 -- the history is legal: whatever was told by its items is a run to each tenant, and something was
 pub record IsLegal (roster : List (List ℕ × Quota)) (items : List Item) : Type 0 where
-  pub runs : (told : List Told) → AreTold items told → AreRuns roster told
+  pub runs : (told : List Told) → AreTold items told → AreRuns any_time roster told
   pub some : (told : List Told) × AreTold items told
 
 -- by one of the items the tenant opened its search of this number, for this query, over its view of the journal as it was then
@@ -112,9 +102,7 @@ pub record Reaches (roster : List (List ℕ × Quota)) (items : List Item) (h : 
   pub journal : h.journal ≡ journal_by [] items
   pub ends : (told : List Told) → AreTold items told → EndsIn roster told h
   pub some : (told : List Told) × AreTold items told
-  pub opened :
-      (name : List ℕ) (t : Tenant) (k : ℕ) (r : Running) → get h.tenants name ≡ Some t → get t.searches k ≡ Some r
-      → IsOpening items name k r.search.query r.search.snapshot
+  pub opened : EachSearch (λ name t k r. IsOpening items name k r.search.query r.search.snapshot) h
 
 -- the item of what was noted, under the name of a pass
 abbrev pub item_of : ℕ → Noted → Item

@@ -3,19 +3,17 @@ use Rattle.std.specs.Prelude.{◌≡◌, ◌+◌, ◌&&◌, ◌==◌, if◌then�
 use Rattle.std.specs.List.{AllZip}
 use Rattle.names.specs.Name.{is_same}
 use Rattle.quotas.specs.Quota.{Quota}
-use Rattle.credential_text.specs.declared.credentials.Credential.{Credential}
-use Rattle.vaults.specs.declared.{changes.Change.Change, marks.Seen.Seen}
 use Rattle.vaults.specs.Journal.{entries_of, vault, marked_names, one_if}
-use Rattle.search.specs.{declared.queries.Query.Query, Search.SearchState}
+use Rattle.search.specs.Search.{SearchState}
 use Rattle.hall.specs.declared.calls.{requests.Request.Request, replies.Reply.Reply}
 use Rattle.hall.specs.declared.calls.requests.Request.TheVariants as request
 use Rattle.hall.specs.declared.calls.replies.Reply.TheVariants as reply
 use Rattle.hall.specs.{Answers.new_account, Answers.start_of, Hall.HallState, Hall.known, Hall.IsSound}
-use Rattle.hall.specs.Run.{Deed, asks, request_of, Told, told_to, any_time}
+use Rattle.hall.specs.Run.{Deed, asks, request_of, Told, told_to, any_time, AreRuns}
 use Rattle.hall.specs.Laws.{IsRight, IsSameDeed, HasMemory, Agree}
 use Rattle.pool.specs.declared.turns.Item.{Item}
 use Rattle.pool.specs.Fronts.{name_of, own_of}
-use Rattle.pool.specs.Histories.{turn, journal_after, turns_of, AreTold, AreRuns, IsLegal, ReadsIn, IsReadOff}
+use Rattle.pool.specs.Histories.{turn, journal_after, turns_of, AreTold, IsLegal, ReadsIn, IsReadOff}
 
 -- whatever a tenant was told by an item of a legal history is right, by what that tenant was told before
 abbrev pub HistoriesAreTrue : Type 0
@@ -24,8 +22,7 @@ HistoriesAreTrue =
     → IsLegal roster items → AreTold items told → told ≡ before ++ t ∷ after → start_of t.tenant roster ≡ Some (new_account limits)
     → IsRight limits.work (told_to t.tenant [] before) (request_of t.deed) t.reply
 
--- two legal histories, perhaps of services with other tenants, in which a tenant begins alike, does the same and has the same
--- in sight tell it what agrees
+-- two legal histories, perhaps of services with other tenants, in which a tenant begins alike, does and sees the same tell it what agrees
 abbrev pub HistoriesAgree : Type 0
 HistoriesAgree =
     (tenant : List ℕ) (roster others : List (List ℕ × Quota)) (items more : List Item) (told said : List Told)
@@ -58,39 +55,27 @@ abbrev pub openings_of : List ℕ → List Told → ℕ
 openings_of who [] = 0
 openings_of who (t ∷ more) = one_if (is_same t.tenant who && is_opening t.deed t.reply) + openings_of who more
 
--- an accepted change is told how many changes of its tenant were accepted, itself among them
-abbrev pub CountsAreExact : Type 0
-CountsAreExact =
-    (before : List Told) (who : List ℕ) (change : Change) (n : ℕ) → WasTold before who (request.Alter change) (reply.Counted n)
-    → n ≡ length (entries_of who (journal_after [] before)) + 1
+-- An accepted change is told how many of its tenant's were accepted, and an opening how many searches its tenant opened, itself
+-- among them; a tenant is told its own vault, and whom it reads, as the journal then has them
+abbrev pub IsExactReply : List Told → List ℕ → Request → Reply → Type 0
+IsExactReply before who (request.Alter change) (reply.Counted n) = n ≡ length (entries_of who (journal_after [] before)) + 1
+IsExactReply before who (request.Seek query) (reply.Opened n) = n ≡ openings_of who before + 1
+IsExactReply before who request.Vault (reply.Vault rows) = rows ≡ vault (journal_after [] before) who
+IsExactReply before who request.Sees (reply.Sees seen) = seen ≡ marked_names (journal_after [] before) who
+IsExactReply before who q answer = Unit {0}
 
--- an opening is told how many searches its tenant has opened, this one among them
-abbrev pub NumbersAreExact : Type 0
-NumbersAreExact =
-    (before : List Told) (who : List ℕ) (query : Query) (n : ℕ) → WasTold before who (request.Seek query) (reply.Opened n)
-    → n ≡ openings_of who before + 1
-
--- a tenant is told its own vault, as the journal then has it
-abbrev pub VaultsAreExact : Type 0
-VaultsAreExact =
-    (before : List Told) (who : List ℕ) (rows : List Credential) → WasTold before who request.Vault (reply.Vault rows)
-    → rows ≡ vault (journal_after [] before) who
-
--- a tenant is told whom it reads, as the journal then has it
-abbrev pub SightsAreExact : Type 0
-SightsAreExact =
-    (before : List Told) (who : List ℕ) (seen : List Seen) → WasTold before who request.Sees (reply.Sees seen)
-    → seen ≡ marked_names (journal_after [] before) who
+-- what tenants are told is exactly that
+abbrev pub RepliesAreExact : Type 0
+RepliesAreExact = (before : List Told) (who : List ℕ) (q : Request) (answer : Reply) → WasTold before who q answer → IsExactReply before who q answer
 
 -- of what was told by these items, what was told under the name
 abbrev pub lines_of : ℕ → List Item → List Told → List Told
 lines_of name (i ∷ items) (t ∷ told) = if name_of i == name then t ∷ lines_of name items told else lines_of name items told
 lines_of name _ _ = []
 
--- What sessions were told by the items of their names stands in one list of all that tenants were told, with nothing else under
--- these names, and that is a run to each tenant
+-- what sessions were told by the items of their names stands, and nothing else under these, in one list that is a run to each tenant
 abbrev pub SessionsAreRuns : Type 0
 SessionsAreRuns =
     (roster : List (List ℕ × Quota)) (items : List Item) (lines : ℕ → List Told) → IsLegal roster items
     → ((name : ℕ) → AreTold (own_of name items) (lines name))
-    → (told : List Told) × AreTold items told × AreRuns roster told × ((name : ℕ) → lines_of name (turns_of items) told ≡ lines name)
+    → (told : List Told) × AreTold items told × AreRuns any_time roster told × ((name : ℕ) → lines_of name (turns_of items) told ≡ lines name)

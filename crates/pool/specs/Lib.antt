@@ -3,7 +3,6 @@ pub mod Rules
 pub mod Histories
 pub mod Passes
 pub mod Rooms
-pub mod Notices
 pub mod Refusals
 pub mod Verdicts
 pub mod Served

@@ -5,8 +5,7 @@ use mathlib.Core.Option.{some}
 use lib.ListN.{get_elem?}
 use Rattle.atomic_table.specs.Table.{Me, Step}
 use Rattle.atomic_table.specs.Seated.{TableId}
-use Rattle.pool.specs.declared.turns.Item.{Item}
-use Rattle.pool.specs.declared.seats.Knows.{Knows}
+use Rattle.pool.specs.declared.{turns.Item.Item, seats.Knows.Knows}
 use Rattle.pool.specs.Fronts.{own_of}
 
 -- what names the ledgers and the history of a desk

@@ -1,31 +1,24 @@
 -- What a call by a pass came to, in the one history of all that tenants were told.
-use Rattle.std.specs.Prelude.{◌≡◌, ◌⊎◌, ◌++◌, ◌∷◌, [], ℕ, List, Result, Ok, Err, IfOk, IfSome, IsSomeAnd}
+use Rattle.std.specs.Prelude.{◌≡◌, ◌⊎◌, ◌++◌, ◌∷◌, [], ℕ, List, Result, Ok, Err, IfOk, IfSome}
 use mathlib.Core.List.{IsPrefix}
 use Rattle.std.specs.Arc.{arc_value}
-use Rattle.search.specs.Search.{status_of, SearchState, settled_of}
-use Rattle.search.specs.declared.outcomes.Status.TheVariants as status
-use Rattle.hall.specs.declared.faults.Fault.{Fault}
-use Rattle.hall.specs.declared.faults.Fault.TheVariants.{Memory}
-use Rattle.hall.specs.declared.calls.answers.Answer.{Answer}
-use Rattle.hall.specs.declared.calls.answers.Answer.TheVariants.{Working}
-use Rattle.hall.specs.declared.calls.requests.Request.{Request}
+use Rattle.search.specs.Search.{SearchState}
+use Rattle.hall.specs.declared.faults.Fault.{Fault, TheVariants.Memory}
+use Rattle.hall.specs.declared.calls.answers.Answer.{Answer, TheVariants.Working}
+use Rattle.hall.specs.declared.calls.{requests.Request.Request, replies.Reply.Reply}
 use Rattle.hall.specs.declared.calls.requests.Request.TheVariants as request
-use Rattle.hall.specs.declared.calls.replies.Reply.{Reply}
 use Rattle.hall.specs.declared.calls.replies.Reply.TheVariants as reply
 use Rattle.hall.specs.Answers.{Asked, IsToldOver}
-use Rattle.hall.specs.Hall.{known, search_at}
-use Rattle.pool.specs.declared.faults.DeskFault.{DeskFault}
-use Rattle.pool.specs.declared.faults.DeskFault.TheVariants.{Hall}
-use Rattle.pool.specs.declared.turns.Item.{Item}
+use Rattle.hall.specs.Hall.{known}
+use Rattle.hall.specs.Work.{StillWorks}
+use Rattle.pool.specs.declared.{faults.DeskFault.DeskFault, faults.DeskFault.TheVariants.Hall, turns.Item.Item, verdicts.Verdict.Verdict}
 use Rattle.pool.specs.declared.turns.Item.TheVariants as item
-use Rattle.pool.specs.declared.verdicts.Verdict.{Verdict}
 use Rattle.pool.specs.Fronts.{HasStop}
 use Rattle.pool.specs.Histories.{turn, Admits, ReadsIn, number_read, IsReadOff, IsOpening}
 use Rattle.pool.specs.Passes.{PassState, own_calls}
 use Rattle.pool.specs.Rooms.{RoomState, IsKept}
 
--- The history went on from what the pass had seen, to this item, which the pass has seen last. It is one call more of its own,
--- and the only one.
+-- the history went on from what the pass had seen to this item, which it has seen last: one call more of its own, and the only one
 pub record IsNext (old new : PassState) (i : Item) : Type 0 where
   pub before : List Item
   pub began : IsPrefix old.seen before
@@ -92,12 +85,8 @@ pub record IsLent (at : RoomState) (old new : PassState) (q : Request) (s : Sear
   pub reads : ReadsIn at.hall old.tenant q s
   pub opening : IfSome (number_read q) (λ k. IsOpening new.seen old.tenant k s.query s.snapshot)
 
--- the search is there, and has come to nothing yet
-abbrev pub IsAtWork : RoomState → List ℕ → ℕ → Type 0
-IsAtWork at who k = IsSomeAnd (search_at at.hall who k) (λ r. status_of (settled_of r.search) ≡ status.Working)
-
 -- a poll in this room, of which the pass has seen all that was told
 pub record IsPolledIn (at : RoomState) (old new : PassState) (k : ℕ) (result : Result Verdict DeskFault) : Type 0 where
   pub polled : IsPolled old new k result
   pub seen : IsPrefix at.told new.seen
-  pub working : IfOk result (λ v. v.answer ≡ Working → IsAtWork at old.tenant k)
+  pub working : IfOk result (λ v. v.answer ≡ Working → StillWorks at.hall (old.tenant, k))

@@ -1,8 +1,7 @@
 //! What holds of each history of a desk.
 ghost use Rattle.pool.specs.Histories.{HistoriesGoOn};
 ghost use Rattle.pool.specs.Passes.{SharesAddUp};
-ghost use Rattle.pool.specs.Laws.{HistoriesAreTrue, HistoriesAgree, ReadsAreTold, SessionsAreRuns};
-ghost use Rattle.pool.specs.Laws.{CountsAreExact, NumbersAreExact, VaultsAreExact, SightsAreExact};
+ghost use Rattle.pool.specs.Laws.{HistoriesAreTrue, HistoriesAgree, ReadsAreTold, RepliesAreExact, SessionsAreRuns};
 
 /// What happens to a sound hall goes on with the history that ends in it.
 pub fn histories_go_on()
@@ -37,8 +36,5 @@ pub fn shares_add_up()
 
 /// What a tenant is told in a legal history of changes, openings, vaults and names is what the turns before give it.
 pub fn replies_are_exact()
-    ensures counts { CountsAreExact }
-    ensures numbers { NumbersAreExact }
-    ensures vaults { VaultsAreExact }
-    ensures sights { SightsAreExact }
+    ensures { RepliesAreExact }
 {}

@@ -4,7 +4,7 @@
 //! All that tenants are told stands in one history, in the order of the lock, which exists in proofs alone
 //! (`specs/Histories.antt`). Each call of `Desk` adds one item to it, which admits the call's reply, and a pass has seen a
 //! beginning of it with all of its own calls (`specs/Served.antt`). Each accepted change that was told counts once in a ledger
-//! too (`specs/Passes.antt`). Whom a call or a visit has to wake is told by a `Notice` (`specs/Notices.antt`), which nobody can
+//! too (`specs/Passes.antt`). Whom a call or a visit has to wake is told by a `Notice` (`specs/Rooms.antt`), which nobody can
 //! drop. That who is woken goes on is shown by tests, since no clause speaks of it.
 //! Why so: docs/DECISIONS.md#pool.
 #![tactic(auto)]

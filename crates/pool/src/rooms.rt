@@ -8,13 +8,12 @@ ghost use Rattle.vaults.specs.Journal.{credentials};
 ghost use Rattle.search.specs.Search.{settled_of};
 ghost use Rattle.hall.specs.Answers.{answer_of};
 ghost use Rattle.hall.specs.declared.calls.requests.Request.TheVariants as request;
-ghost use Rattle.hall.specs.Hall.{IsServed, known, new_hall, search_at, told_as};
+ghost use Rattle.hall.specs.{Work.StillWorks, Hall.IsServed, Hall.known, Hall.new_hall, Hall.search_at, Hall.told_as};
 ghost use Rattle.pool.specs.declared.turns.Item.TheVariants as item;
 ghost use Rattle.pool.specs.Passes.{own_calls, share_of};
 ghost use Rattle.pool.specs.Fronts.{HasStop};
-ghost use Rattle.pool.specs.Rooms.{IsKept};
-ghost use Rattle.pool.specs.Notices.{request_concern};
-ghost use Rattle.pool.specs.Served.{IsAnswered, IsTold, IsRefused, Suits, IsLent, IsReadAs, IsPolledIn, IsVerdictOn, IsAtWork};
+ghost use Rattle.pool.specs.Rooms.{IsKept, request_concern};
+ghost use Rattle.pool.specs.Served.{IsAnswered, IsTold, IsRefused, Suits, IsLent, IsReadAs, IsPolledIn, IsVerdictOn};
 ghost use Rattle.pool.specs.Verdicts.{IsTrueWhereCompleted};
 
 use crate::faults::{DeskFault, DeskResult};
@@ -243,7 +242,7 @@ impl<L: Naming> Room<L> {
 
     /// Whether a wait for the search of this tenant is over.
     pub(crate) fn is_over(&self, who: Entity, number: u64) -> bool
-        ensures { (result ≡ false) ↔ ((self.now.stopped ≡ false) × IsAtWork self.now who number) }
+        ensures { (result ≡ false) ↔ ((self.now.stopped ≡ false) × StillWorks self.now.hall (who, number)) }
     {
         let is_working = match self.hall.search(who, number) {
             Some(search) => search.status() == Status::Working,

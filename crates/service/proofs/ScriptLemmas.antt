@@ -1,7 +1,5 @@
 -- Lemmas on what a script wrote.
-use Rattle.std.proofs.Common.{◌≡◌, ◌⊎◌, ℕ, List, [], refl, inl, inr, map, subst, subst₂, Option, Some, None, Result, Ok, Err, sym}
-use Rattle.std.specs.Io.KnownBytes.{Appends}
-use Rattle.std.proofs.lemmas.List.{append-nil}
+use Rattle.std.proofs.Common.{◌≡◌, ◌⊎◌, ℕ, List, refl, inl, inr, map, subst, subst₂, Result, Ok, Err}
 use Rattle.hall.specs.Hall.{HallState, new_hall}
 use Rattle.hall.proofs.laws.ExactRuns.{scripts_exact}
 use Rattle.service.specs.declared.faults.ScriptFault.{ScriptFault}
@@ -13,7 +11,7 @@ use Rattle.service.specs.Line.{Line, commands_of}
 use Rattle.service.specs.LineReader.{Source, IfKnown}
 use Rattle.service.specs.Conversation.{Conversed}
 use Rattle.service.specs.Outcome.{outcome_text, told_in, ScriptAnswers}
-use Rattle.service.specs.Written.{WentOut, ScriptRun, TakesRoster, OpensWith, end_of, ScriptWrote}
+use Rattle.service.specs.Written.{WentOut, ScriptRun, OpensWith, end_of, ScriptWrote}
 use Rattle.service.specs.Roster.{RosterLine, tenant_of, HasRoster, ReadsRoster}
 use Rattle.service.proofs.LinesLemmas.{IfKnown-map}
 use Rattle.service.proofs.SpeakerLemmas.{HasTenants-new}
@@ -56,6 +54,7 @@ ScriptWrote-after_roster source mid rows after how result out roster talk is =
     (ran lines _ rows after how out reads.2 (subst (λ (s : Source). IfKnown s (λ commands. Conversed ScriptAnswers (new_hall (map tenant_of rows)) after commands how out)) reads.1 talk)))
 
 -- what was taken of the lines is what they begin with
-pub OpensWith-taken : (lines : List Line) (result : Result (List RosterLine) ScriptFault) (new : Source) (out : List ℕ → Type 0) → TakesRoster lines result new out → OpensWith lines result out
+pub OpensWith-taken : (lines : List Line) (result : Result (List RosterLine) ScriptFault) (new : Source) (out : List ℕ → Type 0) → OpensWith (λ rows. ReadsRoster lines (Ok rows) new) lines result out →
+    OpensWith (λ rows. (rest : List Line) × HasRoster lines rows rest) lines result out
 OpensWith-taken lines (Ok rows) new out (rest, left, has) = (commands_of rest, has)
 OpensWith-taken lines (Err why) new out faulty = faulty

@@ -1,5 +1,5 @@
 -- What a session wrote, by its conversation.
-use Rattle.std.proofs.Common.{◌≡◌, ℕ, List, [], ◌∷◌, refl, sym, ap, ◌∙◌, subst, Option, Some, None}
+use Rattle.std.proofs.Common.{◌≡◌, ℕ, List, [], ◌∷◌, sym, ap, ◌∙◌, subst, Option, Some, None}
 use Rattle.std.specs.Prelude.{IfSome}
 use Rattle.quotas.specs.Quota.{Quota}
 use Rattle.pool.specs.Passes.{PassState}
@@ -7,7 +7,8 @@ use Rattle.service.specs.declared.conversations.Flow.{Flow, TheVariants.GoesOn, 
 use Rattle.service.specs.declared.conversations.SessionEnd.{SessionEnd}
 use Rattle.service.specs.declared.conversations.SessionEnd.TheVariants as end
 use Rattle.service.specs.Line.{Line, text, too_long, not_ascii, commands_of}
-use Rattle.service.specs.LineReader.{Source, source_of, IfKnown}
+use Rattle.service.specs.declared.lines.Stage.TheVariants.{Open}
+use Rattle.service.specs.LineReader.{Source, left_at, IfKnown}
 use Rattle.service.specs.Roster.{RosterLine}
 use Rattle.service.specs.Conversation.{Talks, Conversed}
 use Rattle.service.specs.Session.{SessionState, SessionAnswers, SessionWrote}
@@ -50,7 +51,7 @@ module _ (roster : List (List ℕ × Quota)) (rows : List RosterLine) (pass : Op
       let same = talks-rows roster (first, GoesOn) (after, talked.flow) talked.done talked.replies talked.talks in
       SessionWrote-talked how lines (subst (λ (s : SessionState). Talked s how lines) (behind after same its) talked)
 
-  pub SessionWrote-known : (remaining : Option (List ℕ)) (source : Source) (how : SessionEnd) (after : SessionState) → source ≡ source_of remaining → pass ≡ after.pass →
+  pub SessionWrote-known : (remaining : Option (List ℕ)) (source : Source) (how : SessionEnd) (after : SessionState) → source ≡ left_at Open remaining → pass ≡ after.pass →
       IfKnown source (λ lines. Talked after how lines) → IfSome remaining (λ input. SessionWrote roster rows (commands_of input) how pass out)
   SessionWrote-known None source how after made its talked = tt
   SessionWrote-known (Some bytes) source how after made its talked =

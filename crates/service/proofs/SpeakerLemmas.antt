@@ -66,7 +66,7 @@ has-served old new name q told served who =
 has-driven : (old new : HallState) (name : List ℕ) (k : ℕ) (o : Option Running) → Drives old name k o new → HasSame old new
 has-driven old new name k None same who = ap (λ (h : HallState). is_some (get h.tenants who)) same
 has-driven old new name k (Some r) driven who =
-    ap (λ (h : HallState). is_some (get h.tenants who)) driven.4 ∙ has-changed old name _ who
+    ap (λ (h : HallState). is_some (get h.tenants who)) driven.2 ∙ has-changed old name _ who
 
 has-carried : (old new : HallState) (name : List ℕ) (deed : Deed) (told : Reply) → CarriesOut old name deed told new → HasSame old new
 has-carried old new name (asks q) told served who = has-served old new name q told served who

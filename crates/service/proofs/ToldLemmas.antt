@@ -1,5 +1,5 @@
 -- Lemmas on what a line of a session is answered.
-use Rattle.std.proofs.Common.{◌≡◌, ℕ, List, ◌∷◌, [], codes, true, refl, sym, ap, subst, Option, None, Some, Result, Ok, Err}
+use Rattle.std.proofs.Common.{◌≡◌, ℕ, List, ◌∷◌, [], codes, true, refl, sym, ap, subst, Option, None, Some, Result, Ok}
 use Rattle.std.specs.Str.{bytes_eq}
 use Rattle.pool.specs.Passes.{PassState}
 use Rattle.service.specs.declared.refusals.Refusal.{Refusal}

@@ -17,8 +17,7 @@ is_printable b = nat_le 32 b && nat_le b 126
 abbrev pub line_of : List ℕ → Line
 line_of bytes = if nat_le (length bytes) 4096 then (if list_all is_printable bytes then text bytes else not_ascii) else too_long
 
--- the lines of an input: each ends at a newline, which may have one carriage return before it, and what follows
--- the last newline is a line too, where there is any
+-- the lines of an input: each ends at a newline, perhaps with a carriage return before it; what follows the last, if anything, is one too
 abbrev pub lines_of : List ℕ → List Line
 lines_of input = map line_of (lines input)
 

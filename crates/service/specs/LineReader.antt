@@ -13,24 +13,16 @@ pub data Source : Type 0 where
   unknown : Source
   failed : Source
 
--- what a reader with these bytes left has to give
-abbrev pub source_of : Option (List ℕ) → Source
-source_of (Some bytes) = known bytes
-source_of None = unknown
-
 -- the bytes that the reader has left, those read ahead among them, where they are known
 abbrev pub unread_bytes : {R A : Type 0} → (R → Option (List ℕ)) → BufReader (Limited R) A → Option (List ℕ)
 unread_bytes remaining ahead = reader_remaining (λ s. remaining s.inner) ahead
 
--- what is left at each stage
+-- what a reader has to give with these bytes left, where it stands
 abbrev pub left_at : Stage → Option (List ℕ) → Source
-left_at Open bytes = source_of bytes
+left_at Open (Some bytes) = known bytes
+left_at Open None = unknown
 left_at Ended bytes = known []
 left_at Failed bytes = failed
-
--- what a reader has left, where it stands
-abbrev pub unread : {R A : Type 0} → (R → Option (List ℕ)) → BufReader (Limited R) A → Stage → Source
-unread remaining ahead stage = left_at stage (unread_bytes remaining ahead)
 
 -- the answer shows this line
 abbrev pub Shows : NextLine → Line → Type 0

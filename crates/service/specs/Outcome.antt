@@ -4,7 +4,7 @@ use Rattle.std.specs.{List.AllZip, List.list_any, List.before_first, List.after_
 use Rattle.names.specs.Name.{is_name, is_same}
 use Rattle.quotas.specs.Quota.{Quota}
 use Rattle.hall.specs.declared.calls.replies.Reply.{Reply}
-use Rattle.hall.specs.Run.{Deed, asks, waits, Told, IsExact}
+use Rattle.hall.specs.Run.{Deed, asks, waits, Told, AreRuns, at_waits}
 use Rattle.hall.specs.Hall.{HallState, AreDone}
 use Rattle.service.specs.declared.commands.Command.{Command, TheVariants.Request, TheVariants.Wait}
 use Rattle.service.specs.declared.{conversations.Flow.Flow, conversations.Flow.TheVariants.GoesOn, refusals.Refusal.Refusal}
@@ -12,6 +12,7 @@ use Rattle.service.specs.declared.refusals.Refusal.TheVariants as refusal
 use Rattle.service.specs.Line.{Line, text, too_long, not_ascii}
 use Rattle.service.specs.Words.{is_colon, trim_start}
 use Rattle.service.specs.Command.{Form, form_of, Reads}
+use Rattle.service.specs.Refusal.{refusal_number}
 use Rattle.service.specs.Reply.{refusal_line, lines_after}
 
 -- what became of a line: it was refused by its text alone, to nobody or to the tenant, or carried out
@@ -22,8 +23,8 @@ pub data Outcome : Type 0 where
 
 -- the lines that answer it
 abbrev pub outcome_text : Outcome → List ℕ
-outcome_text (nobody why) = refusal_line (codes "?: ") why
-outcome_text (refused who why) = refusal_line (who ++ codes ": ") why
+outcome_text (nobody why) = refusal_line (codes "?: ") (refusal_number why)
+outcome_text (refused who why) = refusal_line (who ++ codes ": ") (refusal_number why)
 outcome_text (served who command reply) = lines_after (who ++ codes ": ") reply
 
 -- what the tenant's command may become
@@ -62,7 +63,7 @@ told_in (_ ∷ more) = told_in more
 -- each line became an outcome, in order; and to each tenant what it was told is exact, by its own account and view alone
 pub record IsTranscript (roster : List (List ℕ × Quota)) (lines : List Line) (outcomes : List Outcome) : Type 0 where
   pub one_each : AllZip (IsOutcome (is_speaker roster)) lines outcomes
-  pub exact : IsExact roster (told_in outcomes)
+  pub exact : AreRuns at_waits roster (told_in outcomes)
 
 -- whether a tenant of the hall speaks
 abbrev pub speaks : HallState → List ℕ → Bool

@@ -1,5 +1,5 @@
 -- The number and the text of each refusal.
-use Rattle.std.specs.Prelude.{ℕ, List, [], ◌∷◌, ◌==◌, Option, option_map, find, unwrap_or, codes}
+use Rattle.std.specs.Prelude.{ℕ, List, [], ◌∷◌, ◌==◌, Option, option_map, find, codes}
 use Rattle.names.specs.Fault.{name_fault_number}
 use Rattle.credential_text.specs.Fault.{cred_fault_number}
 use Rattle.service.specs.declared.refusals.Refusal.{Refusal}
@@ -32,7 +32,3 @@ refusals =
 -- the text of a number, if it is that of a refusal
 abbrev pub refusal_of : ℕ → Option (List ℕ)
 refusal_of number = option_map (λ r. r.1) (find (λ r. r.0 == number) refusals)
-
--- the text of a refusal
-abbrev pub text_of : ℕ → List ℕ
-text_of number = unwrap_or (refusal_of number) []

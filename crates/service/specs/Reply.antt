@@ -1,18 +1,16 @@
 -- The lines of the replies.
-use Rattle.std.specs.Prelude.{◌≡◌, ◌⊎◌, ℕ, List, [], ◌∷◌, ◌++◌, length, map, codes, filter, nat_lt, if◌then◌else◌}
+use Rattle.std.specs.Prelude.{◌≡◌, ◌⊎◌, ℕ, List, [], ◌∷◌, ◌++◌, length, map, codes, filter, nat_lt, unwrap_or, if◌then◌else◌}
 use Rattle.std.specs.{List.flat_map, Fmt.decimal}
 use Rattle.names.specs.Texts.{pieces}
 use Rattle.credential_text.specs.Spelling.{canonical}
 use Rattle.vaults.specs.declared.marks.Seen.{Seen}
-use Rattle.hall.specs.declared.faults.Fault.TheVariants.{Memory}
+use Rattle.hall.specs.declared.{faults.Fault.TheVariants.Memory, calls.replies.Reply.Reply}
 use Rattle.hall.specs.declared.calls.answers.Answer.TheVariants.{Working, Yes, No, Members, Spent, Broken}
-use Rattle.hall.specs.declared.calls.replies.Reply.{Reply}
 use Rattle.hall.specs.declared.calls.replies.Reply.TheVariants as reply
 use Rattle.hall.specs.Fault.{fault_number}
 use Rattle.hall.specs.Answers.{proof_text}
-use Rattle.service.specs.declared.refusals.Refusal.{Refusal}
 use Rattle.service.specs.declared.speakers.Speaker.{Speaker, TheVariants.Nobody, TheVariants.Tenant, TheVariants.Peer}
-use Rattle.service.specs.Refusal.{text_of, refusal_number}
+use Rattle.service.specs.Refusal.{refusal_of}
 
 -- what stands in front of each line of a reply: to nobody, or to a tenant; a session's peer gets no name
 abbrev pub front_of : Speaker → List ℕ
@@ -26,11 +24,11 @@ line_after front text = front ++ text ++ 10 ∷ []
 
 -- a refusal shows its number and the text of that
 abbrev pub error_text : ℕ → List ℕ
-error_text number = codes "error " ++ decimal number ++ codes " " ++ text_of number
+error_text number = codes "error " ++ decimal number ++ codes " " ++ unwrap_or (refusal_of number) []
 
--- the line that refuses a text
-abbrev pub refusal_line : List ℕ → Refusal → List ℕ
-refusal_line front why = line_after front (error_text (refusal_number why))
+-- the line of a refusal
+abbrev pub refusal_line : List ℕ → ℕ → List ℕ
+refusal_line front number = line_after front (error_text number)
 
 -- each name with a space before it
 abbrev pub listed : List (List ℕ) → List ℕ

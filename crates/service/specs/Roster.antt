@@ -3,7 +3,7 @@ use Rattle.std.specs.Prelude.{◌≡◌, ◌⊎◌, ⊤, ℕ, ◌<◌, ◌≤◌
 use Rattle.std.specs.List.{IsDistinct}
 use Rattle.names.specs.Name.{IsName, is_same}
 use Rattle.quotas.specs.Quota.{Quota, IsQuota, usual_quota}
-use Rattle.service.specs.declared.faults.ScriptFault.{ScriptFault, TheVariants.Roster, TheVariants.Memory, TheVariants.Write}
+use Rattle.service.specs.declared.faults.ScriptFault.{ScriptFault, TheVariants.Roster, TheVariants.Memory}
 use Rattle.service.specs.Line.{Line, text, too_long, not_ascii, commands_of}
 use Rattle.service.specs.LineReader.{Source, known}
 use Rattle.service.specs.Words.{words, number_of}
@@ -77,5 +77,4 @@ AddsRow old line (Err _) new = ⊥
 abbrev pub ReadsRoster : List Line → Result (List RosterLine) ScriptFault → Source → Type 0
 ReadsRoster lines (Ok rows) new = (rest : List ℕ) × (new ≡ known rest) × HasRoster lines rows (commands_of rest)
 ReadsRoster lines (Err Roster) new = HasNoRoster lines
-ReadsRoster lines (Err Write) new = ⊥
 ReadsRoster lines (Err _) new = ⊤

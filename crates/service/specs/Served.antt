@@ -3,7 +3,7 @@ use Rattle.std.specs.Prelude.{◌≡◌, ◌≢◌, ℕ, ◌<◌, ◌^◌, ◌�
 use Rattle.std.specs.{Fmt.decimal, IoError.error_kind, IoError.raw_os_error, declared.io.Error.Error}
 use Rattle.std.specs.declared.io.ErrorKind.TheVariants.{InvalidInput, Unsupported, WouldBlock}
 use Rattle.service.specs.declared.faults.ServeFault.{ServeFault, TheVariants.Write}
-use Rattle.service.specs.Session.{session_line}
+use Rattle.service.specs.Reply.{line_after}
 use Rattle.service.specs.Written.{WroteFront}
 
 -- the error of a failed accept shows that the listener itself is at fault: it isn't listening, no connections can be had of it,
@@ -15,11 +15,11 @@ IsLasting e =
 
 -- the line that tells where it listens
 abbrev pub listening_line : ℕ → List ℕ
-listening_line port = session_line (codes "listening 127.0.0.1:" ++ decimal port)
+listening_line port = line_after [] (codes "listening 127.0.0.1:" ++ decimal port)
 
 -- the line that tells how many connections it answered
 abbrev pub served_line : ℕ → List ℕ
-served_line count = session_line (codes "served " ++ decimal count)
+served_line count = line_after [] (codes "served " ++ decimal count)
 
 -- so many connections were answered, or there was a fault that isn't the writer's
 abbrev pub Answered : Option ℕ → Result ℕ ServeFault → Type 0

@@ -17,7 +17,7 @@ use Rattle.service.specs.Command.{Form, form_of, Reads}
 use Rattle.service.specs.Conversation.{Conversed}
 use Rattle.service.specs.Line.{Line, text, too_long, not_ascii}
 use Rattle.service.specs.Refusal.{refusal_number}
-use Rattle.service.specs.Reply.{error_text, line_after, IsFilled}
+use Rattle.service.specs.Reply.{line_after, refusal_line, IsFilled}
 use Rattle.service.specs.Roster.{RosterLine, IsTenant}
 use Rattle.service.specs.Words.{words}
 
@@ -30,16 +30,7 @@ abbrev pub greeting_in : List (List ℕ) → Option (List (List ℕ))
 greeting_in [] = None
 greeting_in (first ∷ others) = if bytes_eq first (codes "hello") then Some others else None
 
--- a reply line of a session has nothing in front
-abbrev pub session_line : List ℕ → List ℕ
-session_line said = line_after [] said
-
--- a refusal by its number
-abbrev pub session_refusal : ℕ → List ℕ
-session_refusal number = session_line (error_text number)
-
--- The desk was called by this pass, for just this command, and answered so: a request by one call, and a wait by one that
--- waits.
+-- The desk was called by this pass for just this command, and answered so: a request by one call, and a wait by one that waits.
 abbrev pub IsCarriedOut : PassState → PassState → Command → Result Reply DeskFault → Type 0
 IsCarriedOut before after (Request q) told = IsAnswered (λ r. r) before after q told
 IsCarriedOut before after (Wait k) (Ok told) = (v : Verdict) × IsWaited before after k (Ok v) × (told ≡ Answered v.answer)
@@ -48,11 +39,11 @@ IsCarriedOut before after (Wait k) (Err fault) = IsWaited before after k (Err fa
 -- these are the lines of what it came to, or of want of memory for those
 abbrev pub IsFilledBy : Result Reply DeskFault → List ℕ → Type 0
 IsFilledBy (Ok reply) lines = IsFilled [] reply lines
-IsFilledBy (Err fault) lines = lines ≡ session_refusal (desk_number_of fault)
+IsFilledBy (Err fault) lines = lines ≡ refusal_line [] (desk_number_of fault)
 
 -- A tenant's command is refused by its text alone, and its pass stays as it was; or it is told what the desk came to.
 pub data IsSessionReply (before : PassState) (form : Form) (reply : List ℕ) (after : PassState) : Type 0 where
-  refused : (why : Refusal) → Reads form (Err why) → reply ≡ session_refusal (refusal_number why) →
+  refused : (why : Refusal) → Reads form (Err why) → reply ≡ refusal_line [] (refusal_number why) →
       after ≡ before → IsSessionReply before form reply after
   carried_out : (command : Command) (told : Result Reply DeskFault) → Reads form (Ok command) →
       IsCarriedOut before after command told → IsFilledBy told reply → IsSessionReply before form reply after
@@ -68,13 +59,12 @@ IsGreeted rows greeting (Ok who) = ⊥
 -- Who is greeted is let in by a pass of its own, which has made no call, unless memory lacks for that. Nobody else is.
 abbrev pub IsLetIn : Result (List ℕ) Refusal → List ℕ → Option PassState → Type 0
 IsLetIn (Ok who) reply (Some pass) =
-    (reply ≡ session_line (codes "hello " ++ who)) × (pass.tenant ≡ who) × (own_calls pass ≡ [])
-IsLetIn (Ok who) reply None = reply ≡ session_refusal 90
+    (reply ≡ line_after [] (codes "hello " ++ who)) × (pass.tenant ≡ who) × (own_calls pass ≡ [])
+IsLetIn (Ok who) reply None = reply ≡ refusal_line [] 90
 IsLetIn (Err why) reply (Some pass) = ⊥
-IsLetIn (Err why) reply None = reply ≡ session_refusal (refusal_number why)
+IsLetIn (Err why) reply None = reply ≡ refusal_line [] (refusal_number why)
 
--- What a line is told that doesn't end the session: to one who hasn't said who it is, and its pass if it is let in; or by the
--- pass that it has.
+-- What a line is told that doesn't end the session: to one who hasn't said who it is, with a pass if let in; or by the pass that it has.
 abbrev pub Tells : List RosterLine → Option PassState → List ℕ → List ℕ → Option PassState → Type 0
 Tells rows None line reply after =
     (greeted : Result (List ℕ) Refusal) × IsGreeted rows (greeting_in (words line)) greeted × IsLetIn greeted reply after
@@ -88,15 +78,14 @@ pub record SessionState : Type 0 where
 
 -- how a session's line is answered at a desk of these tenants: what its pass has seen is a legal history of theirs
 abbrev pub SessionAnswers : List (List ℕ × Quota) → SessionState → Line → List ℕ → Flow → SessionState → Type 0
-SessionAnswers roster before too_long reply flow after = (reply ≡ session_refusal 65) × (flow ≡ GoesOn) × (after ≡ before)
-SessionAnswers roster before not_ascii reply flow after = (reply ≡ session_refusal 66) × (flow ≡ GoesOn) × (after ≡ before)
-SessionAnswers roster before (text line) reply Ends after = IsQuit line × (reply ≡ session_line (codes "bye")) × (after ≡ before)
+SessionAnswers roster before too_long reply flow after = (reply ≡ refusal_line [] 65) × (flow ≡ GoesOn) × (after ≡ before)
+SessionAnswers roster before not_ascii reply flow after = (reply ≡ refusal_line [] 66) × (flow ≡ GoesOn) × (after ≡ before)
+SessionAnswers roster before (text line) reply Ends after = IsQuit line × (reply ≡ line_after [] (codes "bye")) × (after ≡ before)
 SessionAnswers roster before (text line) reply GoesOn after =
     (IsQuit line → ⊥) × (after.rows ≡ before.rows) × Tells before.rows before.pass line reply after.pass
     × IfSome after.pass (λ p. IsLegal roster p.seen)
 
--- What went out of a session at a desk of these tenants, by its lines that are not blank and by how it ended, and the pass that it
--- had then. Want of memory comes before anything is written.
+-- What went out of a session, by its lines that are not blank, its end and its pass then. Want of memory comes before anything is written.
 abbrev pub SessionWrote :
     List (List ℕ × Quota) → List RosterLine → List Line → SessionEnd → Option PassState → (List ℕ → Type 0) → Type 0
 SessionWrote roster rows lines Memory pass went_out = went_out [] × (pass ≡ None)

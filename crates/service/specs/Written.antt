@@ -6,8 +6,7 @@ use Rattle.service.specs.declared.conversations.SessionEnd.TheVariants as end
 use Rattle.service.specs.declared.faults.ScriptFault.{ScriptFault, TheVariants.Roster, TheVariants.Read, TheVariants.Write}
 use Rattle.service.specs.declared.lines.{NextLine.NextLine, NextLine.TheVariants.End, NextLine.TheVariants.Fault}
 use Rattle.service.specs.Line.{Line}
-use Rattle.service.specs.LineReader.{Source}
-use Rattle.service.specs.Roster.{RosterLine, tenant_of, HasRoster, HasNoRoster, ReadsRoster}
+use Rattle.service.specs.Roster.{RosterLine, tenant_of, HasRoster, HasNoRoster}
 use Rattle.service.specs.Outcome.{Outcome, outcome_text, IsTranscript}
 
 -- a front of the text went out after the output, and not all of it
@@ -44,8 +43,7 @@ pub record ScriptRun (input : List Line) : Type 0 where
   pub roster : HasRoster input rows (lines ++ rest)
   pub transcript : IsTranscript (map tenant_of rows) lines outcomes
 
--- Before a line is given what waited went out up to some place, and all of it where the line had to be read: at the end of the input
--- and at a fault.
+-- Before a line is given what waited went out up to some place; all of it where the line had to be read: at the input's end and at a fault.
 abbrev pub SendsBefore : NextLine → Option (List ℕ) → Option (List ℕ) → List ℕ → List ℕ → Type 0
 SendsBefore End old new waited waits = (waits ≡ []) × Appends old new waited
 SendsBefore Fault old new waited waits = (waits ≡ []) × Appends old new waited
@@ -68,15 +66,10 @@ AnswersFault lines Roster went_out = HasNoRoster lines × went_out roster_refusa
 AnswersFault lines Write went_out = HasNoRoster lines × WroteFront [] roster_refusal went_out
 AnswersFault lines _ went_out = went_out []
 
--- the roster was taken from the lines, or a fault of it was answered
-abbrev pub TakesRoster : List Line → Result (List RosterLine) ScriptFault → Source → (List ℕ → Type 0) → Type 0
-TakesRoster lines (Ok rows) new went_out = ReadsRoster lines (Ok rows) new
-TakesRoster lines (Err why) new went_out = AnswersFault lines why went_out
-
--- the lines begin with this roster, or a fault of it was answered
-abbrev pub OpensWith : List Line → Result (List RosterLine) ScriptFault → (List ℕ → Type 0) → Type 0
-OpensWith lines (Ok rows) went_out = (rest : List Line) × HasRoster lines rows rest
-OpensWith lines (Err why) went_out = AnswersFault lines why went_out
+-- the lines open with a roster, of which this holds, or a fault of it was answered
+abbrev pub OpensWith : (List RosterLine → Type 0) → List Line → Result (List RosterLine) ScriptFault → (List ℕ → Type 0) → Type 0
+OpensWith opened lines (Ok rows) went_out = opened rows
+OpensWith opened lines (Err why) went_out = AnswersFault lines why went_out
 
 -- what went out of a script, by its lines that are not blank: what answers a fault of its roster, or a run's texts
 abbrev pub ScriptWrote : List Line → Result (Unit {0}) ScriptFault → (List ℕ → Type 0) → Type 0

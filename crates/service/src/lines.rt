@@ -3,7 +3,7 @@ ghost use Rattle.std.specs.Prelude.{◌≡◌, ◌≤◌, ◌∷◌, ◌++◌, �
 ghost use Rattle.std.specs.{Borrow.sem, Io.BufRead.Rests, List.list_all, Str.Lines.strip_carriage_return};
 ghost use Rattle.service.specs.declared.lines.{TheConstants.KEPT, TheConstants.LONGEST_LINE, limit.TheConstants.MOST_READS};
 ghost use Rattle.service.specs.Line.{line_of, is_printable};
-ghost use Rattle.service.specs.LineReader.{Shows, ShowsAt, stripped_at, IsEndAt, Gives, IsText, source_of, TakesBytes, unread_bytes};
+ghost use Rattle.service.specs.LineReader.{Shows, ShowsAt, stripped_at, IsEndAt, Gives, IsText, left_at, TakesBytes, unread_bytes};
 ghost use Rattle.service.specs.Written.{WritesFront, SendsBefore};
 ghost use Rattle.service.specs.contracts.lines.LineReader.{the_row as reader-row};
 
@@ -57,11 +57,11 @@ enum Stage {
 
 impl<R: Read> Model for LineReader<R> {
     ghost use Rattle.std.specs.Prelude.{◌≤◌, vec_capacity};
-    ghost use Rattle.service.specs.LineReader.{Source, unread};
+    ghost use Rattle.service.specs.LineReader.{Source, left_at, unread_bytes};
 
     ghost Value = { Source };
 
-    ghost view = { λ r. unread R.remaining r.ahead r.stage };
+    ghost view = { λ r. left_at r.stage (unread_bytes R.remaining r.ahead) };
 
     ghost invariant = { λ r. 4098 ≤ vec_capacity r.line };
 }
@@ -69,7 +69,7 @@ impl<R: Read> Model for LineReader<R> {
 impl<R: Read + Drop> LineReader<R> {
     /// Takes all the memory that reading will need. Without it the reader is dropped.
     pub fn make(alloc: Global, reader: R) -> Result<LineReader<R>, AllocError>
-        ensures source { IfOk result (λ lines. lines ≡ source_of (R.remaining reader)) }
+        ensures source { IfOk result (λ lines. lines ≡ left_at Stage.Open (R.remaining reader)) }
         ensures most_reads { MOST_READS ≡ 2 ^ 40 }
         ensures most_bytes { LONGEST_LINE ≡ 4096 }
     {

@@ -2,7 +2,6 @@
 ghost use Rattle.std.specs.Prelude.{◌≡◌, ◌≤◌, ◌++◌, [], ◌∷◌, length, filter, nat_lt, codes, map, decimal, OnOk, OnErr};
 ghost use Rattle.std.specs.List.{flat_map};
 ghost use Rattle.service.specs.Reply.{front_of, line_after, error_text, listed, seen_text, text_lines, lines_after, IsLong, IsFilled};
-ghost use Rattle.service.specs.Session.{session_line};
 ghost use Rattle.vaults.specs.Blocks.{rows_in};
 
 use crate::refusals::fault_text;
@@ -64,7 +63,7 @@ fn write_answer(buffer: &mut ReplyBuffer, who: &Speaker, answer: &Answer) -> Res
 
 /// Fills the buffer with the line that lets a tenant in. It takes no memory.
 pub(crate) fn fill_hello(buffer: &mut ReplyBuffer, name: &Entity)
-    ensures { buffer.new ≡ session_line (codes "hello " ++ name.now) }
+    ensures { buffer.new ≡ line_after [] (codes "hello " ++ name.now) }
 {
     buffer.begin(&Speaker::Peer);
     buffer.append(b"hello ");

@@ -1,10 +1,10 @@
 //! Rosters: the tenants that an input begins with.
-ghost use Rattle.std.specs.Prelude.{◌≡◌, ◌≢◌, ◌↔◌, ◌∷◌, None, Some, map, get_or, true, IsTrue, IfOk, IfErr, OnOk, IfSome, IfNone};
+ghost use Rattle.std.specs.Prelude.{◌≡◌, ◌≢◌, ◌↔◌, ◌∷◌, List, None, Some, Ok, map, get_or, true, IsTrue, IfOk, IfErr, OnOk, IfSome, IfNone};
 ghost use Rattle.std.specs.{Io.KnownBytes.Appends, List.list_any, List.IsDistinct};
 ghost use Rattle.{names.specs.Name.IsName, names.specs.Name.is_same, quotas.specs.Quota.Quota, hall.specs.Hall.new_hall};
-ghost use Rattle.service.specs.{Line.commands_of, LineReader.IfKnown, Words.words, Words.number_of, Written.TakesRoster, Written.OpensWith};
+ghost use Rattle.service.specs.{Line.Line, Line.commands_of, LineReader.IfKnown, Words.words, Words.number_of, Written.OpensWith};
 ghost use Rattle.service.specs.Roster as roster;
-ghost use Rattle.service.specs.Roster.{IsLimits, IsRow, IsTenant, names_of, tenant_of, AddsRow, ReadsRoster};
+ghost use Rattle.service.specs.Roster.{IsLimits, IsRow, IsTenant, names_of, tenant_of, AddsRow, HasRoster, ReadsRoster};
 
 use crate::faults::ScriptFault;
 use crate::lines::{LineReader, NextLine};
@@ -214,7 +214,8 @@ pub fn read_roster<R: Read + Drop, W: Write>(
     writer: &mut W,
 ) -> Result<Roster, ScriptFault>
     ensures roster { IfSome (R.remaining reader)
-        (λ input. OpensWith (commands_of input) result (Appends (W.contents writer.old) (W.contents writer.new))) }
+        (λ input. OpensWith (λ rows. (rest : List Line) × HasRoster (commands_of input) rows rest) (commands_of input) result
+        (Appends (W.contents writer.old) (W.contents writer.new))) }
     ensures silent { OnOk result (W.contents writer.new ≡ W.contents writer.old) }
 {
     let mut lines = LineReader::make(alloc, reader)?;
@@ -227,7 +228,7 @@ pub(crate) fn take_roster<R: Read + Drop, W: Write>(
     lines: &mut LineReader<R>,
     writer: &mut W,
 ) -> Result<Roster, ScriptFault>
-    ensures roster { IfKnown lines.old (λ commands. TakesRoster commands result lines.new
+    ensures roster { IfKnown lines.old (λ commands. OpensWith (λ rows. ReadsRoster commands (Ok rows) lines.new) commands result
         (Appends (W.contents writer.old) (W.contents writer.new))) }
     ensures silent { OnOk result (W.contents writer.new ≡ W.contents writer.old) }
 {

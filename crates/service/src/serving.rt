@@ -1,8 +1,8 @@
 //! The service: connections that are answered, and the workers beside them.
-ghost use Rattle.std.specs.Prelude.{◌≡◌, ◌≤◌, ◌⊎◌, ◌↔◌, ◌++◌, Some, Ok, Err, length, map, decimal, IsOk, IfOk, IfErr, OnOk, OnErr};
+ghost use Rattle.std.specs.Prelude.{◌≡◌, ◌≤◌, ◌⊎◌, ◌↔◌, ◌++◌, [], Some, Ok, Err, length, map, decimal, IsOk, IfOk, IfErr, OnOk, OnErr};
 ghost use Rattle.std.specs.Io.KnownBytes.{Appends};
 ghost use Rattle.service.specs.Served.{Answered, ServeWrote, WithPort, listening_line};
-ghost use Rattle.service.specs.{Roster.names_of, Roster.tenant_of, Session.session_line, Written.WritesFront};
+ghost use Rattle.service.specs.{Roster.names_of, Roster.tenant_of, Reply.line_after, Written.WritesFront};
 
 use crate::arrivals::arrivals_at;
 use crate::connections::{Answers, Service, answer_connections, end_all};
@@ -108,9 +108,9 @@ fn tell<W: Write>(
     count: u64,
 ) -> Result<(), WriteFault>
     requires { length words.now ≤ 20 }
-    ensures ok { OnOk result (Appends (W.contents out.old) (W.contents out.new) (session_line (words.now ++ decimal count))) }
+    ensures ok { OnOk result (Appends (W.contents out.old) (W.contents out.new) (line_after [] (words.now ++ decimal count))) }
     ensures err { OnErr result
-        (WritesFront (W.contents out.old) (W.contents out.new) (session_line (words.now ++ decimal count))) }
+        (WritesFront (W.contents out.old) (W.contents out.new) (line_after [] (words.now ++ decimal count))) }
 {
     fill_counted(line, &Speaker::Peer, words, count);
     write_reply(out, line.as_slice())

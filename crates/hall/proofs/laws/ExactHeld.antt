@@ -7,9 +7,9 @@ use Rattle.hall.specs.declared.calls.requests.Request.{Request}
 use Rattle.hall.specs.declared.calls.requests.Request.TheVariants.{Poll}
 use Rattle.hall.specs.declared.calls.replies.Reply.{Reply}
 use Rattle.hall.specs.Run.{Deed, asks, waits}
-use Rattle.hall.specs.Hall.{Running, Tenant, HallState, search_at, beginning, IsServed, Drives, CarriesOut, new_hall}
+use Rattle.hall.specs.Hall.{Running, Tenant, HallState, EachSearch, search_at, beginning, IsServed, Drives, CarriesOut, new_hall}
 use Rattle.hall.proofs.SearchSteps.{none_held_yet}
-use Rattle.hall.proofs.laws.HallChanges.{EachSearch, inserted_each, replaced_each, new_each, tenant_of}
+use Rattle.hall.proofs.laws.HallChanges.{inserted_each, replaced_each, new_each, tenant_of}
 use Rattle.hall.proofs.laws.HallRequests.{opening, requested_each}
 
 abbrev HoldsNone : List ℕ → Tenant → ℕ → Running → Type 0
@@ -40,8 +40,8 @@ driven_free old new name k free = by (search_at old name k) refl
   where
     by : (o : Option Running) → search_at old name k ≡ o → Drives old name k o new → IsFree new
     by None none is = rw is free
-    by (Some r) at (s, driven, quiet, settles, is) =
-        rw is (replaced_each HoldsNone old name k r (record r { search = s }) (λ t m j u here. here) at (λ t held. (settles held).0) free)
+    by (Some r) at (s, carried, is) =
+        rw is (replaced_each HoldsNone old name k r (record r { search = s }) (λ t m j u here. here) at (λ t held. (carried.settled held).0) free)
 
 pub carried_free : (old new : HallState) (name : List ℕ) (deed : Deed) (told : Reply) → IsFree old →
     CarriesOut old name deed told new → IsFree new

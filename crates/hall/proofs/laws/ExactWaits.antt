@@ -20,14 +20,14 @@ module _ (old middle : HallState) (name : List ℕ) (k : ℕ) (drives : Drives o
     where
       by : (o : Option Running) → Drives old name k o middle → middle.journal ≡ old.journal
       by None is = ap (λ (h : HallState). h.journal) is
-      by (Some r) (s, driven, quiet, settles, is) = ap (λ (h : HallState). h.journal) is
+      by (Some r) (s, carried, is) = ap (λ (h : HallState). h.journal) is
 
   pub driven_other : (other : List ℕ) → is_same name other ≡ false → account_of middle other ≡ account_of old other
   driven_other other apart = by (search_at old name k) drives
     where
       by : (o : Option Running) → Drives old name k o middle → account_of middle other ≡ account_of old other
       by None is = ap (λ (h : HallState). account_of h other) is
-      by (Some r) (s, driven, quiet, settles, is) =
+      by (Some r) (s, carried, is) =
           rw is (other_account old name other (λ t. record t { searches = insert t.searches k (record r { search = s }) }) apart)
 
   nobody_driven : get old.tenants name ≡ None → middle ≡ old
@@ -48,11 +48,11 @@ module _ (old middle : HallState) (name : List ℕ) (k : ℕ) (drives : Drives o
             rw (is, found),
             rw (get_mapped numbers_exact seen t.searches k, gone),
           )
-      by (Some r) at (s, driven, quiet, settles, is) =
-          let goes = drives_on r.search s driven in (
+      by (Some r) at (s, carried, is) =
+          let goes = drives_on r.search s carried.driven in (
             account old.journal name (record t { searches = insert t.searches k (record r { search = s }) }),
             rw is (own_account old name k r s sound at goes t found),
-            own_ends old name k r s sound at goes t found (settles (free_at old name k r free at)).1,
+            own_ends old name k r s sound at goes t found (carried.settled (free_at old name k r free at)).1,
           )
 
   -- a wait is a turn of who waits

@@ -8,7 +8,7 @@ use Rattle.quotas.specs.Quota.{Quota}
 use Rattle.names.specs.Name.{is_same}
 use Rattle.names.proofs.SameNames.{is_same_itself, is_same_tied}
 use Rattle.vaults.proofs.Orders.{names_exact}
-use Rattle.hall.specs.Hall.{Running, Tenant, HallState, with_tenant, with_search, search_of, search_at, new_tenant, new_hall}
+use Rattle.hall.specs.Hall.{Running, Tenant, HallState, EachSearch, with_tenant, with_search, search_of, search_at, new_tenant, new_hall}
 use Rattle.hall.proofs.Maps.{numbers_exact, get_inserted, get_insert_other, each_inserted, each_removed}
 use Rattle.hall.proofs.Indexed.{all_found}
 
@@ -25,11 +25,6 @@ module _ (h : HallState) (name : List ℕ) (change : Tenant → Tenant) where
       by (Some t) =
           get_insert_other names_exact h.tenants name (change t) other
           (λ same. false≢true (sym apart ∙ is_same_itself name other (sym same)))
-
--- this holds of each search of each tenant, by the tenant's name and the search's number
-abbrev pub EachSearch : (List ℕ → Tenant → ℕ → Running → Type 0) → HallState → Type 0
-EachSearch P h =
-    (name : List ℕ) (t : Tenant) (k : ℕ) (r : Running) → get h.tenants name ≡ Some t → get t.searches k ≡ Some r → P name t k r
 
 -- this holds of each search of one tenant
 abbrev pub EachOf : (ℕ → Running → Type 0) → FinMap nat_cmp Running → Type 0

@@ -13,8 +13,8 @@ use Rattle.hall.specs.declared.calls.replies.Reply.{Reply}
 use Rattle.hall.specs.declared.calls.replies.Reply.TheVariants.{Counted, Opened, Closed}
 use Rattle.hall.specs.Answers.{Asked, Account, Sight, Answers, refuses, grants, lacks}
 use Rattle.hall.specs.Run.{Deed, asks, Told, entered}
-use Rattle.hall.specs.Hall.{Running, Tenant, HallState, account, account_of, beginning, hall_after}
-use Rattle.hall.proofs.laws.HallChanges.{EachSearch, EachOf, changed_each, changed_elsewhere, removed_each}
+use Rattle.hall.specs.Hall.{Running, Tenant, HallState, EachSearch, account, account_of, beginning, hall_after}
+use Rattle.hall.proofs.laws.HallChanges.{EachOf, changed_each, changed_elsewhere, removed_each}
 
 -- a tenant with one search more, which is opened now
 abbrev pub opening : List Entry → List ℕ → Query → ℕ → Tenant → Tenant

@@ -9,8 +9,8 @@ use Rattle.hall.specs.declared.calls.steps.Stepped.{Stepped}
 use Rattle.hall.specs.declared.calls.events.Event.TheVariants as event
 use Rattle.hall.specs.Answers.{Account}
 use Rattle.hall.specs.Run.{asks, Told, told_in, entered, told_to, any_time}
-use Rattle.hall.specs.Hall.{Running, HallState, account_of, search_at, AnswersTo, IsServed, StepsAt, IsStepped, step_name}
-use Rattle.hall.specs.Hall.{step_search, IsSound}
+use Rattle.hall.specs.Hall.{Running, HallState, account_of, search_at, AnswersTo, IsServed, StepsAt, IsStepped, search_of_step}
+use Rattle.hall.specs.Hall.{IsSound}
 use Rattle.hall.specs.Laws.{RunsAreAllowed}
 use Rattle.hall.proofs.SearchSteps.{step_goes_on}
 use Rattle.hall.proofs.laws.HallRequests.{requested_journal, requested_account}
@@ -43,7 +43,7 @@ served_other old new name q told tenant served apart =
 -- a step leaves the journal
 pub stepped_journal : (old new : HallState) (made : Step) (answer : Stepped) → IsStepped old made answer new →
     new.journal ≡ old.journal
-stepped_journal old new made answer = by (search_at old (step_name made) (step_search made))
+stepped_journal old new made answer = by (search_at old (search_of_step made).0 (search_of_step made).1)
   where
     by : (o : Option Running) → StepsAt old o made answer new → new.journal ≡ old.journal
     by None steps = ap (λ (h : HallState). h.journal) steps.1
@@ -53,13 +53,13 @@ stepped_journal old new made answer = by (search_at old (step_name made) (step_s
 stepped_between : (old new : HallState) (made : Step) (answer : Stepped) (tenant : List ℕ) → IsSound old →
     IsStepped old made answer new →
     BetweenOf any_time (account_of old tenant) (account_of new tenant)
-stepped_between old new made answer tenant sound = by (search_at old (step_name made) (step_search made)) refl
+stepped_between old new made answer tenant sound = by (search_at old (search_of_step made).0 (search_of_step made).1) refl
   where
-    by : (o : Option Running) → search_at old (step_name made) (step_search made) ≡ o → StepsAt old o made answer new →
+    by : (o : Option Running) → search_at old (search_of_step made).0 (search_of_step made).1 ≡ o → StepsAt old o made answer new →
         BetweenOf any_time (account_of old tenant) (account_of new tenant)
     by None none steps = rw steps.1 (nothing_between any_time (account_of old tenant))
     by (Some r) at (s, steps, after) =
-        rw after (goes_between old (step_name made) (step_search made) r s sound at (step_goes_on r.search s made answer steps) tenant)
+        rw after (goes_between old (search_of_step made).0 (search_of_step made).1 r s sound at (step_goes_on r.search s made answer steps) tenant)
 
 pub runs_allowed : RunsAreAllowed
 runs_allowed old new [] [] sound run tenant =

@@ -20,17 +20,16 @@ use Rattle.hall.specs.declared.calls.replies.Reply.TheVariants.{Opened}
 use Rattle.hall.specs.declared.calls.steps.Step.{Step}
 use Rattle.hall.specs.declared.calls.steps.Stepped.{Stepped}
 use Rattle.hall.specs.declared.calls.events.Event.TheVariants as event
-use Rattle.hall.specs.Steps.{SearchGoesOn}
 use Rattle.hall.specs.Run.{Deed, asks, waits}
 use Rattle.hall.specs.Hall.{Running, Tenant, HallState, with_search, search_at, beginning, hall_after}
-use Rattle.hall.specs.Hall.{IsServed, StepsAt, IsStepped, step_name, step_search, Drives, CarriesOut}
-use Rattle.hall.specs.Hall.{IsSoundSearch, IsSound}
+use Rattle.hall.specs.Hall.{IsServed, StepsAt, IsStepped, search_of_step, Drives, CarriesOut}
+use Rattle.hall.specs.Hall.{EachSearch, IsSoundSearch, IsSound}
 use Rattle.hall.specs.Laws.{NewHallsAreSound, EventsKeepSoundness}
-use Rattle.hall.proofs.laws.HallChanges.{EachSearch, EachOf, inserted_each, replaced_each, new_each}
+use Rattle.hall.proofs.laws.HallChanges.{EachOf, inserted_each, replaced_each, new_each}
 use Rattle.hall.proofs.laws.HallSteps.{drives_on}
 use Rattle.hall.proofs.laws.HallRequests.{opening, requested_journal, requested_each, entered_more, opened_next}
 use Rattle.hall.proofs.Truths.{settles_twice}
-use Rattle.hall.proofs.SearchSteps.{step_goes_on, nothing_yet}
+use Rattle.hall.proofs.SearchSteps.{SearchGoesOn, step_goes_on, nothing_yet}
 
 -- what holds of a tenant's search in a hall of this journal
 abbrev SoundIn : List Entry → List ℕ → Tenant → ℕ → Running → Type 0
@@ -121,13 +120,13 @@ goes_sound h name k r s sound at goes computation =
     (λ t here. (here.0, here.1, search_goes h.journal name t.limits r s goes computation here.2)) sound
 
 pub stepped_sound : (old new : HallState) (made : Step) (answer : Stepped) → IsSound old → IsStepped old made answer new → IsSound new
-stepped_sound old new made answer sound = by (search_at old (step_name made) (step_search made)) refl
+stepped_sound old new made answer sound = by (search_at old (search_of_step made).0 (search_of_step made).1) refl
   where
-    by : (o : Option Running) → search_at old (step_name made) (step_search made) ≡ o → StepsAt old o made answer new →
+    by : (o : Option Running) → search_at old (search_of_step made).0 (search_of_step made).1 ≡ o → StepsAt old o made answer new →
         IsSound new
     by None none steps = rw steps.1 sound
     by (Some r) at (s, steps, after) =
-        rw after (goes_sound old (step_name made) (step_search made) r s sound at (step_goes_on r.search s made answer steps) steps.sound)
+        rw after (goes_sound old (search_of_step made).0 (search_of_step made).1 r s sound at (step_goes_on r.search s made answer steps) steps.sound)
 
 pub events_keep : EventsKeepSoundness
 events_keep old new (event.Request name q) told sound served = served_sound old new name q told sound served
@@ -139,7 +138,7 @@ driven_sound old new name k sound = by (search_at old name k) refl
   where
     by : (o : Option Running) → search_at old name k ≡ o → Drives old name k o new → IsSound new
     by None none is = rw is sound
-    by (Some r) at (s, driven, rests, settles, is) = rw is (goes_sound old name k r s sound at (drives_on r.search s driven) rests.1)
+    by (Some r) at (s, carried, is) = rw is (goes_sound old name k r s sound at (drives_on r.search s carried.driven) carried.sound)
 
 -- a deed that was carried out keeps what holds of every hall
 pub carried_sound : (old new : HallState) (name : List ℕ) (deed : Deed) (told : Reply) → IsSound old →

@@ -7,8 +7,7 @@ use Rattle.search.specs.Ending.{Settled, MaySettle}
 use Rattle.search.specs.Search.{SearchState, SameQuestion, settled_of}
 use Rattle.search.specs.Finish.{IsDriven}
 use Rattle.hall.proofs.Truths.{settles_twice}
-use Rattle.hall.specs.Steps.{SearchGoesOn}
-use Rattle.hall.proofs.SearchSteps.{staged, finish_keeps}
+use Rattle.hall.proofs.SearchSteps.{SearchGoesOn, staged, finish_keeps}
 
 -- what a search may come to depends on its question alone
 settles_from : (old new : SearchState) (a b : Settled) → SameQuestion old new →

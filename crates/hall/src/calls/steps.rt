@@ -16,11 +16,11 @@ pub enum Step {
 
 impl Step {
     ghost use Rattle.std.specs.Prelude.{◌≡◌};
-    ghost use Rattle.hall.specs.Hall.{step_name, step_search};
+    ghost use Rattle.hall.specs.Hall.{search_of_step};
 
     /// Whose search it is made of, and its number.
     pub fn search(&self) -> (Entity, u64)
-        ensures { result ≡ (step_name self.now, step_search self.now) }
+        ensures { result ≡ search_of_step self.now }
     {
         match *self {
             Step::Take(who, number, _)

@@ -1,8 +1,7 @@
 use Rattle.std.proofs.Common.{Some, ap, is_some, subst, sym}
 use Rattle.indexmap.specs.IndexMap.{Updates}
 use Rattle.names.specs.Name.{is_same}
-use Rattle.hall.specs.Kept.{IsIn}
-use Rattle.hall.proofs.Unsettled.{grown, is_in_more, is_in_same}
+use Rattle.hall.proofs.Unsettled.{IsIn, grown, is_in_more, is_in_same}
 use Rattle.hall.proofs.picking.enter.Goals as goal
 
 pub returns-in_err-insert-clause-kept : goal.returns-in_err-insert-clause-kept

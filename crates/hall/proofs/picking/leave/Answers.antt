@@ -1,6 +1,5 @@
 use Rattle.std.proofs.Common.{sym, subst}
-use Rattle.hall.specs.Kept.{IsIn}
-use Rattle.hall.proofs.Unsettled.{left, gone, left_empty}
+use Rattle.hall.proofs.Unsettled.{IsIn, left, gone, left_empty}
 use Rattle.hall.proofs.picking.leave.Goals as goal
 
 pub returns-else-is_empty : goal.returns-else-is_empty

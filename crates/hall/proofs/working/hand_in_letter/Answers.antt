@@ -1,7 +1,7 @@
 use Rattle.std.proofs.Common.{Bool, false, sym, subst, refl, rules}
 use Rattle.search.specs.declared.queries.Hint.{Hint}
 use Rattle.search.specs.Finish.{Finishes}
-use Rattle.hall.specs.Steps.{finish_answer, gave_back}
+use Rattle.hall.specs.Steps.{finish_answer}
 use Rattle.hall.specs.Batches.{letter_of, named}
 use Rattle.hall.specs.Working.{HandsInOne}
 use Rattle.hall.proofs.Batched.{puts_back, given_back, done_by}
@@ -13,7 +13,7 @@ returns-then-back c =
     let t = c.put_back.new.self in
     let back = c.put_back.result in
     subst (λ (b : Bool). HandsInOne b (named c.args.of.now) s (letter_of c.args.held_letter.now) false t) (sym c.if-back.true) (
-      gave_back back,
+      _,
       record {
         is_made = (back, puts_back s t c.args.held_letter.now.letter back c.put_back.ensures.held c.put_back.ensures.unchanged c.put_back.ensures.waits, refl);
         settles = c.put_back.ensures.settles;

@@ -1,7 +1,7 @@
 -- The text is the one of the number, or none.
-use Rattle.std.proofs.Common.{◌≡◌, ◌∙◌, ℕ, List, [], ◌∷◌, ◌++◌, codes, rules, ap, append_assoc}
+use Rattle.std.proofs.Common.{◌≡◌, ◌∙◌, ℕ, List, [], ◌∷◌, ◌++◌, codes, rules, ap, append_assoc, unwrap_or}
 use Rattle.std.specs.Fmt.{decimal}
-use Rattle.service.specs.Refusal.{text_of}
+use Rattle.service.specs.Refusal.{refusal_of}
 use Rattle.service.specs.Reply.{front_of}
 use Rattle.service.proofs.replies.fill_error.Goals as goal
 
@@ -13,7 +13,7 @@ joined front a b c d end =
 
 pub returns : goal.returns
 returns c =
-    let text : c.unwrap_or.result.now ≡ text_of c.args.number = search rules in
+    let text : c.unwrap_or.result.now ≡ unwrap_or (refusal_of c.args.number) [] = search rules in
     let front = rw (c.append_number.ensures.digits, c.append.ensures, c.begin.ensures.items) at c.append-2.ensures in
     rw (c.append-3.ensures, front, c.as_bytes.ensures.value, text) at c.append-4.ensures
-    ∙ joined (front_of c.args.who.now) (codes "error ") (decimal c.args.number) (codes " ") (text_of c.args.number) (10 ∷ [])
+    ∙ joined (front_of c.args.who.now) (codes "error ") (decimal c.args.number) (codes " ") (unwrap_or (refusal_of c.args.number) []) (10 ∷ [])

@@ -1,7 +1,6 @@
 -- Each credential is one line more.
-use Rattle.std.proofs.Common.{◌++◌, ap, length, codes, ◌∙◌}
+use Rattle.std.proofs.Common.{◌++◌, length, codes}
 use Rattle.std.specs.Fmt.{decimal}
-use Rattle.credential_text.specs.Spelling.{canonical}
 use Rattle.vaults.specs.Blocks.{rows_in}
 use Rattle.service.specs.Reply.{front_of, line_after}
 use Rattle.service.proofs.ReplyLemmas.{credential-next}

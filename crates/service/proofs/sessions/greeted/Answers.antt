@@ -1,5 +1,5 @@
 -- The tenant said its word.
-use Rattle.std.proofs.Common.{rules, List, ℕ, subst}
+use Rattle.std.proofs.Common.{rules}
 use Rattle.std.specs.Prelude.{IsTrue}
 use Rattle.service.proofs.ToldLemmas.{IsGreeted-tenant}
 use Rattle.service.specs.Words.{words}

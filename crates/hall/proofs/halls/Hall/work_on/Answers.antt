@@ -43,7 +43,7 @@ returns-clause-ends c =
     let name : List ℕ × ℕ = (c.args.who.now, c.args.number) in
     let goes = continues_worked lent.lent.now lent.left.now c.args.order c.args.most name c.args.batch.now c.in-Ok.finished c.in-Ok.went c.lend-lent.new.beside (did_so (goal.at.returns-clause-ends c).In-Ok) lent.opened in
     tells_there c.args.self.now c.lend-lent.new.self c.args.who.now c.args.number lent.lent.now lent.there lent.left.now
-    (unsettled_before lent.lent.now.search lent.left.now.search goes.goes_on.settles) c.in-Ok.standing lent.stands lent.after c.args.ends.now c.match-standing.ends
+    (unsettled_before lent.lent.now.search lent.left.now.search goes.settles) c.in-Ok.standing lent.stands lent.after c.args.ends.now c.match-standing.ends
     (elim c.match-standing.branch [
       | in-Over w ↦ w.ends-is ∙ w.put.ensures ∙ ap (λ (s : Standing). c.args.ends.now ++ told_of s name) (sym w.in-Over.is)
       | in_default-standing w ↦

@@ -2,7 +2,7 @@ use Rattle.std.proofs.Common.{◌∙◌, ap, subst, Result}
 use Rattle.hall.specs.declared.faults.Fault.{Fault}
 use Rattle.hall.specs.declared.calls.replies.Reply.{Reply}
 use Rattle.hall.specs.Hall.{IsServed, told_as}
-use Rattle.pool.specs.Notices.{request_concern}
+use Rattle.pool.specs.Rooms.{request_concern}
 use Rattle.pool.specs.Served.{IsTold}
 use Rattle.pool.proofs.Served.{served_suits}
 use Rattle.pool.proofs.rooms.Room.serve.Goals as goal

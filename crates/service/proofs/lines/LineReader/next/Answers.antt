@@ -1,5 +1,5 @@
 -- What is given is the first of what was left.
-use Rattle.std.proofs.Common.{refl, sym, ◌∙◌}
+use Rattle.std.proofs.Common.{refl}
 use Rattle.service.specs.LineReader.{ShowsAt, stripped_at, unread_bytes}
 use Rattle.service.proofs.LinesLemmas.{Gives-taken}
 use Rattle.service.proofs.lines.LineReader.next.Goals as goal

@@ -1,5 +1,5 @@
 -- A line that was read ahead is the first of what was left; for any other all that waits goes out before it is read.
-use Rattle.std.proofs.Common.{refl, sym, ◌∙◌}
+use Rattle.std.proofs.Common.{refl}
 use Rattle.std.specs.Str.Lines.{strip_carriage_return}
 use Rattle.service.specs.declared.lines.Stage.TheVariants.{Open}
 use Rattle.service.specs.Line.{line_of}

@@ -1,7 +1,7 @@
 -- A line that doesn't end the session is told.
-use Rattle.std.proofs.Common.{◌≡◌, Bool, false, Ok, Err}
+use Rattle.std.proofs.Common.{◌≡◌, Bool, false}
 use Rattle.std.specs.Prelude.{IsTrue}
-use Rattle.service.proofs.ToldLemmas.{no_pass, Tells-held, Tells-new}
+use Rattle.service.proofs.ToldLemmas.{Tells-held}
 use Rattle.service.proofs.sessions.SessionHost.answer.Goals as goal
 
 apart : {b : Bool} → IsTrue b → b ≡ false → ⊥
