@@ -15,7 +15,7 @@ use Rattle.service.specs.Roster.{RosterLine, tenant_of, HasRows}
 use Rattle.service.specs.Line.{Line, text, too_long, not_ascii}
 use Rattle.service.specs.Outcome.{Outcome, outcome_text, is_speaker, IsSaid, told_in}
 use Rattle.service.specs.Written.{ScriptRun}
-use Rattle.service.specs.Laws.{IsSameFor, own_lines, own_outcomes, turns_of, ArePrintedAlike, IsNoProof}
+use Rattle.service.specs.Laws.{IsSameFor, own_lines, own_outcomes, turns_of, ArePrintedAlike, AreProofs}
 use Rattle.service.specs.Laws.{OwnLinesAreAnswered, ScriptsAreIsolated, SameIsPrinted}
 use Rattle.service.proofs.OwnLemmas.{own_said, own_none}
 use Rattle.service.proofs.AlikeLemmas.{AreOneLine, one_lines, same_turns, replies_agree, printed_alike}
@@ -95,7 +95,7 @@ own_lines_answered tenant input run start is =
     own_said (is_speaker (roster_of run.rows)) tenant (and_from (is_name tenant) (list_any (λ (r : List ℕ × Quota). is_same r.0 tenant) (roster_of run.rows)) named stands)
     run.lines run.outcomes run.transcript.one_each
 
-texts_same : (first second : List Outcome) → AllZip ArePrintedAlike first second → AllByRecursion IsNoProof first → flat_map outcome_text first ≡ flat_map outcome_text second
+texts_same : (first second : List Outcome) → AllZip ArePrintedAlike first second → AllByRecursion (λ (outcome : Outcome). (other : Outcome) → AreProofs outcome other → ⊥) first → flat_map outcome_text first ≡ flat_map outcome_text second
 texts_same [] [] alike none = refl
 texts_same [] (two ∷ second) alike none = absurd alike
 texts_same (one ∷ first) [] alike none = absurd alike

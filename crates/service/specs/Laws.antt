@@ -56,10 +56,6 @@ AreProofs _ _ = ⊥
 abbrev pub ArePrintedAlike : Outcome → Outcome → Type 0
 ArePrintedAlike first second = (outcome_text first ≡ outcome_text second) ⊎ AreProofs first second
 
--- it is no proof, for which another may stand
-abbrev pub IsNoProof : Outcome → Type 0
-IsNoProof outcome = (other : Outcome) → AreProofs outcome other → ⊥
-
 -- in both the tenant has the same limits, says the same, has the same in sight at each command, and no memory lacked for it
 pub record IsSameFor (tenant : List ℕ) {input other : List Line} (one : ScriptRun input) (two : ScriptRun other) : Type 0 where
   pub starts : start_of tenant (map tenant_of one.rows) ≡ start_of tenant (map tenant_of two.rows)
@@ -100,6 +96,7 @@ HoldsOfSame P =
 abbrev pub ScriptsAreIsolated : Type 0
 ScriptsAreIsolated = HoldsOfSame (AllZip ArePrintedAlike)
 
--- so where it is told no proof, the same bytes are printed for it
+-- so where it is told no proof, for which another may stand, the same bytes are printed for it
 abbrev pub SameIsPrinted : Type 0
-SameIsPrinted = HoldsOfSame (λ one two. AllByRecursion IsNoProof one → flat_map outcome_text one ≡ flat_map outcome_text two)
+SameIsPrinted = HoldsOfSame (λ one two.
+    AllByRecursion (λ outcome. (other : Outcome) → AreProofs outcome other → ⊥) one → flat_map outcome_text one ≡ flat_map outcome_text two)
