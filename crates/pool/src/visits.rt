@@ -37,7 +37,7 @@ impl<L: Naming> Room<L> {
         requires space { BATCH ≤ batch.old.room }
         requires told { ends.old ≡ [] }
         requires worker { 0 < tally.old.workers }
-        ensures visit { IsVisit (order_in self.old order) BATCH self.old.hall batch.old result self.new.hall batch.new }
+        ensures visit { IsVisit (order_in self.old order) 32 self.old.hall batch.old result self.new.hall batch.new }
         ensures ends { TellsEnds (option_map name_of batch.old.of) self.old.hall self.new.hall ends.new }
         ensures room { self.new ≡ record self.old { hall = self.new.hall } }
         ensures counted { tally.new ≡ record tally.old { letters = tally.old.letters + result.finished } }
