@@ -82,12 +82,13 @@ impl Nodes {
             .shrink_to(kept_room(self.exprs.len(), self.exprs.capacity()));
     }
 
-    /// Takes out all nodes. The room of a small table stays.
+    /// Takes out all nodes. The room of a small table stays, if much of it was taken.
     pub fn clear(&mut self)
         ensures { self.new ≡ [] }
     {
+        let kept = kept_when_empty(self.exprs.len(), self.exprs.capacity());
         self.exprs.clear();
-        self.exprs.shrink_to(kept_when_empty(self.exprs.capacity()));
+        self.exprs.shrink_to(kept);
     }
 
     /// Adds a node for an expression that has none, and answers its number. A number that doesn't fit 32 bits is refused.

@@ -74,17 +74,19 @@ impl Tables {
             .shrink_to(kept_room(self.reasons.len(), self.reasons.capacity()));
     }
 
-    /// Takes out all listeners and solutions. The room of small tables stays.
+    /// Takes out all listeners and solutions. The room of small tables stays, if much of it was taken.
     pub fn clear(&mut self)
         ensures { self.new ≡ ([], []) }
     {
+        let kept_lists = kept_when_empty(self.lists.len(), self.lists.capacity());
         self.lists.clear();
-        self.lists.shrink_to(kept_when_empty(self.lists.capacity()));
+        self.lists.shrink_to(kept_lists);
+        let kept_far = kept_when_empty(self.far.len(), self.far.capacity());
         self.far.clear();
-        self.far.shrink_to(kept_when_empty(self.far.capacity()));
+        self.far.shrink_to(kept_far);
+        let kept_reasons = kept_when_empty(self.reasons.len(), self.reasons.capacity());
         self.reasons.clear();
-        self.reasons
-            .shrink_to(kept_when_empty(self.reasons.capacity()));
+        self.reasons.shrink_to(kept_reasons);
     }
 
     /// The listeners of the node.

@@ -44,6 +44,12 @@ const FIRST_ROOM: usize = 36;
 /// written.
 const INDEXED: usize = 32;
 
+/// So much room is kept for another computation in any case.
+const LITTLE: usize = 256;
+
+/// More than this many times the letters that were sent is too much.
+const AMPLE: usize = 16;
+
 /// How many of so many entries have to be holes before these are dropped: where entries are few, to move letters costs more
 /// than their bytes; where they are many, bytes count.
 fn holes_to_drop(entries: usize) -> usize {
@@ -51,6 +57,17 @@ fn holes_to_drop(entries: usize) -> usize {
         0..1024 => entries - entries / 4,
         1024..8192 => entries / 2,
         _ => entries / 4,
+    }
+}
+
+/// The room that a table keeps for another computation where so many letters were sent.
+fn room_kept(sent: u64, room: usize) -> usize
+    ensures { 36 ≤ result }
+{
+    if room <= LITTLE || (room / AMPLE) as u64 <= sent {
+        usize::MAX
+    } else {
+        FIRST_ROOM
     }
 }
 
@@ -223,7 +240,7 @@ impl<P> Model for LetterTable<P> {
 }
 
 impl<P: Drop> LetterTable<P> {
-    ghost use Rattle.std.specs.Prelude.{◌≡◌, ◌+◌, ◌^◌, ◌<◌, ◌≤◌, ◌==◌, ◌++◌, [], ◌∷◌, true, false, not, length, filter, map};
+    ghost use Rattle.std.specs.Prelude.{◌≡◌, ◌+◌, ◌^◌, ◌<◌, ◌≤◌, ◌==◌, ◌++◌, [], ◌∷◌, true, false, not, length, filter, map, min};
     ghost use Rattle.std.specs.Prelude.{ℕ, is_some, option_copied, IfOk, IfSome, None, Some, OnOk};
     ghost use Rattle.std.specs.VecDeque.{deque_len};
     ghost use Rattle.std.specs.Map.{lookup};
@@ -253,13 +270,16 @@ impl<P: Drop> LetterTable<P> {
         })
     }
 
-    /// No letter, and none was sent: as it was made, with the room that it has.
+    /// No letter, and none was sent: as it was made, with the room that it has. To empty a table takes as long as its room is large,
+    /// so one that is much too large becomes small.
     pub(crate) fn restart(&mut self)
         ensures sent { self.new.sent ≡ 0 }
         ensures letters { self.new.letters ≡ [] }
-        ensures room { self.old.room ≤ self.new.room }
+        ensures room { min 1 self.old.room ≤ self.new.room }
     {
+        let kept = room_kept(self.sent, self.letters.capacity());
         self.letters.clear();
+        self.letters.shrink_to(kept);
         self.sent = 0;
         self.waits = 0;
         self.holes = 0;

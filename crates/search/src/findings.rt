@@ -75,7 +75,7 @@ const MOST_ROOM: usize = 64;
 const FIRST_NODES: u64 = 36;
 
 /// An emptied list of monitors gives its room back where it is less than that, or more than for so many nodes.
-const MOST_NODES: u64 = 256;
+const MOST_NODES: u64 = 4096;
 
 impl Findings {
     ghost use Rattle.cred_graph.specs.declared.listeners.Listening.{Listening};
