@@ -138,7 +138,7 @@ HOLDERS = [
 # the function, and what it calls and compares with a mark, in this order.
 CALLS = [
     ("hall/lendable_searches.rt", "LendableSearch::lend", "replace into_shared clone"),
-    ("hall/lendable_searches.rt", "LendableSearch::into_shared", "new"),
+    ("hall/lendable_searches.rt", "LendableSearch::into_shared", "give_back new"),
     ("snapshots/snapshots.rt", "Snapshot::span_is", "is_vaults_below rows_at is_rows_until is_rows_until both"),
     ("snapshots/snapshots.rt", "is_vaults_below", "> len owner_passes_below owner_fails_at both"),
     ("snapshots/snapshots.rt", "owner_passes_below", "== is_below"),

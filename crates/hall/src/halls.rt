@@ -157,19 +157,18 @@ impl Hall {
     pub fn end(&mut self, who: Entity, number: u64) -> Result<(), Fault>
         ensures served { IsServed self.old who (request.Close number) (told_as (λ u. reply.Closed) result) self.new }
     {
-        let remains = self.close(who, number)?;
-        remains.leave_tables(&mut self.spare);
+        let _remains = self.close(who, number)?;
         Ok(())
     }
 
-    /// Ends the tenant's search of the number, and hands out what is left of it. That may take long to drop, so who keeps others
-    /// from the hall meanwhile can do it later. It takes no memory.
-    pub fn close(&mut self, who: Entity, number: u64) -> Result<Remains, Fault>
+    /// Ends the tenant's search of the number. A small one leaves its tables to the next that is opened. What is left of another is
+    /// handed out: it may take long to drop, so who keeps others from the hall meanwhile can do it later. It takes no memory.
+    pub fn close(&mut self, who: Entity, number: u64) -> Result<Option<Remains>, Fault>
         ensures served { IsServed self.old who (request.Close number) (told_as (λ r. reply.Closed) result) self.new }
     {
         let seat = self.tenants.seat_mut(&who)?;
         leave(&mut self.busy, &who, number);
-        seat.end(number)
+        seat.end(number, &mut self.spare)
     }
 
     /// The credentials that the tenant issues and holds, in order. None of them is copied: the book shares them.

@@ -50,7 +50,8 @@ impl LendableSearch {
         }
     }
 
-    /// The search, shared where there is memory for that, and else as it is.
+    /// The search, shared where there is memory for that, and else as it is. Nobody opens another one in its tables, so it keeps no
+    /// more room than it needs.
     fn into_shared(self, alloc: Global) -> LendableSearch
         requires carried { IsLendable self }
         requires completed { IsCompleted (lendable_search self).stage }
@@ -58,10 +59,13 @@ impl LendableSearch {
         ensures carried { IsLendable result }
     {
         match self {
-            LendableSearch::Own(search) => match Arc::new(alloc, search) {
-                Ok(shared) => LendableSearch::Lent(shared),
-                Err(refused) => LendableSearch::Own(refused.value),
-            },
+            LendableSearch::Own(mut search) => {
+                search.give_back();
+                match Arc::new(alloc, search) {
+                    Ok(shared) => LendableSearch::Lent(shared),
+                    Err(refused) => LendableSearch::Own(refused.value),
+                }
+            }
             carried => carried,
         }
     }

@@ -123,8 +123,9 @@ impl Seat {
         Ok(number)
     }
 
-    /// Ends the search of the number, and hands out what is left of it. Where there is none the refusal is 51.
-    pub(crate) fn end(&mut self, number: u64) -> Result<Remains, Fault>
+    /// Ends the search of the number, and hands out what is left of it beside tables that are spare then. Where there is none the
+    /// refusal is 51.
+    pub(crate) fn end(&mut self, number: u64, spare: &mut Tables) -> Result<Option<Remains>, Fault>
         ensures there { OnOk result (get self.old.searches number ≢ None) }
         ensures ended { OnOk result (self.new ≡ record self.old { searches = remove self.old.searches number }) }
         ensures refused { IfErr result (λ f. (f ≡ faults.NoSuchSearch) × (get self.old.searches number ≡ None)) }
@@ -133,7 +134,7 @@ impl Seat {
         let Some(ended) = self.searches.swap_remove(&number) else {
             return Err(Fault::NoSuchSearch);
         };
-        Ok(Remains::of(ended))
+        Ok(Remains::of(ended).leave_tables(spare))
     }
 
     /// What the tenant uses of its limits, by its account.

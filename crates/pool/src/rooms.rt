@@ -345,7 +345,7 @@ fn ask_hall(
 {
     match request {
         Request::Close(number) => {
-            *remains = Some(hall.close(who, number)?);
+            *remains = hall.close(who, number)?;
             Ok(Reply::Closed)
         }
         other => hall.ask(who, other),

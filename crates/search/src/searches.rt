@@ -133,6 +133,11 @@ impl Search {
         })
     }
 
+    /// Whether it has taken no more room than a small search needs, so that to empty its tables takes little time.
+    pub fn is_small(&self) -> bool {
+        self.found.is_small()
+    }
+
     /// Ends the search. Its tables are emptied for another one.
     pub fn into_tables(self) -> Tables {
         let Search {
@@ -144,11 +149,7 @@ impl Search {
             keeps_room: _,
             alloc: _alloc,
         } = self;
-        let letters = if found.is_small() {
-            stage.into_completed()
-        } else {
-            None
-        };
+        let letters = stage.into_completed();
         found.forget();
         Tables { found, letters }
     }
