@@ -86,15 +86,15 @@ module _ {S Z : Type 0} where
     pub gone : Lists new who k → ⊥
     gone listed = false≢true (sym takes.1 ∙ subst (IsIn k) updates.1 listed)
 
-    -- and the tenant, where it was the last
-    pub left_empty : (last : Index S Z) → length after.keys ≡ 0 → Updates is_same new last who None → KeepsBut (λ name j. (name ≡ who) × (j ≡ k)) old last
-    left_empty last empty drops name j stays listed =
-        changed new last who None (λ i. ⊥) drops (λ i out among. none after.keys i empty (subst (IsIn i) updates.1 among)) name j
-        (λ out. out.1) (left name j stays listed)
-      where
-        none : (keys : List ℕ) (i : ℕ) → length keys ≡ 0 → list_any (λ q. i == q) keys ≡ true → ⊥
-        none [] i short there = cc
-        none (q ∷ keys) i short there = omega (arith, short)
+  -- where none of a tenant's numbers is left, it is taken out
+  pub left_empty : (old new : Index S Z) (who : List ℕ) (numbers : IndexSet ℕ Z) → table.get is_same old who ≡ Some numbers → length numbers.keys ≡ 0 →
+      Updates is_same old new who None → KeepsBut (λ name k. ⊥) old new
+  left_empty old new who numbers there empty drops name k stays =
+      changed old new who None (λ j. ⊥) drops (λ j out listed. none numbers.keys j empty (subst (IsIn j) there listed)) name k (λ out. out.1)
+    where
+      none : (keys : List ℕ) (i : ℕ) → length keys ≡ 0 → list_any (λ q. i == q) keys ≡ true → ⊥
+      none [] i short there = cc
+      none (q ∷ keys) i short there = omega (arith, short)
 
   -- what is left out need not be in the index
   pub still_listed : (old new : Index S Z) (h : HallState) (out : List ℕ → ℕ → Type 0) → KeepsBut out old new → ListsUnsettled old h →

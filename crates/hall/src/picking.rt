@@ -1,5 +1,5 @@
 //! Which searches of a hall may still go on, and which of them has its turn.
-ghost use Rattle.std.specs.Prelude.{◌≡◌, ◌≤◌, ◌↔◌, None, IfSome, OnOk, MatchOption};
+ghost use Rattle.std.specs.Prelude.{◌≡◌, ◌≤◌, ◌↔◌, ℕ, None, IfSome, OnOk, MatchOption};
 ghost use Rattle.std.specs.List.{AllByRecursion};
 ghost use Rattle.{search.specs.Search.IsSoundStage, hall.specs.Hall.search_of_step};
 ghost use Rattle.hall.specs.Work.{SearchIsQuiet, NothingToDo, CanBeMade};
@@ -24,7 +24,8 @@ pub(crate) enum Standing {
     Over,
 }
 
-/// By each tenant that has any, the numbers of its searches that may still go on. Others may stand among them.
+/// By each tenant that has any, the numbers of its searches that may still go on. Others may stand among them. The set of a
+/// tenant that alone has one stays when it is emptied, for the tenant's next search. So at most one is empty.
 pub(crate) type Busy = IndexMap<Entity, IndexSet<u64>>;
 
 /// Enters the tenant's search of the number.
@@ -39,7 +40,30 @@ pub(crate) fn enter(busy: &mut Busy, who: Entity, number: u64) -> Result<(), All
     let mut numbers = IndexSet::new(*busy.allocator());
     numbers.insert(number)?;
     busy.insert(who, numbers)?;
+    leave_empty_first(busy);
     Ok(())
+}
+
+/// Takes the first tenant's set out where it is empty.
+fn leave_empty_first(busy: &mut Busy)
+    ensures { KeepsBut (λ name k. ⊥) busy.old busy.new }
+{
+    if let Some((first, _numbers)) = busy.get_index(0) {
+        let first = *first;
+        leave_empty(busy, &first);
+    }
+}
+
+/// Takes the tenant's set out where it is empty.
+fn leave_empty(busy: &mut Busy, who: &Entity)
+    ensures kept { KeepsBut (λ name k. ⊥) busy.old busy.new }
+    ensures same { (k : ℕ) → Lists busy.new who.now k → Lists busy.old who.now k }
+{
+    if let Some(numbers) = busy.get(who) {
+        if numbers.is_empty() {
+            busy.swap_remove(who);
+        }
+    }
 }
 
 /// Takes the tenant's search of the number out.
@@ -47,11 +71,19 @@ pub(crate) fn leave(busy: &mut Busy, who: &Entity, number: u64)
     ensures kept { KeepsBut (λ name k. (name ≡ who.now) × (k ≡ number)) busy.old busy.new }
     ensures gone { Lists busy.new who.now number → ⊥ }
 {
+    take_out(busy, who, number);
+    if busy.len() > 1 {
+        leave_empty(busy, who);
+    }
+}
+
+/// Takes the number out of the tenant's set, where it has one.
+fn take_out(busy: &mut Busy, who: &Entity, number: u64)
+    ensures kept { KeepsBut (λ name k. (name ≡ who.now) × (k ≡ number)) busy.old busy.new }
+    ensures gone { Lists busy.new who.now number → ⊥ }
+{
     if let Some(numbers) = busy.get_mut(who) {
         numbers.swap_remove(&number);
-        if numbers.is_empty() {
-            busy.swap_remove(who);
-        }
     }
 }
 

@@ -32,10 +32,7 @@ impl Hall {
     pub fn ask(&mut self, who: Entity, request: Request) -> Result<Reply, Fault>
         ensures served { IsServed self.old who request (told_as (λ r. r) result) self.new }
     {
-        match request {
-            Request::Alter(change) => Ok(Reply::Counted(self.change(who, change)?)),
-            other => self.serve(who, &other),
-        }
+        self.serve(who, &request)
     }
 
     /// Lets the event happen.

@@ -15,7 +15,8 @@ returns-in-Some-clause-kept c =
     (λ k listed. is_in_more c.in-Some.numbers.now c.insert.new.self c.args.number k c.in_ok-insert.ensures.updates (subst (IsIn k) (sym c.in-Some.ensures.value) listed))
 
 pub returns-clause-kept : goal.returns-clause-kept
-returns-clause-kept c =
-    grown c.args.busy.now c.insert-3.new.self c.args.who c.insert-2.new.self
+returns-clause-kept c name k stays listed =
+    c.leave_empty_first.ensures name k stays
+    (grown c.args.busy.now c.insert-3.new.self c.args.who c.insert-2.new.self
     (subst (λ m. Updates is_same m c.insert-3.new.self c.args.who (Some c.insert-2.new.self)) c.get_mut.follows.holds-at-none c.in_ok-insert-3.ensures.updates)
-    (λ k listed. absurd (subst (IsIn k) (sym c.in_default.ensures.value) listed))
+    (λ j among. absurd (subst (IsIn j) (sym c.in_default.ensures.value) among)) name k stays listed)
