@@ -2,6 +2,7 @@ pub mod Batched
 pub mod Altering
 pub mod AtHand
 pub mod Carrying
+pub mod Closing
 pub mod Completed
 pub mod Continued
 pub mod Distinct

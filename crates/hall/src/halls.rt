@@ -157,8 +157,9 @@ impl Hall {
     pub fn end(&mut self, who: Entity, number: u64) -> Result<(), Fault>
         ensures served { IsServed self.old who (request.Close number) (told_as (λ u. reply.Closed) result) self.new }
     {
-        let _remains = self.close(who, number)?;
-        Ok(())
+        let seat = self.tenants.seat_mut(&who)?;
+        leave(&mut self.busy, &who, number);
+        seat.end_in(number, &mut self.spare)
     }
 
     /// Ends the tenant's search of the number. A small one leaves its tables to the next that is opened. What is left of another is

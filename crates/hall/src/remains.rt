@@ -16,11 +16,8 @@ impl Remains {
         Remains { ended }
     }
 
-    /// Those of a small search are dropped, and its tables are spare then. Others are handed out.
-    pub(crate) fn leave_tables(self, spare: &mut Tables) -> Option<Remains> {
-        if !self.is_small() {
-            return Some(self);
-        }
+    /// Drops it. Where nobody else has the search, its tables are spare then.
+    pub(crate) fn leave_tables(self, spare: &mut Tables) {
         let Remains { ended } = self;
         let OpenSearch {
             opened_at: _,
@@ -29,11 +26,10 @@ impl Remains {
         if let LendableSearch::Own(search) = carried {
             *spare = search.into_tables();
         }
-        None
     }
 
     /// Whether the search is small, and nobody else has it.
-    fn is_small(&self) -> bool {
+    pub(crate) fn is_small(&self) -> bool {
         match &self.ended.carried {
             LendableSearch::Own(search) => search.is_small(),
             _ => false,

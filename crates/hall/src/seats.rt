@@ -123,8 +123,8 @@ impl Seat {
         Ok(number)
     }
 
-    /// Ends the search of the number, and hands out what is left of it beside tables that are spare then. Where there is none the
-    /// refusal is 51.
+    /// Ends the search of the number. A small one leaves its tables as spare ones, and what is left of another is handed out. Where
+    /// there is none the refusal is 51.
     pub(crate) fn end(&mut self, number: u64, spare: &mut Tables) -> Result<Option<Remains>, Fault>
         ensures there { OnOk result (get self.old.searches number ≢ None) }
         ensures ended { OnOk result (self.new ≡ record self.old { searches = remove self.old.searches number }) }
@@ -134,7 +134,26 @@ impl Seat {
         let Some(ended) = self.searches.swap_remove(&number) else {
             return Err(Fault::NoSuchSearch);
         };
-        Ok(Remains::of(ended).leave_tables(spare))
+        let remains = Remains::of(ended);
+        if remains.is_small() {
+            remains.leave_tables(spare);
+            return Ok(None);
+        }
+        Ok(Some(remains))
+    }
+
+    /// Ends the search of the number as `end` does, and leaves its tables as spare ones, however large it is.
+    pub(crate) fn end_in(&mut self, number: u64, spare: &mut Tables) -> Result<(), Fault>
+        ensures there { OnOk result (get self.old.searches number ≢ None) }
+        ensures ended { OnOk result (self.new ≡ record self.old { searches = remove self.old.searches number }) }
+        ensures refused { IfErr result (λ f. (f ≡ faults.NoSuchSearch) × (get self.old.searches number ≡ None)) }
+        ensures unchanged { OnErr result (self.new ≡ self.old) }
+    {
+        let Some(ended) = self.searches.swap_remove(&number) else {
+            return Err(Fault::NoSuchSearch);
+        };
+        Remains::of(ended).leave_tables(spare);
+        Ok(())
     }
 
     /// What the tenant uses of its limits, by its account.
