@@ -28,8 +28,17 @@ impl Remains {
         }
     }
 
+    /// All of it, unless the search is small: that leaves its tables.
+    pub(crate) fn unless_small(self, spare: &mut Tables) -> Option<Remains> {
+        if !self.is_small() {
+            return Some(self);
+        }
+        self.leave_tables(spare);
+        None
+    }
+
     /// Whether the search is small, and nobody else has it.
-    pub(crate) fn is_small(&self) -> bool {
+    fn is_small(&self) -> bool {
         match &self.ended.carried {
             LendableSearch::Own(search) => search.is_small(),
             _ => false,

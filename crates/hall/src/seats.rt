@@ -134,12 +134,7 @@ impl Seat {
         let Some(ended) = self.searches.swap_remove(&number) else {
             return Err(Fault::NoSuchSearch);
         };
-        let remains = Remains::of(ended);
-        if remains.is_small() {
-            remains.leave_tables(spare);
-            return Ok(None);
-        }
-        Ok(Some(remains))
+        Ok(Remains::of(ended).unless_small(spare))
     }
 
     /// Ends the search of the number as `end` does, and leaves its tables as spare ones, however large it is.
