@@ -8,7 +8,7 @@ use Rattle.std.specs.Map.{values_of}
 use borrow.Author.Tests.{ltb-true, ltb-false}
 use Rattle.indexmap.specs.IndexMap.{set_value_at}
 use Rattle.scholten_core.specs.declared.letters.Letter.{Letter}
-use Rattle.scholten_core.specs.Computation.{waiting_in}
+use Rattle.scholten_core.specs.Computation.{waiting}
 use Rattle.scholten_core.specs.LetterTable.{WaitsAt, count, does_wait, standing}
 
 -- one for what holds
@@ -96,11 +96,11 @@ slice_get_seam (y ∷ ys) x = slice_get_seam ys x
 
 module _ {P : Type 0} where
   -- so many letters wait
-  pub length-waiting : (es : List (ℕ × Option (Letter P))) → length (waiting_in (standing es)) ≡ count does_wait es
+  pub length-waiting : (es : List (ℕ × Option (Letter P))) → length (waiting (standing es)) ≡ count does_wait es
   length-waiting [] = refl
   length-waiting ((k, None) ∷ es) = omega (arith, length-waiting es, counted does_wait (k, None) es)
   length-waiting ((k, Some l) ∷ es) =
-      elim (not l.held) as (λ b. length (cond b ((k, l) ∷ waiting_in (standing es)) (waiting_in (standing es))) ≡ one b + count does_wait es) [
+      elim (not l.held) as (λ b. length (cond b ((k, l) ∷ waiting (standing es)) (waiting (standing es))) ≡ one b + count does_wait es) [
         | true ↦ omega (arith, length-waiting es)
         | false ↦ omega (arith, length-waiting es)
       ] ∙ sym (counted does_wait (k, Some l) es)
@@ -132,22 +132,22 @@ module _ {P : Type 0} where
   holes-full ((k, Some l) ∷ es) = omega (arith, holes-full es, counted is_none (k, Some l) (filter (λ (e : ℕ × Option (Letter P)). is_some e.1) es))
 
   -- the letter at a place among those that wait
-  pub waiting-at : (i : ℕ) (es : List (ℕ × Option (Letter P))) (k : ℕ) (l : Letter P) → slice_get es i ≡ Some (k, Some l) → not l.held ≡ true → slice_get (waiting_in (standing es)) (count does_wait (take i es)) ≡ Some (k, l)
+  pub waiting-at : (i : ℕ) (es : List (ℕ × Option (Letter P))) (k : ℕ) (l : Letter P) → slice_get es i ≡ Some (k, Some l) → not l.held ≡ true → slice_get (waiting (standing es)) (count does_wait (take i es)) ≡ Some (k, l)
   waiting-at i [] k l at waits = absurd (none-some _ at)
   waiting-at zero ((m, None) ∷ es) k l at waits = absurd (none-some _ (ap (λ (e : ℕ × Option (Letter P)). e.1) (same_Some _ _ at)))
   waiting-at zero ((m, Some x) ∷ es) k l at waits =
       let same = same_Some _ _ at in
       let x_is : x ≡ l = same_Some _ _ (ap (λ (e : ℕ × Option (Letter P)). e.1) same) in
-      let rest = waiting_in (standing es) in
+      let rest = waiting (standing es) in
       ap (λ b. slice_get (cond b ((m, x) ∷ rest) rest) 0) (ap (λ (y : Letter P). not y.held) x_is ∙ waits)
       ∙ ap Some (λ j. ((same j).0, x_is j))
   waiting-at (suc i) ((m, None) ∷ es) k l at waits =
       let less : count does_wait (take (suc i) ((m, None) ∷ es)) ≡ count does_wait (take i es) = omega (arith, counted does_wait (m, None) (take i es)) in
-      ap (slice_get (waiting_in (standing es))) less ∙ waiting-at i es k l at waits
+      ap (slice_get (waiting (standing es))) less ∙ waiting-at i es k l at waits
   waiting-at (suc i) ((m, Some x) ∷ es) k l at waits =
-      let rest = waiting_in (standing es) in
+      let rest = waiting (standing es) in
       let before = count does_wait (take i es) in
-      ap (slice_get (waiting_in (standing ((m, Some x) ∷ es)))) (counted does_wait (m, Some x) (take i es))
+      ap (slice_get (waiting (standing ((m, Some x) ∷ es)))) (counted does_wait (m, Some x) (take i es))
       ∙ elim (not x.held) as (λ b. slice_get (cond b ((m, x) ∷ rest) rest) (one b + before) ≡ Some (k, l)) [
         | true ↦ (let more : one true + before ≡ suc before = omega arith in
             ap (slice_get ((m, x) ∷ rest)) more ∙ waiting-at i es k l at waits)

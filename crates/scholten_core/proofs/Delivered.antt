@@ -8,11 +8,10 @@ use Rattle.scholten_core.specs.declared.parents.Parent.TheVariants.{Neutral, Env
 use Rattle.scholten_core.specs.declared.engagement.Engagement.{Engagement}
 use Rattle.scholten_core.specs.Computation.{Computation, deficit, same_parent, outstanding}
 use Rattle.scholten_core.specs.Step.{settles, DeliversSignal}
-use Rattle.scholten_core.specs.Kept.{Delivers, IsKept, engagements, engager, held_in, kept, parent_kept}
+use Rattle.scholten_core.specs.Kept.{Delivers, IsKept, engaged_from, engager, held_in, kept, parent_kept}
 use Rattle.scholten_core.specs.LetterTable.{LetterTableState}
 use Rattle.scholten_core.proofs.Engaged.{get-remove_same, get-remove_other, one_or_other}
 use Rattle.scholten_core.proofs.Fields.{engagements_are, get-engagements}
-use Rattle.scholten_core.proofs.Complete.{sound}
 use Rattle.scholten_core.proofs.Steps.{deficit-delivered, delivered, settles_is, settles_under}
 use Rattle.scholten_core.proofs.Whole.{is_delivered}
 
@@ -49,25 +48,25 @@ module _ {P : Type 0} (table : LetterTableState P) (signals : List Parent) (owed
         sent = table.sent;
         letters = table.letters;
         signals = (sym (append-nil (remove signals place)) ∙ ap (λ o. remove signals place ++ option_to_list o) (sym none)) i;
-        engaged = engagements_are (engagements nodes) nodes_after (λ n. get-engagements nodes n ∙ sym (delivers.parents n ∙ stays_none _ by _ none)) i;
+        engaged = engagements_are (engaged_from 0 nodes) nodes_after (λ n. get-engagements nodes n ∙ sym (delivers.parents n ∙ stays_none _ by _ none)) i;
       }
 
-  removed : (n : ℕ) (parent : Parent) → to ≡ Node n → by ≡ Some parent → (q : ℕ) → fin.get (fin.remove (engagements nodes) n) q ≡ parent_kept nodes_after q
+  removed : (n : ℕ) (parent : Parent) → to ≡ Node n → by ≡ Some parent → (q : ℕ) → fin.get (fin.remove (engaged_from 0 nodes) n) q ≡ parent_kept nodes_after q
   removed n parent is some q =
       let test : (same_parent to (Node q) && is_some by) ≡ ((n == q) && true) = λ i. same_parent (is i) (Node q) && is_some (some i) in
       let after = delivers.parents q ∙ ap (λ b. if b then None else parent_kept nodes q) test in
       one_or_other q n
-      (λ one. ap (fin.get _) one ∙ get-remove_same (engagements nodes) n ∙ sym (after ∙ ap (λ b. if b && true then None else parent_kept nodes q) (ap (λ x. n == x) one ∙ eq-eqb n n refl)))
-      (λ other. get-remove_other (engagements nodes) n q other ∙ get-engagements nodes q ∙ sym (after ∙ ap (λ b. if b && true then None else parent_kept nodes q) (ne_eqb n q (λ e. other (sym e)))))
+      (λ one. ap (fin.get _) one ∙ get-remove_same (engaged_from 0 nodes) n ∙ sym (after ∙ ap (λ b. if b && true then None else parent_kept nodes q) (ap (λ x. n == x) one ∙ eq-eqb n n refl)))
+      (λ other. get-remove_other (engaged_from 0 nodes) n q other ∙ get-engagements nodes q ∙ sym (after ∙ ap (λ b. if b && true then None else parent_kept nodes q) (ne_eqb n q (λ e. other (sym e)))))
 
   -- where a node is let go, its engagement goes and a signal goes to the one that engaged it
-  goes : (n : ℕ) (parent : Parent) → to ≡ Node n → by ≡ Some parent → record taken { signals = remove signals place ++ parent ∷ []; engaged = fin.remove (engagements nodes) n } ≡ held_in table (remove signals place ++ option_to_list by) nodes_after
+  goes : (n : ℕ) (parent : Parent) → to ≡ Node n → by ≡ Some parent → record taken { signals = remove signals place ++ parent ∷ []; engaged = fin.remove (engaged_from 0 nodes) n } ≡ held_in table (remove signals place ++ option_to_list by) nodes_after
   goes n parent is some =
       λ i. record {
         sent = table.sent;
         letters = table.letters;
         signals = ap (λ o. remove signals place ++ option_to_list o) (sym some) i;
-        engaged = engagements_are (fin.remove (engagements nodes) n) nodes_after (removed n parent is some) i;
+        engaged = engagements_are (fin.remove (engaged_from 0 nodes) n) nodes_after (removed n parent is some) i;
       }
 
   -- the answer, with what the one is owed
@@ -75,11 +74,11 @@ module _ {P : Type 0} (table : LetterTableState P) (signals : List Parent) (owed
   answer x is b owed_is =
       delivers.signal ∙ (λ i. if (ap (λ n. n == 0) (ap (kept owed_after nodes_after) is ∙ counts_taken x) ∙ owed_is) i then engager nodes (is i) else None)
 
-  settles_node : (n : ℕ) → to ≡ Node n → (o : Option Parent) → fin.get (engagements nodes) n ≡ o → settles_under taken n o ≡ held_in table (remove signals place ++ option_to_list by) nodes_after
+  settles_node : (n : ℕ) → to ≡ Node n → (o : Option Parent) → fin.get (engaged_from 0 nodes) n ≡ o → settles_under taken n o ≡ held_in table (remove signals place ++ option_to_list by) nodes_after
   settles_node n is None gone =
       stays (answer (Node n) is _ refl ∙ ap (λ o. if deficit taken (Node n) == 0 then o else None) (sym (get-engagements nodes n) ∙ gone) ∙ none_either _)
   settles_node n is (Some parent) engaged =
-      elim (deficit taken (Node n) == 0) as (λ b. (deficit taken (Node n) == 0) ≡ b → cond b (record taken { signals = remove signals place ++ parent ∷ []; engaged = fin.remove (engagements nodes) n }) taken ≡ held_in table (remove signals place ++ option_to_list by) nodes_after) [
+      elim (deficit taken (Node n) == 0) as (λ b. (deficit taken (Node n) == 0) ≡ b → cond b (record taken { signals = remove signals place ++ parent ∷ []; engaged = fin.remove (engaged_from 0 nodes) n }) taken ≡ held_in table (remove signals place ++ option_to_list by) nodes_after) [
         | true ↦ λ nothing. goes n parent is (answer (Node n) is true nothing ∙ sym (get-engagements nodes n) ∙ engaged)
         | false ↦ λ something. stays (answer (Node n) is false something)
       ] refl
@@ -87,16 +86,16 @@ module _ {P : Type 0} (table : LetterTableState P) (signals : List Parent) (owed
   settles_one : (x : Parent) → to ≡ x → settles taken x ≡ held_in table (remove signals place ++ option_to_list by) nodes_after
   settles_one Neutral is = stays (answer Neutral is _ refl ∙ none_either _)
   settles_one Environment is = stays (answer Environment is _ refl ∙ none_either _)
-  settles_one (Node n) is = settles_is taken n ∙ settles_node n is (fin.get (engagements nodes) n) refl
+  settles_one (Node n) is = settles_is taken n ∙ settles_node n is (fin.get (engaged_from 0 nodes) n) refl
 
   signalled_is : settles taken to ≡ held_in table (remove signals place ++ option_to_list by) nodes_after
   signalled_is = settles_one to refl
 
   signalled_kept : IsKept (settles taken to) owed_after nodes_after
   signalled_kept =
-      let after = is_delivered before place to at keeps.settled in
+      let after = is_delivered before place to at keeps.sound in
       record {
-        settled = after.settled;
+        sound = after.sound;
         counts = λ p. omega (arith, delivers.counts p, keeps.counts p, after.deficits p);
       }
 
@@ -105,7 +104,7 @@ module _ {P : Type 0} (table : LetterTableState P) (signals : List Parent) (owed
   signalled_fields signals_after signals_are =
       let is : held_in table signals_after nodes_after ≡ settles taken to = ap (λ s. held_in table s nodes_after) signals_are ∙ sym signalled_is in
       let kept = subst (λ d. IsKept d owed_after nodes_after) (sym is) signalled_kept in
-      let after = is_delivered before place to at keeps.settled in
+      let after = is_delivered before place to at keeps.sound in
       record {
         step = record {
           to = to;
@@ -114,7 +113,7 @@ module _ {P : Type 0} (table : LetterTableState P) (signals : List Parent) (owed
           letters = refl;
           sent = refl;
           less = ap (λ d. outstanding d + 1) is ∙ after.amount;
-          sound = sound _ kept.settled;
+          sound = kept.sound;
         };
         kept = kept;
       }

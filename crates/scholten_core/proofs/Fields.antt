@@ -9,14 +9,14 @@ use Rattle.scholten_core.specs.declared.parents.Parent.{Parent}
 use Rattle.scholten_core.specs.declared.parents.Parent.TheVariants.{Neutral, Environment, Node}
 use Rattle.scholten_core.specs.declared.letters.Letter.{Letter}
 use Rattle.scholten_core.specs.declared.engagement.Engagement.{Engagement}
-use Rattle.scholten_core.specs.Computation.{deficit, outstanding, same_parent, waiting_in}
+use Rattle.scholten_core.specs.Computation.{deficit, outstanding, same_parent, waiting}
 use Rattle.scholten_core.specs.Step.{mark, marked, started, TakesLetter}
-use Rattle.scholten_core.specs.Kept.{IsKept, engaged_from, engagement_of, engagements, held_in, kept, parent_kept}
+use Rattle.scholten_core.specs.Kept.{IsKept, engaged_from, engagement_of, held_in, kept, parent_kept}
 use Rattle.scholten_core.specs.LetterTable.{LetterTableState}
-use Rattle.scholten_core.proofs.Complete.{settled_started, sound}
+use Rattle.scholten_core.proofs.Complete.{sound_started}
 use Rattle.scholten_core.proofs.Engaged.{alike, count-empty, get-insert_other, get-insert_same}
 use Rattle.scholten_core.proofs.Lists.{lookup-changed, lookup_from_filter}
-use Rattle.scholten_core.proofs.Steps.{deficit-le-outstanding, deficit-marked, settled_marked}
+use Rattle.scholten_core.proofs.Steps.{deficit-le-outstanding, deficit-marked, settled_marked, settled_sound, sound_settled}
 
 -- nobody engaged a node whose place comes before those looked at
 before : (k n : ℕ) (nodes : List (Option Engagement)) → n < k → fin.get (engaged_from k nodes) n ≡ None
@@ -37,34 +37,34 @@ get-engaged_from k (suc i) n (Some e ∷ nodes) is =
     get-insert_other _ k e.parent n (λ same. absurd (omega (arith, is, same))) ∙ get-engaged_from (k + 1) i n nodes (omega (arith, is))
 
 -- who engaged a node, by the list of the fields
-pub get-engagements : (nodes : List (Option Engagement)) (n : ℕ) → fin.get (engagements nodes) n ≡ parent_kept nodes n
+pub get-engagements : (nodes : List (Option Engagement)) (n : ℕ) → fin.get (engaged_from 0 nodes) n ≡ parent_kept nodes n
 get-engagements nodes n = get-engaged_from 0 n n nodes (sym (zero-add n))
 
 -- a map of parents is that of the fields where it answers as they do
-pub engagements_are : (m : FinMap nat_cmp Parent) (nodes : List (Option Engagement)) → ((n : ℕ) → fin.get m n ≡ parent_kept nodes n) → m ≡ engagements nodes
-engagements_are m nodes same = alike m (engagements nodes) (λ n. same n ∙ sym (get-engagements nodes n))
+pub engagements_are : (m : FinMap nat_cmp Parent) (nodes : List (Option Engagement)) → ((n : ℕ) → fin.get m n ≡ parent_kept nodes n) → m ≡ engaged_from 0 nodes
+engagements_are m nodes same = alike m (engaged_from 0 nodes) (λ n. same n ∙ sym (get-engagements nodes n))
 
 -- before any node is engaged
 module _ {P : Type 0} (root : ℕ) (load : P) (nodes : List (Option Engagement)) (bare : nodes ≡ []) where
   first_counts : (p : Parent) → kept 1 nodes p ≡ deficit (started root load) p
-  first_counts Neutral = sym ((settled_started root load).idle Neutral refl)
+  first_counts Neutral = sym ((sound_started root load).idle Neutral refl)
   first_counts Environment = omega (arith, count-empty (same_parent Environment))
   first_counts (Node n) =
       omega (arith, count-empty (same_parent (Node n)), ap (λ es. unwrap_or (option_map (λ (e : Engagement). e.deficit) (engagement_of es n)) 0) bare)
 
   pub started_kept : IsKept (started root load) 1 nodes
-  started_kept = record { settled = settled_started root load; counts = first_counts }
+  started_kept = record { sound = sound_started root load; counts = first_counts }
 
 -- a letter is marked in the table
 module _ {P : Type 0} (table after : LetterTableState P) (signals : List Parent) (owed : ℕ) (nodes : List (Option Engagement)) (keeps : IsKept (held_in table signals nodes) owed nodes) (number : ℕ) (held : Bool) (letters : after.letters ≡ map (mark number held) table.letters) (sent : after.sent ≡ table.sent) where
   pub marked_is : held_in after signals nodes ≡ marked (held_in table signals nodes) number held
   marked_is =
-      λ i. record { sent = sent i; letters = letters i; signals = signals; engaged = engagements nodes }
+      λ i. record { sent = sent i; letters = letters i; signals = signals; engaged = engaged_from 0 nodes }
 
   pub marked_kept : IsKept (held_in after signals nodes) owed nodes
   marked_kept =
       subst (λ d. IsKept d owed nodes) (sym marked_is) (record {
-        settled = settled_marked (held_in table signals nodes) number held Neutral keeps.settled;
+        sound = sound_settled _ (settled_marked (held_in table signals nodes) number held Neutral (settled_sound _ keeps.sound));
         counts = λ p. keeps.counts p ∙ sym (deficit-marked (held_in table signals nodes) number held p);
       })
 
@@ -73,9 +73,9 @@ module _ {P : Type 0} (table after : LetterTableState P) (signals : List Parent)
   pub taken_kept : IsKept (held_in after signals nodes) owed nodes
   taken_kept = marked_kept table after signals owed nodes keeps number true letters sent
 
-  pub takes_letter : (l : Letter P) × (slice_get (waiting_in table.letters) place ≡ Some (number, l)) → TakesLetter (held_in table signals nodes) place number (held_in after signals nodes)
+  pub takes_letter : (l : Letter P) × (slice_get (waiting table.letters) place ≡ Some (number, l)) → TakesLetter (held_in table signals nodes) place number (held_in after signals nodes)
   takes_letter (letter, waited) =
-      let found = lookup_from_filter (λ (l : ℕ × Letter P). not l.1.held) 0 table.letters table.sent place number letter keeps.settled.numbers waited in
+      let found = lookup_from_filter (λ (l : ℕ × Letter P). not l.1.held) 0 table.letters table.sent place number letter keeps.sound.numbers waited in
       let taken = ap (lookup (λ n. n == number)) letters ∙ lookup-changed number (λ l. record l { held = true }) table.letters ∙ ap (option_map (λ (l : Letter P). record l { held = true })) found in
       record {
         letter = letter;
@@ -83,7 +83,7 @@ module _ {P : Type 0} (table after : LetterTableState P) (signals : List Parent)
         marked = marked_is table after signals owed nodes keeps number true letters sent;
         taken = taken;
         held = subst (λ (o : Option (Letter P)). IsSomeAnd o (λ l. IsTrue l.held)) (sym taken) refl;
-        sound = sound _ taken_kept.settled;
+        sound = taken_kept.sound;
       }
 
 -- what is kept is kept where the letters, the signals and the entries of the nodes stay
@@ -93,9 +93,9 @@ unchanged_kept table after signals signals_after owed nodes same letters sent si
       sent = sent i;
       letters = letters i;
       signals = signals_are i;
-      engaged = engagements (entries i);
+      engaged = engaged_from 0 (entries i);
     } in
-    subst (λ d. IsKept d owed same) (sym is) (record { settled = keeps.settled; counts = λ p. same_counts p ∙ keeps.counts p })
+    subst (λ d. IsKept d owed same) (sym is) (record { sound = keeps.sound; counts = λ p. same_counts p ∙ keeps.counts p })
   where
     same_counts : (p : Parent) → kept owed same p ≡ kept owed nodes p
     same_counts Neutral = refl
@@ -104,8 +104,8 @@ unchanged_kept table after signals signals_after owed nodes same letters sent si
 
 -- where nothing is outstanding no node is engaged, so that no entry is kept for any
 module _ {P : Type 0} (table after : LetterTableState P) (signals signals_after : List Parent) (owed : ℕ) (nodes bare : List (Option Engagement)) (letters : after.letters ≡ table.letters) (sent : after.sent ≡ table.sent) (signals_are : signals_after ≡ signals) (empty : bare ≡ []) (none : outstanding (held_in table signals nodes) ≡ 0) where
-  nobody_engaged : engagements bare ≡ engagements nodes
-  nobody_engaged = ap engagements empty ∙ sym (fin.empty_of_len (engagements nodes) (omega (arith, none)))
+  nobody_engaged : engaged_from 0 bare ≡ engaged_from 0 nodes
+  nobody_engaged = ap (engaged_from 0) empty ∙ sym (fin.empty_of_len (engaged_from 0 nodes) (omega (arith, none)))
 
   pub emptied_is : held_in after signals_after bare ≡ held_in table signals nodes
   emptied_is = λ i. record {
@@ -117,7 +117,7 @@ module _ {P : Type 0} (table after : LetterTableState P) (signals signals_after 
 
   pub emptied_kept : IsKept (held_in table signals nodes) owed nodes → IsKept (held_in after signals_after bare) owed bare
   emptied_kept keeps =
-      subst (λ d. IsKept d owed bare) (sym emptied_is) (record { settled = keeps.settled; counts = counts })
+      subst (λ d. IsKept d owed bare) (sym emptied_is) (record { sound = keeps.sound; counts = counts })
     where
       counts : (p : Parent) → kept owed bare p ≡ deficit (held_in table signals nodes) p
       counts Neutral = keeps.counts Neutral

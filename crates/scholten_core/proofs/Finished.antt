@@ -9,15 +9,15 @@ use Rattle.scholten_core.specs.declared.parents.Parent.{Parent}
 use Rattle.scholten_core.specs.declared.parents.Parent.TheVariants.{Neutral, Environment, Node}
 use Rattle.scholten_core.specs.declared.letters.Letter.{Letter}
 use Rattle.scholten_core.specs.declared.engagement.Engagement.{Engagement}
-use Rattle.scholten_core.specs.Computation.{Computation, deficit, is_engaged, outstanding}
+use Rattle.scholten_core.specs.Computation.{Computation, deficit, outstanding}
 use Rattle.scholten_core.specs.Step.{finishes, numbered, receives, sends, settles, FinishesLetter}
-use Rattle.scholten_core.specs.Kept.{IsKept, Receives, deficit_kept, engagement_of, engagements, held_in, kept, parent_kept}
+use Rattle.scholten_core.specs.Kept.{IsKept, Receives, deficit_kept, engagement_of, engaged_from, held_in, kept, parent_kept}
 use Rattle.scholten_core.specs.LetterTable.{LetterTableState}
 use Rattle.scholten_core.proofs.Engaged.{get-insert_same, get-insert_other, one_or_other, remove-insert}
 use Rattle.scholten_core.proofs.Fields.{engagements_are, get-engagements}
 use Rattle.scholten_core.proofs.Paid.{count_of}
 use Rattle.scholten_core.proofs.Same.{same_parent-self}
-use Rattle.scholten_core.proofs.Steps.{IsReceived, acknowledged, deficit-sends, engages, received, rest, settles_is, settles_under}
+use Rattle.scholten_core.proofs.Steps.{IsReceived, acknowledged, deficit-sends, engages, received, rest, settles_is, settles_under, settled_sound}
 use Rattle.scholten_core.proofs.Whole.{is_finished}
 
 module _ {P : Type 0} (e : Computation P) (n : ℕ) where
@@ -52,16 +52,16 @@ module _ {P : Type 0} (table : LetterTableState P) (signals : List Parent) (owed
       record { sent = table.sent + length outs; letters = rest before number l ++ numbered (Node l.to) (table.sent + 1) outs; signals = s; engaged = m }
 
   abbrev after : Computation P
-  after = with_parts (signals ++ option_to_list by) (engagements nodes_after)
+  after = with_parts (signals ++ option_to_list by) (engaged_from 0 nodes_after)
 
   got : IsReceived before number l (receives before number l)
-  got = received before number l keeps.settled found
+  got = received before number l (settled_sound before keeps.sound) found
 
   owed_to : deficit (sends (receives before number l) (Node l.to) outs) (Node l.to) ≡ deficit before (Node l.to) + length outs
   owed_to =
       omega (arith, deficit-sends (receives before number l) (Node l.to) outs (Node l.to), ap (λ b. cond b (length outs) 0) (same_parent-self (Node l.to)), got.owed.deficits (Node l.to))
 
-  engaged_before : (o : Option Engagement) → engagement_of nodes l.to ≡ o → is_engaged before l.to ≡ is_some o
+  engaged_before : (o : Option Engagement) → engagement_of nodes l.to ≡ o → fin.contains_key before.engaged l.to ≡ is_some o
   engaged_before o is =
       ap is_some (get-engagements nodes l.to) ∙ ap (λ x. is_some (option_map (λ (e : Engagement). e.parent) x)) is ∙ elim o as (λ x. is_some (option_map (λ (e : Engagement). e.parent) x) ≡ is_some x) [ None ↦ refl | Some e ↦ refl ]
 
@@ -78,18 +78,18 @@ module _ {P : Type 0} (table : LetterTableState P) (signals : List Parent) (owed
   finished_engaged e there =
       let is = engaged_before (Some e) there in
       let acknowledges = ap (λ b. cond b (acknowledged before number l) (engages before number l)) is in
-      let owing = keeps.settled.busy l.to (λ x. cc) is in
+      let owing = keeps.sound.busy l.to is in
       let got_it = receives_it.engaged e there in
       settles_stays (sends (receives before number l) (Node l.to) outs) l.to (omega (arith, owed_to, owing))
       ∙ ap (λ x. sends x (Node l.to) outs) acknowledges
-      ∙ parts_are (signals ++ l.from ∷ []) (engagements nodes) (ap (λ o. signals ++ option_to_list o) (sym got_it.0)) (λ n _. get-engagements nodes n) (get-engagements nodes l.to ∙ ap (option_map (λ (x : Engagement). x.parent)) there ∙ ap (option_map (λ (x : Engagement). x.parent)) (sym got_it.1))
+      ∙ parts_are (signals ++ l.from ∷ []) (engaged_from 0 nodes) (ap (λ o. signals ++ option_to_list o) (sym got_it.0)) (λ n _. get-engagements nodes n) (get-engagements nodes l.to ∙ ap (option_map (λ (x : Engagement). x.parent)) there ∙ ap (option_map (λ (x : Engagement). x.parent)) (sym got_it.1))
 
   module _ (gone : engagement_of nodes l.to ≡ None) where
     engages_it : receives before number l ≡ engages before number l
     engages_it =
         ap (λ b. cond b (acknowledged before number l) (engages before number l)) (engaged_before None gone)
 
-    parent_gone : fin.get (engagements nodes) l.to ≡ None
+    parent_gone : fin.get (engaged_from 0 nodes) l.to ≡ None
     parent_gone = get-engagements nodes l.to ∙ ap (option_map (λ (x : Engagement). x.parent)) gone
 
     -- it came to a neutral node, which sends letters
@@ -98,19 +98,19 @@ module _ {P : Type 0} (table : LetterTableState P) (signals : List Parent) (owed
         let got_it = receives_it.anew gone some in
         settles_stays (sends (receives before number l) (Node l.to) outs) l.to (omega (arith, owed_to))
         ∙ ap (λ x. sends x (Node l.to) outs) engages_it
-        ∙ parts_are signals (fin.insert (engagements nodes) l.to l.from) (sym (append-nil signals) ∙ ap (λ o. signals ++ option_to_list o) (sym got_it.0)) (λ n other. get-insert_other _ l.to l.from n other ∙ get-engagements nodes n) (get-insert_same _ l.to l.from ∙ ap (option_map (λ (x : Engagement). x.parent)) (sym got_it.1))
+        ∙ parts_are signals (fin.insert (engaged_from 0 nodes) l.to l.from) (sym (append-nil signals) ∙ ap (λ o. signals ++ option_to_list o) (sym got_it.0)) (λ n other. get-insert_other _ l.to l.from n other ∙ get-engagements nodes n) (get-insert_same _ l.to l.from ∙ ap (option_map (λ (x : Engagement). x.parent)) (sym got_it.1))
 
     -- it came to a neutral node, which sends none
     finished_idle : length outs ≡ 0 → finishes before number l outs ≡ after
     finished_idle none =
         let got_it = receives_it.idle gone none in
-        let neutral = keeps.settled.idle (Node l.to) (engaged_before None gone) in
+        let neutral = keeps.sound.idle (Node l.to) (engaged_before None gone) in
         let sent_by = sends (engages before number l) (Node l.to) outs in
         let nothing : deficit sent_by (Node l.to) ≡ 0 = ap (λ x. deficit (sends x (Node l.to) outs) (Node l.to)) (sym engages_it) ∙ omega (arith, owed_to, neutral, none) in
         ap (λ x. settles (sends x (Node l.to) outs) (Node l.to)) engages_it
         ∙ settles_goes sent_by l.to l.from (get-insert_same _ l.to l.from) nothing
-        ∙ ap (with_parts (signals ++ l.from ∷ [])) (remove-insert (engagements nodes) l.to l.from parent_gone)
-        ∙ parts_are (signals ++ l.from ∷ []) (engagements nodes) (ap (λ o. signals ++ option_to_list o) (sym got_it.0)) (λ n _. get-engagements nodes n) (parent_gone ∙ ap (option_map (λ (x : Engagement). x.parent)) (sym got_it.1))
+        ∙ ap (with_parts (signals ++ l.from ∷ [])) (remove-insert (engaged_from 0 nodes) l.to l.from parent_gone)
+        ∙ parts_are (signals ++ l.from ∷ []) (engaged_from 0 nodes) (ap (λ o. signals ++ option_to_list o) (sym got_it.0)) (λ n _. get-engagements nodes n) (parent_gone ∙ ap (option_map (λ (x : Engagement). x.parent)) (sym got_it.1))
 
   finished_is : finishes before number l outs ≡ after
   finished_is =
@@ -142,15 +142,15 @@ module _ {P : Type 0} (table : LetterTableState P) (signals : List Parent) (owed
 
   finished_kept : IsKept (finishes before number l outs) owed nodes_after
   finished_kept =
-      let done = is_finished before number l outs keeps.settled found in
-      record { settled = done.settled; counts = counts_after }
+      let done = is_finished before number l outs keeps.sound found in
+      record { sound = done.sound; counts = counts_after }
     where
       counts_after : (p : Parent) → kept owed nodes_after p ≡ deficit (finishes before number l outs) p
-      counts_after Neutral = sym ((is_finished before number l outs keeps.settled found).settled.idle Neutral refl)
+      counts_after Neutral = sym ((is_finished before number l outs keeps.sound found).sound.idle Neutral refl)
       counts_after Environment =
-          omega (arith, keeps.counts Environment, (is_finished before number l outs keeps.settled found).deficits Environment)
+          omega (arith, keeps.counts Environment, (is_finished before number l outs keeps.sound found).deficits Environment)
       counts_after (Node n) =
-          omega (arith, count_after n, keeps.counts (Node n), (is_finished before number l outs keeps.settled found).deficits (Node n))
+          omega (arith, count_after n, keeps.counts (Node n), (is_finished before number l outs keeps.sound found).deficits (Node n))
 
   -- the fields hold the computation with the letter finished
   pub finished_fields : (table_now : LetterTableState P) → table_now.letters ≡ rest before number l ++ numbered (Node l.to) (table.sent + 1) outs → table_now.sent ≡ table.sent + length outs → (signals_now : List Parent) → signals_now ≡ signals ++ option_to_list by → IsFinishedIn before number outs (held_in table_now signals_now nodes_after) owed nodes_after
@@ -159,9 +159,9 @@ module _ {P : Type 0} (table : LetterTableState P) (signals : List Parent) (owed
         sent = sent_is i;
         letters = letters_are i;
         signals = signals_are i;
-        engaged = engagements nodes_after;
+        engaged = engaged_from 0 nodes_after;
       }) ∙ sym finished_is in
-      let done = is_finished before number l outs keeps.settled found in
+      let done = is_finished before number l outs keeps.sound found in
       record {
         step = record {
           letter = l;

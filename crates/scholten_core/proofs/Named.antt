@@ -12,11 +12,11 @@ use Rattle.std.proofs.lemmas.Map.Made.{lookup-map_values}
 use Rattle.scholten_core.specs.declared.parents.Parent.{Parent}
 use Rattle.scholten_core.specs.declared.parents.Parent.TheVariants.{Neutral, Environment, Node}
 use Rattle.scholten_core.specs.declared.letters.Letter.{Letter}
-use Rattle.scholten_core.specs.Computation.{Computation, IsHeld, StandByNumber, deficit, is_engaged, letter_of, outstanding, same_parent, waiting}
+use Rattle.scholten_core.specs.Computation.{Computation, IsHeld, StandByNumber, deficit, letter_of, outstanding, same_parent, waiting}
 use Rattle.scholten_core.specs.Step.{finishes, mark, marked, numbered, receives, sends, settles}
 use Rattle.scholten_core.specs.Sound.{IsNumbered, IsSound}
 use Rattle.scholten_core.specs.Step.{DeliversSignal, FinishesLetter, TakesLetter}
-use Rattle.scholten_core.specs.Computation.{entry_with, letter_with, named_with, outs_with}
+use Rattle.scholten_core.specs.Computation.{entry_with, named_with, outs_with}
 use Rattle.scholten_core.proofs.Lists.{Contains_from_lookup, lookup_from_Contains}
 use Rattle.scholten_core.proofs.Steps.{settles_is, settles_under}
 
@@ -40,29 +40,32 @@ slice_get-mapped g (x ∷ xs) zero = refl
 slice_get-mapped g (x ∷ xs) (suc i) = slice_get-mapped g xs i
 
 module _ {P Q : Type 0} (f : P → Q) where
-  pub waiting-named : (d : Computation P) → waiting (named_with f d) ≡ map (entry_with f) (waiting d)
+  abbrev letter_with : Letter P → Letter Q
+  letter_with l = record { from = l.from; to = l.to; held = l.held; load = f l.load }
+
+  pub waiting-named : (d : Computation P) → waiting (named_with f d).letters ≡ map (entry_with f) (waiting d.letters)
   waiting-named d = filter-map (entry_with f) (λ l. not l.1.held) d.letters
 
   -- the letter at a place among those that wait
-  pub waits-named : (d : Computation P) (place : ℕ) → slice_get (waiting (named_with f d)) place ≡ option_map (entry_with f) (slice_get (waiting d) place)
-  waits-named d place = ap (λ ls. slice_get ls place) (waiting-named d) ∙ slice_get-mapped (entry_with f) (waiting d) place
+  pub waits-named : (d : Computation P) (place : ℕ) → slice_get (waiting (named_with f d).letters) place ≡ option_map (entry_with f) (slice_get (waiting d.letters) place)
+  waits-named d place = ap (λ ls. slice_get ls place) (waiting-named d) ∙ slice_get-mapped (entry_with f) (waiting d.letters) place
 
-  pub letter_of-named : (d : Computation P) (number : ℕ) → letter_of (named_with f d) number ≡ option_map (letter_with f) (letter_of d number)
-  letter_of-named d number = lookup-map_values (letter_with f) (λ n. n == number) d.letters
+  pub letter_of-named : (d : Computation P) (number : ℕ) → letter_of (named_with f d) number ≡ option_map (letter_with) (letter_of d number)
+  letter_of-named d number = lookup-map_values (letter_with) (λ n. n == number) d.letters
 
-  held_with : (o : Option (Letter P)) → IsSomeAnd o (λ l. IsTrue l.held) → IsSomeAnd (option_map (letter_with f) o) (λ l. IsTrue l.held)
+  held_with : (o : Option (Letter P)) → IsSomeAnd o (λ l. IsTrue l.held) → IsSomeAnd (option_map (letter_with) o) (λ l. IsTrue l.held)
   held_with None held = held
   held_with (Some l) held = held
 
-  held_without : (o : Option (Letter P)) → IsSomeAnd (option_map (letter_with f) o) (λ l. IsTrue l.held) → IsSomeAnd o (λ l. IsTrue l.held)
+  held_without : (o : Option (Letter P)) → IsSomeAnd (option_map (letter_with) o) (λ l. IsTrue l.held) → IsSomeAnd o (λ l. IsTrue l.held)
   held_without None held = held
   held_without (Some l) held = held
 
-  pub held-named : (d : Computation P) (number : ℕ) → IsHeld d number → IsHeld (named_with f d) number
+  pub held-named : (d : Computation P) (number : ℕ) → IsHeld d.letters number → IsHeld (named_with f d).letters number
   held-named d number held =
       subst (λ o. IsSomeAnd o (λ l. IsTrue l.held)) (sym (letter_of-named d number)) (held_with (letter_of d number) held)
 
-  pub held-unnamed : (d : Computation P) (number : ℕ) → IsHeld (named_with f d) number → IsHeld d number
+  pub held-unnamed : (d : Computation P) (number : ℕ) → IsHeld (named_with f d).letters number → IsHeld d.letters number
   held-unnamed d number held =
       held_without (letter_of d number) (subst (λ o. IsSomeAnd o (λ l. IsTrue l.held)) (letter_of-named d number) held)
 
@@ -79,10 +82,9 @@ module _ {P Q : Type 0} (f : P → Q) where
 
   pub sound-named : (d : Computation P) → IsSound d → IsSound (named_with f d)
   sound-named d is = record {
-    engaged = λ n engaged. omega (arith, deficit-named d (Node n), is.engaged n engaged);
-    neutral = λ n neutral. deficit-named d (Node n) ∙ is.neutral n neutral;
-    rooted = is.rooted;
-    nobody = deficit-named d Neutral ∙ is.nobody;
+    busy = λ n engaged. omega (arith, deficit-named d (Node n), is.busy n engaged);
+    idle = λ p idle. deficit-named d p ∙ is.idle p idle;
+    tree = is.tree;
     numbers = numbers-named 0 d.letters d.sent is.numbers;
     one_each = omega (arith, outstanding-named d, is.one_each);
   }
@@ -97,8 +99,8 @@ module _ {P Q : Type 0} (f : P → Q) where
   marks-named : (number : ℕ) (held : Bool) (ls : List (ℕ × Letter P)) → map (entry_with f) (map (mark number held) ls) ≡ map (mark number held) (map (entry_with f) ls)
   marks-named number held [] = refl
   marks-named number held (l ∷ ls) =
-      elim (l.0 == number) as (λ b. entry_with f (cond {A = ℕ × Letter P} b (l.0, record l.1 { held = held }) l) ∷ map (entry_with f) (map (mark number held) ls) ≡ cond {A = ℕ × Letter Q} b (l.0, record (letter_with f l.1) { held = held }) (entry_with f l) ∷ map (mark number held) (map (entry_with f) ls)) [
-        | true ↦ ap (λ more. (l.0, record (letter_with f l.1) { held = held }) ∷ more) (marks-named number held ls)
+      elim (l.0 == number) as (λ b. entry_with f (cond {A = ℕ × Letter P} b (l.0, record l.1 { held = held }) l) ∷ map (entry_with f) (map (mark number held) ls) ≡ cond {A = ℕ × Letter Q} b (l.0, record (letter_with l.1) { held = held }) (entry_with f l) ∷ map (mark number held) (map (entry_with f) ls)) [
+        | true ↦ ap (λ more. (l.0, record (letter_with l.1) { held = held }) ∷ more) (marks-named number held ls)
         | false ↦ ap (λ more. entry_with f l ∷ more) (marks-named number held ls)
       ]
 
@@ -137,9 +139,9 @@ module _ {P Q : Type 0} (f : P → Q) where
   rest-named : (number : ℕ) (ls : List (ℕ × Letter P)) → map (entry_with f) (filter (λ l. not (l.0 == number)) ls) ≡ filter (λ l. not (l.0 == number)) (map (entry_with f) ls)
   rest-named number ls = sym (filter-map (entry_with f) (λ l. not (l.0 == number)) ls)
 
-  receives-named : (d : Computation P) (number : ℕ) (l : Letter P) → named_with f (receives d number l) ≡ receives (named_with f d) number (letter_with f l)
+  receives-named : (d : Computation P) (number : ℕ) (l : Letter P) → named_with f (receives d number l) ≡ receives (named_with f d) number (letter_with l)
   receives-named d number l =
-      branch (is_engaged d l.to) ∙ ap (λ ls. cond (is_engaged d l.to) (busy ls) (idle ls)) (rest-named number d.letters)
+      branch (fin.contains_key d.engaged l.to) ∙ ap (λ ls. cond (fin.contains_key d.engaged l.to) (busy ls) (idle ls)) (rest-named number d.letters)
     where
       busy : List (ℕ × Letter Q) → Computation Q
       busy ls = record (named_with f d) { letters = ls; signals = d.signals ++ l.from ∷ [] }
@@ -151,7 +153,7 @@ module _ {P Q : Type 0} (f : P → Q) where
       branch true = refl
       branch false = refl
 
-  finishes-named : (d : Computation P) (number : ℕ) (l : Letter P) (outs : List (ℕ × P)) → named_with f (finishes d number l outs) ≡ finishes (named_with f d) number (letter_with f l) (outs_with f outs)
+  finishes-named : (d : Computation P) (number : ℕ) (l : Letter P) (outs : List (ℕ × P)) → named_with f (finishes d number l outs) ≡ finishes (named_with f d) number (letter_with l) (outs_with f outs)
   finishes-named d number l outs =
       settles-named (sends (receives d number l) (Node l.to) outs) (Node l.to)
       ∙ ap (λ e. settles e (Node l.to)) (sends-named (receives d number l) (Node l.to) outs ∙ ap (λ e. sends e (Node l.to) (outs_with f outs)) (receives-named d number l))
@@ -159,10 +161,10 @@ module _ {P Q : Type 0} (f : P → Q) where
   -- the calls do the same
   pub takes-named : (d e : Computation P) (place number : ℕ) → TakesLetter d place number e → TakesLetter (named_with f d) place number (named_with f e)
   takes-named d e place number takes = record {
-    letter = letter_with f takes.letter;
+    letter = letter_with takes.letter;
     waited = waits-named d place ∙ ap (option_map (entry_with f)) takes.waited;
     marked = ap (named_with f) takes.marked ∙ marked-named d number true;
-    taken = letter_of-named e number ∙ ap (option_map (letter_with f)) takes.taken;
+    taken = letter_of-named e number ∙ ap (option_map (letter_with)) takes.taken;
     held = held-named e number takes.held;
     sound = sound-named e takes.sound;
   }
@@ -172,8 +174,8 @@ module _ {P Q : Type 0} (f : P → Q) where
       let count = length-map {B = ℕ × Q} outs (λ o. (o.0, f o.1)) in
       let sent = numbered (Node done.letter.to) (d.sent + 1) outs in
       record {
-        letter = letter_with f done.letter;
-        found = letter_of-named d number ∙ ap (option_map (letter_with f)) done.found;
+        letter = letter_with done.letter;
+        found = letter_of-named d number ∙ ap (option_map (letter_with)) done.found;
         finished = ap (named_with f) done.finished ∙ finishes-named d number done.letter outs;
         letters = ap (map (entry_with f)) done.letters
             ∙ map-append (entry_with f) (filter (λ l. not (l.0 == number)) d.letters) sent

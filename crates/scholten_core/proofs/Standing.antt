@@ -9,7 +9,7 @@ use Rattle.std.proofs.lemmas.Map.Entries.{length-keys_of}
 use Rattle.std.proofs.lemmas.Map.Views.{exact_unsigned_eq}
 use Rattle.indexmap.specs.IndexMap.{set_value_at}
 use Rattle.scholten_core.specs.declared.letters.Letter.{Letter}
-use Rattle.scholten_core.specs.Computation.{IsHeldIn}
+use Rattle.scholten_core.specs.Computation.{IsHeld}
 use Rattle.scholten_core.specs.LetterTable.{IsPlaceOf, standing}
 use Rattle.scholten_core.specs.Sound.{IsNumbered}
 use Rattle.scholten_core.proofs.Counts.{entry_of}
@@ -144,7 +144,7 @@ module _ {P : Type 0} where
   absent_there sent es rising k (Some at) is none = absurd (none-some at (sym none))
 
   -- a held letter is there, and so is what is found of its number
-  pub held_found : {A : Type 0} (letters : List (ℕ × Letter P)) (k : ℕ) → IsHeldIn letters k → (found : Option A) → (found ≡ None → lookup (λ n. n == k) letters ≡ None) → is_some found ≡ true
+  pub held_found : {A : Type 0} (letters : List (ℕ × Letter P)) (k : ℕ) → IsHeld letters k → (found : Option A) → (found ≡ None → lookup (λ n. n == k) letters ≡ None) → is_some found ≡ true
   held_found letters k held (Some a) none = refl
   held_found letters k held None none =
       absurd (subst (λ (o : Option (Letter P)). IsSomeAnd o (λ l. IsTrue l.held)) (none refl) held)
@@ -202,7 +202,7 @@ module _ {P : Type 0} where
   place_found es k (Some at) found there = there
 
   -- the held letter of a number stands where the number is found
-  module _ (sent : ℕ) (es : List (ℕ × Option (Letter P))) (rising : IsNumbered 0 es sent) (k i m : ℕ) (v : Option (Letter P)) (is_held : IsHeldIn (standing es) k) (found : slice_get (keys_of es) i ≡ Some k) (at : slice_get es i ≡ Some (m, v)) where
+  module _ (sent : ℕ) (es : List (ℕ × Option (Letter P))) (rising : IsNumbered 0 es sent) (k i m : ℕ) (v : Option (Letter P)) (is_held : IsHeld (standing es) k) (found : slice_get (keys_of es) i ≡ Some k) (at : slice_get es i ≡ Some (m, v)) where
     slot_is : slice_get es i ≡ Some (k, v)
     slot_is = at ∙ ap (λ n. Some (n, v)) (same_Some _ _ (sym (key_get es i m v at) ∙ found))
 
@@ -219,7 +219,7 @@ module _ {P : Type 0} where
         ] slot_is slot_held
 
   -- so the number is found
-  pub number_found : (sent : ℕ) (es : List (ℕ × Option (Letter P))) → IsNumbered 0 es sent → (k : ℕ) → IsHeldIn (standing es) k → (place : Option ℕ) → IsPlaceOf es k place → is_some place ≡ true
+  pub number_found : (sent : ℕ) (es : List (ℕ × Option (Letter P))) → IsNumbered 0 es sent → (k : ℕ) → IsHeld (standing es) k → (place : Option ℕ) → IsPlaceOf es k place → is_some place ≡ true
   number_found sent es rising k held (Some at) there = refl
   number_found sent es rising k held None none =
       let absent : lookup (λ n. n == k) (standing es) ≡ None = sym (letter_absent sent k es rising none) in

@@ -12,15 +12,42 @@ use Rattle.std.proofs.lemmas.Map.Views.{exact_unsigned_eq}
 use Rattle.scholten_core.specs.declared.parents.Parent.{Parent}
 use Rattle.scholten_core.specs.declared.parents.Parent.TheVariants.{Neutral, Environment, Node}
 use Rattle.scholten_core.specs.declared.letters.Letter.{Letter}
-use Rattle.scholten_core.specs.Computation.{Computation, deficit, is_engaged, same_parent, letter_of, outstanding}
+use Rattle.scholten_core.specs.Computation.{Computation, deficit, same_parent, letter_of, outstanding}
 use Rattle.scholten_core.specs.Step.{marked, numbered, receives, sends, settles}
-use Rattle.scholten_core.specs.Sound.{IsSettledBut, grown, is_active}
+use Rattle.scholten_core.specs.Sound.{IsNumbered, IsSound, IsTree, grown, is_active}
 use Rattle.scholten_core.specs.Kept.{hit}
 use Rattle.scholten_core.proofs.Engaged.{count-insert, count-remove, count-le-len, get-insert_same, get-insert_other, get-remove_same, get-remove_other, len-insert_new, len-remove_old, one_or_other}
 use Rattle.scholten_core.proofs.Lists.{changed, length-filter_number, numbered-append, numbered-changed, numbered-filter, sum_by-filter_number, sum_by-map_same, sum_by-remove_at}
 use Rattle.scholten_core.proofs.Same.{hit-self, hit-other, same_parent-other, same_parent-self, same_true}
 use Rattle.scholten_core.proofs.Sent.{count-numbered, length-numbered, numbered_rise}
 use Rattle.scholten_core.proofs.Trees.{active-insert, active-remove, none_there, tree_remove}
+
+-- the same as that it is sound, but that the engaged node x may be owed nothing
+pub record IsSettledBut {P : Type 0} (d : Computation P) (x : Parent) : Type 0 where
+  pub busy : (n : ℕ) → (x ≡ Node n → ⊥) → fin.contains_key d.engaged n ≡ true → 0 < deficit d (Node n)
+  pub idle : (p : Parent) → is_active d.engaged p ≡ false → deficit d p ≡ 0
+  pub tree : IsTree d.engaged
+  pub numbers : IsNumbered 0 d.letters d.sent
+  pub one_each : outstanding d ≤ d.sent
+
+module _ {P : Type 0} (d : Computation P) where
+  pub settled_sound : IsSound d → IsSettledBut d Neutral
+  settled_sound is = record {
+    busy = λ n apart there. is.busy n there;
+    idle = is.idle;
+    tree = is.tree;
+    numbers = is.numbers;
+    one_each = is.one_each;
+  }
+
+  pub sound_settled : IsSettledBut d Neutral → IsSound d
+  sound_settled settled = record {
+    busy = λ n there. settled.busy n (λ e. cc) there;
+    idle = settled.idle;
+    tree = settled.tree;
+    numbers = settled.numbers;
+    one_each = settled.one_each;
+  }
 
 module _ {P : Type 0} where
   -- nobody is owed more than is outstanding
@@ -116,7 +143,7 @@ module _ {P : Type 0} (d : Computation P) (k : ℕ) (l : Letter P) where
       sent = refl;
     }
 
-    received-acknowledged : is_engaged d l.to ≡ true → IsReceived acknowledged
+    received-acknowledged : fin.contains_key d.engaged l.to ≡ true → IsReceived acknowledged
     received-acknowledged engaged = record {
       owed = owed-acknowledged;
       letters = refl;
@@ -131,7 +158,7 @@ module _ {P : Type 0} (d : Computation P) (k : ℕ) (l : Letter P) where
       active = engaged;
     }
 
-    module _ (neutral : is_engaged d l.to ≡ false) where
+    module _ (neutral : fin.contains_key d.engaged l.to ≡ false) where
       none : fin.get d.engaged l.to ≡ None
       none = none_there d.engaged l.to neutral
 
@@ -148,7 +175,7 @@ module _ {P : Type 0} (d : Computation P) (k : ℕ) (l : Letter P) where
         letters = refl;
         settled = record {
           busy = λ n apart there.
-              let was : is_engaged d n ≡ true = sym (ap is_some (get-insert_other d.engaged l.to l.from n (λ e. apart (ap Node (sym e))))) ∙ there in
+              let was : fin.contains_key d.engaged n ≡ true = sym (ap is_some (get-insert_other d.engaged l.to l.from n (λ e. apart (ap Node (sym e))))) ∙ there in
               omega (arith, owed-engages.deficits (Node n), settled.busy n (λ e. cc) was);
           idle = λ p idle.
               owed-engages.deficits p
@@ -162,7 +189,7 @@ module _ {P : Type 0} (d : Computation P) (k : ℕ) (l : Letter P) where
 
     pub received : IsReceived (receives d k l)
     received =
-        elim (is_engaged d l.to) as (λ b. is_engaged d l.to ≡ b → IsReceived (cond b acknowledged engages)) [
+        elim (fin.contains_key d.engaged l.to) as (λ b. fin.contains_key d.engaged l.to ≡ b → IsReceived (cond b acknowledged engages)) [
           | true ↦ λ engaged. received-acknowledged engaged
           | false ↦ λ neutral. received-engages neutral
         ] refl
@@ -255,7 +282,7 @@ module _ {P : Type 0} (d : Computation P) (n : ℕ) where
 -- whoever may have come to be owed nothing settles
 module _ {P : Type 0} (d : Computation P) where
   -- where every engaged node is owed something
-  all_busy : (x : Parent) → IsSettledBut d x → ((n : ℕ) → is_engaged d n ≡ true → 0 < deficit d (Node n)) → IsSettled d d
+  all_busy : (x : Parent) → IsSettledBut d x → ((n : ℕ) → fin.contains_key d.engaged n ≡ true → 0 < deficit d (Node n)) → IsSettled d d
   all_busy x settled busy =
       unsettled d (record {
         busy = λ n _ there. busy n there;

@@ -1,15 +1,15 @@
 -- The engaged nodes as a tree
-use Rattle.std.proofs.Common.{◌≡◌, ◌≢◌, ℕ, zero, suc, ◌+◌, ◌<◌, true, false, Some, None, is_some, unwrap_or, count_by, refl, sym, ap, ◌∙◌, subst, arith}
+use Rattle.std.proofs.Common.{◌≡◌, ◌≢◌, ℕ, ◌+◌, ◌<◌, true, false, Some, None, is_some, count_by, refl, sym, ap, ◌∙◌, subst, arith}
 use Rattle.std.proofs.lemmas.Bool.{false_from_ne_true}
 use Rattle.std.specs.Ordering.{nat_cmp}
 use Rattle.std.specs.FinMap as fin
 use Rattle.std.specs.FinMap.{FinMap}
 use Rattle.scholten_core.specs.declared.parents.Parent.{Parent}
 use Rattle.scholten_core.specs.declared.parents.Parent.TheVariants.{Neutral, Environment, Node}
-use Rattle.scholten_core.specs.Computation.{followed, same_parent}
+use Rattle.scholten_core.specs.Computation.{same_parent}
 use Rattle.scholten_core.specs.Kept.{hit}
 use Rattle.scholten_core.specs.Sound.{IsTree, bare, grown, is_active}
-use Rattle.scholten_core.proofs.Engaged.{one_or_other, get-insert_same, get-insert_other, get-remove_other, remove-insert, remove-insert_other, len-insert_new, count-insert, count-empty}
+use Rattle.scholten_core.proofs.Engaged.{one_or_other, get-insert_same, get-insert_other, get-remove_other, remove-insert, remove-insert_other, count-insert, count-empty}
 use Rattle.scholten_core.proofs.Same.{hit-self, hit-other}
 
 -- a node that isn't engaged is in no entry
@@ -52,54 +52,6 @@ idle_engaged_none (grown {m} tree n by none active larger is) p idle =
     let before = false_from_ne_true (is_active m p) (λ was. cc (active-insert m n by p was, ap (λ x. is_active x p) is)) in
     let apart : p ≢ by = λ e. cc (ap (is_active m) e) in
     omega (arith, engaged_by-insert m n by larger none is p, idle_engaged_none tree p before, hit-other p by apart)
-
-followed-environment : (m : FinMap nat_cmp Parent) (k : ℕ) → followed m k Environment ≡ Environment
-followed-environment m zero = refl
-followed-environment m (suc k) = refl
-
--- who has come to the environment stays there
-followed_more : (m : FinMap nat_cmp Parent) (k : ℕ) (p : Parent) → followed m k p ≡ Environment → followed m (suc k) p ≡ Environment
-followed_more m zero Neutral there = cc
-followed_more m zero Environment there = refl
-followed_more m zero (Node n) there = cc
-followed_more m (suc k) Neutral there = there
-followed_more m (suc k) Environment there = refl
-followed_more m (suc k) (Node n) there = followed_more m k (unwrap_or (fin.get m n) Neutral) there
-
--- a way to the environment isn't cut by a new node
-followed_grown : (m : FinMap nat_cmp Parent) (n : ℕ) (by : Parent) → fin.get m n ≡ None → (k : ℕ) (p : Parent) → followed m k p ≡ Environment → followed (fin.insert m n by) k p ≡ Environment
-followed_grown m n by none zero p there = there
-followed_grown m n by none (suc k) Neutral there = there
-followed_grown m n by none (suc k) Environment there = refl
-followed_grown m n by none (suc k) (Node q) there =
-    one_or_other q n
-    (λ one. absurd (neutral_stays m k (ap (λ o. followed m k (unwrap_or o Neutral)) (sym none ∙ ap (fin.get m) (sym one)) ∙ there)))
-    (λ other. rw (get-insert_other m n by q other) (followed_grown m n by none k (unwrap_or (fin.get m q) Neutral) there))
-  where
-    neutral_stays : (m : FinMap nat_cmp Parent) (k : ℕ) → followed m k Neutral ≡ Environment → ⊥
-    neutral_stays m zero e = cc
-    neutral_stays m (suc k) e = cc
-
-module _ (m : FinMap nat_cmp Parent) (n : ℕ) (by : Parent) (none : fin.get m n ≡ None) (active : is_active m by ≡ true) (all_rooted : (q : ℕ) → fin.contains_key m q ≡ true → followed m (fin.len m) (Node q) ≡ Environment) where
-  active_rooted : (p : Parent) → is_active m p ≡ true → followed m (fin.len m) p ≡ Environment
-  active_rooted Neutral is = cc
-  active_rooted Environment is = followed-environment m (fin.len m)
-  active_rooted (Node q) is = all_rooted q is
-
-  rooted-insert : (q : ℕ) → fin.contains_key (fin.insert m n by) q ≡ true → followed (fin.insert m n by) (fin.len (fin.insert m n by)) (Node q) ≡ Environment
-  rooted-insert q there =
-      let one_more : fin.len (fin.insert m n by) ≡ suc (fin.len m) = omega (arith, len-insert_new m n by none) in
-      let from_parent = followed_grown m n by none (fin.len m) by (active_rooted by active) in
-      rw one_more (one_or_other q n
-      (λ one. ap (λ o. followed (fin.insert m n by) (fin.len m) (unwrap_or o Neutral)) (ap (fin.get (fin.insert m n by)) one ∙ get-insert_same m n by) ∙ from_parent)
-      (λ other. followed_more _ (fin.len m) (Node q) (followed_grown m n by none (fin.len m) (Node q) (all_rooted q (ap is_some (sym (get-insert_other m n by q other)) ∙ there)))))
-
--- from each engaged node, parents lead to the environment in at most as many steps as there are
--- engaged nodes
-pub rooted : {m : FinMap nat_cmp Parent} → IsTree m → (n : ℕ) → fin.contains_key m n ≡ true → followed m (fin.len m) (Node n) ≡ Environment
-rooted bare n there = cc (ap is_some (fin.get-empty {X = Parent} nat_cmp n))
-rooted (grown {m} tree n by none active larger is) q there =
-    subst (λ x. fin.contains_key x q ≡ true → followed x (fin.len x) (Node q) ≡ Environment) (sym is) (rooted-insert m n by none active (rooted tree) q) there
 
 -- a node that engaged nobody may go
 pub tree_remove : {m : FinMap nat_cmp Parent} → IsTree m → (j : ℕ) → fin.contains_key m j ≡ true → count_by (same_parent (Node j)) (fin.values m) ≡ 0 → IsTree (fin.remove m j)

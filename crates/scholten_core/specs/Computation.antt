@@ -1,5 +1,5 @@
 -- A diffusing computation, what of it is outstanding (Dijkstra and Scholten, 1980), and the same in other words
-use Rattle.std.specs.Prelude.{◌≡◌, ◌↔◌, ℕ, zero, suc, ◌+◌, ◌==◌, Bool, true, false, not, List, Option, Some, length, filter, count_by}
+use Rattle.std.specs.Prelude.{◌≡◌, ◌↔◌, ℕ, ◌+◌, ◌==◌, Bool, true, false, not, List, Option, Some, length, filter, count_by}
 use Rattle.std.specs.Prelude.{unwrap_or, Contains, IsSomeAnd, IsTrue, map}
 use Rattle.std.specs.Map.{lookup}
 use Rattle.std.specs.Ordering.{nat_cmp}
@@ -27,22 +27,16 @@ same_parent _ _ = false
 
 module _ {P : Type 0} where
   -- the letters that wait, in order of number
-  abbrev pub waiting_in : List (ℕ × Letter P) → List (ℕ × Letter P)
-  waiting_in letters = filter (λ l. not l.1.held) letters
-
-  abbrev pub waiting : Computation P → List (ℕ × Letter P)
-  waiting d = waiting_in d.letters
+  abbrev pub waiting : List (ℕ × Letter P) → List (ℕ × Letter P)
+  waiting letters = filter (λ l. not l.1.held) letters
 
   -- the letter of a number, where it waits or is held
   abbrev pub letter_of : Computation P → ℕ → Option (Letter P)
   letter_of d number = lookup (λ n. n == number) d.letters
 
   -- the letter of a number is there and is held
-  abbrev pub IsHeldIn : List (ℕ × Letter P) → ℕ → Type 0
-  IsHeldIn letters number = IsSomeAnd (lookup (λ n. n == number) letters) (λ l. IsTrue l.held)
-
-  abbrev pub IsHeld : Computation P → ℕ → Type 0
-  IsHeld d number = IsHeldIn d.letters number
+  abbrev pub IsHeld : List (ℕ × Letter P) → ℕ → Type 0
+  IsHeld letters number = IsSomeAnd (lookup (λ n. n == number) letters) (λ l. IsTrue l.held)
 
   -- a letter stands in the list under a number exactly where it is the letter of that number
   abbrev pub StandByNumber : Computation P → Type 0
@@ -51,10 +45,6 @@ module _ {P : Type 0} where
   -- who engaged a node; a node that nobody engaged is neutral
   abbrev pub parent_of : Computation P → ℕ → Parent
   parent_of d n = unwrap_or (fin.get d.engaged n) Neutral
-
-  -- whether a node is engaged
-  abbrev pub is_engaged : Computation P → ℕ → Bool
-  is_engaged d n = fin.contains_key d.engaged n
 
   -- what one is owed: the letters that it sent and that wait or are held, the signals coming to it,
   -- and the nodes engaged by it
@@ -68,21 +58,10 @@ module _ {P : Type 0} where
   abbrev pub outstanding : Computation P → ℕ
   outstanding d = length d.letters + length d.signals + fin.len d.engaged
 
--- where one comes to by following parents for so many steps; nobody is above the environment
-abbrev pub followed : FinMap nat_cmp Parent → ℕ → Parent → Parent
-followed m zero p = p
-followed m (suc k) Neutral = Neutral
-followed m (suc k) Environment = Environment
-followed m (suc k) (Node n) = followed m k (unwrap_or (fin.get m n) Neutral)
-
 module _ {P Q : Type 0} (f : P → Q) where
-  -- the letter, with what it says in other words
-  abbrev pub letter_with : Letter P → Letter Q
-  letter_with l = record { from = l.from; to = l.to; held = l.held; load = f l.load }
-
-  -- the same of a letter with its number
+  -- the letter of a number, with what it says in other words
   abbrev pub entry_with : ℕ × Letter P → ℕ × Letter Q
-  entry_with e = (e.0, letter_with e.1)
+  entry_with e = (e.0, record { from = e.1.from; to = e.1.to; held = e.1.held; load = f e.1.load })
 
   -- the letters that one sends, in other words
   abbrev pub outs_with : List (ℕ × P) → List (ℕ × Q)

@@ -9,7 +9,7 @@ use Rattle.scholten_core.specs.declared.parents.Parent.TheVariants.{Neutral, Env
 use Rattle.scholten_core.specs.declared.engagement.Engagement.{Engagement}
 use Rattle.scholten_core.specs.Computation.{Computation, deficit, same_parent}
 use Rattle.scholten_core.specs.LetterTable.{LetterTableState}
-use Rattle.scholten_core.specs.Sound.{IsSettledBut}
+use Rattle.scholten_core.specs.Sound.{IsSound}
 
 -- the engagement of a node: nobody engaged one whose place is empty, nor one past the end
 abbrev pub engagement_of : List (Option Engagement) → ℕ → Option Engagement
@@ -20,10 +20,6 @@ abbrev pub engaged_from : ℕ → List (Option Engagement) → FinMap nat_cmp Pa
 engaged_from k [] = fin.empty
 engaged_from k (None ∷ nodes) = engaged_from (k + 1) nodes
 engaged_from k (Some e ∷ nodes) = fin.insert (engaged_from (k + 1) nodes) k e.parent
-
--- the engaged nodes, each with the one that engaged it
-abbrev pub engagements : List (Option Engagement) → FinMap nat_cmp Parent
-engagements nodes = engaged_from 0 nodes
 
 -- the count kept for a node, 0 where none is kept
 abbrev pub deficit_kept : List (Option Engagement) → ℕ → ℕ
@@ -77,9 +73,9 @@ pub record Delivers (owed left : ℕ) (old new : List (Option Engagement)) (to :
 -- the computation that the fields hold
 abbrev pub held_in : {P : Type 0} → LetterTableState P → List Parent → List (Option Engagement) → Computation P
 held_in table signals nodes =
-    record { sent = table.sent; letters = table.letters; signals = signals; engaged = engagements nodes }
+    record { sent = table.sent; letters = table.letters; signals = signals; engaged = engaged_from 0 nodes }
 
--- the fields hold a settled computation, and the counts beside it are its own
+-- the fields hold a sound computation, and the counts beside it are its own
 pub record IsKept {P : Type 0} (d : Computation P) (owed : ℕ) (nodes : List (Option Engagement)) : Type 0 where
-  pub settled : IsSettledBut d Neutral
+  pub sound : IsSound d
   pub counts : (p : Parent) → kept owed nodes p ≡ deficit d p

@@ -5,7 +5,7 @@ use Rattle.std.specs.FinMap as fin
 use Rattle.scholten_core.specs.declared.parents.Parent.{Parent}
 use Rattle.scholten_core.specs.declared.parents.Parent.TheVariants.{Environment, Node}
 use Rattle.scholten_core.specs.declared.letters.Letter.{Letter}
-use Rattle.scholten_core.specs.Computation.{Computation, deficit, is_engaged, letter_of, parent_of, IsHeld, outstanding, waiting}
+use Rattle.scholten_core.specs.Computation.{Computation, deficit, letter_of, parent_of, IsHeld, outstanding, waiting}
 use Rattle.scholten_core.specs.Sound.{IsSound}
 
 module _ {P : Type 0} where
@@ -36,7 +36,7 @@ module _ {P : Type 0} where
   -- goes under way; nobody and the environment have nobody to signal
   abbrev pub settles : Computation P → Parent → Computation P
   settles d (Node n) =
-      if is_engaged d n && (deficit d (Node n) == 0)
+      if fin.contains_key d.engaged n && (deficit d (Node n) == 0)
       then record d { signals = d.signals ++ parent_of d n ∷ []; engaged = fin.remove d.engaged n }
       else d
   settles d _ = d
@@ -46,7 +46,7 @@ module _ {P : Type 0} where
   abbrev pub receives : Computation P → ℕ → Letter P → Computation P
   receives d number l =
       let rest = filter (λ x. not (x.0 == number)) d.letters in
-      if is_engaged d l.to
+      if fin.contains_key d.engaged l.to
       then record d { letters = rest; signals = d.signals ++ l.from ∷ [] }
       else record d { letters = rest; engaged = fin.insert d.engaged l.to l.from }
 
@@ -58,10 +58,10 @@ module _ {P : Type 0} where
 -- the letter that waited at a place has that number, and is held from then on
 pub record TakesLetter {P : Type 0} (old : Computation P) (place number : ℕ) (new : Computation P) : Type 0 where
   pub letter : Letter P
-  pub waited : slice_get (waiting old) place ≡ Some (number, letter)
+  pub waited : slice_get (waiting old.letters) place ≡ Some (number, letter)
   pub marked : new ≡ marked old number true
   pub taken : letter_of new number ≡ Some (record letter { held = true })
-  pub held : IsHeld new number
+  pub held : IsHeld new.letters number
   pub sound : IsSound new
 
 -- the letter of a number is finished: its receiver gets it and sends these letters

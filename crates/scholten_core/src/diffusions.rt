@@ -117,14 +117,14 @@ impl<P: Drop> Diffusion<P> {
 
     /// How many letters wait.
     pub fn waiting(&self) -> u64
-        ensures { result ≡ length (waiting_of self.now) }
+        ensures { result ≡ length (waiting_of self.now.letters) }
     {
         self.letters.waiting()
     }
 
     /// Takes the waiting letter at that place, in order of number, and answers its number.
     pub fn take(&mut self, place: u64) -> u64
-        requires { place < length (waiting_of self.old) }
+        requires { place < length (waiting_of self.old.letters) }
         ensures { TakesLetter self.old place result self.new }
     {
         let (number, _at) = self.letters.take(place);
@@ -133,7 +133,7 @@ impl<P: Drop> Diffusion<P> {
 
     /// The held letter of that number waits again.
     pub fn put_back(&mut self, number: u64)
-        requires { IsHeld self.old number }
+        requires { IsHeld self.old.letters number }
         ensures waits { self.new ≡ marked self.old number false }
         ensures sound { IsSound self.new }
     {
@@ -151,7 +151,7 @@ impl<P: Drop> Diffusion<P> {
     /// it is then owed nothing. Where memory is refused, the letters handed in are dropped and nothing else changes. It
     /// may be refused for these letters, for one signal, and for the place of a neutral receiver that sends any.
     pub fn finish(&mut self, number: u64, outs: Vec<(u64, P)>) -> Result<(), AllocError>
-        requires held { IsHeld self.old number }
+        requires held { IsHeld self.old.letters number }
         requires room { self.old.sent + vec_len outs < 2 ^ 64 }
         ensures finished { OnOk result (FinishesLetter self.old number outs.items self.new) }
         ensures unchanged { OnErr result (self.new ≡ self.old) }
@@ -167,7 +167,7 @@ impl<P: Drop> Diffusion<P> {
         number: u64,
         outs: &mut VecDeque<(u64, P)>,
     ) -> Result<(), AllocError>
-        requires held { IsHeld self.old number }
+        requires held { IsHeld self.old.letters number }
         requires room { self.old.sent + deque_len outs.old < 2 ^ 64 }
         ensures finished { OnOk result (FinishesLetter self.old number outs.old.items self.new) }
         ensures emptied { OnOk result (outs.new.items ≡ []) }
@@ -265,7 +265,7 @@ impl<P: Copy> Diffusion<P> {
     /// Takes the waiting letter at that place as `take` does, and answers a copy of it beside its number.
     #[inline(always)]
     pub fn take_letter(&mut self, place: u64) -> (u64, Letter<P>)
-        requires { place < length (waiting_of self.old) }
+        requires { place < length (waiting_of self.old.letters) }
         ensures takes { TakesLetter self.old place result.0 self.new }
         ensures letter { letter_of self.new result.0 ≡ Some result.1 }
     {

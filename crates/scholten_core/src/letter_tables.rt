@@ -245,7 +245,7 @@ impl<P: Drop> LetterTable<P> {
     ghost use Rattle.std.specs.VecDeque.{deque_len};
     ghost use Rattle.std.specs.Map.{lookup};
     ghost use Rattle.scholten_core.specs.declared.letters.Letter.{Letter};
-    ghost use Rattle.scholten_core.specs.Computation.{IsHeldIn, same_parent, waiting_in};
+    ghost use Rattle.scholten_core.specs.Computation.{IsHeld, same_parent, waiting};
     ghost use Rattle.scholten_core.specs.LetterTable.{StandsAt};
     ghost use Rattle.scholten_core.specs.Step.{mark, numbered};
 
@@ -295,7 +295,7 @@ impl<P: Drop> LetterTable<P> {
     }
 
     pub(crate) fn waiting(&self) -> u64
-        ensures { result ≡ length (waiting_in self.now.letters) }
+        ensures { result ≡ length (waiting self.now.letters) }
     {
         self.waits
     }
@@ -321,7 +321,7 @@ impl<P: Drop> LetterTable<P> {
     /// Where the number of a held letter stands.
     #[inline(always)]
     pub(crate) fn place(&self, number: u64) -> usize
-        requires { IsHeldIn self.now.letters number }
+        requires { IsHeld self.now.letters number }
         ensures { StandsAt self.now number result }
     {
         if stands_at(&self.letters, self.hand, number) {
@@ -351,8 +351,8 @@ impl<P: Drop> LetterTable<P> {
     /// Takes the waiting letter at that place, in order of number, and answers its number, and where that stands.
     #[inline(always)]
     pub(crate) fn take(&mut self, place: u64) -> (u64, usize)
-        requires { place < length (waiting_in self.old.letters) }
-        ensures waited { (l : Letter P) × (slice_get (waiting_in self.old.letters) place ≡ Some (result.0, l)) }
+        requires { place < length (waiting self.old.letters) }
+        ensures waited { (l : Letter P) × (slice_get (waiting self.old.letters) place ≡ Some (result.0, l)) }
         ensures letters { self.new.letters ≡ map (mark result.0 true) self.old.letters }
         ensures stands { StandsAt self.new result.0 result.1 }
         ensures sent { self.new.sent ≡ self.old.sent }
@@ -368,7 +368,7 @@ impl<P: Drop> LetterTable<P> {
 
     /// The held letter of that number waits again.
     pub(crate) fn put_back(&mut self, number: u64)
-        requires { IsHeldIn self.old.letters number }
+        requires { IsHeld self.old.letters number }
         ensures letters { self.new.letters ≡ map (mark number false) self.old.letters }
         ensures sent { self.new.sent ≡ self.old.sent }
     {
@@ -448,7 +448,7 @@ impl<P: Drop> LetterTable<P> {
     /// The held letter whose number stands there is finished.
     #[inline(always)]
     pub(crate) fn finish(&mut self, at: usize)
-        requires { (number : ℕ) × StandsAt self.old number at × IsHeldIn self.old.letters number }
+        requires { (number : ℕ) × StandsAt self.old number at × IsHeld self.old.letters number }
         ensures letters { (number : ℕ) → StandsAt self.old number at
             → self.new.letters ≡ filter (λ l. not (l.0 == number)) self.old.letters }
         ensures sent { self.new.sent ≡ self.old.sent }

@@ -2,14 +2,13 @@ use Rattle.std.proofs.Common.{ℕ, ◌+◌, ◌++◌, ◌==◌, not, filter, opt
 use Rattle.std.proofs.lemmas.Result.{err_from_is_err_and}
 use Rattle.std.specs.Map.{lookup}
 use Rattle.scholten_core.specs.declared.parents.Parent.TheVariants.{Node}
-use Rattle.scholten_core.specs.Kept.{Receives, engagements, held_in}
+use Rattle.scholten_core.specs.Kept.{Receives, engaged_from, held_in}
 use Rattle.scholten_core.specs.Step.{numbered}
-use Rattle.scholten_core.proofs.Complete.{sound}
 use Rattle.scholten_core.proofs.Fields.{unchanged_kept}
 use Rattle.scholten_core.proofs.Finished.{IsFinishedIn, finished_fields}
 use Rattle.scholten_core.proofs.Standing.{held_found}
 use Rattle.scholten_core.proofs.Steps.{deficit-le-outstanding}
-use Rattle.scholten_core.specs.Computation.{IsHeldIn}
+use Rattle.scholten_core.specs.Computation.{IsHeld}
 use Rattle.scholten_core.proofs.diffusions.Diffusion.finish_with.Given.{Over}
 use Rattle.scholten_core.proofs.diffusions.Diffusion.finish_with.Goals as goal
 use Rattle.scholten_core.proofs.diffusions.Diffusion.finish_with.Goals.{After-reserve, After-send}
@@ -24,10 +23,10 @@ returns-in_err-reserve g c =
         sent = c.reserve.ensures.sent i;
         letters = c.reserve.ensures.letters i;
         signals = c.self.inside.signals.items;
-        engaged = engagements c.self.inside.nodes.items;
+        engaged = engaged_from 0 c.self.inside.nodes.items;
       }) ∙ c.self.view_is;
       kept = refl;
-      sound = sound _ (unchanged_kept c.self.inside.letters c.reserve.new.self c.self.inside.signals.items c.self.inside.signals.items c.self.inside.environment c.self.inside.nodes.items c.self.inside.nodes.items c.reserve.ensures.letters c.reserve.ensures.sent refl refl c.self.invariant).settled;
+      sound = (unchanged_kept c.self.inside.letters c.reserve.new.self c.self.inside.signals.items c.self.inside.signals.items c.self.inside.environment c.self.inside.nodes.items c.self.inside.nodes.items c.reserve.ensures.letters c.reserve.ensures.sent refl refl c.self.invariant).sound;
     }
 
 pub returns-in_err-reserve-2 : goal.returns-in_err-reserve-2
@@ -40,10 +39,10 @@ returns-in_err-reserve-2 g c =
         sent = c.reserve.ensures.sent i;
         letters = c.reserve.ensures.letters i;
         signals = c.reserve-2.ensures.items i;
-        engaged = engagements c.self.inside.nodes.items;
+        engaged = engaged_from 0 c.self.inside.nodes.items;
       }) ∙ c.self.view_is;
       kept = refl;
-      sound = sound _ (unchanged_kept c.self.inside.letters c.reserve.new.self c.self.inside.signals.items c.reserve-2.new.self.items c.self.inside.environment c.self.inside.nodes.items c.self.inside.nodes.items c.reserve.ensures.letters c.reserve.ensures.sent c.reserve-2.ensures.items refl c.self.invariant).settled;
+      sound = (unchanged_kept c.self.inside.letters c.reserve.new.self c.self.inside.signals.items c.reserve-2.new.self.items c.self.inside.environment c.self.inside.nodes.items c.self.inside.nodes.items c.reserve.ensures.letters c.reserve.ensures.sent c.reserve-2.ensures.items refl c.self.invariant).sound;
     }
 
 pub receive-requires : goal.receive-requires
@@ -51,7 +50,7 @@ receive-requires g c =
     let keeps = c.self.invariant in
     let to = Node c.letter_there-letter.result.now.to in
     let room = rw (← c.self.view_is) at c.requires.room in
-    omega (arith, room, keeps.counts to, deficit-le-outstanding (held_in c.self.inside.letters c.self.inside.signals.items c.self.inside.nodes.items) to, keeps.settled.one_each, c.len-2.ensures)
+    omega (arith, room, keeps.counts to, deficit-le-outstanding (held_in c.self.inside.letters c.self.inside.signals.items c.self.inside.nodes.items) to, keeps.sound.one_each, c.len-2.ensures)
 
 pub invariant_of-self-in_err-by : goal.invariant_of-self-in_err-by
 invariant_of-self-in_err-by g c =
@@ -67,10 +66,10 @@ returns-in_err-by g c =
         sent = c.reserve.ensures.sent i;
         letters = c.reserve.ensures.letters i;
         signals = c.reserve-2.ensures.items i;
-        engaged = engagements (c.in_err-by.ensures.unchanged i);
+        engaged = engaged_from 0 (c.in_err-by.ensures.unchanged i);
       }) ∙ c.self.view_is;
       kept = refl;
-      sound = sound _ (invariant_of-self-in_err-by g c).settled;
+      sound = (invariant_of-self-in_err-by g c).sound;
     }
 
 -- the fields hold the computation with the letter finished
@@ -98,7 +97,7 @@ returns g c = record {
   emptied = c.send.ensures.emptied;
   unchanged = tt;
   kept = tt;
-  sound = sound _ (invariant_of-self-2 g c).settled;
+  sound = (invariant_of-self-2 g c).sound;
 }
 
 pub invariant_of-self : goal.invariant_of-self
@@ -113,10 +112,10 @@ pub put-requires : goal.put-requires
 put-requires g c = omega (arith, c.in_ok-reserve-2.ensures.ok)
 
 -- the letter is held, also where the table made room
-held : (g : Over) (c : After-reserve g) → IsHeldIn c.reserve.new.self.letters c.args.number
+held : (g : Over) (c : After-reserve g) → IsHeld c.reserve.new.self.letters c.args.number
 held g c =
     let is_held = rw (← c.self.view_is) at c.requires.held in
-    subst (λ letters. IsHeldIn letters c.args.number) (sym c.reserve.ensures.letters) is_held
+    subst (λ letters. IsHeld letters c.args.number) (sym c.reserve.ensures.letters) is_held
 
 pub place-at-requires : goal.place-at-requires
 place-at-requires g c = held g (goal.at.place-at-requires g c).After-reserve

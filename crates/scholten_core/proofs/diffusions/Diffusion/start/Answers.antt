@@ -1,8 +1,7 @@
 use Rattle.std.proofs.Common.{◌≡◌, ◌+◌, ◌++◌, [], ◌∷◌, false, sym, ap, ◌∙◌, subst, refl, arith}
 use Rattle.scholten_core.specs.declared.parents.Parent.TheVariants.{Environment}
-use Rattle.scholten_core.specs.Kept.{IsKept, engagements, held_in}
+use Rattle.scholten_core.specs.Kept.{IsKept, engaged_from, held_in}
 use Rattle.scholten_core.specs.Step.{started}
-use Rattle.scholten_core.proofs.Complete.{sound}
 use Rattle.scholten_core.proofs.Fields.{started_kept}
 use Rattle.std.proofs.lemmas.Result.{err_from_is_err_and}
 use Rattle.scholten_core.proofs.diffusions.Diffusion.start.Given.{Over}
@@ -17,7 +16,7 @@ first g c =
       sent = (c.push.ensures.sent ∙ ap (λ n. n + 1) sent) i;
       letters = (c.push.ensures.letters ∙ (λ j. letters j ++ (sent j + 1, record { from = Environment; to = c.args.root; held = false; load = c.args.load }) ∷ [])) i;
       signals = c.new-2.ensures.items i;
-      engaged = engagements (c.new-3.ensures.items i);
+      engaged = engaged_from 0 (c.new-3.ensures.items i);
     }
 
 pub invariant_of-result : goal.invariant_of-result
@@ -25,7 +24,7 @@ invariant_of-result g c =
     subst (λ d. IsKept d 1 c.new-3.result.items) (sym (first g c)) (started_kept c.args.root c.args.load c.new-3.result.items c.new-3.ensures.items)
 
 pub returns : goal.returns
-returns g c = record { started = first g c; sound = sound _ (invariant_of-result g c).settled }
+returns g c = record { started = first g c; sound = (invariant_of-result g c).sound }
 
 pub returns-in_err-letters : goal.returns-in_err-letters
 returns-in_err-letters g c =

@@ -3,7 +3,7 @@ use Rattle.std.specs.List.{slice_get}
 use Rattle.std.specs.Map.{keys_of}
 use Rattle.indexmap.specs.IndexMap.{set_value_at}
 use Rattle.scholten_core.specs.declared.letters.Letter.{Letter}
-use Rattle.scholten_core.specs.Computation.{waiting_in}
+use Rattle.scholten_core.specs.Computation.{waiting}
 use Rattle.scholten_core.specs.LetterTable.{standing}
 use Rattle.scholten_core.proofs.Counts.{WaitingLetter, length-waiting, letter_waiting, waiting-at, waits_within}
 use Rattle.scholten_core.proofs.Standing.{key_get, keys-set_value, length-numbered_le, standing-change}
@@ -75,7 +75,7 @@ returns g c =
     let at = c.seek-at.result in
     let k = c.hold.result in
     rw (← c.self.view_is) (record {
-      waited = (one.letter, ap (slice_get (waiting_in (standing entries))) (sym c.seek-at.ensures.place_is) ∙ waiting-at at entries k one.letter one.there one.waits);
+      waited = (one.letter, ap (slice_get (waiting (standing entries))) (sym c.seek-at.ensures.place_is) ∙ waiting-at at entries k one.letter one.there one.waits);
       letters = ap standing (written g after) ∙ standing-change (λ x. record x { held = true }) 0 entries c.self.inside.sent at k one.letter c.self.invariant.numbers one.there;
       stands = ap (λ es. slice_get (keys_of es) at) (written g after) ∙ ap (λ ks. slice_get ks at) (keys-set_value entries at _) ∙ key_get entries at k (Some one.letter) one.there;
       sent = refl;
