@@ -7,7 +7,7 @@ use Rattle.std.proofs.lemmas.List.Elements.{filter-append}
 use Rattle.indexmap.specs.IndexMap.{insert_entry}
 use Rattle.cred_graph.specs.declared.solutions.Reason.{Reason}
 use Rattle.cred_graph.specs.NodeLists.{list_at, AddsAt, AreSame}
-use Rattle.cred_graph.specs.Stored.{HasKey, members_by, AreMembers}
+use Rattle.cred_graph.specs.Stored.{HasKey, members_by}
 use Rattle.cred_graph.proofs.Keys.{solved_decided, solved_eq}
 use Rattle.cred_graph.proofs.Lists.{Contains-at_place, place_of_Contains}
 use Rattle.cred_graph.proofs.Lookups.{lookup_key_is, lookup_key_none, insert_entry-absent}
@@ -34,13 +34,13 @@ members_pushed : (n : ℕ) (es : List ((ℕ × ℕ) × Reason ℕ ℕ)) (e : (�
     members_by n (es ++ e ∷ []) ≡ map (λ (x : (ℕ × ℕ) × Reason ℕ ℕ). x.0.1) (filter (λ (x : (ℕ × ℕ) × Reason ℕ ℕ). x.0.0 == n) es ++ (if e.0.0 == n then e ∷ [] else []))
 members_pushed n es e = ap (map (λ (x : (ℕ × ℕ) × Reason ℕ ℕ). x.0.1)) (filter-append (λ (x : (ℕ × ℕ) × Reason ℕ ℕ). x.0.0 == n) es (e ∷ []))
 
-pub members_same : (es after : List ((ℕ × ℕ) × Reason ℕ ℕ)) (old new : List (List ℕ)) → AreMembers es old → after ≡ es → AreSame old new → AreMembers after new
+pub members_same : (es after : List ((ℕ × ℕ) × Reason ℕ ℕ)) (old new : List (List ℕ)) → ((n : ℕ) → list_at old n ≡ members_by n es) → after ≡ es → AreSame old new → ((n : ℕ) → list_at new n ≡ members_by n after)
 members_same es after old new are same lists_same n = lists_same n ∙ are n ∙ ap (members_by n) (sym same)
 
-pub members_added : (es after : List ((ℕ × ℕ) × Reason ℕ ℕ)) (old new : List (List ℕ)) (key : ℕ × ℕ) (r : Reason ℕ ℕ) → AreMembers es old →
-    AddsAt old new key.0 key.1 → after ≡ es ++ (key, r) ∷ [] → AreMembers after new
+pub members_added : (es after : List ((ℕ × ℕ) × Reason ℕ ℕ)) (old new : List (List ℕ)) (key : ℕ × ℕ) (r : Reason ℕ ℕ) → ((n : ℕ) → list_at old n ≡ members_by n es) →
+    AddsAt old new key.0 key.1 → after ≡ es ++ (key, r) ∷ [] → ((n : ℕ) → list_at new n ≡ members_by n after)
 members_added es after old new key r are adds added =
-    subst (λ l. AreMembers l new) (sym added) (λ n.
+    subst (λ l. ((n : ℕ) → list_at new n ≡ members_by n l)) (sym added) (λ n.
     let before = filter (λ (x : (ℕ × ℕ) × Reason ℕ ℕ). x.0.0 == n) es in
     let who = λ (x : (ℕ × ℕ) × Reason ℕ ℕ). x.0.1 in
     elim (cases_eq n key.0) [

@@ -1,5 +1,5 @@
 -- The tables stand for a graph, and stay one where a node, a listener or a solution is added.
-use Rattle.std.proofs.Common.{ℕ, zero, suc, ◌+◌, ◌^◌, ◌<◌, ◌≡◌, ◌==◌, ◌∙◌, ap, refl, sym, subst, inl, inr, arith, zero-add, add-zero, true, List, [], ◌∷◌, ◌++◌, Some, Contains, get_or, length, map, set, slice_get}
+use Rattle.std.proofs.Common.{◌≤◌, ℕ, zero, suc, ◌+◌, ◌^◌, ◌<◌, ◌≡◌, ◌==◌, ◌∙◌, ap, refl, sym, subst, inl, inr, arith, zero-add, add-zero, true, List, [], ◌∷◌, ◌++◌, Some, Contains, get_or, length, map, set, slice_get}
 use Rattle.std.proofs.lemmas.Bool.{cases_eq, cond-true, cond-false, eq-eqb, ne_eqb}
 use Rattle.std.proofs.lemmas.List.{length-set, length_push, map_push, ext_get_or, get_or-set_same, get_or-set_other}
 use Rattle.std.proofs.lemmas.List.Elements.{Contains-push_cases}
@@ -12,7 +12,7 @@ use Rattle.cred_graph.specs.declared.solutions.Solution.{Solution}
 use Rattle.cred_graph.specs.declared.solutions.Reason.{Reason}
 use Rattle.cred_graph.specs.Graph.{IsSolution, Listens, Fits, IsGraph, NodeGiven}
 use Rattle.cred_graph.specs.Numbers.{IsEntity, IsReason, entity_at, reason_at}
-use Rattle.cred_graph.specs.NodeLists.{list_at, AreSame, AreShort, AddsAt}
+use Rattle.cred_graph.specs.NodeLists.{list_at, AreSame, AddsAt}
 use Rattle.cred_graph.specs.Stored.{IsKept, Joins, listening_as, lists_from, HasKey, solution_as, graph_as, IsStored}
 use Rattle.cred_graph.proofs.Growth.{listed_with, with_node, with_listener, with_solution, graph_with_node, graph_with_listener, graph_with_solution}
 use Rattle.cred_graph.proofs.KeptLemmas.{kept_with_node, same_with_node, kept_joined, same_joined, once_joined, listens_kept, listens_as}
@@ -104,7 +104,7 @@ node_view nodes strangers lists entries e stored =
     λ i. record { nodes = nodes ++ e ∷ []; listeners = listened i; solutions = solved i }
 
 pub stored-node : (nodes : List Expr) (strangers : List Expr) (lists : List (List KeptListening)) (entries : List ((ℕ × ℕ) × Reason ℕ ℕ)) (e : Expr) → IsStored nodes strangers lists entries →
-    (Contains nodes e → ⊥) → HasPartsInRange e → AreShort (nodes ++ e ∷ []) → IsStored (nodes ++ e ∷ []) strangers lists entries
+    (Contains nodes e → ⊥) → HasPartsInRange e → length (nodes ++ e ∷ []) ≤ 2 ^ 32 → IsStored (nodes ++ e ∷ []) strangers lists entries
 stored-node nodes strangers lists entries e stored absent range short = record {
   graph = subst IsGraph (sym (node_view nodes strangers lists entries e stored)) (graph_with_node (graph_as nodes strangers lists entries) e stored.graph absent range);
   short = short;

@@ -1,11 +1,7 @@
 -- Lists whose elements have numbers: their places, counted from 0.
-use Rattle.std.specs.Prelude.{ℕ, List, [], ◌∷◌, ◌++◌, ◌≡◌, ◌==◌, ◌≤◌, ◌^◌, Some, if◌then◌else◌, length, slice_get, slice_index_or}
+use Rattle.std.specs.Prelude.{ℕ, List, [], ◌∷◌, ◌++◌, ◌≡◌, ◌==◌, Some, if◌then◌else◌, slice_get, slice_index_or}
 
 module _ {X : Type 0} where
-  -- each number has 32 bits
-  abbrev pub AreShort : List X → Type 0
-  AreShort xs = length xs ≤ 2 ^ 32
-
   -- each element stands once
   abbrev pub IsOnce : List X → Type 0
   IsOnce xs = (i j : ℕ) (x : X) → slice_get xs i ≡ Some x → slice_get xs j ≡ Some x → i ≡ j

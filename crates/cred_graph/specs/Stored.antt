@@ -11,7 +11,7 @@ use Rattle.cred_graph.specs.declared.listeners.KeptListening.{KeptListening}
 use Rattle.cred_graph.specs.declared.listeners.KeptPort.{KeptPort}
 use Rattle.cred_graph.specs.declared.listeners.KeptPort.TheVariants as kept
 use Rattle.cred_graph.specs.Numbers.{entity_at, reason_at, IsEntity, IsReason}
-use Rattle.cred_graph.specs.NodeLists.{list_at, AddsAt, AreSame, AreShort, IsOnce}
+use Rattle.cred_graph.specs.NodeLists.{list_at, AddsAt, AreSame, IsOnce}
 use Rattle.cred_graph.specs.declared.solutions.Reason.{Reason}
 use Rattle.cred_graph.specs.declared.solutions.Solution.{Solution}
 use Rattle.cred_graph.specs.Graph.{GraphState, IsGraph}
@@ -66,10 +66,6 @@ HasKey entries key = (r : Reason ℕ ℕ) × Contains entries (key, r)
 abbrev pub members_by : ℕ → List ((ℕ × ℕ) × Reason ℕ ℕ) → List ℕ
 members_by n entries = map (λ e. e.0.1) (filter (λ e. e.0.0 == n) entries)
 
--- each node has the list of these
-abbrev pub AreMembers : List ((ℕ × ℕ) × Reason ℕ ℕ) → List (List ℕ) → Type 0
-AreMembers entries lists = (n : ℕ) → list_at lists n ≡ members_by n entries
-
 -- the table has an entry of this key now, and b says whether it is new: an entry that is there keeps its reason
 abbrev pub Solves : List ((ℕ × ℕ) × Reason ℕ ℕ) → List ((ℕ × ℕ) × Reason ℕ ℕ) → ℕ × ℕ → Reason ℕ ℕ → Bool → Type 0
 Solves old new key r true = (HasKey old key → ⊥) × (new ≡ old ++ (key, r) ∷ [])
@@ -98,7 +94,7 @@ graph_as nodes strangers lists entries = record {
 pub record IsStored (nodes : List Expr) (strangers : List Expr) (lists : List (List KeptListening))
     (entries : List ((ℕ × ℕ) × Reason ℕ ℕ)) : Type 0 where
   pub graph : IsGraph (graph_as nodes strangers lists entries)
-  pub short : AreShort nodes
+  pub short : length nodes ≤ 2 ^ 32
   pub once : IsOnce strangers
   pub asked : (n : ℕ) → length nodes ≤ n → list_at lists n ≡ []
   pub ports : (n : ℕ) (l : KeptListening) → Contains (list_at lists n) l → IsKept nodes strangers l.port

@@ -1,4 +1,4 @@
-ghost use Rattle.std.specs.Prelude.{◌≡◌, ◌<◌, ◌≤◌, ◌∷◌, [], ◌++◌, Some, IfOk, OnOk, OnErr, MatchOption, Contains, length, slice_get};
+ghost use Rattle.std.specs.Prelude.{◌≡◌, ◌<◌, ◌≤◌, ◌^◌, ◌∷◌, [], ◌++◌, Some, IfOk, OnOk, OnErr, MatchOption, Contains, length, slice_get};
 ghost use Rattle.credential_text.specs.declared.exprs.Expr.{Expr};
 ghost use Rattle.credential_text.specs.declared.exprs.Expr.TheVariants as exprs;
 ghost use Rattle.credential_text.specs.Expr.{HasPartsInRange};
@@ -20,15 +20,14 @@ pub struct Nodes {
 }
 
 impl Model for Nodes {
-    ghost use Rattle.std.specs.Prelude.{List};
+    ghost use Rattle.std.specs.Prelude.{◌≤◌, ◌^◌, List, length};
     ghost use Rattle.credential_text.specs.declared.exprs.Expr.{Expr};
-    ghost use Rattle.cred_graph.specs.NodeLists.{AreShort};
 
     ghost Value = { List Expr };
 
     ghost view = { λ n. n.exprs.keys };
 
-    ghost invariant = { λ n. AreShort n.exprs.keys };
+    ghost invariant = { λ n. length n.exprs.keys ≤ 2 ^ 32 };
 }
 
 // By hand, so that who holds them drops them by one call, whose proof stands here.

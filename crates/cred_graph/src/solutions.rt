@@ -1,6 +1,5 @@
 //! Solutions of a node, and their reasons, by name and by number.
-ghost use Rattle.std.specs.Prelude.{◌≡◌, ⊤};
-ghost use Rattle.cred_graph.specs.NodeLists.{AreShort};
+ghost use Rattle.std.specs.Prelude.{◌≡◌, ◌≤◌, ◌^◌, length, ⊤};
 ghost use Rattle.cred_graph.specs.Numbers.{reason_at, IsReason, HasNumbers};
 
 use crate::nodes::Nodes;
@@ -42,7 +41,7 @@ pub struct Solution {
 
 /// The reason with numbers for names.
 pub fn reason_number(nodes: &Nodes, reason: &Reason) -> Reason<u32, u32>
-    requires short { AreShort nodes.now }
+    requires short { length nodes.now ≤ 2 ^ 32 }
     requires numbers { HasNumbers nodes.now reason.now }
     ensures same { reason_at nodes.now result ≡ reason.now }
     ensures number { IsReason nodes.now result }

@@ -27,17 +27,18 @@ pub struct Tables {
 }
 
 impl Model for Tables {
-    ghost use Rattle.std.specs.Prelude.{ℕ, List, map};
+    ghost use Rattle.std.specs.Prelude.{◌≡◌, ℕ, List, map};
     ghost use Rattle.cred_graph.specs.declared.listeners.KeptListening.{KeptListening};
     ghost use Rattle.cred_graph.specs.declared.solutions.Reason.{Reason};
-    ghost use Rattle.cred_graph.specs.Stored.{AreFar, AreMembers};
+    ghost use Rattle.cred_graph.specs.NodeLists.{list_at};
+    ghost use Rattle.cred_graph.specs.Stored.{AreFar, members_by};
 
     ghost Value = { List (List KeptListening) × List ((ℕ × ℕ) × Reason ℕ ℕ) };
 
     ghost view = { λ t. (map (λ r. r.listeners.items) t.lists.items, t.reasons.entries) };
 
     ghost invariant = { λ t. AreFar (map (λ r. r.listeners.items) t.lists.items) t.far.keys
-        × AreMembers t.reasons.entries (map (λ r. r.members.items) t.lists.items) };
+        × ((n : ℕ) → list_at (map (λ r. r.members.items) t.lists.items) n ≡ members_by n t.reasons.entries) };
 }
 
 impl Tables {

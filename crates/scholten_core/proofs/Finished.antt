@@ -11,11 +11,12 @@ use Rattle.scholten_core.specs.declared.letters.Letter.{Letter}
 use Rattle.scholten_core.specs.declared.engagement.Engagement.{Engagement}
 use Rattle.scholten_core.specs.Computation.{Computation, deficit, outstanding}
 use Rattle.scholten_core.specs.Step.{finishes, numbered, receives, sends, settles, FinishesLetter}
-use Rattle.scholten_core.specs.Kept.{IsKept, Receives, deficit_kept, engagement_of, engaged_from, held_in, kept, parent_kept}
+use Rattle.scholten_core.specs.Kept.{IsKept, Receives, engagement_of, engaged_from, held_in, kept, parent_kept}
 use Rattle.scholten_core.specs.LetterTable.{LetterTableState}
 use Rattle.scholten_core.proofs.Engaged.{get-insert_same, get-insert_other, one_or_other, remove-insert}
 use Rattle.scholten_core.proofs.Fields.{engagements_are, get-engagements}
 use Rattle.scholten_core.proofs.Paid.{count_of}
+use Rattle.scholten_core.proofs.Paid.{deficit_kept}
 use Rattle.scholten_core.proofs.Same.{same_parent-self}
 use Rattle.scholten_core.proofs.Steps.{IsReceived, acknowledged, deficit-sends, engages, received, rest, settles_is, settles_under, settled_sound}
 use Rattle.scholten_core.proofs.Whole.{is_finished}

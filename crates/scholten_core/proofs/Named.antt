@@ -40,7 +40,7 @@ slice_get-mapped g (x ∷ xs) zero = refl
 slice_get-mapped g (x ∷ xs) (suc i) = slice_get-mapped g xs i
 
 module _ {P Q : Type 0} (f : P → Q) where
-  abbrev letter_with : Letter P → Letter Q
+  abbrev pub letter_with : Letter P → Letter Q
   letter_with l = record { from = l.from; to = l.to; held = l.held; load = f l.load }
 
   pub waiting-named : (d : Computation P) → waiting (named_with f d).letters ≡ map (entry_with f) (waiting d.letters)

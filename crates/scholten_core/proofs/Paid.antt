@@ -5,7 +5,7 @@ use Rattle.scholten_core.specs.declared.parents.Parent.{Parent}
 use Rattle.scholten_core.specs.declared.parents.Parent.TheVariants.{Neutral, Environment, Node}
 use Rattle.scholten_core.specs.declared.engagement.Engagement.{Engagement}
 use Rattle.scholten_core.specs.Computation.{same_parent}
-use Rattle.scholten_core.specs.Kept.{Delivers, Pays, deficit_kept, engagement_of, hit, kept, parent_kept}
+use Rattle.scholten_core.specs.Kept.{Delivers, Pays, engagement_of, hit, kept, parent_kept}
 use Rattle.scholten_core.proofs.Engaged.{one_or_other}
 use Rattle.scholten_core.proofs.Delivered.{stays_none}
 
@@ -15,6 +15,10 @@ count_of o = unwrap_or (option_map (λ e. e.deficit) o) 0
 
 abbrev parent_in : Option Engagement → Option Parent
 parent_in o = option_map (λ e. e.parent) o
+
+-- the count kept for a node
+abbrev pub deficit_kept : List (Option Engagement) → ℕ → ℕ
+deficit_kept nodes n = kept 0 nodes (Node n)
 
 module _ (nodes nodes_after : List (Option Engagement)) (node : ℕ) (by : Option Parent) (owed : 0 < deficit_kept nodes node) (pays : Pays nodes nodes_after node by) where
   cases : {C : Type 0} → ((e : Engagement) → engagement_of nodes node ≡ Some e → 1 < e.deficit → C) → ((e : Engagement) → engagement_of nodes node ≡ Some e → e.deficit ≡ 1 → C) → C

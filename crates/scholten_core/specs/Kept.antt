@@ -21,19 +21,15 @@ engaged_from k [] = fin.empty
 engaged_from k (None ∷ nodes) = engaged_from (k + 1) nodes
 engaged_from k (Some e ∷ nodes) = fin.insert (engaged_from (k + 1) nodes) k e.parent
 
--- the count kept for a node, 0 where none is kept
-abbrev pub deficit_kept : List (Option Engagement) → ℕ → ℕ
-deficit_kept nodes n = unwrap_or (option_map (λ e. e.deficit) (engagement_of nodes n)) 0
-
 -- who engaged a node, by the fields
 abbrev pub parent_kept : List (Option Engagement) → ℕ → Option Parent
 parent_kept nodes n = option_map (λ e. e.parent) (engagement_of nodes n)
 
--- the count kept for one
+-- the count kept for one, 0 where none is kept
 abbrev pub kept : ℕ → List (Option Engagement) → Parent → ℕ
 kept owed m Neutral = 0
 kept owed m Environment = owed
-kept owed m (Node n) = deficit_kept m n
+kept owed m (Node n) = unwrap_or (option_map (λ e. e.deficit) (engagement_of m n)) 0
 
 -- who engaged one
 abbrev pub engager : List (Option Engagement) → Parent → Option Parent

@@ -11,7 +11,8 @@ pub(crate) struct Engagement {
     pub(crate) deficit: u64,
 }
 
-ghost use Rattle.scholten_core.specs.Kept.{engagement_of, deficit_kept, kept, Receives, Pays, Delivers};
+ghost use Rattle.scholten_core.specs.declared.parents.Parent.TheVariants as AnyParent;
+ghost use Rattle.scholten_core.specs.Kept.{engagement_of, kept, Receives, Pays, Delivers};
 
 // The engagement of a node. Nobody engaged one past the end.
 pub(crate) fn engaged_at(nodes: &Vec<Option<Engagement>>, node: u64) -> Option<Engagement>
@@ -54,7 +55,7 @@ pub(crate) fn receive(
     to: u64,
     count: u64,
 ) -> Result<Option<Parent>, AllocError>
-    requires { deficit_kept nodes.old.items to + count < 2 ^ 64 }
+    requires { kept 0 nodes.old.items (AnyParent.Node to) + count < 2 ^ 64 }
     ensures received { IfOk result (λ by. Receives nodes.old.items nodes.new.items from to count by) }
     ensures growth { OnErr result ((engagement_of nodes.old.items to ≡ None) × (0 < count)) }
     ensures unchanged { OnErr result (nodes.new.items ≡ nodes.old.items) }
@@ -79,7 +80,7 @@ pub(crate) fn receive(
 
 // A node is owed one less. Where it is then owed nothing it is let go, and the answer is who engaged it.
 fn pay(nodes: &mut Vec<Option<Engagement>>, node: u64) -> Option<Parent>
-    requires { 0 < deficit_kept nodes.old.items node }
+    requires { 0 < kept 0 nodes.old.items (AnyParent.Node node) }
     ensures { Pays nodes.old.items nodes.new.items node result }
 {
     let Some(engaged) = &mut nodes[node as usize] else {

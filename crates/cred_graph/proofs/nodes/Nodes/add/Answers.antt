@@ -1,17 +1,16 @@
-use Rattle.std.proofs.Common.{◌<◌, ◌^◌, ◌≡◌, ◌∙◌, ap, arith, refl, List, [], ◌∷◌, ◌++◌, length}
+use Rattle.std.proofs.Common.{◌≤◌, ◌<◌, ◌^◌, ◌≡◌, ◌∙◌, ap, arith, refl, List, [], ◌∷◌, ◌++◌, length}
 use Rattle.std.proofs.lemmas.List.{length_push}
 use Rattle.std.proofs.lemmas.Result.{IfOk-from_err}
 use Rattle.credential_text.proofs.Equality.{exprs_decided}
 use Rattle.credential_text.specs.declared.exprs.Expr.{Expr}
 use Rattle.credential_text.specs.contracts.exprs.ExprPartialEq.TheImpl as expr
 use Rattle.indexmap.specs.IndexSet.{insert_key}
-use Rattle.cred_graph.specs.NodeLists.{AreShort}
 use Rattle.cred_graph.proofs.Lists.{on_err}
 use Rattle.cred_graph.proofs.Lookups.{insert_key-absent}
 use Rattle.cred_graph.proofs.nodes.Nodes.add.Goals as goal
 use Rattle.cred_graph.proofs.nodes.Nodes.add.Goals.{In_ok-_is_new}
 
-short_pushed : (exprs after : List Expr) (e : Expr) → length exprs < 2 ^ 32 → after ≡ exprs ++ e ∷ [] → AreShort after
+short_pushed : (exprs after : List Expr) (e : Expr) → length exprs < 2 ^ 32 → after ≡ exprs ++ e ∷ [] → length after ≤ 2 ^ 32
 short_pushed exprs after e room is = omega (arith, ap length is, length_push exprs e)
 
 pushed : (c : In_ok-_is_new) → c.insert.new.self.keys ≡ c.self.inside.exprs.keys ++ c.args.expr.now ∷ []
