@@ -1,7 +1,6 @@
--- What the tables of a graph keep, and how the one of solutions hashes its keys
+-- What the tables of a graph keep
 use Rattle.std.specs.Prelude.{ℕ, zero, suc, List, [], ◌∷◌, ◌++◌, ◌≡◌, ◌↔◌, ◌⊎◌, Bool, true, false, Some, Contains, drop, length, map}
 use Rattle.std.specs.Prelude.{slice_get, ◌==◌, filter, ◌≤◌, ◌+◌, ◌*◌, ◌/◌, ◌%◌, ◌^◌, if◌then◌else◌, nat_eq, bit_or, bit_and}
-use Rattle.std.specs.Int.{w32, from_le_bytes}
 use Rattle.credential_text.specs.declared.exprs.Expr.{Expr}
 use Rattle.credential_text.specs.declared.exprs.Expr.TheVariants.{Ent}
 use Rattle.cred_graph.specs.declared.listeners.Port.{Port}
@@ -70,17 +69,6 @@ members_by n entries = map (λ e. e.0.1) (filter (λ e. e.0.0 == n) entries)
 abbrev pub Solves : List ((ℕ × ℕ) × Reason ℕ ℕ) → List ((ℕ × ℕ) × Reason ℕ ℕ) → ℕ × ℕ → Reason ℕ ℕ → Bool → Type 0
 Solves old new key r true = (HasKey old key → ⊥) × (new ≡ old ++ (key, r) ∷ [])
 Solves old new key r false = HasKey old key × (new ≡ old)
-
--- the number whose four bytes these are, the lowest first; 0 for more or fewer
-abbrev pub read_number : List ℕ → ℕ
-read_number bytes = if nat_eq (length bytes) 4 then from_le_bytes w32 bytes else 0
-
--- n is a node's number with an entity's below it, in 32 bits each: in 24 bits the entity's place, which counts on from
--- the node's, and above them the highest byte of n's product
-abbrev pub hash_in_row : ℕ → ℕ
-hash_in_row n = bit_or
-    (bit_and ((n / 2 ^ 32 * 0x9e37_79b9_7f4a_7c15 % 2 ^ 64 / 2 ^ 40 + n) % 2 ^ 64) 0xff_ffff)
-    (n * 0x9e37_79b9_7f4a_7c15 % 2 ^ 64 / 2 ^ 56 * 2 ^ 24 % 2 ^ 64)
 
 -- the graph that the tables stand for
 abbrev pub graph_as : List Expr → List Expr → List (List KeptListening) → List ((ℕ × ℕ) × Reason ℕ ℕ) → GraphState

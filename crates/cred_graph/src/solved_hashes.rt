@@ -1,6 +1,6 @@
 //! How the table of solutions hashes their numbers.
-ghost use Rattle.std.specs.Prelude.{◌*◌, ◌%◌, ◌^◌, bit_or};
-ghost use Rattle.cred_graph.specs.Stored.{read_number, hash_in_row};
+ghost use Rattle.std.specs.Prelude.{◌+◌, ◌*◌, ◌/◌, ◌%◌, ◌^◌, bit_and, bit_or, if◌then◌else◌, length, nat_eq};
+ghost use Rattle.std.specs.Int.{w32, from_le_bytes};
 
 use std::hash::Hasher;
 
@@ -19,9 +19,13 @@ pub struct SolvedHasher {
 }
 
 impl Hasher for SolvedHasher {
-    ghost write = { λ h bytes. record h { numbers = bit_or (h.numbers * 2 ^ 32 % 2 ^ 64) (read_number bytes) } };
+    ghost write = { λ h bytes. record h {
+      numbers = bit_or (h.numbers * 2 ^ 32 % 2 ^ 64) (if nat_eq (length bytes) 4 then from_le_bytes w32 bytes else 0);
+    } };
 
-    ghost finish = { λ h. hash_in_row h.numbers };
+    ghost finish = { λ h. bit_or
+        (bit_and ((h.numbers / 2 ^ 32 * 0x9e37_79b9_7f4a_7c15 % 2 ^ 64 / 2 ^ 40 + h.numbers) % 2 ^ 64) 0xff_ffff)
+        (h.numbers * 0x9e37_79b9_7f4a_7c15 % 2 ^ 64 / 2 ^ 56 * 2 ^ 24 % 2 ^ 64) };
 
     #[inline(always)]
     fn finish(&self) -> u64 {

@@ -1,15 +1,20 @@
 -- Lines by key and the same by name: a key is found where its name is, and inserted there.
 use Rattle.std.proofs.Common.{◌≡◌, ℕ, Bool, true, false, cond, List, [], ◌∷◌, Option, Some, None, refl, sym, ap, ◌∙◌, nat_eq, if◌then◌else◌, true≢false, arith}
 use Rattle.std.specs.Cmp.{IsEquivalence}
-use Rattle.std.specs.Cmp.Lexicographic.{pointwise}
+use Rattle.std.specs.Cmp.Lexicographic.{pointwise, texts_ties}
 use Rattle.std.specs.List.{IsDistinct, AllByRecursion}
 use Rattle.std.specs.Map.{keys_of, lookup}
 use Rattle.std.proofs.lemmas.Cmp.{nat_list_eq_equiv}
 use Rattle.std.proofs.lemmas.List.Elements.{Contains-get_or, Contains-append_right, All-contains_itself, recursion_from_All}
 use Rattle.indexmap.specs.IndexMap.{insert_entry}
 use Rattle.monitors.specs.declared.tellers.Tellers.{Tellers}
-use Rattle.monitors.specs.Keys.{same_name}
 use Rattle.monitors.specs.MeetMonitor.{TellsApart, named}
+use Rattle.std.proofs.lemmas.Map.Lookups.{exact_bytes}
+use Rattle.std.proofs.lemmas.Map.Views.{tells_apart}
+
+-- equal names are the same
+pub same_name : (x y : List ℕ) → pointwise nat_eq x y ≡ true → x ≡ y
+same_name x y e = tells_apart exact_bytes x y (sym (texts_ties x y) ∙ e)
 
 -- the entity's line in the table
 abbrev pub tellers_at : List (List ℕ × Tellers) → List ℕ → Option Tellers

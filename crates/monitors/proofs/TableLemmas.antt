@@ -16,8 +16,7 @@ use Rattle.monitors.specs.MeetMonitor.{told_order, MeetTold, HasTold, with_tell,
 use Rattle.monitors.specs.MeetMonitor.{pairs_from, pairs_of, is_among, is_teller, AreTellers}
 use Rattle.monitors.proofs.CountLemmas.{all_told}
 use Rattle.indexmap.specs.IndexMap.{insert_entry}
-use Rattle.monitors.specs.Keys.{same_name}
-use Rattle.monitors.proofs.NamedLemmas.{tellers_at, inserted_line, once_still}
+use Rattle.monitors.proofs.NamedLemmas.{same_name, tellers_at, inserted_line, once_still}
 use Rattle.monitors.proofs.ToldOrder.{told_order_total, told_order_tied, told_order_ties, told_again}
 
 -- the pair is one of these

@@ -1,4 +1,3 @@
 pub mod LinkMonitor
 pub mod MeetMonitor
-pub mod Keys
 pub mod Made

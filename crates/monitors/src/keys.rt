@@ -1,5 +1,9 @@
 ghost use Rattle.std.specs.Prelude.{◌≡◌, true};
-ghost use Rattle.monitors.specs.Keys.{same_number, same_name};
+ghost use Rattle.std.specs.Cmp.Lexicographic.{texts_ties};
+ghost use Rattle.std.proofs.Common.{sym, ◌∙◌};
+ghost use Rattle.std.proofs.lemmas.Bool.{eqb-true};
+ghost use Rattle.std.proofs.lemmas.Map.Lookups.{exact_bytes};
+ghost use Rattle.std.proofs.lemmas.Map.Views.{tells_apart};
 
 use names::Entity;
 use std::hash::Hash;
@@ -10,9 +14,9 @@ pub trait Key: Copy + Drop + Eq + Hash {
 }
 
 impl Key for Entity {
-    ghost exact = { same_name };
+    ghost exact = { λ x y e. tells_apart exact_bytes x y (sym (texts_ties x y) ∙ e) };
 }
 
 impl Key for u32 {
-    ghost exact = { same_number };
+    ghost exact = { λ x y e. eqb-true x y e };
 }

@@ -1,20 +1,11 @@
--- What the table of letters is seen as, what its fields keep, and how it hashes numbers
-use Rattle.std.specs.Prelude.{ℕ, ◌*◌, ◌/◌, ◌%◌, ◌^◌, List, length, if◌then◌else◌, nat_eq, bit_xor, ◌≡◌, ◌≤◌, Bool, false, count_by}
+-- What the table of letters is seen as, and what its fields keep
+use Rattle.std.specs.Prelude.{ℕ, List, length, nat_eq, ◌≡◌, ◌≤◌, Bool, false, count_by}
 use Rattle.std.specs.Prelude.{not, [], ◌∷◌, Option, None, Some, take, is_none, slice_get, IsSomeAnd, IsTrue}
-use Rattle.std.specs.Int.{w64, from_le_bytes}
 use Rattle.std.specs.Map.{keys_of, lookup}
 use Rattle.scholten_core.specs.declared.parents.Parent.{Parent}
 use Rattle.scholten_core.specs.declared.parents.Parent.TheVariants.{Neutral}
 use Rattle.scholten_core.specs.declared.letters.Letter.{Letter}
 use Rattle.scholten_core.specs.Sound.{IsNumbered}
-
--- the number whose eight bytes these are, the lowest first; 0 for more or fewer
-abbrev pub read_number : List ℕ → ℕ
-read_number bytes = if nat_eq (length bytes) 8 then from_le_bytes w64 bytes else 0
-
--- the number itself, with the highest byte of its product mixed into its fourth
-abbrev pub spread : ℕ → ℕ
-spread n = bit_xor n (n * 0x9e37_79b9_7f4a_7c15 % 2 ^ 64 / 2 ^ 56 * 2 ^ 24 % 2 ^ 64)
 
 -- how many letters were ever sent; those that wait or are held, each with its number, in order of number; the numbers that
 -- stand in its places, also of letters that are gone; and how many more fit with no more memory

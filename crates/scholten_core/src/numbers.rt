@@ -1,5 +1,6 @@
 //! How the table of letters hashes their numbers.
-ghost use Rattle.scholten_core.specs.LetterTable.{read_number, spread};
+ghost use Rattle.std.specs.Prelude.{◌*◌, ◌/◌, ◌%◌, ◌^◌, bit_xor, if◌then◌else◌, length, nat_eq};
+ghost use Rattle.std.specs.Int.{w64, from_le_bytes};
 
 use std::hash::Hasher;
 
@@ -16,9 +17,9 @@ pub(crate) struct NumberHasher {
 }
 
 impl Hasher for NumberHasher {
-    ghost write = { λ h bytes. record h { number = read_number bytes } };
+    ghost write = { λ h bytes. record h { number = if nat_eq (length bytes) 8 then from_le_bytes w64 bytes else 0 } };
 
-    ghost finish = { λ h. spread h.number };
+    ghost finish = { λ h. bit_xor h.number (h.number * 0x9e37_79b9_7f4a_7c15 % 2 ^ 64 / 2 ^ 56 * 2 ^ 24 % 2 ^ 64) };
 
     #[inline(always)]
     fn finish(&self) -> u64 {

@@ -13,7 +13,8 @@ use Rattle.cred_graph.specs.Graph.{GraphState, listeners_of, members_of}
 use Rattle.search.specs.declared.letters.Load.{Load}
 use Rattle.search.specs.declared.letters.Load.TheVariants as load
 use Rattle.search.specs.Net.{Sent, sent_by}
-use Rattle.search.specs.Answers.{Progress, Solves, new_tells}
+use Rattle.search.specs.Answers.{Progress, Solves}
+use Rattle.search.proofs.Tells.{new_tells}
 use Rattle.search.specs.Search.{heard, asks_in, IsCountedBy}
 use Rattle.search.proofs.Counting.{AreDistinct-zipped, counted_asked, counted_solved}
 use Rattle.search.proofs.CountedGraph.{heard_by, members_with, asks_in-append}

@@ -13,7 +13,8 @@ use Rattle.scholten_core.specs.declared.parents.Parent.TheVariants.{Node}
 use Rattle.search.specs.declared.letters.Load.{Load}
 use Rattle.search.specs.declared.letters.Load.TheVariants as load
 use Rattle.search.specs.Net.{Sent, sent_by, why_of}
-use Rattle.search.specs.Answers.{Progress, HearsAsk, known_tells}
+use Rattle.search.specs.Answers.{Progress, HearsAsk}
+use Rattle.search.proofs.Tells.{known_tells}
 use Rattle.search.specs.Search.{heard_of, heard_from, heard, ask_from, asks_in, IsCountedBy}
 use Rattle.search.proofs.Counting.{counted_heard}
 use Rattle.search.proofs.CountedGraph.{IsInserted, heard_with, heard_has, asks_in-append}

@@ -20,7 +20,7 @@ use Rattle.scholten_core.specs.declared.parents.Parent.TheVariants.{Neutral, Env
 use Rattle.search.specs.declared.letters.Load.{Load}
 use Rattle.search.specs.declared.letters.Load.TheVariants as load
 use Rattle.search.specs.Net.{Net, Sent, HasListener, IsPendingStart, IsBaseTold, IsPartTold, IsOpen, IsAsked, IsTaken}
-use Rattle.search.specs.Net.{AskFits, LetterFits, ByRow, SolutionFits, PartFits, OpenedPaid, MonitorFits, MonitorsFit, IsRight, IsPaid}
+use Rattle.search.specs.Net.{AskFits, LetterFits, ByRow, SolutionFits, PartFits, OpenedPaid, MonitorFits, IsRight, IsPaid}
 
 -- what was found and sent is there still, and no letter of the environment came
 pub record Grows (old new : Net) : Type 0 where
@@ -134,7 +134,7 @@ node_was {old} {new} grows n e f before now =
 -- what is added is right
 pub record AddsRightly (rows : List Credential) (asked : Role) (old new : Net) : Type 0 where
   pub graph : IsGraph new.graph
-  pub fit : MonitorsFit new.graph new.monitors
+  pub fit : AllZip MonitorFits new.graph.nodes new.monitors
   pub nodes : (n : ℕ) (e : Expr) → IsNode new.graph n e → IsNode old.graph n e ⊎ Demanded rows asked e
   pub listeners : (n m : ℕ) (p : Port (List ℕ)) → HasListener new n m p → HasListener old n m p ⊎ AskFits rows new m p n
   pub solutions : (s : Solution) → Contains new.graph.solutions s → Contains old.graph.solutions s ⊎ SolutionFits rows new.graph s

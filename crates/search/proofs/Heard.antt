@@ -20,8 +20,8 @@ use Rattle.search.specs.declared.findings.Monitor.{Monitor}
 use Rattle.search.specs.declared.findings.Monitor.TheVariants as monitor
 use Rattle.search.specs.declared.findings.NumberedMonitor.{NumberedMonitor}
 use Rattle.search.specs.declared.findings.NumberedMonitor.TheVariants as numbered_monitor
-use Rattle.search.specs.Answers.{BaseHeard, PartHeard}
-use Rattle.search.specs.Numbered.{AreMonitors, IsMonitor, monitor_at, monitors_at}
+use Rattle.search.proofs.Tells.{BaseHeard, PartHeard}
+use Rattle.search.specs.Numbered.{IsMonitor, monitor_at}
 
 -- a monitor that was read where one stands is the one there
 pub read_there : (ms : List NumberedMonitor) (node : ℕ) (k m read : NumberedMonitor) → slice_get ms node ≡ Some k → m ≡ get_or ms node m → m ≡ read → slice_get ms node ≡ Some read
@@ -30,20 +30,20 @@ read_there ms node k m read at value is =
 
 -- the monitor at a node, by what it is seen as
 module _ (nodes : List Expr) (ms : List NumberedMonitor) (node : ℕ) where
-  pub shown_at : (k : NumberedMonitor) → slice_get ms node ≡ Some k → slice_get (monitors_at nodes ms) node ≡ Some (monitor_at nodes k)
+  pub shown_at : (k : NumberedMonitor) → slice_get ms node ≡ Some k → slice_get (map (monitor_at nodes) ms) node ≡ Some (monitor_at nodes k)
   shown_at k at = slice_get-map (monitor_at nodes) ms node ∙ ap (option_map (monitor_at nodes)) at
 
-  seen_at : (m : Monitor) → slice_get (monitors_at nodes ms) node ≡ Some m → (k : NumberedMonitor) × (slice_get ms node ≡ Some k) × (monitor_at nodes k ≡ m)
+  seen_at : (m : Monitor) → slice_get (map (monitor_at nodes) ms) node ≡ Some m → (k : NumberedMonitor) × (slice_get ms node ≡ Some k) × (monitor_at nodes k ≡ m)
   seen_at m at =
       let k : NumberedMonitor = get_or ms node numbered_monitor.Plain in
-      let within = slice_get_within (monitors_at nodes ms) node m at in
+      let within = slice_get_within (map (monitor_at nodes) ms) node m at in
       let there : slice_get ms node ≡ Some k = slice_get-get_or ms node numbered_monitor.Plain (omega (arith, within, length-map ms (monitor_at nodes))) in
       (k, there, same_Some (monitor_at nodes k) m (sym (shown_at k there) ∙ at))
 
-  pub monitor_there : (k : NumberedMonitor) → AreMonitors nodes ms → slice_get ms node ≡ Some k → IsMonitor nodes k
+  pub monitor_there : (k : NumberedMonitor) → All (IsMonitor nodes) ms → slice_get ms node ≡ Some k → IsMonitor nodes k
   monitor_there k are at = All-contains (IsMonitor nodes) ms k are (Contains-at_place ms node k at)
 
-  pub link_at_node : (x : List (List ℕ)) → slice_get (monitors_at nodes ms) node ≡ Some (monitor.Link x) → (y : List ℕ) × (slice_get ms node ≡ Some (numbered_monitor.Link y))
+  pub link_at_node : (x : List (List ℕ)) → slice_get (map (monitor_at nodes) ms) node ≡ Some (monitor.Link x) → (y : List ℕ) × (slice_get ms node ≡ Some (numbered_monitor.Link y))
   link_at_node x at = let (k, there, is) = seen_at (monitor.Link x) at in by k there is
     where
       by : (k : NumberedMonitor) → slice_get ms node ≡ Some k → monitor_at nodes k ≡ monitor.Link x → (y : List ℕ) × (slice_get ms node ≡ Some (numbered_monitor.Link y))
@@ -51,7 +51,7 @@ module _ (nodes : List Expr) (ms : List NumberedMonitor) (node : ℕ) where
       by (numbered_monitor.Link y) there is = (y, there)
       by (numbered_monitor.Meet y) there is = cc
 
-  pub meet_at_node : (part : ℕ) (x : MeetTold) → slice_get (monitors_at nodes ms) node ≡ Some (monitor.Meet x) → part < x.parts → (y : MeetLines ℕ) × (slice_get ms node ≡ Some (numbered_monitor.Meet y)) × (part < y.parts)
+  pub meet_at_node : (part : ℕ) (x : MeetTold) → slice_get (map (monitor_at nodes) ms) node ≡ Some (monitor.Meet x) → part < x.parts → (y : MeetLines ℕ) × (slice_get ms node ≡ Some (numbered_monitor.Meet y)) × (part < y.parts)
   meet_at_node part x at below = let (k, there, is) = seen_at (monitor.Meet x) at in by k there is
     where
       parts_of : Monitor → ℕ
@@ -64,10 +64,10 @@ module _ (nodes : List Expr) (ms : List NumberedMonitor) (node : ℕ) where
       by (numbered_monitor.Meet y) there is = (y, there, subst (λ (n : ℕ). part < n) (sym (ap parts_of is)) below)
 
   -- one monitor is another now
-  pub shown_set : (k : NumberedMonitor) → monitors_at nodes (set ms node k) ≡ set (monitors_at nodes ms) node (monitor_at nodes k)
+  pub shown_set : (k : NumberedMonitor) → map (monitor_at nodes) (set ms node k) ≡ set (map (monitor_at nodes) ms) node (monitor_at nodes k)
   shown_set k = map-set (monitor_at nodes) ms node k
 
-  pub still_monitors : (k : NumberedMonitor) → AreMonitors nodes ms → IsMonitor nodes k → AreMonitors nodes (set ms node k)
+  pub still_monitors : (k : NumberedMonitor) → All (IsMonitor nodes) ms → IsMonitor nodes k → All (IsMonitor nodes) (set ms node k)
   still_monitors k are is = All-set (IsMonitor nodes) ms node k is are
 
 -- what was heard, where the answer says so
@@ -109,14 +109,14 @@ module _ (nodes : List Expr) (once : IsOnce nodes) where
   )
   base_named x y k false are is (there, same) = (Contains-map (entity_at nodes) x k there, ap (map (entity_at nodes)) same)
 
-  pub base_heard : (ms : List NumberedMonitor) (node : ℕ) (x y : List ℕ) (k : ℕ) (new : Bool) → AreMonitors nodes ms → slice_get ms node ≡ Some (numbered_monitor.Link x) → IsEntity nodes k → AddsKey x y k new →
-      BaseHeard (monitors_at nodes ms) (monitors_at nodes (set ms node (numbered_monitor.Link y))) node (entity_at nodes k) new
+  pub base_heard : (ms : List NumberedMonitor) (node : ℕ) (x y : List ℕ) (k : ℕ) (new : Bool) → All (IsMonitor nodes) ms → slice_get ms node ≡ Some (numbered_monitor.Link x) → IsEntity nodes k → AddsKey x y k new →
+      BaseHeard (map (monitor_at nodes) ms) (map (monitor_at nodes) (set ms node (numbered_monitor.Link y))) node (entity_at nodes k) new
   base_heard ms node x y k new are at is heard =
       let own : IsMonitor nodes (numbered_monitor.Link x) = monitor_there nodes ms node (numbered_monitor.Link x) are at in
       (map (entity_at nodes) x, map (entity_at nodes) y, shown_at nodes ms node (numbered_monitor.Link x) at, base_named x y k new own is heard, shown_set nodes ms node (numbered_monitor.Link y))
 
-  pub part_heard : (ms : List NumberedMonitor) (node part : ℕ) (x y : MeetLines ℕ) (k : ℕ) (last : Bool) → AreMonitors nodes ms → slice_get ms node ≡ Some (numbered_monitor.Meet x) → IsEntity nodes k → HearsByName x y part k last →
-      PartHeard (monitors_at nodes ms) (monitors_at nodes (set ms node (numbered_monitor.Meet y))) node part (entity_at nodes k) last
+  pub part_heard : (ms : List NumberedMonitor) (node part : ℕ) (x y : MeetLines ℕ) (k : ℕ) (last : Bool) → All (IsMonitor nodes) ms → slice_get ms node ≡ Some (numbered_monitor.Meet x) → IsEntity nodes k → HearsByName x y part k last →
+      PartHeard (map (monitor_at nodes) ms) (map (monitor_at nodes) (set ms node (numbered_monitor.Meet y))) node part (entity_at nodes k) last
   part_heard ms node part x y k last are at is heard =
       let own : IsMonitor nodes (numbered_monitor.Meet x) = monitor_there nodes ms node (numbered_monitor.Meet x) are at in
       (told_by (entity_at nodes) x, told_by (entity_at nodes) y, shown_at nodes ms node (numbered_monitor.Meet x) at, heard (entity_at nodes) (told_apart k (keys_of x.lines) is own), shown_set nodes ms node (numbered_monitor.Meet y))

@@ -1,3 +1,4 @@
+pub mod Tells
 pub mod Cleared
 pub mod Grow
 pub mod Settled

@@ -45,7 +45,8 @@ use Rattle.search.specs.declared.findings.Monitor.TheVariants as monitor
 use Rattle.search.specs.declared.findings.NumberedMonitor.{NumberedMonitor}
 use Rattle.search.specs.declared.findings.NumberedMonitor.TheVariants as numbered_monitor
 use Rattle.search.specs.Answers.{Progress, Answers, AsksFor, AsksEach, HearsAsk, IsOpenAt, Opens, Solves, TakesIn, own_rows, new_monitor, row_asks, part_asks}
-use Rattle.search.specs.Numbered.{AreLoads, AreMonitors, AreNumbered, IsLoad, IsMonitor, IsStage, monitor_at, monitors_at, held_at, load_at, outs_at, progress_at, stage_at}
+use Rattle.search.specs.Numbered.{AreNumbered, IsLoad, IsMonitor, IsStage, monitor_at, held_at, load_at, progress_at, stage_at}
+use Rattle.scholten_core.specs.Computation.{outs_with}
 
 -- the numbers in these letters are entities'
 abbrev pub AreLetters : List Expr → List (ℕ × Letter (Load ℕ)) → Type 0
@@ -62,10 +63,10 @@ module _ (nodes more : List Expr) where
   load_stays (load.Ask p) is = ap load.Ask (port_stays nodes more p is)
   load_stays (load.Tell p k) is = λ i. load.Tell (port_stays nodes more p is.0 i) (entity_stays nodes more k is.1 i)
 
-  pub loads_go_on : (outs : List (ℕ × Load ℕ)) → AreLoads nodes outs → AreLoads (nodes ++ more) outs
+  pub loads_go_on : (outs : List (ℕ × Load ℕ)) → All (λ o. IsLoad nodes o.1) outs → All (λ o. IsLoad (nodes ++ more) o.1) outs
   loads_go_on outs are = All-weaker (λ (o : ℕ × Load ℕ). IsLoad nodes o.1) (λ o. IsLoad (nodes ++ more) o.1) (λ o is. load_goes_on o.1 is) outs are
 
-  pub outs_stay : (outs : List (ℕ × Load ℕ)) → AreLoads nodes outs → outs_at (nodes ++ more) outs ≡ outs_at nodes outs
+  pub outs_stay : (outs : List (ℕ × Load ℕ)) → All (λ o. IsLoad nodes o.1) outs → outs_with (load_at (nodes ++ more)) outs ≡ outs_with (load_at nodes) outs
   outs_stay outs are =
       map_alike (λ (o : ℕ × Load ℕ). (o.0, load_at (nodes ++ more) o.1)) (λ o. (o.0, load_at nodes o.1)) (λ o. IsLoad nodes o.1) (λ o is i. (o.0, load_stays o.1 is i)) outs are
 
@@ -105,10 +106,10 @@ module _ (nodes more : List Expr) where
   monitor_stays (numbered_monitor.Meet x) is =
       ap (λ (lines : List (List ℕ × Tellers)). monitor.Meet (record { parts = x.parts; told = set.from_list (pairs_of lines) })) (lines_stay x.lines is)
 
-  pub monitors_go_on : (ms : List NumberedMonitor) → AreMonitors nodes ms → AreMonitors (nodes ++ more) ms
+  pub monitors_go_on : (ms : List NumberedMonitor) → All (IsMonitor nodes) ms → All (IsMonitor (nodes ++ more)) ms
   monitors_go_on ms are = All-weaker (IsMonitor nodes) (IsMonitor (nodes ++ more)) monitor_goes_on ms are
 
-  pub monitors_stay : (ms : List NumberedMonitor) → AreMonitors nodes ms → monitors_at (nodes ++ more) ms ≡ monitors_at nodes ms
+  pub monitors_stay : (ms : List NumberedMonitor) → All (IsMonitor nodes) ms → map (monitor_at (nodes ++ more)) ms ≡ map (monitor_at nodes) ms
   monitors_stay ms are = map_alike (monitor_at (nodes ++ more)) (monitor_at nodes) (IsMonitor nodes) monitor_stays ms are
 
 -- a node is added
@@ -165,7 +166,7 @@ HasNode s t e n =
 
 pub node_there : (s : Progress) (g h : GraphState) (ms : List NumberedMonitor) (outs : List (ℕ × Load ℕ)) (e : Expr) (n : ℕ) → progress_at g ms outs ≡ s → NodeGiven g h e n false → HasNode s (progress_at h ms outs) e n
 node_there s g h ms outs e n is (node, same) =
-    subst (λ (x : Progress). HasNode x (progress_at h ms outs) e n) is (false, (node, same), ap (λ (k : GraphState). outs_at k.nodes outs) same, ap (λ (k : GraphState). monitors_at k.nodes ms) same)
+    subst (λ (x : Progress). HasNode x (progress_at h ms outs) e n) is (false, (node, same), ap (λ (k : GraphState). outs_with (load_at k.nodes) outs) same, ap (λ (k : GraphState). map (monitor_at k.nodes) ms) same)
 
 -- the letters before it and the other monitors stay what they are
 pub node_added : (s : Progress) (g h : GraphState) (ms ms' : List NumberedMonitor) (m : NumberedMonitor) (outs : List (ℕ × Load ℕ)) (e : Expr) (n : ℕ) → progress_at g ms outs ≡ s → AreNumbered g ms outs →
@@ -174,9 +175,9 @@ node_added s g h ms ms' m outs e n is are (absent, range, at, with) pushed new =
     subst (λ (x : Progress). HasNode x (progress_at h ms' outs) e n) is (
       true,
       (absent, range, at, with),
-      ap (λ (k : GraphState). outs_at k.nodes outs) with ∙ outs_stay g.nodes (e ∷ []) outs are.loads,
-      ap (monitors_at h.nodes) pushed ∙ map-append (monitor_at h.nodes) ms (m ∷ [])
-          ∙ (λ i. (ap (λ (k : GraphState). monitors_at k.nodes ms) with ∙ monitors_stay g.nodes (e ∷ []) ms are.monitors) i ++ new i ∷ []),
+      ap (λ (k : GraphState). outs_with (load_at k.nodes) outs) with ∙ outs_stay g.nodes (e ∷ []) outs are.loads,
+      ap (map (monitor_at h.nodes)) pushed ∙ map-append (monitor_at h.nodes) ms (m ∷ [])
+          ∙ (λ i. (ap (λ (k : GraphState). map (monitor_at k.nodes) ms) with ∙ monitors_stay g.nodes (e ∷ []) ms are.monitors) i ++ new i ∷ []),
     )
 
 -- the node is asked
@@ -233,7 +234,7 @@ numbered_solved g h s true ms outs (new, with) are =
 module _ (s : Progress) (g h : GraphState) (ms : List NumberedMonitor) (outs : List (ℕ × Load ℕ)) (is : progress_at g ms outs ≡ s) where
   pub hears_old : (n m : ℕ) (p : Port ℕ) → ListenerGiven g h n (record { asker = m; port = port_at g.nodes p }) false → HearsAsk s (progress_at h ms outs) n m (port_at s.graph.nodes p)
   hears_old n m p (listens, same) =
-      subst (λ (x : Progress). HearsAsk x (progress_at h ms outs) n m (port_at x.graph.nodes p)) is (false, (listens, same), ap (λ (k : GraphState). monitors_at k.nodes ms) same, ap (λ (k : GraphState). outs_at k.nodes outs) same)
+      subst (λ (x : Progress). HearsAsk x (progress_at h ms outs) n m (port_at x.graph.nodes p)) is (false, (listens, same), ap (λ (k : GraphState). map (monitor_at k.nodes) ms) same, ap (λ (k : GraphState). outs_with (load_at k.nodes) outs) same)
 
   pub listens_new : (n m : ℕ) (p : Port ℕ) (b : Bool) → b ≡ true → ListenerGiven g h n (record { asker = m; port = port_at g.nodes p }) b → ListenerGiven s.graph h n (record { asker = m; port = port_at s.graph.nodes p }) true
   listens_new n m p b new given =
@@ -242,7 +243,7 @@ module _ (s : Progress) (g h : GraphState) (ms : List NumberedMonitor) (outs : L
   pub solves_old : (n k : ℕ) (r : Reason ℕ ℕ) → SolutionGiven g h (record { node = n; who = entity_at g.nodes k; reason = reason_at g.nodes r }) false →
       Solves s (progress_at h ms outs) n (entity_at s.graph.nodes k) (reason_at s.graph.nodes r)
   solves_old n k r (has, same) =
-      subst (λ (x : Progress). Solves x (progress_at h ms outs) n (entity_at x.graph.nodes k) (reason_at x.graph.nodes r)) is (false, (has, same), ap (λ (k : GraphState). monitors_at k.nodes ms) same, ap (λ (y : GraphState). outs_at y.nodes outs) same)
+      subst (λ (x : Progress). Solves x (progress_at h ms outs) n (entity_at x.graph.nodes k) (reason_at x.graph.nodes r)) is (false, (has, same), ap (λ (k : GraphState). map (monitor_at k.nodes) ms) same, ap (λ (y : GraphState). outs_with (load_at y.nodes) outs) same)
 
   pub solves_new : (n k : ℕ) (r : Reason ℕ ℕ) (b : Bool) → b ≡ true → SolutionGiven g h (record { node = n; who = entity_at g.nodes k; reason = reason_at g.nodes r }) b →
       SolutionGiven s.graph h (record { node = n; who = entity_at s.graph.nodes k; reason = reason_at s.graph.nodes r }) true
@@ -251,8 +252,8 @@ module _ (s : Progress) (g h : GraphState) (ms : List NumberedMonitor) (outs : L
       (subst (SolutionGiven g h (record { node = n; who = entity_at g.nodes k; reason = reason_at g.nodes r })) new given)
 
   -- what was found but the graph is left, where no node was added
-  pub others_left : h.nodes ≡ g.nodes → (monitors_at h.nodes ms ≡ s.monitors) × (outs_at h.nodes outs ≡ s.outs)
-  others_left same = (ap (λ nodes. monitors_at nodes ms) same ∙ ap (λ (x : Progress). x.monitors) is, ap (λ nodes. outs_at nodes outs) same ∙ ap (λ (x : Progress). x.outs) is)
+  pub others_left : h.nodes ≡ g.nodes → (map (monitor_at h.nodes) ms ≡ s.monitors) × (outs_with (load_at h.nodes) outs ≡ s.outs)
+  others_left same = (ap (λ nodes. map (monitor_at nodes) ms) same ∙ ap (λ (x : Progress). x.monitors) is, ap (λ nodes. outs_with (load_at nodes) outs) same ∙ ap (λ (x : Progress). x.outs) is)
 
 -- a port stays what it is where nodes are added
 pub more_port : (old new : List Expr) (p : Port ℕ) → HasMore old new → IsPort old p → IsPort new p
@@ -276,22 +277,22 @@ module _ (nodes : List Expr) (st : NumberedStage) (d : Computation (Load ℕ)) (
   pub shown_is : (c : Computation (Load (List ℕ))) → stage_at nodes st ≡ stage.Running c → shown ≡ c
   shown_is c is = same_running shown c (sym shows ∙ is)
 
-  pub held_shown : (c : Computation (Load (List ℕ))) (number : ℕ) → stage_at nodes st ≡ stage.Running c → IsHeld c number → IsHeld d number
-  held_shown c number is held = held-unnamed (load_at nodes) d number (subst (λ (x : Computation (Load (List ℕ))). IsHeld x number) (sym (shown_is c is)) held)
+  pub held_shown : (c : Computation (Load (List ℕ))) (number : ℕ) → stage_at nodes st ≡ stage.Running c → IsHeld c.letters number → IsHeld d.letters number
+  held_shown c number is held = held-unnamed (load_at nodes) d number (subst (λ (x : Computation (Load (List ℕ))). IsHeld x.letters number) (sym (shown_is c is)) held)
 
   pub loads_shown : IsStage nodes st → AreLetters nodes d.letters
   loads_shown are = subst (IsStage nodes) runs are
 
-  pub waiting_count : length (waiting_in (stage_at nodes st)) ≡ length (waiting d)
-  waiting_count = ap (λ (s : Stage). length (waiting_in s)) shows ∙ ap length (waiting-named (load_at nodes) d) ∙ length-map (waiting d) (entry_with (load_at nodes))
+  pub waiting_count : length (waiting_in (stage_at nodes st)) ≡ length (waiting d.letters)
+  waiting_count = ap (λ (s : Stage). length (waiting_in s)) shows ∙ ap length (waiting-named (load_at nodes) d) ∙ length-map (waiting d.letters) (entry_with (load_at nodes))
 
   pub signals_count : length (signals_in (stage_at nodes st)) ≡ length d.signals
   signals_count = ap (λ (s : Stage). length (signals_in s)) shows
 
-  pub none_waits : length (waiting d) ≡ 0 → waiting_in (stage_at nodes st) ≡ []
+  pub none_waits : length (waiting d.letters) ≡ 0 → waiting_in (stage_at nodes st) ≡ []
   none_waits none = nil_from_length (waiting_in (stage_at nodes st)) (waiting_count ∙ none)
 
-  pub waits_none : waiting_in (stage_at nodes st) ≡ [] → length (waiting d) ≡ 0
+  pub waits_none : waiting_in (stage_at nodes st) ≡ [] → length (waiting d.letters) ≡ 0
   waits_none none = sym waiting_count ∙ ap length none
 
   pub no_signal : length d.signals ≡ 0 → signals_in (stage_at nodes st) ≡ []
@@ -305,11 +306,11 @@ module _ (nodes : List Expr) (st : NumberedStage) (d : Computation (Load ℕ)) (
       settles (stage_at nodes st) shown shows
       (λ letters signals. outstanding-named (load_at nodes) d ∙ ends (nil_from_length d.letters (sym (length-map d.letters (entry_with (load_at nodes))) ∙ ap length letters)) signals)
 
-  pub past_waiting : (place count : ℕ) → count ≡ length (waiting d) → count ≤ place → slice_get (waiting_in (stage_at nodes st)) place ≡ None
+  pub past_waiting : (place count : ℕ) → count ≡ length (waiting d.letters) → count ≤ place → slice_get (waiting_in (stage_at nodes st)) place ≡ None
   past_waiting place count is past =
-      ap (λ (s : Stage). slice_get (waiting_in s) place) shows ∙ waits-named (load_at nodes) d place ∙ ap (option_map (entry_with (load_at nodes))) (slice_get_past (waiting d) place (omega (arith, is, past)))
+      ap (λ (s : Stage). slice_get (waiting_in s) place) shows ∙ waits-named (load_at nodes) d place ∙ ap (option_map (entry_with (load_at nodes))) (slice_get_past (waiting d.letters) place (omega (arith, is, past)))
 
-pub outs_count : (nodes : List Expr) (outs : List (ℕ × Load ℕ)) → length (outs_at nodes outs) ≡ length outs
+pub outs_count : (nodes : List Expr) (outs : List (ℕ × Load ℕ)) → length (outs_with (load_at nodes) outs) ≡ length outs
 outs_count nodes outs = length-map {B = ℕ × Load (List ℕ)} outs (λ o. (o.0, load_at nodes o.1))
 
 -- the environment's letter says no number

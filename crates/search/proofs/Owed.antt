@@ -15,7 +15,7 @@ use Rattle.cred_graph.specs.declared.listeners.Port.{Port}
 use Rattle.cred_graph.specs.declared.listeners.Port.TheVariants as port
 use Rattle.cred_graph.specs.Graph.{IsNode, IsSolution, Known}
 use Rattle.search.specs.declared.letters.Load.TheVariants as load
-use Rattle.search.specs.Net.{Net, why_of, IsPartTold, IsOpen, IsAsked, IsTaken, ListensFor, IsOpenExpr, IsPendingBetween}
+use Rattle.search.specs.Net.{Net, why_of, IsPartTold, IsOpen, IsAsked, IsTaken, ListensFor, IsPendingBetween}
 use Rattle.search.specs.Net.{IsRight, IsPaid, OwesRules}
 use Rattle.search.proofs.Grow.{one_expr}
 
@@ -49,7 +49,7 @@ module _ (rows : List Credential) (asked : Role) (net : Net) (right : IsRight ro
         | inr pending ↦ inr pending
       ]
 
-  heard : (e f : Expr) (why : Why) → IsOpenExpr net e → Asks rows (Known net.graph) e why f →
+  heard : (e f : Expr) (why : Why) → ((n : ℕ) × IsNode net.graph n e × IsOpen net n) → Asks rows (Known net.graph) e why f →
       ListensFor net e why f ⊎ (IsPendingBetween net e f ⊎ ((r : Role) × (n : List ℕ) × (e ≡ Link r n) × IsPendingBetween net e (Rol r)))
   heard e f why (m, node, opens) (asks_body {r} c among head) =
       elim (asks_owed m (Rol r) port.Body c.body node (paid.opened m (Rol r) node opens c among head)) [ inl listens ↦ inl listens | inr pending ↦ inr (inl pending) ]
@@ -85,7 +85,7 @@ module _ (rows : List Credential) (asked : Role) (net : Net) (right : IsRight ro
       each told rest zero below = subst (λ (j : ℕ). IsPartTold net m j who) (omega arith) told
       each told rest (suc k) below = subst (λ (j : ℕ). IsPartTold net m j who) (omega arith) (rest k (omega arith))
 
-  applied : (d : List ℕ) (e : Expr) (premises : List Expr) → IsOpenExpr net e → Follows rows (Known net.graph) d e premises →
+  applied : (d : List ℕ) (e : Expr) (premises : List Expr) → ((n : ℕ) × IsNode net.graph n e × IsOpen net n) → Follows rows (Known net.graph) d e premises →
       Known net.graph d e ⊎ ((f : Expr) × Contains premises f × IsPendingBetween net e f)
   applied d e premises (m, node, opens) (by_leaf w) = inl (m, node, paid.opened m (Ent w) node opens)
   applied d e premises (m, node, opens) (by_credential {r = r} c among head known) =

@@ -250,7 +250,7 @@ delivered_kept s st place b kept delivers = record {
 waiting_to : (s : SearchState) (st : Stage) (place number : ℕ) (l : Letter (Load (List ℕ))) → KeepsRules s → s.stage ≡ st → slice_get (waiting_in st) place ≡ Some (number, l) → l.to < length s.graph.nodes
 waiting_to s (stage.Running c) place number l kept runs at =
     let kept_now = kept c runs in
-    let among = (filtered (λ (x : ℕ × Letter (Load (List ℕ))). not x.1.held) c.letters (number, l) (Contains-at_place (waiting c) place (number, l) at)).0 in
+    let among = (filtered (λ (x : ℕ × Letter (Load (List ℕ))). not x.1.held) c.letters (number, l) (Contains-at_place (waiting c.letters) place (number, l) at)).0 in
     let sent = Contains-map (λ (x : ℕ × Letter (Load (List ℕ))). plain x.1) c.letters (number, l) among in
     receiver_in (rows_of s) (asked_role s.query) (net_of s.graph s.monitors c) kept_now.steady.right l.from l.to l.load (kept_now.steady.right.letters_fit (plain l) sent)
 waiting_to s stage.Spent place number l kept runs at = absurd (none-some (number, l) at)

@@ -20,7 +20,7 @@ use Rattle.search.specs.declared.letters.Load.{Load}
 use Rattle.search.specs.declared.letters.Load.TheVariants as load
 use Rattle.search.specs.declared.findings.Monitor.{Monitor}
 use Rattle.search.specs.Net.{Net, Sent, sent_by, HasListener, LetterFits, SolutionFits, AskFits, OpenedPaid, IsSteady}
-use Rattle.search.specs.Answers.{new_tells, known_tells}
+use Rattle.search.proofs.Tells.{new_tells, known_tells}
 use Rattle.search.proofs.Grow.{Grows, solution_fits_stays, ask_fits_stays, opened_stays}
 use Rattle.search.proofs.Kept.{steady_grown, pending_on, pending_new, pending_cases, start_before}
 

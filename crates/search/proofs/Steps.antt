@@ -26,7 +26,8 @@ use Rattle.search.specs.declared.letters.Load.{Load}
 use Rattle.search.specs.declared.letters.Load.TheVariants as load
 use Rattle.search.specs.declared.findings.Monitor.{Monitor}
 use Rattle.search.specs.Net.{Net, Sent, sent_by, why_of, HasListener, IsAsked, AskFits, LetterFits, SolutionFits, OpenedPaid, IsSteady}
-use Rattle.search.specs.Answers.{Progress, progress, net_at, new_monitor, AsksFor, AsksEach, Solves, HearsAsk, part_asks, Opens, new_tells, known_tells}
+use Rattle.search.specs.Answers.{Progress, progress, net_at, new_monitor, AsksFor, AsksEach, Solves, HearsAsk, part_asks, Opens}
+use Rattle.search.proofs.Tells.{new_tells, known_tells}
 use Rattle.search.proofs.Grow.{Grows, known_stays, asks_more, asked_stays}
 use Rattle.search.proofs.Kept.{node_grows, node_steady, letters_grow, letters_steady, pending_new}
 use Rattle.search.proofs.Solve.{solve_grows, solve_steady, hear_grows, hear_steady, listens_new}

@@ -19,7 +19,7 @@ use Rattle.monitors.specs.MeetMonitor.{MeetTold, HasTold, AllTold, with_tell, to
 use Rattle.monitors.proofs.ToldOrder.{told_order_total, told_order_tied}
 use Rattle.search.specs.declared.findings.Monitor.{Monitor}
 use Rattle.search.specs.declared.findings.Monitor.TheVariants as monitor
-use Rattle.search.specs.Net.{Net, Sent, IsBaseTold, IsPartTold, IsAsked, PartFits, MonitorFits, MonitorsFit, IsSteady}
+use Rattle.search.specs.Net.{Net, Sent, IsBaseTold, IsPartTold, IsAsked, PartFits, MonitorFits, IsSteady}
 use Rattle.search.proofs.Grow.{Grows, part_fits_stays, asked_stays, zip_left, one_expr}
 use Rattle.search.proofs.Kept.{steady_grown}
 
@@ -265,7 +265,7 @@ module _ (rows : List Credential) (asked : Role) (g : GraphState) (ms : List Mon
       let is : told_meet ≡ y = same_meet told_meet y (meet_set_at m (monitor.Meet y) same there) in
       subst (λ (z : MeetTold). HasTold z j who) (sym is) told
 
-  met_cases : MonitorsFit g ms → (AllTold told_meet who → IsSolution g node who) → (m : ℕ) (parts : List Part) (w : List ℕ) → IsNode g m (Meet parts) → ((j : ℕ) → j < length parts → IsPartTold heard m j w) →
+  met_cases : AllZip MonitorFits g.nodes ms → (AllTold told_meet who → IsSolution g node who) → (m : ℕ) (parts : List Part) (w : List ℕ) → IsNode g m (Meet parts) → ((j : ℕ) → j < length parts → IsPartTold heard m j w) →
       ((j : ℕ) → j < length parts → IsPartTold unheard m j w) ⊎ IsSolution g m w
   met_cases fit solves m parts w is all =
       elim (cases_eq m node) [

@@ -54,48 +54,34 @@ abbrev pub AsksEach : Progress → List (Expr × Port (List ℕ)) → Progress �
 AsksEach s [] t = t ≡ s
 AsksEach s (w ∷ ws) t = (mid : Progress) × AsksFor s mid w.0 w.1 × AsksEach mid ws t
 
--- a Tell to every listener of the node
-abbrev pub new_tells : GraphState → ℕ → List ℕ → List (ℕ × Said)
-new_tells g n who = map (λ l. (l.asker, load.Tell l.port who)) (listeners_of g n)
-
 -- the entity is a solution of the node now; where it is new, every listener is told
 abbrev pub Solves : Progress → Progress → ℕ → List ℕ → Reason ℕ (List ℕ) → Type 0
 Solves s t n who why =
     (new : Bool) × SolutionGiven s.graph t.graph (record { node = n; who = who; reason = why }) new × (t.monitors ≡ s.monitors)
-    × (t.outs ≡ (if new then s.outs ++ new_tells s.graph n who else s.outs))
-
--- a Tell to the asker for each solution that the node has
-abbrev pub known_tells : GraphState → ℕ → ℕ → Port (List ℕ) → List (ℕ × Said)
-known_tells g n m p = map (λ who. (m, load.Tell p who)) (members_of g n)
+    × (t.outs ≡ (if new then s.outs ++ map (λ l. (l.asker, load.Tell l.port who)) (listeners_of s.graph n) else s.outs))
 
 -- the node m listens to the node n now; where that is new, it is told each solution that the node has
 abbrev pub HearsAsk : Progress → Progress → ℕ → ℕ → Port (List ℕ) → Type 0
 HearsAsk s t n m p =
     (new : Bool) × ListenerGiven s.graph t.graph n (record { asker = m; port = p }) new × (t.monitors ≡ s.monitors)
-    × (t.outs ≡ (if new then s.outs ++ known_tells s.graph n m p else s.outs))
+    × (t.outs ≡ (if new then s.outs ++ map (λ who. (m, load.Tell p who)) (members_of s.graph n) else s.outs))
 
--- the monitor of a linked role hears a member of its base, and the answer says whether that is new
-abbrev pub BaseHeard : List Monitor → List Monitor → ℕ → List ℕ → Bool → Type 0
-BaseHeard ms ms' node base new =
-    (x y : List (List ℕ)) × (slice_get ms node ≡ Some (monitor.Link x)) × AddsKey x y base new × (ms' ≡ slice_set ms node (monitor.Link y))
-
--- a linked role is told a member of its base: where it is new, the member's role is asked
+-- a linked role is told a member of its base, which its monitor hears: where it is new, the member's role is asked
 abbrev pub TellsBase : Progress → Progress → ℕ → List ℕ → Type 0
 TellsBase s t node base =
     (r : Role) × (name : List ℕ) × IsNode s.graph node (Link r name)
-    × ((new : Bool) × (ms : List Monitor) × BaseHeard s.monitors ms node base new
+    × ((new : Bool) × (ms : List Monitor)
+    × ((x y : List (List ℕ)) × (slice_get s.monitors node ≡ Some (monitor.Link x)) × AddsKey x y base new
+    × (ms ≡ slice_set s.monitors node (monitor.Link y)))
     × (((new ≡ false) × (t ≡ record s { monitors = ms }))
     ⊎ ((new ≡ true) × AsksFor (record s { monitors = ms }) t (Rol (record { owner = base; name = name })) (port.Via base))))
 
--- the monitor of an intersection hears that a part told an entity, and the answer says whether it is the last
-abbrev pub PartHeard : List Monitor → List Monitor → ℕ → ℕ → List ℕ → Bool → Type 0
-PartHeard ms ms' node i who last =
-    (x y : MeetTold) × (slice_get ms node ≡ Some (monitor.Meet x)) × HearsPart x y i who last × (ms' ≡ slice_set ms node (monitor.Meet y))
-
--- an intersection is told an entity by its part i: with the last part it is a solution
+-- an intersection is told an entity by its part i, which its monitor hears: with the last part it is a solution
 abbrev pub TellsPart : Progress → Progress → ℕ → ℕ → List ℕ → Type 0
 TellsPart s t node i who =
-    (last : Bool) × (ms : List Monitor) × PartHeard s.monitors ms node i who last
+    (last : Bool) × (ms : List Monitor)
+    × ((x y : MeetTold) × (slice_get s.monitors node ≡ Some (monitor.Meet x)) × HearsPart x y i who last
+    × (ms ≡ slice_set s.monitors node (monitor.Meet y)))
     × (((last ≡ false) × (t ≡ record s { monitors = ms }))
     ⊎ ((last ≡ true) × Solves (record s { monitors = ms }) t node who reason.Parts))
 

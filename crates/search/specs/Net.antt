@@ -127,13 +127,10 @@ OpenedPaid rows net m (Rol r) = (c : Credential) → Contains rows c → c.head 
 OpenedPaid rows net m (Link r t) = IsAsked net m port.Base (Rol r)
 OpenedPaid rows net m (Meet parts) = (i : ℕ) (p : Part) → slice_get parts i ≡ Some p → IsAsked net m (port.Part i) (part_expr p)
 
--- the same by expressions: one listens to another, one is open, and a letter between two is under way
+-- the same by expressions: one listens to another, and a letter between two is under way
 abbrev pub ListensFor : Net → Expr → Why → Expr → Type 0
 ListensFor net e why f =
     (m n : ℕ) × (p : Port (List ℕ)) × IsNode net.graph m e × IsNode net.graph n f × (why_of p ≡ why) × HasListener net n m p
-
-abbrev pub IsOpenExpr : Net → Expr → Type 0
-IsOpenExpr net e = (n : ℕ) × IsNode net.graph n e × IsOpen net n
 
 abbrev pub IsPendingBetween : Net → Expr → Expr → Type 0
 IsPendingBetween net e f =
@@ -150,9 +147,6 @@ MonitorFits (Link r t) (monitor.Link x) = Unit {0}
 MonitorFits (Meet parts) (monitor.Meet x) = x.parts ≡ length parts
 MonitorFits _ _ = ⊥
 
-abbrev pub MonitorsFit : GraphState → List Monitor → Type 0
-MonitorsFit g monitors = AllZip MonitorFits g.nodes monitors
-
 -- what was found is right: the asked role's node is the first, each solution is derivable and by a row where a body gave
 -- it, and its premises were found before it
 pub record IsJustified (rows : List Credential) (asked : Role) (g : GraphState) : Type 0 where
@@ -163,7 +157,7 @@ pub record IsJustified (rows : List Credential) (asked : Role) (g : GraphState) 
 -- what is found and sent is right. No clause names what isn't there yet, so whatever is added keeps what stood
 pub record IsRight (rows : List Credential) (asked : Role) (net : Net) : Type 0 where
   pub found : IsJustified rows asked net.graph
-  pub fit : MonitorsFit net.graph net.monitors
+  pub fit : AllZip MonitorFits net.graph.nodes net.monitors
   pub demanded : (n : ℕ) (e : Expr) → IsNode net.graph n e → Demanded rows asked e
   pub listeners_fit : (n m : ℕ) (p : Port (List ℕ)) → HasListener net n m p → AskFits rows net m p n
   pub letters_fit : (x : Sent) → Contains net.pending x → LetterFits rows net x.from x.to x.load
@@ -192,4 +186,5 @@ pub record IsSteady (rows : List Credential) (asked : Role) (net : Net) : Type 0
 -- the same, as the rules that a running search owes
 abbrev pub OwesRules : List Credential → Role → Net → Type 0
 OwesRules rows asked net =
-    RulesAreOwed rows asked (ListensFor net) (IsOpenExpr net) (Known net.graph) (IsPendingStart net) (IsPendingBetween net)
+    RulesAreOwed rows asked (ListensFor net) (λ e. (n : ℕ) × IsNode net.graph n e × IsOpen net n) (Known net.graph)
+    (IsPendingStart net) (IsPendingBetween net)

@@ -34,13 +34,6 @@ IsLoad nodes load.Start = Unit {0}
 IsLoad nodes (load.Ask p) = IsPort nodes p
 IsLoad nodes (load.Tell p k) = IsPort nodes p × IsEntity nodes k
 
--- the letters that a node sends
-abbrev pub outs_at : List Expr → List (ℕ × Load ℕ) → List (ℕ × Said)
-outs_at nodes outs = outs_with (load_at nodes) outs
-
-abbrev pub AreLoads : List Expr → List (ℕ × Load ℕ) → Type 0
-AreLoads nodes outs = All (λ o. IsLoad nodes o.1) outs
-
 -- the letter in hand
 abbrev pub held_at : List Expr → Held (Load ℕ) → Held Said
 held_at nodes h = record { from = h.from; to = h.to; load = load_at nodes h.load }
@@ -62,25 +55,19 @@ monitor_at nodes numbered_monitor.Plain = monitor.Plain
 monitor_at nodes (numbered_monitor.Link x) = monitor.Link (map (entity_at nodes) x)
 monitor_at nodes (numbered_monitor.Meet x) = monitor.Meet (told_by (entity_at nodes) x)
 
-abbrev pub monitors_at : List Expr → List NumberedMonitor → List Monitor
-monitors_at nodes ms = map (monitor_at nodes) ms
-
 -- the numbers that it remembers are entities'
 abbrev pub IsMonitor : List Expr → NumberedMonitor → Type 0
 IsMonitor nodes numbered_monitor.Plain = Unit {0}
 IsMonitor nodes (numbered_monitor.Link x) = All (IsEntity nodes) x
 IsMonitor nodes (numbered_monitor.Meet x) = All (IsEntity nodes) (keys_of x.lines)
 
-abbrev pub AreMonitors : List Expr → List NumberedMonitor → Type 0
-AreMonitors nodes ms = All (IsMonitor nodes) ms
-
 -- what was found while a node answers a letter, and what it sends
 abbrev pub progress_at : GraphState → List NumberedMonitor → List (ℕ × Load ℕ) → Progress
-progress_at g ms outs = progress g (monitors_at g.nodes ms) (outs_at g.nodes outs)
+progress_at g ms outs = progress g (map (monitor_at g.nodes) ms) (outs_with (load_at g.nodes) outs)
 
 -- each entity that is named in a letter, in a monitor or by a listener has a node, and no other has the same
 pub record AreNumbered (g : GraphState) (ms : List NumberedMonitor) (outs : List (ℕ × Load ℕ)) : Type 0 where
   pub once : IsOnce g.nodes
-  pub loads : AreLoads g.nodes outs
-  pub monitors : AreMonitors g.nodes ms
+  pub loads : All (λ o. IsLoad g.nodes o.1) outs
+  pub monitors : All (IsMonitor g.nodes) ms
   pub ports : (n : ℕ) (l : Listening) → Listens g n l → IsNamed g.nodes l.port

@@ -14,7 +14,7 @@ use Rattle.search.specs.declared.stages.Stage.TheVariants as stage
 
 -- the letters that wait, in order of number; a search that is spent or broken has none
 abbrev pub waiting_in : Stage → List (ℕ × Letter Said)
-waiting_in (stage.Running c) = waiting c
+waiting_in (stage.Running c) = waiting c.letters
 waiting_in _ = []
 
 -- the signals under way, oldest first
@@ -40,7 +40,7 @@ pub record HoldsLetter (old : Stage) (number : ℕ) (h : Held Said) : Type 0 whe
   pub running : Computation Said
   pub runs : old ≡ stage.Running running
   pub letter : letter_of running number ≡ Some (letter_in h)
-  pub held : IsHeld running number
+  pub held : IsHeld running.letters number
   pub by_number : StandByNumber running
   pub numbers : IsNumbered 0 running.letters running.sent
 

@@ -106,7 +106,7 @@ pub(crate) fn send(
     found: &mut Findings,
 ) -> Finished
     requires { (nodes : List Expr) × (c : Computation Said) × (stage_at nodes stage.old ≡ Stage.Running c)
-        × IsHeld c number × (c.sent ≤ work) }
+        × IsHeld c.letters number × (c.sent ≤ work) }
     ensures sends { Sends (stage_at found.old.graph.nodes stage.old) (stage_at found.old.graph.nodes stage.new) work number
         found.old.outs result }
     ensures findings { (found.new.graph ≡ found.old.graph) × (found.new.monitors ≡ found.old.monitors) }

@@ -28,7 +28,7 @@ fn look_at<P: Drop>(d: &Diffusion<P>) -> Counts {
 }
 
 fn is_held<P: Drop>(d: &Diffusion<P>, number: u64) -> bool
-    ensures { IsTrue result ↔ IsHeld d.now number }
+    ensures { IsTrue result ↔ IsHeld d.now.letters number }
 {
     match d.letter(number) {
         Some(letter) => letter.held,

@@ -4,7 +4,8 @@ use Rattle.std.proofs.lemmas.Result.{err_from_is_err_and}
 use Rattle.cred_graph.specs.Graph.{GraphState, ListenerGiven, members_of}
 use Rattle.cred_graph.specs.Numbers.{IsEntity, IsPort, entity_at, port_at}
 use Rattle.search.specs.declared.letters.Load.TheVariants as load
-use Rattle.search.specs.Answers.{Progress, known_tells}
+use Rattle.search.specs.Answers.{Progress}
+use Rattle.search.proofs.Tells.{known_tells}
 use Rattle.search.specs.Numbered.{AreNumbered}
 use Rattle.search.proofs.Loops.{told_all, tells_on}
 use Rattle.search.proofs.Numbered.{numbered_listened, others_left, hears_old, listens_new}

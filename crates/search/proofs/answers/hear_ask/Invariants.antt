@@ -1,7 +1,7 @@
 use Rattle.std.proofs.Common.{◌≡◌, ◌++◌, take, true}
 use Rattle.cred_graph.specs.Graph.{ListenerGiven}
 use Rattle.cred_graph.specs.Numbers.{port_at}
-use Rattle.search.specs.Answers.{known_tells}
+use Rattle.search.proofs.Tells.{known_tells}
 use Rattle.search.proofs.answers.hear_ask.Given as goal
 
 abbrev pub invariant-loop-place : goal.invariant-loop-place

@@ -7,7 +7,8 @@ use Rattle.cred_graph.specs.Graph.{Fits, GraphState, SolutionGiven, listeners_of
 use Rattle.cred_graph.specs.Numbers.{IsEntity, IsPort, entity_at, port_at, reason_at}
 use Rattle.cred_graph.proofs.Lists.{Contains-at_place}
 use Rattle.search.specs.declared.letters.Load.TheVariants as load
-use Rattle.search.specs.Answers.{Progress, new_tells}
+use Rattle.search.specs.Answers.{Progress}
+use Rattle.search.proofs.Tells.{new_tells}
 use Rattle.search.specs.Numbered.{AreNumbered}
 use Rattle.search.proofs.Loops.{told_all, tells_on}
 use Rattle.search.proofs.Numbered.{numbered_solved, others_left, solves_old, solves_new}

@@ -1,7 +1,7 @@
 use Rattle.std.proofs.Common.{◌≡◌, ◌++◌, take, true}
 use Rattle.cred_graph.specs.Graph.{SolutionGiven}
 use Rattle.cred_graph.specs.Numbers.{entity_at, reason_at}
-use Rattle.search.specs.Answers.{new_tells}
+use Rattle.search.proofs.Tells.{new_tells}
 use Rattle.search.proofs.answers.solve.Given as goal
 
 abbrev pub invariant-loop-place : goal.invariant-loop-place

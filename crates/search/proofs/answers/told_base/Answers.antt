@@ -1,5 +1,5 @@
 -- The monitor that hears is the one at the node; where the member is new its role is asked.
-use Rattle.std.proofs.Common.{◌≡◌, ◌∙◌, ap, arith, inl, inr, refl, sym, subst, ℕ, List, Some, set, slice_get}
+use Rattle.std.proofs.Common.{◌≡◌, ◌∙◌, ap, arith, inl, inr, refl, sym, subst, ℕ, List, Some, set, slice_get, map}
 use Rattle.std.proofs.lemmas.Option.{same_Some, slice_get_within}
 use Rattle.std.proofs.lemmas.Result.{err_from_is_err_and, on_ok_weaker}
 use Rattle.names.specs.declared.roles.Role.{Role}
@@ -10,8 +10,9 @@ use Rattle.cred_graph.specs.Graph.{GraphState, IsNode}
 use Rattle.cred_graph.specs.Numbers.{IsEntity, entity_at}
 use Rattle.search.specs.declared.findings.Monitor.TheVariants as monitor
 use Rattle.search.specs.declared.findings.NumberedMonitor.TheVariants as numbered_monitor
-use Rattle.search.specs.Answers.{Progress, AsksFor, BaseHeard}
-use Rattle.search.specs.Numbered.{AreNumbered, monitors_at, progress_at}
+use Rattle.search.specs.Answers.{Progress, AsksFor}
+use Rattle.search.proofs.Tells.{BaseHeard}
+use Rattle.search.specs.Numbered.{AreNumbered, progress_at, monitor_at}
 use Rattle.search.proofs.Heard.{base_heard, link_after, link_at_node, monitor_there, read_there, still_monitors}
 use Rattle.search.proofs.answers.told_base.Goals.{After-found, After-hear, In_ok-hear}
 use Rattle.search.proofs.answers.told_base.Goals as goal
@@ -78,10 +79,10 @@ ask-requires c = is_entity (goal.at.ask-requires c).After-found
 
 -- the base told a member
 heard : (c : In_ok-hear) → IsEntity c.found.inside.graph.nodes c.args.base → slice_get c.found.inside.monitors.items c.args.node ≡ Some (numbered_monitor.Link c.in-Link.told) →
-    BaseHeard c.args.found.now.monitors (monitors_at c.found.inside.graph.nodes (set c.found.inside.monitors.items c.args.node (numbered_monitor.Link c.hear.new.self))) c.args.node (entity_at c.args.found.now.graph.nodes c.args.base) c.in_ok-hear.field-0
+    BaseHeard c.args.found.now.monitors (map (monitor_at c.found.inside.graph.nodes) (set c.found.inside.monitors.items c.args.node (numbered_monitor.Link c.hear.new.self))) c.args.node (entity_at c.args.found.now.graph.nodes c.args.base) c.in_ok-hear.field-0
 heard c is at =
     let old = c.found.inside in
-    let told = monitors_at old.graph.nodes (set old.monitors.items c.args.node (numbered_monitor.Link c.hear.new.self)) in
+    let told = map (monitor_at old.graph.nodes) (set old.monitors.items c.args.node (numbered_monitor.Link c.hear.new.self)) in
     subst (λ (s : Progress). BaseHeard s.monitors told c.args.node (entity_at s.graph.nodes c.args.base) c.in_ok-hear.field-0) c.found.view_is
     (base_heard old.graph.nodes c.found.invariant.once old.monitors.items c.args.node c.in-Link.told c.hear.new.self c.args.base c.in_ok-hear.field-0 c.found.invariant.monitors at is c.in_ok-hear.ensures.ok)
 
@@ -92,14 +93,14 @@ returns-then-not-branch c =
     let (r, name, node) = c.requires.link in
     let told = set old.monitors.items c.args.node (numbered_monitor.Link c.hear.new.self) in
     let (x, there) = there at.After-found in
-    (r, name, node, (c.in_ok-hear.field-0, monitors_at old.graph.nodes told, heard at.In_ok-hear (is_entity at.After-found) (told_at at.After-hear x there), inl (c.if-not-branch.true, ap (λ (s : Progress). record s { monitors = monitors_at old.graph.nodes told }) c.found.view_is)))
+    (r, name, node, (c.in_ok-hear.field-0, map (monitor_at old.graph.nodes) told, heard at.In_ok-hear (is_entity at.After-found) (told_at at.After-hear x there), inl (c.if-not-branch.true, ap (λ (s : Progress). record s { monitors = map (monitor_at old.graph.nodes) told }) c.found.view_is)))
 
 pub returns : goal.returns
 returns c =
     let at = goal.at.returns c in
     let old = c.found.inside in
     let (r, name, node) = c.requires.link in
-    let told = monitors_at old.graph.nodes (set old.monitors.items c.args.node (numbered_monitor.Link c.hear.new.self)) in
+    let told = map (monitor_at old.graph.nodes) (set old.monitors.items c.args.node (numbered_monitor.Link c.hear.new.self)) in
     let (x, there) = there at.After-found in
     let here : c.graph.result.now ≡ c.args.found.now.graph = c.graph.ensures.graph ∙ ap (λ (s : Progress). s.graph) c.found.view_is in
     let linked = subst (λ (g : GraphState). IsNode g c.args.node (Link r name)) (sym here) node in

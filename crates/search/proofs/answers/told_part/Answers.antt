@@ -1,5 +1,5 @@
 -- With the last part the entity is a solution, since each part has it.
-use Rattle.std.proofs.Common.{◌≡◌, ◌<◌, ◌∙◌, ℕ, Some, ap, arith, inl, inr, refl, set, slice_get, length, subst, sym}
+use Rattle.std.proofs.Common.{◌≡◌, ◌<◌, ◌∙◌, ℕ, Some, ap, arith, inl, inr, refl, set, slice_get, length, subst, sym, map}
 use Rattle.std.proofs.lemmas.Option.{same_Some, slice_get_within}
 use Rattle.std.proofs.lemmas.Result.{on_ok_weaker}
 use Rattle.cred_graph.specs.declared.solutions.Reason.TheVariants as reason
@@ -9,8 +9,9 @@ use Rattle.monitors.specs.MeetMonitor.{AllTold, MeetLines, MeetTold}
 use Rattle.search.specs.declared.findings.Monitor.TheVariants as monitor
 use Rattle.search.specs.declared.findings.NumberedMonitor.{NumberedMonitor}
 use Rattle.search.specs.declared.findings.NumberedMonitor.TheVariants as numbered_monitor
-use Rattle.search.specs.Answers.{PartHeard, Progress, Solves}
-use Rattle.search.specs.Numbered.{AreNumbered, monitors_at}
+use Rattle.search.specs.Answers.{Progress, Solves}
+use Rattle.search.proofs.Tells.{PartHeard}
+use Rattle.search.specs.Numbered.{AreNumbered, monitor_at}
 use Rattle.search.proofs.Heard.{meet_after, meet_at_node, monitor_there, part_heard, read_there, still_monitors}
 use Rattle.search.proofs.answers.told_part.Goals.{After-found, After-part_told, In_ok-part_told}
 use Rattle.search.proofs.answers.told_part.Goals as goal
@@ -47,10 +48,10 @@ still c is (x, at, below) =
 
 -- the part told the entity
 heard : (c : In_ok-part_told) → IsEntity c.found.inside.graph.nodes c.args.who → slice_get c.found.inside.monitors.items c.args.node ≡ Some (numbered_monitor.Meet c.in-Meet.told) →
-    PartHeard c.args.found.now.monitors (monitors_at c.found.inside.graph.nodes (set c.found.inside.monitors.items c.args.node (numbered_monitor.Meet c.part_told.new.self))) c.args.node c.args.part (entity_at c.args.found.now.graph.nodes c.args.who) c.in_ok-part_told.field-0
+    PartHeard c.args.found.now.monitors (map (monitor_at c.found.inside.graph.nodes) (set c.found.inside.monitors.items c.args.node (numbered_monitor.Meet c.part_told.new.self))) c.args.node c.args.part (entity_at c.args.found.now.graph.nodes c.args.who) c.in_ok-part_told.field-0
 heard c is at =
     let old = c.found.inside in
-    let told = monitors_at old.graph.nodes (set old.monitors.items c.args.node (numbered_monitor.Meet c.part_told.new.self)) in
+    let told = map (monitor_at old.graph.nodes) (set old.monitors.items c.args.node (numbered_monitor.Meet c.part_told.new.self)) in
     subst (λ (s : Progress). PartHeard s.monitors told c.args.node c.args.part (entity_at s.graph.nodes c.args.who) c.in_ok-part_told.field-0) c.found.view_is
     (part_heard old.graph.nodes c.found.invariant.once old.monitors.items c.args.node c.args.part c.in-Meet.told c.part_told.new.self c.args.who c.in_ok-part_told.field-0 c.found.invariant.monitors at is c.in_ok-part_told.ensures.ok)
 
@@ -110,7 +111,7 @@ returns-then-not-branch c =
     let (x, here, below) = there at.After-found in
     let s = c.args.found.now in
     let old = c.found.inside in
-    let told = monitors_at old.graph.nodes (set old.monitors.items c.args.node (numbered_monitor.Meet c.part_told.new.self)) in
+    let told = map (monitor_at old.graph.nodes) (set old.monitors.items c.args.node (numbered_monitor.Meet c.part_told.new.self)) in
     (c.in_ok-part_told.field-0, told, heard at.In_ok-part_told (is_entity at.After-found) (told_at at.After-part_told x here), inl (c.if-not-branch.true, ap (λ (t : Progress). record t { monitors = told }) c.found.view_is))
 
 pub returns : goal.returns
@@ -119,7 +120,7 @@ returns c =
     let (x, here, below) = there at.After-found in
     let s = c.args.found.now in
     let old = c.found.inside in
-    let told = monitors_at old.graph.nodes (set old.monitors.items c.args.node (numbered_monitor.Meet c.part_told.new.self)) in
+    let told = map (monitor_at old.graph.nodes) (set old.monitors.items c.args.node (numbered_monitor.Meet c.part_told.new.self)) in
     (on_ok_weaker c.solve.result
     (λ solves. (c.in_ok-part_told.field-0, told, heard at.In_ok-part_told (is_entity at.After-found) (told_at at.After-part_told x here), inr (c.if-not-branch.false, subst (λ (t : Progress). Solves (record t { monitors = told }) c.solve.new.found c.args.node (entity_at t.graph.nodes c.args.who) reason.Parts) c.found.view_is solves)))
     c.solve.ensures)

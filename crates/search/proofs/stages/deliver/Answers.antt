@@ -9,7 +9,6 @@ use Rattle.search.specs.declared.stages.NumberedStage.TheVariants as numbered_st
 use Rattle.search.specs.declared.stages.Stage.{Stage}
 use Rattle.search.specs.Stage.{signals_in, Delivers}
 use Rattle.search.specs.Numbered.{IsStage, load_at, stage_at}
-use Rattle.search.specs.Answers.{Progress}
 use Rattle.search.proofs.Numbered.{AreLetters, loads_shown, shown, shows}
 use Rattle.search.proofs.stages.deliver.Goals as goal
 use Rattle.search.proofs.stages.deliver.Goals.{After-signal}

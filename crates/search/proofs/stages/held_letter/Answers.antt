@@ -2,8 +2,7 @@
 use Rattle.std.proofs.Common.{◌∙◌, List, Some, None, cond, ap, sym}
 use Rattle.std.specs.Option.{option_map}
 use Rattle.credential_text.specs.declared.exprs.Expr.{Expr}
-use Rattle.scholten_core.specs.Computation.{letter_with}
-use Rattle.scholten_core.proofs.Named.{by_number-named, letter_of-named, letter_says, sound-named}
+use Rattle.scholten_core.proofs.Named.{by_number-named, letter_of-named, letter_says, letter_with, sound-named}
 use Rattle.search.specs.declared.stages.Stage.{Stage}
 use Rattle.search.specs.Stage.{held_in, if_held}
 use Rattle.search.specs.Numbered.{IsLoad, load_at, stage_at}

@@ -2,8 +2,8 @@
 use Rattle.std.proofs.Common.{◌≡◌, ◌∙◌, List, None, Some, ap, refl, slice_get, sym, subst, true, ℕ}
 use Rattle.std.specs.Option.{option_map}
 use Rattle.credential_text.specs.declared.exprs.Expr.{Expr}
-use Rattle.scholten_core.specs.Computation.{Computation, letter_of, letter_with, named_with}
-use Rattle.scholten_core.proofs.Named.{by_number-named, letter_of-named, letter_says, marked_say, takes-named}
+use Rattle.scholten_core.specs.Computation.{Computation, letter_of, named_with}
+use Rattle.scholten_core.proofs.Named.{by_number-named, letter_of-named, letter_says, letter_with, marked_say, takes-named}
 use Rattle.search.specs.declared.letters.Load.{Load}
 use Rattle.search.specs.declared.stages.NumberedStage.{NumberedStage}
 use Rattle.search.specs.declared.stages.NumberedStage.TheVariants as numbered_stage

@@ -52,7 +52,7 @@ returns-then-is_complete c =
     let d = c.in-Running.running in
     let is = c.in-Running.is in
     let none = c.is_complete.ensures.complete.0 c.if-is_complete.true in
-    let no_letter = ap (λ (ls : List (ℕ × Letter (Load ℕ))). length (waiting (record d { letters = ls }))) (nil_from_length d.letters (omega (arith, none))) in record {
+    let no_letter = ap (λ (ls : List (ℕ × Letter (Load ℕ))). length (waiting ls)) (nil_from_length d.letters (omega (arith, none))) in record {
       quiet = subst (λ (s : SearchState). IsTrue c.is_complete.result ↔ IsQuiet s.stage) c.self.view_is
           (λ yes. (none_waits nodes st d is no_letter, no_signal nodes st d is (omega (arith, none))), λ quiet. c.if-is_complete.true);
       settled = settled (goal.at.returns-then-is_complete c).After-is_complete;
