@@ -1,6 +1,6 @@
 -- What the tables of a graph keep
 use Rattle.std.specs.Prelude.{ℕ, zero, suc, List, [], ◌∷◌, ◌++◌, ◌≡◌, ◌↔◌, ◌⊎◌, Bool, true, false, Some, Contains, drop, length, map}
-use Rattle.std.specs.Prelude.{slice_get, ◌==◌, filter, ◌≤◌, ◌+◌, ◌*◌, ◌/◌, ◌%◌, ◌^◌, if◌then◌else◌, nat_eq, bit_or, bit_and}
+use Rattle.std.specs.Prelude.{slice_get, ◌==◌, filter, ◌≤◌, ◌^◌}
 use Rattle.credential_text.specs.declared.exprs.Expr.{Expr}
 use Rattle.credential_text.specs.declared.exprs.Expr.TheVariants.{Ent}
 use Rattle.cred_graph.specs.declared.listeners.Port.{Port}

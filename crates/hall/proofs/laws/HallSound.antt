@@ -7,8 +7,7 @@ use Rattle.quotas.specs.Quota.{Quota}
 use Rattle.vaults.specs.declared.changes.Entry.{Entry}
 use Rattle.vaults.specs.Journal.{view, credentials}
 use Rattle.snapshots.specs.Snapshot.{SnapshotState}
-use Rattle.scholten_core.specs.Step.{started}
-use Rattle.scholten_core.proofs.Complete.{settled_started, sound as first_sound}
+use Rattle.scholten_core.proofs.Complete.{sound_started}
 use Rattle.search.specs.declared.letters.Load.TheVariants.{Start}
 use Rattle.search.specs.declared.queries.Query.{Query}
 use Rattle.search.specs.Ending.{Nothing, MaySettle}
@@ -63,7 +62,7 @@ beginning_sound journal name query limits = record {
   view = ap (λ (j : List Entry). view j name) (sym (take_all (length journal) journal (le_refl (length journal))));
   work = refl;
   settled = inl (nothing_yet query limits.work (record { asker = name; vaults = view journal name }));
-  computation = first_sound (started 0 Start) (settled_started 0 Start);
+  computation = sound_started 0 Start;
 }
 
 opening_sound : (h : HallState) (name : List ℕ) (query : Query) (n : ℕ) (t : Tenant) → IsSound h → get h.tenants name ≡ Some t →
