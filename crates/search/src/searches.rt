@@ -22,7 +22,7 @@ use crate::members::solutions_in_order;
 use crate::outcomes::{Finished, Status};
 use crate::queries::{Hint, Need, Query, Task};
 use crate::stages::{NumberedStage, Stage, break_off, deliver, give_back, held_letter, hold, send};
-use crate::tables::{Tables, begin};
+use crate::tables::Tables;
 use cred_graph::{Graph, Port};
 use names::{Entity, Role};
 use scholten_core::Diffusion;
@@ -118,9 +118,9 @@ impl Search {
         requires { 0 < work }
         ensures { IfOk result (λ s. s ≡ new_search query work (arc_value snapshot)) }
     {
-        let Tables { mut found, letters } = tables;
+        let Tables { mut found, stage } = tables;
         found.first(query.role())?;
-        let running = begin(alloc, letters)?;
+        let running = stage.begin(alloc)?;
         let _ports: Option<Port> = None;
         Ok(Search {
             query,
@@ -145,13 +145,15 @@ impl Search {
             work: _work,
             snapshot: _snapshot,
             mut found,
-            stage,
+            mut stage,
             keeps_room: _,
             alloc: _alloc,
         } = self;
-        let letters = stage.into_completed();
+        if !found.is_small() || !stage.is_completed() {
+            stage = NumberedStage::Spent;
+        }
         found.forget();
-        Tables { found, letters }
+        Tables { found, stage }
     }
 
     /// Gives back the memory that nothing takes, where the search is completed, and else as soon as it is. Before that is asked, a

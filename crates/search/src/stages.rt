@@ -1,8 +1,10 @@
 //! Where a search stands, and the steps of its computation.
-ghost use Rattle.std.specs.Prelude.{◌≡◌, ◌≤◌, List, None, slice_get, IfSome, MatchOption};
+ghost use Rattle.std.specs.Prelude.{◌≡◌, ◌≤◌, List, None, slice_get, IfOk, IfSome, MatchOption};
 ghost use Rattle.scholten_core.specs.declared.letters.Letter.{Letter};
 ghost use Rattle.scholten_core.specs.Computation.{Computation, IsHeld};
+ghost use Rattle.scholten_core.specs.Step.{started};
 ghost use Rattle.search.specs.Net.{Said};
+ghost use Rattle.search.specs.declared.letters.Load.TheVariants as Load;
 ghost use Rattle.search.specs.Stage.{waiting_in, held_in, HoldsLetter, Holds, Sends, Delivers};
 ghost use Rattle.credential_text.specs.declared.exprs.Expr.{Expr};
 ghost use Rattle.search.specs.Numbered.{IsLoad, IsStage, held_at, stage_at};
@@ -11,7 +13,7 @@ use crate::findings::Findings;
 use crate::letters::{Held, Load};
 use crate::outcomes::Finished;
 use scholten_core::Diffusion;
-use std::alloc::AllocError;
+use std::alloc::{AllocError, Global};
 
 /// Where a search stands, as contracts see it.
 pub enum Stage {
@@ -42,12 +44,23 @@ impl Drop for NumberedStage {
 }
 
 impl NumberedStage {
-    // The computation of a search that is completed.
-    pub(crate) fn into_completed(self) -> Option<Diffusion<Load<u32>>> {
+    // Whether it is that of a search that is completed.
+    pub(crate) fn is_completed(&self) -> bool {
         match self {
-            NumberedStage::Running(running) if running.is_complete() => Some(running),
-            _ => None,
+            NumberedStage::Running(running) => running.is_complete(),
+            NumberedStage::Spent | NumberedStage::Broken => false,
         }
+    }
+
+    // The computation of a search that begins, in the tables of letters that the one which stood here has left, if there are any.
+    pub(crate) fn begin(self, alloc: Global) -> Result<Diffusion<Load<u32>>, AllocError>
+        ensures started { IfOk result (λ d. d ≡ started 0 Load.Start) }
+    {
+        let NumberedStage::Running(mut running) = self else {
+            return Diffusion::start(alloc, 0, Load::Start);
+        };
+        running.restart(0, Load::Start)?;
+        Ok(running)
     }
 }
 
