@@ -113,4 +113,5 @@ RunsAreAllowed =
 -- where tenants do all themselves, from a new hall on, what they are told is exact
 abbrev pub ScriptsAreExact : Type 0
 ScriptsAreExact =
-    (roster : List (List ℕ × Quota)) (new : HallState) (told : List Told) → AreDone (new_hall roster) told new → AreRuns at_waits roster told
+    (roster : List (List ℕ × Quota)) (new : HallState) (told : List Told)
+    → AreDone (new_hall roster) told new → AreRuns at_waits roster told

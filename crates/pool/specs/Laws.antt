@@ -66,7 +66,8 @@ IsExactReply before who q answer = Unit {0}
 
 -- what tenants are told is exactly that
 abbrev pub RepliesAreExact : Type 0
-RepliesAreExact = (before : List Told) (who : List ℕ) (q : Request) (answer : Reply) → WasTold before who q answer → IsExactReply before who q answer
+RepliesAreExact =
+    (before : List Told) (who : List ℕ) (q : Request) (answer : Reply) → WasTold before who q answer → IsExactReply before who q answer
 
 -- of what was told by these items, what was told under the name
 abbrev pub lines_of : ℕ → List Item → List Told → List Told
@@ -78,4 +79,5 @@ abbrev pub SessionsAreRuns : Type 0
 SessionsAreRuns =
     (roster : List (List ℕ × Quota)) (items : List Item) (lines : ℕ → List Told) → IsLegal roster items
     → ((name : ℕ) → AreTold (own_of name items) (lines name))
-    → (told : List Told) × AreTold items told × AreRuns any_time roster told × ((name : ℕ) → lines_of name (turns_of items) told ≡ lines name)
+    → (told : List Told) × AreTold items told × AreRuns any_time roster told
+    × ((name : ℕ) → lines_of name (turns_of items) told ≡ lines name)

@@ -133,9 +133,10 @@ impl Search {
         })
     }
 
-    /// Whether it has taken no more room than a small search needs, so that to empty its tables takes little time.
+    /// Whether it is completed, by few letters and with no more room than a small search needs, so that to empty its tables takes
+    /// little time.
     pub fn is_small(&self) -> bool {
-        self.found.is_small()
+        self.found.is_small() && self.stage.is_small()
     }
 
     /// Ends the search. Its tables are emptied for another one.
@@ -149,7 +150,7 @@ impl Search {
             keeps_room: _,
             alloc: _alloc,
         } = self;
-        if !found.is_small() || !stage.is_completed() {
+        if !found.is_small() || !stage.is_small() {
             stage = NumberedStage::Spent;
         }
         found.forget();

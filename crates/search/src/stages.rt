@@ -43,11 +43,16 @@ impl Drop for NumberedStage {
     }
 }
 
+/// By so many letters little is found: what came of them is forgotten in a tenth of a millisecond.
+const FEW_LETTERS: u64 = 32_768;
+
 impl NumberedStage {
-    // Whether it is that of a search that is completed.
-    pub(crate) fn is_completed(&self) -> bool {
+    // Whether it is that of a search that is completed, by few letters.
+    pub(crate) fn is_small(&self) -> bool {
         match self {
-            NumberedStage::Running(running) => running.is_complete(),
+            NumberedStage::Running(running) => {
+                running.is_complete() && running.sent() <= FEW_LETTERS
+            }
             NumberedStage::Spent | NumberedStage::Broken => false,
         }
     }
@@ -155,7 +160,7 @@ fn rest(running: &mut Diffusion<Load<u32>>, found: &mut Findings, keeps_room: bo
     ensures same { running.new ≡ running.old }
     ensures findings { (found.new.graph ≡ found.old.graph) × (found.new.monitors ≡ found.old.monitors) }
 {
-    if keeps_room && found.is_small() {
+    if keeps_room && found.is_small() && running.sent() <= FEW_LETTERS {
         return;
     }
     running.give_back();
