@@ -8,9 +8,10 @@ what stands in other bodies. So the edits of a crate are applied to one copy of 
 once, and one process proves the functions that they turn, and those that they call. Each of these has to be refused by a goal
 of its own: that something which it calls isn't proved is no refusal, nor is a name that a proof lacks. What isn't refused so is
 tried again alone, and so is at once what changes a line outside functions. A crate's first such round keeps what it proves, and
-each later one begins with that, so it proves again what was turned and no more. An edit that turns no function's body, but a
-definition or a type, has a line `# at FUNCTION`, and has to be refused there. Its other `#` line is for docs/EDITS.md
-(checks/index.py). `rt ci` and `rt must-fail NAME` try each edit in a process of its own, which loads the crates below each time.
+each later one begins with that, so it proves again what was turned and no more. Rounds take the processors that are free: one of
+several edits more than one, where no other waits. An edit that turns no function's body, but a definition or a type, has a line
+`# at FUNCTION`, and has to be refused there. Its other `#` line is for docs/EDITS.md (checks/index.py). `rt ci` and
+`rt must-fail NAME` try each edit in a process of its own, which loads the crates below each time.
 
 The crates below are taken from FOLDER/crates/NAME/out/rlib, as `rt ci` leaves them while it goes on there and writes what it says
 to FOLDER/said, which ends with a line `ended`; a crate's edits begin once those below it are proved. Without the option these are
@@ -151,10 +152,11 @@ def copy_with(edits, folder, room):
         (room / path).write_text("\n".join(lines))
 
 
-def try_at_once(crate, edits, toolchain, kept):
+def try_at_once(crate, edits, toolchain, kept, jobs):
     """Tries edits of a crate in one copy of it, over what that folder keeps, and returns for each whether it is refused, and a text."""
     functions = sorted(it for edit in edits for it in edit.functions)
-    words = [*toolchain.prover("check", crate), "--incremental", str(kept), *(word for it in functions for word in ("--only", it))]
+    words = [*toolchain.prover("check", crate), "--incremental", str(kept), "--jobs", str(jobs)]
+    words += [word for it in functions for word in ("--only", it)]
     with tempfile.TemporaryDirectory(prefix="edits-") as room:
         copy_with(edits, crate.folder, pathlib.Path(room))
         how = {"cwd": room, "stdin": subprocess.DEVNULL, "stdout": subprocess.PIPE, "stderr": subprocess.STDOUT, "errors": "replace"}
@@ -213,24 +215,31 @@ class Round:
         """Whether it can be tried where these crates are proved."""
         return (self.first is None or self.first.has_ended) and {it.name for it in self.crate.below} <= proved
 
-    def try_over_a_copy(self, edits, toolchain):
-        """Tries these over a copy of what is kept, which stays as it is."""
+    def jobs_among(self, ready, lanes):
+        """With how many jobs it begins, where so many rounds are ready, and so many lanes are free: one edit takes one."""
+        return max(1, lanes // ready) if len(self.edits) > 1 else 1
+
+    def tell(self, toolchain, jobs):
+        """Tries the round. Returns for each edit whether it is refused, and a text; and rounds of one for those that are tried
+        again, alone."""
+        told = list(zip(self.edits, self.tried(toolchain, jobs)))
+        again = [edit for edit, (is_refused, _) in told if not is_refused and len(self.edits) > 1]
+        ended = [self.named(edit, *verdict) for edit, verdict in told if edit not in again]
+        return ended, [Round(self.crate, [edit], self.kept, self.first or self) for edit in again]
+
+    def tried(self, toolchain, jobs):
+        """What comes of its edits: the first round keeps what it proves, and a later one begins with a copy, so that this stays."""
+        if self.first is None:
+            return try_at_once(self.crate, self.edits, toolchain, self.kept, jobs)
         with tempfile.TemporaryDirectory(prefix="kept-") as room:
             kept = shutil.copytree(self.kept, pathlib.Path(room, "kept"), copy_function=link_or_copy)
-            return try_at_once(self.crate, edits, toolchain, kept)
-
-    def tell(self, toolchain):
-        """Tries the round, and alone what wasn't refused in it; returns for each edit whether it is refused, and a text."""
-        told = self.try_over_a_copy(self.edits, toolchain) if self.first else try_at_once(self.crate, self.edits, toolchain, self.kept)
-        if len(self.edits) > 1:
-            told = [it if it[0] else self.try_over_a_copy([edit], toolchain)[0] for edit, it in zip(self.edits, told)]
-        return self.named(told)
+            return try_at_once(self.crate, self.edits, toolchain, kept, jobs)
 
     def untried(self):
-        return self.named((False, "not tried: a crate below isn't proved") for _ in self.edits)
+        return [self.named(edit, False, "not tried: a crate below isn't proved") for edit in self.edits]
 
-    def named(self, told):
-        return [(well, f"{self.crate.name}/{edit.name}: {text}") for edit, (well, text) in zip(self.edits, told)]
+    def named(self, edit, is_refused, text):
+        return is_refused, f"{self.crate.name}/{edit.name}: {text}"
 
 
 def proved_so_far(crates, said):
@@ -245,21 +254,27 @@ def proved_so_far(crates, said):
 def try_all(rounds, toolchain, lanes, look):
     """Tries each round as soon as it may begin, those first that others wait for, and of these the lowest crate's; yields what comes
     of each edit. `look` tells which crates are proved, and whether no more will be: before that one lane is left free."""
-    waiting, running = sorted(rounds, key=lambda it: it.first is not None), {}
+    waiting, running = list(rounds), {}
     with concurrent.futures.ThreadPoolExecutor(lanes) as pool:
         while waiting or running:
             proved, has_ended = look()
-            for it in list(waiting):
-                if it.may_begin(proved) and len(running) < (lanes if has_ended else max(1, lanes - 1)):
-                    waiting.remove(it)
-                    running[pool.submit(it.tell, toolchain)] = it
-                elif has_ended and not {below.name for below in it.crate.below} <= proved:
-                    waiting.remove(it)
-                    yield from it.untried()
+            ready = sorted((it for it in waiting if it.may_begin(proved)), key=lambda it: it.first is not None)
+            for at, it in enumerate(ready):
+                free = (lanes if has_ended else max(1, lanes - 1)) - sum(jobs for _, jobs in running.values())
+                if free < 1:
+                    break
+                waiting.remove(it)
+                jobs = it.jobs_among(len(ready) - at, free)
+                running[pool.submit(it.tell, toolchain, jobs)] = it, jobs
+            for it in [it for it in waiting if has_ended and not {below.name for below in it.crate.below} <= proved]:
+                waiting.remove(it)
+                yield from it.untried()
             time.sleep(0.5)
             for one in [it for it in running if it.done()]:
-                running.pop(one).has_ended = True
-                yield from one.result()
+                running.pop(one)[0].has_ended = True
+                ended, again = one.result()
+                waiting += again
+                yield from ended
 
 
 def edits_of(crate):
