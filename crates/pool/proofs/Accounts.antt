@@ -1,7 +1,7 @@
 -- What a tenant's account is after its turns: its entries are those that were entered for it, and its openings are counted.
-use Rattle.std.proofs.Common.{◌≡◌, ◌∙◌, ◌+◌, ◌&&◌, ℕ, Bool, true, false, cond, List, [], ◌∷◌, ◌++◌, Option, Some, None, option_map, ap, sym, refl, subst, arith}
+use Rattle.std.proofs.Common.{◌≡◌, ◌∙◌, ◌+◌, ◌&&◌, ℕ, Bool, true, false, cond, List, [], ◌∷◌, ◌++◌, length, Option, Some, None, option_map, ap, sym, refl, subst, arith}
 use Rattle.std.proofs.lemmas.List.{append-nil}
-use Rattle.std.specs.FinMap.{get}
+use Rattle.std.specs.{FinMap.get, List.filter, List.fold}
 use Rattle.names.specs.Name.{is_same}
 use Rattle.names.proofs.SameNames.{same_from_is_same}
 use Rattle.quotas.specs.Quota.{Quota}
@@ -17,8 +17,23 @@ use Rattle.hall.specs.declared.calls.replies.Reply.TheVariants as reply
 use Rattle.hall.specs.Answers.{Asked, Account, Sight, new_account, start_of, Grants, Answers, refuses, grants, lacks}
 use Rattle.hall.specs.Run.{Deed, asks, waits, Told, entered, Turn, told_to, any_time, Ends, IsTaken, IsRun}
 use Rattle.hall.proofs.laws.HallTurns.{turn_at}
-use Rattle.pool.specs.Histories.{journal_after}
-use Rattle.pool.specs.Laws.{is_opening, openings_of}
+use Rattle.pool.specs.Laws.{is_opening}
+
+-- how many searches the tenant had opened
+abbrev pub openings_of : List ℕ → List Told → ℕ
+openings_of who [] = 0
+openings_of who (t ∷ more) = one_if (is_same t.tenant who && is_opening t.deed t.reply) + openings_of who more
+
+counted_first : (b : Bool) (t : Told) (opened : List Told) (n : ℕ) → n ≡ length opened → one_if b + n ≡ length (cond b (t ∷ opened) opened)
+counted_first true t opened n is = omega (arith, is)
+counted_first false t opened n is = omega (arith, is)
+
+-- is how many openings there are
+pub openings_counted : (who : List ℕ) (told : List Told) → openings_of who told ≡ length (filter (λ t. is_same t.tenant who && is_opening t.deed t.reply) told)
+openings_counted who [] = refl
+openings_counted who (t ∷ more) =
+    counted_first (is_same t.tenant who && is_opening t.deed t.reply) t (filter (λ u. is_same u.tenant who && is_opening u.deed u.reply) more) (openings_of who more)
+    (openings_counted who more)
 
 -- the account has just these entries of the tenant's, and so many openings
 pub record Holds (who : List ℕ) (journal : List Entry) (count : ℕ) (a : Account) : Type 0 where
@@ -102,20 +117,20 @@ apart who journal t not = by t.deed t.reply
 abbrev pub Behind : List ℕ → List Entry → List Told → List Turn → Account → Type 0
 Behind who journal before more c =
     (n : ℕ) (a : Account) → Holds who journal n a → IsRun any_time who a (told_to who journal before ++ more) c
-    → (b : Account) × Holds who (journal_after journal before) (n + openings_of who before) b × IsRun any_time who b more c
+    → (b : Account) × Holds who (fold entered journal before) (n + openings_of who before) b × IsRun any_time who b more c
 
 module _ (who : List ℕ) (journal : List Entry) (t : Told) (before : List Told) (more : List Turn) (c : Account)
     (behind : Behind who (entered journal t) before more c) (n : ℕ) (a : Account) (holds : Holds who journal n a) where
   goes_on : (m : ℕ) (b : Account) → m ≡ n + one_if (is_same t.tenant who && is_opening t.deed t.reply) → Holds who (entered journal t) m b →
       IsRun any_time who b (told_to who (entered journal t) before ++ more) c →
-      (d : Account) × Holds who (journal_after journal (t ∷ before)) (n + openings_of who (t ∷ before)) d × IsRun any_time who d more c
+      (d : Account) × Holds who (fold entered journal (t ∷ before)) (n + openings_of who (t ∷ before)) d × IsRun any_time who d more c
   goes_on m b is has run =
       let (d, then, left) = behind m b has run in
       (d, record { entries = then.entries; opens = (let same = then.opens in omega (arith, same, is)) }, left)
 
   first_turn : (own : Bool) → is_same t.tenant who ≡ own →
       IsRun any_time who a ((cond own (turn_at who journal t ∷ []) [] ++ told_to who (entered journal t) before) ++ more) c →
-      (d : Account) × Holds who (journal_after journal (t ∷ before)) (n + openings_of who (t ∷ before)) d × IsRun any_time who d more c
+      (d : Account) × Holds who (fold entered journal (t ∷ before)) (n + openings_of who (t ∷ before)) d × IsRun any_time who d more c
   first_turn true own (middle, after, between, took, run) =
       let same : t.tenant ≡ who = same_from_is_same t.tenant who own in
       let there : Holds who journal n middle = record {

@@ -6,9 +6,13 @@ use Rattle.pool.specs.declared.turns.Item.{Item}
 use Rattle.pool.specs.declared.turns.Noted.{Noted}
 use Rattle.pool.specs.declared.turns.Noted.TheVariants as noted
 use Rattle.pool.specs.declared.seats.Knows.{Knows}
-use Rattle.pool.specs.Fronts.{name_of, own_of}
-use Rattle.pool.specs.Histories.{item_of}
-use Rattle.pool.specs.Rules.{keeper, adds_under, unnamed, Compares}
+use Rattle.pool.specs.Histories.{name_of, own_of, item_of}
+use Rattle.pool.specs.Rules.{keeper, adds_under}
+use Rattle.pool.proofs.Seating.{unnamed}
+
+-- the keeper compares a beginning with all, and the items of its name with all of that name
+abbrev pub Compares : Knows → Type 0
+Compares v = IsPrefix v.seen v.all × (v.name < v.drawn) × (own_of v.name v.all ≡ own_of v.name v.seen)
 
 pub name_item : (name : ℕ) (n : Noted) → name_of (item_of name n) ≡ name
 name_item name (noted.Told who q told) = λ _. name

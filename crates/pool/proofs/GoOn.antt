@@ -1,7 +1,8 @@
 -- A history goes on by what happens to the hall in which it ends.
 use Rattle.std.proofs.Common.{◌≡◌, ◌∙◌, ℕ, List, [], ◌∷◌, ◌++◌, Option, Some, None, sym, ap, refl, subst, append_assoc}
 use Rattle.std.proofs.lemmas.List.{append-nil}
-use Rattle.std.specs.List.{AllByRecursion}
+use Rattle.std.proofs.lemmas.List.Sums.{fold-append}
+use Rattle.std.specs.List.{AllByRecursion, fold}
 use Rattle.quotas.specs.Quota.{Quota}
 use Rattle.vaults.specs.declared.changes.Entry.{Entry}
 use Rattle.hall.specs.declared.calls.events.Event.{Event}
@@ -17,19 +18,15 @@ use Rattle.hall.specs.Run.{Told, told_in, entered, told_to, Turn, any_time, IsRu
 use Rattle.hall.specs.Hall.{HallState, account_of, IsSound, Run, IsServed, IsStepped}
 use Rattle.hall.proofs.laws.HallRuns.{runs_allowed, served_journal, stepped_journal}
 use Rattle.hall.proofs.laws.HallTurns.{turn_of, later_run}
-use Rattle.pool.specs.Histories.{journal_after, turn, EndsIn, HistoriesGoOn}
-
-pub journal_append : (journal : List Entry) (xs ys : List Told) → journal_after journal (xs ++ ys) ≡ journal_after (journal_after journal xs) ys
-journal_append journal [] ys = refl
-journal_append journal (t ∷ xs) ys = journal_append (entered journal t) xs ys
+use Rattle.pool.specs.Histories.{turn, EndsIn, HistoriesGoOn}
 
 -- what was told to a tenant, and then what was told later
 pub told_append : (tenant : List ℕ) (journal : List Entry) (xs ys : List Told) →
-    told_to tenant journal (xs ++ ys) ≡ told_to tenant journal xs ++ told_to tenant (journal_after journal xs) ys
+    told_to tenant journal (xs ++ ys) ≡ told_to tenant journal xs ++ told_to tenant (fold entered journal xs) ys
 told_append tenant journal [] ys = refl
 told_append tenant journal (t ∷ xs) ys =
     ap (λ (w : List Turn). turn_of tenant journal t ++ w) (told_append tenant (entered journal t) xs ys)
-    ∙ sym (append_assoc (turn_of tenant journal t) (told_to tenant (entered journal t) xs) (told_to tenant (journal_after (entered journal t) xs) ys))
+    ∙ sym (append_assoc (turn_of tenant journal t) (told_to tenant (entered journal t) xs) (told_to tenant (fold entered (entered journal t) xs) ys))
 
 -- one run after another
 run_then : (tenant : List ℕ) (a b c : Account) (xs ys : List Turn) → IsRun any_time tenant a xs b → IsRun any_time tenant b ys c →
@@ -60,26 +57,26 @@ runs_then tenant (Some a) p q xs ys (b, is, first) run =
 
 -- the journal after a run of a hall
 pub run_journal : (old new : HallState) (events : List Event) (replies : List Reply) → Run old events replies new →
-    new.journal ≡ journal_after old.journal (told_in events replies)
+    new.journal ≡ fold entered old.journal (told_in events replies)
 run_journal old new [] [] run = ap (λ (h : HallState). h.journal) run
 run_journal old new [] (told ∷ replies) run = absurd run
 run_journal old new (e ∷ events) [] run = absurd run
 run_journal old new (event.Request name q ∷ events) (told ∷ replies) (after, served, run) =
     run_journal after new events replies run
-    ∙ ap (λ (j : List Entry). journal_after j (told_in events replies)) (served_journal old after name q told served)
+    ∙ ap (λ (j : List Entry). fold entered j (told_in events replies)) (served_journal old after name q told served)
 run_journal old new (event.Step made ∷ events) (told ∷ replies) (after, (answer, is, stepped), run) =
     run_journal after new events replies run
-    ∙ ap (λ (j : List Entry). journal_after j (told_in events replies)) (stepped_journal old after made answer stepped)
+    ∙ ap (λ (j : List Entry). fold entered j (told_in events replies)) (stepped_journal old after made answer stepped)
 
 pub go_on : HistoriesGoOn
 go_on roster history old new events replies sound ends run = record {
   journal = run_journal old new events replies run
-      ∙ ap (λ (j : List Entry). journal_after j (told_in events replies)) ends.journal
-      ∙ sym (journal_append [] history (told_in events replies));
+      ∙ ap (λ (j : List Entry). fold entered j (told_in events replies)) ends.journal
+      ∙ sym (fold-append entered [] history (told_in events replies));
   runs = λ tenant. subst (λ (turns : List Turn). IsRunOf any_time tenant (start_of tenant roster) turns (account_of new tenant))
       (sym (told_append tenant [] history (told_in events replies)))
       (runs_then tenant (start_of tenant roster) (account_of old tenant) (account_of new tenant) (told_to tenant [] history)
-      (told_to tenant (journal_after [] history) (told_in events replies)) (ends.runs tenant)
+      (told_to tenant (fold entered [] history) (told_in events replies)) (ends.runs tenant)
       (subst (λ (j : List Entry). IsRunOf any_time tenant (account_of old tenant) (told_to tenant j (told_in events replies)) (account_of new tenant))
       ends.journal (runs_allowed old new events replies sound run tenant)));
 }

@@ -16,15 +16,16 @@ use Rattle.hall.specs.Hall.{HallState, Running, known, search_at, IsSound}
 use Rattle.hall.specs.Work.{IsCompletedAt, StillWorks}
 use Rattle.hall.proofs.laws.HallChanges.{tenant_of}
 use Rattle.pool.specs.declared.faults.DeskFault.{DeskFault}
+use Rattle.pool.specs.declared.faults.DeskFault.TheVariants.{Hall}
 use Rattle.pool.specs.declared.turns.Item.{Item}
 use Rattle.pool.specs.declared.turns.Item.TheVariants as item
 use Rattle.pool.specs.declared.turns.Noted.TheVariants as noted
 use Rattle.pool.specs.declared.verdicts.Verdict.{Verdict}
-use Rattle.pool.specs.Histories.{Reaches, ReadsIn, number_read, IsReadOff, IsOpening, item_of}
+use Rattle.pool.specs.Histories.{own_of, Reaches, ReadsIn, number_read, IsReadOff, IsOpening, item_of}
 use Rattle.pool.specs.Verdicts.{IsTrueWhereCompleted}
-use Rattle.pool.specs.Passes.{PassState, own_calls}
+use Rattle.pool.specs.Passes.{PassState}
 use Rattle.pool.specs.Rooms.{RoomState, IsKept}
-use Rattle.pool.specs.Served.{IsTold, IsRefused, IsAnswered, Suits, IsReadAs, IsLent, IsVerdictOn, IsPolled, IsPolledIn}
+use Rattle.pool.specs.Served.{IsTold, IsAnswered, Suits, IsLent, IsVerdict, IsPolled, IsPolledIn}
 use Rattle.pool.proofs.Admitting.{search_found, read_served}
 use Rattle.pool.proofs.Reaching.{opening_stays}
 use Rattle.pool.proofs.Told.{next_item}
@@ -63,7 +64,7 @@ completed_read h who q k s (inr (member, is)) at = subst (λ (r : Request). Read
 pub lent_here : (roster : List (List ℕ × Quota)) (items all : List Item) (h : HallState) (at : RoomState) (old new : PassState) (who : List ℕ) (q : Request) (k : ℕ) (s : SearchState)
     (asked : Snapshot Request) (read : Snapshot SearchState) → h ≡ at.hall → items ≡ at.told → who ≡ old.tenant → asked.value ≡ q → read.value ≡ s → IsKept at → Reaches roster items h →
     Names q k → option_map (λ (r : Running). r.search) (search_at h who k) ≡ Some s → ReadsIn h who q s →
-    IsPrefix old.seen items → own_calls new ≡ own_calls old ++ item_of old.name (noted.Read who asked read) ∷ [] → new ≡ record old { seen = all } →
+    IsPrefix old.seen items → own_of old.name all ≡ own_of old.name old.seen ++ item_of old.name (noted.Read who asked read) ∷ [] → new ≡ record old { seen = all } →
     all ≡ items ++ item_of old.name (noted.Read who asked read) ∷ [] → IsLent at old new q s
 lent_here roster items all h at old new who q k s asked read is_hall is_told is_who is_q is_s kept reaches names there reads began own pass grown =
     let i : Item = item_of old.name (noted.Read who asked read) in
@@ -93,14 +94,19 @@ module _ (at : RoomState) (old new : PassState) (q : Request) (s : SearchState) 
   read_told told off = (item.Read old.name old.tenant q (known s), lent.next, (told, off, refl))
 
   -- what is read off the search that is lent is the answer
-  pub lent_answered : (result : Result Reply DeskFault) → IsReadAs (known s) q result → IsAnswered (λ r. r) old new q result
+  pub lent_answered : (result : Result Reply DeskFault) → IsAnswered (λ r. r) (IsReadOff (known s) q) result → IsAnswered (λ r. r) (IsTold old new q) result
   lent_answered (Ok told) off = read_told told off
-  lent_answered (Err fault) (f, is, off) = subst (IsRefused old new q) (sym is) (read_told (reply.Refused f) off)
+  lent_answered (Err (Hall f)) off = read_told (reply.Refused f) off
+  lent_answered (Err fault) off = absurd off
 
   -- and suits the request
-  pub read_suits : (result : Result Reply DeskFault) → IsReadAs (known s) q result → IfOk result (Suits q)
+  pub read_suits : (result : Result Reply DeskFault) → IsAnswered (λ r. r) (IsReadOff (known s) q) result → IfOk result (Suits q)
   read_suits (Ok told) off = served_suits at.hall at.hall old.tenant q told (read_served at.hall old.tenant q s told lent.reads off)
   read_suits (Err fault) off = tt
+
+-- the verdict is on this search
+abbrev pub IsVerdictOn : SearchState → Result Verdict DeskFault → Type 0
+IsVerdictOn s result = IsVerdict (IsToldOver (known s) request.Poll) (λ query shown. (query ≡ s.query) × (shown ≡ s.snapshot)) result
 
 -- a verdict on it is what a poll comes to
 pub lent_polled : (at : RoomState) (old new : PassState) (k : ℕ) (s : SearchState) → IsLent at old new (request.Poll k) s → (result : Result Verdict DeskFault) → IsVerdictOn s result →
@@ -111,14 +117,15 @@ lent_polled at old new k s lent result on = record { polled = polled result on; 
     told r over = read_told at old new (request.Poll k) s lent r (over_read s k r over)
 
     polled : (r : Result Verdict DeskFault) → IsVerdictOn s r → IsPolled old new k r
-    polled (Ok v) (over, query, snapshot) = (
+    polled (Ok v) (over, (query, snapshot)) = (
       told (reply.Answered v.answer) over,
       subst₂ (IsOpening new.seen old.tenant k) (sym query) (sym snapshot) lent.opening,
     )
-    polled (Err fault) (inl (f, is, over)) = inl (subst (IsRefused old new (request.Poll k)) (sym is) (told (reply.Refused f) over))
-    polled (Err fault) (inr (is, (answer, over))) = inr (is, (answer, told (reply.Answered answer) over))
+    polled (Err (Hall f)) (inl over) = inl (told (reply.Refused f) over)
+    polled (Err (Hall f)) (inr (is, (answer, over))) = inr (is, (answer, told (reply.Answered answer) over))
+    polled (Err fault) on = absurd on
 
     working : (r : Result Verdict DeskFault) → IsVerdictOn s r → IfOk r (λ v. v.answer ≡ Working → StillWorks at.hall (old.tenant, k))
-    working (Ok v) (over, query, snapshot) = λ is.
+    working (Ok v) (over, (query, snapshot)) = λ is.
         works_there at old.tenant k v.answer lent.kept.sound (read_served at.hall old.tenant (request.Poll k) s (reply.Answered v.answer) lent.reads (over_read s k (reply.Answered v.answer) over)) is
     working (Err fault) on = tt

@@ -4,7 +4,7 @@ use Rattle.std.proofs.lemmas.List.{append-nil}
 use Rattle.std.proofs.lemmas.List.Elements.{filter-append}
 use Rattle.std.proofs.lemmas.Bool.Decides.{eqb_tells}
 use Rattle.pool.specs.declared.turns.Item.{Item}
-use Rattle.pool.specs.Fronts.{name_of, own_of}
+use Rattle.pool.specs.Histories.{name_of, own_of}
 use Rattle.pool.specs.Rules.{AreNamed}
 
 -- an item of another

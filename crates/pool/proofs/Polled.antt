@@ -26,7 +26,7 @@ use Rattle.pool.specs.Verdicts.{IsTrueWhereCompleted}
 use Rattle.pool.specs.declared.faults.DeskFault.{DeskFault}
 use Rattle.pool.specs.declared.turns.Item.{Item}
 use Rattle.pool.specs.declared.turns.Item.TheVariants as item
-use Rattle.pool.specs.Fronts.{HasStop}
+use Rattle.pool.specs.Histories.{HasStop}
 use Rattle.pool.specs.Passes.{PassState}
 use Rattle.pool.specs.Rooms.{RoomState, IsKept}
 use Rattle.pool.specs.Served.{IsPolledIn, IsWaited}

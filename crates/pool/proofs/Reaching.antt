@@ -2,7 +2,8 @@
 use Rattle.std.proofs.Common.{◌≡◌, ◌∙◌, ℕ, Bool, true, cond, List, [], ◌∷◌, ◌++◌, Option, Some, None, Result, sym, ap, refl, subst, subst₂, append_assoc}
 use Rattle.std.proofs.lemmas.List.{append-nil}
 use Rattle.std.proofs.lemmas.List.Elements.{filter-append}
-use Rattle.std.specs.List.{AllZip}
+use Rattle.std.proofs.lemmas.List.Sums.{fold-append}
+use Rattle.std.specs.List.{AllZip, filter, fold}
 use Rattle.std.specs.declared.snapshot.Snapshot.{Snapshot}
 use Rattle.quotas.specs.Quota.{Quota}
 use Rattle.vaults.specs.declared.changes.Entry.{Entry}
@@ -26,15 +27,11 @@ use Rattle.hall.proofs.SearchSteps.{step_goes_on}
 use Rattle.pool.specs.declared.turns.Item.{Item}
 use Rattle.pool.specs.declared.turns.Item.TheVariants as item
 use Rattle.pool.specs.declared.turns.Noted.TheVariants as noted
-use Rattle.pool.specs.Histories.{journal_by, entered_by, turn, EndsIn, ReadsIn, Admits, is_turn, turns_of, AreTold, IsOpening, IsLegal, Reaches, item_of}
+use Rattle.pool.specs.Histories.{entered_by, turn, EndsIn, ReadsIn, Admits, is_turn, AreTold, IsOpening, IsLegal, Reaches, item_of}
 use Rattle.pool.proofs.GoOn.{serve_on, step_on}
 use Rattle.pool.proofs.Admitting.{read_served}
 use Rattle.pool.proofs.Deciding.{reads_admit}
 use Rattle.hall.proofs.laws.ExactRuns.{started}
-
-pub journal_by_append : (journal : List Entry) (xs ys : List Item) → journal_by journal (xs ++ ys) ≡ journal_by (journal_by journal xs) ys
-journal_by_append journal [] ys = refl
-journal_by_append journal (i ∷ xs) ys = journal_by_append (entered_by journal i) xs ys
 
 -- what was told by some items and one more
 each_last : (items : List Item) (i : Item) (told : List Told) → AllZip Admits (items ++ i ∷ []) told →
@@ -56,17 +53,17 @@ each_push (j ∷ items) i [] t are last = absurd are
 each_push (j ∷ items) i (u ∷ told) t are last = (are.0, each_push items i told t are.1 last)
 
 module _ (items : List Item) (i : Item) (turns : is_turn i ≡ true) where
-  turn_push : turns_of (items ++ i ∷ []) ≡ turns_of items ++ i ∷ []
-  turn_push = filter-append is_turn items (i ∷ []) ∙ ap (λ (b : Bool). turns_of items ++ cond b (i ∷ []) []) turns
+  turn_push : filter is_turn (items ++ i ∷ []) ≡ filter is_turn items ++ i ∷ []
+  turn_push = filter-append is_turn items (i ∷ []) ∙ ap (λ (b : Bool). filter is_turn items ++ cond b (i ∷ []) []) turns
 
   told_last : (told : List Told) → AreTold (items ++ i ∷ []) told →
       (before : List Told) × (t : Told) × (told ≡ before ++ t ∷ []) × AreTold items before × Admits i t
-  told_last told are = each_last (turns_of items) i told (subst (λ (l : List Item). AllZip Admits l told) turn_push are)
+  told_last told are = each_last (filter is_turn items) i told (subst (λ (l : List Item). AllZip Admits l told) turn_push are)
 
   some_more : (t : Told) → (told : List Told) × AreTold items told → Admits i t → (told : List Told) × AreTold (items ++ i ∷ []) told
   some_more t some last = (
     some.0 ++ t ∷ [],
-    subst (λ (l : List Item). AllZip Admits l (some.0 ++ t ∷ [])) (sym turn_push) (each_push (turns_of items) i some.0 t some.1 last),
+    subst (λ (l : List Item). AllZip Admits l (some.0 ++ t ∷ [])) (sym turn_push) (each_push (filter is_turn items) i some.0 t some.1 last),
   )
 
 -- each search of the hall has its opening
@@ -86,7 +83,7 @@ opening_stays items i who k query shown is = record {
 all_stay : (items : List Item) (i : Item) (h : HallState) → EachSearch (Opens items) h → EachSearch (Opens (items ++ i ∷ [])) h
 all_stay items i h opened who t k r found at = opening_stays items i who k r.search.query r.search.snapshot (opened who t k r found at)
 
-opened_on : (items : List Item) (old new : HallState) (name : ℕ) (who : List ℕ) (q : Request) (told : Reply) → old.journal ≡ journal_by [] items →
+opened_on : (items : List Item) (old new : HallState) (name : ℕ) (who : List ℕ) (q : Request) (told : Reply) → old.journal ≡ fold entered_by [] items →
     EachSearch (Opens items) old → IsServed old who q told new → EachSearch (Opens (items ++ item.Told name who q told ∷ [])) new
 unfolding new_search
 opened_on items old new name who q told journal opened served =
@@ -124,7 +121,7 @@ module _ (roster : List (List ℕ × Quota)) (items : List Item) (old : HallStat
   told_on name new who q told served = record {
     journal = served_journal old new who q told served
         ∙ ap (λ (j : List Entry). entered_by j (item.Told name who q told)) reaches.journal
-        ∙ sym (journal_by_append [] items (item.Told name who q told ∷ []));
+        ∙ sym (fold-append entered_by [] items (item.Told name who q told ∷ []));
     ends = λ all are.
         let (before, t, is, were, last) = told_last items (item.Told name who q told) refl all are in
         subst (λ (w : List Told). EndsIn roster w new) (sym (is ∙ ap (λ (x : Told). before ++ x ∷ []) last))
@@ -136,7 +133,7 @@ module _ (roster : List (List ℕ × Quota)) (items : List Item) (old : HallStat
   -- a request that reads a search
   pub read_on : (name : ℕ) (who : List ℕ) (q : Request) (s : SearchState) → ReadsIn old who q s → Reaches roster (items ++ item.Read name who q (known s) ∷ []) old
   read_on name who q s reads = record {
-    journal = reaches.journal ∙ sym (journal_by_append [] items (item.Read name who q (known s) ∷ []));
+    journal = reaches.journal ∙ sym (fold-append entered_by [] items (item.Read name who q (known s) ∷ []));
     ends = λ all are.
         let (before, t, is, were, (told, off, last)) = told_last items (item.Read name who q (known s)) refl all are in
         subst (λ (w : List Told). EndsIn roster w old) (sym (is ∙ ap (λ (x : Told). before ++ x ∷ []) last))
@@ -150,9 +147,9 @@ module _ (roster : List (List ℕ × Quota)) (items : List Item) (old : HallStat
   -- a stop
   pub stop_on : (name : ℕ) → Reaches roster (items ++ item.Stopped name ∷ []) old
   stop_on name =
-      let same : turns_of (items ++ item.Stopped name ∷ []) ≡ turns_of items =
-      filter-append is_turn items (item.Stopped name ∷ []) ∙ append-nil (turns_of items) in record {
-        journal = reaches.journal ∙ sym (journal_by_append [] items (item.Stopped name ∷ []));
+      let same : filter is_turn (items ++ item.Stopped name ∷ []) ≡ filter is_turn items =
+      filter-append is_turn items (item.Stopped name ∷ []) ∙ append-nil (filter is_turn items) in record {
+        journal = reaches.journal ∙ sym (fold-append entered_by [] items (item.Stopped name ∷ []));
         ends = λ all are. reaches.ends all (subst (λ (l : List Item). AllZip Admits l all) same are);
         some = (reaches.some.0, subst (λ (l : List Item). AllZip Admits l reaches.some.0) (sym same) reaches.some.1);
         opened = all_stay items (item.Stopped name) old reaches.opened;

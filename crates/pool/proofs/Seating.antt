@@ -8,10 +8,18 @@ use Rattle.atomic_table.specs.Table.{State, Me, keeps, step, Allows, Splits, Joi
 use Rattle.atomic_table.proofs.Lists.{at_set}
 use Rattle.pool.specs.declared.turns.Item.{Item}
 use Rattle.pool.specs.declared.seats.Knows.{Knows}
-use Rattle.pool.specs.Fronts.{name_of, own_of}
-use Rattle.pool.specs.Rules.{keeper, adds_under, gone, unnamed, Fits, IsKept, Adds}
+use Rattle.pool.specs.Histories.{name_of, own_of}
+use Rattle.pool.specs.Rules.{keeper, adds_under, Fits, IsKept, Adds}
 use Rattle.pool.proofs.Named.{own_other}
 use Rattle.pool.proofs.Prefixes.{prefix_self, prefix_trans}
+
+-- a seat that knows nothing any more
+abbrev pub gone : Knows
+gone = record { keeps = false; drawn = 0; all = []; named = false; name = 0; seen = [] }
+
+-- a seat that adds under no name from now on
+abbrev pub unnamed : Knows → Knows
+unnamed v = record v { named = false; name = 0; seen = [] }
 
 abbrev pub rule : State ℕ Knows → Type 0
 rule s = IsKept s.views
@@ -109,11 +117,9 @@ adds by v slots f i knows named own s (seat, drawn, history, owner, fits) homes 
       (
         refl,
         refl,
-        (
-          subst (λ l. IsPrefix v.seen l) (sym known.2) mine.2,
-          subst (λ n. v.name < n) (sym known.1) has.0,
-          ap (own_of v.name) known.2 ∙ sym has.2,
-        ),
+        subst (λ l. IsPrefix v.seen l) (sym known.2) mine.2,
+        subst (λ n. v.name < n) (sym known.1) has.0,
+        ap (own_of v.name) known.2 ∙ sym has.2,
       ),
     )
 

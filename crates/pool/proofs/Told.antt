@@ -17,18 +17,18 @@ use Rattle.pool.specs.declared.faults.DeskFault.{DeskFault}
 use Rattle.pool.specs.declared.faults.DeskFault.TheVariants.{Hall}
 use Rattle.pool.specs.declared.turns.Item.{Item}
 use Rattle.pool.specs.declared.turns.Noted.TheVariants as noted
-use Rattle.pool.specs.Histories.{turn, item_of}
-use Rattle.pool.specs.Passes.{PassState, own_calls}
+use Rattle.pool.specs.Histories.{own_of, turn, item_of}
+use Rattle.pool.specs.Passes.{PassState}
 use Rattle.pool.specs.Served.{IsNext, IsTold, IsAnswered, Suits}
 
 -- the item by which the history went on, and which the pass has seen
-pub next_item : (old new : PassState) (told all : List Item) (i j : Item) → IsPrefix old.seen told → own_calls new ≡ own_calls old ++ i ∷ [] → new ≡ record old { seen = all } →
+pub next_item : (old new : PassState) (told all : List Item) (i j : Item) → IsPrefix old.seen told → own_of old.name all ≡ own_of old.name old.seen ++ i ∷ [] → new ≡ record old { seen = all } →
     all ≡ told ++ i ∷ [] → i ≡ j → IsNext old new j
 next_item old new told all i j began own pass is same = record {
   before = told;
   began = began;
   last = ap (λ (p : PassState). p.seen) pass ∙ is ∙ ap (λ (x : Item). told ++ x ∷ []) same;
-  own = own ∙ ap (λ (x : Item). own_calls old ++ x ∷ []) same;
+  own = ap (λ (p : PassState). own_of old.name p.seen) pass ∙ own ∙ ap (λ (x : Item). own_of old.name old.seen ++ x ∷ []) same;
   pass = pass ∙ sym (ap (λ (p : PassState). record old { seen = p.seen }) pass);
 }
 
@@ -39,15 +39,15 @@ noted_told old new who q r asked told next is_who is_q is_r =
     (item_of old.name (noted.Told who asked told), next, (λ k. turn (sym is_who k) (sym is_q k) (told_as (λ (x : Reply). x) (sym is_r k))))
 
 module _ {X : Type 0} (tells : X → Reply) (old new : PassState) (q : Request) where
-  pub value_told : (r : Reply) (x : X) → IsTold old new q r → r ≡ tells x → IsAnswered tells old new q (Ok x)
+  pub value_told : (r : Reply) (x : X) → IsTold old new q r → r ≡ tells x → IsAnswered tells (IsTold old new q) (Ok x)
   value_told r x told is = subst (IsTold old new q) is told
 
-  pub refusal_told : (r : Reply) (f : Fault) → IsTold old new q r → r ≡ reply.Refused f → IsAnswered tells old new q (Err (Hall f))
+  pub refusal_told : (r : Reply) (f : Fault) → IsTold old new q r → r ≡ reply.Refused f → IsAnswered tells (IsTold old new q) (Err (Hall f))
   refusal_told r f told is = subst (IsTold old new q) is told
 
   -- what was answered after the pass was left as it was
-  pub answered_later : (middle : PassState) (result : Result X DeskFault) → middle ≡ old → IsAnswered tells middle new q result → IsAnswered tells old new q result
-  answered_later middle result same answered = subst (λ (p : PassState). IsAnswered tells p new q result) same answered
+  pub answered_later : (middle : PassState) (result : Result X DeskFault) → middle ≡ old → IsAnswered tells (IsTold middle new q) result → IsAnswered tells (IsTold old new q) result
+  answered_later middle result same answered = subst (λ (p : PassState). IsAnswered tells (IsTold p new q) result) same answered
 
 -- a request of each kind is told a reply of its kind, or refused
 abbrev NotRefused : Reply → Type 0

@@ -1,12 +1,15 @@
 -- What was told under each name is woven into one list.
-use Rattle.std.proofs.Common.{◌≡◌, ◌≢◌, ◌∙◌, ◌==◌, ℕ, Bool, true, false, cond, List, [], ◌∷◌, ap, sym, refl, subst, inl, inr}
-use Rattle.std.specs.List.{AllZip, filter}
+use Rattle.std.proofs.Common.{◌≡◌, ◌≢◌, ◌∙◌, ◌==◌, ℕ, Bool, true, false, cond, List, [], ◌∷◌, map, ap, sym, refl, subst, inl, inr}
+use Rattle.std.specs.List.{AllZip, filter, zip}
 use Rattle.std.proofs.lemmas.Bool.Decides.{eqb_tells}
 use Rattle.hall.specs.Run.{Told}
 use Rattle.pool.specs.declared.turns.Item.{Item}
-use Rattle.pool.specs.Fronts.{name_of, own_of}
-use Rattle.pool.specs.Histories.{Admits, is_turn, turns_of}
-use Rattle.pool.specs.Laws.{lines_of, SessionsAreRuns}
+use Rattle.pool.specs.Histories.{name_of, own_of, Admits, is_turn}
+use Rattle.pool.specs.Laws.{SessionsAreRuns}
+
+-- of what was told by these items, what was told under the name
+abbrev lines_of : ℕ → List Item → List Told → List Told
+lines_of name items told = map (λ p. p.1) (filter (λ p. name_of p.0 == name) (zip items told))
 
 told_none : (lines : List Told) → AllZip Admits [] lines → [] ≡ lines
 told_none [] are = refl
@@ -43,15 +46,18 @@ module _ (i : Item) (items : List Item) (name : ℕ) where
       ap (λ (b : Bool). cond b (i ∷ own_of name items) (own_of name items)) bit
 
   module _ (t : Told) (told : List Told) where
+    abbrev beside : List (Item × Told)
+    beside = filter (λ p. name_of p.0 == name) (zip items told)
+
     lines_here : name_of i ≡ name → lines_of name (i ∷ items) (t ∷ told) ≡ t ∷ lines_of name items told
     lines_here is =
         let bit : (name_of i == name) ≡ true = elim (eqb_tells (name_of i) name) [ inl e ↦ e.0 | inr e ↦ absurd (e.1 is) ] in
-        ap (λ (b : Bool). cond b (t ∷ lines_of name items told) (lines_of name items told)) bit
+        ap (λ (b : Bool). map (λ (p : Item × Told). p.1) (cond b ((i, t) ∷ beside) beside)) bit
 
     lines_elsewhere : name_of i ≢ name → lines_of name (i ∷ items) (t ∷ told) ≡ lines_of name items told
     lines_elsewhere other =
         let bit : (name_of i == name) ≡ false = elim (eqb_tells (name_of i) name) [ inl e ↦ absurd (other e.1) | inr e ↦ e.0 ] in
-        ap (λ (b : Bool). cond b (t ∷ lines_of name items told) (lines_of name items told)) bit
+        ap (λ (b : Bool). map (λ (p : Item × Told). p.1) (cond b ((i, t) ∷ beside) beside)) bit
 
 -- it is all the same which of two filters comes first
 two_filters : {A : Type 0} (p q : A → Bool) (xs : List A) → filter p (filter q xs) ≡ filter q (filter p xs)
@@ -97,6 +103,6 @@ weave (i ∷ items) lines are =
 pub sessions_are_runs : SessionsAreRuns
 sessions_are_runs roster items lines legal are =
     let woven =
-    weave (turns_of items) lines
+    weave (filter is_turn items) lines
     (λ name. subst (λ (l : List Item). AllZip Admits l (lines name)) (two_filters is_turn (λ (i : Item). name_of i == name) items) (are name)) in
     (woven.0, woven.1, legal.runs woven.0 woven.1, woven.2)

@@ -1,6 +1,6 @@
--- All that tenants were told, in one order, and the hall in which it ends.
-use Rattle.std.specs.Prelude.{◌≡◌, ℕ, Bool, true, false, List, [], ◌∷◌, ◌++◌, Option, None, Some, IsSomeAnd, option_map}
-use Rattle.std.specs.{List.filter, List.AllZip, FinMap.get}
+-- All that tenants were told, in one order, whose each item is, and the hall in which the history ends.
+use Rattle.std.specs.Prelude.{◌≡◌, ◌==◌, ℕ, Bool, true, false, List, [], ◌∷◌, ◌++◌, Option, None, Some, IsSomeAnd, option_map}
+use Rattle.std.specs.{List.filter, List.fold, List.AllZip, List.Contains, FinMap.get}
 use Rattle.quotas.specs.Quota.{Quota}
 use Rattle.vaults.specs.declared.changes.Entry.{Entry}
 use Rattle.vaults.specs.Journal.{view}
@@ -17,10 +17,24 @@ use Rattle.pool.specs.declared.turns.{Item.Item, Noted.Noted}
 use Rattle.pool.specs.declared.turns.Item.TheVariants as item
 use Rattle.pool.specs.declared.turns.Noted.TheVariants as noted
 
--- the journal after all that was told
-abbrev pub journal_after : List Entry → List Told → List Entry
-journal_after journal [] = journal
-journal_after journal (t ∷ more) = journal_after (entered journal t) more
+-- the name under which the item was added
+abbrev pub name_of : Item → ℕ
+name_of (item.Told name who q told) = name
+name_of (item.Read name who q s) = name
+name_of (item.Stopped name) = name
+
+-- the items of one name, in order
+abbrev pub own_of : ℕ → List Item → List Item
+own_of name items = filter (λ i. name_of i == name) items
+
+-- the name under which a front adds, and the beginning of the history that it has seen
+pub record FrontState : Type 0 where
+  pub name : ℕ
+  pub seen : List Item
+
+-- the desk was stopped
+abbrev pub HasStop : List Item → Type 0
+HasStop items = (name : ℕ) × Contains items (item.Stopped name)
 
 -- a request of the tenant, and what it was told
 abbrev pub turn : List ℕ → Request → Reply → Told
@@ -28,7 +42,7 @@ turn tenant q told = record { tenant = tenant; deed = asks q; reply = told }
 
 -- what was told is a run to each tenant, and the hall is the one in which it ends
 pub record EndsIn (roster : List (List ℕ × Quota)) (told : List Told) (h : HallState) : Type 0 where
-  pub journal : h.journal ≡ journal_after [] told
+  pub journal : h.journal ≡ fold entered [] told
   pub runs : (tenant : List ℕ) → IsRunOf any_time tenant (start_of tenant roster) (told_to tenant [] told) (account_of h tenant)
 
 -- what happens to a sound hall goes on with what was told before
@@ -60,23 +74,14 @@ abbrev pub is_turn : Item → Bool
 is_turn (item.Stopped name) = false
 is_turn _ = true
 
--- the items by which tenants were told something
-abbrev pub turns_of : List Item → List Item
-turns_of items = filter is_turn items
-
--- each of these is what was told by its item
+-- each of these is what was told by an item, and each item by which tenants were told something has one
 abbrev pub AreTold : List Item → List Told → Type 0
-AreTold items told = AllZip Admits (turns_of items) told
+AreTold items told = AllZip Admits (filter is_turn items) told
 
 -- the journal after one item
 abbrev pub entered_by : List Entry → Item → List Entry
 entered_by journal (item.Told name who q told) = entered journal (turn who q told)
 entered_by journal _ = journal
-
--- the journal after the items
-abbrev pub journal_by : List Entry → List Item → List Entry
-journal_by journal [] = journal
-journal_by journal (i ∷ items) = journal_by (entered_by journal i) items
 
 -- the history is legal: whatever was told by its items is a run to each tenant, and something was
 pub record IsLegal (roster : List (List ℕ × Quota)) (items : List Item) : Type 0 where
@@ -89,7 +94,7 @@ pub record IsOpening (items : List Item) (who : List ℕ) (k : ℕ) (query : Que
   pub before : List Item
   pub after : List Item
   pub split : items ≡ before ++ item.Told name who (Seek query) (Opened k) ∷ after
-  pub sees : shown ≡ record { asker = who; vaults = view (journal_by [] before) who }
+  pub sees : shown ≡ record { asker = who; vaults = view (fold entered_by [] before) who }
 
 -- the request reads this search of the hall's and nothing else; for a proof it is completed
 abbrev pub ReadsIn : HallState → List ℕ → Request → SearchState → Type 0
@@ -99,7 +104,7 @@ ReadsIn h who _ s = ⊥
 
 -- the history ends in the hall, whatever was told by its items, and something was; and it has the opening of each search
 pub record Reaches (roster : List (List ℕ × Quota)) (items : List Item) (h : HallState) : Type 0 where
-  pub journal : h.journal ≡ journal_by [] items
+  pub journal : h.journal ≡ fold entered_by [] items
   pub ends : (told : List Told) → AreTold items told → EndsIn roster told h
   pub some : (told : List Told) × AreTold items told
   pub opened : EachSearch (λ name t k r. IsOpening items name k r.search.query r.search.snapshot) h

@@ -1,19 +1,18 @@
 -- What follows for tenants from what a desk told them: of each thing that was told, of each turn, and of each session.
-use Rattle.std.specs.Prelude.{◌≡◌, ◌+◌, ◌&&◌, ◌==◌, if◌then◌else◌, ℕ, Bool, true, false, List, [], ◌∷◌, ◌++◌, length, Some}
-use Rattle.std.specs.List.{AllZip}
+use Rattle.std.specs.Prelude.{◌≡◌, ◌+◌, ◌&&◌, ◌==◌, ℕ, Bool, true, false, List, [], ◌∷◌, ◌++◌, length, map, Some}
+use Rattle.std.specs.List.{AllZip, filter, fold, zip}
 use Rattle.names.specs.Name.{is_same}
 use Rattle.quotas.specs.Quota.{Quota}
-use Rattle.vaults.specs.Journal.{entries_of, vault, marked_names, one_if}
+use Rattle.vaults.specs.Journal.{entries_of, vault, marked_names}
 use Rattle.search.specs.Search.{SearchState}
 use Rattle.hall.specs.declared.calls.{requests.Request.Request, replies.Reply.Reply}
 use Rattle.hall.specs.declared.calls.requests.Request.TheVariants as request
 use Rattle.hall.specs.declared.calls.replies.Reply.TheVariants as reply
 use Rattle.hall.specs.{Answers.new_account, Answers.start_of, Hall.HallState, Hall.known, Hall.IsSound}
-use Rattle.hall.specs.Run.{Deed, asks, request_of, Told, told_to, any_time, AreRuns}
+use Rattle.hall.specs.Run.{Deed, asks, request_of, Told, entered, told_to, any_time, AreRuns}
 use Rattle.hall.specs.Laws.{IsRight, IsSameDeed, HasMemory, Agree}
 use Rattle.pool.specs.declared.turns.Item.{Item}
-use Rattle.pool.specs.Fronts.{name_of, own_of}
-use Rattle.pool.specs.Histories.{turn, journal_after, turns_of, AreTold, IsLegal, ReadsIn, IsReadOff}
+use Rattle.pool.specs.Histories.{name_of, own_of, turn, is_turn, AreTold, IsLegal, ReadsIn, IsReadOff}
 
 -- whatever a tenant was told by an item of a legal history is right, by what that tenant was told before
 abbrev pub HistoriesAreTrue : Type 0
@@ -37,42 +36,26 @@ ReadsAreTold =
     (h : HallState) (who : List ℕ) (q : Request) (s : SearchState) → IsSound h → ReadsIn h who q s
     → (told : Reply) × IsReadOff (known s) q told
 
--- by a legal history the tenant's request was told this, after all of these
-pub record WasTold (before : List Told) (who : List ℕ) (q : Request) (answer : Reply) : Type 0 where
-  pub roster : List (List ℕ × Quota)
-  pub items : List Item
-  pub after : List Told
-  pub legal : IsLegal roster items
-  pub told : AreTold items (before ++ turn who q answer ∷ after)
-
 -- a search was opened
 abbrev pub is_opening : Deed → Reply → Bool
 is_opening (asks (request.Seek query)) (reply.Opened n) = true
 is_opening _ _ = false
 
--- how many searches the tenant had opened
-abbrev pub openings_of : List ℕ → List Told → ℕ
-openings_of who [] = 0
-openings_of who (t ∷ more) = one_if (is_same t.tenant who && is_opening t.deed t.reply) + openings_of who more
-
 -- An accepted change is told how many of its tenant's were accepted, and an opening how many searches its tenant opened, itself
 -- among them; a tenant is told its own vault, and whom it reads, as the journal then has them
 abbrev pub IsExactReply : List Told → List ℕ → Request → Reply → Type 0
-IsExactReply before who (request.Alter change) (reply.Counted n) = n ≡ length (entries_of who (journal_after [] before)) + 1
-IsExactReply before who (request.Seek query) (reply.Opened n) = n ≡ openings_of who before + 1
-IsExactReply before who request.Vault (reply.Vault rows) = rows ≡ vault (journal_after [] before) who
-IsExactReply before who request.Sees (reply.Sees seen) = seen ≡ marked_names (journal_after [] before) who
+IsExactReply before who (request.Alter change) (reply.Counted n) = n ≡ length (entries_of who (fold entered [] before)) + 1
+IsExactReply before who (request.Seek query) (reply.Opened n) =
+    n ≡ length (filter (λ t. is_same t.tenant who && is_opening t.deed t.reply) before) + 1
+IsExactReply before who request.Vault (reply.Vault rows) = rows ≡ vault (fold entered [] before) who
+IsExactReply before who request.Sees (reply.Sees seen) = seen ≡ marked_names (fold entered [] before) who
 IsExactReply before who q answer = Unit {0}
 
--- what tenants are told is exactly that
+-- what a tenant is told by an item of a legal history is exactly that
 abbrev pub RepliesAreExact : Type 0
 RepliesAreExact =
-    (before : List Told) (who : List ℕ) (q : Request) (answer : Reply) → WasTold before who q answer → IsExactReply before who q answer
-
--- of what was told by these items, what was told under the name
-abbrev pub lines_of : ℕ → List Item → List Told → List Told
-lines_of name (i ∷ items) (t ∷ told) = if name_of i == name then t ∷ lines_of name items told else lines_of name items told
-lines_of name _ _ = []
+    (roster : List (List ℕ × Quota)) (items : List Item) (before after : List Told) (who : List ℕ) (q : Request) (answer : Reply)
+    → IsLegal roster items → AreTold items (before ++ turn who q answer ∷ after) → IsExactReply before who q answer
 
 -- what sessions were told by the items of their names stands, and nothing else under these, in one list that is a run to each tenant
 abbrev pub SessionsAreRuns : Type 0
@@ -80,4 +63,4 @@ SessionsAreRuns =
     (roster : List (List ℕ × Quota)) (items : List Item) (lines : ℕ → List Told) → IsLegal roster items
     → ((name : ℕ) → AreTold (own_of name items) (lines name))
     → (told : List Told) × AreTold items told × AreRuns any_time roster told
-    × ((name : ℕ) → lines_of name (turns_of items) told ≡ lines name)
+    × ((name : ℕ) → map (λ p. p.1) (filter (λ p. name_of p.0 == name) (zip (filter is_turn items) told)) ≡ lines name)

@@ -1,6 +1,5 @@
-pub mod Fronts
-pub mod Rules
 pub mod Histories
+pub mod Rules
 pub mod Passes
 pub mod Rooms
 pub mod Refusals

@@ -6,7 +6,7 @@ use lib.ListN.{get_elem?}
 use Rattle.atomic_table.specs.Table.{Me, Step}
 use Rattle.atomic_table.specs.Seated.{TableId}
 use Rattle.pool.specs.declared.{turns.Item.Item, seats.Knows.Knows}
-use Rattle.pool.specs.Fronts.{own_of}
+use Rattle.pool.specs.Histories.{own_of}
 
 -- what names the ledgers and the history of a desk
 pub record Names : Type 0 where
@@ -22,14 +22,6 @@ keeper drawn all = record { keeps = true; drawn = drawn; all = all; named = fals
 -- a seat that adds under a name, and has seen a beginning
 abbrev pub adds_under : ℕ → List Item → Knows
 adds_under name seen = record { keeps = false; drawn = 0; all = []; named = true; name = name; seen = seen }
-
--- a seat that knows nothing any more
-abbrev pub gone : Knows
-gone = record { keeps = false; drawn = 0; all = []; named = false; name = 0; seen = [] }
-
--- a seat that adds under no name from now on
-abbrev pub unnamed : Knows → Knows
-unnamed v = record v { named = false; name = 0; seen = [] }
 
 -- what the rule says of one seat: a name that was drawn is of one seat at most, and that has seen all items of it
 abbrev pub Fits : ℕ → ℕ → List Item → (ℕ → ℕ) → ℕ → Knows → Type 0
@@ -48,10 +40,7 @@ IsKept views =
 abbrev pub AreNamed : ℕ → List Item → Type 0
 AreNamed drawn all = (name : ℕ) → drawn ≤ name → own_of name all ≡ []
 
--- the keeper compares a beginning with all, and the items of its name with all of that name
-abbrev pub Compares : Knows → Type 0
-Compares v = IsPrefix v.seen v.all × (v.name < v.drawn) × (own_of v.name v.all ≡ own_of v.name v.seen)
-
--- the keeper compares, and adds an item
+-- the keeper adds an item, and has compared a beginning with all, and the items of its name with all of that name
 abbrev pub Adds : Item → Step ℕ → Me ℕ Knows → ℕ → Me ℕ Knows → Type 0
-Adds i s v found w = (w.0 ≡ record v.0 { all = v.0.all ++ i ∷ []; seen = v.0.all ++ i ∷ [] }) × (w.1 ≡ v.1) × Compares v.0
+Adds i s v found w = (w.0 ≡ record v.0 { all = v.0.all ++ i ∷ []; seen = v.0.all ++ i ∷ [] }) × (w.1 ≡ v.1)
+    × IsPrefix v.0.seen v.0.all × (v.0.name < v.0.drawn) × (own_of v.0.name v.0.all ≡ own_of v.0.name v.0.seen)

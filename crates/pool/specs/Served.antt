@@ -2,20 +2,20 @@
 use Rattle.std.specs.Prelude.{◌≡◌, ◌⊎◌, ◌++◌, ◌∷◌, [], ℕ, List, Result, Ok, Err, IfOk, IfSome}
 use mathlib.Core.List.{IsPrefix}
 use Rattle.std.specs.Arc.{arc_value}
+use Rattle.snapshots.specs.Snapshot.{SnapshotState}
+use Rattle.search.specs.declared.queries.Query.{Query}
 use Rattle.search.specs.Search.{SearchState}
-use Rattle.hall.specs.declared.faults.Fault.{Fault, TheVariants.Memory}
+use Rattle.hall.specs.declared.faults.Fault.TheVariants.{Memory}
 use Rattle.hall.specs.declared.calls.answers.Answer.{Answer, TheVariants.Working}
 use Rattle.hall.specs.declared.calls.{requests.Request.Request, replies.Reply.Reply}
 use Rattle.hall.specs.declared.calls.requests.Request.TheVariants as request
 use Rattle.hall.specs.declared.calls.replies.Reply.TheVariants as reply
-use Rattle.hall.specs.Answers.{Asked, IsToldOver}
 use Rattle.hall.specs.Hall.{known}
 use Rattle.hall.specs.Work.{StillWorks}
 use Rattle.pool.specs.declared.{faults.DeskFault.DeskFault, faults.DeskFault.TheVariants.Hall, turns.Item.Item, verdicts.Verdict.Verdict}
 use Rattle.pool.specs.declared.turns.Item.TheVariants as item
-use Rattle.pool.specs.Fronts.{HasStop}
-use Rattle.pool.specs.Histories.{turn, Admits, ReadsIn, number_read, IsReadOff, IsOpening}
-use Rattle.pool.specs.Passes.{PassState, own_calls}
+use Rattle.pool.specs.Histories.{own_of, HasStop, turn, Admits, ReadsIn, number_read, IsOpening}
+use Rattle.pool.specs.Passes.{PassState}
 use Rattle.pool.specs.Rooms.{RoomState, IsKept}
 
 -- the history went on from what the pass had seen to this item, which it has seen last: one call more of its own, and the only one
@@ -23,22 +23,18 @@ pub record IsNext (old new : PassState) (i : Item) : Type 0 where
   pub before : List Item
   pub began : IsPrefix old.seen before
   pub last : new.seen ≡ before ++ i ∷ []
-  pub own : own_calls new ≡ own_calls old ++ i ∷ []
+  pub own : own_of old.name new.seen ≡ own_of old.name old.seen ++ i ∷ []
   pub pass : new ≡ record old { seen = new.seen }
 
 -- the request of the pass's tenant was told this, by such an item
 abbrev pub IsTold : PassState → PassState → Request → Reply → Type 0
 IsTold old new q told = (i : Item) × IsNext old new i × Admits i (turn old.tenant q told)
 
--- a refusal is the hall's, and told so
-abbrev pub IsRefused : PassState → PassState → Request → DeskFault → Type 0
-IsRefused old new q (Hall fault) = IsTold old new q (reply.Refused fault)
-IsRefused old new q _ = ⊥
-
--- what a call came to, whose value is told by this reply
-abbrev pub IsAnswered : {X : Type 0} → (X → Reply) → PassState → PassState → Request → Result X DeskFault → Type 0
-IsAnswered tells old new q (Ok x) = IsTold old new q (tells x)
-IsAnswered tells old new q (Err fault) = IsRefused old new q fault
+-- what a call came to is told so: its value by such a reply, and a refusal, which is the hall's
+abbrev pub IsAnswered : {X : Type 0} → (X → Reply) → (Reply → Type 0) → Result X DeskFault → Type 0
+IsAnswered tells MayTell (Ok x) = MayTell (tells x)
+IsAnswered tells MayTell (Err (Hall fault)) = MayTell (reply.Refused fault)
+IsAnswered tells MayTell (Err _) = ⊥
 
 -- a request of each kind is told a reply of its kind, or refused
 abbrev pub Suits : Request → Reply → Type 0
@@ -52,30 +48,20 @@ Suits request.Sees (reply.Sees seen) = Unit {0}
 Suits (request.Proof k member) (reply.Proof steps) = Unit {0}
 Suits q _ = ⊥
 
--- a call comes to the reply that is read off a search so, or to the refusal
-abbrev pub IsReadAs : Asked → Request → Result Reply DeskFault → Type 0
-IsReadAs s q (Ok told) = IsReadOff s q told
-IsReadAs s q (Err fault) = (f : Fault) × (fault ≡ Hall f) × IsReadOff s q (reply.Refused f)
+-- a verdict tells so what such a search has come to; memory may lack to tell it, or to share what it reads
+abbrev pub IsVerdict : (Reply → Type 0) → (Query → SnapshotState → Type 0) → Result Verdict DeskFault → Type 0
+IsVerdict MayTell IsOf (Ok v) = MayTell (reply.Answered v.answer) × IsOf v.query (arc_value v.snapshot)
+IsVerdict MayTell IsOf (Err (Hall fault)) =
+    MayTell (reply.Refused fault) ⊎ ((fault ≡ Memory) × ((answer : Answer) × MayTell (reply.Answered answer)))
+IsVerdict MayTell IsOf (Err _) = ⊥
 
--- a poll is told what its verdict tells, and that is on the search that the history opened; memory may lack to share what it reads
+-- a poll is told what its verdict tells, and that is on the search that the history opened
 abbrev pub IsPolled : PassState → PassState → ℕ → Result Verdict DeskFault → Type 0
-IsPolled old new k (Ok v) =
-    IsTold old new (request.Poll k) (reply.Answered v.answer) × IsOpening new.seen old.tenant k v.query (arc_value v.snapshot)
-IsPolled old new k (Err fault) =
-    IsRefused old new (request.Poll k) fault
-    ⊎ ((fault ≡ Hall Memory) × ((answer : Answer) × IsTold old new (request.Poll k) (reply.Answered answer)))
+IsPolled old new k result = IsVerdict (IsTold old new (request.Poll k)) (IsOpening new.seen old.tenant k) result
 
 -- a poll by which nothing yet is told only where the pass has seen that the desk was stopped
 abbrev pub IsWaited : PassState → PassState → ℕ → Result Verdict DeskFault → Type 0
 IsWaited old new k result = IsPolled old new k result × IfOk result (λ v. v.answer ≡ Working → HasStop new.seen)
-
--- the verdict tells this of the search itself, to each account that has it; memory may lack to tell it, or to share what it reads
-abbrev pub IsVerdictOn : SearchState → Result Verdict DeskFault → Type 0
-IsVerdictOn s (Ok v) =
-    IsToldOver (known s) request.Poll (reply.Answered v.answer) × (v.query ≡ s.query) × (arc_value v.snapshot ≡ s.snapshot)
-IsVerdictOn s (Err fault) =
-    ((f : Fault) × (fault ≡ Hall f) × IsToldOver (known s) request.Poll (reply.Refused f))
-    ⊎ ((fault ≡ Hall Memory) × ((answer : Answer) × IsToldOver (known s) request.Poll (reply.Answered answer)))
 
 -- the request of the pass's tenant reads this search, as the last item says; and it is one that the history opened
 pub record IsLent (at : RoomState) (old new : PassState) (q : Request) (s : SearchState) : Type 0 where

@@ -1,5 +1,5 @@
 //! A hall under one lock: passes ask of it, and workers work for it.
-ghost use Rattle.std.specs.Prelude.{◌≡◌, ◌↔◌, ◌+◌, ◌<◌, ◌≤◌, true, false, [], length, map, vec_len, None, Contains};
+ghost use Rattle.std.specs.Prelude.{◌≡◌, ◌↔◌, ◌⊎◌, ◌+◌, ◌<◌, ◌≤◌, true, false, [], length, map, vec_len, None, Contains};
 ghost use Rattle.std.specs.Prelude.{IfOk, IfErr, IfSome, IfNone, OnOk, OnErr};
 ghost use Rattle.std.specs.List.{IsDistinct, sum_by};
 ghost use Rattle.std.specs.Sync.Mutex.{mutex_guard_value};
@@ -7,11 +7,12 @@ ghost use Rattle.names.specs.Name.{is_same};
 ghost use Rattle.hall.specs.declared.calls.requests.Request.TheVariants as request;
 ghost use Rattle.hall.specs.declared.calls.replies.Reply.TheVariants as reply;
 ghost use Rattle.hall.specs.Batches.{IsEmpty, IsLookedUp};
-ghost use Rattle.pool.specs.Passes.{own_calls, front_of, share_of};
+ghost use Rattle.pool.specs.Histories.{own_of};
+ghost use Rattle.pool.specs.Passes.{accepted_in, share_of};
 ghost use Rattle.pool.specs.Rooms.{IsKept, IsIdle};
 ghost use Rattle.pool.specs.Refusals.{IsPassRefusal};
-ghost use Rattle.pool.specs.Served.{IsAnswered, Suits, IsPolled, IsPolledIn, IsWaited};
-ghost use Rattle.pool.specs.Workers.{IsEndBy, IsLeftBy, HasEnded};
+ghost use Rattle.pool.specs.Served.{IsTold, IsAnswered, Suits, IsPolled, IsPolledIn, IsWaited};
+ghost use Rattle.pool.specs.Workers.{IsEndBy, IsLeftBy};
 
 use crate::bells::Bells;
 use crate::faults::{DeskFault, DeskResult};
@@ -137,7 +138,7 @@ impl<L: Naming> Desk<L> {
     /// A new pass of a tenant, which has made no call. Refused as 62 to a stranger, and as 90 where 2^32 passes are out.
     pub fn pass<R: Wait>(&self, rt: &R, who: Entity) -> DeskResult<Pass<L>>
         ensures tenant { IfOk result (λ p. p.tenant ≡ who) }
-        ensures none { IfOk result (λ p. own_calls p ≡ []) }
+        ensures none { IfOk result (λ p. own_of p.name p.seen ≡ []) }
         ensures known { OnOk result (Contains self.now who) }
         ensures refused { IfErr result IsPassRefusal }
         ensures stranger { IfErr result (λ f. (f ≡ DeskFault.Hall Fault.NoTenant) ↔ (Contains self.now who → ⊥)) }
@@ -150,7 +151,7 @@ impl<L: Naming> Desk<L> {
 
     /// Serves the pass's tenant. Refused as the hall refuses.
     pub fn serve<R: Wait>(&self, rt: &R, pass: &mut Pass<L>, request: Request) -> DeskResult<Reply>
-        ensures answered { IsAnswered (λ r. r) pass.old pass.new request result }
+        ensures answered { IsAnswered (λ r. r) (IsTold pass.old pass.new request) result }
         ensures suits { IfOk result (Suits request) }
     {
         let mut room = self.enter(rt);
@@ -174,7 +175,7 @@ impl<L: Naming> Desk<L> {
 
     /// Makes a change, and answers how many changes of the tenant were accepted. Refused as `serve` is.
     pub fn change<R: Wait>(&self, rt: &R, pass: &mut Pass<L>, change: Change) -> DeskResult<u64>
-        ensures { IsAnswered reply.Counted pass.old pass.new (request.Alter change) result }
+        ensures { IsAnswered reply.Counted (IsTold pass.old pass.new (request.Alter change)) result }
     {
         match self.serve(rt, pass, Request::Alter(change))? {
             Reply::Counted(count) => Ok(count),
@@ -185,8 +186,8 @@ impl<L: Naming> Desk<L> {
 
     /// Opens a search over what the tenant sees now. Refused as `serve` is.
     pub fn open<R: Wait>(&self, rt: &R, pass: &mut Pass<L>, query: Query) -> DeskResult<Ticket>
-        ensures answered { IsAnswered (λ t. reply.Opened t.no) pass.old pass.new (request.Seek query) result }
-        ensures opened_at { IfOk result (λ t. t.opened_at ≡ front_of pass.new) }
+        ensures answered { IsAnswered (λ t. reply.Opened t.no) (IsTold pass.old pass.new (request.Seek query)) result }
+        ensures opened_at { IfOk result (λ t. t.opened_at ≡ accepted_in pass.new.seen) }
     {
         match self.serve(rt, pass, Request::Seek(query))? {
             Reply::Opened(no) => Ok(Ticket {
@@ -234,7 +235,7 @@ impl<L: Naming> Desk<L> {
 
     /// Ends the tenant's search of the number. Refused as `serve` is.
     pub fn end<R: Wait>(&self, rt: &R, pass: &mut Pass<L>, number: u64) -> DeskResult<()>
-        ensures { IsAnswered (λ u. reply.Closed) pass.old pass.new (request.Close number) result }
+        ensures { IsAnswered (λ u. reply.Closed) (IsTold pass.old pass.new (request.Close number)) result }
     {
         match self.serve(rt, pass, Request::Close(number))? {
             Reply::Closed => Ok(()),
@@ -245,7 +246,7 @@ impl<L: Naming> Desk<L> {
 
     /// The credentials that the tenant issues and holds, in order. Refused as `serve` is.
     pub fn vault<R: Wait>(&self, rt: &R, pass: &mut Pass<L>) -> DeskResult<Rows>
-        ensures { IsAnswered reply.Vault pass.old pass.new request.Vault result }
+        ensures { IsAnswered reply.Vault (IsTold pass.old pass.new request.Vault) result }
     {
         match self.serve(rt, pass, Request::Vault)? {
             Reply::Vault(rows) => Ok(rows),
@@ -256,7 +257,7 @@ impl<L: Naming> Desk<L> {
 
     /// The names whose vaults the tenant reads, its own among them, in order, public ones marked. Refused as `serve` is.
     pub fn sees<R: Wait>(&self, rt: &R, pass: &mut Pass<L>) -> DeskResult<Sights>
-        ensures { IsAnswered reply.Sees pass.old pass.new request.Sees result }
+        ensures { IsAnswered reply.Sees (IsTold pass.old pass.new request.Sees) result }
     {
         match self.serve(rt, pass, Request::Sees)? {
             Reply::Sees(sights) => Ok(sights),
@@ -273,7 +274,7 @@ impl<L: Naming> Desk<L> {
         number: u64,
         member: Entity,
     ) -> DeskResult<Proof>
-        ensures { IsAnswered reply.Proof pass.old pass.new (request.Proof number member) result }
+        ensures { IsAnswered reply.Proof (IsTold pass.old pass.new (request.Proof number member)) result }
     {
         match self.serve(rt, pass, Request::Proof(number, member))? {
             Reply::Proof(proof) => Ok(proof),
@@ -387,7 +388,7 @@ impl<L: Naming> Desk<L> {
         next: Next,
         ends: &mut Ends,
     ) -> Result<Option<Front<L>>, AllocError>
-        requires { HasEnded next → (mutex_guard_value room).stopped ≡ true }
+        requires { (next ≡ Next.Idle) ⊎ (next ≡ Next.Unasked) → (mutex_guard_value room).stopped ≡ true }
         ensures end { IsEndBy next result }
         ensures told { ends.new ≡ [] }
     {

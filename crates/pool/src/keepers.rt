@@ -1,8 +1,7 @@
 //! The one history of a desk: who keeps it, and who has seen a beginning of it.
 ghost use Rattle.std.specs.Prelude.{ℕ, ◌≡◌, ◌-◌, ◌^◌, ◌++◌, ◌∷◌, []};
 ghost use mathlib.Core.List.{IsPrefix};
-ghost use Rattle.pool.specs.Fronts.{own_of, own_items};
-ghost use Rattle.pool.specs.Histories.{IsLegal, item_of};
+ghost use Rattle.pool.specs.Histories.{own_of, IsLegal, item_of};
 
 use crate::seats::{Add, Borrowed, Fresh, Knows, Law, Telling};
 use crate::tallies;
@@ -152,8 +151,7 @@ impl<J: Naming> Model for Front<J> {
     ghost use Rattle.search.specs.contracts.stages.Stage as running;
     ghost use Rattle.search.specs.contracts.findings.Monitor as memory;
     ghost use Rattle.pool.specs.Rules.{adds_under};
-    ghost use Rattle.pool.specs.Fronts.{FrontState};
-    ghost use Rattle.pool.specs.Histories.{IsLegal};
+    ghost use Rattle.pool.specs.Histories.{FrontState, IsLegal};
 
     ghost Value = { FrontState };
 
@@ -171,7 +169,7 @@ impl<J: Naming> Keeper<J> {
     /// A front that has seen all, under a name of which there is no item.
     pub fn front(&mut self) -> Front<J>
         ensures seen { result.seen ≡ self.old }
-        ensures own { own_items result ≡ [] }
+        ensures own { own_of result.name result.seen ≡ [] }
         ensures same { self.new ≡ self.old }
     {
         let table = &self.table;
@@ -187,7 +185,7 @@ impl<J: Naming> Keeper<J> {
     pub fn tell(&mut self, front: &mut Front<J>, noted: &Noted)
         requires { IsLegal J.roster (self.old ++ item_of front.old.name noted.now ∷ []) }
         ensures began { IsPrefix front.old.seen self.old }
-        ensures own { own_items front.new ≡ own_items front.old ++ item_of front.old.name noted.now ∷ [] }
+        ensures own { own_of front.old.name self.new ≡ own_of front.old.name front.old.seen ++ item_of front.old.name noted.now ∷ [] }
         ensures front { front.new ≡ record front.old { seen = self.new } }
         ensures history { self.new ≡ self.old ++ item_of front.old.name noted.now ∷ [] }
     {
@@ -198,7 +196,7 @@ impl<J: Naming> Keeper<J> {
         requires item { T.item ≡ item_of front.old.name noted.now }
         requires legal { IsLegal J.roster (self.old ++ item_of front.old.name noted.now ∷ []) }
         ensures began { IsPrefix front.old.seen self.old }
-        ensures own { own_items front.new ≡ own_items front.old ++ item_of front.old.name noted.now ∷ [] }
+        ensures own { own_of front.old.name self.new ≡ own_of front.old.name front.old.seen ++ item_of front.old.name noted.now ∷ [] }
         ensures front { front.new ≡ record front.old { seen = self.new } }
         ensures history { self.new ≡ self.old ++ item_of front.old.name noted.now ∷ [] }
     {

@@ -1,9 +1,8 @@
 //! The right to call a desk for a tenant.
 ghost use Rattle.std.specs.Prelude.{◌≡◌, ◌++◌, ◌∷◌, []};
 ghost use mathlib.Core.List.{IsPrefix};
-ghost use Rattle.pool.specs.Fronts.{own_items};
-ghost use Rattle.pool.specs.Histories.{IsLegal, item_of};
-ghost use Rattle.pool.specs.Passes.{own_calls, accepted_in, front_of, share_of};
+ghost use Rattle.pool.specs.Histories.{own_of, IsLegal, item_of};
+ghost use Rattle.pool.specs.Passes.{accepted_in, share_of};
 
 use crate::keepers::{Front, Keeper, Naming};
 use crate::turns::Noted;
@@ -28,7 +27,7 @@ impl<L: Naming> Model for Pass<L> {
     ghost use Rattle.std.specs.FinMap as fin;
     ghost use Rattle.search.specs.contracts.stages.Stage as running;
     ghost use Rattle.search.specs.contracts.findings.Monitor as memory;
-    ghost use Rattle.pool.specs.Fronts.{own_items};
+    ghost use Rattle.pool.specs.Histories.{own_of};
     ghost use Rattle.pool.specs.Passes.{PassState, accepted_in};
 
     ghost Value = { PassState };
@@ -40,7 +39,7 @@ impl<L: Naming> Model for Pass<L> {
     ghost invariant = { λ p.
         (p.share.parts ≡ 1)
         × (p.told ≡ p.share.amount)
-        × (p.share.amount ≡ accepted_in (own_items p.seen))
+        × (p.share.amount ≡ accepted_in (own_of p.seen.name p.seen.seen))
         × (p.front ≡ accepted_in p.seen.seen) };
 }
 
@@ -50,7 +49,7 @@ impl<L: Naming> Pass<L> {
         requires part { share.parts ≡ 1 }
         requires nothing { share.amount ≡ 0 }
         requires front { front ≡ accepted_in seen.seen }
-        requires none { own_items seen ≡ [] }
+        requires none { own_of seen.name seen.seen ≡ [] }
         ensures { result ≡ record { tenant = tenant; name = seen.name; seen = seen.seen } }
     {
         Pass {
@@ -71,7 +70,7 @@ impl<L: Naming> Pass<L> {
 
     /// The length of the journal that the pass has seen.
     pub fn front(&self) -> u64
-        ensures { result ≡ front_of self.now }
+        ensures { result ≡ accepted_in self.now.seen }
     {
         self.front
     }
@@ -105,7 +104,7 @@ impl<L: Naming> Pass<L> {
         requires before { before ≡ accepted_in keeper.old }
         requires after { after ≡ accepted_in (keeper.old ++ item_of self.old.name noted.now ∷ []) }
         ensures began { IsPrefix self.old.seen keeper.old }
-        ensures own { own_calls self.new ≡ own_calls self.old ++ item_of self.old.name noted.now ∷ [] }
+        ensures own { own_of self.old.name keeper.new ≡ own_of self.old.name self.old.seen ++ item_of self.old.name noted.now ∷ [] }
         ensures pass { self.new ≡ record self.old { seen = keeper.new } }
         ensures keeper { keeper.new ≡ keeper.old ++ item_of self.old.name noted.now ∷ [] }
         ensures total { book.new.total ≡ after }

@@ -1,19 +1,19 @@
 //! What lies under the lock of a desk: the hall with the keeper of its history, and the count of the changes of which passes were told.
 ghost use Rattle.std.specs.Prelude.{◌≡◌, ◌↔◌, ◌+◌, ◌<◌, ◌++◌, ◌∷◌, ℕ, true, false, [], length, vec_len};
-ghost use Rattle.std.specs.Prelude.{None, option_map, IfSome, IfOk, IfErr, OnOk, OnErr};
+ghost use Rattle.std.specs.Prelude.{None, Err, option_map, IfSome, IfOk, IfErr, OnOk, OnErr};
 ghost use mathlib.Core.List.{IsPrefix};
 ghost use Rattle.std.specs.Arc.{arc_value};
 ghost use Rattle.std.specs.List.{sum_by};
 ghost use Rattle.vaults.specs.Journal.{credentials};
 ghost use Rattle.search.specs.Search.{settled_of};
-ghost use Rattle.hall.specs.Answers.{answer_of};
+ghost use Rattle.hall.specs.Answers.{answer_of, IsToldOver};
 ghost use Rattle.hall.specs.declared.calls.requests.Request.TheVariants as request;
 ghost use Rattle.hall.specs.{Work.StillWorks, Hall.IsServed, Hall.known, Hall.new_hall, Hall.search_at, Hall.told_as};
 ghost use Rattle.pool.specs.declared.turns.Item.TheVariants as item;
-ghost use Rattle.pool.specs.Passes.{own_calls, share_of};
-ghost use Rattle.pool.specs.Fronts.{HasStop};
+ghost use Rattle.pool.specs.Histories.{own_of, HasStop, IsReadOff};
+ghost use Rattle.pool.specs.Passes.{share_of};
 ghost use Rattle.pool.specs.Rooms.{IsKept, request_concern};
-ghost use Rattle.pool.specs.Served.{IsAnswered, IsTold, IsRefused, Suits, IsLent, IsReadAs, IsPolledIn, IsVerdictOn};
+ghost use Rattle.pool.specs.Served.{IsAnswered, IsTold, Suits, IsLent, IsPolled, IsPolledIn, IsVerdict};
 ghost use Rattle.pool.specs.Verdicts.{IsTrueWhereCompleted};
 
 use crate::faults::{DeskFault, DeskResult};
@@ -65,8 +65,7 @@ impl<L: Naming> Model for Room<L> {
     ghost use Rattle.search.specs.contracts.stages.Stage as running;
     ghost use Rattle.search.specs.contracts.findings.Monitor as memory;
     ghost use Rattle.std.specs.Prelude.{true};
-    ghost use Rattle.pool.specs.Fronts.{HasStop};
-    ghost use Rattle.pool.specs.Histories.{Reaches};
+    ghost use Rattle.pool.specs.Histories.{HasStop, Reaches};
     ghost use Rattle.pool.specs.Rooms.{RoomState};
 
     ghost Value = { RoomState };
@@ -125,7 +124,7 @@ impl<L: Naming> Room<L> {
     /// A new pass of this tenant, which has seen all that was told, and has made no call.
     pub(crate) fn admit(&mut self, who: Entity) -> DeskResult<Pass<L>>
         ensures pass { IfOk result (λ p. p ≡ record { tenant = who; name = p.name; seen = self.old.told }) }
-        ensures none { IfOk result (λ p. own_calls p ≡ []) }
+        ensures none { IfOk result (λ p. own_of p.name p.seen ≡ []) }
         ensures ok { OnOk result (self.new ≡ record self.old { out = self.old.out + 1 }) }
         ensures refused { IfErr result (λ f. f ≡ DeskFault.Hall Fault.Memory) }
         ensures full { OnErr result (self.old.out ≡ MOST_OUT) }
@@ -170,7 +169,7 @@ impl<L: Naming> Room<L> {
         request: Request,
         remains: &mut Option<Remains>,
     ) -> DeskResult<Served>
-        ensures answered { IsAnswered (λ s. s.reply) pass.old pass.new request result }
+        ensures answered { IsAnswered (λ s. s.reply) (IsTold pass.old pass.new request) result }
         ensures suits { IfOk result (λ s. Suits request s.reply) }
         ensures notice { IfOk result (λ s. s.notice ≡ request_concern pass.old.tenant request) }
     {
@@ -211,7 +210,7 @@ impl<L: Naming> Room<L> {
     /// Polls where the tenant has no such search, which the hall refuses.
     fn refuse(&mut self, pass: &mut Pass<L>, number: u64) -> DeskFault
         requires { None ≡ option_map (λ r. r.search) (search_at self.old.hall pass.old.tenant number) }
-        ensures refused { IsRefused pass.old pass.new (request.Poll number) result }
+        ensures polled { IsPolled pass.old pass.new number (Err result) }
         ensures seen { IsPrefix self.old.told pass.new.seen }
     {
         let result = self.ask(pass, Request::Poll(number), &mut None);
@@ -354,7 +353,7 @@ fn ask_hall(
 
 /// The reply to a request that reads the search.
 pub(crate) fn read_off(alloc: Global, search: &Search, request: &Request) -> DeskResult<Reply>
-    ensures { IsReadAs (known search.now) request.now result }
+    ensures { IsAnswered (λ r. r) (IsReadOff (known search.now) request.now) result }
 {
     Ok(match request {
         Request::Proof(_, member) => Reply::Proof(proof_of(alloc, search, member)?),
@@ -365,7 +364,8 @@ pub(crate) fn read_off(alloc: Global, search: &Search, request: &Request) -> Des
 /// The verdict on the search as it stands.
 pub(crate) fn verdict_on(search: &Search) -> DeskResult<Verdict>
     requires { IsTrueWhereCompleted (credentials search.now.snapshot.vaults) search.now.query (answer_of (settled_of search.now)) }
-    ensures { IsVerdictOn search.now result }
+    ensures { IsVerdict (IsToldOver (known search.now) request.Poll)
+        (λ query shown. (query ≡ search.now.query) × (shown ≡ search.now.snapshot)) result }
 {
     Ok(Verdict::new(search, told_of(search)?)?)
 }

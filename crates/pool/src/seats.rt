@@ -64,17 +64,18 @@ impl Split<Knows> for Fresh {
 pub struct Borrowed;
 
 impl Join<Knows> for Borrowed {
-    ghost use Rattle.pool.specs.Rules.{gone};
+    ghost use Rattle.std.specs.Prelude.{false, []};
 
     ghost both = { λ v w. record v { named = w.named; name = w.name; seen = w.seen } };
 
-    ghost spent = { gone };
+    ghost spent = { record { keeps = false; drawn = 0; all = []; named = false; name = 0; seen = [] } };
 }
 
 impl Split<Knows> for Borrowed {
-    ghost use Rattle.pool.specs.Rules.{adds_under, unnamed};
+    ghost use Rattle.std.specs.Prelude.{false, []};
+    ghost use Rattle.pool.specs.Rules.{adds_under};
 
-    ghost left = { unnamed };
+    ghost left = { λ v. record v { named = false; name = 0; seen = [] } };
 
     ghost right = { λ v. adds_under v.name v.all };
 }

@@ -1,9 +1,8 @@
 //! What a worker does when it has the lock.
-ghost use Rattle.std.specs.Prelude.{◌≡◌, ◌<◌, ◌≤◌, ◌+◌, ◌↔◌, [], IsTrue, option_map};
+ghost use Rattle.std.specs.Prelude.{◌≡◌, ◌<◌, ◌≤◌, ◌+◌, ◌↔◌, [], IsTrue, option_map, if◌then◌else◌};
 ghost use Rattle.hall.specs.Batches.{IsLookedUp, name_of};
 ghost use Rattle.hall.specs.Work.{IsVisit, TellsEnds};
 ghost use Rattle.pool.specs.Rooms.{IsIdle};
-ghost use Rattle.pool.specs.Workers.{order_in};
 
 use crate::keepers::Naming;
 use crate::rooms::Room;
@@ -37,7 +36,7 @@ impl<L: Naming> Room<L> {
         requires space { BATCH ≤ batch.old.room }
         requires told { ends.old ≡ [] }
         requires worker { 0 < tally.old.workers }
-        ensures visit { IsVisit (order_in self.old order) 32 self.old.hall batch.old result self.new.hall batch.new }
+        ensures visit { IsVisit (if self.old.stopped then Order.GiveBack else order) 32 self.old.hall batch.old result self.new.hall batch.new }
         ensures ends { TellsEnds (option_map name_of batch.old.of) self.old.hall self.new.hall ends.new }
         ensures room { self.new ≡ record self.old { hall = self.new.hall } }
         ensures counted { tally.new ≡ record tally.old { letters = tally.old.letters + result.finished } }

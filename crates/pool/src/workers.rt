@@ -1,6 +1,6 @@
 //! Workers: threads that take letters, look up outside the lock, and hand in.
 ghost use Rattle.std.specs.Prelude.{ℕ, List, ◌≡◌, ◌≤◌, ◌+◌, [], IfOk, IfErr, vec_len, vec_capacity};
-ghost use Rattle.pool.specs.Fronts.{HasStop};
+ghost use Rattle.pool.specs.Histories.{HasStop};
 ghost use Rattle.pool.specs.Refusals.{IsWorkRefusal};
 ghost use Rattle.hall.specs.Batches.{IsEmpty, IsLookedUp};
 ghost use Rattle.pool.specs.Workers.{AreLetThrough, IsLeftBy, workers_in};
@@ -67,7 +67,7 @@ pub(crate) struct Worked<L: Naming> {
 }
 
 impl<L: Naming> Model for Worked<L> {
-    ghost use Rattle.pool.specs.Fronts.{HasStop};
+    ghost use Rattle.pool.specs.Histories.{HasStop};
     ghost use Rattle.pool.specs.Workers.{TallyState};
 
     ghost Value = { TallyState };

@@ -4,9 +4,9 @@ use Rattle.search.specs.Search.{SearchState}
 use Rattle.hall.specs.Answers.{answer_of}
 use Rattle.search.specs.Search.{settled_of}
 use Rattle.pool.specs.Rooms.{RoomState}
-use Rattle.pool.specs.Served.{IsVerdictOn, IsPolledIn}
+use Rattle.pool.specs.Served.{IsPolledIn}
 use Rattle.pool.specs.Verdicts.{IsTrueWhereCompleted}
-use Rattle.pool.proofs.Lent.{found_truth, lent_polled}
+use Rattle.pool.proofs.Lent.{found_truth, IsVerdictOn, lent_polled}
 use Rattle.pool.proofs.desks.Desk.look.Goals as goal
 
 pub verdict_on-requires : goal.verdict_on-requires

@@ -1,7 +1,8 @@
 use Rattle.std.proofs.Common.{subst, Ok, Err}
 use Rattle.search.specs.Search.{SearchState}
 use Rattle.hall.specs.Hall.{known}
-use Rattle.pool.specs.Served.{IsReadAs}
+use Rattle.pool.specs.Histories.{IsReadOff}
+use Rattle.pool.specs.Served.{IsAnswered}
 use Rattle.pool.specs.declared.rooms.Served.{Served}
 use Rattle.pool.proofs.Lent.{lent_answered, read_suits}
 use Rattle.pool.proofs.Told.{answered_later}
@@ -9,7 +10,7 @@ use Rattle.pool.proofs.desks.Desk.serve.Goals as goal
 
 pub returns-in-Some : goal.returns-in-Some
 returns-in-Some g c =
-    let read = subst (λ (s : SearchState). IsReadAs (known s) c.args.request c.read_off.result) c.deref.ensures c.read_off.ensures in record {
+    let read = subst (λ (s : SearchState). IsAnswered (λ r. r) (IsReadOff (known s) c.args.request) c.read_off.result) c.deref.ensures c.read_off.ensures in record {
       answered = lent_answered _ c.args.pass.now _ c.args.request c.in-Some.search.value c.in-Some.ensures.lent c.read_off.result read;
       suits = read_suits _ c.args.pass.now _ c.args.request c.in-Some.search.value c.in-Some.ensures.lent c.read_off.result read;
     }

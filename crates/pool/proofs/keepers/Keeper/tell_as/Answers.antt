@@ -2,9 +2,8 @@ use Rattle.std.proofs.Common.{◌∙◌, ℕ, List, ◌++◌, ◌∷◌, [], ap,
 use Rattle.atomic_table.specs.Table.{Me}
 use Rattle.pool.specs.declared.seats.Knows.{Knows}
 use Rattle.pool.specs.declared.turns.Item.{Item}
-use Rattle.pool.specs.Fronts.{name_of}
+use Rattle.pool.specs.Histories.{name_of, IsLegal}
 use Rattle.pool.specs.Rules.{AreNamed}
-use Rattle.pool.specs.Histories.{IsLegal}
 use Rattle.pool.proofs.Named.{named_push}
 use Rattle.pool.proofs.Borrowing.{name_item, bears, compared, bears_more, keeps_more, keeper_itself}
 use Rattle.pool.proofs.Seating.{takes_in_as, lets_out, adds_as}
@@ -55,7 +54,7 @@ invariant_of-self g c =
     let p = c.split_seat-seat.ensures in
     let last = keeps_more c.self.inside.seat.me c.join_seat.new.seat.me c.load-word.new.seat.me c.seat.inside.seat.me.0 (λ l. l ++ g.T.Telling.item ∷ []) i.3 (ap (λ m. m.0) o.1) j.2 l.2.0 l.2.1 c.split_seat-seat.new.seat.me p.2 in
     let own = ap name_of c.requires.item ∙ name_item c.args.front.now.name c.args.noted.now ∙ sym (ap (λ f. f.name) (c.seat.view_is ∙ c.replace.ensures.value)) in
-    let told = compared c.self.inside.seat.me c.join_seat.new.seat.me c.load-word.new.seat.me c.seat.inside.seat.me.0 (λ l. l ++ g.T.Telling.item ∷ []) i.3 (ap (λ m. m.0) o.1) j.2 l.2.2 in (
+    let told = compared c.self.inside.seat.me c.join_seat.new.seat.me c.load-word.new.seat.me c.seat.inside.seat.me.0 (λ l. l ++ g.T.Telling.item ∷ []) i.3 (ap (λ m. m.0) o.1) j.2 (l.2.2, l.2.3, l.2.4) in (
       i.0,
       p.0 ∙ l.0 ∙ j.0 ∙ i.1,
       i.2,

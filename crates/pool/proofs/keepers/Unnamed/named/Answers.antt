@@ -1,8 +1,7 @@
 use Rattle.std.proofs.Common.{◌≡◌, ◌∙◌, [], ap, sym, subst, List}
 use Rattle.pool.specs.declared.turns.Item.{Item}
 use Rattle.pool.specs.Rules.{Names, keeper}
-use Rattle.pool.specs.Fronts.{own_of}
-use Rattle.pool.specs.Histories.{IsLegal}
+use Rattle.pool.specs.Histories.{own_of, IsLegal}
 use Rattle.pool.proofs.Reaching.{nothing_legal}
 use Rattle.pool.proofs.keepers.Unnamed.named.Goals as goal
 

@@ -1,7 +1,6 @@
 use Rattle.std.proofs.Common.{◌≡◌, ◌∙◌, ◌+◌, ◌-◌, ◌++◌, ◌∷◌, [], ap, sym, arith}
 use Rattle.pool.specs.declared.turns.Item.{Item}
-use Rattle.pool.specs.Fronts.{FrontState, own_items}
-use Rattle.pool.specs.Histories.{item_of}
+use Rattle.pool.specs.Histories.{FrontState, own_of, item_of}
 use Rattle.pool.specs.Passes.{PassState, accepted_in}
 use Rattle.pool.proofs.Sharing.{more_accepted, share_grown}
 use Rattle.pool.proofs.passes.Pass.hear.Goals as goal
@@ -23,7 +22,9 @@ invariant_of-self g c =
       c.audit.ensures.parts ∙ c.add.ensures.parts ∙ c.self.invariant.0,
       ap (λ k. k + (c.args.after - c.args.before)) c.self.invariant.1 ∙ sym (c.audit.ensures.amount ∙ c.add.ensures.amount),
       c.audit.ensures.amount ∙ c.add.ensures.amount
-          ∙ share_grown c.self.inside.share.amount c.args.before c.args.after (own_items c.self.inside.seen) (own_items c.tell.new.front) i j c.self.invariant.2 c.tell.ensures.own same more,
+          ∙ share_grown c.self.inside.share.amount c.args.before c.args.after (own_of c.self.inside.seen.name c.self.inside.seen.seen)
+          (own_of c.tell.new.front.name c.tell.new.front.seen) i j c.self.invariant.2
+          (ap (λ (f : FrontState). own_of f.name f.seen) c.tell.ensures.front ∙ c.tell.ensures.own) same more,
       c.requires.after ∙ ap accepted_in (ap (λ (x : Item). c.args.keeper.now ++ x ∷ []) (sym same) ∙ sym c.tell.ensures.history ∙ sym (ap (λ (f : FrontState). f.seen) c.tell.ensures.front)),
     )
 

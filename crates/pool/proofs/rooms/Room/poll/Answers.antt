@@ -15,7 +15,7 @@ refuse-requires g c =
     (subst (λ (n : List ℕ). None ≡ option_map (λ (one : Running). one.search) (search_at c.self.inside.hall n c.args.number)) c.tenant-who.ensures c.in_default.ensures)
 
 pub returns-in_default : goal.returns-in_default
-returns-in_default g c = record { polled = inl c.refuse.ensures.refused; seen = c.refuse.ensures.seen; working = tt }
+returns-in_default g c = record { polled = c.refuse.ensures.polled; seen = c.refuse.ensures.seen; working = tt }
 
 pub hear-requires-clause-legal : goal.hear-requires-clause-legal
 hear-requires-clause-legal g c =

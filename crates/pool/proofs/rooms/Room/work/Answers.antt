@@ -6,7 +6,6 @@ use Rattle.hall.specs.Work.{IsVisit, TellsEnds}
 use Rattle.pool.specs.Histories.{Reaches}
 use Rattle.pool.specs.Rooms.{RoomState}
 use Rattle.pool.specs.declared.visits.TheConstants.{BATCH}
-use Rattle.pool.specs.Workers.{order_in}
 use Rattle.pool.proofs.Visiting.{visit_keeps, keeps_journal, keeps_reached}
 use Rattle.pool.proofs.rooms.Room.work.Goals as goal
 use Rattle.pool.proofs.rooms.Room.work.Goals.{then-self, else-self}
@@ -32,7 +31,7 @@ returns g c =
       | else-self w ↦ w.order-is ∙ ap (λ (b : Bool). cond b GiveBack c.args.order) (sym w.if-self.false)
     ] in record {
       visit = subst (λ (order : Order). IsVisit order BATCH c.args.self.now.hall c.args.batch.now c.work-visit.result c.work-visit.new.self c.work-visit.new.batch)
-          (ordered ∙ ap (λ (r : RoomState). order_in r c.args.order) c.self.view_is)
+          (ordered ∙ ap (λ (r : RoomState). cond r.stopped GiveBack c.args.order) c.self.view_is)
           (subst (λ (r : RoomState). IsVisit c.if-self.order BATCH r.hall c.args.batch.now c.work-visit.result c.work-visit.new.self c.work-visit.new.batch) c.self.view_is c.work-visit.ensures.visit);
       ends = subst (λ (r : RoomState). TellsEnds (option_map name_of c.args.batch.now.of) r.hall c.work-visit.new.self c.work-visit.new.ends) c.self.view_is c.work-visit.ensures.ends;
       room = ap (λ (r : RoomState). record r { hall = c.work-visit.new.self }) c.self.view_is;
