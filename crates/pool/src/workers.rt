@@ -1,9 +1,11 @@
 //! Workers: threads that take letters, look up outside the lock, and hand in.
-ghost use Rattle.std.specs.Prelude.{ℕ, List, ◌≡◌, ◌≤◌, ◌+◌, [], IfOk, IfErr, vec_len, vec_capacity};
+ghost use Rattle.std.specs.Prelude.{ℕ, List, ◌≡◌, ◌≤◌, ◌+◌, [], All, IfOk, IfErr, MatchOption, vec_len, vec_capacity};
+ghost use Rattle.std.specs.Option.{option_map_or};
+ghost use Rattle.search.specs.declared.queries.Need.{Need};
 ghost use Rattle.pool.specs.Histories.{HasStop};
 ghost use Rattle.pool.specs.Refusals.{IsWorkRefusal};
 ghost use Rattle.hall.specs.Batches.{IsEmpty, IsLookedUp};
-ghost use Rattle.pool.specs.Workers.{AreLetThrough, IsLeftBy, workers_in};
+ghost use Rattle.pool.specs.Workers.{IsLeftBy};
 
 use crate::desks::Desk;
 use crate::faults::{DeskFault, DeskResult};
@@ -47,7 +49,8 @@ impl Gate for NoGate {
 fn look_up_all<G: Gate>(gate: &G, batch: &mut Batch)
     requires { batch.old.looked ≡ 0 }
     ensures looked_up { IsLookedUp batch.new }
-    ensures let_through { AreLetThrough G.LetThrough batch.new }
+    ensures let_through { MatchOption batch.new.of (Unit {0})
+        (λ of. All (λ (letter : ℕ × Need). G.LetThrough of.who of.number letter.0) batch.new.letters) }
     ensures same { batch.new ≡ record batch.old { looked = batch.new.looked } }
 {
     let Some((who, number)) = batch.search() else {
@@ -199,7 +202,7 @@ fn visit_in_a_row<L: Naming, G: Gate, R: Wait>(
 
 /// What workers finished, with one more.
 fn with_one<L: Naming>(all: Option<Worked<L>>, one: One<L>) -> Worked<L>
-    ensures { result.workers ≡ workers_in all + 1 }
+    ensures { result.workers ≡ option_map_or (λ tally. tally.workers) all 0 + 1 }
 {
     let One { worked } = one;
     match all {
@@ -216,7 +219,7 @@ fn join_all<L: Naming, R: Threads>(
     rt: &R,
     handles: Vec<JoinHandle<Result<One<L>, AllocError>>>,
 ) -> Result<Option<Worked<L>>, AllocError>
-    ensures { IfOk result (λ all. workers_in all ≡ vec_len handles) }
+    ensures { IfOk result (λ all. option_map_or (λ tally. tally.workers) all 0 ≡ vec_len handles) }
 {
     let mut all = None;
     let mut each = Ok(());
