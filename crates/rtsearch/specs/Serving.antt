@@ -16,5 +16,5 @@ Served lines count went_out = BeginsWithRoster lines × ServeWrote (Some count) 
 
 -- the line that refuses a faulty roster went out, or a front of it; or what a service writes that fails
 abbrev pub NotServed : List Line → Option ℕ → (List ℕ → Type 0) → Type 0
-NotServed lines accept went_out = (HasNoRoster lines × (went_out roster_refusal ⊎ WroteFront [] roster_refusal went_out))
+NotServed lines accept went_out = (HasNoRoster lines × (went_out roster_refusal ⊎ WroteFront roster_refusal went_out))
     ⊎ (BeginsWithRoster lines × ((why : ServeFault) × ServeWrote accept (Err why) went_out))

@@ -13,10 +13,9 @@ use Rattle.service.specs.declared.lines.NextLine.{NextLine}
 use Rattle.service.specs.declared.lines.NextLine.TheVariants.{End}
 use Rattle.service.specs.Line.{Line, is_blank, commands_of}
 use Rattle.service.specs.LineReader.{Source, known, unknown, failed, Shows, Gives, IfKnown}
-use Rattle.service.specs.Written.{WritesFront, SendsUpTo, WentOut}
-use Rattle.service.specs.Conversation.{Talks, Conversed}
+use Rattle.service.specs.Written.{SendsUpTo, WentOut, Talks, Conversed}
 use Rattle.service.proofs.LinesLemmas.{Gives-first, IfKnown-map}
-use Rattle.service.proofs.WrittenLemmas.{SendsUpTo-nothing, SendsUpTo-more, SendsUpTo-said, SendsUpTo-all, WritesFront-behind}
+use Rattle.service.proofs.WrittenLemmas.{WritesFront, SendsUpTo-nothing, SendsUpTo-more, SendsUpTo-said, SendsUpTo-all, WritesFront-behind}
 
 -- The first of these lines were answered, of their replies a front went out and the rest waits, and the other lines are left.
 pub record SoFar {S : Type 0} (Answers : S → Line → List ℕ → Flow → S → Type 0) (before : S)

@@ -2,7 +2,11 @@
 use Rattle.std.proofs.Common.{◌≡◌, ℕ, List, [], ◌∷◌, map, Option, Some, sym, ap, ◌∙◌, inl, inr}
 use Rattle.quotas.specs.Quota.{Quota, usual_quota}
 use Rattle.service.specs.Words.{number_of}
-use Rattle.service.specs.Roster.{numbers_of, IsLimits}
+use Rattle.service.specs.Roster.{IsLimits}
+
+-- the limits as numbers, in the order of a roster's line
+abbrev numbers_of : Quota → List ℕ
+numbers_of q = q.creds ∷ q.grants ∷ q.searches ∷ q.changes ∷ q.opens ∷ q.work ∷ []
 
 -- the limits of six numbers
 abbrev quota_of : List (Option ℕ) → Quota

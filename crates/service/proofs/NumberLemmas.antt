@@ -11,7 +11,11 @@ use Rattle.std.proofs.lemmas.Fmt.{IsAscii-from_digits}
 use Rattle.std.proofs.lemmas.Str.{IsUtf8-from_ascii}
 use Rattle.std.proofs.lemmas.Str.Parse.{IsNumeralModel, numerals_by_value, digits_value_short, parse_plain}
 use Rattle.names.specs.Name.{is_digit}
-use Rattle.service.specs.Words.{is_number, number_of}
+use Rattle.service.specs.Words.{number_of}
+
+-- the text of a number: 1 to 10 decimal digits, the first not 0
+abbrev is_number : List ℕ → Bool
+is_number text = ltb 48 (get_or text 0 0) && (leb (length text) 10 && list_all is_digit text)
 
 -- digits, by the test of each
 digits : IsNumeralModel (λ ds. list_all is_digit ds ≡ true) (digits_value 10)

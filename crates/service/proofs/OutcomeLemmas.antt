@@ -2,7 +2,7 @@
 use Rattle.std.proofs.Common.{◌≡◌, ℕ, Bool, true, false, List, codes, sym, refl, subst}
 use Rattle.std.specs.Prelude.{MatchBool}
 use Rattle.std.specs.List.{list_any, before_first, after_first}
-use Rattle.hall.specs.Hall.{HallState}
+use Rattle.hall.specs.Hall.{HallState, account_of}
 use Rattle.service.specs.declared.refusals.Refusal.TheVariants as refusal
 use Rattle.service.specs.Line.{Line, text, too_long, not_ascii}
 use Rattle.service.specs.Words.{is_colon, trim_start}
@@ -37,8 +37,8 @@ IsOutcome-same one other same (text t) outcome is =
     (same who) is
 
 -- a line that is no text
-pub long_answered : (hall : HallState) (reply : List ℕ) → reply ≡ refusal_line (codes "?: ") (refusal_number refusal.LineLong) → Becomes hall (IsOutcome (speaks hall) too_long) reply hall
+pub long_answered : (hall : HallState) (reply : List ℕ) → reply ≡ refusal_line (codes "?: ") (refusal_number refusal.LineLong) → Becomes hall (IsOutcome (speaks (account_of hall)) too_long) reply hall
 long_answered hall reply is = record { outcome = nobody refusal.LineLong; allowed = refl; done = refl; text = sym is }
 
-pub not_ascii_answered : (hall : HallState) (reply : List ℕ) → reply ≡ refusal_line (codes "?: ") (refusal_number refusal.NotAscii) → Becomes hall (IsOutcome (speaks hall) not_ascii) reply hall
+pub not_ascii_answered : (hall : HallState) (reply : List ℕ) → reply ≡ refusal_line (codes "?: ") (refusal_number refusal.NotAscii) → Becomes hall (IsOutcome (speaks (account_of hall)) not_ascii) reply hall
 not_ascii_answered hall reply is = record { outcome = nobody refusal.NotAscii; allowed = refl; done = refl; text = sym is }

@@ -3,17 +3,20 @@ use Rattle.std.proofs.Common.{◌≡◌, ℕ, List, [], ◌∷◌, map, refl, sy
 use Rattle.std.specs.List.{AllZip, AllByRecursion}
 use Rattle.std.specs.FinMap.{get}
 use Rattle.hall.specs.declared.faults.Fault.TheVariants.{NoTenant}
-use Rattle.hall.specs.declared.calls.requests.Request.{Request}
 use Rattle.hall.specs.declared.calls.replies.Reply.{Reply}
 use Rattle.hall.specs.declared.calls.replies.Reply.TheVariants.{Refused}
-use Rattle.hall.specs.Answers.{Asked, Account, start_of, Sight}
+use Rattle.hall.specs.Answers.{Asked, Account, start_of}
 use Rattle.hall.specs.Run.{Deed, asks, waits, request_of, Turn, any_time, at_waits, GoesOn, Between, Ends, IsTaken, IsRun, IsRunOf}
 use Rattle.hall.specs.Laws.{Agree, same, HasMemory, IsSameDeed}
 use Rattle.hall.proofs.Maps.{numbers_exact, each_inserted}
 use Rattle.hall.proofs.laws.HallTurns.{goes_itself}
 use Rattle.hall.proofs.laws.Worlds.{two_worlds}
 use Rattle.service.specs.Roster.{tenant_of}
-use Rattle.service.specs.Laws.{turns_of, asked, TwoScripts}
+use Rattle.service.specs.Laws.{turns_of, TwoScripts}
+
+-- two turns that ask for the same, with the same in sight: a wait counts as a poll
+abbrev AskSame : Turn → Turn → Type 0
+AskSame s t = (s.sees ≡ t.sees) × (request_of s.deed ≡ request_of t.deed)
 
 -- a turn with a poll where it has a wait
 abbrev polled : Turn → Turn
@@ -43,14 +46,11 @@ run_polled tenant a c (turn ∷ turns) (before, after, kept, taken, rest) = by t
         (m, after, subst (λ (b : Account). Between any_time b m) kept (ends_between before m k (get before.searches k) refl ends), answers, later)
 
 -- turns that ask for the same are the same but for the replies, each wait a poll
-same_polled : (first second : List Turn) → map asked first ≡ map asked second → AllZip IsSameDeed (map polled first) (map polled second)
+same_polled : (first second : List Turn) → AllZip AskSame first second → AllZip IsSameDeed (map polled first) (map polled second)
 same_polled [] [] asks_same = tt
-same_polled [] (two ∷ second) asks_same = cc
-same_polled (one ∷ first) [] asks_same = cc
-same_polled (one ∷ first) (two ∷ second) asks_same =
-    let now : asked one ≡ asked two = cc in
-    let later : map asked first ≡ map asked second = cc in
-    ((ap (λ (p : Sight × Request). p.0) now, ap (λ (p : Sight × Request). asks p.1) now), same_polled first second later)
+same_polled [] (two ∷ second) asks_same = absurd asks_same
+same_polled (one ∷ first) [] asks_same = absurd asks_same
+same_polled (one ∷ first) (two ∷ second) asks_same = ((asks_same.0.0, ap asks asks_same.0.1), same_polled first second asks_same.1)
 
 memory_polled : (turns : List Turn) → HasMemory turns → HasMemory (map polled turns)
 memory_polled [] memory = tt
@@ -63,18 +63,17 @@ unpolled (one ∷ first) [] agree = absurd agree
 unpolled (one ∷ first) (two ∷ second) agree = (agree.0, unpolled first second agree.1)
 
 -- a name that is no tenant's is refused alike
-none_agree : (first second : List Turn) → map asked first ≡ map asked second → AllByRecursion (λ (t : Turn). t.reply ≡ Refused NoTenant) first →
+none_agree : (first second : List Turn) → AllZip AskSame first second → AllByRecursion (λ (t : Turn). t.reply ≡ Refused NoTenant) first →
     AllByRecursion (λ (t : Turn). t.reply ≡ Refused NoTenant) second → AllZip (λ (s t : Turn). Agree any_time s.reply t.reply) first second
 none_agree [] [] asks_same all more = tt
-none_agree [] (two ∷ second) asks_same all more = cc
-none_agree (one ∷ first) [] asks_same all more = cc
+none_agree [] (two ∷ second) asks_same all more = absurd asks_same
+none_agree (one ∷ first) [] asks_same all more = absurd asks_same
 none_agree (one ∷ first) (two ∷ second) asks_same all more =
-    let later : map asked first ≡ map asked second = cc in
-    (subst (λ (r : Reply). Agree any_time r two.reply) (more.0 ∙ sym all.0) same, none_agree first second later all.1 more.1)
+    (subst (λ (r : Reply). Agree any_time r two.reply) (more.0 ∙ sym all.0) same, none_agree first second asks_same.1 all.1 more.1)
 
 -- two runs that ask for the same from one start
 runs_agree : (tenant : List ℕ) (start : Option Account) (first second : List Turn) (end other_end : Option Account) → IsRunOf at_waits tenant start first end →
-    IsRunOf at_waits tenant start second other_end → map asked first ≡ map asked second → HasMemory first → HasMemory second → AllZip (λ (s t : Turn). Agree any_time s.reply t.reply) first second
+    IsRunOf at_waits tenant start second other_end → AllZip AskSame first second → HasMemory first → HasMemory second → AllZip (λ (s t : Turn). Agree any_time s.reply t.reply) first second
 runs_agree tenant None first second end other_end run other asks_same memory more = none_agree first second asks_same run.0 other.0
 runs_agree tenant (Some a) first second end other_end (b, is, run) (c, also, other) asks_same memory more =
     unpolled first second
@@ -83,8 +82,8 @@ runs_agree tenant (Some a) first second end other_end (b, is, run) (c, also, oth
 
 pub scripts_agree : TwoScripts
 scripts_agree tenant input other one two starts asks_same memory other_memory =
-    let run = one.transcript.exact tenant in
-    let other_run = two.transcript.exact tenant in
+    let run = one.exact tenant in
+    let other_run = two.exact tenant in
     runs_agree tenant (start_of tenant (map tenant_of one.rows)) (turns_of tenant one.outcomes) (turns_of tenant two.outcomes) run.0 other_run.0 run.1
     (subst (λ (o : Option Account). IsRunOf at_waits tenant o (turns_of tenant two.outcomes) other_run.0) (sym starts) other_run.1)
     asks_same memory other_memory

@@ -17,15 +17,11 @@ one_line front text reply is = sym (ap (flat_map (line_after front)) is ∙ appe
 
 -- the lines of the reply
 pub IsFilled-whole : (front bytes : List ℕ) (reply : Reply) → bytes ≡ lines_after front reply → IsFilled front reply bytes
-IsFilled-whole front bytes reply lines = record { told = reply; printed = inl refl; lines = lines }
+IsFilled-whole front bytes reply lines = inl lines
 
 -- a long reply, for which there was no room
 pub IsFilled-lacking : (front bytes : List ℕ) (reply : Reply) → IsLong reply → bytes ≡ line_after front (error_text 90) → IsFilled front reply bytes
-IsFilled-lacking front bytes reply long line = record {
-  told = Refused Memory;
-  printed = inr (long, refl);
-  lines = line ∙ one_line front (error_text 90) (Refused Memory) refl;
-}
+IsFilled-lacking front bytes reply long line = inr (long, line ∙ one_line front (error_text 90) (Refused Memory) refl)
 
 -- one credential more stands behind the lines of those before
 pub credential-next : (front head before fronted spelled after : List ℕ) (xs : List Credential) (k : ℕ) (x : Credential) → slice_get xs k ≡ Some x →

@@ -1,7 +1,7 @@
 -- Lemmas on the lines of a roster.
 use Rattle.std.proofs.Common.{◌≡◌, ℕ, ◌<◌, ◌≤◌, Bool, List, [], ◌∷◌, ◌++◌, length, true, false, arith, refl, sym, ap, ◌∙◌, subst, append_assoc}
-use Rattle.std.proofs.Common.{Result, Ok, Err}
-use Rattle.std.specs.Prelude.{codes, ◌||◌, is_ok, if◌then◌else◌}
+use Rattle.std.proofs.Common.{Result, Ok, Err, ◌⊎◌, inl, inr}
+use Rattle.std.specs.Prelude.{OnOk, IfErr, codes, ◌||◌, is_ok, if◌then◌else◌}
 use Rattle.std.specs.List.{IsDistinct, list_any}
 use Rattle.std.specs.Result.{result_or}
 use Rattle.std.proofs.lemmas.Cmp.{nat_list_eq_equiv}
@@ -10,10 +10,11 @@ use Rattle.std.proofs.lemmas.List.Elements.{All-from_recursion, All-contains, Co
 use Rattle.std.proofs.lemmas.Map.Keys.{IsDistinct-head, IsDistinct-tail, IsDistinct-push}
 use Rattle.names.specs.Name.{is_same}
 use Rattle.quotas.specs.Quota.{Quota}
-use Rattle.service.specs.declared.faults.ScriptFault.TheVariants.{Memory}
+use Rattle.service.specs.declared.faults.ScriptFault.{ScriptFault}
+use Rattle.service.specs.declared.faults.ScriptFault.TheVariants as fault
 use Rattle.service.specs.Line.{Line, text, too_long, not_ascii}
 use Rattle.service.specs.Words.{words}
-use Rattle.service.specs.Roster.{RosterLine, IsRow, HasRows, HasRoster, HasNoRoster, IsRoster, AddsRow, names_of}
+use Rattle.service.specs.Roster.{RosterLine, IsRow, HasRows, HasRoster, HasNoRoster, IsRoster, names_of}
 use Rattle.service.proofs.LimitLemmas.{IsLimits-unique}
 
 -- rows of the same three parts are the same
@@ -138,6 +139,35 @@ IsDistinct-row : (rows : List RosterLine) (row : RosterLine) → IsDistinct is_s
 IsDistinct-row rows row distinct new =
     rw (map-append (λ (r : RosterLine). r.name) rows (row ∷ [])) (IsDistinct-push nat_list_eq_equiv (names_of rows) row.name distinct (list_any-names row.name rows ∙ new))
 
+-- the row of a line was added; or no roster has one there, unless memory lacked
+abbrev pub AddsRow : List RosterLine → List ℕ → Result (Unit {0}) ScriptFault → List RosterLine → Type 0
+AddsRow old line (Ok _) new = (row : RosterLine) × IsRow line row × (new ≡ old ++ row ∷ []) × (IsDistinct is_same (names_of old) → IsRoster new)
+AddsRow old line (Err fault.Roster) new = (row : RosterLine) (more : List RosterLine) → IsRow line row → IsRoster (old ++ row ∷ more) → ⊥
+AddsRow old line (Err fault.Memory) new = Unit {0}
+AddsRow old line (Err _) new = ⊥
+
+-- the same, clause by clause
+module _ (old new : List RosterLine) (line : List ℕ) where
+  pub AddsRow-added : (result : Result (Unit {0}) ScriptFault) → AddsRow old line result new →
+      OnOk result ((row : RosterLine) × IsRow line row × (new ≡ old ++ row ∷ []) × (IsDistinct is_same (names_of old) → IsRoster new))
+  AddsRow-added (Ok _) adds = adds
+  AddsRow-added (Err why) adds = tt
+
+  pub AddsRow-none : (result : Result (Unit {0}) ScriptFault) → AddsRow old line result new → result ≡ Err fault.Roster →
+      (row : RosterLine) (more : List RosterLine) → IsRow line row → IsRoster (old ++ row ∷ more) → ⊥
+  AddsRow-none result adds is = subst (λ (r : Result (Unit {0}) ScriptFault). AddsRow old line r new) is adds
+
+  pub AddsRow-fault : (result : Result (Unit {0}) ScriptFault) → AddsRow old line result new → IfErr result (λ why. (why ≡ fault.Roster) ⊎ (why ≡ fault.Memory))
+  AddsRow-fault (Ok _) adds = tt
+  AddsRow-fault (Err fault.Roster) adds = inl refl
+  AddsRow-fault (Err fault.Memory) adds = inr refl
+  AddsRow-fault (Err why) adds = absurd adds
+
+  pub AddsRow-refused : (why : ScriptFault) → (◌≡◌ {A = Result (Unit {0}) ScriptFault} (Err why) (Err fault.Roster) →
+      (row : RosterLine) (more : List RosterLine) → IsRow line row → IsRoster (old ++ row ∷ more) → ⊥) → (why ≡ fault.Roster) ⊎ (why ≡ fault.Memory) → AddsRow old line (Err why) new
+  AddsRow-refused why none (inl is) = subst (λ (w : ScriptFault). AddsRow old line (Err w) new) (sym is) (none (ap Err is))
+  AddsRow-refused why none (inr is) = subst (λ (w : ScriptFault). AddsRow old line (Err w) new) (sym is) tt
+
 -- so a roster may have one row more
 AddsRow-row : {pushed : RosterLine} {name : List ℕ} (rows new : List RosterLine) (line : List ℕ) (row : RosterLine) → IsRow line row → new ≡ rows ++ pushed ∷ [] → pushed ≡ row → length rows < 1000 →
     list_any (λ other. is_same name other.name) rows ≡ false → name ≡ row.name → AddsRow rows line (Ok tt) new
@@ -158,6 +188,6 @@ AddsRow-row rows new line row is pushed same few other named =
 -- and has it there, unless memory lacked for it
 pub AddsRow-pushed : {E : Type 0} {pushed : RosterLine} {name : List ℕ} (tried : Result (Unit {0}) E) (rows new : List RosterLine) (line : List ℕ) (row : RosterLine) → IsRow line row →
     new ≡ (if is_ok tried then rows ++ pushed ∷ [] else rows) → pushed ≡ row → length rows < 1000 → list_any (λ other. is_same name other.name) rows ≡ false → name ≡ row.name →
-    AddsRow rows line (result_or tried (Err Memory)) new
+    AddsRow rows line (result_or tried (Err fault.Memory)) new
 AddsRow-pushed (Ok _) rows new line row is are same few other named = AddsRow-row rows new line row is are same few other named
 AddsRow-pushed (Err _) rows new line row is are same few other named = tt

@@ -8,10 +8,10 @@ use Rattle.service.specs.declared.lines.NextLine.{NextLine}
 use Rattle.service.specs.declared.lines.NextLine.TheVariants.{Text, Long, NotAscii, End, Fault}
 use Rattle.service.specs.Line.{Line, text, too_long, not_ascii, is_blank, lines_of, commands_of}
 use Rattle.service.specs.LineReader.{Source, known, unknown, failed, Shows, Gives, IfKnown}
-use Rattle.service.specs.Roster.{RosterLine, IsRow, IsRoster, HasRows, HasNoRoster, AddsRow, ReadsRoster}
+use Rattle.service.specs.Roster.{RosterLine, IsRow, IsRoster, HasRows, HasNoRoster, ReadsRoster}
 use Rattle.service.specs.Words.{is_space, words}
 use Rattle.service.proofs.LinesLemmas.{Gives-first, IfKnown-map}
-use Rattle.service.proofs.RosterLemmas.{LeavesLines, LeavesLines-all, LeavesLines-row, HasNoRoster-refused, HasRoster-read}
+use Rattle.service.proofs.RosterLemmas.{AddsRow, LeavesLines, LeavesLines-all, LeavesLines-row, HasNoRoster-refused, HasRoster-read}
 
 -- the first of these lines are the rows, and the others are left
 abbrev pub SoFar : List Line → List RosterLine → Source → Type 0

@@ -9,9 +9,8 @@ use Rattle.service.specs.declared.conversations.SessionEnd.{SessionEnd}
 use Rattle.service.specs.declared.conversations.SessionEnd.TheVariants as end
 use Rattle.service.specs.Line.{Line, commands_of}
 use Rattle.service.specs.LineReader.{Source, IfKnown}
-use Rattle.service.specs.Conversation.{Conversed}
 use Rattle.service.specs.Outcome.{outcome_text, told_in, ScriptAnswers}
-use Rattle.service.specs.Written.{WentOut, ScriptRun, OpensWith, end_of, ScriptWrote}
+use Rattle.service.specs.Written.{WentOut, Conversed, ScriptRun, OpensWith, end_of, ScriptWrote}
 use Rattle.service.specs.Roster.{RosterLine, tenant_of, HasRoster, ReadsRoster}
 use Rattle.service.proofs.LinesLemmas.{IfKnown-map}
 use Rattle.service.proofs.SpeakerLemmas.{HasTenants-new}
@@ -29,7 +28,8 @@ ran lines commands rows after how out roster talk =
         rest = talk.rest;
         outcomes = all.outcomes;
         roster = subst (HasRoster lines rows) talk.split roster;
-        transcript = record { one_each = all.one_each; exact = scripts_exact tenants after (told_in all.outcomes) all.done };
+        one_each = all.one_each;
+        exact = scripts_exact tenants after (told_in all.outcomes) all.done;
       },
       subst₂ (λ (flow : Flow) (replies : List (List ℕ)). WentOut how flow talk.rest replies out)
           (never_ends (new_hall tenants, GoesOn) (after, talk.flow) talk.done talk.replies refl talk.talks) all.printed talk.out,

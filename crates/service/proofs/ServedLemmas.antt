@@ -5,8 +5,7 @@ use Rattle.std.specs.Io.KnownBytes.{Appends}
 use Rattle.service.specs.declared.faults.ServeFault.{ServeFault}
 use Rattle.service.specs.declared.faults.ServeFault.TheVariants as fault
 use Rattle.service.specs.Served.{Answered, WithPort, ServeWrote, listening_line, served_line}
-use Rattle.service.specs.Written.{WritesFront}
-use Rattle.service.proofs.WrittenLemmas.{Appends-more}
+use Rattle.service.proofs.WrittenLemmas.{WritesFront, Appends-more}
 
 -- a fault of another kind than the writer's
 early : (accept : Option ℕ) (why : ServeFault) (out : List ℕ → Type 0) → why ≢ fault.Write → ServeWrote accept (Err fault.Memory) out → ServeWrote accept (Err why) out

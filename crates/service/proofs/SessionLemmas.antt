@@ -10,7 +10,7 @@ use Rattle.service.specs.Line.{Line, text, too_long, not_ascii, commands_of}
 use Rattle.service.specs.declared.lines.Stage.TheVariants.{Open}
 use Rattle.service.specs.LineReader.{Source, left_at, IfKnown}
 use Rattle.service.specs.Roster.{RosterLine}
-use Rattle.service.specs.Conversation.{Talks, Conversed}
+use Rattle.service.specs.Written.{Talks, Conversed}
 use Rattle.service.specs.Session.{SessionState, SessionAnswers, SessionWrote}
 
 module _ (roster : List (List ℕ × Quota)) where

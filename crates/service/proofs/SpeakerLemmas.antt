@@ -1,6 +1,6 @@
 -- Lemmas on who speaks in a hall: a new hall has its roster's tenants, and it has the same whatever they do.
 use Rattle.std.proofs.Common.{◌≡◌, ℕ, Bool, true, false, cond, List, [], ◌∷◌, refl, sym, ap, subst, ◌∙◌, Option, Some, None}
-use Rattle.std.specs.Prelude.{is_some, ◌&&◌, ◌||◌}
+use Rattle.std.specs.Prelude.{is_some, ◌&&◌, ◌||◌, find, option_map}
 use Rattle.std.specs.List.{list_any}
 use Rattle.std.specs.Ordering.{eq_by_cmp}
 use Rattle.std.specs.Option.{option_map_or}
@@ -14,12 +14,35 @@ use Rattle.hall.specs.declared.calls.requests.Request.{Request}
 use Rattle.hall.specs.declared.calls.requests.Request.TheVariants as request
 use Rattle.hall.specs.declared.calls.replies.Reply.{Reply}
 use Rattle.hall.specs.declared.calls.replies.Reply.TheVariants.{Refused}
-use Rattle.hall.specs.Answers.{Account, Sight, Answers, Grants}
+use Rattle.hall.specs.Answers.{Account, new_account, start_of, Sight, Answers, Grants}
 use Rattle.hall.specs.Run.{Deed, asks, waits, Told}
-use Rattle.hall.specs.Hall.{Running, Tenant, HallState, account_of, with_tenant, search_at, hall_after, AnswersTo, IsServed, Drives, CarriesOut, AreDone, new_tenant, new_hall}
+use Rattle.hall.specs.Hall.{Running, Tenant, HallState, account, account_of, with_tenant, search_at, hall_after, AnswersTo, IsServed, Drives, CarriesOut, AreDone, new_tenant, new_hall}
 use Rattle.hall.proofs.Polled.{refused_after}
 use Rattle.hall.proofs.laws.HallChanges.{changed_here, changed_elsewhere}
-use Rattle.service.specs.Outcome.{is_speaker, speaks}
+use Rattle.service.specs.Outcome.{speaks}
+
+-- whether a tenant of a roster speaks
+abbrev pub is_speaker : List (List ℕ × Quota) → List ℕ → Bool
+is_speaker roster = speaks (λ who. start_of who roster)
+
+-- a tenant of a hall has an account
+pub has_account : (h : HallState) (who : List ℕ) → is_some (account_of h who) ≡ is_some (get h.tenants who)
+has_account h who = by (get h.tenants who)
+  where
+    by : (o : Option Tenant) → is_some (option_map (account h.journal who) o) ≡ is_some o
+    by None = refl
+    by (Some t) = refl
+
+-- a tenant stands in the roster where it begins with anything
+listed : (tenant : List ℕ) (roster : List (List ℕ × Quota)) → list_any (λ (r : List ℕ × Quota). is_same r.0 tenant) roster ≡ is_some (start_of tenant roster)
+listed tenant [] = refl
+listed tenant (row ∷ roster) = by (is_same row.0 tenant) (listed tenant roster)
+  where
+    by : (own : Bool) → list_any (λ (r : List ℕ × Quota). is_same r.0 tenant) roster ≡ is_some (start_of tenant roster) →
+        (own || list_any (λ (r : List ℕ × Quota). is_same r.0 tenant) roster)
+        ≡ is_some (option_map (λ (r : List ℕ × Quota). new_account r.1) (cond own (Some row) (find (λ (r : List ℕ × Quota). is_same r.0 tenant) roster)))
+    by true rest = refl
+    by false rest = rest
 
 -- one hall has the tenants of the other
 abbrev HasSame : HallState → HallState → Type 0
@@ -99,5 +122,5 @@ pub HasTenants-done : (roster : List (List ℕ × Quota)) (told : List Told) (ol
 HasTenants-done roster told old new has done who = has-done old new told done who ∙ has who
 
 -- so a tenant of the roster speaks where one of the hall does
-pub is_speaker-speaks : (roster : List (List ℕ × Quota)) (h : HallState) (who : List ℕ) → HasTenants h roster → is_speaker roster who ≡ speaks h who
-is_speaker-speaks roster h who has = ap (λ (b : Bool). is_name who && b) (sym (has who))
+pub is_speaker-speaks : (roster : List (List ℕ × Quota)) (h : HallState) (who : List ℕ) → HasTenants h roster → is_speaker roster who ≡ speaks (account_of h) who
+is_speaker-speaks roster h who has = ap (λ (b : Bool). is_name who && b) (sym (listed who roster) ∙ sym (has who) ∙ sym (has_account h who))

@@ -3,14 +3,14 @@ use Rattle.std.proofs.Common.{◌≡◌, ℕ, List, [], ◌∷◌, ◌++◌, map
 use Rattle.std.specs.List.{AllZip}
 use Rattle.quotas.specs.Quota.{Quota}
 use Rattle.hall.specs.Run.{Told}
-use Rattle.hall.specs.Hall.{HallState, AreDone}
+use Rattle.hall.specs.Hall.{HallState, account_of, AreDone}
 use Rattle.service.specs.declared.conversations.Flow.{Flow}
 use Rattle.service.specs.declared.conversations.Flow.TheVariants.{GoesOn}
 use Rattle.service.specs.Line.{Line}
-use Rattle.service.specs.Outcome.{Outcome, nobody, refused, served, outcome_text, is_speaker, IsOutcome, deed_of, told_in, speaks, ScriptAnswers}
-use Rattle.service.specs.Conversation.{Talks}
+use Rattle.service.specs.Outcome.{Outcome, nobody, refused, served, outcome_text, IsOutcome, deed_of, told_in, speaks, ScriptAnswers}
+use Rattle.service.specs.Written.{Talks}
 use Rattle.service.proofs.OutcomeLemmas.{IsOutcome-same}
-use Rattle.service.proofs.SpeakerLemmas.{HasTenants, HasTenants-done, is_speaker-speaks}
+use Rattle.service.proofs.SpeakerLemmas.{is_speaker, HasTenants, HasTenants-done, is_speaker-speaks}
 
 -- some deeds, and then some more
 done_more : (old mid new : HallState) (told more : List Told) → AreDone old told mid → AreDone mid more new → AreDone old (told ++ more) new
@@ -41,7 +41,7 @@ answered roster before after (line ∷ lines) (reply ∷ replies) has (mid, goes
     let rest = answered roster mid after lines replies has_mid talks in
     record {
       outcomes = first.outcome ∷ rest.outcomes;
-      one_each = (IsOutcome-same (speaks before.0) (is_speaker roster) (λ who. sym (is_speaker-speaks roster before.0 who has)) line first.outcome first.allowed, rest.one_each);
+      one_each = (IsOutcome-same (speaks (account_of before.0)) (is_speaker roster) (λ who. sym (is_speaker-speaks roster before.0 who has)) line first.outcome first.allowed, rest.one_each);
       done =
           subst (λ (told : List Told). AreDone before.0 told after.0) (sym (told_in-append (first.outcome ∷ []) rest.outcomes))
           (done_more before.0 mid.0 after.0 (told_in (first.outcome ∷ [])) (told_in rest.outcomes) first.done rest.done);

@@ -1,14 +1,18 @@
 -- Lemmas on what goes out to a writer.
-use Rattle.std.proofs.Common.{ℕ, ◌+◌, ◌-◌, ◌<◌, ◌≡◌, List, [], ◌++◌, length, take, drop, arith, refl, sym, subst, ◌∙◌, ap, append_assoc, Option, None, Some}
+use Rattle.std.proofs.Common.{ℕ, ◌⊎◌, inl, inr, ◌+◌, ◌-◌, ◌<◌, ◌≡◌, List, [], ◌++◌, length, take, drop, arith, refl, sym, subst, ◌∙◌, ap, append_assoc, Option, None, Some}
 use Rattle.std.specs.Io.KnownBytes.{Appends, Keeps}
 use Rattle.std.proofs.lemmas.List.{append-nil, length-append, length-drop, take_rest}
 use Rattle.std.proofs.Common.{take-append-drop}
 use Rattle.std.proofs.Math.Seq.{take-add}
 use Rattle.service.specs.declared.lines.NextLine.{NextLine}
-use Rattle.service.specs.declared.lines.NextLine.TheVariants.{Text, Long, NotAscii, End, Fault}
+use Rattle.service.specs.declared.lines.NextLine.TheVariants.{End, Fault}
 use Rattle.service.specs.Line.{Line}
 use Rattle.service.specs.LineReader.{Shows}
-use Rattle.service.specs.Written.{WritesFront, SendsUpTo, SendsBefore}
+use Rattle.service.specs.Written.{WroteFront, SendsUpTo}
+
+-- that is what went out of the reply
+abbrev pub WritesFront : Option (List ℕ) → Option (List ℕ) → List ℕ → Type 0
+WritesFront old new reply = WroteFront reply (Appends old new)
 
 -- one text after another
 pub Appends-more : (old mid new : Option (List ℕ)) (xs ys : List ℕ) → Appends old mid xs → Appends mid new ys → Appends old new (xs ++ ys)
@@ -44,6 +48,11 @@ WritesFront-sent old mid new reply sent within first kept = record {
   out = Appends-kept old mid new (take sent reply) first kept;
 }
 
+-- nothing waits, so all went out
+pub sent_all : (old new : Option (List ℕ)) (waited waits : List ℕ) → waits ≡ [] → SendsUpTo old new waited waits → Appends old new waited
+sent_all old new waited waits none (sent, parted, out) =
+    subst (λ (t : List ℕ). Appends old new t) (sym (parted ∙ ap (λ t. sent ++ t) none ∙ append-nil sent)) out
+
 -- all goes out
 pub all_sent : (old new : Option (List ℕ)) (waited waits : List ℕ) → waits ≡ [] → Appends old new waited → SendsUpTo old new waited waits
 all_sent old new waited waits none sent = subst (λ (t : List ℕ). SendsUpTo old new waited t) (sym none) (waited, sym (append-nil waited), sent)
@@ -57,29 +66,10 @@ SendsUpTo-kept (Some bytes) waits = ([], refl, sym (append-nil bytes))
 pub SendsUpTo-nothing : (contents : Option (List ℕ)) → SendsUpTo contents contents [] []
 SendsUpTo-nothing contents = SendsUpTo-kept contents []
 
--- a line that was read ahead is given, and nothing goes out
-pub SendsBefore-ahead : (answer : NextLine) (line : Line) (contents : Option (List ℕ)) (waits : List ℕ) → Shows answer line → SendsBefore answer contents contents waits waits
-SendsBefore-ahead (Text t) line contents waits shows = SendsUpTo-kept contents waits
-SendsBefore-ahead Long line contents waits shows = SendsUpTo-kept contents waits
-SendsBefore-ahead NotAscii line contents waits shows = SendsUpTo-kept contents waits
-SendsBefore-ahead End line contents waits shows = absurd shows
-SendsBefore-ahead Fault line contents waits shows = absurd shows
-
--- all that waited goes out before a line is read
-pub SendsBefore-sent : (answer : NextLine) (old new : Option (List ℕ)) (waited waits : List ℕ) → waits ≡ [] → Appends old new waited → SendsBefore answer old new waited waits
-SendsBefore-sent End old new waited waits none sent = (none, sent)
-SendsBefore-sent Fault old new waited waits none sent = (none, sent)
-SendsBefore-sent (Text t) old new waited waits none sent = all_sent old new waited waits none sent
-SendsBefore-sent Long old new waited waits none sent = all_sent old new waited waits none sent
-SendsBefore-sent NotAscii old new waited waits none sent = all_sent old new waited waits none sent
-
--- before any line some of what waited goes out
-pub SendsUpTo-before : (answer : NextLine) (old new : Option (List ℕ)) (waited waits : List ℕ) → SendsBefore answer old new waited waits → SendsUpTo old new waited waits
-SendsUpTo-before End old new waited waits (none, sent) = all_sent old new waited waits none sent
-SendsUpTo-before Fault old new waited waits (none, sent) = all_sent old new waited waits none sent
-SendsUpTo-before (Text t) old new waited waits sends = sends
-SendsUpTo-before Long old new waited waits sends = sends
-SendsUpTo-before NotAscii old new waited waits sends = sends
+-- an answer that shows a line is no end
+pub shown_on : {X : Type 0} (answer : NextLine) (line : Line) → Shows answer line → (answer ≡ End) ⊎ (answer ≡ Fault) → X
+shown_on answer line shows (inl is) = absurd (subst (λ (a : NextLine). Shows a line) is shows)
+shown_on answer line shows (inr is) = absurd (subst (λ (a : NextLine). Shows a line) is shows)
 
 -- more of what waited goes out
 pub SendsUpTo-more : (c0 c1 c2 : Option (List ℕ)) (said waits left : List ℕ) → SendsUpTo c0 c1 said waits → SendsUpTo c1 c2 waits left → SendsUpTo c0 c2 said left

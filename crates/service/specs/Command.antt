@@ -26,13 +26,10 @@ pub data Form : Type 0 where
   of_number : (ℕ → Form) → List ℕ → Form
   of_credential : (Credential → Form) → List ℕ → Form
 
--- to make a change
-abbrev pub to_alter : Change → Form
-to_alter change = whole (Request (Alter change))
-
 -- a star stands for every reader, and is read before names
 abbrev pub form_of_reader : Change → (List ℕ → Change) → List ℕ → Form
-form_of_reader to_all to word = if bytes_eq word (codes "*") then to_alter to_all else of_name (λ name. to_alter (to name)) word
+form_of_reader to_all to word =
+    if bytes_eq word (codes "*") then whole (Request (Alter to_all)) else of_name (λ name. whole (Request (Alter (to name)))) word
 
 -- the verbs that take these words, and what each writes
 abbrev pub forms_with : List (List ℕ) → List (List ℕ × Form)
@@ -57,8 +54,8 @@ form_in (row ∷ rows) verb = if bytes_eq verb row.0 then row.1 else form_in row
 abbrev pub form_by_words : List (List ℕ) → List ℕ → Form
 form_by_words [] rest = unknown
 form_by_words (verb ∷ args) rest =
-    form_in ((codes "put", of_credential (λ c. to_alter (Upload c)) rest)
-    ∷ (codes "drop", of_credential (λ c. to_alter (Withdraw c)) rest) ∷ forms_with args) verb
+    form_in ((codes "put", of_credential (λ c. whole (Request (Alter (Upload c)))) rest)
+    ∷ (codes "drop", of_credential (λ c. whole (Request (Alter (Withdraw c)))) rest) ∷ forms_with args) verb
 
 -- what the text behind a name writes: the first word is the verb
 abbrev pub form_of : List ℕ → Form

@@ -2,8 +2,8 @@
 use Rattle.std.specs.Prelude.{◌≡◌, ◌≢◌, ◌⊎◌, ℕ, Bool, false, ◌&&◌, if◌then◌else◌, List, [], ◌∷◌, filter, map, Some}
 use Rattle.std.specs.List.{list_any, before_first, after_first, flat_map, AllZip, AllByRecursion}
 use Rattle.names.specs.Name.{is_same}
-use Rattle.hall.specs.declared.calls.{requests.Request.Request, replies.Reply.TheVariants.Proof}
-use Rattle.hall.specs.Answers.{Account, start_of, Sight}
+use Rattle.hall.specs.declared.calls.replies.Reply.TheVariants.{Proof}
+use Rattle.hall.specs.Answers.{Account, start_of}
 use Rattle.hall.specs.Run.{Turn, request_of, told_to, any_time}
 use Rattle.hall.specs.Laws.{Agree, HasMemory, ProveTheSame}
 use Rattle.service.specs.declared.refusals.Refusal.TheVariants.{Memory}
@@ -38,10 +38,6 @@ own_outcomes tenant outcomes = filter (is_to tenant) outcomes
 abbrev pub turns_of : List ℕ → List Outcome → List Turn
 turns_of tenant outcomes = told_to tenant [] (told_in outcomes)
 
--- what a turn asks for, with what it has in sight: a wait counts as a poll
-abbrev pub asked : Turn → Sight × Request
-asked turn = (turn.sees, request_of turn.deed)
-
 -- no memory lacked for the tenant: neither for what it asked, nor to read its lines
 abbrev pub FoundMemory : List ℕ → List Outcome → Type 0
 FoundMemory tenant outcomes = HasMemory (turns_of tenant outcomes)
@@ -70,12 +66,14 @@ OneReading =
     (lines : List Line) (rows others : List RosterLine) (rest more : List Line)
     → HasRoster lines rows rest → HasRoster lines others more → (rows ≡ others) × (rest ≡ more)
 
--- where a tenant of two scripts has the same limits, asks and sees the same, and no memory lacked, the replies to it agree
+-- where a tenant of two scripts has the same limits, asks and sees the same, and no memory lacked, the replies to it agree; a wait
+-- counts as a poll
 abbrev pub TwoScripts : Type 0
 TwoScripts =
     (tenant : List ℕ) (input other : List Line) (one : ScriptRun input) (two : ScriptRun other)
     → start_of tenant (map tenant_of one.rows) ≡ start_of tenant (map tenant_of two.rows)
-    → map asked (turns_of tenant one.outcomes) ≡ map asked (turns_of tenant two.outcomes)
+    → AllZip (λ s t. (s.sees ≡ t.sees) × (request_of s.deed ≡ request_of t.deed))
+    (turns_of tenant one.outcomes) (turns_of tenant two.outcomes)
     → HasMemory (turns_of tenant one.outcomes) → HasMemory (turns_of tenant two.outcomes)
     → AllZip (λ s t. Agree any_time s.reply t.reply) (turns_of tenant one.outcomes) (turns_of tenant two.outcomes)
 
@@ -86,17 +84,11 @@ OwnLinesAreAnswered =
     → start_of tenant (map tenant_of run.rows) ≡ Some start
     → AllZip (λ t outcome. IsSaid tenant (form_of t) outcome) (own_lines tenant run.lines) (own_outcomes tenant run.outcomes)
 
--- this holds of what became of a tenant's lines in two scripts that are the same for it, whatever other tenants say in them
-abbrev pub HoldsOfSame : (List Outcome → List Outcome → Type 0) → Type 0
-HoldsOfSame P =
-    (tenant : List ℕ) (input other : List Line) (one : ScriptRun input) (two : ScriptRun other) → IsSameFor tenant one two
-    → P (own_outcomes tenant one.outcomes) (own_outcomes tenant two.outcomes)
-
--- each of its lines is answered by the same bytes; but two proofs of the same may differ
+-- In two scripts that are the same for a tenant, whatever other tenants say in them, each of its lines is answered by the same
+-- bytes; but two proofs of the same may differ. So where it is told no proof, for which another may stand, the same is printed for it
 abbrev pub ScriptsAreIsolated : Type 0
-ScriptsAreIsolated = HoldsOfSame (AllZip ArePrintedAlike)
-
--- so where it is told no proof, for which another may stand, the same bytes are printed for it
-abbrev pub SameIsPrinted : Type 0
-SameIsPrinted = HoldsOfSame (λ one two.
-    AllByRecursion (λ outcome. (other : Outcome) → AreProofs outcome other → ⊥) one → flat_map outcome_text one ≡ flat_map outcome_text two)
+ScriptsAreIsolated =
+    (tenant : List ℕ) (input other : List Line) (one : ScriptRun input) (two : ScriptRun other) → IsSameFor tenant one two
+    → AllZip ArePrintedAlike (own_outcomes tenant one.outcomes) (own_outcomes tenant two.outcomes)
+    × (AllByRecursion (λ outcome. (also : Outcome) → AreProofs outcome also → ⊥) (own_outcomes tenant one.outcomes)
+    → flat_map outcome_text (own_outcomes tenant one.outcomes) ≡ flat_map outcome_text (own_outcomes tenant two.outcomes))

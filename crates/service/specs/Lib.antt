@@ -1,13 +1,12 @@
 pub mod Line
 pub mod LineReader
 pub mod Words
-pub mod Written
-pub mod Conversation
 pub mod Refusal
 pub mod Reply
 pub mod Command
 pub mod Outcome
 pub mod Roster
+pub mod Written
 pub mod Session
 pub mod Served
 pub mod Laws

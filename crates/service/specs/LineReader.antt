@@ -31,11 +31,6 @@ Shows Long line = line ≡ too_long
 Shows NotAscii line = line ≡ not_ascii
 Shows _ line = ⊥
 
--- the answer of a reader that is read no further
-abbrev pub IsEndAt : Stage → NextLine → Type 0
-IsEndAt Failed answer = answer ≡ Fault
-IsEndAt _ answer = answer ≡ End
-
 -- the bytes of a line without its end, where the reader stands behind it
 abbrev pub stripped_at : Stage → List ℕ → List ℕ
 stripped_at Open bytes = strip_carriage_return bytes

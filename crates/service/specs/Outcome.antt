@@ -1,11 +1,11 @@
--- What a line of a script is answered, by its text alone, what all of them are, and how a hall answers one.
-use Rattle.std.specs.Prelude.{◌≡◌, ℕ, Bool, ◌&&◌, List, [], ◌∷◌, ◌++◌, Ok, Err, MatchBool, codes, is_some}
-use Rattle.std.specs.{List.AllZip, List.list_any, List.before_first, List.after_first, FinMap.get}
-use Rattle.names.specs.Name.{is_name, is_same}
-use Rattle.quotas.specs.Quota.{Quota}
+-- What a line of a script is answered, by its text alone, and how a hall answers one.
+use Rattle.std.specs.Prelude.{◌≡◌, ℕ, Bool, ◌&&◌, List, [], ◌∷◌, ◌++◌, Option, Ok, Err, MatchBool, codes, is_some}
+use Rattle.std.specs.List.{list_any, before_first, after_first}
+use Rattle.names.specs.Name.{is_name}
 use Rattle.hall.specs.declared.calls.replies.Reply.{Reply}
-use Rattle.hall.specs.Run.{Deed, asks, waits, Told, AreRuns, at_waits}
-use Rattle.hall.specs.Hall.{HallState, AreDone}
+use Rattle.hall.specs.Answers.{Account}
+use Rattle.hall.specs.Run.{Deed, asks, waits, Told}
+use Rattle.hall.specs.Hall.{HallState, account_of, AreDone}
 use Rattle.service.specs.declared.commands.Command.{Command, TheVariants.Request, TheVariants.Wait}
 use Rattle.service.specs.declared.{conversations.Flow.Flow, conversations.Flow.TheVariants.GoesOn, refusals.Refusal.Refusal}
 use Rattle.service.specs.declared.refusals.Refusal.TheVariants as refusal
@@ -45,9 +45,9 @@ IsOutcome may_speak too_long outcome = outcome ≡ nobody refusal.LineLong
 IsOutcome may_speak not_ascii outcome = outcome ≡ nobody refusal.NotAscii
 IsOutcome may_speak (text t) outcome = IsSpoken may_speak (trim_start t) outcome
 
--- whether a tenant speaks: the text is a name, and stands in the roster
-abbrev pub is_speaker : List (List ℕ × Quota) → List ℕ → Bool
-is_speaker roster who = is_name who && list_any (λ row. is_same row.0 who) roster
+-- whether a tenant speaks, by what has an account: the text is a name, and that of a tenant
+abbrev pub speaks : (List ℕ → Option Account) → List ℕ → Bool
+speaks account_of who = is_name who && is_some (account_of who)
 
 -- what a command asks for
 abbrev pub deed_of : Command → Deed
@@ -60,15 +60,6 @@ told_in [] = []
 told_in (served who command reply ∷ more) = record { tenant = who; deed = deed_of command; reply = reply } ∷ told_in more
 told_in (_ ∷ more) = told_in more
 
--- each line became an outcome, in order; and to each tenant what it was told is exact, by its own account and view alone
-pub record IsTranscript (roster : List (List ℕ × Quota)) (lines : List Line) (outcomes : List Outcome) : Type 0 where
-  pub one_each : AllZip (IsOutcome (is_speaker roster)) lines outcomes
-  pub exact : AreRuns at_waits roster (told_in outcomes)
-
--- whether a tenant of the hall speaks
-abbrev pub speaks : HallState → List ℕ → Bool
-speaks hall who = is_name who && is_some (get hall.tenants who)
-
 -- an outcome of which this holds was carried out, and the reply is its text
 pub record Becomes (old : HallState) (May : Outcome → Type 0) (reply : List ℕ) (new : HallState) : Type 0 where
   pub outcome : Outcome
@@ -78,4 +69,4 @@ pub record Becomes (old : HallState) (May : Outcome → Type 0) (reply : List �
 
 -- how a script's line is answered: the conversation goes on after it
 abbrev pub ScriptAnswers : HallState → Line → List ℕ → Flow → HallState → Type 0
-ScriptAnswers old line reply flow new = Becomes old (IsOutcome (speaks old) line) reply new × (flow ≡ GoesOn)
+ScriptAnswers old line reply flow new = Becomes old (IsOutcome (speaks (account_of old)) line) reply new × (flow ≡ GoesOn)

@@ -73,7 +73,5 @@ IsLong (reply.Answered (Members names)) = Unit {0}
 IsLong _ = ⊥
 
 -- the bytes are the lines of the reply that is due, or that memory lacked for a long one, each with this in front
-pub record IsFilled (front : List ℕ) (due : Reply) (bytes : List ℕ) : Type 0 where
-  pub told : Reply
-  pub printed : (told ≡ due) ⊎ (IsLong due × (told ≡ reply.Refused Memory))
-  pub lines : bytes ≡ lines_after front told
+abbrev pub IsFilled : List ℕ → Reply → List ℕ → Type 0
+IsFilled front due bytes = (bytes ≡ lines_after front due) ⊎ (IsLong due × (bytes ≡ lines_after front (reply.Refused Memory)))

@@ -1,9 +1,9 @@
 -- The roster that an input begins with, and how it is read.
-use Rattle.std.specs.Prelude.{◌≡◌, ◌⊎◌, ⊤, ℕ, ◌<◌, ◌≤◌, List, [], ◌∷◌, ◌++◌, length, map, codes, Any, Some, Result, Ok, Err}
+use Rattle.std.specs.Prelude.{◌≡◌, ◌⊎◌, ⊤, ℕ, ◌<◌, ◌≤◌, List, [], ◌∷◌, length, map, codes, Any, Some, Result, Ok, Err}
 use Rattle.std.specs.List.{IsDistinct}
 use Rattle.names.specs.Name.{IsName, is_same}
 use Rattle.quotas.specs.Quota.{Quota, IsQuota, usual_quota}
-use Rattle.service.specs.declared.faults.ScriptFault.{ScriptFault, TheVariants.Roster, TheVariants.Memory}
+use Rattle.service.specs.declared.faults.ScriptFault.{ScriptFault, TheVariants.Roster}
 use Rattle.service.specs.Line.{Line, text, too_long, not_ascii, commands_of}
 use Rattle.service.specs.LineReader.{Source, known}
 use Rattle.service.specs.Words.{words, number_of}
@@ -14,13 +14,10 @@ pub record RosterLine : Type 0 where
   pub word : List ℕ
   pub limits : Quota
 
--- the limits as numbers, in the order of a roster's line
-abbrev pub numbers_of : Quota → List ℕ
-numbers_of q = q.creds ∷ q.grants ∷ q.searches ∷ q.changes ∷ q.opens ∷ q.work ∷ []
-
--- no words are the usual limits, and six words these, each in its range
+-- no words are the usual limits, and six words these, in this order, each in its range
 abbrev pub IsLimits : List (List ℕ) → Quota → Type 0
-IsLimits ws q = ((ws ≡ []) × (q ≡ usual_quota)) ⊎ ((map number_of ws ≡ map Some (numbers_of q)) × IsQuota q)
+IsLimits ws q = ((ws ≡ []) × (q ≡ usual_quota))
+    ⊎ ((map number_of ws ≡ map Some (q.creds ∷ q.grants ∷ q.searches ∷ q.changes ∷ q.opens ∷ q.work ∷ [])) × IsQuota q)
 
 -- `tenant NAME WORD`, where the word has at most 64 bytes, and then the limits
 pub record IsRow (line : List ℕ) (row : RosterLine) : Type 0 where
@@ -64,14 +61,6 @@ tenant_of row = (row.name, row.limits)
 -- some tenant has this name and this word
 abbrev pub IsTenant : List RosterLine → List ℕ → List ℕ → Type 0
 IsTenant rows name word = Any (λ row. (row.name ≡ name) × (row.word ≡ word)) rows
-
--- the row of a line was added; or no roster has one there, unless memory lacked
-abbrev pub AddsRow : List RosterLine → List ℕ → Result (Unit {0}) ScriptFault → List RosterLine → Type 0
-AddsRow old line (Ok _) new =
-    (row : RosterLine) × IsRow line row × (new ≡ old ++ row ∷ []) × (IsDistinct is_same (names_of old) → IsRoster new)
-AddsRow old line (Err Roster) new = (row : RosterLine) (more : List RosterLine) → IsRow line row → IsRoster (old ++ row ∷ more) → ⊥
-AddsRow old line (Err Memory) new = ⊤
-AddsRow old line (Err _) new = ⊥
 
 -- the roster was read, or there is none
 abbrev pub ReadsRoster : List Line → Result (List RosterLine) ScriptFault → Source → Type 0

@@ -1,17 +1,9 @@
--- What ends a service, and what it writes.
-use Rattle.std.specs.Prelude.{◌≡◌, ◌≢◌, ℕ, ◌<◌, ◌^◌, ◌⊎◌, List, [], ◌++◌, Option, Some, Result, Ok, Err, codes, pos}
-use Rattle.std.specs.{Fmt.decimal, IoError.error_kind, IoError.raw_os_error, declared.io.Error.Error}
-use Rattle.std.specs.declared.io.ErrorKind.TheVariants.{InvalidInput, Unsupported, WouldBlock}
+-- How a service ends, and what it writes.
+use Rattle.std.specs.Prelude.{◌≡◌, ◌≢◌, ℕ, ◌<◌, ◌^◌, ◌⊎◌, List, [], ◌++◌, Option, Some, Result, Ok, Err, codes}
+use Rattle.std.specs.Fmt.{decimal}
 use Rattle.service.specs.declared.faults.ServeFault.{ServeFault, TheVariants.Write}
 use Rattle.service.specs.Reply.{line_after}
 use Rattle.service.specs.Written.{WroteFront}
-
--- the error of a failed accept shows that the listener itself is at fault: it isn't listening, no connections can be had of it,
--- or it doesn't wait for them; its descriptor isn't open, or no socket, which the system tells by these numbers alone
-abbrev pub IsLasting : Error → Type 0
-IsLasting e =
-    (error_kind e ≡ InvalidInput) ⊎ (error_kind e ≡ Unsupported) ⊎ (error_kind e ≡ WouldBlock)
-    ⊎ (raw_os_error e ≡ Some (pos 9)) ⊎ (raw_os_error e ≡ Some (pos 88))
 
 -- the line that tells where it listens
 abbrev pub listening_line : ℕ → List ℕ
@@ -35,6 +27,6 @@ WithPort holds = (port : ℕ) × (port < 2 ^ 16) × holds port
 abbrev pub ServeWrote : Option ℕ → Result ℕ ServeFault → (List ℕ → Type 0) → Type 0
 ServeWrote accept (Ok count) went_out = WithPort (λ port. went_out (listening_line port ++ served_line count))
 ServeWrote accept (Err Write) went_out =
-    WithPort (λ port. WroteFront [] (listening_line port) went_out
-    ⊎ ((count : ℕ) × (accept ≡ Some count) × WroteFront (listening_line port) (served_line count) went_out))
+    WithPort (λ port. WroteFront (listening_line port) went_out
+    ⊎ ((count : ℕ) × (accept ≡ Some count) × WroteFront (served_line count) (λ front. went_out (listening_line port ++ front))))
 ServeWrote accept (Err other) went_out = went_out [] ⊎ WithPort (λ port. went_out (listening_line port))

@@ -19,13 +19,10 @@ words text = filter (λ w. nat_lt 0 (length w)) (slice_split is_space text)
 abbrev pub after_word : List ℕ → List ℕ
 after_word text = after_first is_space (trim_start text)
 
--- the text of a number: 1 to 10 decimal digits, the first not 0
-abbrev pub is_number : List ℕ → Bool
-is_number text = nat_lt 48 (slice_index text 0) && (nat_le (length text) 10 && list_all is_digit text)
-
--- the number that a text writes, if it writes one
+-- the number that a text writes, if it writes one: 1 to 10 decimal digits, the first not 0
 abbrev pub number_of : List ℕ → Option ℕ
-number_of text = if is_number text then Some (digits_value 10 text) else None
+number_of text =
+    if nat_lt 48 (slice_index text 0) && (nat_le (length text) 10 && list_all is_digit text) then Some (digits_value 10 text) else None
 
 -- the words are these, up to two of them
 abbrev pub AreArguments : List (List ℕ) → Arguments → Type 0

@@ -1,9 +1,8 @@
 //! Rights to call a desk that are none over it: who has a door is let in by it once, and who was let in makes its calls.
 ghost use Rattle.std.specs.Prelude.{◌≡◌, ◌↔◌, [], Contains, IfOk, IfErr, OnOk};
-ghost use Rattle.pool.specs.Histories.{IsLegal};
-ghost use Rattle.pool.specs.Passes.{own_calls};
+ghost use Rattle.pool.specs.Histories.{own_of, IsLegal};
 ghost use Rattle.pool.specs.Refusals.{IsPassRefusal};
-ghost use Rattle.pool.specs.Served.{IsAnswered, Suits, IsWaited};
+ghost use Rattle.pool.specs.Served.{IsTold, IsAnswered, Suits, IsWaited};
 
 use hall::{Fault, Reply, Request};
 use names::Entity;
@@ -62,7 +61,7 @@ impl<'d, L: Naming> Door<'d, L> {
         who: Entity,
     ) -> Result<Caller<'d, L>, (Door<'d, L>, DeskFault)>
         ensures tenant { IfOk result (λ c. c.tenant ≡ who) }
-        ensures none { IfOk result (λ c. own_calls c ≡ []) }
+        ensures none { IfOk result (λ c. own_of c.name c.seen ≡ []) }
         ensures known { OnOk result (Contains self.entry who) }
         ensures door { IfErr result (λ e. e.0 ≡ self.entry) }
         ensures refused { IfErr result (λ e. IsPassRefusal e.1) }
@@ -86,7 +85,7 @@ impl<L: Naming> Caller<'_, L> {
 
     /// As `Desk::serve`, by the pass.
     pub fn serve<R: Wait>(&mut self, rt: &R, request: Request) -> DeskResult<Reply>
-        ensures answered { IsAnswered (λ r. r) self.old self.new request result }
+        ensures answered { IsAnswered (λ r. r) (IsTold self.old self.new request) result }
         ensures suits { IfOk result (Suits request) }
     {
         self.desk.serve(rt, &mut self.pass, request)

@@ -1,6 +1,7 @@
 //! The connections of a service: one thread accepts them, also after an accept that failed, and hands them to those that answer.
-ghost use Rattle.std.specs.Prelude.{◌≡◌, ◌↔◌, IsTrue, IfErr};
-ghost use Rattle.service.specs.Served.{Answered, IsLasting};
+ghost use Rattle.std.specs.Prelude.{◌≡◌, ◌↔◌, ◌⊎◌, Some, pos, IsTrue, IfErr};
+ghost use Rattle.std.specs.{IoError.error_kind, IoError.raw_os_error};
+ghost use Rattle.service.specs.Served.{Answered};
 
 use crate::arrivals::{Arrivals, Entrance, Place};
 use crate::conversations::SessionEnd;
@@ -127,9 +128,12 @@ fn next_connection<R: Wait + Clock, S: OpenListener>(
     unreachable!()
 }
 
-/// Whether a failed accept shows that the listener itself is at fault, so that each later one fails too.
+/// Whether a failed accept shows that the listener itself is at fault, so that each later one fails too: it isn't listening, no
+/// connections can be had of it, or it doesn't wait for them; or its descriptor isn't open, or no socket.
 fn is_lasting(error: &Error) -> bool
-    ensures { IsTrue result ↔ IsLasting error.now }
+    ensures { IsTrue result ↔ (error_kind error.now ≡ ErrorKind.InvalidInput) ⊎ (error_kind error.now ≡ ErrorKind.Unsupported)
+        ⊎ (error_kind error.now ≡ ErrorKind.WouldBlock) ⊎ (raw_os_error error.now ≡ Some (pos 9))
+        ⊎ (raw_os_error error.now ≡ Some (pos 88)) }
 {
     matches!(
         error.kind(),

@@ -2,8 +2,8 @@
 ghost use Rattle.std.specs.Prelude.{◌≡◌, ℕ, List, [], IfOk, OnOk, OnErr};
 ghost use Rattle.std.specs.Io.KnownBytes.{Appends};
 ghost use Rattle.service.specs.declared.refusals.Refusal.TheVariants as refusal;
-ghost use Rattle.service.specs.{Conversation.Conversed, Line.Line, Line.text, Line.too_long, Line.not_ascii};
-ghost use Rattle.service.specs.{LineReader.IfKnown, Written.WritesFront, Written.SendsUpTo};
+ghost use Rattle.service.specs.{Line.Line, Line.text, Line.too_long, Line.not_ascii};
+ghost use Rattle.service.specs.{LineReader.IfKnown, Written.Conversed, Written.WroteFront, Written.SendsUpTo};
 
 use crate::lines::{LineReader, NextLine};
 use crate::outboxes::Outbox;
@@ -115,7 +115,7 @@ fn answer<H: Host, W: Write>(
 ) -> Result<Flow, WriteFault>
     ensures answers { IfOk result (λ flow. H.Answers host.old (text line.now) reply.new flow host.new) }
     ensures sent { OnOk result (SendsUpTo (W.contents writer.old) (W.contents writer.new) out.old out.new) }
-    ensures err { OnErr result (WritesFront (W.contents writer.old) (W.contents writer.new) out.old) }
+    ensures err { OnErr result (WroteFront out.old (Appends (W.contents writer.old) (W.contents writer.new))) }
     ensures unanswered { OnErr result (host.new ≡ host.old) }
 {
     if host.may_wait(line) {

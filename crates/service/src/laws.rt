@@ -1,5 +1,5 @@
 //! What holds of rosters and scripts by their definitions alone.
-ghost use Rattle.service.specs.Laws.{OneReading, TwoScripts, OwnLinesAreAnswered, ScriptsAreIsolated, SameIsPrinted};
+ghost use Rattle.service.specs.Laws.{OneReading, TwoScripts, OwnLinesAreAnswered, ScriptsAreIsolated};
 
 /// A roster is read in one way: the same lines have no two lists of tenants, and no two lists of commands behind them.
 pub fn rosters_have_one_reading()
@@ -15,12 +15,11 @@ pub fn two_scripts()
 
 /// Two scripts in which a tenant has the same limits, says the same and has the same in sight at each command answer each
 /// of its lines by the same bytes, whatever other tenants say in them, where no reply to it says that memory lacked or that
-/// a search is broken (`isolated`). Two proofs of one membership may differ; where it is told none, the same is printed for
-/// it from the first byte to the last (`printed`). Each of its lines has one reply (`own`).
+/// a search is broken. Two proofs of one membership may differ; where it is told none, the same is printed for it from the first
+/// byte to the last (`isolated`). Each of its lines has one reply (`own`).
 pub fn scripts_are_isolated()
     ensures own { OwnLinesAreAnswered }
     ensures isolated { ScriptsAreIsolated }
-    ensures printed { SameIsPrinted }
 {}
 
 #[cfg(test)]

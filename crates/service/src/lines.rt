@@ -1,10 +1,10 @@
 //! The lines of a reader.
-ghost use Rattle.std.specs.Prelude.{◌≡◌, ◌≤◌, ◌∷◌, ◌++◌, ◌^◌, [], Some, vec_len, vec_capacity, IfOk, OnErr, IsTrue, IsFalse};
-ghost use Rattle.std.specs.{Borrow.sem, Io.BufRead.Rests, List.list_all, Str.Lines.strip_carriage_return};
+ghost use Rattle.std.specs.Prelude.{◌≡◌, ◌⊎◌, ◌≤◌, ◌∷◌, ◌++◌, ◌^◌, [], Some, vec_len, vec_capacity, IfOk, OnOk, OnErr, IsTrue, IsFalse};
+ghost use Rattle.std.specs.{Borrow.sem, Io.BufRead.Rests, Io.KnownBytes.Appends, List.list_all, Str.Lines.strip_carriage_return};
 ghost use Rattle.service.specs.declared.lines.{TheConstants.KEPT, TheConstants.LONGEST_LINE, limit.TheConstants.MOST_READS};
 ghost use Rattle.service.specs.Line.{line_of, is_printable};
-ghost use Rattle.service.specs.LineReader.{Shows, ShowsAt, stripped_at, IsEndAt, Gives, IsText, left_at, TakesBytes, unread_bytes};
-ghost use Rattle.service.specs.Written.{WritesFront, SendsBefore};
+ghost use Rattle.service.specs.LineReader.{Shows, ShowsAt, stripped_at, Gives, IsText, left_at, TakesBytes, unread_bytes};
+ghost use Rattle.service.specs.Written.{WroteFront, SendsUpTo};
 ghost use Rattle.service.specs.contracts.lines.LineReader.{the_row as reader-row};
 
 use crate::outboxes::Outbox;
@@ -90,8 +90,9 @@ impl<R: Read + Drop> LineReader<R> {
         writer: &mut W,
     ) -> Result<NextLine<'_>, WriteFault>
         ensures* after_borrow { sem 𝓛 (Rests (reader-row R.row R.Read) self.entry (λ new. IfOk result (λ line. Gives self.old line new))) }
-        ensures sent { IfOk result (λ line. SendsBefore line (W.contents writer.old) (W.contents writer.new) out.old out.new) }
-        ensures err { OnErr result (WritesFront (W.contents writer.old) (W.contents writer.new) out.old) }
+        ensures sent { OnOk result (SendsUpTo (W.contents writer.old) (W.contents writer.new) out.old out.new) }
+        ensures all { IfOk result (λ line. (line ≡ NextLine.End) ⊎ (line ≡ NextLine.Fault) → out.new ≡ []) }
+        ensures err { OnErr result (WroteFront out.old (Appends (W.contents writer.old) (W.contents writer.new))) }
     {
         let Stage::Open = self.stage else {
             return match out.send(writer) {
@@ -128,7 +129,8 @@ impl<R: Read + Drop> LineReader<R> {
 
 /// What a reader that stands here gives, which is read no further.
 fn end_at<'a>(stage: Stage) -> NextLine<'a>
-    ensures { IsEndAt stage result }
+    ensures failed { stage ≡ Stage.Failed → result ≡ NextLine.Fault }
+    ensures ended { stage ≡ Stage.Ended → result ≡ NextLine.End }
 {
     match stage {
         Stage::Failed => NextLine::Fault,

@@ -1,6 +1,6 @@
 //! Replies that are ready and wait for one another, so that many go out by one write.
 ghost use Rattle.std.specs.{Prelude.◌≡◌, Prelude.◌++◌, Prelude.[], Prelude.IfOk, Prelude.OnOk, Prelude.OnErr, Io.KnownBytes.Appends};
-ghost use Rattle.service.specs.Written.{WritesFront, SendsUpTo};
+ghost use Rattle.service.specs.Written.{WroteFront, SendsUpTo};
 
 use crate::writing::{WriteFault, write_reply};
 use std::alloc::{AllocError, Global};
@@ -40,7 +40,7 @@ impl Outbox {
     pub(crate) fn put<W: Write>(&mut self, writer: &mut W, reply: &[u8]) -> Result<(), WriteFault>
         ensures ok { OnOk result
             (SendsUpTo (W.contents writer.old) (W.contents writer.new) (self.old ++ reply.now) self.new) }
-        ensures err { OnErr result (WritesFront (W.contents writer.old) (W.contents writer.new) (self.old ++ reply.now)) }
+        ensures err { OnErr result (WroteFront (self.old ++ reply.now) (Appends (W.contents writer.old) (W.contents writer.new))) }
     {
         if reply.len() > OUTBOX - self.bytes.len() {
             let Ok(()) = self.send(writer) else {
@@ -61,7 +61,7 @@ impl Outbox {
     pub(crate) fn send<W: Write>(&mut self, writer: &mut W) -> Result<(), WriteFault>
         ensures nothing_waits { OnOk result (self.new ≡ []) }
         ensures ok { OnOk result (Appends (W.contents writer.old) (W.contents writer.new) self.old) }
-        ensures err { OnErr result (WritesFront (W.contents writer.old) (W.contents writer.new) self.old) }
+        ensures err { OnErr result (WroteFront self.old (Appends (W.contents writer.old) (W.contents writer.new))) }
     {
         let Ok(()) = write_reply(writer, self.bytes.as_slice()) else {
             return Err(WriteFault);

@@ -1,10 +1,10 @@
 //! Rosters: the tenants that an input begins with.
-ghost use Rattle.std.specs.Prelude.{◌≡◌, ◌≢◌, ◌↔◌, ◌∷◌, List, None, Some, Ok, map, get_or, true, IsTrue, IfOk, IfErr, OnOk, IfSome, IfNone};
+ghost use Rattle.std.specs.Prelude.{◌≡◌, ◌≢◌, ◌↔◌, ◌⊎◌, [], ◌∷◌, ◌++◌, List, None, Some, Ok, Err, map, get_or, true, IsTrue, IfOk, IfErr, OnOk, IfSome, IfNone};
 ghost use Rattle.std.specs.{Io.KnownBytes.Appends, List.list_any, List.IsDistinct};
 ghost use Rattle.{names.specs.Name.IsName, names.specs.Name.is_same, quotas.specs.Quota.Quota, hall.specs.Hall.new_hall};
 ghost use Rattle.service.specs.{Line.Line, Line.commands_of, LineReader.IfKnown, Words.words, Words.number_of, Written.OpensWith};
 ghost use Rattle.service.specs.Roster as roster;
-ghost use Rattle.service.specs.Roster.{IsLimits, IsRow, IsTenant, names_of, tenant_of, AddsRow, HasRoster, ReadsRoster};
+ghost use Rattle.service.specs.Roster.{IsLimits, IsRow, IsRoster, IsTenant, names_of, tenant_of, HasRoster, ReadsRoster};
 
 use crate::faults::ScriptFault;
 use crate::lines::{LineReader, NextLine};
@@ -127,7 +127,11 @@ impl Roster {
 
 /// Adds the tenant of a line to those that stand before.
 fn add_row(rows: &mut Vec<RosterLine>, text: &[u8]) -> Result<(), ScriptFault>
-    ensures { AddsRow rows.old.items text.now result rows.new.items }
+    ensures added { OnOk result ((row : roster.RosterLine) × IsRow text.now row × (rows.new.items ≡ rows.old.items ++ row ∷ [])
+        × (IsDistinct is_same (names_of rows.old.items) → IsRoster rows.new.items)) }
+    ensures none { result ≡ Err ScriptFault.Roster → (row : roster.RosterLine) (more : List roster.RosterLine) → IsRow text.now row
+        → IsRoster (rows.old.items ++ row ∷ more) → ⊥ }
+    ensures fault { IfErr result (λ why. (why ≡ ScriptFault.Roster) ⊎ (why ≡ ScriptFault.Memory)) }
 {
     let Some(parts) = read_row(text) else {
         return Err(ScriptFault::Roster);

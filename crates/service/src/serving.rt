@@ -2,7 +2,7 @@
 ghost use Rattle.std.specs.Prelude.{◌≡◌, ◌≤◌, ◌⊎◌, ◌↔◌, ◌++◌, [], Some, Ok, Err, length, map, decimal, IsOk, IfOk, IfErr, OnOk, OnErr};
 ghost use Rattle.std.specs.Io.KnownBytes.{Appends};
 ghost use Rattle.service.specs.Served.{Answered, ServeWrote, WithPort, listening_line};
-ghost use Rattle.service.specs.{Roster.names_of, Roster.tenant_of, Reply.line_after, Written.WritesFront};
+ghost use Rattle.service.specs.{Roster.names_of, Roster.tenant_of, Reply.line_after, Written.WroteFront};
 
 use crate::arrivals::arrivals_at;
 use crate::connections::{Answers, Service, answer_connections, end_all};
@@ -110,7 +110,7 @@ fn tell<W: Write>(
     requires { length words.now ≤ 20 }
     ensures ok { OnOk result (Appends (W.contents out.old) (W.contents out.new) (line_after [] (words.now ++ decimal count))) }
     ensures err { OnErr result
-        (WritesFront (W.contents out.old) (W.contents out.new) (line_after [] (words.now ++ decimal count))) }
+        (WroteFront (line_after [] (words.now ++ decimal count)) (Appends (W.contents out.old) (W.contents out.new))) }
 {
     fill_counted(line, &Speaker::Peer, words, count);
     write_reply(out, line.as_slice())

@@ -2,7 +2,7 @@
 ghost use Rattle.std.specs.{Prelude.◌≡◌, Prelude.Option, Prelude.None, Prelude.Ok, Prelude.IfSome, Io.KnownBytes.Appends};
 ghost use Rattle.pool.specs.{Histories.IsLegal, Passes.PassState};
 ghost use Rattle.service.specs.{Command.form_of, Line.commands_of, Roster.names_of, Words.words};
-ghost use Rattle.service.specs.Session.{greeting_in, IsGreeted, IsLetIn, IsCarriedOut, IsSessionReply, SessionWrote};
+ghost use Rattle.service.specs.Session.{IsGreeted, IsLetIn, IsCarriedOut, IsSessionReply, SessionWrote};
 
 use crate::callers::{Caller, Door};
 use crate::commands::{Command, read_command};
@@ -174,7 +174,7 @@ impl<L: Naming, R: Wait> Session<'_, '_, L, R> {
 
 /// The tenant that says hello, if that is its word.
 fn greeted(roster: &Roster, line: &[u8]) -> Result<Entity, Refusal>
-    ensures { IsGreeted roster.now (greeting_in (words line.now)) result }
+    ensures { IsGreeted roster.now (words line.now) result }
 {
     let said = match next_word(line) {
         Some((first, said)) if is_same(first, b"hello") => said,

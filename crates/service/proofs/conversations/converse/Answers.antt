@@ -1,11 +1,11 @@
 -- Each turn answers one line more, or ends the conversation.
-use Rattle.std.proofs.Common.{◌≡◌, ℕ, List, [], ◌∙◌, refl, sym, ap, subst}
+use Rattle.std.proofs.Common.{◌≡◌, ℕ, List, [], ◌∙◌, refl, sym, ap, subst, inl, inr}
 use Rattle.service.specs.declared.lines.NextLine.{NextLine, TheVariants.Text}
 use Rattle.service.specs.Line.{text, too_long, not_ascii}
 use Rattle.service.specs.LineReader.{IfKnown}
 use Rattle.service.proofs.ConversationLemmas.{SoFar, SoFar-start, SoFar-sends, SoFar-blank, SoFar-line, Hears, Hears-line}
 use Rattle.service.proofs.ConversationLemmas.{Conversed-cut, Conversed-end, Conversed-read, Conversed-part, Conversed-quit, Conversed-quit_cut}
-use Rattle.service.proofs.WrittenLemmas.{SendsUpTo-before}
+use Rattle.service.proofs.WrittenLemmas.{sent_all}
 use Rattle.service.proofs.conversations.converse.Given as given
 use Rattle.service.proofs.conversations.converse.Goals as goal
 use Rattle.service.proofs.conversations.converse.Goals.{After-as_slice, in-Text-2+in-Ok-answer, in-Long, in-NotAscii}
@@ -45,7 +45,7 @@ ready : (g : given.Over) (c : After-as_slice g) → IfKnown c.args.lines.now
     (λ lines. SoFar g.H.Host.Answers c.args.host.now lines c.loop.lines c.loop.host (g.W.Write.contents c.args.writer.now) (g.W.Write.contents c.match-line.writer) c.match-line.out)
 ready g c =
     let first = SoFar-sends g.H.Host.Answers c.args.lines.now c.loop.lines c.args.host.now c.loop.host _ _ c.loop.out c.loop.invariant (g.W.Write.contents c.next_after.new.writer) c.next_after.new.out
-    (SendsUpTo-before c.in-Ok.line _ _ c.loop.out c.next_after.new.out c.in-Ok.ensures.sent) in
+    c.in-Ok.ensures.sent in
     elim c.match-line.branch [
       | in-Text-2+in-Ok-answer w ↦ rw (w.out-is, w.writer-is)
           (SoFar-sends g.H.Host.Answers c.args.lines.now c.loop.lines c.args.host.now c.loop.host _ _ c.next_after.new.out first _ w.answer.new.out w.in-Ok-answer.ensures.sent)
@@ -60,25 +60,25 @@ returns-in_default g c =
 pub loop-preserved-in-Text : goal.loop-preserved-in-Text
 loop-preserved-in-Text g c =
     let first = SoFar-sends g.H.Host.Answers c.args.lines.now c.loop.lines c.args.host.now c.loop.host _ _ c.loop.out c.loop.invariant (g.W.Write.contents c.next_after.new.writer) c.next_after.new.out
-    (SendsUpTo-before c.in-Ok.line _ _ c.loop.out c.next_after.new.out c.in-Ok.ensures.sent) in
+    c.in-Ok.ensures.sent in
     SoFar-blank g.H.Host.Answers c.args.lines.now c.loop.lines c.args.host.now c.loop.host _ _ c.next_after.new.out first c.next_after.follows.lender-at-none c.in-Ok.line (text c.in-Text.line.now)
     (rw c.in-Ok.is at c.next_after.follows.holds-at-none) (rw c.in-Text.is refl) (sym c.if-is_blank.ensures)
 
 pub returns-in_default-answer : goal.returns-in_default-answer
 returns-in_default-answer g c =
     let first = SoFar-sends g.H.Host.Answers c.args.lines.now c.loop.lines c.args.host.now c.loop.host _ _ c.loop.out c.loop.invariant (g.W.Write.contents c.next_after.new.writer) c.next_after.new.out
-    (SendsUpTo-before c.in-Ok.line _ _ c.loop.out c.next_after.new.out c.in-Ok.ensures.sent) in
+    c.in-Ok.ensures.sent in
     rw c.in_default-answer.ensures.unanswered
     (Conversed-cut g.H.Host.Answers c.args.lines.now c.loop.lines c.args.host.now c.loop.host _ _ c.next_after.new.out first _ c.in_default-answer.ensures.err)
 
 pub returns-in-End : goal.returns-in-End
 returns-in-End g c =
     Conversed-end g.H.Host.Answers c.args.lines.now c.loop.lines c.args.host.now c.loop.host _ _ c.loop.out c.loop.invariant c.next_after.follows.lender-at-none _
-    (rw (c.in-Ok.is, c.in-End.is) at c.next_after.follows.holds-at-none) (rw c.in-End.is at c.in-Ok.ensures.sent).1
+    (rw (c.in-Ok.is, c.in-End.is) at c.next_after.follows.holds-at-none) (sent_all _ _ c.loop.out c.next_after.new.out (c.in-Ok.ensures.all (inl c.in-End.is)) c.in-Ok.ensures.sent)
 
 pub returns-in-Fault : goal.returns-in-Fault
 returns-in-Fault g c =
-    Conversed-read g.H.Host.Answers c.args.lines.now c.loop.lines c.args.host.now c.loop.host _ _ c.loop.out c.loop.invariant _ (rw c.in-Fault.is at c.in-Ok.ensures.sent).1
+    Conversed-read g.H.Host.Answers c.args.lines.now c.loop.lines c.args.host.now c.loop.host _ _ c.loop.out c.loop.invariant _ (sent_all _ _ c.loop.out c.next_after.new.out (c.in-Ok.ensures.all (inr c.in-Fault.is)) c.in-Ok.ensures.sent)
 
 pub returns-in_default-put : goal.returns-in_default-put
 returns-in_default-put g c =

@@ -4,7 +4,7 @@ use Rattle.std.specs.Prelude.{IsTrue}
 use Rattle.std.proofs.lemmas.Bool.{eqb-false, eqb-true}
 use Rattle.std.proofs.lemmas.List.{nil_from_length}
 use Rattle.std.proofs.lemmas.Result.{err_from_is_err_and}
-use Rattle.service.proofs.RosterLemmas.{IsDistinct-none}
+use Rattle.service.proofs.RosterLemmas.{IsDistinct-none, AddsRow-refused}
 use Rattle.service.proofs.RosterSteps.{SoFar-start, SoFar-blank, SoFar-row, ReadsRoster-refused, ReadsRoster-begin, ReadsRoster-failed, HasNoRoster-ended, AddsRow-writes_nothing}
 use Rattle.service.proofs.rosters.Roster.read.Goals as goal
 use Rattle.service.proofs.rosters.Roster.read.Goals.{then-is_blank, in-Text-3+in_ok-add_row-in-Text-3, then-not-is_empty+else-is_word, else-not-is_empty}
@@ -28,6 +28,8 @@ returns-in-Text-2 g c =
 pub returns-in_err-add_row-in-Text-3 : goal.returns-in_err-add_row-in-Text-3
 returns-in_err-add_row-in-Text-3 g c =
     let out = err_from_is_err_and c.from_residual.result c.from_residual.ensures.1 in
+    let ensures = c.in_err-add_row-in-Text-3.ensures in
+    let adds = AddsRow-refused c.loop.rows.items c.add_row.new.rows.items c.in-Text.text.now _ ensures.none ensures.fault in
     rw (out.1, out.2) (record {
       roster = ReadsRoster-refused c.args.lines.now c.loop.lines c.next.follows.lender-at-none c.loop.rows.items c.next.result c.in-Text.text.now
           c.loop.invariant.left c.next.follows.holds-at-none (rw c.in-Text.is refl)
@@ -37,9 +39,9 @@ returns-in_err-add_row-in-Text-3 g c =
             | else-not-is_empty w ↦
                 nil_from_length c.loop.rows.items (omega (arith, eqb-true c.loop.rows.len 0 (sym c.is_empty.ensures ∙ w.if-not-is_empty.false), c.loop.rows.ok.0))
           ])
-          c.in_err-add_row-in-Text-3.ensures;
+          adds;
       reads_alone = AddsRow-writes_nothing c.args.lines.now c.loop.lines c.next.follows.lender-at-none c.loop.rows.items c.next.result c.in-Text.text.now
-          c.loop.invariant.left c.next.follows.holds-at-none (rw c.in-Text.is refl) c.add_row.new.rows.items _ c.in_err-add_row-in-Text-3.ensures;
+          c.loop.invariant.left c.next.follows.holds-at-none (rw c.in-Text.is refl) c.add_row.new.rows.items _ adds;
     })
 
 pub returns-in-Fault : goal.returns-in-Fault
@@ -65,7 +67,7 @@ loop-preserved g c =
         most = c.loop.invariant.most;
       })
       | in-Text-3+in_ok-add_row-in-Text-3 w ↦
-          let adds = w.in_ok-add_row-in-Text-3.ensures in
+          let adds = w.in_ok-add_row-in-Text-3.ensures.added in
           let roster = rw adds.2 at (adds.3 c.loop.invariant.distinct) in
           rw (w.lines-is, w.rows-is, adds.2) (record {
             left = SoFar-row c.args.lines.now c.loop.lines c.next.follows.lender-at-none c.loop.rows.items c.next.result c.in-Text.text.now
