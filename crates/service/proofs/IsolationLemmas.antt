@@ -11,12 +11,13 @@ use Rattle.hall.specs.Run.{Turn, at_waits}
 use Rattle.hall.specs.Laws.{Agree}
 use Rattle.hall.proofs.laws.Worlds.{scripts_isolated as told_alike}
 use Rattle.service.specs.Command.{form_of}
-use Rattle.service.specs.Roster.{RosterLine, tenant_of, HasRows}
+use Rattle.service.specs.Roster.{RosterLine, tenant_of}
 use Rattle.service.specs.Line.{Line, text, too_long, not_ascii}
 use Rattle.service.specs.Outcome.{Outcome, outcome_text, IsSaid, told_in}
 use Rattle.service.specs.Written.{ScriptRun}
 use Rattle.service.specs.Laws.{IsSameFor, own_lines, own_outcomes, turns_of, ArePrintedAlike, AreProofs}
 use Rattle.service.specs.Laws.{OwnLinesAreAnswered, ScriptsAreIsolated}
+use Rattle.service.proofs.RosterLemmas.{HasRows, HasRoster-rows}
 use Rattle.service.proofs.SpeakerLemmas.{is_speaker}
 use Rattle.service.proofs.OwnLemmas.{own_said, own_none}
 use Rattle.service.proofs.AlikeLemmas.{AreOneLine, one_lines, same_turns, replies_agree, printed_alike}
@@ -77,7 +78,7 @@ listed_named tenant (row ∷ rows) start named is = by (is_same row.name tenant)
 
 pub own_lines_answered : OwnLinesAreAnswered
 own_lines_answered tenant input run start is =
-    let named = listed_named tenant run.rows start (rows_named input run.rows (run.lines ++ run.rest) run.roster.one_each) is in
+    let named = listed_named tenant run.rows start (rows_named input run.rows (run.lines ++ run.rest) (HasRoster-rows input run.rows (run.lines ++ run.rest) run.roster)) is in
     own_said (is_speaker (roster_of run.rows)) tenant (and_from (is_name tenant) (is_some (start_of tenant (roster_of run.rows))) named (ap is_some is))
     run.lines run.outcomes run.one_each
 

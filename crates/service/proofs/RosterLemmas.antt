@@ -1,8 +1,8 @@
 -- Lemmas on the lines of a roster.
-use Rattle.std.proofs.Common.{◌≡◌, ℕ, ◌<◌, ◌≤◌, Bool, List, [], ◌∷◌, ◌++◌, length, true, false, arith, refl, sym, ap, ◌∙◌, subst, append_assoc}
+use Rattle.std.proofs.Common.{◌≡◌, ℕ, ◌<◌, ◌≤◌, Bool, List, [], ◌∷◌, ◌++◌, map, length, true, false, arith, refl, sym, ap, ◌∙◌, subst, append_assoc}
 use Rattle.std.proofs.Common.{Result, Ok, Err, ◌⊎◌, inl, inr}
 use Rattle.std.specs.Prelude.{OnOk, IfErr, codes, ◌||◌, is_ok, if◌then◌else◌}
-use Rattle.std.specs.List.{IsDistinct, list_any}
+use Rattle.std.specs.List.{AllZip, IsDistinct, list_any}
 use Rattle.std.specs.Result.{result_or}
 use Rattle.std.proofs.lemmas.Cmp.{nat_list_eq_equiv}
 use Rattle.std.proofs.lemmas.List.{append-nil, length-append, map-append}
@@ -14,8 +14,43 @@ use Rattle.service.specs.declared.faults.ScriptFault.{ScriptFault}
 use Rattle.service.specs.declared.faults.ScriptFault.TheVariants as fault
 use Rattle.service.specs.Line.{Line, text, too_long, not_ascii}
 use Rattle.service.specs.Words.{words}
-use Rattle.service.specs.Roster.{RosterLine, IsRow, HasRows, HasRoster, HasNoRoster, IsRoster, names_of}
+use Rattle.service.specs.Roster.{RosterLine, IsRow, HasRoster, HasNoRoster, IsRoster, names_of}
 use Rattle.service.proofs.LimitLemmas.{IsLimits-unique}
+
+-- the lines are those of the rows, one each, then `begin`, and these follow
+abbrev pub HasRows : List Line → List RosterLine → List Line → Type 0
+HasRows [] rows rest = ⊥
+HasRows (too_long ∷ lines) rows rest = ⊥
+HasRows (not_ascii ∷ lines) rows rest = ⊥
+HasRows (text line ∷ lines) [] rest = (words line ≡ codes "begin" ∷ []) × (lines ≡ rest)
+HasRows (text line ∷ lines) (row ∷ rows) rest = IsRow line row × HasRows lines rows rest
+
+-- a roster has its rows
+pub HasRoster-rows : (lines : List Line) (rows : List RosterLine) (rest : List Line) → HasRoster lines rows rest → HasRows lines rows rest
+HasRoster-rows lines rows rest has = subst (λ (ls : List Line). HasRows ls rows rest) (sym has.split) (by has.texts rows has.one_each)
+  where
+    by : (texts : List (List ℕ)) (some : List RosterLine) → AllZip IsRow texts some → HasRows (map text texts ++ text has.begin ∷ rest) some rest
+    by [] [] all = (has.ends, refl)
+    by [] (row ∷ some) all = absurd all
+    by (line ∷ texts) [] all = absurd all
+    by (line ∷ texts) (row ∷ some) all = (all.0, by texts some all.1)
+
+-- the lines of rows, and that of `begin`
+rows_parted : (lines : List Line) (rows : List RosterLine) (rest : List Line) → HasRows lines rows rest →
+    (texts : List (List ℕ)) × (begin : List ℕ) × (lines ≡ map text texts ++ text begin ∷ rest) × AllZip IsRow texts rows × (words begin ≡ codes "begin" ∷ [])
+rows_parted [] rows rest has = absurd has
+rows_parted (too_long ∷ lines) rows rest has = absurd has
+rows_parted (not_ascii ∷ lines) rows rest has = absurd has
+rows_parted (text line ∷ lines) [] rest has = ([], line, ap (λ (ls : List Line). text line ∷ ls) has.1, tt, has.0)
+rows_parted (text line ∷ lines) (row ∷ rows) rest has =
+    let (texts, begin, split, all, ends) = rows_parted lines rows rest has.1 in
+    (line ∷ texts, begin, ap (λ (ls : List Line). text line ∷ ls) split, (has.0, all), ends)
+
+-- such rows are a roster where they may be one
+HasRoster-from : (lines : List Line) (rows : List RosterLine) (rest : List Line) → HasRows lines rows rest → IsRoster rows → HasRoster lines rows rest
+HasRoster-from lines rows rest has roster =
+    let (texts, begin, split, all, ends) = rows_parted lines rows rest has in
+    record { texts = texts; begin = begin; split = split; one_each = all; ends = ends; roster = roster }
 
 -- rows of the same three parts are the same
 pub same_row : (row other : RosterLine) → row.name ≡ other.name → row.word ≡ other.word → row.limits ≡ other.limits → row ≡ other
@@ -59,7 +94,7 @@ HasRows-unique (text line ∷ lines) (row ∷ rows) others rest after has also =
 
 -- lines begin with one roster at most
 pub HasRoster-unique : (lines : List Line) (rows others : List RosterLine) (rest after : List Line) → HasRoster lines rows rest → HasRoster lines others after → (rows ≡ others) × (rest ≡ after)
-HasRoster-unique lines rows others rest after has also = HasRows-unique lines rows others rest after has.one_each also.one_each
+HasRoster-unique lines rows others rest after has also = HasRows-unique lines rows others rest after (HasRoster-rows lines rows rest has) (HasRoster-rows lines others after also)
 
 -- The first of these lines are the rows, and these are left.
 pub record LeavesLines (lines : List Line) (rows : List RosterLine) (left : List Line) : Type 0 where
@@ -113,7 +148,7 @@ IsRoster-twice rows row more twice named roster =
 pub HasNoRoster-refused : (lines : List Line) (rows : List RosterLine) (left : List Line) (line : List ℕ) (others : List Line) → LeavesLines lines rows left → left ≡ text line ∷ others → (words line ≡ codes "begin" ∷ [] → rows ≡ []) →
     ((row : RosterLine) (more : List RosterLine) → IsRow line row → IsRoster (rows ++ row ∷ more) → ⊥) → HasNoRoster lines
 HasNoRoster-refused lines rows left line others so_far first no_end no_row all after roster =
-    let parts = so_far.splits all after roster.one_each in
+    let parts = so_far.splits all after (HasRoster-rows lines all after roster) in
     by parts.0 parts.1 (subst (λ (there : List Line). HasRows there parts.0 after) first parts.2)
   where
     by : (more : List RosterLine) → all ≡ rows ++ more → HasRows (text line ∷ others) more after → ⊥
@@ -122,12 +157,10 @@ HasNoRoster-refused lines rows left line others so_far first no_end no_row all a
 
 -- the roster is read
 pub HasRoster-read : (lines : List Line) (rows : List RosterLine) (left : List Line) (line : List ℕ) (others : List Line) → LeavesLines lines rows left → left ≡ text line ∷ others → words line ≡ codes "begin" ∷ [] → IsRoster rows → HasRoster lines rows others
-HasRoster-read lines rows left line others so_far first begin roster = record {
-  one_each =
-      subst (λ (all : List RosterLine). HasRows lines all others) (append-nil rows)
-      (so_far.joins [] others (subst (λ (there : List Line). HasRows there [] others) (sym first) (begin, refl)));
-  roster = roster;
-}
+HasRoster-read lines rows left line others so_far first begin roster =
+    HasRoster-from lines rows others
+    (subst (λ (all : List RosterLine). HasRows lines all others) (append-nil rows)
+    (so_far.joins [] others (subst (λ (there : List Line). HasRows there [] others) (sym first) (begin, refl)))) roster
 
 -- no names are distinct
 pub IsDistinct-none : IsDistinct is_same []

@@ -8,10 +8,10 @@ use Rattle.service.specs.declared.lines.NextLine.{NextLine}
 use Rattle.service.specs.declared.lines.NextLine.TheVariants.{Text, Long, NotAscii, End, Fault}
 use Rattle.service.specs.Line.{Line, text, too_long, not_ascii, is_blank, lines_of, commands_of}
 use Rattle.service.specs.LineReader.{Source, known, unknown, failed, Shows, Gives, IfKnown}
-use Rattle.service.specs.Roster.{RosterLine, IsRow, IsRoster, HasRows, HasNoRoster, ReadsRoster}
+use Rattle.service.specs.Roster.{RosterLine, IsRow, IsRoster, HasNoRoster, ReadsRoster}
 use Rattle.service.specs.Words.{is_space, words}
 use Rattle.service.proofs.LinesLemmas.{Gives-first, IfKnown-map}
-use Rattle.service.proofs.RosterLemmas.{AddsRow, LeavesLines, LeavesLines-all, LeavesLines-row, HasNoRoster-refused, HasRoster-read}
+use Rattle.service.proofs.RosterLemmas.{AddsRow, HasRows, HasRoster-rows, LeavesLines, LeavesLines-all, LeavesLines-row, HasNoRoster-refused, HasRoster-read}
 
 -- the first of these lines are the rows, and the others are left
 abbrev pub SoFar : List Line → List RosterLine → Source → Type 0
@@ -57,7 +57,7 @@ no_rows bytes new NotAscii more after gives no_text no_fault has =
 pub HasNoRoster-ended : (first mid new : Source) (rows : List RosterLine) (answer : NextLine) → IfKnown first (λ lines. SoFar lines rows mid) → Gives mid answer new → ((t : Bor (List ℕ)) → answer ≡ Text t → ⊥) → (answer ≡ Fault → ⊥) → IfKnown first HasNoRoster
 HasNoRoster-ended first mid new rows answer so_far gives no_text no_fault =
     IfKnown-map first so_far (λ lines so all after roster.
-    let parts = so.2.splits all after roster.one_each in
+    let parts = so.2.splits all after (HasRoster-rows lines all after roster) in
     no_rows so.0 new answer parts.0 after (subst (λ (s : Source). Gives s answer new) so.1 gives) no_text no_fault parts.2)
 
 -- a read that failed says nothing

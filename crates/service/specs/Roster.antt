@@ -1,10 +1,10 @@
 -- The roster that an input begins with, and how it is read.
-use Rattle.std.specs.Prelude.{◌≡◌, ◌⊎◌, ⊤, ℕ, ◌<◌, ◌≤◌, List, [], ◌∷◌, length, map, codes, Any, Some, Result, Ok, Err}
-use Rattle.std.specs.List.{IsDistinct}
+use Rattle.std.specs.Prelude.{◌≡◌, ◌⊎◌, ⊤, ℕ, ◌<◌, ◌≤◌, List, [], ◌∷◌, ◌++◌, length, map, codes, Any, Some, Result, Ok, Err}
+use Rattle.std.specs.List.{AllZip, IsDistinct}
 use Rattle.names.specs.Name.{IsName, is_same}
 use Rattle.quotas.specs.Quota.{Quota, IsQuota, usual_quota}
 use Rattle.service.specs.declared.faults.ScriptFault.{ScriptFault, TheVariants.Roster}
-use Rattle.service.specs.Line.{Line, text, too_long, not_ascii, commands_of}
+use Rattle.service.specs.Line.{Line, text, commands_of}
 use Rattle.service.specs.LineReader.{Source, known}
 use Rattle.service.specs.Words.{words, number_of}
 
@@ -27,14 +27,6 @@ pub record IsRow (line : List ℕ) (row : RosterLine) : Type 0 where
   pub short : length row.word ≤ 64
   pub limits : IsLimits numbers row.limits
 
--- the lines are those of the rows, one each, then `begin`, and these follow
-abbrev pub HasRows : List Line → List RosterLine → List Line → Type 0
-HasRows [] rows rest = ⊥
-HasRows (too_long ∷ lines) rows rest = ⊥
-HasRows (not_ascii ∷ lines) rows rest = ⊥
-HasRows (text line ∷ lines) [] rest = (words line ≡ codes "begin" ∷ []) × (lines ≡ rest)
-HasRows (text line ∷ lines) (row ∷ rows) rest = IsRow line row × HasRows lines rows rest
-
 -- the names of the tenants
 abbrev pub names_of : List RosterLine → List (List ℕ)
 names_of rows = map (λ row. row.name) rows
@@ -45,9 +37,13 @@ pub record IsRoster (rows : List RosterLine) : Type 0 where
   pub some : 0 < length rows
   pub most : length rows ≤ 1000
 
--- the lines begin with a roster of these rows, and these follow it
+-- the lines begin with a roster of these rows, one line for each, and then `begin`; and these follow it
 pub record HasRoster (lines : List Line) (rows : List RosterLine) (rest : List Line) : Type 0 where
-  pub one_each : HasRows lines rows rest
+  pub texts : List (List ℕ)
+  pub begin : List ℕ
+  pub split : lines ≡ map text texts ++ text begin ∷ rest
+  pub one_each : AllZip IsRow texts rows
+  pub ends : words begin ≡ codes "begin" ∷ []
   pub roster : IsRoster rows
 
 -- the lines begin with no roster
