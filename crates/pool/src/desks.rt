@@ -100,8 +100,7 @@ impl<L: Naming> Desk<L> {
     }
 
     /// For a call: takes the lock, after some tries by sleep. While a worker goes on alone it sleeps at once where others have the
-    /// lock, and the first who sleeps is let in before that worker's next visit. Each time the ledger's total is the journal's
-    /// length, and the hall is sound.
+    /// lock, and the first who sleeps is let in before that worker's next visit. Each time the hall is sound.
     fn enter<R: Wait>(&self, rt: &R) -> MutexGuard<'_, Room<L>>
         ensures { IsKept (mutex_guard_value result) }
     {

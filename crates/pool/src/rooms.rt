@@ -75,7 +75,6 @@ impl<L: Naming> Model for Room<L> {
     ghost view = { λ r. record {
       hall = r.hall;
       told = r.keeper;
-      accepted = r.book.total;
       out = r.out;
       left = r.left;
       stopped = r.stopped;
@@ -96,7 +95,7 @@ impl<L: Naming> Room<L> {
     pub(crate) fn new(hall: Hall, unnamed: Unnamed) -> Room<L>
         requires hall { hall ≡ new_hall L.roster }
         requires named { unnamed ≡ record { ledger = L.name; parts = L.parts; table = L.table; letters = L.letters } }
-        ensures { result ≡ record { hall = hall; told = []; accepted = 0; out = 0; left = 0; stopped = false } }
+        ensures { result ≡ record { hall = hall; told = []; out = 0; left = 0; stopped = false } }
     {
         let (keeper, blank, letters) = unnamed.named::<L>();
         let (book, rest) = blank.open::<L>();
@@ -117,7 +116,6 @@ impl<L: Naming> Room<L> {
     pub(crate) fn kept(&self)
         ensures { IsKept self.now }
     {
-        let _ = &self.book;
         let _length = self.hall.journal_len();
     }
 

@@ -69,7 +69,7 @@ returns-clause-lent g c =
     let q = c.args.request.now in
     let number = c.match-request.number in
     let at : IsCompletedAt h c.tenant-who.result number s = rw c.in-Ok-Some.field-0-is at c.in-Ok-Some.ensures.completed in
-    let kept = subst IsKept c.self.view_is (record { counted = c.self.invariant.0; sound = subst IsSound c.completed.ensures.same c.journal_len-length.ensures.sound; stop = c.self.invariant.6 }) in
+    let kept = subst IsKept c.self.view_is (record { sound = subst IsSound c.completed.ensures.same c.journal_len-length.ensures.sound; stop = c.self.invariant.6 }) in
     elim c.match-request.branch [
       | in-Poll w ↦ let names = names_same q number w.in-Poll.number w.in-Poll.is w.number-is in
           lent_here g.L.Naming.roster c.self.inside.keeper c.hear.new.keeper h c.args.self.now c.args.pass.now c.hear.new.self c.tenant-who.result q number s c.of-asked.result c.of-read.result

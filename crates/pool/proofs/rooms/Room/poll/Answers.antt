@@ -49,7 +49,7 @@ invariant_of-self g c =
 
 pub returns : goal.returns
 returns g c =
-    let kept = subst IsKept c.self.view_is (record { counted = c.self.invariant.0; sound = c.journal_len-length.ensures.sound; stop = c.self.invariant.6 }) in
+    let kept = subst IsKept c.self.view_is (record { sound = c.journal_len-length.ensures.sound; stop = c.self.invariant.6 }) in
     lent_polled c.args.self.now c.args.pass.now c.hear.new.self c.args.number c.in-Some.search.now
     (lent_here g.L.Naming.roster c.self.inside.keeper c.hear.new.keeper c.self.inside.hall c.args.self.now c.args.pass.now c.hear.new.self c.tenant-who.result (Poll c.args.number) c.args.number
     c.in-Some.search.now c.of-asked.result c.of-read.result (ap (λ (r : RoomState). r.hall) c.self.view_is) (ap (λ (r : RoomState). r.told) c.self.view_is) c.tenant-who.ensures c.of-asked.ensures
