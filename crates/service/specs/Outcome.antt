@@ -1,5 +1,5 @@
 -- What a line of a script is answered, by its text alone, and how a hall answers one.
-use Rattle.std.specs.Prelude.{◌≡◌, ℕ, Bool, ◌&&◌, List, [], ◌∷◌, ◌++◌, Option, Ok, Err, MatchBool, codes, is_some}
+use Rattle.std.specs.Prelude.{◌≡◌, ℕ, Bool, ◌&&◌, List, [], ◌∷◌, Option, Ok, Err, MatchBool, is_some}
 use Rattle.std.specs.List.{list_any, before_first, after_first}
 use Rattle.names.specs.Name.{is_name}
 use Rattle.hall.specs.declared.calls.replies.Reply.{Reply}
@@ -9,11 +9,12 @@ use Rattle.hall.specs.Hall.{HallState, account_of, AreDone}
 use Rattle.service.specs.declared.commands.Command.{Command, TheVariants.Request, TheVariants.Wait}
 use Rattle.service.specs.declared.{conversations.Flow.Flow, conversations.Flow.TheVariants.GoesOn, refusals.Refusal.Refusal}
 use Rattle.service.specs.declared.refusals.Refusal.TheVariants as refusal
+use Rattle.service.specs.declared.speakers.Speaker.TheVariants.{Nobody, Tenant}
 use Rattle.service.specs.Line.{Line, text, too_long, not_ascii}
 use Rattle.service.specs.Words.{is_colon, trim_start}
 use Rattle.service.specs.Command.{Form, form_of, Reads}
 use Rattle.service.specs.Refusal.{refusal_number}
-use Rattle.service.specs.Reply.{refusal_line, lines_after}
+use Rattle.service.specs.Reply.{front_of, refusal_line, lines_after}
 
 -- what became of a line: it was refused by its text alone, to nobody or to the tenant, or carried out
 pub data Outcome : Type 0 where
@@ -23,9 +24,9 @@ pub data Outcome : Type 0 where
 
 -- the lines that answer it
 abbrev pub outcome_text : Outcome → List ℕ
-outcome_text (nobody why) = refusal_line (codes "?: ") (refusal_number why)
-outcome_text (refused who why) = refusal_line (who ++ codes ": ") (refusal_number why)
-outcome_text (served who command reply) = lines_after (who ++ codes ": ") reply
+outcome_text (nobody why) = refusal_line (front_of Nobody) (refusal_number why)
+outcome_text (refused who why) = refusal_line (front_of (Tenant who)) (refusal_number why)
+outcome_text (served who command reply) = lines_after (front_of (Tenant who)) reply
 
 -- what the tenant's command may become
 abbrev pub IsSaid : List ℕ → Form → Outcome → Type 0

@@ -1,12 +1,15 @@
 -- What a conversation is answered, line by line, and what of it and of a script went out. A host's answers say of each line how it
 -- may be answered: what the host was, the line, the reply, whether it goes on, and what the host is then.
-use Rattle.std.specs.Prelude.{◌≡◌, ◌⊎◌, ℕ, ◌<◌, List, [], ◌∷◌, ◌++◌, length, map, codes, Option, Result, Ok, Err, IsErrAnd}
+use Rattle.std.specs.Prelude.{◌≡◌, ◌⊎◌, ℕ, ◌<◌, List, [], ◌∷◌, ◌++◌, length, map, Option, Result, Ok, Err, IsErrAnd}
 use Rattle.std.specs.{List.concat, List.AllZip, Io.KnownBytes.Appends}
-use Rattle.hall.specs.{Answers.start_of, Run.AreRuns, Run.at_waits}
+use Rattle.hall.specs.Answers.{start_of}
+use Rattle.hall.specs.Run.{AreRuns, at_waits}
 use Rattle.service.specs.declared.conversations.{Flow.Flow, Flow.TheVariants.GoesOn, Flow.TheVariants.Ends, SessionEnd.SessionEnd}
 use Rattle.service.specs.declared.conversations.SessionEnd.TheVariants as end
 use Rattle.service.specs.declared.faults.ScriptFault.{ScriptFault, TheVariants.Roster, TheVariants.Read, TheVariants.Write}
+use Rattle.service.specs.declared.speakers.Speaker.TheVariants.{Nobody}
 use Rattle.service.specs.Line.{Line}
+use Rattle.service.specs.Reply.{front_of, refusal_line}
 use Rattle.service.specs.Roster.{RosterLine, tenant_of, HasRoster, HasNoRoster}
 use Rattle.service.specs.Outcome.{Outcome, outcome_text, IsOutcome, speaks, told_in}
 
@@ -71,7 +74,7 @@ end_of (Err _) = end.Memory
 
 -- the one line that answers a faulty roster
 abbrev pub roster_refusal : List ℕ
-roster_refusal = codes "?: error 63 roster" ++ 10 ∷ []
+roster_refusal = refusal_line (front_of Nobody) 63
 
 -- what a fault of the roster lets out: nothing, unless it is faulty; then the one line, or a front of it
 abbrev pub AnswersFault : List Line → ScriptFault → (List ℕ → Type 0) → Type 0
