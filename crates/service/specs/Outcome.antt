@@ -46,9 +46,9 @@ IsOutcome may_speak too_long outcome = outcome ≡ nobody refusal.LineLong
 IsOutcome may_speak not_ascii outcome = outcome ≡ nobody refusal.NotAscii
 IsOutcome may_speak (text t) outcome = IsSpoken may_speak (trim_start t) outcome
 
--- whether a tenant speaks, by what has an account: the text is a name, and that of a tenant
+-- whether a tenant speaks, by the accounts of tenants: the text is a name, and one has it
 abbrev pub speaks : (List ℕ → Option Account) → List ℕ → Bool
-speaks account_of who = is_name who && is_some (account_of who)
+speaks accounts who = is_name who && is_some (accounts who)
 
 -- what a command asks for
 abbrev pub deed_of : Command → Deed
