@@ -6,10 +6,9 @@ use Rattle.std.proofs.lemmas.Option.{same_Some, none-some, slice_get_within}
 use Rattle.std.proofs.lemmas.List.Sums.{sum_by-cons, sum_by-append, sum_by-take-le, count_by-le-length}
 use Rattle.std.specs.Map.{values_of}
 use borrow.Author.Tests.{ltb-true, ltb-false}
-use Rattle.indexmap.specs.IndexMap.{set_value_at}
 use Rattle.scholten_core.specs.declared.letters.Letter.{Letter}
 use Rattle.scholten_core.specs.Computation.{waiting}
-use Rattle.scholten_core.specs.LetterTable.{WaitsAt, count, does_wait, standing}
+use Rattle.scholten_core.specs.LetterTable.{set_value_at, WaitsAt, count, does_wait, standing}
 
 -- one for what holds
 abbrev pub one : Bool → ℕ
@@ -83,7 +82,7 @@ module _ {P : Type 0} (test : Option (Letter P) → Bool) where
   count-take-pop (suc n) (x ∷ xs) e nothing = omega (arith, count-take-pop n xs e nothing, counted x (take n xs), counted x (take n (xs ++ e ∷ [])))
 
 -- a write leaves the entries before it
-pub take-set_value : {K X : Type 0} (n i : ℕ) (es : List (K × X)) (w : X) → n ≤ i → take n (set_value_at es i w) ≡ take n es
+pub take-set_value : {X : Type 0} (n i : ℕ) (es : List (ℕ × X)) (w : X) → n ≤ i → take n (set_value_at es i w) ≡ take n es
 take-set_value zero i es w below = refl
 take-set_value (suc n) i [] w below = refl
 take-set_value (suc n) zero (e ∷ es) w below = absurd (omega arith)
@@ -161,23 +160,19 @@ module _ {P : Type 0} where
   entry_of (e ∷ es) zero v at = (e.0, ap (λ o. option_map (λ (x : Option (Letter P)). (e.0, x)) o) at)
   entry_of (e ∷ es) (suc i) v at = entry_of es i v at
 
-  -- one further, where the value there is known
-  pub count-next : (es : List (ℕ × Option (Letter P))) (i : ℕ) (v : Option (Letter P)) → slice_get (values_of es) i ≡ Some v → count does_wait (take (i + 1) es) ≡ count does_wait (take i es) + one (does_wait v)
-  count-next es i v at =
-      let entry = entry_of es i v at in
-      rw add-one (count-take-suc does_wait i es (entry.0, v) entry.1)
+  -- one further, where the entry there is known
+  pub count-next : (es : List (ℕ × Option (Letter P))) (i : ℕ) (e : ℕ × Option (Letter P)) → slice_get es i ≡ Some e → count does_wait (take (i + 1) es) ≡ count does_wait (take i es) + one (does_wait e.1)
+  count-next es i e at = rw add-one (count-take-suc does_wait i es e at)
 
-  pub waits_here : (es : List (ℕ × Option (Letter P))) (i place : ℕ) (v : Option (Letter P)) → slice_get (values_of es) i ≡ Some v → does_wait v ≡ true → count does_wait (take i es) ≡ place → WaitsAt es place i
-  waits_here es i place v at waits is =
-      let entry = entry_of es i v at in
-      record {
-        waits = subst (λ (o : Option (ℕ × Option (Letter P))). IsSomeAnd o (λ e. IsTrue (does_wait e.1))) (sym entry.1) waits;
-        place_is = is;
-      }
+  pub waits_here : (es : List (ℕ × Option (Letter P))) (i place : ℕ) (e : ℕ × Option (Letter P)) → slice_get es i ≡ Some e → does_wait e.1 ≡ true → count does_wait (take i es) ≡ place → WaitsAt es place i
+  waits_here es i place e at waits is = record {
+    waits = subst (λ (o : Option (ℕ × Option (Letter P))). IsSomeAnd o (λ e. IsTrue (does_wait e.1))) (sym at) waits;
+    place_is = is;
+  }
 
   -- the same from the place behind it
-  pub count-back : (es : List (ℕ × Option (Letter P))) (i j : ℕ) (v : Option (Letter P)) → i ≡ j + 1 → slice_get (values_of es) j ≡ Some v → count does_wait (take i es) ≡ count does_wait (take j es) + one (does_wait v)
-  count-back es i j v is at = ap (λ n. count does_wait (take n es)) is ∙ count-next es j v at
+  pub count-back : (es : List (ℕ × Option (Letter P))) (i j : ℕ) (e : ℕ × Option (Letter P)) → i ≡ j + 1 → slice_get es j ≡ Some e → count does_wait (take i es) ≡ count does_wait (take j es) + one (does_wait e.1)
+  count-back es i j e is at = ap (λ n. count does_wait (take n es)) is ∙ count-next es j e at
 
   -- the last entry, where it is a hole
   pub popped_hole : (es front : List (ℕ × Option (Letter P))) (r : Option (ℕ × Option (Letter P))) → es ≡ front ++ option_to_list r → (0 < length es → is_some r ≡ true) → unwrap_or (option_map (λ (e : ℕ × Option (Letter P)). is_none e.1) (slice_get es (length es - 1))) false ≡ true → (k : ℕ) × (es ≡ front ++ (k, None) ∷ [])

@@ -1,27 +1,19 @@
 -- The letters that stand in the table, whose numbers rise
-use Rattle.std.proofs.Common.{◌≡◌, ℕ, zero, suc, ◌+◌, ◌<◌, ◌≤◌, ◌==◌, true, false, cond, not, List, [], ◌∷◌, ◌++◌, Option, Some, None, map, option_map, filter, length, is_some, IsSomeAnd, IsTrue, subst, refl, sym, ap, ◌∙◌, arith, eq-eqb, ne_eqb, nat_eq, true≢false, IfSome}
-use Rattle.std.specs.List.{slice_get, position}
+use Rattle.std.proofs.Common.{◌≡◌, ℕ, zero, suc, ◌+◌, ◌<◌, ◌≤◌, ◌==◌, true, false, cond, not, List, [], ◌∷◌, ◌++◌, Option, Some, None, map, option_map, filter, length, set, get_or, nat_lt, lt-ltb, is_some, IsSomeAnd, IsTrue, subst, refl, sym, ap, ◌∙◌, arith, eq-eqb, ne_eqb, true≢false, IfSome}
+use Rattle.std.specs.List.{slice_get}
+use Rattle.std.specs.List.Sorted.{IsPartitionedBy, IsPartitionPoint}
 use Rattle.std.specs.Option.{unwrap_or}
 use Rattle.std.specs.Map.{lookup, keys_of, values_of}
-use Rattle.std.proofs.lemmas.Option.{same_Some, none-some, slice_get-get_or, slice_get_within}
-use Rattle.std.proofs.lemmas.List.Quantifiers.{position-Some}
+use Rattle.std.proofs.lemmas.Option.{same_Some, none-some, slice_get_within, slice_get-map}
 use Rattle.std.proofs.lemmas.Map.Entries.{length-keys_of}
 use Rattle.std.proofs.lemmas.Map.Views.{exact_unsigned_eq}
-use Rattle.indexmap.specs.IndexMap.{set_value_at}
+use borrow.Author.Tests.{ltb-true, ltb-false}
 use Rattle.scholten_core.specs.declared.letters.Letter.{Letter}
 use Rattle.scholten_core.specs.Computation.{IsHeld}
-use Rattle.scholten_core.specs.LetterTable.{IsPlaceOf, standing}
+use Rattle.scholten_core.specs.LetterTable.{set_value_at, IsPlaceOf, standing}
 use Rattle.scholten_core.specs.Sound.{IsNumbered}
 use Rattle.scholten_core.proofs.Counts.{entry_of}
-use Rattle.scholten_core.proofs.Engaged.{one_or_other}
 use Rattle.scholten_core.proofs.Lists.{changed, changed_past, filter_past, lookup_at, number_at, numbered_above}
-
--- the test of the map's keys
-pub flipped : (k n : ℕ) → nat_eq k n ≡ (n == k)
-flipped k n =
-    one_or_other n k
-    (λ one. (λ i. nat_eq k (one i)) ∙ eq-eqb k k refl ∙ sym (eq-eqb n k one))
-    (λ other. ne_eqb k n (λ e. other (sym e)) ∙ sym (ne_eqb n k other))
 
 module _ {X : Type 0} where
   -- the length of what rises
@@ -36,26 +28,16 @@ module _ {X : Type 0} where
       let other : (l.0 == k) ≡ false = ne_eqb l.0 k (omega (arith, rising.0)) in
       rw other (lookup_past k l.0 ls high rising.1 (omega (arith, rising.0)))
 
-  -- nor above the last
-  lookup_above : (k low : ℕ) (ls : List (ℕ × X)) (high : ℕ) → IsNumbered low ls high → high < k → lookup (λ n. n == k) ls ≡ None
-  lookup_above k low [] high rising above = refl
-  lookup_above k low (l ∷ ls) high rising above =
-      let other : (l.0 == k) ≡ false = ne_eqb l.0 k (omega (arith, length-numbered_le l.0 ls high rising.1)) in
-      rw other (lookup_above k l.0 ls high rising.1 above)
-
-  -- a look-up by the test of the map's keys
-  pub lookup-keys : (k : ℕ) (ls : List (ℕ × X)) → lookup (nat_eq k) ls ≡ lookup (λ n. n == k) ls
-  lookup-keys k [] = refl
-  lookup-keys k (l ∷ ls) = λ i. cond (flipped k l.0 i) (Some l.1) (lookup-keys k ls i)
-
-  pub absent : (low : ℕ) (ls : List (ℕ × X)) (high k : ℕ) → IsNumbered low ls high → high < k → lookup (nat_eq k) ls ≡ None
-  absent low ls high k rising above = lookup-keys k ls ∙ lookup_above k low ls high rising above
-
   -- a value that is written leaves the numbers as they are
   pub keys-set_value : (ls : List (ℕ × X)) (i : ℕ) (w : X) → keys_of (set_value_at ls i w) ≡ keys_of ls
   keys-set_value [] i w = refl
   keys-set_value (l ∷ ls) zero w = refl
   keys-set_value (l ∷ ls) (suc i) w = ap (λ ks. l.0 ∷ ks) (keys-set_value ls i w)
+
+  pub length-set_value : (ls : List (ℕ × X)) (i : ℕ) (w : X) → length (set_value_at ls i w) ≡ length ls
+  length-set_value [] i w = refl
+  length-set_value (l ∷ ls) zero w = refl
+  length-set_value (l ∷ ls) (suc i) w = ap suc (length-set_value ls i w)
 
   pub numbered-set_value : (low : ℕ) (ls : List (ℕ × X)) (high i : ℕ) (w : X) → IsNumbered low ls high → IsNumbered low (set_value_at ls i w) high
   numbered-set_value low [] high i w rising = rising
@@ -78,14 +60,43 @@ module _ {X : Type 0} where
   entry_of_key (l ∷ ls) zero k at = (l.1, ap (λ n. Some (n, l.1)) (same_Some _ _ at))
   entry_of_key (l ∷ ls) (suc i) k at = entry_of_key ls i k at
 
-  -- the number that is found at a place stands there
-  pub key_there : (k : ℕ) (ls : List (ℕ × X)) → IfSome (position (nat_eq k) (keys_of ls)) (λ i. slice_get (keys_of ls) i ≡ Some k)
-  key_there k ls =
-      elim (position (nat_eq k) (keys_of ls)) as (λ o. position (nat_eq k) (keys_of ls) ≡ o → IfSome o (λ i. slice_get (keys_of ls) i ≡ Some k)) [
-        | None ↦ λ _. tt
-        | Some i ↦ λ found. let passes = position-Some (nat_eq k) (keys_of ls) i k found in
-            slice_get-get_or (keys_of ls) i k passes.0 ∙ ap Some (exact_unsigned_eq _ k (sym (flipped k _) ∙ passes.1))
-      ] refl
+  -- a value that is written beside its number
+  pub set_value-is : (ls : List (ℕ × X)) (i k : ℕ) (x w : X) → slice_get ls i ≡ Some (k, x) → set ls i (k, w) ≡ set_value_at ls i w
+  set_value-is [] i k x w at = refl
+  set_value-is (l ∷ ls) zero k x w at = ap (λ n. (n, w) ∷ ls) (sym (ap (λ e. e.0) (same_Some _ _ at)))
+  set_value-is (l ∷ ls) (suc i) k x w at = ap (λ es. l ∷ es) (set_value-is ls i k x w at)
+
+  pub value_get : (ls : List (ℕ × X)) (i : ℕ) (e : ℕ × X) → slice_get ls i ≡ Some e → slice_get (values_of ls) i ≡ Some e.1
+  value_get ls i e at = slice_get-map (λ (l : ℕ × X). l.1) ls i ∙ ap (option_map (λ (l : ℕ × X). l.1)) at
+
+  -- numbers rise with places
+  low-get : (low : ℕ) (ls : List (ℕ × X)) (high j : ℕ) (d : ℕ × X) → IsNumbered low ls high → j < length ls → low < (get_or ls j d).0
+  low-get low [] high j d rising within = absurd (omega (arith, within))
+  low-get low (l ∷ ls) high zero d rising within = rising.0
+  low-get low (l ∷ ls) high (suc j) d rising within = omega (arith, rising.0, low-get l.0 ls high j d rising.1 (omega (arith, within)))
+
+  numbers-rise : (low : ℕ) (ls : List (ℕ × X)) (high i j : ℕ) (d : ℕ × X) → IsNumbered low ls high → i ≤ j → j < length ls → (get_or ls i d).0 ≤ (get_or ls j d).0
+  numbers-rise low [] high i j d rising less within = absurd (omega (arith, within))
+  numbers-rise low (l ∷ ls) high zero zero d rising less within = omega arith
+  numbers-rise low (l ∷ ls) high zero (suc j) d rising less within = omega (arith, low-get l.0 ls high j d rising.1 (omega (arith, within)))
+  numbers-rise low (l ∷ ls) high (suc i) zero d rising less within = absurd (omega (arith, less))
+  numbers-rise low (l ∷ ls) high (suc i) (suc j) d rising less within = numbers-rise l.0 ls high i j d rising.1 (omega (arith, less)) (omega (arith, within))
+
+  -- so those below a number come first
+  pub parted_below : (low : ℕ) (ls : List (ℕ × X)) (high k : ℕ) → IsNumbered low ls high → IsPartitionedBy (λ (e : ℕ × X). nat_lt e.0 k) ls
+  parted_below low ls high k rising i j d less within below =
+      lt-ltb (get_or ls i d).0 k (omega (arith, numbers-rise low ls high i j d rising less within, ltb-true (get_or ls j d).0 k below))
+
+  -- a number that doesn't stand where they end stands nowhere
+  pub absent_between : (low : ℕ) (ls : List (ℕ × X)) (high k i : ℕ) → IsNumbered low ls high → IsPartitionPoint (λ (e : ℕ × X). nat_lt e.0 k ≡ true) (λ (e : ℕ × X). nat_lt e.0 k ≡ false) ls i → unwrap_or (option_map (λ (e : ℕ × X). e.0 == k) (slice_get ls i)) false ≡ false → lookup (λ n. n == k) ls ≡ None
+  absent_between low [] high k i rising parts other = refl
+  absent_between low (l ∷ ls) high k zero rising parts other =
+      let above : k ≤ l.0 = ltb-false l.0 k (parts.1 zero l (omega arith) (omega arith)) in
+      rw other (lookup_past k l.0 ls high rising.1 above)
+  absent_between low (l ∷ ls) high k (suc i) rising parts other =
+      let below : l.0 < k = ltb-true l.0 k (parts.0 zero l (omega arith) (omega arith)) in
+      let here : (l.0 == k) ≡ false = ne_eqb l.0 k (omega (arith, below)) in
+      rw here (absent_between l.0 ls high k i rising.1 (λ j d from within. parts.0 (suc j) d (omega arith) (omega (arith, within)), λ j d from within. parts.1 (suc j) d (omega (arith, from)) (omega (arith, within))) other)
 
   pub key_within : (k : ℕ) (ls : List (ℕ × X)) (i : ℕ) → slice_get (keys_of ls) i ≡ Some k → i < length ls
   key_within k ls i at = omega (arith, slice_get_within (keys_of ls) i k at, length-keys_of ls)
@@ -130,8 +141,8 @@ module _ {P : Type 0} where
       sym (lookup-standing k 0 es sent rising ∙ ap letter_in (lookup_at 0 es sent i k v rising there))
 
   -- no letter has a number that isn't found
-  pub letter_absent : (sent k : ℕ) (es : List (ℕ × Option (Letter P))) → IsNumbered 0 es sent → lookup (nat_eq k) es ≡ None → None ≡ lookup (λ n. n == k) (standing es)
-  letter_absent sent k es rising none = sym (lookup-standing k 0 es sent rising ∙ ap letter_in (sym (lookup-keys k es) ∙ none))
+  pub letter_absent : (sent k : ℕ) (es : List (ℕ × Option (Letter P))) → IsNumbered 0 es sent → lookup (λ n. n == k) es ≡ None → None ≡ lookup (λ n. n == k) (standing es)
+  letter_absent sent k es rising none = sym (lookup-standing k 0 es sent rising ∙ ap letter_in none)
 
   -- what is found of a number says where it stands
   pub found_there : (es : List (ℕ × Option (Letter P))) (k : ℕ) (place : Option ℕ) → IsPlaceOf es k place → IfSome place (λ at. slice_get (keys_of es) at ≡ Some k)
@@ -194,12 +205,6 @@ module _ {P : Type 0} where
   number_there k [] i is = absurd (true≢false (sym is))
   number_there k (e ∷ es) zero is = ap Some (exact_unsigned_eq e.0 k is)
   number_there k (e ∷ es) (suc i) is = number_there k es i is
-
-  -- what a map's index says of a number's place
-  pub place_found : (es : List (ℕ × Option (Letter P))) (k : ℕ) (place : Option ℕ) → is_some place ≡ is_some (lookup (nat_eq k) es) → IfSome place (λ at. slice_get (keys_of es) at ≡ Some k) → IsPlaceOf es k place
-  place_found es k None found there =
-      elim (lookup (nat_eq k) es) as (λ o. false ≡ is_some o → o ≡ None) [ None ↦ λ _. refl | Some v ↦ λ e. absurd (true≢false (sym e)) ] found
-  place_found es k (Some at) found there = there
 
   -- the held letter of a number stands where the number is found
   module _ (sent : ℕ) (es : List (ℕ × Option (Letter P))) (rising : IsNumbered 0 es sent) (k i m : ℕ) (v : Option (Letter P)) (is_held : IsHeld (standing es) k) (found : slice_get (keys_of es) i ≡ Some k) (at : slice_get es i ≡ Some (m, v)) where

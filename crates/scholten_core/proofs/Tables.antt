@@ -4,14 +4,12 @@ use Rattle.std.specs.List.{slice_get}
 use Rattle.std.specs.Option.{is_none}
 use Rattle.std.proofs.lemmas.List.{append-nil, take-append-le, take_all}
 use Rattle.std.proofs.lemmas.Option.{slice_get_within}
-use Rattle.indexmap.specs.IndexMap.{set_value_at}
-use Rattle.indexmap.specs.Layout.{length-set_value_at}
 use Rattle.scholten_core.specs.declared.letters.Letter.{Letter}
 use Rattle.scholten_core.specs.Sound.{IsNumbered}
-use Rattle.scholten_core.specs.LetterTable.{IsTable, count, does_wait, standing}
+use Rattle.scholten_core.specs.LetterTable.{set_value_at, IsTable, count, does_wait, standing}
 use Rattle.scholten_core.proofs.Counts.{one, count-append, count-le-length, count-set, count-take, count-take-le, count-take-pop, count-take-same, count-take-set, count-take-suc, either_way, holes-full, take-set_value, waits-full, waits_full}
 use Rattle.scholten_core.proofs.Lists.{numbered-append, numbered-filter}
-use Rattle.scholten_core.proofs.Standing.{length-numbered_le, numbered-front, numbered-set_value, standing-append}
+use Rattle.scholten_core.proofs.Standing.{length-numbered_le, length-set_value, numbered-front, numbered-set_value, standing-append}
 
 module _ {P : Type 0} (sent waits holes first last : ℕ) (es : List (ℕ × Option (Letter P))) (is : IsTable sent waits holes first last es) where
   pub waits-le-sent : waits ≤ sent
@@ -65,7 +63,7 @@ module _ {P : Type 0} (sent waits holes first last : ℕ) (es : List (ℕ × Opt
     taken place place_is waiting low high low_is high_is =
         let now = Some (record l { held = true }) in
         let before : one (does_wait (Some l)) ≡ 1 = ap one waiting in
-        let size = length-set_value_at es at now in
+        let size = length-set_value es at now in
         let counted = count-set does_wait es at k (Some l) now there in
         record {
           numbers = numbered-set_value 0 es sent at now is.numbers;
@@ -120,7 +118,7 @@ module _ {P : Type 0} (sent waits holes first last : ℕ) (es : List (ℕ × Opt
     put_back held =
         let now = Some (record l { held = false }) in
         let counts : one (does_wait (Some l)) ≡ 0 = ap (λ b. one (not b)) held in
-        let size = length-set_value_at es at now in
+        let size = length-set_value es at now in
         let low = min first at in
         let high = max last (at + 1) in
         let counted = count-set does_wait es at k (Some l) now there in
@@ -140,7 +138,7 @@ module _ {P : Type 0} (sent waits holes first last : ℕ) (es : List (ℕ × Opt
     pub left_hole : l.held ≡ true → IsTable sent waits (holes + 1) first last (set_value_at es at None)
     left_hole held =
         let counts : one (does_wait (Some l)) ≡ 0 = ap (λ b. one (not b)) held in
-        let size = length-set_value_at es at None in
+        let size = length-set_value es at None in
         record {
           numbers = numbered-set_value 0 es sent at None is.numbers;
           waiting = omega (arith, is.waiting, count-set does_wait es at k (Some l) None there, counts);

@@ -1,5 +1,5 @@
 -- What the table of letters is seen as, and what its fields keep
-use Rattle.std.specs.Prelude.{ℕ, List, length, nat_eq, ◌≡◌, ◌≤◌, Bool, false, count_by}
+use Rattle.std.specs.Prelude.{ℕ, zero, suc, List, length, ◌==◌, ◌≡◌, ◌≤◌, Bool, false, count_by}
 use Rattle.std.specs.Prelude.{not, [], ◌∷◌, Option, None, Some, take, is_none, slice_get, IsSomeAnd, IsTrue}
 use Rattle.std.specs.Map.{keys_of, lookup}
 use Rattle.scholten_core.specs.declared.parents.Parent.{Parent}
@@ -14,6 +14,12 @@ pub record LetterTableState (P : Type 0) : Type 0 where
   pub letters : List (ℕ × Letter P)
   pub numbers : List ℕ
   pub room : ℕ
+
+-- the entries, with this value at that place
+abbrev pub set_value_at : {X : Type 0} → List (ℕ × X) → ℕ → X → List (ℕ × X)
+set_value_at [] at x = []
+set_value_at (e ∷ es) zero x = (e.0, x) ∷ es
+set_value_at (e ∷ es) (suc at) x = e ∷ set_value_at es at x
 
 module _ {P : Type 0} where
   -- the number stands at that place
@@ -37,7 +43,7 @@ module _ {P : Type 0} where
 
   -- the number's entry stands at this place, or it has none
   abbrev pub IsPlaceOf : List (ℕ × Option (Letter P)) → ℕ → Option ℕ → Type 0
-  IsPlaceOf es number None = lookup (nat_eq number) es ≡ None
+  IsPlaceOf es number None = lookup (λ n. n == number) es ≡ None
   IsPlaceOf es number (Some at) = slice_get (keys_of es) at ≡ Some number
 
   -- how many entries pass a test

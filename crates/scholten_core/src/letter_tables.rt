@@ -1,21 +1,21 @@
 //! The table of the letters that wait or are held.
 ghost use Rattle.std.specs.Prelude.{◌≡◌, ◌+◌, ◌-◌, ◌<◌, ◌≤◌, ◌==◌, false, is_none, slice_get, take, unwrap_or};
 ghost use Rattle.std.specs.Prelude.{Option, None, Some, option_copied, option_map};
-ghost use Rattle.indexmap.specs.IndexMap.{index_map_len, set_value_at, spare, values};
+ghost use Rattle.std.specs.Prelude.{ℕ, length, nat_lt, vec_capacity, vec_len};
+ghost use Rattle.std.specs.Map.{values_of};
+ghost use Rattle.scholten_core.specs.Sound.{IsNumbered};
 ghost use Rattle.scholten_core.specs.declared.letters.Letter.{Letter};
-ghost use Rattle.scholten_core.specs.LetterTable.{count, does_wait, IsPlaceOf, WaitsAt};
+ghost use Rattle.scholten_core.specs.LetterTable.{count, does_wait, set_value_at, IsPlaceOf, WaitsAt};
 
 use crate::letters::Letter;
-use crate::numbers::NumberHasher;
 use crate::parents::Parent;
 use crate::slots::Slot;
-use indexmap::IndexMap;
 use std::alloc::{AllocError, Global};
 use std::collections::VecDeque;
-use std::hash::BuildHasherDefault;
 use std::marker::Model;
 
-type Numbered<P> = IndexMap<u64, Slot<P>, BuildHasherDefault<NumberHasher>>;
+// In order of number, so a number's place is found by halving.
+type Numbered<P> = Vec<(u64, Slot<P>)>;
 
 /// The letters that wait or are held, by number, in order of number. A letter that is finished leaves a hole, so that
 /// the others keep their places. Holes at the end are popped when the last letter is finished; all of them are dropped
@@ -36,13 +36,8 @@ pub(crate) struct LetterTable<P> {
     letters: Numbered<P>,
 }
 
-/// Room for so many letters is made at first, as many as four groups of a map's index take. It doubles from there. Fourfold
-/// growth takes fewer instructions, up to an eighth a letter, and mostly two to four times the memory.
+/// Room for so many letters is made at first. It doubles from there.
 const FIRST_ROOM: usize = 36;
-
-/// To clear a table takes as long as to pop one in so many of the entries that it has room for, or less: all of its index is
-/// written.
-const INDEXED: usize = 32;
 
 /// So much room is kept for another computation in any case.
 const LITTLE: usize = 256;
@@ -72,7 +67,7 @@ fn room_kept(sent: u64, room: usize) -> usize
 }
 
 fn ends_in_hole<P>(letters: &Numbered<P>) -> bool
-    ensures { result ≡ unwrap_or (option_map (λ e. is_none e.1) (slice_get letters.now.entries (index_map_len letters.now - 1))) false }
+    ensures { result ≡ unwrap_or (option_map (λ e. is_none e.1) (slice_get letters.now.items (length letters.now.items - 1))) false }
 {
     match letters.last() {
         Some((_, slot)) => slot.is_hole(),
@@ -82,9 +77,9 @@ fn ends_in_hole<P>(letters: &Numbered<P>) -> bool
 
 #[inline(always)]
 fn stands_at<P>(letters: &Numbered<P>, at: usize, number: u64) -> bool
-    ensures { result ≡ unwrap_or (option_map (λ e. e.0 == number) (slice_get letters.now.entries at)) false }
+    ensures { result ≡ unwrap_or (option_map (λ e. e.0 == number) (slice_get letters.now.items at)) false }
 {
-    match letters.get_index(at) {
+    match letters.get(at) {
         Some((found, _)) => *found == number,
         None => false,
     }
@@ -93,7 +88,8 @@ fn stands_at<P>(letters: &Numbered<P>, at: usize, number: u64) -> bool
 // Where the number's entry stands. Most often it is the letter at hand.
 #[inline(always)]
 fn place_of<P>(letters: &Numbered<P>, hand: usize, number: u64) -> Option<usize>
-    ensures { IsPlaceOf letters.now.entries number result }
+    requires { (sent : ℕ) × IsNumbered 0 letters.now.items sent }
+    ensures { IsPlaceOf letters.now.items number result }
 {
     if stands_at(letters, hand, number) {
         Some(hand)
@@ -102,56 +98,67 @@ fn place_of<P>(letters: &Numbered<P>, hand: usize, number: u64) -> Option<usize>
     }
 }
 
-// Where the entry stands of a number that isn't at hand. One place is tried before the table's index: where it stands if no
-// number lacks between it and the one at hand.
+// Where the entry stands of a number that isn't at hand. One place is tried before all others: where it stands if no number
+// lacks between it and the one at hand.
 #[inline(always)]
 fn place_near<P>(letters: &Numbered<P>, hand: usize, number: u64) -> Option<usize>
-    ensures { IsPlaceOf letters.now.entries number result }
+    requires { (sent : ℕ) × IsNumbered 0 letters.now.items sent }
+    ensures { IsPlaceOf letters.now.items number result }
 {
-    if let Some((near, _)) = letters.get_index(hand) {
+    if let Some((near, _)) = letters.get(hand) {
         let at = hand.wrapping_add(number.wrapping_sub(*near) as usize);
         if stands_at(letters, at, number) {
             return Some(at);
         }
     }
-    place_in_index(letters, number)
+    place_by_halving(letters, number)
 }
 
-// Where the number's entry stands, by the table's index.
+// Where the number's entry stands, sought among all.
 #[cold]
 #[inline(never)]
-fn place_in_index<P>(letters: &Numbered<P>, number: u64) -> Option<usize>
-    ensures { IsPlaceOf letters.now.entries number result }
+fn place_by_halving<P>(letters: &Numbered<P>, number: u64) -> Option<usize>
+    requires { (sent : ℕ) × IsNumbered 0 letters.now.items sent }
+    ensures { IsPlaceOf letters.now.items number result }
 {
-    letters.get_index_of(&number)
+    let at = letters.partition_point(
+        |entry: &(u64, Slot<P>)| -> bool
+            ensures { result ≡ nat_lt entry.now.0 number }
+        { entry.0 < number },
+    );
+    if stands_at(letters, at, number) {
+        Some(at)
+    } else {
+        None
+    }
 }
 
 // The letter at a place, if it isn't a hole.
 #[inline(always)]
 fn letter_at<P>(letters: &Numbered<P>, at: usize) -> Option<&Letter<P>>
-    requires { at < index_map_len letters.now }
-    ensures { slice_get (values letters.now) at ≡ Some (option_copied result) }
+    requires { at < length letters.now.items }
+    ensures { slice_get (values_of letters.now.items) at ≡ Some (option_copied result) }
 {
-    letters[at].letter()
+    letters[at].1.letter()
 }
 
 // The letter at a place that is no hole.
 #[inline(always)]
 fn letter_there<P>(letters: &Numbered<P>, at: usize) -> &Letter<P>
-    requires { (l : Letter P) × (slice_get (values letters.now) at ≡ Some (Some l)) }
-    ensures { slice_get (values letters.now) at ≡ Some (Some result.now) }
+    requires { (l : Letter P) × (slice_get (values_of letters.now.items) at ≡ Some (Some l)) }
+    ensures { slice_get (values_of letters.now.items) at ≡ Some (Some result.now) }
 {
-    letters[at].full_letter()
+    letters[at].1.full_letter()
 }
 
 // The letter at a place is held from now on, or waits again. Answers its number.
 #[inline(always)]
 fn hold<P>(letters: &mut Numbered<P>, at: usize, held: bool) -> u64
-    requires { at < index_map_len letters.old }
-    ensures { (o : Option (Letter P)) × (slice_get letters.old.entries at ≡ Some (result, o))
-        × (letters.new.entries ≡ set_value_at letters.old.entries at (option_map (λ (l : Letter P). record l { held = held }) o)) }
+    requires { at < length letters.old.items }
+    ensures { (o : Option (Letter P)) × (slice_get letters.old.items at ≡ Some (result, o))
+        × (letters.new.items ≡ set_value_at letters.old.items at (option_map (λ (l : Letter P). record l { held = held }) o)) }
 {
-    let (number, slot) = letters.pair_mut(at);
+    let (number, slot) = &mut letters[at];
     slot.hold(held);
     *number
 }
@@ -159,23 +166,24 @@ fn hold<P>(letters: &mut Numbered<P>, at: usize, held: bool) -> u64
 // The letter at a place is a hole from now on.
 #[inline(always)]
 fn leave_hole<P>(letters: &mut Numbered<P>, at: usize)
-    requires { at < index_map_len letters.old }
-    ensures hole { letters.new.entries ≡ set_value_at letters.old.entries at None }
-    ensures room { spare letters.new ≡ spare letters.old }
+    requires { at < length letters.old.items }
+    ensures hole { letters.new.items ≡ set_value_at letters.old.items at None }
+    ensures len { vec_len letters.new ≡ vec_len letters.old }
+    ensures capacity { vec_capacity letters.new ≡ vec_capacity letters.old }
 {
-    let (_, slot) = letters.pair_mut(at);
+    let (_, slot) = &mut letters[at];
     slot.empty();
 }
 
 // Where the waiting letter at that place stands, sought from a place on before which none waits.
 fn seek_on<P>(letters: &Numbered<P>, first: usize, place: u64) -> usize
-    requires none { count does_wait (take first letters.now.entries) ≡ 0 }
-    requires there { place < count does_wait letters.now.entries }
-    ensures { WaitsAt letters.now.entries place result }
+    requires none { count does_wait (take first letters.now.items) ≡ 0 }
+    requires there { place < count does_wait letters.now.items }
+    ensures { WaitsAt letters.now.items place result }
 {
     let mut left = place;
     for at in first..letters.len() {
-        if !letters[at].waits() {
+        if !letters[at].1.waits() {
             continue;
         }
         if left == 0 {
@@ -188,13 +196,13 @@ fn seek_on<P>(letters: &Numbered<P>, first: usize, place: u64) -> usize
 
 // Where the waiting letter that so many others follow stands, sought from a place back from which on none waits.
 fn seek_back<P>(letters: &Numbered<P>, last: usize, follow: u64) -> usize
-    requires within { last ≤ index_map_len letters.now }
-    requires there { follow < count does_wait (take last letters.now.entries) }
-    ensures { WaitsAt letters.now.entries (count does_wait (take last letters.now.entries) - follow - 1) result }
+    requires within { last ≤ length letters.now.items }
+    requires there { follow < count does_wait (take last letters.now.items) }
+    ensures { WaitsAt letters.now.items (count does_wait (take last letters.now.items) - follow - 1) result }
 {
     let mut left = follow;
     for at in (0..last).rev() {
-        if !letters[at].waits() {
+        if !letters[at].1.waits() {
             continue;
         }
         if left == 0 {
@@ -207,11 +215,11 @@ fn seek_back<P>(letters: &Numbered<P>, last: usize, follow: u64) -> usize
 
 // Where the waiting letter at that place stands, which so many others follow, sought from the nearer end.
 fn seek<P>(letters: &Numbered<P>, first: usize, last: usize, place: u64, follow: u64) -> usize
-    requires none { count does_wait (take first letters.now.entries) ≡ 0 }
-    requires all { count does_wait (take last letters.now.entries) ≡ count does_wait letters.now.entries }
-    requires within { last ≤ index_map_len letters.now }
-    requires there { place + 1 + follow ≡ count does_wait letters.now.entries }
-    ensures { WaitsAt letters.now.entries place result }
+    requires none { count does_wait (take first letters.now.items) ≡ 0 }
+    requires all { count does_wait (take last letters.now.items) ≡ count does_wait letters.now.items }
+    requires within { last ≤ length letters.now.items }
+    requires there { place + 1 + follow ≡ count does_wait letters.now.items }
+    ensures { WaitsAt letters.now.items place result }
 {
     if place < follow {
         seek_on(letters, first, place)
@@ -226,17 +234,17 @@ impl<P> Model for LetterTable<P> {
     ghost Value = { LetterTableState P };
 
     ghost use Rattle.std.specs.Map.{keys_of};
-    ghost use Rattle.indexmap.specs.IndexMap.{spare};
+    ghost use Rattle.std.specs.Prelude.{◌-◌, vec_capacity, vec_len};
     ghost use Rattle.scholten_core.specs.LetterTable.{IsTable, standing};
 
     ghost view = { λ a. record {
       sent = a.sent;
-      letters = standing a.letters.entries;
-      numbers = keys_of a.letters.entries;
-      room = spare a.letters;
+      letters = standing a.letters.items;
+      numbers = keys_of a.letters.items;
+      room = vec_capacity a.letters - vec_len a.letters;
     } };
 
-    ghost invariant = { λ a. IsTable a.sent a.waits a.holes a.first a.last a.letters.entries };
+    ghost invariant = { λ a. IsTable a.sent a.waits a.holes a.first a.last a.letters.items };
 }
 
 impl<P: Drop> LetterTable<P> {
@@ -262,16 +270,12 @@ impl<P: Drop> LetterTable<P> {
             first: 0,
             last: 0,
             hand: 0,
-            letters: IndexMap::with_capacity_and_hasher(
-                alloc,
-                FIRST_ROOM,
-                BuildHasherDefault::new(),
-            )?,
+            letters: Vec::with_capacity(alloc, FIRST_ROOM)?,
         })
     }
 
-    /// No letter, and none was sent: as it was made, with the room that it has. To empty a table takes as long as its room is large,
-    /// so one that is much too large becomes small.
+    /// No letter, and none was sent: as it was made, with the room that it has. A table that was much too large becomes small, so
+    /// that a small computation doesn't hold what a large one took.
     pub(crate) fn restart(&mut self)
         ensures sent { self.new.sent ≡ 0 }
         ensures letters { self.new.letters ≡ [] }
@@ -441,7 +445,7 @@ impl<P: Drop> LetterTable<P> {
     {
         self.sent += 1;
         self.waits += 1;
-        let _ = self.letters.insert(self.sent, Slot::full(letter)).unwrap();
+        self.letters.push_reserved((self.sent, Slot::full(letter)));
         self.last = self.letters.len();
     }
 
@@ -463,15 +467,14 @@ impl<P: Drop> LetterTable<P> {
         }
     }
 
-    // Pops the holes at the end, so that a letter that is sent next stands beside the last one. Where nothing is left but many
-    // holes, they go at once.
+    // Pops the holes at the end, so that a letter that is sent next stands beside the last one. Where nothing else is left, they
+    // go at once.
     fn pop_holes(&mut self)
         ensures letters { self.new.letters ≡ self.old.letters }
         ensures sent { self.new.sent ≡ self.old.sent }
         ensures room { self.old.room ≤ self.new.room }
     {
-        let len = self.letters.len();
-        if self.holes == len && len > FIRST_ROOM && len > self.letters.capacity() / INDEXED {
+        if self.holes == self.letters.len() {
             self.clear_holes();
             return;
         }
@@ -484,8 +487,6 @@ impl<P: Drop> LetterTable<P> {
     }
 
     // Takes out all entries, where all of them are holes.
-    #[cold]
-    #[inline(never)]
     fn clear_holes(&mut self)
         requires { self.old.letters ≡ [] }
         ensures letters { self.new.letters ≡ self.old.letters }
@@ -505,9 +506,9 @@ impl<P: Drop> LetterTable<P> {
         ensures sent { self.new.sent ≡ self.old.sent }
     {
         self.letters.retain(
-            |_number: &u64, slot: &mut Slot<P>| -> bool
-                ensures { (result ≡ is_some slot.old) × (slot.new ≡ slot.old) }
-            { !slot.is_hole() },
+            |entry: &(u64, Slot<P>)| -> bool
+                ensures { result ≡ is_some entry.now.1 }
+            { !entry.1.is_hole() },
         );
         self.holes = 0;
         self.first = 0;

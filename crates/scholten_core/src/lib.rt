@@ -11,7 +11,6 @@ mod diffusions;
 mod engagement;
 mod letter_tables;
 mod letters;
-mod numbers;
 mod parents;
 mod signals;
 mod slots;

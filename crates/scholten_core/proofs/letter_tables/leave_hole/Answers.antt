@@ -1,6 +1,16 @@
-use Rattle.std.proofs.Common.{refl, ap}
-use Rattle.indexmap.specs.IndexMap.{set_value_at}
+use Rattle.std.proofs.Common.{refl, ap, ◌∙◌}
+use Rattle.scholten_core.specs.LetterTable.{set_value_at}
+use Rattle.std.proofs.lemmas.Option.{slice_get_read}
+use Rattle.scholten_core.proofs.Standing.{set_value-is}
 use Rattle.scholten_core.proofs.letter_tables.leave_hole.Goals as goal
 
 pub returns : goal.returns
-returns g c = record { hole = ap (set_value_at c.args.letters.now.entries c.args.at) c.empty.ensures; room = refl }
+returns g c =
+    let es = c.args.letters.now.items in
+    let entry = c.index_mut.result.now in
+    let there = slice_get_read es _ c.args.at entry refl c.requires c.index_mut.ensures.value in
+    record {
+      hole = set_value-is es c.args.at entry.0 entry.1 c.empty.new.self there ∙ ap (set_value_at es c.args.at) c.empty.ensures;
+      len = refl;
+      capacity = refl;
+    }

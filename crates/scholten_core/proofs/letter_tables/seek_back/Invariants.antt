@@ -5,7 +5,7 @@ use Rattle.scholten_core.proofs.letter_tables.seek_back.Given as goal
 -- of those that wait after the one sought, these are left
 abbrev pub invariant-loop-at : goal.invariant-loop-at
 invariant-loop-at g l = record {
-  follow : count does_wait (take l.at l.letters.entries) + l.follow ≡ count does_wait (take l.last l.letters.entries) + l.left;
-  there : l.left < count does_wait (take l.at l.letters.entries);
-  within : l.at ≤ length l.letters.entries;
+  follow : count does_wait (take l.at l.letters.items) + l.follow ≡ count does_wait (take l.last l.letters.items) + l.left;
+  there : l.left < count does_wait (take l.at l.letters.items);
+  within : l.at ≤ length l.letters.items;
 }

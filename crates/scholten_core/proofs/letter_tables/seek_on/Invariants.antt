@@ -4,4 +4,4 @@ use Rattle.scholten_core.proofs.letter_tables.seek_on.Given as goal
 
 -- of those that wait before the one sought, these are left
 abbrev pub invariant-loop-at : goal.invariant-loop-at
-invariant-loop-at g l = (count does_wait (take l.at l.letters.entries) + l.left ≡ l.place) × (l.place < count does_wait l.letters.entries)
+invariant-loop-at g l = (count does_wait (take l.at l.letters.items) + l.left ≡ l.place) × (l.place < count does_wait l.letters.items)

@@ -6,19 +6,19 @@ use Rattle.scholten_core.proofs.letter_tables.LetterTable.clear_holes.Goals as g
 pub invariant_of-self : goal.invariant_of-self
 invariant_of-self g c =
     let none = rw (← c.self.view_is) at c.requires in
-    rw c.clear.ensures.empty (record {
+    rw c.clear.ensures.items (record {
       numbers = omega arith;
-      waiting = c.self.invariant.waiting ∙ sym (length-waiting c.self.inside.letters.entries) ∙ ap (λ ls. length (waiting ls)) none;
+      waiting = c.self.invariant.waiting ∙ sym (length-waiting c.self.inside.letters.items) ∙ ap (λ ls. length (waiting ls)) none;
       gone = refl;
       before = refl;
-      all = sym (c.self.invariant.waiting ∙ sym (length-waiting c.self.inside.letters.entries) ∙ ap (λ ls. length (waiting ls)) none);
+      all = sym (c.self.invariant.waiting ∙ sym (length-waiting c.self.inside.letters.items) ∙ ap (λ ls. length (waiting ls)) none);
       within_first = omega arith;
       within_last = omega arith;
     })
 
 pub returns : goal.returns
 returns g c =
-    rw (c.clear.ensures.empty, ← c.self.view_is) (record {
+    rw (c.clear.ensures.items, ← c.self.view_is) (record {
       letters = sym (rw (← c.self.view_is) at c.requires);
       sent = refl;
       room = omega (arith, c.clear.ensures.capacity);

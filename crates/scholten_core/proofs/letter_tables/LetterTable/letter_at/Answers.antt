@@ -6,8 +6,8 @@ use Rattle.scholten_core.proofs.letter_tables.LetterTable.letter_at.Goals as goa
 pub letter_at-requires : goal.letter_at-requires
 letter_at-requires g c =
     let within = rw (← c.self.view_is) at c.requires in
-    omega (arith, within, length-keys_of c.self.inside.letters.entries)
+    omega (arith, within, length-keys_of c.self.inside.letters.items)
 
 pub returns : goal.returns
 returns g c =
-    rw (← c.self.view_is) (λ (number : ℕ) stands. letter_there c.self.inside.sent number c.args.at c.self.inside.letters.entries (option_copied c.letter_at.result) c.self.invariant.numbers stands c.letter_at.ensures)
+    rw (← c.self.view_is) (λ (number : ℕ) stands. letter_there c.self.inside.sent number c.args.at c.self.inside.letters.items (option_copied c.letter_at.result) c.self.invariant.numbers stands c.letter_at.ensures)

@@ -7,12 +7,12 @@ use Rattle.scholten_core.proofs.letter_tables.LetterTable.letter_there.Goals as 
 
 pub returns : goal.returns
 returns g c =
-    rw (← c.self.view_is) (λ (number : ℕ) stands. sym (letter_there c.self.inside.sent number c.args.at c.self.inside.letters.entries (Some c.letter_there.result.now) c.self.invariant.numbers stands c.letter_there.ensures))
+    rw (← c.self.view_is) (λ (number : ℕ) stands. sym (letter_there c.self.inside.sent number c.args.at c.self.inside.letters.items (Some c.letter_there.result.now) c.self.invariant.numbers stands c.letter_there.ensures))
 
 pub letter_there-requires : goal.letter_there-requires
 letter_there-requires g c =
     let there = rw (← c.self.view_is) at c.requires in
-    let es = c.self.inside.letters.entries in
+    let es = c.self.inside.letters.items in
     let entry = entry_of_key es c.args.at there.0 there.1 in
     let value = slice_get-map (λ (e : ℕ × Option (Letter _)). e.1) es c.args.at ∙ ap (option_map (λ (e : ℕ × Option (Letter _)). e.1)) entry.1 in
     let is = letter_there c.self.inside.sent there.0 c.args.at es entry.0 c.self.invariant.numbers there.1 value in

@@ -1,15 +1,14 @@
-use Rattle.std.proofs.Common.{◌≡◌, ℕ, ◌++◌, [], ◌∷◌, None, sym, ◌∙◌, arith, ap, subst, length, ◌≤◌, length-append}
+use Rattle.std.proofs.Common.{◌≡◌, ◌-◌, vec_capacity, vec_len, ℕ, ◌++◌, [], ◌∷◌, None, sym, ◌∙◌, arith, ap, subst, length, ◌≤◌, length-append}
 use Rattle.scholten_core.proofs.Counts.{popped_hole, standing-none}
 use Rattle.scholten_core.proofs.Tables.{holes-popped, numbered-popped, standing-popped, take-popped, waits-popped, cut_ends}
-use Rattle.indexmap.specs.IndexMap.{spare}
 use Rattle.scholten_core.proofs.letter_tables.LetterTable.pop_holes.Given.{Over}
 use Rattle.scholten_core.proofs.letter_tables.LetterTable.pop_holes.Goals as goal
 use Rattle.scholten_core.proofs.letter_tables.LetterTable.pop_holes.Goals.{After-pop}
 
 -- the last entry was a hole
-popped : (g : Over) (c : After-pop g) → (k : ℕ) × (c.loop-self.self-inside.letters.entries ≡ c.pop.new.self.entries ++ (k, None) ∷ [])
+popped : (g : Over) (c : After-pop g) → (k : ℕ) × (c.loop-self.self-inside.letters.items ≡ c.pop.new.self.items ++ (k, None) ∷ [])
 popped g c =
-    popped_hole c.loop-self.self-inside.letters.entries c.pop.new.self.entries c.pop.result c.pop.ensures.entries c.pop.ensures.found.1 (sym c.ends_in_hole.ensures ∙ c.loop-self-test.true)
+    popped_hole c.loop-self.self-inside.letters.items c.pop.new.self.items c.pop.result c.pop.ensures.items (λ some. c.pop.ensures.variant.1 (omega (arith, some, c.loop-self.self-inside.letters.ok.0))) (sym c.ends_in_hole.ensures ∙ c.loop-self-test.true)
 
 pub overflow_sub-self : goal.overflow_sub-self
 overflow_sub-self g c =
@@ -23,7 +22,7 @@ loop-self-preserved g c =
     record {
       letters = standing-popped _ _ hole.0 hole.1 ∙ before.letters;
       sent = before.sent;
-      room = omega (arith, before.room, c.pop.ensures.room.0);
+      room = omega (arith, before.room, c.pop.ensures.len, c.pop.ensures.capacity);
       numbers = numbered-popped _ _ hole.0 hole.1 _ before.numbers;
       waiting = before.waiting ∙ waits-popped _ _ hole.0 hole.1;
       gone = omega (arith, before.gone, holes-popped _ _ hole.0 hole.1);
@@ -35,7 +34,7 @@ pub loop-self-init : goal.loop-self-init
 loop-self-init g c = record {
   letters = ap (λ s. s.letters) c.self.view_is;
   sent = ap (λ s. s.sent) c.self.view_is;
-  room = subst (λ n. n ≤ spare c.self.inside.letters) (ap (λ s. s.room) c.self.view_is) (omega arith);
+  room = subst (λ n. n ≤ vec_capacity c.self.inside.letters - vec_len c.self.inside.letters) (ap (λ s. s.room) c.self.view_is) (omega arith);
   numbers = c.self.invariant.numbers;
   waiting = c.self.invariant.waiting;
   gone = c.self.invariant.gone;
@@ -46,12 +45,12 @@ loop-self-init g c = record {
 pub loop-self-smaller : goal.loop-self-smaller
 loop-self-smaller g c =
     let hole = popped g (goal.at.loop-self-smaller g c).After-pop in
-    omega (arith, ap length hole.1 ∙ length-append c.pop.new.self.entries ((hole.0, None) ∷ []))
+    omega (arith, ap length hole.1 ∙ length-append c.pop.new.self.items ((hole.0, None) ∷ []))
 
 pub invariant_of-self : goal.invariant_of-self
 invariant_of-self g c =
     let kept = c.loop-self.invariant in
-    rw (c.min-self-inside.ensures, c.min-self-inside-2.ensures, c.len.ensures.len, c.len-2.ensures.len) (cut_ends _ _ _ c.loop-self.self-inside.first c.loop-self.self-inside.last c.loop-self.self-inside.letters.entries kept.numbers kept.waiting kept.gone kept.before kept.all)
+    rw (c.min-self-inside.ensures, c.min-self-inside-2.ensures, c.len-2.ensures ∙ c.loop-self.self-inside.letters.ok.0, c.len-3.ensures ∙ c.loop-self.self-inside.letters.ok.0) (cut_ends _ _ _ c.loop-self.self-inside.first c.loop-self.self-inside.last c.loop-self.self-inside.letters.items kept.numbers kept.waiting kept.gone kept.before kept.all)
 
 pub returns : goal.returns
 returns g c = record {
@@ -62,4 +61,4 @@ returns g c = record {
 
 pub clear_holes-requires : goal.clear_holes-requires
 clear_holes-requires g c =
-    rw (← c.self.view_is) (standing-none c.self.inside.letters.entries (omega (arith, c.self.invariant.gone, c.len-len.ensures.len, c.if-self-len.true)))
+    rw (← c.self.view_is) (standing-none c.self.inside.letters.items (omega (arith, c.self.invariant.gone, c.len.ensures, c.self.inside.letters.ok, c.if-self-len.true)))

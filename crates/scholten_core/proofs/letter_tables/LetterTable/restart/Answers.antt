@@ -1,10 +1,10 @@
-use Rattle.std.proofs.Common.{refl, ap, length, ◌∙◌, arith}
+use Rattle.std.proofs.Common.{refl, ap, ◌∙◌, arith}
 use Rattle.scholten_core.specs.LetterTable.{standing}
 use Rattle.scholten_core.proofs.letter_tables.LetterTable.restart.Goals as goal
 
 pub invariant_of-self : goal.invariant_of-self
 invariant_of-self g c =
-    rw (c.shrink_to.ensures.entries ∙ c.clear.ensures.empty) (record {
+    rw (c.shrink_to.ensures.items ∙ c.clear.ensures.items) (record {
       numbers = omega arith;
       waiting = refl;
       gone = refl;
@@ -18,6 +18,6 @@ pub returns : goal.returns
 returns g c =
     rw (← c.self.view_is) (record {
       sent = refl;
-      letters = ap standing (c.shrink_to.ensures.entries ∙ c.clear.ensures.empty);
-      room = omega (arith, c.clear.ensures.capacity, c.clear.ensures.len, ap length c.shrink_to.ensures.entries, c.shrink_to.ensures.lower_bound, c.room_kept-kept.ensures);
+      letters = ap standing (c.shrink_to.ensures.items ∙ c.clear.ensures.items);
+      room = omega (arith, c.clear.ensures.capacity, c.clear.ensures.len, c.shrink_to.ensures.len, c.shrink_to.ensures.lower_bound, c.room_kept-kept.ensures);
     })

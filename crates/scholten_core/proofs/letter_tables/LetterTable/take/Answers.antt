@@ -1,10 +1,9 @@
 use Rattle.std.proofs.Common.{◌≡◌, ◌+◌, ◌<◌, ◌⊎◌, inl, inr, Some, true, option_map, refl, sym, ap, ◌∙◌, arith}
 use Rattle.std.specs.List.{slice_get}
 use Rattle.std.specs.Map.{keys_of}
-use Rattle.indexmap.specs.IndexMap.{set_value_at}
 use Rattle.scholten_core.specs.declared.letters.Letter.{Letter}
 use Rattle.scholten_core.specs.Computation.{waiting}
-use Rattle.scholten_core.specs.LetterTable.{standing}
+use Rattle.scholten_core.specs.LetterTable.{set_value_at, standing}
 use Rattle.scholten_core.proofs.Counts.{WaitingLetter, length-waiting, letter_waiting, waiting-at, waits_within}
 use Rattle.scholten_core.proofs.Standing.{key_get, keys-set_value, length-numbered_le, standing-change}
 use Rattle.scholten_core.proofs.Tables.{taken}
@@ -15,7 +14,7 @@ use Rattle.scholten_core.proofs.letter_tables.LetterTable.take.Goals.{Start, Aft
 inside : (g : Over) (c : After-self g) → c.args.place < c.self.inside.waits
 inside g c =
     let place = rw (← c.self.view_is) at c.requires in
-    omega (arith, place, length-waiting c.self.inside.letters.entries, c.self.invariant.waiting)
+    omega (arith, place, length-waiting c.self.inside.letters.items, c.self.invariant.waiting)
 
 pub overflow_sub-follow : goal.overflow_sub-follow
 overflow_sub-follow g c = omega (arith, inside g (goal.at.overflow_sub-follow g c).After-self)
@@ -36,21 +35,21 @@ overflow_sub-self g c = omega (arith, inside g (goal.at.overflow_sub-self g c).A
 
 pub overflow_add-self : goal.overflow_add-self
 overflow_add-self g c =
-    omega (arith, waits_within c.self.inside.letters.entries c.args.place c.seek-at.result c.seek-at.ensures, length-numbered_le 0 c.self.inside.letters.entries c.self.inside.sent c.self.invariant.numbers, c.self.ranges)
+    omega (arith, waits_within c.self.inside.letters.items c.args.place c.seek-at.result c.seek-at.ensures, length-numbered_le 0 c.self.inside.letters.items c.self.inside.sent c.self.invariant.numbers, c.self.ranges)
 
 pub hold-requires : goal.hold-requires
 hold-requires g c =
-    waits_within c.self.inside.letters.entries c.args.place c.seek-at.result c.seek-at.ensures
+    waits_within c.self.inside.letters.items c.args.place c.seek-at.result c.seek-at.ensures
 
 -- the waiting letter
-slot : (g : Over) (c : After-hold g) → WaitingLetter c.self.inside.letters.entries c.seek-at.result c.hold.result c.hold.ensures.0
+slot : (g : Over) (c : After-hold g) → WaitingLetter c.self.inside.letters.items c.seek-at.result c.hold.result c.hold.ensures.0
 slot g c =
-    letter_waiting c.self.inside.letters.entries c.args.place c.seek-at.result c.hold.result c.hold.ensures.0 c.seek-at.ensures c.hold.ensures.1
+    letter_waiting c.self.inside.letters.items c.args.place c.seek-at.result c.hold.result c.hold.ensures.0 c.seek-at.ensures c.hold.ensures.1
 
 -- what is written there
-written : (g : Over) (c : After-hold g) → c.hold.new.letters.entries ≡ set_value_at c.self.inside.letters.entries c.seek-at.result (Some (record (slot g c).letter { held = true }))
+written : (g : Over) (c : After-hold g) → c.hold.new.letters.items ≡ set_value_at c.self.inside.letters.items c.seek-at.result (Some (record (slot g c).letter { held = true }))
 written g c =
-    c.hold.ensures.2 ∙ ap (λ o. set_value_at c.self.inside.letters.entries c.seek-at.result (option_map (λ (l : Letter _). record l { held = true }) o)) (slot g c).value
+    c.hold.ensures.2 ∙ ap (λ o. set_value_at c.self.inside.letters.items c.seek-at.result (option_map (λ (l : Letter _). record l { held = true }) o)) (slot g c).value
 
 low : (g : Over) (c : After-hold g) → (c.if-place-eq0.self ≡ c.self.inside.first) ⊎ ((c.if-place-eq0.self ≡ c.seek-at.result + 1) × (c.args.place ≡ 0))
 low g c =
@@ -71,7 +70,7 @@ pub returns : goal.returns
 returns g c =
     let after = (goal.at.returns g c).After-hold in
     let one = slot g after in
-    let entries = c.self.inside.letters.entries in
+    let entries = c.self.inside.letters.items in
     let at = c.seek-at.result in
     let k = c.hold.result in
     rw (← c.self.view_is) (record {
