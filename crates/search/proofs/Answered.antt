@@ -1,5 +1,5 @@
 -- Whether the entity that is asked about was found, and whether a search has come to anything.
-use Rattle.std.proofs.Common.{ℕ, ◌<◌, ◌↔◌, ◌≡◌, ◌∙◌, inl, inr, sym, subst, ap, Bool, true, cond, not, List, [], ◌∷◌, Some, length, filter, slice_get, ◌==◌, eq-eqb, ne_eqb, arith}
+use Rattle.std.proofs.Common.{ℕ, ◌<◌, ◌↔◌, ◌≡◌, ◌∙◌, inl, inr, sym, subst, ap, Bool, true, cond, IsTrue, not, List, [], ◌∷◌, Some, length, filter, slice_get, ◌==◌, eq-eqb, ne_eqb, arith}
 use Rattle.std.specs.List.{list_any}
 use Rattle.std.specs.Map.{lookup}
 use Rattle.std.proofs.lemmas.Bool.{cases_Bool, cases_eq}
@@ -75,6 +75,17 @@ works stage.Broken g q = (λ is. clash is, λ busy. absurd busy)
   where
     clash : status.Broken ≡ status.Working → ⊥
     clash is = cc
+
+-- so exactly while anything is outstanding it has come to nothing
+unsettled_iff : (st : Stage) (g : GraphState) (q : Query) → IsOutstanding st ↔ (come_to st g q ≡ Nothing)
+unsettled_iff st g q = (unsettled_at st g q, λ nothing. (works st g q).0 (ap status_of nothing))
+
+pub is_outstanding : {s t : SearchState} {busy : Bool} → s ≡ t → (IsTrue busy ↔ IsOutstanding s.stage) → (IsTrue busy ↔ IsOutstanding t.stage) × (IsTrue busy ↔ (settled_of t ≡ Nothing))
+unfolding settled_of
+is_outstanding {s} {t} {busy} same is =
+    let tells = subst (λ (x : SearchState). IsTrue busy ↔ IsOutstanding x.stage) same is in
+    let nothing = unsettled_iff t.stage t.graph t.query in
+    (tells, (λ yes. nothing.0 (tells.0 yes), λ none. tells.1 (nothing.1 none)))
 
 -- what was found answers the query
 found_answers : (g : GraphState) (q : Query) → IsAnswered (status_of (found g q))

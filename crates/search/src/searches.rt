@@ -202,6 +202,17 @@ impl Search {
         status_at(&self.stage, self.found.graph(), &self.query)
     }
 
+    /// Whether anything of the search is outstanding: then, and only then, its status is that it works.
+    pub fn is_outstanding(&self) -> bool
+        ensures outstanding { IsTrue result ↔ IsOutstanding self.now.stage }
+        ensures unsettled { IsTrue result ↔ (settled_of self.now ≡ Nothing) }
+    {
+        let NumberedStage::Running(running) = &self.stage else {
+            return false;
+        };
+        !running.is_complete()
+    }
+
     /// The members of the asked role, in order, each once. A completed search has them.
     pub fn members(&self) -> Result<Vec<Entity>, AllocError>
         requires { IsCompleted self.now.stage }
