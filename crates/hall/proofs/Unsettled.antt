@@ -96,6 +96,14 @@ module _ {S Z : Type 0} where
       none [] i short there = cc
       none (q ∷ keys) i short there = omega (arith, short)
 
+  -- where a tenant's numbers are taken out, nothing is put in
+  pub nothing_new : (old new : Index S Z) (who : List ℕ) → Updates is_same old new who None → (name : List ℕ) (k : ℕ) → Lists new name k → Lists old name k
+  nothing_new old new who drops name k listed = by (is_same who name) (subst (IsIn k) (drops.0 name) listed)
+    where
+      by : (b : Bool) → IsIn k (cond b None (table.get is_same old name)) → Lists old name k
+      by true there = absurd there
+      by false there = there
+
   -- what is left out need not be in the index
   pub still_listed : (old new : Index S Z) (h : HallState) (out : List ℕ → ℕ → Type 0) → KeepsBut out old new → ListsUnsettled old h →
       ((name : List ℕ) (k : ℕ) (r : Running) → out name k → search_at h name k ≡ Some r → IsUnsettled r.search → ⊥) → ListsUnsettled new h

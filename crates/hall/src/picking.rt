@@ -1,5 +1,5 @@
 //! Which searches of a hall may still go on, and which of them has its turn.
-ghost use Rattle.std.specs.Prelude.{◌≡◌, ◌≤◌, ◌↔◌, ℕ, None, IfSome, OnOk, MatchOption};
+ghost use Rattle.std.specs.Prelude.{◌≡◌, ◌≤◌, ◌↔◌, ℕ, List, None, IfSome, OnOk, MatchOption};
 ghost use Rattle.std.specs.List.{AllByRecursion};
 ghost use Rattle.{search.specs.Search.IsSoundStage, hall.specs.Hall.search_of_step};
 ghost use Rattle.hall.specs.Work.{SearchIsQuiet, NothingToDo, CanBeMade};
@@ -10,7 +10,7 @@ use crate::halls::Hall;
 use crate::open_searches::next_step;
 use indexmap::{IndexMap, IndexSet};
 use names::Entity;
-use search::{Search, Status};
+use search::Search;
 use std::alloc::AllocError;
 
 /// How a search stands once somebody has worked on it.
@@ -28,7 +28,7 @@ pub(crate) enum Standing {
 /// tenant that alone has one stays when it is emptied, for the tenant's next search. So at most one is empty.
 pub(crate) type Busy = IndexMap<Entity, IndexSet<u64>>;
 
-/// Enters the tenant's search of the number.
+/// Enters the tenant's search of the number. A tenant that has no set takes the first one, where that is empty.
 pub(crate) fn enter(busy: &mut Busy, who: Entity, number: u64) -> Result<(), AllocError>
     ensures entered { OnOk result (Lists busy.new who number) }
     ensures kept { KeepsBut (λ name k. ⊥) busy.old busy.new }
@@ -37,21 +37,26 @@ pub(crate) fn enter(busy: &mut Busy, who: Entity, number: u64) -> Result<(), All
         numbers.insert(number)?;
         return Ok(());
     }
-    let mut numbers = IndexSet::new(*busy.allocator());
+    let mut numbers = match take_empty_first(busy) {
+        Some(empty) => empty,
+        None => IndexSet::new(*busy.allocator()),
+    };
     numbers.insert(number)?;
     busy.insert(who, numbers)?;
-    leave_empty_first(busy);
     Ok(())
 }
 
 /// Takes the first tenant's set out where it is empty.
-fn leave_empty_first(busy: &mut Busy)
-    ensures { KeepsBut (λ name k. ⊥) busy.old busy.new }
+fn take_empty_first(busy: &mut Busy) -> Option<IndexSet<u64>>
+    ensures kept { KeepsBut (λ name k. ⊥) busy.old busy.new }
+    ensures same { (name : List ℕ) (k : ℕ) → Lists busy.new name k → Lists busy.old name k }
 {
-    if let Some((first, _numbers)) = busy.get_index(0) {
-        let first = *first;
-        leave_empty(busy, &first);
+    let (_first, numbers) = busy.get_index(0)?;
+    if !numbers.is_empty() {
+        return None;
     }
+    let (_first, empty) = busy.swap_remove_index(0)?;
+    Some(empty)
 }
 
 /// Takes the tenant's set out where it is empty.
@@ -109,7 +114,7 @@ fn standing_of(search: &Search) -> Standing
     search.kept();
     if !search.is_quiet() {
         Standing::Moves
-    } else if search.status() == Status::Working {
+    } else if search.is_outstanding() {
         Standing::Rests
     } else {
         Standing::Over

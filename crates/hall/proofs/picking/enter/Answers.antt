@@ -1,6 +1,5 @@
-use Rattle.std.proofs.Common.{Some, ap, is_some, subst, sym}
-use Rattle.indexmap.specs.IndexMap.{Updates}
-use Rattle.names.specs.Name.{is_same}
+use Rattle.std.proofs.Common.{List, ℕ, ap, is_some, subst, sym}
+use Rattle.hall.specs.Kept.{KeepsBut, Lists}
 use Rattle.hall.proofs.Unsettled.{IsIn, grown, is_in_more, is_in_same}
 use Rattle.hall.proofs.picking.enter.Goals as goal
 
@@ -16,7 +15,10 @@ returns-in-Some-clause-kept c =
 
 pub returns-clause-kept : goal.returns-clause-kept
 returns-clause-kept c name k stays listed =
-    c.leave_empty_first.ensures name k stays
-    (grown c.args.busy.now c.insert-3.new.self c.args.who c.insert-2.new.self
-    (subst (λ m. Updates is_same m c.insert-3.new.self c.args.who (Some c.insert-2.new.self)) c.get_mut.follows.holds-at-none c.in_ok-insert-3.ensures.updates)
-    (λ j among. absurd (subst (IsIn j) (sym c.in_default.ensures.value) among)) name k stays listed)
+    let before = c.args.busy.now in
+    let between = c.take_empty_first.new.busy in
+    let kept : KeepsBut (λ name k. ⊥) before between = subst (λ m. KeepsBut (λ name k. ⊥) m between) c.get_mut.follows.holds-at-none c.take_empty_first.ensures.kept in
+    let same : (name : List ℕ) (k : ℕ) → Lists between name k → Lists before name k = subst (λ m. (name : List ℕ) (k : ℕ) → Lists between name k → Lists m name k) c.get_mut.follows.holds-at-none c.take_empty_first.ensures.same in
+    grown between c.insert-3.new.self c.args.who c.insert-2.new.self c.in_ok-insert-3.ensures.updates
+    (λ j among. absurd (subst (IsIn j) (sym c.in_default.ensures.value) (same c.args.who j among)))
+    name k stays (kept name k stays listed)
