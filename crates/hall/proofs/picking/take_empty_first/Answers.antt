@@ -1,4 +1,4 @@
-use Rattle.std.proofs.Common.{◌≡◌, ◌∙◌, List, None, ℕ, ap, subst, sym}
+use Rattle.std.proofs.Common.{◌∙◌, List, None, ℕ, ap, subst, sym}
 use Rattle.std.proofs.lemmas.Option.{same_Some}
 use Rattle.indexmap.specs.IndexMap.{Updates}
 use Rattle.names.specs.Name.{is_same}
