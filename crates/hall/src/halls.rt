@@ -10,7 +10,7 @@ use crate::faults::Fault;
 use crate::jobs::Job;
 use crate::lists::{Rows, Sights};
 use crate::open_searches::{OpenSearch, proof_of, told_of};
-use crate::picking::{Busy, Standing, leave, settle};
+use crate::picking::{Busy, Standing, leave_going, settle};
 use crate::remains::Remains;
 use crate::tenants::Tenants;
 use indexmap::IndexMap;
@@ -158,7 +158,7 @@ impl Hall {
         ensures served { IsServed self.old who (request.Close number) (told_as (λ u. reply.Closed) result) self.new }
     {
         let seat = self.tenants.seat_mut(&who)?;
-        leave(&mut self.busy, &who, number);
+        leave_going(&mut self.busy, &who, number, seat.goes_on(number));
         seat.end_in(number, &mut self.spare)
     }
 
@@ -168,7 +168,7 @@ impl Hall {
         ensures served { IsServed self.old who (request.Close number) (told_as (λ r. reply.Closed) result) self.new }
     {
         let seat = self.tenants.seat_mut(&who)?;
-        leave(&mut self.busy, &who, number);
+        leave_going(&mut self.busy, &who, number, seat.goes_on(number));
         seat.end(number, &mut self.spare)
     }
 

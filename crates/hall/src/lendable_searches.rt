@@ -4,7 +4,7 @@ ghost use Rattle.std.specs.Arc.{arc_value};
 ghost use Rattle.hall.specs.LendableSearch.{IsLendable, lendable_search};
 ghost use Rattle.search.specs.Search.{IsCompleted};
 
-use search::Search;
+use search::{Search, Tables};
 use std::alloc::{AllocError, Global};
 use std::mem;
 use std::sync::Arc;
@@ -50,8 +50,46 @@ impl LendableSearch {
         }
     }
 
-    /// The search, shared where there is memory for that, and else as it is. Nobody opens another one in its tables, so it keeps no
-    /// more room than it needs.
+    /// Keeps no more room than it needs: from now on, where it isn't completed yet. One that somebody else has stays as it is.
+    pub(crate) fn give_back(&mut self)
+        requires carried { IsLendable self.old }
+        ensures same { lendable_search self.new ≡ lendable_search self.old }
+        ensures carried { IsLendable self.new }
+    {
+        match self {
+            LendableSearch::Own(search) => search.give_back(),
+            LendableSearch::Lent(shared) => {
+                if let Some(search) = Arc::get_mut(shared) {
+                    search.give_back();
+                }
+            }
+            LendableSearch::Moving => {}
+        }
+    }
+
+    /// Whether the search is small.
+    pub(crate) fn is_small(&self) -> bool {
+        match self {
+            LendableSearch::Own(search) => search.is_small(),
+            LendableSearch::Lent(shared) => shared.is_small(),
+            LendableSearch::Moving => false,
+        }
+    }
+
+    /// Ends the search. Where nobody else has it, its tables are spare then.
+    pub(crate) fn leave_tables(self, spare: &mut Tables) {
+        match self {
+            LendableSearch::Own(search) => *spare = search.into_tables(),
+            LendableSearch::Lent(shared) => {
+                if let Some(search) = Arc::into_inner(shared) {
+                    *spare = search.into_tables();
+                }
+            }
+            LendableSearch::Moving => {}
+        }
+    }
+
+    /// The search, shared where there is memory for that, and else as it is.
     fn into_shared(self, alloc: Global) -> LendableSearch
         requires carried { IsLendable self }
         requires completed { IsCompleted (lendable_search self).stage }
@@ -59,13 +97,10 @@ impl LendableSearch {
         ensures carried { IsLendable result }
     {
         match self {
-            LendableSearch::Own(mut search) => {
-                search.give_back();
-                match Arc::new(alloc, search) {
-                    Ok(shared) => LendableSearch::Lent(shared),
-                    Err(refused) => LendableSearch::Own(refused.value),
-                }
-            }
+            LendableSearch::Own(search) => match Arc::new(alloc, search) {
+                Ok(shared) => LendableSearch::Lent(shared),
+                Err(refused) => LendableSearch::Own(refused.value),
+            },
             carried => carried,
         }
     }

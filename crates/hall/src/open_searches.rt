@@ -106,9 +106,7 @@ impl OpenSearch {
     pub(crate) fn give_back(&mut self)
         ensures { self.new ≡ self.old }
     {
-        if let LendableSearch::Own(search) = &mut self.carried {
-            search.give_back();
-        }
+        self.carried.give_back();
     }
 
     /// Hands in the letters of the batch, which are of this search under that name, and goes on with it where that is asked and

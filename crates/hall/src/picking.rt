@@ -82,6 +82,15 @@ pub(crate) fn leave(busy: &mut Busy, who: &Entity, number: u64)
     }
 }
 
+/// Takes the tenant's search of the number out, where it goes on. One that has settled was taken out as it did.
+pub(crate) fn leave_going(busy: &mut Busy, who: &Entity, number: u64, goes_on: bool)
+    ensures { KeepsBut (λ name k. (name ≡ who.now) × (k ≡ number)) busy.old busy.new }
+{
+    if goes_on {
+        leave(busy, who, number);
+    }
+}
+
 /// Takes the number out of the tenant's set, where it has one.
 fn take_out(busy: &mut Busy, who: &Entity, number: u64)
     ensures kept { KeepsBut (λ name k. (name ≡ who.now) × (k ≡ number)) busy.old busy.new }

@@ -1,6 +1,5 @@
 //! What is left of a search that was ended.
 
-use crate::lendable_searches::LendableSearch;
 use crate::open_searches::OpenSearch;
 use search::Tables;
 
@@ -23,25 +22,15 @@ impl Remains {
             opened_at: _,
             carried,
         } = ended;
-        if let LendableSearch::Own(search) = carried {
-            *spare = search.into_tables();
-        }
+        carried.leave_tables(spare);
     }
 
-    /// All of it, unless the search is small: that leaves its tables.
+    /// All of it, unless the search is small: that leaves its tables, where nobody else has it.
     pub(crate) fn unless_small(self, spare: &mut Tables) -> Option<Remains> {
-        if !self.is_small() {
+        if !self.ended.carried.is_small() {
             return Some(self);
         }
         self.leave_tables(spare);
         None
-    }
-
-    /// Whether the search is small, and nobody else has it.
-    fn is_small(&self) -> bool {
-        match &self.ended.carried {
-            LendableSearch::Own(search) => search.is_small(),
-            _ => false,
-        }
     }
 }

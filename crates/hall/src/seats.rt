@@ -11,6 +11,7 @@ use crate::faults::Fault;
 use crate::lendable_searches::LendableSearch;
 use crate::open_searches::OpenSearch;
 use crate::picking::{Busy, enter};
+use crate::places::place_of;
 use crate::remains::Remains;
 use indexmap::IndexMap;
 use names::Entity;
@@ -121,6 +122,17 @@ impl Seat {
         give_back(&mut self.searches, self.opens);
         self.opens = number;
         Ok(number)
+    }
+
+    /// Whether the search of the number goes on. Where there is none, its number may stand among those that do.
+    pub(crate) fn goes_on(&self, number: u64) -> bool {
+        match self
+            .searches
+            .get_index(place_of(&self.searches, self.hand, &number))
+        {
+            Some((_number, opened)) => opened.carried.search().is_outstanding(),
+            None => true,
+        }
     }
 
     /// Ends the search of the number. A small one leaves its tables as spare ones, and what is left of another is handed out. Where
