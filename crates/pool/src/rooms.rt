@@ -25,7 +25,7 @@ use crate::turns::Noted;
 use crate::verdicts::{Gathered, Verdict};
 use hall::{Fault, Hall, Remains, Reply, Request, proof_of, told_of};
 use names::Entity;
-use search::{Search, Status};
+use search::{Query, Search, Status};
 use std::alloc::Global;
 use std::marker::Model;
 use std::snapshot::Snapshot;
@@ -182,8 +182,9 @@ impl<L: Naming> Room<L> {
         }
     }
 
-    /// Where the request reads a completed search of the pass's tenant, that search: it doesn't change any more, so the reply
-    /// is made of it once the lock is given back. It is lent to none who would be refused, nor where memory to share it lacks.
+    /// Where the request reads a completed search of the pass's tenant, and a list or a proof is made of it, that search: it doesn't
+    /// change any more, so the reply is made once the lock is given back. It is lent to none who would be refused, nor where
+    /// memory to share it lacks.
     pub(crate) fn lent(&mut self, pass: &mut Pass<L>, request: &Request) -> Option<Arc<Search>>
         ensures lent { IfSome result (λ search. IsLent self.old pass.old pass.new request.now (arc_value search)) }
         ensures pass { result ≡ None → pass.new ≡ pass.old }
@@ -193,6 +194,9 @@ impl<L: Naming> Room<L> {
             return None;
         };
         let who = pass.tenant();
+        if !self.takes_long(who, number, request) {
+            return None;
+        }
         let Ok(Some(search)) = self.hall.completed(who, number) else {
             return None;
         };
@@ -203,6 +207,17 @@ impl<L: Naming> Room<L> {
         let length = self.hall.journal_len();
         pass.hear(&mut self.keeper, &mut self.book, &noted, length, length);
         Some(search)
+    }
+
+    /// Whether the reply may take long to make: it is a proof, or lists members.
+    fn takes_long(&self, who: Entity, number: u64, request: &Request) -> bool {
+        let Request::Poll(_) = request else {
+            return true;
+        };
+        match self.hall.search(who, number) {
+            Some(search) => matches!(search.query(), Query::Who(_)),
+            None => false,
+        }
     }
 
     /// Polls where the tenant has no such search, which the hall refuses.
