@@ -96,7 +96,7 @@ ROOMS = [
     ("scholten_core/diffusions.rt", "Diffusion::restart", "reserve(1)"),
     ("scholten_core/engagement.rt", "make_place", "reserve((count - nodes.len()).max(FEW))"),
     ("scholten_core/engagement.rt", "make_place", "resize(count, None)"),
-    ("scholten_core/letter_tables.rt", "LetterTable::new", "with_capacity_and_hasher(alloc, FIRST_ROOM, BuildHasherDefault::new())"),
+    ("scholten_core/letter_tables.rt", "LetterTable::new", "with_capacity(alloc, FIRST_ROOM)"),
     ("scholten_core/letter_tables.rt", "LetterTable::reserve", "reserve(count)"),
     ("search/answers.rt", "node_for", "reserve(1)"),
     ("search/answers.rt", "ask_rows", "reserve(count)"),
@@ -138,7 +138,7 @@ HOLDERS = [
 # the function, and what it calls and compares with a mark, in this order.
 CALLS = [
     ("hall/lendable_searches.rt", "LendableSearch::lend", "replace into_shared clone"),
-    ("hall/lendable_searches.rt", "LendableSearch::into_shared", "give_back new"),
+    ("hall/lendable_searches.rt", "LendableSearch::into_shared", "new"),
     ("snapshots/snapshots.rt", "Snapshot::span_is", "is_vaults_below rows_at is_rows_until is_rows_until both"),
     ("snapshots/snapshots.rt", "is_vaults_below", "> len owner_passes_below owner_fails_at both"),
     ("snapshots/snapshots.rt", "owner_passes_below", "== is_below"),
