@@ -60,7 +60,7 @@ pub step_goes_on : (old new : SearchState) (made : Step) (answer : Stepped) → 
 step_goes_on old new made answer steps = record { question = made_keeps old new made answer steps.is_made; settles = steps.settles }
 
 -- what the first letter says, which is outstanding
-abbrev first_load : Load (List ℕ)
+abbrev first_load : Load ℕ
 first_load = load.Start
 
 first_waits : outstanding (started 0 first_load) ≡ 0 → ⊥

@@ -16,7 +16,7 @@ use Rattle.proof_trees.specs.PlacedSolution.{Stands, AreByRows}
 use Rattle.proof_trees.specs.Fault.{IsNoMember, IsAsked}
 
 -- a completed search ran
-pub if_completed : (P : Type 0) (s : Stage) → IsCompleted s → ((c : Computation (Load (List ℕ))) → s ≡ stage.Running c → P) → P
+pub if_completed : (P : Type 0) (s : Stage) → IsCompleted s → ((c : Computation (Load ℕ)) → s ≡ stage.Running c → P) → P
 if_completed P (stage.Running c) completed runs = runs c refl
 if_completed P stage.Spent completed runs = absurd completed
 if_completed P stage.Broken completed runs = absurd completed

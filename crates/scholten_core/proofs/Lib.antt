@@ -5,7 +5,6 @@ pub mod Engaged
 pub mod Fields
 pub mod Finished
 pub mod Lists
-pub mod Named
 pub mod Paid
 pub mod Same
 pub mod Sent

@@ -1,6 +1,6 @@
--- A diffusing computation, what of it is outstanding (Dijkstra and Scholten, 1980), and the same in other words
+-- A diffusing computation, and what of it is outstanding (Dijkstra and Scholten, 1980)
 use Rattle.std.specs.Prelude.{◌≡◌, ◌↔◌, ℕ, ◌+◌, ◌==◌, Bool, true, false, not, List, Option, Some, length, filter, count_by}
-use Rattle.std.specs.Prelude.{unwrap_or, Contains, IsSomeAnd, IsTrue, map}
+use Rattle.std.specs.Prelude.{unwrap_or, Contains, IsSomeAnd, IsTrue}
 use Rattle.std.specs.Map.{lookup}
 use Rattle.std.specs.Ordering.{nat_cmp}
 use Rattle.std.specs.FinMap as fin
@@ -57,16 +57,3 @@ module _ {P : Type 0} where
   -- how much is outstanding: letters waiting or held, signals under way, engaged nodes
   abbrev pub outstanding : Computation P → ℕ
   outstanding d = length d.letters + length d.signals + fin.len d.engaged
-
-module _ {P Q : Type 0} (f : P → Q) where
-  -- the letter of a number, with what it says in other words
-  abbrev pub entry_with : ℕ × Letter P → ℕ × Letter Q
-  entry_with e = (e.0, record { from = e.1.from; to = e.1.to; held = e.1.held; load = f e.1.load })
-
-  -- the letters that one sends, in other words
-  abbrev pub outs_with : List (ℕ × P) → List (ℕ × Q)
-  outs_with outs = map (λ o. (o.0, f o.1)) outs
-
-  -- the computation, with what its letters say in other words
-  abbrev pub named_with : Computation P → Computation Q
-  named_with d = record { sent = d.sent; letters = map entry_with d.letters; signals = d.signals; engaged = d.engaged }

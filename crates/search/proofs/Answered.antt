@@ -122,20 +122,20 @@ works_as {s} {t} {result} same is =
     (subst (λ (r : Status). (r ≡ status.Working) ↔ IsOutstanding s.stage) (sym is) (works s.stage s.graph s.query))
 
 -- a letter that is held or waits is outstanding, and so is a signal under way
-held_some : (letters : List (ℕ × Letter (Load (List ℕ)))) (number : ℕ) (l : Letter (Load (List ℕ))) → if_held (lookup (λ n. n == number) letters) ≡ Some l → 0 < length letters
+held_some : (letters : List (ℕ × Letter (Load ℕ))) (number : ℕ) (l : Letter (Load ℕ)) → if_held (lookup (λ n. n == number) letters) ≡ Some l → 0 < length letters
 held_some [] number l is = cc
 held_some (x ∷ letters) number l is = omega arith
 
-pub held_outstanding : (st : Stage) (number : ℕ) (l : Letter (Load (List ℕ))) → held_in st number ≡ Some l → IsOutstanding st
+pub held_outstanding : (st : Stage) (number : ℕ) (l : Letter (Load ℕ)) → held_in st number ≡ Some l → IsOutstanding st
 held_outstanding (stage.Running c) number l is = λ none. absurd (omega (arith, none, held_some c.letters number l is))
 held_outstanding stage.Spent number l is = cc
 held_outstanding stage.Broken number l is = cc
 
-waits_some : (letters : List (ℕ × Letter (Load (List ℕ)))) (place : ℕ) (x : ℕ × Letter (Load (List ℕ))) → slice_get (filter (λ l. not l.1.held) letters) place ≡ Some x → 0 < length letters
+waits_some : (letters : List (ℕ × Letter (Load ℕ))) (place : ℕ) (x : ℕ × Letter (Load ℕ)) → slice_get (filter (λ l. not l.1.held) letters) place ≡ Some x → 0 < length letters
 waits_some [] place x at = cc
 waits_some (y ∷ letters) place x at = omega arith
 
-pub waits_outstanding : (st : Stage) (place : ℕ) (x : ℕ × Letter (Load (List ℕ))) → slice_get (waiting_in st) place ≡ Some x → IsOutstanding st
+pub waits_outstanding : (st : Stage) (place : ℕ) (x : ℕ × Letter (Load ℕ)) → slice_get (waiting_in st) place ≡ Some x → IsOutstanding st
 waits_outstanding (stage.Running c) place x at = λ none. absurd (omega (arith, none, waits_some c.letters place x at))
 waits_outstanding stage.Spent place x at = cc
 waits_outstanding stage.Broken place x at = cc

@@ -6,7 +6,8 @@ use Rattle.cred_graph.specs.Graph.{GraphState, empty_graph}
 use Rattle.search.specs.declared.findings.NumberedMonitor.{NumberedMonitor}
 use Rattle.search.specs.declared.letters.Load.{Load}
 use Rattle.search.specs.Answers.{Progress}
-use Rattle.search.specs.Numbered.{AreNumbered, IsLoad, IsMonitor, load_at, progress_at}
+use Rattle.search.specs.Net.{IsLoad, load_at}
+use Rattle.search.specs.Numbered.{AreNumbered, IsMonitor, progress_at}
 
 -- a list that is seen as an empty one is empty
 pub nothing_of : {A B : Type 0} (f : A → B) (xs : List A) → map f xs ≡ [] → xs ≡ []

@@ -26,19 +26,19 @@ use Rattle.search.proofs.StepsLeft.{steps_left, marked_left, held_left, finished
 
 -- the letter that was taken was received, or the search has ended with it
 data IsReceipt (held t : SearchState) (number : ℕ) : Type 0 where
-  goes_on : (l : Letter (Load (List ℕ))) → held_in held.stage number ≡ Some l → Received held t number l → SameQuestion held t → IsReceipt held t number
-  ends : (l : Letter (Load (List ℕ))) → held_in held.stage number ≡ Some l → ((c : Computation (Load (List ℕ))) → t.stage ≡ stage.Running c → ⊥) → steps_left t.work t.stage ≡ 0 → SameQuestion held t → IsReceipt held t number
+  goes_on : (l : Letter (Load ℕ)) → held_in held.stage number ≡ Some l → Received held t number l → SameQuestion held t → IsReceipt held t number
+  ends : (l : Letter (Load ℕ)) → held_in held.stage number ≡ Some l → ((c : Computation (Load ℕ)) → t.stage ≡ stage.Running c → ⊥) → steps_left t.work t.stage ≡ 0 → SameQuestion held t → IsReceipt held t number
 
 module _ (s held t : SearchState) (number : ℕ) (need : Need) (takes : Takes s held 0 number need) where
   -- the letter that was taken needs what it was taken for
-  pub same_need : (l : Letter (Load (List ℕ))) (other : Need) → held_in held.stage number ≡ Some l → Needs held l other → other ≡ need
+  pub same_need : (l : Letter (Load ℕ)) (other : Need) → held_in held.stage number ≡ Some l → Needs held l other → other ≡ need
   same_need l other is (f, there, so) =
       let both : Some l ≡ Some (record takes.letter { held = true }) = sym is ∙ takes.holds.held in
       let same : l ≡ record takes.letter { held = true } = cc in
       let e : Expr = takes.needs.0 in
-      let at : IsNode s.graph l.to e = subst (λ (x : Letter (Load (List ℕ))). IsNode s.graph x.to e) (sym same) takes.needs.1 in
+      let at : IsNode s.graph l.to e = subst (λ (x : Letter (Load ℕ)). IsNode s.graph x.to e) (sym same) takes.needs.1 in
       let at' : IsNode s.graph l.to f = subst (λ (x : SearchState). IsNode x.graph l.to f) takes.after there in
-      so ∙ ap (λ (x : Expr). need_of x l.load) (one_expr s.graph l.to f e at' at) ∙ ap (λ (x : Letter (Load (List ℕ))). need_of e x.load) same ∙ sym takes.needs.2
+      so ∙ ap (λ (x : Expr). need_of x l.load) (one_expr s.graph l.to f e at' at) ∙ ap (λ (x : Letter (Load ℕ)). need_of e x.load) same ∙ sym takes.needs.2
 
   -- so its finish with what the snapshot says is never refused
   receipt_of : (told : Finished) → Finishes held t number (right_hint s.snapshot.vaults need) told → IsReceipt held t number
@@ -91,7 +91,7 @@ question_on s m t one other = record {
   snapshot = other.snapshot ∙ one.snapshot;
 }
 
-waiting_runs : (st : Stage) (x : ℕ × Letter (Load (List ℕ))) → slice_get (waiting_in st) 0 ≡ Some x → (c : Computation (Load (List ℕ))) × (st ≡ stage.Running c)
+waiting_runs : (st : Stage) (x : ℕ × Letter (Load ℕ)) → slice_get (waiting_in st) 0 ≡ Some x → (c : Computation (Load ℕ)) × (st ≡ stage.Running c)
 waiting_runs (stage.Running c) x at = (c, refl)
 waiting_runs stage.Spent x at = cc
 waiting_runs stage.Broken x at = cc
@@ -101,7 +101,7 @@ abbrev pub Made : SearchState → SearchState → Type 0
 Made s t = SignalsFirst s t ⊎ ((number : ℕ) × (need : Need) × (told : Finished) × FinishesFirst s t number need told)
 
 -- a search that makes a step runs
-made_runs : (s t : SearchState) → Made s t → (c : Computation (Load (List ℕ))) × (s.stage ≡ stage.Running c)
+made_runs : (s t : SearchState) → Made s t → (c : Computation (Load ℕ)) × (s.stage ≡ stage.Running c)
 made_runs s t (inl made) = (made.delivered.0, made.delivered.2)
 made_runs s t (inr (number, need, told, made)) = waiting_runs s.stage (number, made.takes.letter) made.takes.holds.waited
 
@@ -186,7 +186,7 @@ first_goes old new true some delivers = delivers
 first_goes old new false some delivers = absurd (omega (arith, some, delivers.0))
 
 -- the first letter is taken and received
-pub finishes_first : (s held t : SearchState) (number : ℕ) (h : Held (Load (List ℕ))) (told : Finished) → length (signals_in s.stage) ≤ 0 →
+pub finishes_first : (s held t : SearchState) (number : ℕ) (h : Held (Load ℕ)) (told : Finished) → length (signals_in s.stage) ≤ 0 →
     TakesHeld s held 0 number h → Settles s held → Receives held t number (letter_in h) told → Settles held t → Made s t
 finishes_first s held t number h told few takes takes_settles receives finish_settles =
     let need : Need = takes.0 in

@@ -31,7 +31,7 @@ use Rattle.search.proofs.Answered.{among_members, unsettled, delivers_outstandin
 use Rattle.search.proofs.WorkOf.{sent_is_work}
 
 -- the members, put in order
-in_order_members : (s : SearchState) (c : Computation (Load (List ℕ))) → s.stage ≡ stage.Running c → IsKept s → outstanding c ≡ 0 → AreMembers (rows_of s) (asked_role s.query) (in_order name_order (members_of s.graph 0))
+in_order_members : (s : SearchState) (c : Computation (Load ℕ)) → s.stage ≡ stage.Running c → IsKept s → outstanding c ≡ 0 → AreMembers (rows_of s) (asked_role s.query) (in_order name_order (members_of s.graph 0))
 in_order_members s c runs kept none =
     let found : List (List ℕ) = members_of s.graph 0 in
     let are = completed_members s (stage.Running c) runs kept.rules none in
@@ -43,7 +43,7 @@ in_order_members s c runs kept none =
       );
     }
 
-module _ (s : SearchState) (c : Computation (Load (List ℕ))) (runs : s.stage ≡ stage.Running c) (kept : IsKept s) (none : outstanding c ≡ 0) where
+module _ (s : SearchState) (c : Computation (Load ℕ)) (runs : s.stage ≡ stage.Running c) (kept : IsKept s) (none : outstanding c ≡ 0) where
   true_answer : (q : Query) → s.query ≡ q → IsTruth (rows_of s) q (found s.graph q)
   true_answer (query.Ask role who) same =
       elim (cases_Bool (list_any (is_same who) (members_of s.graph 0))) [

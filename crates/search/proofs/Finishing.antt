@@ -1,5 +1,5 @@
 -- The finish of a letter does to a search what its result says, and keeps what a search keeps.
-use Rattle.std.proofs.Common.{ℕ, ◌+◌, ◌<◌, ◌≤◌, ◌≡◌, ◌∙◌, refl, sym, subst, ap, false, List, [], Some, length, get_or}
+use Rattle.std.proofs.Common.{ℕ, ◌+◌, ◌<◌, ◌≤◌, ◌≡◌, ◌∙◌, refl, sym, subst, ap, false, List, [], Some, length, get_or, arith}
 use Rattle.names.specs.declared.roles.Role.{Role}
 use Rattle.rt0_rules.specs.Work.{WorkExceeds}
 use Rattle.vaults.specs.Journal.{Vault}
@@ -7,6 +7,7 @@ use Rattle.snapshots.specs.Snapshot.{SnapshotState, IsOrdered}
 use Rattle.cred_graph.specs.Graph.{GraphState, IsNode}
 use Rattle.credential_text.specs.declared.exprs.Expr.{Expr}
 use Rattle.credential_text.specs.declared.exprs.Expr.TheVariants.{Ent, Rol, Link, Meet}
+use Rattle.std.proofs.lemmas.List.{length-map}
 use Rattle.std.proofs.lemmas.Option.{slice_get-get_or}
 use Rattle.scholten_core.specs.declared.letters.Letter.{Letter}
 use Rattle.scholten_core.specs.Computation.{Computation}
@@ -20,12 +21,14 @@ use Rattle.search.specs.declared.outcomes.Finished.{Finished}
 use Rattle.search.specs.declared.outcomes.Finished.TheVariants as finished
 use Rattle.search.specs.declared.stages.Stage.{Stage}
 use Rattle.search.specs.declared.stages.Stage.TheVariants as stage
-use Rattle.search.specs.Net.{sent_of}
-use Rattle.search.specs.Answers.{progress, Answers}
+use Rattle.search.specs.Net.{load_at, outs_at, sent_of}
+use Rattle.search.specs.Answers.{Progress, progress, Answers}
 use Rattle.search.specs.Finish.{IsSpanFor, need_of, right_hint, rows_for, span_in, IsRightly, Receives, Finishes}
 use Rattle.search.specs.Stage.{HoldsLetter, letter_in, held_in, if_held, stage_marked, Sends}
 use Rattle.search.specs.Search.{SearchState, KeptBy, IsTallied, IsKept, asked_role, rows_of}
+use Rattle.search.proofs.Arms.{node_in}
 use Rattle.search.proofs.Grow.{one_expr}
+use Rattle.search.proofs.Numbered.{AreLoads, HasMore, answers_more}
 use Rattle.search.proofs.Receive.{receipt}
 use Rattle.search.proofs.Closing.{done_kept}
 use Rattle.search.proofs.TalliedFinish.{done_tallied, work_exceeds}
@@ -34,12 +37,12 @@ use Rattle.search.proofs.Holding.{same_running}
 use Rattle.search.proofs.Ended.{same_question}
 
 -- the letter in hand is the held letter of its number
-pub held_letter_is : (st : Stage) (number : ℕ) (h : Held (Load (List ℕ))) → HoldsLetter st number h → held_in st number ≡ Some (letter_in h)
+pub held_letter_is : (st : Stage) (number : ℕ) (h : Held (Load ℕ)) → HoldsLetter st number h → held_in st number ≡ Some (letter_in h)
 held_letter_is st number h held =
     subst (λ (s : Stage). held_in s number ≡ Some (letter_in h)) (sym held.runs) (ap if_held held.letter)
 
 -- the hint is right for the need of the letter, whatever is known of its receiver
-pub rightly : (s : SearchState) (number : ℕ) (hint : Hint) (h : Held (Load (List ℕ))) (view : SnapshotState) → view ≡ s.snapshot → HoldsLetter s.stage number h →
+pub rightly : (s : SearchState) (number : ℕ) (hint : Hint) (h : Held (Load ℕ)) (view : SnapshotState) → view ≡ s.snapshot → HoldsLetter s.stage number h →
     ((e : Expr) → IsNode s.graph h.to e → hint ≡ right_hint view.vaults (need_of e h.load)) → IsRightly s number hint (letter_in h)
 rightly s number hint h view same held right = record {
   held = held_letter_is s.stage number h held;
@@ -48,7 +51,7 @@ rightly s number hint h view same held right = record {
 }
 
 -- what the snapshot says of the need of the letter in hand is right for it
-pub rightly_needed : (s : SearchState) (number : ℕ) (h : Held (Load (List ℕ))) (e : Expr) → IsNode s.graph h.to e → HoldsLetter s.stage number h → IsRightly s number (right_hint s.snapshot.vaults (need_of e h.load)) (letter_in h)
+pub rightly_needed : (s : SearchState) (number : ℕ) (h : Held (Load ℕ)) (e : Expr) → IsNode s.graph h.to e → HoldsLetter s.stage number h → IsRightly s number (right_hint s.snapshot.vaults (need_of e h.load)) (letter_in h)
 rightly_needed s number h e at held = record {
   held = held_letter_is s.stage number h held;
   hint_is = λ need needs.
@@ -56,7 +59,7 @@ rightly_needed s number h e at held = record {
 }
 
 -- a letter that was received is finished with a hint that is right for it
-pub finishes_rightly : (s t : SearchState) (number : ℕ) (hint : Hint) (l : Letter (Load (List ℕ))) → IsRightly s number hint l → (result : Finished) → Receives s t number l result → Finishes s t number hint result
+pub finishes_rightly : (s t : SearchState) (number : ℕ) (hint : Hint) (l : Letter (Load ℕ)) → IsRightly s number hint l → (result : Finished) → Receives s t number l result → Finishes s t number hint result
 finishes_rightly s t number hint l right finished.NotHeld receives = absurd receives
 finishes_rightly s t number hint l right finished.BadHint receives = absurd receives
 finishes_rightly s t number hint l right finished.Done receives = (l, right, receives)
@@ -64,7 +67,7 @@ finishes_rightly s t number hint l right finished.Spent receives = (l, right, re
 finishes_rightly s t number hint l right finished.Broken receives = (l, right, receives)
 
 -- a hint that is right says where the rows stand of the role that it is for
-pub span_for : (view : List Vault) (e : Expr) (l : Load (List ℕ)) (hint : Hint) → hint ≡ right_hint view (need_of e l) → IsSpanFor view e (span_in hint)
+pub span_for : (view : List Vault) (e : Expr) (l : Load ℕ) (hint : Hint) → hint ≡ right_hint view (need_of e l) → IsSpanFor view e (span_in hint)
 span_for view e l hint is = subst (λ (x : Hint). IsSpanFor view e (span_in x)) (sym is) (needed e l)
   where
     opened : (f : Expr) → IsSpanFor view f (span_in (right_hint view (rows_for f)))
@@ -73,7 +76,7 @@ span_for view e l hint is = subst (λ (x : Hint). IsSpanFor view e (span_in x)) 
     opened (Link r name) = tt
     opened (Meet parts) = tt
 
-    needed : (f : Expr) (k : Load (List ℕ)) → IsSpanFor view f (span_in (right_hint view (need_of f k)))
+    needed : (f : Expr) (k : Load ℕ) → IsSpanFor view f (span_in (right_hint view (need_of f k)))
     needed f load.Start = opened f
     needed f (load.Ask p) = opened f
     needed f (load.Tell p who) = tt
@@ -90,13 +93,13 @@ is_spent (stage.Running c) = ⊥
 is_spent stage.Broken = ⊥
 
 -- where a search runs after a letter was finished, it ran before
-pub record RanBefore (old : Stage) (work number : ℕ) (outs : List (ℕ × Load (List ℕ))) (after : Computation (Load (List ℕ))) : Type 0 where
-  pub before : Computation (Load (List ℕ))
+pub record RanBefore (old : Stage) (work number : ℕ) (outs : List (ℕ × Load ℕ)) (after : Computation (Load ℕ)) : Type 0 where
+  pub before : Computation (Load ℕ)
   pub ran : old ≡ stage.Running before
   pub within : before.sent + length outs ≤ work
   pub finishes : FinishesLetter before number outs after
 
-sent_from : (old new : Stage) (work number : ℕ) (outs : List (ℕ × Load (List ℕ))) (result : Finished) → Sends old new work number outs result → (e : Computation (Load (List ℕ))) → new ≡ stage.Running e → RanBefore old work number outs e
+sent_from : (old new : Stage) (work number : ℕ) (outs : List (ℕ × Load ℕ)) (result : Finished) → Sends old new work number outs result → (e : Computation (Load ℕ)) → new ≡ stage.Running e → RanBefore old work number outs e
 sent_from old new work number outs finished.Done (c, d, ran, running, within, finishes) e now =
     record { before = c; ran = ran; within = within; finishes = subst (FinishesLetter c number outs) (same_running d e (sym running ∙ now)) finishes }
 sent_from old new work number outs finished.Spent (c, ran, over, is) e now = absurd (subst runs (sym now ∙ is) tt)
@@ -105,15 +108,22 @@ sent_from old new work number outs finished.BadHint sent e now = absurd sent
 sent_from old new work number outs finished.NotHeld sent e now = absurd sent
 
 -- where a search is spent after a letter was finished, what was sent with the answers is above the limit
-spent_from : (old new : Stage) (work number : ℕ) (outs : List (ℕ × Load (List ℕ))) (result : Finished) → Sends old new work number outs result → new ≡ stage.Spent → (c : Computation (Load (List ℕ))) × (old ≡ stage.Running c) × (work < c.sent + length outs)
+spent_from : (old new : Stage) (work number : ℕ) (outs : List (ℕ × Load ℕ)) (result : Finished) → Sends old new work number outs result → new ≡ stage.Spent → (c : Computation (Load ℕ)) × (old ≡ stage.Running c) × (work < c.sent + length outs)
 spent_from old new work number outs finished.Done (c, d, ran, running, within, finishes) now = absurd (subst is_spent (sym now ∙ running) tt)
 spent_from old new work number outs finished.Spent (c, ran, over, is) now = (c, ran, over)
 spent_from old new work number outs finished.Broken (c, ran, within, is) now = absurd (subst is_spent (sym now ∙ is) tt)
 spent_from old new work number outs finished.BadHint sent now = absurd sent
 spent_from old new work number outs finished.NotHeld sent now = absurd sent
 
-module _ (s : SearchState) (number : ℕ) (h : Held (Load (List ℕ))) (held : HoldsLetter s.stage number h)
-    (g : GraphState) (ms : List Monitor) (outs : List (ℕ × Load (List ℕ))) (row : Answers s.snapshot.vaults (progress s.graph s.monitors []) (progress g ms outs) h.from h.to h.load) where
+module _ (s : SearchState) (number : ℕ) (h : Held (Load ℕ)) (held : HoldsLetter s.stage number h)
+    (g : GraphState) (ms : List Monitor) (outs : List (ℕ × Load ℕ)) (row : Answers s.snapshot.vaults (progress s.graph s.monitors []) (progress g ms (outs_at g.nodes outs)) h.from h.to (load_at s.graph.nodes h.load)) where
+  abbrev reached : Progress
+  reached = progress g ms (outs_at g.nodes outs)
+
+  -- as many answers are sent, in whatever words
+  same_count : length reached.outs ≡ length outs
+  same_count = length-map {B = ℕ × Load (List ℕ)} outs (λ (o : ℕ × Load ℕ). (o.0, load_at g.nodes o.1))
+
   abbrev after : Stage → SearchState
   after st = record s { graph = g; monitors = ms; stage = st }
 
@@ -121,37 +131,42 @@ module _ (s : SearchState) (number : ℕ) (h : Held (Load (List ℕ))) (held : H
   sent_receives st finished.Done (c, d, ran, running, within, finishes) =
       (record { before = c; after = d; outs = outs; ran = ran; runs = running; finishes = finishes; within = within; row = row }, same_question s g ms st)
   sent_receives st finished.Spent (c, ran, over, is) =
-      (record { before = c; reached = progress g ms outs; ran = ran; row = row; over = over }, is, same_question s g ms st)
+      (record { before = c; reached = reached; ran = ran; row = row; over = omega (arith, over, same_count) }, is, same_question s g ms st)
   sent_receives st finished.Broken (c, ran, within, is) = (is, same_question s g ms st)
   sent_receives st finished.BadHint sent = absurd sent
   sent_receives st finished.NotHeld sent = absurd sent
 
-  module _ (kept : IsKept s) (ordered : IsOrdered s.snapshot.vaults) where
+  module _ (kept : IsKept s) (ordered : IsOrdered s.snapshot.vaults) (are : AreLoads g.nodes outs) where
     abbrev asked : Role
     asked = asked_role s.query
 
     abbrev kept_now : KeptBy (rows_of s) asked s.work s.graph s.monitors held.running
     kept_now = kept.rules held.running held.runs
 
-    as_held : (c : Computation (Load (List ℕ))) → s.stage ≡ stage.Running c → c ≡ held.running
+    -- nodes were added alone
+    more : HasMore s.graph.nodes g.nodes
+    more =
+        answers_more s.snapshot.vaults (progress s.graph s.monitors []) reached h.from h.to (load_at s.graph.nodes h.load) (node_in (held_awaits s kept.rules number h held)) row
+
+    as_held : (c : Computation (Load ℕ)) → s.stage ≡ stage.Running c → c ≡ held.running
     as_held c ran = sym (same_running held.running c (sym held.runs ∙ ran))
 
-    done_rules : (c d : Computation (Load (List ℕ))) → s.stage ≡ stage.Running c → c.sent + length outs ≤ s.work → FinishesLetter c number outs d → KeptBy (rows_of s) asked s.work g ms d
+    done_rules : (c d : Computation (Load ℕ)) → s.stage ≡ stage.Running c → c.sent + length outs ≤ s.work → FinishesLetter c number outs d → KeptBy (rows_of s) asked s.work g ms d
     done_rules c d ran within finishes =
-        let finishes' : FinishesLetter held.running number outs d = subst (λ (x : Computation (Load (List ℕ))). FinishesLetter x number outs d) (as_held c ran) finishes in
-        let within' : held.running.sent + length outs ≤ s.work = subst (λ (x : Computation (Load (List ℕ))). x.sent + length outs ≤ s.work) (as_held c ran) within in
-        let paid = receipt s.snapshot.vaults asked (sent_of held.running.letters) ordered s.graph s.monitors (progress g ms outs) h.from h.to h.load (held_awaits s kept.rules number h held) row in
-        done_kept s.snapshot.vaults asked s.work s.graph s.monitors held.running number (letter_in h) (progress g ms outs) ordered kept_now held.by_number held.letter paid d finishes' within'
+        let finishes' : FinishesLetter held.running number outs d = subst (λ (x : Computation (Load ℕ)). FinishesLetter x number outs d) (as_held c ran) finishes in
+        let within' : held.running.sent + length outs ≤ s.work = subst (λ (x : Computation (Load ℕ)). x.sent + length outs ≤ s.work) (as_held c ran) within in
+        let paid = receipt s.snapshot.vaults asked (sent_of s.graph.nodes held.running.letters) ordered s.graph s.monitors reached h.from h.to (load_at s.graph.nodes h.load) (held_awaits s kept.rules number h held) row in
+        done_kept s.snapshot.vaults asked s.work s.graph s.monitors held.running number (letter_in h) reached ordered kept_now held.by_number held.letter paid d outs finishes' refl more are within'
 
-    done_count : (c d : Computation (Load (List ℕ))) → s.stage ≡ stage.Running c → FinishesLetter c number outs d → IsTallied g ms d
+    done_count : (c d : Computation (Load ℕ)) → s.stage ≡ stage.Running c → FinishesLetter c number outs d → IsTallied g ms d
     done_count c d ran finishes =
-        let finishes' : FinishesLetter held.running number outs d = subst (λ (x : Computation (Load (List ℕ))). FinishesLetter x number outs d) (as_held c ran) finishes in
-        done_tallied s.snapshot.vaults asked s.work s.graph s.monitors held.running number (letter_in h) (progress g ms outs) ordered kept_now held.by_number held.letter held.numbers (kept.count held.running held.runs) row d finishes'
+        let finishes' : FinishesLetter held.running number outs d = subst (λ (x : Computation (Load ℕ)). FinishesLetter x number outs d) (as_held c ran) finishes in
+        done_tallied s.snapshot.vaults asked s.work s.graph s.monitors held.running number (letter_in h) reached ordered kept_now held.by_number held.letter held.numbers (kept.count held.running held.runs) row d outs finishes' refl more
 
-    spent_limit : (c : Computation (Load (List ℕ))) → s.stage ≡ stage.Running c → s.work < c.sent + length outs → WorkExceeds (rows_of s) asked s.work
+    spent_limit : (c : Computation (Load ℕ)) → s.stage ≡ stage.Running c → s.work < c.sent + length outs → WorkExceeds (rows_of s) asked s.work
     spent_limit c ran over =
-        let over' : s.work < held.running.sent + length outs = subst (λ (x : Computation (Load (List ℕ))). s.work < x.sent + length outs) (as_held c ran) over in
-        work_exceeds s.snapshot.vaults asked s.work s.graph s.monitors held.running number (letter_in h) (progress g ms outs) ordered kept_now held.by_number held.letter held.numbers (kept.count held.running held.runs) row over'
+        let over' : s.work < held.running.sent + length outs = subst (λ (x : Computation (Load ℕ)). s.work < x.sent + length outs) (as_held c ran) over in
+        work_exceeds s.snapshot.vaults asked s.work s.graph s.monitors held.running number (letter_in h) reached ordered kept_now held.by_number held.letter held.numbers (kept.count held.running held.runs) row (omega (arith, over', same_count))
 
     pub sent_kept : (st : Stage) (result : Finished) → Sends s.stage st s.work number outs result → IsKept (after st)
     sent_kept st result sends = record {
@@ -161,7 +176,7 @@ module _ (s : SearchState) (number : ℕ) (h : Held (Load (List ℕ))) (held : H
     }
 
 -- a hint that isn't right for the need of the letter
-pub wrongly : (s : SearchState) (number : ℕ) (hint : Hint) (h : Held (Load (List ℕ))) (view : SnapshotState) → view ≡ s.snapshot → HoldsLetter s.stage number h → h.to < length s.graph.nodes →
+pub wrongly : (s : SearchState) (number : ℕ) (hint : Hint) (h : Held (Load ℕ)) (view : SnapshotState) → view ≡ s.snapshot → HoldsLetter s.stage number h → h.to < length s.graph.nodes →
     (((e : Expr) → IsNode s.graph h.to e → hint ≡ right_hint view.vaults (need_of e h.load)) → ⊥) → Finishes s (record s { stage = stage_marked number false s.stage }) number hint finished.BadHint
 wrongly s number hint h view same held node_in wrong =
     let e : Expr = get_or s.graph.nodes h.to (Ent []) in

@@ -1,9 +1,8 @@
 -- What the numbers in letters stand for goes on while nodes are added.
-use Rattle.std.proofs.Common.{ℕ, ◌<◌, ◌≤◌, All, get_or, Option, None, MatchOption, length, arith, ◌≡◌, ◌∙◌, ◌⊎◌, Some, map, slice_get, Bool, true, false, Contains, refl, sym, subst, ap, List, [], ◌∷◌, ◌++◌, if◌then◌else◌, inl, inr, append-nil, append_assoc}
+use Rattle.std.proofs.Common.{ℕ, ◌<◌, ◌≤◌, All, get_or, length, arith, ◌≡◌, ◌∙◌, ◌⊎◌, map, Bool, true, false, Contains, refl, sym, subst, ap, List, [], ◌∷◌, ◌++◌, if◌then◌else◌, inl, inr, append-nil, append_assoc}
 use Rattle.std.proofs.lemmas.List.Elements.{All-cons, All-head, All-nil, All-push, All-tail, All-weaker, Contains-push_cases}
-use Rattle.std.specs.Option.{option_map}
-use Rattle.std.proofs.lemmas.Option.{slice_get-get_or, slice_get_past}
-use Rattle.std.proofs.lemmas.List.{map-append, length-append, length-map, length-set, nil_from_length}
+use Rattle.std.proofs.lemmas.Option.{slice_get-get_or}
+use Rattle.std.proofs.lemmas.List.{map-append, length-append, length-map, length-set}
 use Rattle.credential_text.specs.declared.exprs.Expr.{Expr}
 use Rattle.credential_text.specs.declared.exprs.Expr.TheVariants.{Ent, Rol, Link, Meet}
 use Rattle.credential_text.specs.declared.credentials.Credential.{Credential}
@@ -26,31 +25,30 @@ use Rattle.cred_graph.specs.Numbers.{IsEntity, IsNamed, IsPort, entity_at, port_
 use Rattle.cred_graph.proofs.Growth.{listed_with, listed_at-pushed, listed_with_cases}
 use Rattle.cred_graph.proofs.NumberLemmas.{entity_goes_on, entity_stays, named_goes_on, port_goes_on, port_named, port_stays}
 use Rattle.scholten_core.specs.declared.letters.Letter.{Letter}
-use Rattle.scholten_core.specs.Sound.{IsSound}
-use Rattle.scholten_core.specs.Computation.{Computation, IsHeld, outstanding, waiting, entry_with, named_with}
 use Rattle.scholten_core.specs.Step.{started}
-use Rattle.scholten_core.proofs.Named.{held-unnamed, map_alike, named_alike, outstanding-named, waiting-named, waits-named, sound-named}
-use Rattle.search.specs.Stage.{signals_in, waiting_in, IsQuiet, NoneHeld}
-use Rattle.search.specs.Search.{IsOutstanding, IsSoundStage}
-use Rattle.search.proofs.Holding.{same_running}
-use Rattle.search.proofs.InHand.{settles}
 use Rattle.search.specs.declared.letters.Load.{Load}
 use Rattle.search.specs.declared.letters.Load.TheVariants as load
-use Rattle.search.specs.declared.letters.Held.{Held}
-use Rattle.search.specs.declared.stages.NumberedStage.{NumberedStage}
-use Rattle.search.specs.declared.stages.NumberedStage.TheVariants as numbered_stage
-use Rattle.search.specs.declared.stages.Stage.{Stage}
-use Rattle.search.specs.declared.stages.Stage.TheVariants as stage
 use Rattle.search.specs.declared.findings.Monitor.TheVariants as monitor
 use Rattle.search.specs.declared.findings.NumberedMonitor.{NumberedMonitor}
 use Rattle.search.specs.declared.findings.NumberedMonitor.TheVariants as numbered_monitor
 use Rattle.search.specs.Answers.{Progress, Answers, AsksFor, AsksEach, HearsAsk, IsOpenAt, Opens, Solves, TakesIn, own_rows, new_monitor, row_asks, part_asks}
-use Rattle.search.specs.Numbered.{AreNumbered, IsLoad, IsMonitor, IsStage, monitor_at, held_at, load_at, progress_at, stage_at}
-use Rattle.scholten_core.specs.Computation.{outs_with}
+use Rattle.search.specs.Net.{IsLoad, in_words, load_at, outs_at, sent_of}
+use Rattle.search.specs.Numbered.{AreNumbered, IsMonitor, monitor_at, progress_at}
 
 -- the numbers in these letters are entities'
 abbrev pub AreLetters : List Expr → List (ℕ × Letter (Load ℕ)) → Type 0
 AreLetters nodes letters = All (λ l. IsLoad nodes l.1.load) letters
+
+abbrev pub AreLoads : List Expr → List (ℕ × Load ℕ) → Type 0
+AreLoads nodes outs = All (λ o. IsLoad nodes o.1) outs
+
+-- what each element gives is the same where functions agree on it
+map_alike : {X Y : Type 0} (f g : X → Y) (R : X → Type 0) → ((x : X) → R x → f x ≡ g x) → (xs : List X) → All R xs → map f xs ≡ map g xs
+map_alike f g R same [] all = refl
+map_alike f g R same (x ∷ xs) all =
+    let first = same x (All-head R x xs all) in
+    let rest = map_alike f g R same xs (All-tail R x xs all) in
+    λ i. first i ∷ rest i
 
 module _ (nodes more : List Expr) where
   pub load_goes_on : (l : Load ℕ) → IsLoad nodes l → IsLoad (nodes ++ more) l
@@ -66,21 +64,18 @@ module _ (nodes more : List Expr) where
   pub loads_go_on : (outs : List (ℕ × Load ℕ)) → All (λ o. IsLoad nodes o.1) outs → All (λ o. IsLoad (nodes ++ more) o.1) outs
   loads_go_on outs are = All-weaker (λ (o : ℕ × Load ℕ). IsLoad nodes o.1) (λ o. IsLoad (nodes ++ more) o.1) (λ o is. load_goes_on o.1 is) outs are
 
-  pub outs_stay : (outs : List (ℕ × Load ℕ)) → All (λ o. IsLoad nodes o.1) outs → outs_with (load_at (nodes ++ more)) outs ≡ outs_with (load_at nodes) outs
+  pub outs_stay : (outs : List (ℕ × Load ℕ)) → All (λ o. IsLoad nodes o.1) outs → outs_at ((nodes ++ more)) outs ≡ outs_at nodes outs
   outs_stay outs are =
       map_alike (λ (o : ℕ × Load ℕ). (o.0, load_at (nodes ++ more) o.1)) (λ o. (o.0, load_at nodes o.1)) (λ o. IsLoad nodes o.1) (λ o is i. (o.0, load_stays o.1 is i)) outs are
 
-  pub stage_goes_on : (st : NumberedStage) → IsStage nodes st → IsStage (nodes ++ more) st
-  stage_goes_on (numbered_stage.Running c) are =
-      All-weaker (λ (l : ℕ × Letter (Load ℕ)). IsLoad nodes l.1.load) (λ l. IsLoad (nodes ++ more) l.1.load) (λ l is. load_goes_on l.1.load is) c.letters are
-  stage_goes_on numbered_stage.Spent are = tt
-  stage_goes_on numbered_stage.Broken are = tt
+  pub letters_go_on : (letters : List (ℕ × Letter (Load ℕ))) → AreLetters nodes letters → AreLetters (nodes ++ more) letters
+  letters_go_on letters are =
+      All-weaker (λ (l : ℕ × Letter (Load ℕ)). IsLoad nodes l.1.load) (λ l. IsLoad (nodes ++ more) l.1.load) (λ l is. load_goes_on l.1.load is) letters are
 
-  pub stage_stays : (st : NumberedStage) → IsStage nodes st → stage_at (nodes ++ more) st ≡ stage_at nodes st
-  stage_stays (numbered_stage.Running c) are =
-      ap stage.Running (named_alike (load_at (nodes ++ more)) (load_at nodes) (IsLoad nodes) load_stays c are)
-  stage_stays numbered_stage.Spent are = refl
-  stage_stays numbered_stage.Broken are = refl
+  pub letters_stay : (letters : List (ℕ × Letter (Load ℕ))) → AreLetters nodes letters → sent_of (nodes ++ more) letters ≡ sent_of nodes letters
+  letters_stay letters are =
+      map_alike (λ (l : ℕ × Letter (Load ℕ)). in_words (nodes ++ more) l.1) (λ l. in_words nodes l.1) (λ l. IsLoad nodes l.1.load)
+      (λ l is i. record { from = l.1.from; to = l.1.to; load = load_stays l.1.load is i }) letters are
 
   entities_go_on : (keys : List ℕ) → All (IsEntity nodes) keys → All (IsEntity (nodes ++ more)) keys
   entities_go_on keys are = All-weaker (IsEntity nodes) (IsEntity (nodes ++ more)) (entity_goes_on nodes more) keys are
@@ -166,7 +161,7 @@ HasNode s t e n =
 
 pub node_there : (s : Progress) (g h : GraphState) (ms : List NumberedMonitor) (outs : List (ℕ × Load ℕ)) (e : Expr) (n : ℕ) → progress_at g ms outs ≡ s → NodeGiven g h e n false → HasNode s (progress_at h ms outs) e n
 node_there s g h ms outs e n is (node, same) =
-    subst (λ (x : Progress). HasNode x (progress_at h ms outs) e n) is (false, (node, same), ap (λ (k : GraphState). outs_with (load_at k.nodes) outs) same, ap (λ (k : GraphState). map (monitor_at k.nodes) ms) same)
+    subst (λ (x : Progress). HasNode x (progress_at h ms outs) e n) is (false, (node, same), ap (λ (k : GraphState). outs_at k.nodes outs) same, ap (λ (k : GraphState). map (monitor_at k.nodes) ms) same)
 
 -- the letters before it and the other monitors stay what they are
 pub node_added : (s : Progress) (g h : GraphState) (ms ms' : List NumberedMonitor) (m : NumberedMonitor) (outs : List (ℕ × Load ℕ)) (e : Expr) (n : ℕ) → progress_at g ms outs ≡ s → AreNumbered g ms outs →
@@ -175,7 +170,7 @@ node_added s g h ms ms' m outs e n is are (absent, range, at, with) pushed new =
     subst (λ (x : Progress). HasNode x (progress_at h ms' outs) e n) is (
       true,
       (absent, range, at, with),
-      ap (λ (k : GraphState). outs_with (load_at k.nodes) outs) with ∙ outs_stay g.nodes (e ∷ []) outs are.loads,
+      ap (λ (k : GraphState). outs_at k.nodes outs) with ∙ outs_stay g.nodes (e ∷ []) outs are.loads,
       ap (map (monitor_at h.nodes)) pushed ∙ map-append (monitor_at h.nodes) ms (m ∷ [])
           ∙ (λ i. (ap (λ (k : GraphState). map (monitor_at k.nodes) ms) with ∙ monitors_stay g.nodes (e ∷ []) ms are.monitors) i ++ new i ∷ []),
     )
@@ -234,7 +229,7 @@ numbered_solved g h s true ms outs (new, with) are =
 module _ (s : Progress) (g h : GraphState) (ms : List NumberedMonitor) (outs : List (ℕ × Load ℕ)) (is : progress_at g ms outs ≡ s) where
   pub hears_old : (n m : ℕ) (p : Port ℕ) → ListenerGiven g h n (record { asker = m; port = port_at g.nodes p }) false → HearsAsk s (progress_at h ms outs) n m (port_at s.graph.nodes p)
   hears_old n m p (listens, same) =
-      subst (λ (x : Progress). HearsAsk x (progress_at h ms outs) n m (port_at x.graph.nodes p)) is (false, (listens, same), ap (λ (k : GraphState). map (monitor_at k.nodes) ms) same, ap (λ (k : GraphState). outs_with (load_at k.nodes) outs) same)
+      subst (λ (x : Progress). HearsAsk x (progress_at h ms outs) n m (port_at x.graph.nodes p)) is (false, (listens, same), ap (λ (k : GraphState). map (monitor_at k.nodes) ms) same, ap (λ (k : GraphState). outs_at k.nodes outs) same)
 
   pub listens_new : (n m : ℕ) (p : Port ℕ) (b : Bool) → b ≡ true → ListenerGiven g h n (record { asker = m; port = port_at g.nodes p }) b → ListenerGiven s.graph h n (record { asker = m; port = port_at s.graph.nodes p }) true
   listens_new n m p b new given =
@@ -243,7 +238,7 @@ module _ (s : Progress) (g h : GraphState) (ms : List NumberedMonitor) (outs : L
   pub solves_old : (n k : ℕ) (r : Reason ℕ ℕ) → SolutionGiven g h (record { node = n; who = entity_at g.nodes k; reason = reason_at g.nodes r }) false →
       Solves s (progress_at h ms outs) n (entity_at s.graph.nodes k) (reason_at s.graph.nodes r)
   solves_old n k r (has, same) =
-      subst (λ (x : Progress). Solves x (progress_at h ms outs) n (entity_at x.graph.nodes k) (reason_at x.graph.nodes r)) is (false, (has, same), ap (λ (k : GraphState). map (monitor_at k.nodes) ms) same, ap (λ (y : GraphState). outs_with (load_at y.nodes) outs) same)
+      subst (λ (x : Progress). Solves x (progress_at h ms outs) n (entity_at x.graph.nodes k) (reason_at x.graph.nodes r)) is (false, (has, same), ap (λ (k : GraphState). map (monitor_at k.nodes) ms) same, ap (λ (y : GraphState). outs_at y.nodes outs) same)
 
   pub solves_new : (n k : ℕ) (r : Reason ℕ ℕ) (b : Bool) → b ≡ true → SolutionGiven g h (record { node = n; who = entity_at g.nodes k; reason = reason_at g.nodes r }) b →
       SolutionGiven s.graph h (record { node = n; who = entity_at s.graph.nodes k; reason = reason_at s.graph.nodes r }) true
@@ -252,8 +247,8 @@ module _ (s : Progress) (g h : GraphState) (ms : List NumberedMonitor) (outs : L
       (subst (SolutionGiven g h (record { node = n; who = entity_at g.nodes k; reason = reason_at g.nodes r })) new given)
 
   -- what was found but the graph is left, where no node was added
-  pub others_left : h.nodes ≡ g.nodes → (map (monitor_at h.nodes) ms ≡ s.monitors) × (outs_with (load_at h.nodes) outs ≡ s.outs)
-  others_left same = (ap (λ nodes. map (monitor_at nodes) ms) same ∙ ap (λ (x : Progress). x.monitors) is, ap (λ nodes. outs_with (load_at nodes) outs) same ∙ ap (λ (x : Progress). x.outs) is)
+  pub others_left : h.nodes ≡ g.nodes → (map (monitor_at h.nodes) ms ≡ s.monitors) × (outs_at h.nodes outs ≡ s.outs)
+  others_left same = (ap (λ nodes. map (monitor_at nodes) ms) same ∙ ap (λ (x : Progress). x.monitors) is, ap (λ nodes. outs_at nodes outs) same ∙ ap (λ (x : Progress). x.outs) is)
 
 -- a port stays what it is where nodes are added
 pub more_port : (old new : List Expr) (p : Port ℕ) → HasMore old new → IsPort old p → IsPort new p
@@ -262,69 +257,12 @@ more_port old new p (more, with) port = subst (λ (nodes : List Expr). IsPort no
 pub more_port_same : (old new : List Expr) (p : Port ℕ) → HasMore old new → IsPort old p → port_at new p ≡ port_at old p
 more_port_same old new p (more, with) port = ap (λ (nodes : List Expr). port_at nodes p) with ∙ port_stays old more p port
 
--- where a search stands, by its computation of numbers
-module _ (nodes : List Expr) (st : NumberedStage) (d : Computation (Load ℕ)) (runs : st ≡ numbered_stage.Running d) where
-  abbrev pub shown : Computation (Load (List ℕ))
-  shown = named_with (load_at nodes) d
-
-  pub shows : stage_at nodes st ≡ stage.Running shown
-  shows = ap (stage_at nodes) runs
-
-  pub sound_shown : IsSound d → IsSoundStage (stage_at nodes st)
-  sound_shown sound = subst IsSoundStage (sym shows) (sound-named (load_at nodes) d sound)
-
-  -- what is shown to run
-  pub shown_is : (c : Computation (Load (List ℕ))) → stage_at nodes st ≡ stage.Running c → shown ≡ c
-  shown_is c is = same_running shown c (sym shows ∙ is)
-
-  pub held_shown : (c : Computation (Load (List ℕ))) (number : ℕ) → stage_at nodes st ≡ stage.Running c → IsHeld c.letters number → IsHeld d.letters number
-  held_shown c number is held = held-unnamed (load_at nodes) d number (subst (λ (x : Computation (Load (List ℕ))). IsHeld x.letters number) (sym (shown_is c is)) held)
-
-  pub loads_shown : IsStage nodes st → AreLetters nodes d.letters
-  loads_shown are = subst (IsStage nodes) runs are
-
-  pub waiting_count : length (waiting_in (stage_at nodes st)) ≡ length (waiting d.letters)
-  waiting_count = ap (λ (s : Stage). length (waiting_in s)) shows ∙ ap length (waiting-named (load_at nodes) d) ∙ length-map (waiting d.letters) (entry_with (load_at nodes))
-
-  pub signals_count : length (signals_in (stage_at nodes st)) ≡ length d.signals
-  signals_count = ap (λ (s : Stage). length (signals_in s)) shows
-
-  pub none_waits : length (waiting d.letters) ≡ 0 → waiting_in (stage_at nodes st) ≡ []
-  none_waits none = nil_from_length (waiting_in (stage_at nodes st)) (waiting_count ∙ none)
-
-  pub waits_none : waiting_in (stage_at nodes st) ≡ [] → length (waiting d.letters) ≡ 0
-  waits_none none = sym waiting_count ∙ ap length none
-
-  pub no_signal : length d.signals ≡ 0 → signals_in (stage_at nodes st) ≡ []
-  no_signal none = ap signals_in shows ∙ nil_from_length d.signals none
-
-  pub signals_none : signals_in (stage_at nodes st) ≡ [] → length d.signals ≡ 0
-  signals_none none = ap length (ap signals_in (sym shows) ∙ none)
-
-  pub settles_shown : (d.letters ≡ [] → d.signals ≡ [] → outstanding d ≡ 0) → IsQuiet (stage_at nodes st) → NoneHeld (stage_at nodes st) → IsOutstanding (stage_at nodes st) → ⊥
-  settles_shown ends =
-      settles (stage_at nodes st) shown shows
-      (λ letters signals. outstanding-named (load_at nodes) d ∙ ends (nil_from_length d.letters (sym (length-map d.letters (entry_with (load_at nodes))) ∙ ap length letters)) signals)
-
-  pub past_waiting : (place count : ℕ) → count ≡ length (waiting d.letters) → count ≤ place → slice_get (waiting_in (stage_at nodes st)) place ≡ None
-  past_waiting place count is past =
-      ap (λ (s : Stage). slice_get (waiting_in s) place) shows ∙ waits-named (load_at nodes) d place ∙ ap (option_map (entry_with (load_at nodes))) (slice_get_past (waiting d.letters) place (omega (arith, is, past)))
-
-pub outs_count : (nodes : List Expr) (outs : List (ℕ × Load ℕ)) → length (outs_with (load_at nodes) outs) ≡ length outs
+pub outs_count : (nodes : List Expr) (outs : List (ℕ × Load ℕ)) → length (outs_at nodes outs) ≡ length outs
 outs_count nodes outs = length-map {B = ℕ × Load (List ℕ)} outs (λ o. (o.0, load_at nodes o.1))
 
 -- the environment's letter says no number
 pub start_says : (nodes : List Expr) (root : ℕ) → AreLetters nodes (started root load.Start).letters
 start_says nodes root = All-cons (λ (l : ℕ × Letter (Load ℕ)). IsLoad nodes l.1.load) _ [] tt (All-nil (λ (l : ℕ × Letter (Load ℕ)). IsLoad nodes l.1.load))
-
--- what was taken, in words
-abbrev pub taken_as : List Expr → Option (ℕ × Held (Load ℕ)) → Option (ℕ × Held (Load (List ℕ)))
-taken_as nodes None = None
-taken_as nodes (Some r) = Some (r.0, held_at nodes r.1)
-
-pub taken_holds : (nodes : List Expr) (P : Type 0) (Q : ℕ → Held (Load (List ℕ)) → Type 0) (r : Option (ℕ × Held (Load ℕ))) → MatchOption r P (λ x. Q x.0 (held_at nodes x.1)) → MatchOption (taken_as nodes r) P (λ x. Q x.0 x.1)
-taken_holds nodes P Q None holds = holds
-taken_holds nodes P Q (Some r) holds = holds
 
 hears_more : (s t : Progress) (n m : ℕ) (p : Port (List ℕ)) → HearsAsk s t n m p → HasMore s.graph.nodes t.graph.nodes
 hears_more s t n m p (false, (there, graph), monitors, outs) = same_nodes s t (ap (λ (g : GraphState). g.nodes) graph)
@@ -364,12 +302,12 @@ answers_more view s t (Node m) to (load.Ask p) there (mid, opened, hears) =
     then_more s.graph.nodes mid.graph.nodes t.graph.nodes (opened_more view s mid to there opened) (hears_more mid t to m p hears)
 answers_more view s t (Node m) to (load.Tell p who) there takes = takes_more s t to m p who takes
 
--- where nodes are added a search stands where it stood
-pub more_stage : (old new : List Expr) (st : NumberedStage) → HasMore old new → IsStage old st → IsStage new st
-more_stage old new st (more, with) are = subst (λ (nodes : List Expr). IsStage nodes st) (sym with) (stage_goes_on old more st are)
+-- where nodes are added letters say what they said
+pub more_letters : (old new : List Expr) (letters : List (ℕ × Letter (Load ℕ))) → HasMore old new → AreLetters old letters → AreLetters new letters
+more_letters old new letters (more, with) are = subst (λ (nodes : List Expr). AreLetters nodes letters) (sym with) (letters_go_on old more letters are)
 
-pub more_stage_same : (old new : List Expr) (st : NumberedStage) → HasMore old new → IsStage old st → stage_at new st ≡ stage_at old st
-more_stage_same old new st (more, with) are = ap (λ (nodes : List Expr). stage_at nodes st) with ∙ stage_stays old more st are
+pub more_words : (old new : List Expr) (letters : List (ℕ × Letter (Load ℕ))) → HasMore old new → AreLetters old letters → sent_of new letters ≡ sent_of old letters
+more_words old new letters (more, with) are = ap (λ (nodes : List Expr). sent_of nodes letters) with ∙ letters_stay old more letters are
 
 pub more_count : (old new : List Expr) → HasMore old new → length old ≤ length new
 more_count old new (more, with) = omega (arith, ap length with, length-append old more)

@@ -1,5 +1,8 @@
 -- What a search keeps gives its status, and is kept by its calls.
-use Rattle.std.proofs.Common.{ℕ, zero, suc, ◌<◌, ◌↔◌, ◌≡◌, ◌∙◌, inl, inr, refl, sym, subst, ap, Bool, true, false, not, List, [], ◌∷◌, Some, Contains, length, slice_get, arith}
+use Rattle.std.proofs.Common.{ℕ, zero, suc, ◌<◌, ◌↔◌, ◌≡◌, ◌∙◌, inl, inr, refl, sym, subst, ap, Bool, true, false, not, List, [], ◌∷◌, Some, Contains, length, slice_get, arith, Option, ◌==◌}
+use Rattle.std.specs.Option.{IfSome}
+use Rattle.std.proofs.lemmas.List.{nil_from_length}
+use Rattle.std.proofs.lemmas.Map.Entries.{All-lookup}
 use Rattle.std.proofs.lemmas.Option.{none-some, same_Some, slice_get_within}
 use Rattle.names.specs.declared.roles.Role.{Role}
 use Rattle.credential_text.specs.declared.credentials.Credential.{Credential}
@@ -27,23 +30,24 @@ use Rattle.search.specs.declared.findings.Monitor.{Monitor}
 use Rattle.search.specs.declared.findings.Monitor.TheVariants as monitor
 use Rattle.search.specs.declared.stages.Stage.{Stage}
 use Rattle.search.specs.declared.stages.Stage.TheVariants as stage
-use Rattle.search.specs.Net.{Net, Sent, sent_of, IsPendingBetween, IsOpen, LetterFits, IsRight, IsPaid, IsJustified, OwesRules}
+use Rattle.search.specs.Net.{IsLoad, Net, Sent, in_words, load_at, sent_of, IsPendingBetween, IsOpen, LetterFits, IsRight, IsPaid, IsJustified, OwesRules}
 use Rattle.search.specs.Answers.{Awaits}
 use Rattle.search.specs.Stage.{HoldsLetter, Holds, letter_in, stage_marked, waiting_in, Delivers}
 use Rattle.search.specs.Search.{SearchState, KeptBy, IsTallied, IsKept, IsCompleted, asked_role, rows_of, net_of}
 use Rattle.search.proofs.Owed.{owes_rules}
 use Rattle.search.proofs.Solve.{solution_of_member, member_of_solution}
-use Rattle.search.proofs.Closing.{plain, awaits_letter, marked_kept, signalled_kept, marked_tallied, signalled_tallied}
+use Rattle.search.proofs.Closing.{awaits_letter, marked_kept, signalled_kept, marked_tallied, signalled_tallied}
 use Rattle.search.proofs.WorkOf.{opened_counted}
 use Rattle.search.proofs.Tallied.{MayAsk}
 use Rattle.search.proofs.Receive.{receiver_in}
 use Rattle.search.proofs.Holding.{same_running}
+use Rattle.search.proofs.Numbered.{start_says}
 
 abbrev pub KeepsRules : SearchState → Type 0
-KeepsRules s = (c : Computation (Load (List ℕ))) → s.stage ≡ stage.Running c → KeptBy (rows_of s) (asked_role s.query) s.work s.graph s.monitors c
+KeepsRules s = (c : Computation (Load ℕ)) → s.stage ≡ stage.Running c → KeptBy (rows_of s) (asked_role s.query) s.work s.graph s.monitors c
 
 abbrev KeepsCount : SearchState → Type 0
-KeepsCount s = (c : Computation (Load (List ℕ))) → s.stage ≡ stage.Running c → IsTallied s.graph s.monitors c
+KeepsCount s = (c : Computation (Load ℕ)) → s.stage ≡ stage.Running c → IsTallied s.graph s.monitors c
 
 abbrev KeepsLimit : SearchState → Type 0
 KeepsLimit s = s.stage ≡ stage.Spent → WorkExceeds (rows_of s) (asked_role s.query) s.work
@@ -110,6 +114,7 @@ module _ (rows : List Credential) (role : Role) where
     steady = record { right = first_right graph; paid = first_paid graph };
     starts = λ start. refl;
     within = omega arith;
+    loads = start_says (Rol role ∷ []) 0;
   }
 
 opened_rules : (s : SearchState) → s.graph ≡ first_graph (asked_role s.query) → s.monitors ≡ monitor.Plain ∷ [] → s.stage ≡ stage.Running (started 0 load.Start) → 0 < s.work → IsGraph s.graph → KeepsRules s
@@ -129,7 +134,7 @@ opened_count s g_is stage_is c runs =
     })
 
 -- a search that runs or is broken isn't spent
-runs_unspent : (st : Stage) (c : Computation (Load (List ℕ))) → st ≡ stage.Running c → st ≡ stage.Spent → ⊥
+runs_unspent : (st : Stage) (c : Computation (Load ℕ)) → st ≡ stage.Running c → st ≡ stage.Spent → ⊥
 runs_unspent st c runs spent = let clash : stage.Running c ≡ stage.Spent = sym runs ∙ spent in cc
 
 pub opened_kept : (s : SearchState) → s.graph ≡ first_graph (asked_role s.query) → s.monitors ≡ monitor.Plain ∷ [] → s.stage ≡ stage.Running (started 0 load.Start) → 0 < s.work → IsGraph s.graph → IsKept s
@@ -146,31 +151,33 @@ broken_kept s broken = record {
   limit = λ spent. absurd (other (sym broken ∙ spent));
 }
   where
-    apart : (c : Computation (Load (List ℕ))) → stage.Broken ≡ stage.Running c → ⊥
+    apart : (c : Computation (Load ℕ)) → stage.Broken ≡ stage.Running c → ⊥
     apart c e = cc
 
     other : stage.Broken ≡ stage.Spent → ⊥
     other e = cc
 
 -- a held letter is awaited
-pub held_awaits : (s : SearchState) → KeepsRules s → (number : ℕ) (h : Held (Load (List ℕ))) → (held : HoldsLetter s.stage number h) → Awaits (rows_of s) (asked_role s.query) s.graph s.monitors (sent_of held.running.letters) h.from h.to h.load
+pub held_awaits : (s : SearchState) → KeepsRules s → (number : ℕ) (h : Held (Load ℕ)) → (held : HoldsLetter s.stage number h) → Awaits (rows_of s) (asked_role s.query) s.graph s.monitors (sent_of s.graph.nodes held.running.letters) h.from h.to (load_at s.graph.nodes h.load)
 held_awaits s kept number h held = awaits_letter (kept held.running held.runs) held.by_number number (letter_in h) held.letter
 
-module _ (rows : List Credential) (role : Role) (work : ℕ) (g : GraphState) (ms : List Monitor) (c : Computation (Load (List ℕ))) (kept : KeptBy rows role work g ms c) where
+-- and its numbers are entities'
+pub held_loads : (s : SearchState) → IsKept s → (number : ℕ) (h : Held (Load ℕ)) → HoldsLetter s.stage number h → IsLoad s.graph.nodes h.load
+held_loads s kept number h held =
+    subst (λ (o : Option (Letter (Load ℕ))). IfSome o (λ l. IsLoad s.graph.nodes l.load)) held.letter
+    (All-lookup (λ (l : Letter (Load ℕ)). IsLoad s.graph.nodes l.load) (λ n. n == number) held.running.letters (kept.rules held.running held.runs).loads)
+
+module _ (rows : List Credential) (role : Role) (work : ℕ) (g : GraphState) (ms : List Monitor) (c : Computation (Load ℕ)) (kept : KeptBy rows role work g ms c) where
   pub rules_owed : OwesRules rows role (net_of g ms c)
   rules_owed = owes_rules rows role (net_of g ms c) kept.steady.right kept.steady.paid
 
   pub justified : IsJustified rows role g
   justified = kept.steady.right.found
 
-  pub no_letters : outstanding c ≡ 0 → sent_of c.letters ≡ []
-  no_letters none = none_sent c.letters (omega arith)
-    where
-      none_sent : (letters : List (ℕ × Letter (Load (List ℕ)))) → length letters ≡ 0 → sent_of letters ≡ []
-      none_sent [] e = refl
-      none_sent (x ∷ letters) e = absurd (omega arith)
+  pub no_letters : outstanding c ≡ 0 → sent_of g.nodes c.letters ≡ []
+  no_letters none = ap (sent_of g.nodes) (nil_from_length c.letters (omega (arith, none)))
 
-  no_letter : outstanding c ≡ 0 → (x : Sent) → Contains (sent_of c.letters) x → ⊥
+  no_letter : outstanding c ≡ 0 → (x : Sent) → Contains (sent_of g.nodes c.letters) x → ⊥
   no_letter none x among = Contains-none x (subst (λ (xs : List Sent). Contains xs x) (no_letters none) among)
 
   pub completed_exact : outstanding c ≡ 0 → IsExact rows role (Known g)
@@ -194,7 +201,7 @@ status_exact s stage.Spent runs kept completed = absurd completed
 status_exact s stage.Broken runs kept completed = absurd completed
 
 -- a letter that is held or waits again
-marked_from : (number : ℕ) (held : Bool) (st : Stage) (d : Computation (Load (List ℕ))) → stage_marked number held st ≡ stage.Running d → (c : Computation (Load (List ℕ))) × (st ≡ stage.Running c) × (marked c number held ≡ d)
+marked_from : (number : ℕ) (held : Bool) (st : Stage) (d : Computation (Load ℕ)) → stage_marked number held st ≡ stage.Running d → (c : Computation (Load ℕ)) × (st ≡ stage.Running c) × (marked c number held ≡ d)
 marked_from number held (stage.Running c) d e = (c, refl, same_running (marked c number held) d e)
 marked_from number held stage.Spent d e = cc
 marked_from number held stage.Broken d e = cc
@@ -247,16 +254,16 @@ delivered_kept s st place b kept delivers = record {
 }
 
 -- a letter that waits goes to a node
-waiting_to : (s : SearchState) (st : Stage) (place number : ℕ) (l : Letter (Load (List ℕ))) → KeepsRules s → s.stage ≡ st → slice_get (waiting_in st) place ≡ Some (number, l) → l.to < length s.graph.nodes
+waiting_to : (s : SearchState) (st : Stage) (place number : ℕ) (l : Letter (Load ℕ)) → KeepsRules s → s.stage ≡ st → slice_get (waiting_in st) place ≡ Some (number, l) → l.to < length s.graph.nodes
 waiting_to s (stage.Running c) place number l kept runs at =
     let kept_now = kept c runs in
-    let among = (filtered (λ (x : ℕ × Letter (Load (List ℕ))). not x.1.held) c.letters (number, l) (Contains-at_place (waiting c.letters) place (number, l) at)).0 in
-    let sent = Contains-map (λ (x : ℕ × Letter (Load (List ℕ))). plain x.1) c.letters (number, l) among in
-    receiver_in (rows_of s) (asked_role s.query) (net_of s.graph s.monitors c) kept_now.steady.right l.from l.to l.load (kept_now.steady.right.letters_fit (plain l) sent)
+    let among = (filtered (λ (x : ℕ × Letter (Load ℕ)). not x.1.held) c.letters (number, l) (Contains-at_place (waiting c.letters) place (number, l) at)).0 in
+    let sent = Contains-map (λ (x : ℕ × Letter (Load ℕ)). in_words s.graph.nodes x.1) c.letters (number, l) among in
+    receiver_in (rows_of s) (asked_role s.query) (net_of s.graph s.monitors c) kept_now.steady.right l.from l.to (load_at s.graph.nodes l.load) (kept_now.steady.right.letters_fit (in_words s.graph.nodes l) sent)
 waiting_to s stage.Spent place number l kept runs at = absurd (none-some (number, l) at)
 waiting_to s stage.Broken place number l kept runs at = absurd (none-some (number, l) at)
 
-pub taken_to : (s : SearchState) (st : Stage) (place number : ℕ) (l : Letter (Load (List ℕ))) → KeepsRules s → Holds s.stage st place number l → l.to < length s.graph.nodes
+pub taken_to : (s : SearchState) (st : Stage) (place number : ℕ) (l : Letter (Load ℕ)) → KeepsRules s → Holds s.stage st place number l → l.to < length s.graph.nodes
 taken_to s st place number l kept holds = waiting_to s s.stage place number l kept refl holds.waited
 
 -- a completed search has a node for its role, whose solutions are its members

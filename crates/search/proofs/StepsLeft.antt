@@ -24,27 +24,27 @@ marked_left work number held stage.Spent = refl
 marked_left work number held stage.Broken = refl
 
 -- who holds a letter may finish it
-found : (o : Option (Letter (Load (List ℕ)))) (l : Letter (Load (List ℕ))) → if_held o ≡ Some l → (x : Letter (Load (List ℕ))) × (o ≡ Some x)
+found : (o : Option (Letter (Load ℕ))) (l : Letter (Load ℕ)) → if_held o ≡ Some l → (x : Letter (Load ℕ)) × (o ≡ Some x)
 found None l is = cc
 found (Some x) l is = (x, refl)
 
-pub held_left : (work number : ℕ) (l : Letter (Load (List ℕ))) (st : Stage) → held_in st number ≡ Some l → 0 < steps_left work st
+pub held_left : (work number : ℕ) (l : Letter (Load ℕ)) (st : Stage) → held_in st number ≡ Some l → 0 < steps_left work st
 held_left work number l (stage.Running c) is =
     let there = found (letter_of c number) l is in
     omega (arith, rest_shorter number c.letters there.0 there.1)
 held_left work number l stage.Spent is = cc
 held_left work number l stage.Broken is = cc
 
-length-numbered : (from : Parent) (k : ℕ) (outs : List (ℕ × Load (List ℕ))) → length (numbered from k outs) ≡ length outs
+length-numbered : (from : Parent) (k : ℕ) (outs : List (ℕ × Load ℕ)) → length (numbered from k outs) ≡ length outs
 length-numbered from k [] = refl
 length-numbered from k (o ∷ outs) = omega (arith, length-numbered from (k + 1) outs)
 
 -- a finished letter is a step
-pub finished_left : (work : ℕ) (c d : Computation (Load (List ℕ))) (number : ℕ) (outs : List (ℕ × Load (List ℕ))) (l : Letter (Load (List ℕ))) → FinishesLetter c number outs d →
+pub finished_left : (work : ℕ) (c d : Computation (Load ℕ)) (number : ℕ) (outs : List (ℕ × Load ℕ)) (l : Letter (Load ℕ)) → FinishesLetter c number outs d →
     held_in (stage.Running c) number ≡ Some l → c.sent + length outs ≤ work → steps_left work (stage.Running d) < steps_left work (stage.Running c)
 finished_left work c d number outs l finishes is within =
     let there = found (letter_of c number) l is in
-    let rest = filter (λ (x : ℕ × Letter (Load (List ℕ))). not (x.0 == number)) c.letters in
+    let rest = filter (λ (x : ℕ × Letter (Load ℕ)). not (x.0 == number)) c.letters in
     let more = numbered (Node finishes.letter.to) (c.sent + 1) outs in
     let less : length rest + 1 ≤ length c.letters = rest_shorter number c.letters there.0 there.1 in
     let few : length more ≡ length outs = length-numbered (Node finishes.letter.to) (c.sent + 1) outs in
@@ -52,5 +52,5 @@ finished_left work c d number outs l finishes is within =
     omega (arith, finishes.sent, finishes.more)
 
 -- a delivered signal is a step
-pub signalled_left : (work : ℕ) (c d : Computation (Load (List ℕ))) (place : ℕ) → DeliversSignal c place d → steps_left work (stage.Running d) < steps_left work (stage.Running c)
+pub signalled_left : (work : ℕ) (c d : Computation (Load ℕ)) (place : ℕ) → DeliversSignal c place d → steps_left work (stage.Running d) < steps_left work (stage.Running c)
 signalled_left work c d place delivers = omega (arith, delivers.sent, delivers.less, ap length delivers.letters)

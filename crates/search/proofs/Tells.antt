@@ -7,14 +7,14 @@ use Rattle.monitors.specs.MeetMonitor.{MeetTold, HearsPart}
 use Rattle.search.specs.declared.letters.Load.TheVariants as load
 use Rattle.search.specs.declared.findings.Monitor.{Monitor}
 use Rattle.search.specs.declared.findings.Monitor.TheVariants as monitor
-use Rattle.search.specs.Net.{Said}
+use Rattle.search.specs.Net.{Words}
 
 -- a Tell to every listener of the node
-abbrev pub new_tells : GraphState → ℕ → List ℕ → List (ℕ × Said)
+abbrev pub new_tells : GraphState → ℕ → List ℕ → List (ℕ × Words)
 new_tells g n who = map (λ l. (l.asker, load.Tell l.port who)) (listeners_of g n)
 
 -- a Tell to the asker for each solution that the node has
-abbrev pub known_tells : GraphState → ℕ → ℕ → Port (List ℕ) → List (ℕ × Said)
+abbrev pub known_tells : GraphState → ℕ → ℕ → Port (List ℕ) → List (ℕ × Words)
 known_tells g n m p = map (λ who. (m, load.Tell p who)) (members_of g n)
 
 -- the monitor of a linked role hears a member of its base, and the answer says whether that is new

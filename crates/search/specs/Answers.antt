@@ -22,15 +22,15 @@ use Rattle.snapshots.specs.Span.{role_rows}
 use Rattle.search.specs.declared.letters.Load.TheVariants as load
 use Rattle.search.specs.declared.findings.Monitor.{Monitor}
 use Rattle.search.specs.declared.findings.Monitor.TheVariants as monitor
-use Rattle.search.specs.Net.{Said, Net, Sent, sent_by, IsSteady}
+use Rattle.search.specs.Net.{Words, Net, Sent, sent_by, IsSteady}
 
 -- what was found while a node answers a letter, and what it sends
 pub record Progress : Type 0 where
   pub graph : GraphState
   pub monitors : List Monitor
-  pub outs : List (ℕ × Said)
+  pub outs : List (ℕ × Words)
 
-abbrev pub progress : GraphState → List Monitor → List (ℕ × Said) → Progress
+abbrev pub progress : GraphState → List Monitor → List (ℕ × Words) → Progress
 progress g ms outs = record { graph = g; monitors = ms; outs = outs }
 
 -- the search while a node answers a letter: the other letters, and those that it sends
@@ -140,7 +140,7 @@ AnswersAsk view s t n m p =
     × HearsAsk mid t n m p
 
 -- how a node answers a letter from this sender: the environment's opens it
-abbrev pub Answers : List Vault → Progress → Progress → Parent → ℕ → Said → Type 0
+abbrev pub Answers : List Vault → Progress → Progress → Parent → ℕ → Words → Type 0
 Answers view s t Environment to load.Start = (e : Expr) → IsNode s.graph to e → Opens (own_rows view e) s t to e
 Answers view s t (Node m) to (load.Ask p) = AnswersAsk view s t to m p
 Answers view s t (Node m) to (load.Tell p who) = TakesIn s t to m p who
@@ -148,7 +148,7 @@ Answers view s t _ to _ = ⊥
 
 -- a letter among those under way is to be received: the environment's is the only one
 pub record Awaits (rows : List Credential) (asked : Role) (g : GraphState) (ms : List Monitor) (rest : List Sent)
-    (from : Parent) (to : ℕ) (l : Said) : Type 0 where
+    (from : Parent) (to : ℕ) (l : Words) : Type 0 where
   pub there : Contains rest (record { from = from; to = to; load = l })
   pub alone : (l ≡ load.Start → ⊥) → (n : ℕ) → Contains rest (record { from = Environment; to = n; load = load.Start }) → ⊥
   pub steady : IsSteady rows asked (net_at (progress g ms []) rest to)

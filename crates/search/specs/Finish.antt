@@ -10,7 +10,7 @@ use Rattle.cred_graph.specs.Graph.{IsNode}
 use Rattle.scholten_core.specs.declared.letters.Letter.{Letter}
 use Rattle.scholten_core.specs.Computation.{Computation}
 use Rattle.scholten_core.specs.Step.{FinishesLetter}
-use Rattle.search.specs.Net.{Said}
+use Rattle.search.specs.Net.{Said, load_at, outs_at}
 use Rattle.search.specs.declared.letters.Load.TheVariants as load
 use Rattle.search.specs.declared.queries.Need.{Need}
 use Rattle.search.specs.declared.queries.Need.TheVariants as need
@@ -79,14 +79,15 @@ pub record Received (s t : SearchState) (number : ℕ) (l : Letter Said) : Type 
   pub runs : t.stage ≡ stage.Running after
   pub finishes : FinishesLetter before number outs after
   pub within : before.sent + length outs ≤ s.work
-  pub row : Answers s.snapshot.vaults (progress s.graph s.monitors []) (progress t.graph t.monitors outs) l.from l.to l.load
+  pub row : Answers s.snapshot.vaults (progress s.graph s.monitors [])
+      (progress t.graph t.monitors (outs_at t.graph.nodes outs)) l.from l.to (load_at s.graph.nodes l.load)
 
 -- the letters sent, with those that its receiver answers, would exceed the work limit
 pub record Exceeds (s : SearchState) (l : Letter Said) : Type 0 where
   pub before : Computation Said
   pub reached : Progress
   pub ran : s.stage ≡ stage.Running before
-  pub row : Answers s.snapshot.vaults (progress s.graph s.monitors []) reached l.from l.to l.load
+  pub row : Answers s.snapshot.vaults (progress s.graph s.monitors []) reached l.from l.to (load_at s.graph.nodes l.load)
   pub over : s.work < before.sent + length reached.outs
 
 -- the letter is held, and the hint is the one that it needs

@@ -15,6 +15,7 @@ use Rattle.cred_graph.specs.declared.listeners.Port.TheVariants as port
 use Rattle.cred_graph.specs.declared.solutions.Reason.{Reason}
 use Rattle.cred_graph.specs.declared.solutions.Reason.TheVariants as reason
 use Rattle.cred_graph.specs.declared.solutions.Solution.{Solution}
+use Rattle.cred_graph.specs.Numbers.{IsEntity, IsPort, entity_at, port_at}
 use Rattle.cred_graph.specs.Graph.{GraphState, IsNode, IsSolution, Known, Listens, IsGraph}
 use Rattle.monitors.specs.MeetMonitor.{MeetTold, HasTold}
 use Rattle.scholten_core.specs.declared.parents.Parent.{Parent}
@@ -25,15 +26,31 @@ use Rattle.search.specs.declared.letters.Load.TheVariants as load
 use Rattle.search.specs.declared.findings.Monitor.{Monitor}
 use Rattle.search.specs.declared.findings.Monitor.TheVariants as monitor
 
--- what a letter says, of entities by name
+-- what a letter says, of entities by number
 abbrev pub Said : Type 0
-Said = Load (List ℕ)
+Said = Load ℕ
 
--- a letter that is waiting or held, without its number
+-- the same in words, of entities by name
+abbrev pub Words : Type 0
+Words = Load (List ℕ)
+
+-- what a letter says in words, where its numbers are those of entities among these nodes
+abbrev pub load_at : List Expr → Said → Words
+load_at nodes load.Start = load.Start
+load_at nodes (load.Ask p) = load.Ask (port_at nodes p)
+load_at nodes (load.Tell p k) = load.Tell (port_at nodes p) (entity_at nodes k)
+
+-- its numbers are entities'
+abbrev pub IsLoad : List Expr → Said → Type 0
+IsLoad nodes load.Start = Unit {0}
+IsLoad nodes (load.Ask p) = IsPort nodes p
+IsLoad nodes (load.Tell p k) = IsPort nodes p × IsEntity nodes k
+
+-- a letter that is waiting or held, in words and without its number
 pub record Sent : Type 0 where
   pub from : Parent
   pub to : ℕ
-  pub load : Said
+  pub load : Words
 
 -- what a search has found, and what is under way
 pub record Net : Type 0 where
@@ -41,12 +58,20 @@ pub record Net : Type 0 where
   pub monitors : List Monitor
   pub pending : List Sent
 
+-- a letter in words
+abbrev pub in_words : List Expr → Letter Said → Sent
+in_words nodes l = record { from = l.from; to = l.to; load = load_at nodes l.load }
+
 -- the letters of a diffusing computation, whether held or waiting
-abbrev pub sent_of : List (ℕ × Letter Said) → List Sent
-sent_of letters = map (λ l. record { from = l.1.from; to = l.1.to; load = l.1.load }) letters
+abbrev pub sent_of : List Expr → List (ℕ × Letter Said) → List Sent
+sent_of nodes letters = map (λ l. in_words nodes l.1) letters
+
+-- what a node answers, in words
+abbrev pub outs_at : List Expr → List (ℕ × Said) → List (ℕ × Words)
+outs_at nodes outs = map (λ o. (o.0, load_at nodes o.1)) outs
 
 -- what a node sends in one receipt
-abbrev pub sent_by : ℕ → List (ℕ × Said) → List Sent
+abbrev pub sent_by : ℕ → List (ℕ × Words) → List Sent
 sent_by node outs = map (λ out. record { from = Node node; to = out.0; load = out.1 }) outs
 
 -- the reason for which a port listens
@@ -94,7 +119,7 @@ AskFits rows net m p n = (e f : Expr) × IsNode net.graph m e × IsNode net.grap
 
 -- the letter may be sent: the environment's goes to the asked role's node, an Ask stands to reason, a Tell is of a
 -- listener and a solution
-abbrev pub LetterFits : List Credential → Net → Parent → ℕ → Said → Type 0
+abbrev pub LetterFits : List Credential → Net → Parent → ℕ → Words → Type 0
 LetterFits rows net Environment to load.Start = to ≡ 0
 LetterFits rows net (Node m) to (load.Ask p) = AskFits rows net m p to
 LetterFits rows net (Node n) to (load.Tell p who) = HasListener net n to p × IsSolution net.graph n who
@@ -135,7 +160,7 @@ ListensFor net e why f =
 abbrev pub IsPendingBetween : Net → Expr → Expr → Type 0
 IsPendingBetween net e f =
     (m n : ℕ) × IsNode net.graph m e × IsNode net.graph n f
-    × ((l : Said)
+    × ((l : Words)
     × (Contains net.pending (record { from = Node m; to = n; load = l })
     ⊎ Contains net.pending (record { from = Node n; to = m; load = l })))
 

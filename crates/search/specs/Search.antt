@@ -1,5 +1,5 @@
 -- A search, by its parts: what it has come to, how many letters it has sent, and what it keeps while it runs
-use Rattle.std.specs.Prelude.{◌==◌, if◌then◌else◌, ℕ, suc, List, [], ◌∷◌, ◌++◌, ◌≡◌, Contains, map, ◌≤◌, length}
+use Rattle.std.specs.Prelude.{All, ◌==◌, if◌then◌else◌, ℕ, suc, List, [], ◌∷◌, ◌++◌, ◌≡◌, Contains, map, ◌≤◌, length}
 use Rattle.std.specs.List.{list_any, flat_map}
 use Rattle.names.specs.Name.{is_same, name_order}
 use Rattle.names.specs.declared.roles.Role.{Role}
@@ -26,7 +26,7 @@ use Rattle.search.specs.declared.stages.Stage.{Stage}
 use Rattle.search.specs.declared.stages.Stage.TheVariants as stage
 use Rattle.search.specs.Ending.{Settled, Nothing, Yes, No, Members, Spent, Broken, MaySettle}
 use Rattle.search.specs.declared.letters.Load.TheVariants as load
-use Rattle.search.specs.Net.{Said, Net, Sent, IsBaseTold, IsOpen, why_of, IsPendingStart, sent_of, IsSteady}
+use Rattle.search.specs.Net.{Said, Words, IsLoad, Net, Sent, IsBaseTold, IsOpen, why_of, IsPendingStart, sent_of, IsSteady}
 use Rattle.search.specs.declared.findings.Monitor.{Monitor}
 use Rattle.search.specs.declared.findings.Monitor.TheVariants as monitor
 pub use Rattle.search.specs.Ending.{asked_role}
@@ -102,7 +102,7 @@ new_search query work snapshot = record {
 }
 
 abbrev pub net_of : GraphState → List Monitor → Computation Said → Net
-net_of g ms c = record { graph = g; monitors = ms; pending = sent_of c.letters }
+net_of g ms c = record { graph = g; monitors = ms; pending = sent_of g.nodes c.letters }
 
 -- what a listener of the node asked
 abbrev pub heard_of : ℕ → Listening → NodeAsk
@@ -117,7 +117,7 @@ abbrev pub heard : GraphState → List NodeAsk
 heard g = heard_from 0 g.listeners
 
 -- what a letter of a node asks
-abbrev pub ask_from : Parent → ℕ → Said → List NodeAsk
+abbrev pub ask_from : Parent → ℕ → Words → List NodeAsk
 ask_from (Node m) n (load.Ask p) = record { asker = m; why = why_of p; asked = n } ∷ []
 ask_from _ n _ = []
 
@@ -143,12 +143,13 @@ IsCounted net sent =
     IsCountedBy (λ a. MayAskFor net a.asker a.why) (members_of net.graph) (heard net.graph) (asks_in net.pending) sent
 
 -- what a running search keeps: each rule is applied or owed, while the environment's letter is there it is the only one,
--- and no more letters were sent than it may send
+-- no more letters were sent than it may send, and the numbers in its letters are entities'
 pub record KeptBy (rows : List Credential) (asked : Role) (work : ℕ) (g : GraphState) (ms : List Monitor)
     (c : Computation Said) : Type 0 where
   pub steady : IsSteady rows asked (net_of g ms c)
   pub starts : IsPendingStart (net_of g ms c) → length c.letters ≡ 1
   pub within : c.sent ≤ work
+  pub loads : All (λ l. IsLoad g.nodes l.1.load) c.letters
 
 -- its letters are counted by what was asked and found, and while the environment's letter is there it was the only one
 pub record IsTallied (g : GraphState) (ms : List Monitor) (c : Computation Said) : Type 0 where

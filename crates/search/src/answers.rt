@@ -8,7 +8,7 @@ ghost use Rattle.credential_text.specs.declared.exprs.Expr.{Expr};
 ghost use Rattle.search.specs.Answers.{new_monitor, AsksFor, Solves, HearsAsk, TellsLast, TellsBase};
 ghost use Rattle.search.specs.Answers.{TellsPart, MayTakeIn, TakesIn, AsksEach};
 ghost use Rattle.search.specs.Answers.{row_asks, part_asks, own_rows, Opens, progress, AnswersAsk, Answers, Awaits};
-ghost use Rattle.search.specs.Numbered.{IsMonitor, monitor_at, IsLoad, load_at};
+ghost use Rattle.search.specs.Numbered.{IsMonitor, monitor_at};
 ghost use Rattle.names.specs.declared.roles.Role.{Role};
 ghost use Rattle.credential_text.specs.declared.exprs.Expr.TheVariants as exprs;
 ghost use Rattle.monitors.specs.MeetMonitor.{MeetTold};
@@ -16,7 +16,7 @@ ghost use Rattle.search.specs.declared.findings.Monitor.TheVariants as Monitor;
 ghost use Rattle.snapshots.specs.Span.{role_rows, span_of};
 ghost use Rattle.search.specs.Finish.{IsSpanFor};
 ghost use Rattle.vaults.specs.Journal.{credentials};
-ghost use Rattle.search.specs.Net.{Sent};
+ghost use Rattle.search.specs.Net.{Sent, IsLoad, load_at};
 
 use crate::findings::{Findings, NumberedMonitor};
 use crate::letters::{Held, Load};

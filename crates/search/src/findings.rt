@@ -82,7 +82,7 @@ impl Findings {
     ghost use Rattle.cred_graph.specs.Graph.{Listens};
     ghost use Rattle.cred_graph.specs.Numbers.{IsNamed};
     ghost use Rattle.search.specs.Answers.{progress};
-    ghost use Rattle.search.specs.Numbered.{IsLoad, load_at};
+    ghost use Rattle.search.specs.Net.{IsLoad, load_at};
 
     // Where nothing was found yet. It takes no memory.
     pub(crate) fn new(alloc: Global) -> Self

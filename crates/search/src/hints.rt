@@ -3,7 +3,6 @@ ghost use Rattle.std.specs.Prelude.{◌≡◌, ◌<◌, ◌↔◌, length, optio
 ghost use Rattle.credential_text.specs.declared.exprs.Expr.{Expr};
 ghost use Rattle.cred_graph.specs.Graph.{IsNode};
 ghost use Rattle.search.specs.Finish.{rows_for, need_for, need_of, right_hint};
-ghost use Rattle.search.specs.Numbered.{load_at};
 
 use crate::letters::{Held, Load};
 use crate::queries::Hint;
@@ -29,7 +28,7 @@ fn role_of(expr: &Expr) -> Option<&Role>
 pub(crate) fn role_needed<'a>(graph: &'a Graph, held: &Held<Load<u32>>) -> Option<&'a Role>
     requires { held.now.to < length graph.now.nodes }
     ensures { (e : Expr) × IsNode graph.now held.now.to e
-        × (need_for (option_copied result) ≡ need_of e (load_at graph.now.nodes held.now.load)) }
+        × (need_for (option_copied result) ≡ need_of e held.now.load) }
 {
     let expr = graph.expr(held.to);
     match held.load {
@@ -49,7 +48,7 @@ pub(crate) fn hint_is_right(
     requires { held.now.to < length graph.now.nodes }
     ensures { IsTrue result
         ↔ ((e : Expr) → IsNode graph.now held.now.to e
-        → hint.now ≡ right_hint snapshot.now.vaults (need_of e (load_at graph.now.nodes held.now.load))) }
+        → hint.now ≡ right_hint snapshot.now.vaults (need_of e held.now.load)) }
 {
     match role_needed(graph, held) {
         Some(role) => match hint {

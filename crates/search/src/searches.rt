@@ -7,10 +7,9 @@ ghost use Rattle.rt0_rules.specs.Membership.{AreMembers};
 ghost use Rattle.rt0_rules.specs.FixedPoint.{IsExact};
 ghost use Rattle.cred_graph.specs.Graph.{IsNode, Known};
 ghost use Rattle.scholten_core.specs.declared.letters.Letter.{Letter};
-ghost use Rattle.search.specs.Net.{Said, OwesRules, IsJustified};
+ghost use Rattle.search.specs.Net.{Said, IsLoad, OwesRules, IsJustified};
 ghost use Rattle.search.specs.Ending.{MaySettle, Nothing, Members};
 ghost use Rattle.search.specs.Search.{IsAnswered, status_of, come_to, IsSoundStage};
-ghost use Rattle.search.specs.Numbered.{IsLoad, IsStage, held_at, load_at, stage_at};
 ghost use Rattle.search.specs.Stage.{IsQuiet, NoneHeld};
 ghost use Rattle.scholten_core.specs.Computation.{Computation};
 
@@ -21,7 +20,7 @@ use crate::letters::{Held, Load};
 use crate::members::solutions_in_order;
 use crate::outcomes::{Finished, Status};
 use crate::queries::{Hint, Need, Query, Task};
-use crate::stages::{NumberedStage, Stage, break_off, deliver, give_back, held_letter, hold, send};
+use crate::stages::{Stage, break_off, deliver, give_back, held_letter, hold, send};
 use crate::tables::Tables;
 use cred_graph::{Graph, Port};
 use names::{Entity, Role};
@@ -37,7 +36,7 @@ pub struct Search {
     work: u64,
     snapshot: Arc<Snapshot>,
     found: Findings,
-    stage: NumberedStage,
+    stage: Stage,
     // Whether it keeps the room of its tables once it is completed, where that isn't much.
     keeps_room: bool,
     alloc: Global,
@@ -49,7 +48,6 @@ impl Model for Search {
     ghost use Rattle.search.specs.contracts.stages.Stage as running;
     ghost use Rattle.search.specs.contracts.findings.Monitor as memory;
     ghost use Rattle.search.specs.Search.{SearchState, IsKept};
-    ghost use Rattle.search.specs.Numbered.{IsStage, stage_at};
 
     ghost Value = { SearchState };
 
@@ -61,7 +59,7 @@ impl Model for Search {
       snapshot = arc_value s.snapshot;
       graph = s.found.graph;
       monitors = s.found.monitors;
-      stage = stage_at s.found.graph.nodes s.stage;
+      stage = s.stage;
     } };
 
     ghost invariant = { λ s. IsKept (record {
@@ -70,8 +68,8 @@ impl Model for Search {
       snapshot = arc_value s.snapshot;
       graph = s.found.graph;
       monitors = s.found.monitors;
-      stage = stage_at s.found.graph.nodes s.stage;
-    }) × IsStage s.found.graph.nodes s.stage };
+      stage = s.stage;
+    }) };
 }
 
 impl Drop for Search {
@@ -127,7 +125,7 @@ impl Search {
             work,
             snapshot,
             found,
-            stage: NumberedStage::Running(running),
+            stage: Stage::Running(running),
             keeps_room: true,
             alloc,
         })
@@ -151,7 +149,7 @@ impl Search {
             alloc: _alloc,
         } = self;
         if !found.is_small() || !stage.is_small() {
-            stage = NumberedStage::Spent;
+            stage = Stage::Spent;
         }
         found.forget();
         Tables { found, stage }
@@ -170,7 +168,7 @@ impl Search {
     pub fn waiting(&self) -> u64
         ensures { result ≡ length (waiting_in self.now.stage) }
     {
-        let NumberedStage::Running(running) = &self.stage else {
+        let Stage::Running(running) = &self.stage else {
             return 0;
         };
         running.waiting()
@@ -180,7 +178,7 @@ impl Search {
     pub fn signals(&self) -> u64
         ensures { result ≡ length (signals_in self.now.stage) }
     {
-        let NumberedStage::Running(running) = &self.stage else {
+        let Stage::Running(running) = &self.stage else {
             return 0;
         };
         running.signals()
@@ -242,7 +240,7 @@ impl Search {
     pub fn rows_for(&self, held: &Held<Load<u32>>) -> Option<&Role>
         requires { held.now.to < length self.now.graph.nodes }
         ensures { (e : Expr) × IsNode self.now.graph held.now.to e
-            × (need_for (option_copied result) ≡ need_of e (load_at self.now.graph.nodes held.now.load)) }
+            × (need_for (option_copied result) ≡ need_of e held.now.load) }
     {
         role_needed(self.graph(), held)
     }
@@ -278,7 +276,7 @@ impl Search {
         let Some(_held) = held_letter(&self.stage, letter) else {
             return false;
         };
-        let NumberedStage::Running(running) = &mut self.stage else {
+        let Stage::Running(running) = &mut self.stage else {
             unreachable!()
         };
         running.put_back(letter);
@@ -306,7 +304,7 @@ impl Search {
     #[inline(always)]
     pub fn take_held(&mut self, place: u64) -> Option<(u64, Held<Load<u32>>)>
         ensures taken { MatchOption result ((slice_get (waiting_in self.old.stage) place ≡ None) × (self.new ≡ self.old))
-            (λ r. TakesHeld self.old self.new place r.0 (held_at self.old.graph.nodes r.1)) }
+            (λ r. TakesHeld self.old self.new place r.0 r.1) }
         ensures load { IfSome result (λ r. IsLoad self.old.graph.nodes r.1.load) }
         ensures settles { Settles self.old self.new }
     {
@@ -322,10 +320,9 @@ impl Search {
         held: &Held<Load<u32>>,
         looked_up: Option<&Span>,
     ) -> Finished
-        requires held { HoldsLetter self.old.stage letter (held_at self.old.graph.nodes held.now) }
-        requires load { IsLoad self.old.graph.nodes held.now.load }
+        requires held { HoldsLetter self.old.stage letter held.now }
         requires span { (e : Expr) → IsNode self.old.graph held.now.to e → IsSpanFor self.old.snapshot.vaults e (option_copied looked_up) }
-        ensures receives { Receives self.old self.new letter (letter_in (held_at self.old.graph.nodes held.now)) result }
+        ensures receives { Receives self.old self.new letter (letter_in held.now) result }
         ensures settles { Settles self.old self.new }
     {
         let snapshot: &Snapshot = &self.snapshot;
@@ -357,7 +354,7 @@ impl Search {
         ensures quiet { IsTrue result ↔ IsQuiet self.now.stage }
         ensures settled { IsQuiet self.now.stage → NoneHeld self.now.stage → IsOutstanding self.now.stage → ⊥ }
     {
-        let NumberedStage::Running(running) = &self.stage else {
+        let Stage::Running(running) = &self.stage else {
             return true;
         };
         running.is_complete() || (running.waiting() == 0 && running.signals() == 0)
@@ -379,7 +376,7 @@ impl Search {
     pub fn kept(&self)
         ensures sound { IsSoundStage self.now.stage }
     {
-        let NumberedStage::Running(running) = &self.stage else {
+        let Stage::Running(running) = &self.stage else {
             return;
         };
         let _complete = running.is_complete();
@@ -410,14 +407,14 @@ impl Search {
 }
 
 // What a search of this stage has come to, whose graph is this.
-fn status_at(stage: &NumberedStage, graph: &Graph, query: &Query) -> Status
-    ensures is { (nodes : List Expr) → result ≡ status_of (come_to (stage_at nodes stage.now) graph.now query.now) }
-    ensures sound { (nodes : List Expr) → IsSoundStage (stage_at nodes stage.now) }
+fn status_at(stage: &Stage, graph: &Graph, query: &Query) -> Status
+    ensures is { result ≡ status_of (come_to stage.now graph.now query.now) }
+    ensures sound { IsSoundStage stage.now }
 {
     match stage {
-        NumberedStage::Spent => Status::Spent,
-        NumberedStage::Broken => Status::Broken,
-        NumberedStage::Running(running) => {
+        Stage::Spent => Status::Spent,
+        Stage::Broken => Status::Broken,
+        Stage::Running(running) => {
             if !running.is_complete() {
                 return Status::Working;
             }

@@ -1,13 +1,11 @@
 //! Where a search stands, and the steps of its computation.
-ghost use Rattle.std.specs.Prelude.{◌≡◌, ◌≤◌, List, None, slice_get, IfOk, IfSome, MatchOption};
+ghost use Rattle.std.specs.Prelude.{◌≡◌, ◌≤◌, ℕ, List, All, None, slice_get, IfOk, MatchOption};
 ghost use Rattle.scholten_core.specs.declared.letters.Letter.{Letter};
 ghost use Rattle.scholten_core.specs.Computation.{Computation, IsHeld};
 ghost use Rattle.scholten_core.specs.Step.{started};
-ghost use Rattle.search.specs.Net.{Said};
+ghost use Rattle.search.specs.Net.{Said, IsLoad, outs_at};
 ghost use Rattle.search.specs.declared.letters.Load.TheVariants as Load;
 ghost use Rattle.search.specs.Stage.{waiting_in, held_in, HoldsLetter, Holds, Sends, Delivers};
-ghost use Rattle.credential_text.specs.declared.exprs.Expr.{Expr};
-ghost use Rattle.search.specs.Numbered.{IsLoad, IsStage, held_at, stage_at};
 
 use crate::findings::Findings;
 use crate::letters::{Held, Load};
@@ -15,30 +13,23 @@ use crate::outcomes::Finished;
 use scholten_core::Diffusion;
 use std::alloc::{AllocError, Global};
 
-/// Where a search stands, as contracts see it.
+/// Where a search stands.
 pub enum Stage {
     /// It runs, or ran until nothing was outstanding.
-    Running(Diffusion<Load>),
+    Running(Diffusion<Load<u32>>),
     /// It met its work limit.
     Spent,
     /// A growth was refused.
     Broken,
 }
 
-/// Where a search stands, with numbers for names.
-pub enum NumberedStage {
-    Running(Diffusion<Load<u32>>),
-    Spent,
-    Broken,
-}
-
 // By hand, so that who holds one drops it by one call, whose proof stands here.
-impl Drop for NumberedStage {
+impl Drop for Stage {
     fn drop(self) {
         match self {
-            NumberedStage::Running(_running) => {}
-            NumberedStage::Spent => {}
-            NumberedStage::Broken => {}
+            Stage::Running(_running) => {}
+            Stage::Spent => {}
+            Stage::Broken => {}
         }
     }
 }
@@ -46,14 +37,12 @@ impl Drop for NumberedStage {
 /// By so many letters little is found: what came of them is forgotten in a tenth of a millisecond.
 const FEW_LETTERS: u64 = 32_768;
 
-impl NumberedStage {
+impl Stage {
     // Whether it is that of a search that is completed, by few letters.
     pub(crate) fn is_small(&self) -> bool {
         match self {
-            NumberedStage::Running(running) => {
-                running.is_complete() && running.sent() <= FEW_LETTERS
-            }
-            NumberedStage::Spent | NumberedStage::Broken => false,
+            Stage::Running(running) => { running.is_complete() && running.sent() <= FEW_LETTERS }
+            Stage::Spent | Stage::Broken => false,
         }
     }
 
@@ -61,7 +50,7 @@ impl NumberedStage {
     pub(crate) fn begin(self, alloc: Global) -> Result<Diffusion<Load<u32>>, AllocError>
         ensures started { IfOk result (λ d. d ≡ started 0 Load.Start) }
     {
-        let NumberedStage::Running(mut running) = self else {
+        let Stage::Running(mut running) = self else {
             return Diffusion::start(alloc, 0, Load::Start);
         };
         running.restart(0, Load::Start)?;
@@ -70,12 +59,10 @@ impl NumberedStage {
 }
 
 // The held letter of that number.
-pub(crate) fn held_letter(stage: &NumberedStage, number: u64) -> Option<Held<Load<u32>>>
-    ensures held { (nodes : List Expr) → MatchOption result (held_in (stage_at nodes stage.now) number ≡ None)
-        (λ h. HoldsLetter (stage_at nodes stage.now) number (held_at nodes h)) }
-    ensures load { (nodes : List Expr) → IsStage nodes stage.now → IfSome result (λ h. IsLoad nodes h.load) }
+pub(crate) fn held_letter(stage: &Stage, number: u64) -> Option<Held<Load<u32>>>
+    ensures { MatchOption result (held_in stage.now number ≡ None) (λ h. HoldsLetter stage.now number h) }
 {
-    let NumberedStage::Running(running) = stage else {
+    let Stage::Running(running) = stage else {
         return None;
     };
     let Some(letter) = running.letter(number) else {
@@ -93,15 +80,11 @@ pub(crate) fn held_letter(stage: &NumberedStage, number: u64) -> Option<Held<Loa
 
 // The waiting letter at that place is held from now on; its number and what it says.
 #[inline(always)]
-pub(crate) fn hold(stage: &mut NumberedStage, place: u64) -> Option<(u64, Held<Load<u32>>)>
-    ensures held { (nodes : List Expr) → MatchOption result
-        ((slice_get (waiting_in (stage_at nodes stage.old)) place ≡ None) × (stage_at nodes stage.new ≡ stage_at nodes stage.old))
-        (λ r. (l : Letter Said) × Holds (stage_at nodes stage.old) (stage_at nodes stage.new) place r.0 l
-        × HoldsLetter (stage_at nodes stage.new) r.0 (held_at nodes r.1)) }
-    ensures load { (nodes : List Expr) → IsStage nodes stage.old → IfSome result (λ r. IsLoad nodes r.1.load) }
-    ensures loads { (nodes : List Expr) → IsStage nodes stage.old → IsStage nodes stage.new }
+pub(crate) fn hold(stage: &mut Stage, place: u64) -> Option<(u64, Held<Load<u32>>)>
+    ensures { MatchOption result ((slice_get (waiting_in stage.old) place ≡ None) × (stage.new ≡ stage.old))
+        (λ r. (l : Letter Said) × Holds stage.old stage.new place r.0 l × HoldsLetter stage.new r.0 r.1) }
 {
-    let NumberedStage::Running(running) = stage else {
+    let Stage::Running(running) = stage else {
         return None;
     };
     if place >= running.waiting() {
@@ -117,28 +100,21 @@ pub(crate) fn hold(stage: &mut NumberedStage, place: u64) -> Option<(u64, Held<L
 }
 
 // The held letter of that number is finished, and what its receiver answers is sent, where the work limit allows it.
-pub(crate) fn send(
-    stage: &mut NumberedStage,
-    work: u64,
-    number: u64,
-    found: &mut Findings,
-) -> Finished
-    requires { (nodes : List Expr) × (c : Computation Said) × (stage_at nodes stage.old ≡ Stage.Running c)
-        × IsHeld c.letters number × (c.sent ≤ work) }
-    ensures sends { Sends (stage_at found.old.graph.nodes stage.old) (stage_at found.old.graph.nodes stage.new) work number
-        found.old.outs result }
+pub(crate) fn send(stage: &mut Stage, work: u64, number: u64, found: &mut Findings) -> Finished
+    requires { (c : Computation Said) × (stage.old ≡ Stage.Running c) × IsHeld c.letters number × (c.sent ≤ work) }
+    ensures sends { (outs : List (ℕ × Said)) × (outs_at found.old.graph.nodes outs ≡ found.old.outs)
+        × All (λ o. IsLoad found.old.graph.nodes o.1) outs × Sends stage.old stage.new work number outs result }
     ensures findings { (found.new.graph ≡ found.old.graph) × (found.new.monitors ≡ found.old.monitors) }
-    ensures loads { IsStage found.old.graph.nodes stage.old → IsStage found.old.graph.nodes stage.new }
 {
-    let NumberedStage::Running(running) = stage else {
+    let Stage::Running(running) = stage else {
         unreachable!()
     };
     if work - running.sent() < found.outs.len() as u64 {
-        *stage = NumberedStage::Spent;
+        *stage = Stage::Spent;
         return Finished::Spent;
     }
     let Ok(()) = running.finish_with(number, &mut found.outs) else {
-        *stage = NumberedStage::Broken;
+        *stage = Stage::Broken;
         return Finished::Broken;
     };
     Finished::Done
@@ -147,10 +123,10 @@ pub(crate) fn send(
 // The search is broken by want of memory. This stands apart, so that a receipt that isn't refused makes no other stage.
 #[cold]
 #[inline(never)]
-pub(crate) fn break_off(stage: &mut NumberedStage, _refusal: AllocError)
-    ensures { stage.new ≡ NumberedStage.Broken }
+pub(crate) fn break_off(stage: &mut Stage, _refusal: AllocError)
+    ensures { stage.new ≡ Stage.Broken }
 {
-    *stage = NumberedStage::Broken;
+    *stage = Stage::Broken;
 }
 
 // Gives back the memory that nothing takes, unless it is kept and isn't much.
@@ -168,11 +144,11 @@ fn rest(running: &mut Diffusion<Load<u32>>, found: &mut Findings, keeps_room: bo
 }
 
 // Gives back the memory that nothing takes, where nothing is outstanding.
-pub(crate) fn give_back(stage: &mut NumberedStage, found: &mut Findings)
+pub(crate) fn give_back(stage: &mut Stage, found: &mut Findings)
     ensures same { stage.new ≡ stage.old }
     ensures findings { (found.new.graph ≡ found.old.graph) × (found.new.monitors ≡ found.old.monitors) }
 {
-    if let NumberedStage::Running(running) = stage {
+    if let Stage::Running(running) = stage {
         if running.is_complete() {
             rest(running, found, false);
         }
@@ -182,17 +158,11 @@ pub(crate) fn give_back(stage: &mut NumberedStage, found: &mut Findings)
 // The signal at that place is delivered, where there is one. With the last one the memory that nothing takes is given back, unless
 // a search that isn't large keeps it.
 #[inline(always)]
-pub(crate) fn deliver(
-    stage: &mut NumberedStage,
-    found: &mut Findings,
-    place: u64,
-    keeps_room: bool,
-) -> bool
-    ensures delivers { (nodes : List Expr) → Delivers (stage_at nodes stage.old) (stage_at nodes stage.new) place result }
+pub(crate) fn deliver(stage: &mut Stage, found: &mut Findings, place: u64, keeps_room: bool) -> bool
+    ensures delivers { Delivers stage.old stage.new place result }
     ensures findings { (found.new.graph ≡ found.old.graph) × (found.new.monitors ≡ found.old.monitors) }
-    ensures loads { (nodes : List Expr) → IsStage nodes stage.old → IsStage nodes stage.new }
 {
-    let NumberedStage::Running(running) = stage else {
+    let Stage::Running(running) = stage else {
         return false;
     };
     if place >= running.signals() {

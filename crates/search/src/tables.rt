@@ -1,7 +1,7 @@
 //! The tables of a search that was ended, for the next one.
 
 use crate::findings::Findings;
-use crate::stages::NumberedStage;
+use crate::stages::Stage;
 use std::alloc::Global;
 use std::marker::Model;
 
@@ -11,7 +11,7 @@ use std::marker::Model;
 pub struct Tables {
     pub(crate) found: Findings,
     // Its letters, where it was completed.
-    pub(crate) stage: NumberedStage,
+    pub(crate) stage: Stage,
 }
 
 impl Model for Tables {
@@ -31,7 +31,7 @@ impl Tables {
     pub fn new(alloc: Global) -> Tables {
         Tables {
             found: Findings::new(alloc),
-            stage: NumberedStage::Spent,
+            stage: Stage::Spent,
         }
     }
 }

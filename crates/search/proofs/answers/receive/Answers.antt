@@ -6,7 +6,7 @@ use Rattle.cred_graph.specs.Numbers.{entity_at, port_at}
 use Rattle.scholten_core.specs.declared.parents.Parent.{Parent}
 use Rattle.search.specs.declared.letters.Load.{Load}
 use Rattle.search.specs.Answers.{Progress, progress, Answers}
-use Rattle.search.specs.Numbered.{load_at}
+use Rattle.search.specs.Net.{load_at}
 use Rattle.search.proofs.Arms.{node_in, starts, no_start, asker_in, may_tell, answers_start, answers_ask, answers_tell}
 use Rattle.search.proofs.answers.receive.Goals as goal
 

@@ -1,7 +1,7 @@
 use Rattle.std.proofs.Common.{◌∙◌, ℕ}
 use Rattle.std.proofs.lemmas.List.Elements.{All-nil}
 use Rattle.search.specs.declared.letters.Load.{Load}
-use Rattle.search.specs.Numbered.{IsLoad}
+use Rattle.search.specs.Net.{IsLoad}
 use Rattle.search.proofs.findings.Findings.give_back.Goals.{then-len-capacity, else-len-capacity}
 use Rattle.search.proofs.findings.Findings.give_back.Goals as goal
 

@@ -7,4 +7,4 @@ use Rattle.search.proofs.searches.Search.graph.Goals as goal
 pub returns-clause-reasons : goal.returns-clause-reasons
 returns-clause-reasons c =
     let s = c.args.self.now in
-    λ d runs. justified (rows_of s) (asked_role s.query) s.work s.graph s.monitors d ((subst IsKept c.self.view_is c.self.invariant.0).rules d runs)
+    λ d runs. justified (rows_of s) (asked_role s.query) s.work s.graph s.monitors d ((subst IsKept c.self.view_is c.self.invariant).rules d runs)

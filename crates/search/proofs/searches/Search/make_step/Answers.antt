@@ -1,11 +1,6 @@
 -- A search that isn't quiet has a first signal or a first letter.
-use Rattle.std.proofs.Common.{ap, arith, inl, sym, subst, true≢false}
+use Rattle.std.proofs.Common.{arith, inl, true≢false}
 use Rattle.std.proofs.lemmas.Bool.{false≢true}
-use Rattle.cred_graph.specs.Graph.{GraphState}
-use Rattle.search.specs.Stage.{HoldsLetter, letter_in}
-use Rattle.search.specs.Finish.{Receives}
-use Rattle.search.specs.Numbered.{IsLoad, held_at}
-use Rattle.search.specs.Search.{SearchState}
 use Rattle.search.proofs.Driven.{first_goes, nothing_first, finishes_first}
 use Rattle.search.proofs.searches.Search.make_step.Goals as goal
 
@@ -15,13 +10,13 @@ returns-in_default-clause-none c =
 
 pub returns-clause-made : goal.returns-clause-made
 returns-clause-made c =
-    λ _. finishes_first c.args.self.now c.take_held.new.self c.receive_held-finished.new.self c.in-Some.letter (held_at c.args.self.now.graph.nodes c.in-Some.held) c.receive_held-finished.result
+    λ _. finishes_first c.args.self.now c.take_held.new.self c.receive_held-finished.new.self c.in-Some.letter c.in-Some.held c.receive_held-finished.result
     (omega (arith, c.if-signals-gt0.false, c.signals.ensures))
-    c.in-Some.ensures.taken c.in-Some.ensures.settles (subst (λ (g : GraphState). Receives c.take_held.new.self c.receive_held-finished.new.self c.in-Some.letter (letter_in (held_at g.nodes c.in-Some.held)) c.receive_held-finished.result) (ap (λ (x : SearchState). x.graph) c.in-Some.ensures.taken.1.after) c.receive_held-finished.ensures.receives) c.receive_held-finished.ensures.settles
+    c.in-Some.ensures.taken c.in-Some.ensures.settles c.receive_held-finished.ensures.receives c.receive_held-finished.ensures.settles
 
 pub receive_held-finished-requires-clause-held : goal.receive_held-finished-requires-clause-held
 receive_held-finished-requires-clause-held c =
-    subst (λ (g : GraphState). HoldsLetter c.take_held.new.self.stage c.in-Some.letter (held_at g.nodes c.in-Some.held)) (sym (ap (λ (x : SearchState). x.graph) c.in-Some.ensures.taken.1.after)) c.in-Some.ensures.taken.2
+    c.in-Some.ensures.taken.2
 
 pub returns-then-signals-gt0-clause-made : goal.returns-then-signals-gt0-clause-made
 returns-then-signals-gt0-clause-made c =
@@ -38,10 +33,6 @@ returns-then-signals-gt0-clause-none c = λ no. absurd (true≢false no)
 
 pub returns-in_default-clause-made : goal.returns-in_default-clause-made
 returns-in_default-clause-made c = λ yes. absurd (false≢true yes)
-
-pub receive_held-finished-requires-clause-load : goal.receive_held-finished-requires-clause-load
-receive_held-finished-requires-clause-load c =
-    subst (λ (g : GraphState). IsLoad g.nodes c.in-Some.held.load) (sym (ap (λ (x : SearchState). x.graph) c.in-Some.ensures.taken.1.after)) c.in-Some.ensures.load
 
 pub receive_held-finished-requires-clause-span : goal.receive_held-finished-requires-clause-span
 receive_held-finished-requires-clause-span c = λ e at. tt

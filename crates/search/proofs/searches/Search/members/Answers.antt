@@ -19,7 +19,7 @@ use Rattle.search.proofs.searches.Search.members.Goals as goal
 pub solutions_in_order-requires : goal.solutions_in_order-requires
 solutions_in_order-requires c =
     let s = the_view c.self.inside in
-    subst (λ (g : GraphState). 0 < length g.nodes) (sym c.graph.ensures.graph) (completed_root s s.stage refl c.self.invariant.0.rules (subst (λ (x : SearchState). IsCompleted x.stage) (sym c.self.view_is) c.requires))
+    subst (λ (g : GraphState). 0 < length g.nodes) (sym c.graph.ensures.graph) (completed_root s s.stage refl c.self.invariant.rules (subst (λ (x : SearchState). IsCompleted x.stage) (sym c.self.view_is) c.requires))
 
 pub returns-clause-members : goal.returns-clause-members
 returns-clause-members c =
@@ -29,7 +29,7 @@ returns-clause-members c =
     (IfOk-weaker list_of
     (λ list. IsStrictlySortedBy name_order list.items × ((d : List ℕ) → Contains list.items d ↔ Contains (members_of s.graph 0) d))
     (λ list. AreMembers (rows_of s) (asked_role s.query) list.items)
-    (λ list h. listed_members s list.items c.self.invariant.0 (subst (λ (x : SearchState). IsCompleted x.stage) (sym c.self.view_is) c.requires) h.0 h.1)
+    (λ list h. listed_members s list.items c.self.invariant (subst (λ (x : SearchState). IsCompleted x.stage) (sym c.self.view_is) c.requires) h.0 h.1)
     (both_if_ok list_of (λ list. IsStrictlySortedBy name_order list.items) (λ list. (d : List ℕ) → Contains list.items d ↔ Contains (members_of s.graph 0) d) c.solutions_in_order.ensures.in_order (subst (λ (g : GraphState). IfOk list_of (λ list. (d : List ℕ) → Contains list.items d ↔ Contains (members_of g 0) d)) c.graph.ensures.graph c.solutions_in_order.ensures.exact)))
 
 pub returns-clause-settled : goal.returns-clause-settled
@@ -41,5 +41,5 @@ returns-clause-settled c =
     (IfOk-weaker list_of
     (λ list. IsStrictlySortedBy name_order list.items × ((d : List ℕ) → Contains list.items d ↔ Contains (members_of s.graph 0) d))
     (λ list. (role : Role) → s.query ≡ query.Who role → settled_of s ≡ Members list.items)
-    (λ list h. listed_settled s list.items c.self.invariant.0 done (listed_members s list.items c.self.invariant.0 done h.0 h.1))
+    (λ list h. listed_settled s list.items c.self.invariant done (listed_members s list.items c.self.invariant done h.0 h.1))
     (both_if_ok list_of (λ list. IsStrictlySortedBy name_order list.items) (λ list. (d : List ℕ) → Contains list.items d ↔ Contains (members_of s.graph 0) d) c.solutions_in_order.ensures.in_order (subst (λ (g : GraphState). IfOk list_of (λ list. (d : List ℕ) → Contains list.items d ↔ Contains (members_of g 0) d)) c.graph.ensures.graph c.solutions_in_order.ensures.exact)))

@@ -2,7 +2,6 @@
 use Rattle.std.proofs.Common.{◌≡◌, refl, subst}
 use Rattle.cred_graph.specs.Graph.{GraphState}
 use Rattle.search.specs.Search.{come_to, status_of, SearchState, IsKept, IsSoundStage, rows_of, asked_role}
-use Rattle.search.specs.Numbered.{stage_at}
 use Rattle.search.proofs.Searching.{status_exact, rules_owed}
 use Rattle.search.proofs.Answered.{status_is, works_as, answers_as}
 use Rattle.search.proofs.Ended.{ends}
@@ -10,9 +9,9 @@ use Rattle.search.proofs.searches.Search.status.Goals as goal
 use Rattle.search.proofs.searches.Search.status.Goals.{After-status_at}
 
 -- the status, by what the search is seen as
-status_here : (c : After-status_at) → c.status_at.result ≡ status_of (come_to (stage_at c.self.inside.found.graph.nodes c.self.inside.stage) c.self.inside.found.graph c.self.inside.query)
+status_here : (c : After-status_at) → c.status_at.result ≡ status_of (come_to c.self.inside.stage c.self.inside.found.graph c.self.inside.query)
 status_here c =
-    subst (λ (g : GraphState). c.status_at.result ≡ status_of (come_to (stage_at c.self.inside.found.graph.nodes c.self.inside.stage) g c.self.inside.query)) c.graph.ensures.graph (c.status_at.ensures.is c.self.inside.found.graph.nodes)
+    subst (λ (g : GraphState). c.status_at.result ≡ status_of (come_to c.self.inside.stage g c.self.inside.query)) c.graph.ensures.graph c.status_at.ensures.is
 
 pub returns-clause-is : goal.returns-clause-is
 returns-clause-is c = status_is c.self.view_is (status_here c)
@@ -24,17 +23,17 @@ pub returns-clause-completed : goal.returns-clause-completed
 returns-clause-completed c = answers_as c.self.view_is (status_here c)
 
 pub returns-clause-ending : goal.returns-clause-ending
-returns-clause-ending c = ends c.args.self.now (subst IsKept c.self.view_is c.self.invariant.0)
+returns-clause-ending c = ends c.args.self.now (subst IsKept c.self.view_is c.self.invariant)
 
 pub returns-clause-exact : goal.returns-clause-exact
 returns-clause-exact c =
     let s = c.args.self.now in
-    status_exact s s.stage refl (subst IsKept c.self.view_is c.self.invariant.0).rules
+    status_exact s s.stage refl (subst IsKept c.self.view_is c.self.invariant).rules
 
 pub returns-clause-rules : goal.returns-clause-rules
 returns-clause-rules c =
     let s = c.args.self.now in
-    λ d runs. rules_owed (rows_of s) (asked_role s.query) s.work s.graph s.monitors d ((subst IsKept c.self.view_is c.self.invariant.0).rules d runs)
+    λ d runs. rules_owed (rows_of s) (asked_role s.query) s.work s.graph s.monitors d ((subst IsKept c.self.view_is c.self.invariant).rules d runs)
 
 pub returns-clause-sound : goal.returns-clause-sound
-returns-clause-sound c = subst (λ (s : SearchState). IsSoundStage s.stage) c.self.view_is (c.status_at.ensures.sound c.self.inside.found.graph.nodes)
+returns-clause-sound c = subst (λ (s : SearchState). IsSoundStage s.stage) c.self.view_is c.status_at.ensures.sound
