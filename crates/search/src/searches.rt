@@ -205,7 +205,7 @@ impl Search {
         ensures outstanding { IsTrue result ↔ IsOutstanding self.now.stage }
         ensures unsettled { IsTrue result ↔ (settled_of self.now ≡ Nothing) }
     {
-        let NumberedStage::Running(running) = &self.stage else {
+        let Stage::Running(running) = &self.stage else {
             return false;
         };
         !running.is_complete()
