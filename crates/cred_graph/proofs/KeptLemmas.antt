@@ -17,23 +17,16 @@ use Rattle.cred_graph.proofs.NumberLemmas.{entity_is, entity_stands, entity_goes
 
 module _ (nodes more : List Expr) (strangers : List Expr) where
   pub kept_with_node : (p : KeptPort) → IsKept nodes strangers p → IsKept (nodes ++ more) strangers p
-  kept_with_node kept.Body is = tt
-  kept_with_node kept.Base is = tt
   kept_with_node (kept.Via k) (who, at, known) = (who, slice_get_stays nodes more k (Ent who) at, known)
   kept_with_node (kept.Stranger j) is = is
-  kept_with_node (kept.Part i) is = tt
+  kept_with_node _ is = tt
 
   pub same_with_node : (p : KeptPort) → IsKept nodes strangers p → kept_as (nodes ++ more) strangers p ≡ kept_as nodes strangers p
-  same_with_node kept.Body is = refl
-  same_with_node kept.Base is = refl
   same_with_node (kept.Via k) (who, at, known) = ap port.Via (entity_stays nodes more k (who, at))
-  same_with_node (kept.Stranger j) is = refl
-  same_with_node (kept.Part i) is = refl
+  same_with_node _ is = refl
 
 module _ (nodes : List Expr) (strangers : List Expr) (x : List ℕ) (out : Contains nodes (Ent x) → ⊥) where
   kept_with_stranger : (p : KeptPort) → IsKept nodes strangers p → IsKept nodes (strangers ++ Ent x ∷ []) p
-  kept_with_stranger kept.Body is = tt
-  kept_with_stranger kept.Base is = tt
   kept_with_stranger (kept.Via k) (who, at, known) = (
     who,
     at,
@@ -43,14 +36,11 @@ module _ (nodes : List Expr) (strangers : List Expr) (x : List ℕ) (out : Conta
     ],
   )
   kept_with_stranger (kept.Stranger j) is = entity_goes_on strangers (Ent x ∷ []) j is
-  kept_with_stranger (kept.Part i) is = tt
+  kept_with_stranger _ is = tt
 
   same_with_stranger : (p : KeptPort) → IsKept nodes strangers p → kept_as nodes (strangers ++ Ent x ∷ []) p ≡ kept_as nodes strangers p
-  same_with_stranger kept.Body is = refl
-  same_with_stranger kept.Base is = refl
-  same_with_stranger (kept.Via k) is = refl
   same_with_stranger (kept.Stranger j) is = ap port.Via (entity_stays strangers (Ent x ∷ []) j is)
-  same_with_stranger (kept.Part i) is = refl
+  same_with_stranger _ is = refl
 
 pub kept_joined : (nodes : List Expr) (old new : List Expr) → Joins nodes old new → (p : KeptPort) → IsKept nodes old p → IsKept nodes new p
 kept_joined nodes old new (inl same) p is = subst (λ s. IsKept nodes s p) (sym same) is
@@ -67,35 +57,18 @@ module _ (nodes : List Expr) (strangers : List Expr) (one_node : (m n : ℕ) (e 
 
   kept_once : (p q : KeptPort) → IsKept nodes strangers p → IsKept nodes strangers q → kept_as nodes strangers p ≡ kept_as nodes strangers q → p ≡ q
   kept_once kept.Body kept.Body is also same = refl
-  kept_once kept.Body kept.Base is also same = cc
-  kept_once kept.Body (kept.Via l) is also same = cc
-  kept_once kept.Body (kept.Stranger l) is also same = cc
-  kept_once kept.Body (kept.Part l) is also same = cc
-  kept_once kept.Base kept.Body is also same = cc
   kept_once kept.Base kept.Base is also same = refl
-  kept_once kept.Base (kept.Via l) is also same = cc
-  kept_once kept.Base (kept.Stranger l) is also same = cc
-  kept_once kept.Base (kept.Part l) is also same = cc
-  kept_once (kept.Via k) kept.Body is also same = cc
-  kept_once (kept.Via k) kept.Base is also same = cc
   kept_once (kept.Via k) (kept.Via l) (who, at, known) (other, here, unknown) same =
       let named : entity_at nodes k ≡ entity_at nodes l = cc in
       let who_same : other ≡ who = sym (entity_is nodes l other here) ∙ sym named ∙ entity_is nodes k who at in
       ap kept.Via (one_node k l (Ent who) at (here ∙ ap (λ (y : List ℕ). Some (Ent y)) who_same))
   kept_once (kept.Via k) (kept.Stranger l) is also same = let named : entity_at nodes k ≡ entity_at strangers l = cc in absurd (via_stranger k l is also named)
-  kept_once (kept.Via k) (kept.Part l) is also same = cc
-  kept_once (kept.Stranger k) kept.Body is also same = cc
-  kept_once (kept.Stranger k) kept.Base is also same = cc
   kept_once (kept.Stranger k) (kept.Via l) is also same = let named : entity_at nodes l ≡ entity_at strangers k = cc in absurd (via_stranger l k also is named)
   kept_once (kept.Stranger k) (kept.Stranger l) is also same =
       let named : entity_at strangers k ≡ entity_at strangers l = cc in
       ap kept.Stranger (once k l (Ent (entity_at strangers k)) (entity_stands strangers k is) (entity_stands strangers l also ∙ ap (λ (y : List ℕ). Some (Ent y)) (sym named)))
-  kept_once (kept.Stranger k) (kept.Part l) is also same = cc
-  kept_once (kept.Part k) kept.Body is also same = cc
-  kept_once (kept.Part k) kept.Base is also same = cc
-  kept_once (kept.Part k) (kept.Via l) is also same = cc
-  kept_once (kept.Part k) (kept.Stranger l) is also same = cc
   kept_once (kept.Part k) (kept.Part l) is also same = let numbers : k ≡ l = cc in ap kept.Part numbers
+  kept_once _ _ is also same = cc
 
   -- two listeners that stand for the same are the same
   listening_once : (a b : KeptListening) → IsKept nodes strangers a.port → IsKept nodes strangers b.port → listening_as nodes strangers a ≡ listening_as nodes strangers b → a ≡ b
@@ -125,12 +98,10 @@ once_joined nodes old new (inr (x, out, new_name, joined)) once = subst IsOnce (
 -- no port stands for an entity that has no node and is no stranger
 pub not_kept : (nodes : List Expr) (strangers : List Expr) (who : List ℕ) → (Contains nodes (Ent who) → ⊥) → (Contains strangers (Ent who) → ⊥) →
     (p : KeptPort) → IsKept nodes strangers p → kept_as nodes strangers p ≡ port.Via who → ⊥
-not_kept nodes strangers who out unknown kept.Body is same = cc
-not_kept nodes strangers who out unknown kept.Base is same = cc
 not_kept nodes strangers who out unknown (kept.Via k) (other, at, known) same =
     let named : entity_at nodes k ≡ who = cc in
     out (Contains-at_place nodes k (Ent who) (at ∙ ap (λ (y : List ℕ). Some (Ent y)) (sym (entity_is nodes k other at) ∙ named)))
 not_kept nodes strangers who out unknown (kept.Stranger j) is same =
     let named : entity_at strangers j ≡ who = cc in
     unknown (Contains-at_place strangers j (Ent who) (entity_stands strangers j is ∙ ap (λ (y : List ℕ). Some (Ent y)) named))
-not_kept nodes strangers who out unknown (kept.Part i) is same = cc
+not_kept nodes strangers who out unknown _ is same = cc

@@ -25,38 +25,26 @@ module _ (nodes more : List Expr) where
   entity_stays k (who, at) = entity_is (nodes ++ more) k who (slice_get_stays nodes more k (Ent who) at) ∙ sym (entity_is nodes k who at)
 
   pub port_goes_on : (p : Port ℕ) → IsPort nodes p → IsPort (nodes ++ more) p
-  port_goes_on port.Body is = tt
-  port_goes_on port.Base is = tt
   port_goes_on (port.Via k) is = entity_goes_on k is
-  port_goes_on (port.Part i) is = tt
+  port_goes_on _ is = tt
 
   pub port_stays : (p : Port ℕ) → IsPort nodes p → port_at (nodes ++ more) p ≡ port_at nodes p
-  port_stays port.Body is = refl
-  port_stays port.Base is = refl
   port_stays (port.Via k) is = ap port.Via (entity_stays k is)
-  port_stays (port.Part i) is = refl
+  port_stays _ is = refl
 
   pub named_goes_on : (p : Port (List ℕ)) → IsNamed nodes p → IsNamed (nodes ++ more) p
-  named_goes_on port.Body is = tt
-  named_goes_on port.Base is = tt
   named_goes_on (port.Via b) is = Contains-append_left nodes more (Ent b) is
-  named_goes_on (port.Part i) is = tt
+  named_goes_on _ is = tt
 
   pub reason_goes_on : (r : Reason ℕ ℕ) → IsReason nodes r → IsReason (nodes ++ more) r
-  reason_goes_on reason.Leaf is = tt
-  reason_goes_on (reason.Body m) is = tt
   reason_goes_on (reason.Via k) is = entity_goes_on k is
-  reason_goes_on reason.Parts is = tt
+  reason_goes_on _ is = tt
 
   pub reason_stays : (r : Reason ℕ ℕ) → IsReason nodes r → reason_at (nodes ++ more) r ≡ reason_at nodes r
-  reason_stays reason.Leaf is = refl
-  reason_stays (reason.Body m) is = refl
   reason_stays (reason.Via k) is = ap reason.Via (entity_stays k is)
-  reason_stays reason.Parts is = refl
+  reason_stays _ is = refl
 
 -- a port of a number names somebody who has a node
 pub port_named : (nodes : List Expr) (p : Port ℕ) → IsPort nodes p → IsNamed nodes (port_at nodes p)
-port_named nodes port.Body is = tt
-port_named nodes port.Base is = tt
 port_named nodes (port.Via k) is = Contains-at_place nodes k (Ent (entity_at nodes k)) (entity_stands nodes k is)
-port_named nodes (port.Part i) is = tt
+port_named nodes _ is = tt

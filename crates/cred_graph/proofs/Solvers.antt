@@ -15,10 +15,9 @@ use Rattle.cred_graph.proofs.Lists.{Contains-at_place, place_of_Contains}
 
 -- what stands among the first stands at the same place of all
 taken : {X : Type 0} (i : ℕ) (xs : List X) (j : ℕ) (x : X) → slice_get (take i xs) j ≡ Some x → (j < i) × (slice_get xs j ≡ Some x)
-taken zero xs j x at = absurd (none-some x at)
-taken (suc i) [] j x at = absurd (none-some x at)
 taken (suc i) (y ∷ xs) zero x at = (omega arith, at)
 taken (suc i) (y ∷ xs) (suc j) x at = let rest = taken i xs j x at in (omega (arith, rest.0), rest.1)
+taken _ _ j x at = absurd (none-some x at)
 
 abbrev Solvers : GraphState → Type 0
 Solvers g = (n : ℕ) (who : List ℕ) → IsSolution g n who → Contains g.nodes (Ent who)
@@ -60,10 +59,9 @@ new_solver_has_node g graph n who why fits = fits_has_node g graph.parts_in_rang
 
 -- the numbers that a reason needs are there
 pub reason_has_numbers : (g : GraphState) → IsGraph g → (n : ℕ) (who : List ℕ) (why : Reason ℕ (List ℕ)) → Fits g n who why → HasNumbers g.nodes why
-reason_has_numbers g graph n who reason.Leaf fits = tt
 reason_has_numbers g graph n who (reason.Body m) (r, e, node, body, solution) = slice_get_within g.nodes m e body
 reason_has_numbers g graph n who (reason.Via b) (r, t, node, base, given) = known_has_node g (solver_has_node g graph) b _ base
-reason_has_numbers g graph n who reason.Parts fits = tt
+reason_has_numbers g graph n who _ fits = tt
 
 -- a reason fits a node
 pub fits_node : (g : GraphState) (n : ℕ) (who : List ℕ) (why : Reason ℕ (List ℕ)) → Fits g n who why → n < length g.nodes

@@ -1,5 +1,5 @@
 -- What a table of lines by key hears, by the names that its keys stand for.
-use Rattle.std.proofs.Common.{zero, suc, replicate, unwrap_or, Option, None, Some, cond, true≢false, ◌≡◌, ◌<◌, ◌==◌, ◌⊎◌, inl, inr, ℕ, Bool, true, false, List, [], ◌∷◌, ◌++◌, Contains, refl, sym, ap, subst, ◌∙◌, arith, get_or, set, if◌then◌else◌}
+use Rattle.std.proofs.Common.{suc, replicate, unwrap_or, Option, None, Some, cond, true≢false, ◌≡◌, ◌<◌, ◌==◌, ◌⊎◌, inl, inr, ℕ, Bool, true, false, List, [], ◌∷◌, ◌++◌, Contains, refl, sym, ap, subst, ◌∙◌, arith, get_or, set, if◌then◌else◌}
 use Rattle.std.specs.Cmp.{IsEquivalence}
 use Rattle.std.specs.Map.{keys_of, lookup}
 use Rattle.std.proofs.lemmas.Option.{same_Some}
@@ -12,9 +12,8 @@ use Rattle.monitors.proofs.NamedLemmas.{named_lookup, named_insert}
 use Rattle.monitors.proofs.TableLemmas.{seen, told_already, never_told, AddsTeller, still_tellers, tells_last}
 
 of_nobody : (n p : ℕ) → get_or (replicate n false) p false ≡ false
-of_nobody zero p = refl
-of_nobody (suc n) zero = refl
 of_nobody (suc n) (suc p) = of_nobody n p
+of_nobody _ _ = refl
 
 -- an entity's line, or if it has none, one of no teller
 module _ (found : Option Tellers) (none line : Tellers) (nobody : none.told ≡ replicate 8 false) (is : line ≡ unwrap_or found none) where

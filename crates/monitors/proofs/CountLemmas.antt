@@ -32,8 +32,7 @@ all_told (false ∷ told) (suc parts) within =
 
 -- one more is told
 pub how_many-set : (told : List Bool) (part : ℕ) → part < length told → get_or told part false ≡ false → how_many (set told part true) ≡ how_many told + 1
-how_many-set [] part below new = omega arith
 how_many-set (true ∷ told) zero below new = absurd (true≢false new)
 how_many-set (true ∷ told) (suc part) below new = let more = how_many-set told part (omega arith) new in omega arith
-how_many-set (false ∷ told) zero below new = omega arith
 how_many-set (false ∷ told) (suc part) below new = how_many-set told part (omega arith) new
+how_many-set _ _ below new = omega arith

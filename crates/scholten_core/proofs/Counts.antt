@@ -36,10 +36,9 @@ module _ {P : Type 0} (test : Option (Letter P) → Bool) where
   count-take n es = sum_by-take-le passed es n
 
   pub count-take-le : (m n : ℕ) (es : List (ℕ × Option (Letter P))) → m ≤ n → count test (take m es) ≤ count test (take n es)
-  count-take-le zero n es less = omega arith
   count-take-le (suc m) zero es less = absurd (omega arith)
-  count-take-le (suc m) (suc n) [] less = omega arith
   count-take-le (suc m) (suc n) (e ∷ es) less = omega (arith, count-take-le m n es (omega arith), counted e (take m es), counted e (take n es))
+  count-take-le _ _ _ less = omega arith
 
   pub count-take-suc : (i : ℕ) (es : List (ℕ × Option (Letter P))) (e : ℕ × Option (Letter P)) → slice_get es i ≡ Some e → count test (take (suc i) es) ≡ count test (take i es) + one (test e.1)
   count-take-suc i [] e at = absurd (none-some _ at)
@@ -67,13 +66,12 @@ module _ {P : Type 0} (test : Option (Letter P) → Bool) where
 
   -- a write that changes no test changes no count
   pub count-take-same : (n : ℕ) (es : List (ℕ × Option (Letter P))) (i k : ℕ) (old new : Option (Letter P)) → slice_get es i ≡ Some (k, old) → one (test old) ≡ one (test new) → count test (take n (set_value_at es i new)) ≡ count test (take n es)
-  count-take-same zero es i k old new at same = refl
-  count-take-same (suc n) [] i k old new at same = refl
   count-take-same (suc n) (e ∷ es) zero k old new at same =
       let here : one (test e.1) ≡ one (test old) = ap (λ (y : ℕ × Option (Letter P)). one (test y.1)) (same_Some _ _ at) in
       omega (arith, here, same, counted (e.0, new) (take n es), counted e (take n es))
   count-take-same (suc n) (e ∷ es) (suc i) k old new at same =
       omega (arith, count-take-same n es i k old new at same, counted e (take n (set_value_at es i new)), counted e (take n es))
+  count-take-same _ _ i k old new at same = refl
 
   -- an entry that passes no test adds nothing
   pub count-take-pop : (n : ℕ) (es : List (ℕ × Option (Letter P))) (e : ℕ × Option (Letter P)) → one (test e.1) ≡ 0 → count test (take n es) ≡ count test (take n (es ++ e ∷ []))
@@ -83,10 +81,9 @@ module _ {P : Type 0} (test : Option (Letter P) → Bool) where
 
 -- a write leaves the entries before it
 pub take-set_value : {X : Type 0} (n i : ℕ) (es : List (ℕ × X)) (w : X) → n ≤ i → take n (set_value_at es i w) ≡ take n es
-take-set_value zero i es w below = refl
-take-set_value (suc n) i [] w below = refl
 take-set_value (suc n) zero (e ∷ es) w below = absurd (omega arith)
 take-set_value (suc n) (suc i) (e ∷ es) w below = ap (λ r. e ∷ r) (take-set_value n i es w (omega arith))
+take-set_value _ i _ w below = refl
 
 -- the element behind a list
 slice_get_seam : {X : Type 0} (xs : List X) (x : X) → slice_get (xs ++ x ∷ []) (length xs) ≡ Some x

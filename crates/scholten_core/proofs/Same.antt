@@ -8,19 +8,13 @@ use Rattle.scholten_core.specs.Kept.{hit}
 
 pub same_true : (p q : Parent) → same_parent p q ≡ true → p ≡ q
 same_true Neutral Neutral e = refl
-same_true Neutral Environment e = cc
-same_true Neutral (Node n) e = cc
-same_true Environment Neutral e = cc
 same_true Environment Environment e = refl
-same_true Environment (Node n) e = cc
-same_true (Node m) Neutral e = cc
-same_true (Node m) Environment e = cc
 same_true (Node m) (Node n) e = ap Node (exact_unsigned_eq m n e)
+same_true _ _ e = cc
 
 pub same_parent-self : (p : Parent) → same_parent p p ≡ true
-same_parent-self Neutral = refl
-same_parent-self Environment = refl
 same_parent-self (Node n) = eq-eqb n n refl
+same_parent-self _ = refl
 
 pub same_parent-other : (p q : Parent) → (p ≡ q → ⊥) → same_parent p q ≡ false
 same_parent-other p q apart =

@@ -30,9 +30,8 @@ module _ {X : Type 0} where
 
   -- a value that is written leaves the numbers as they are
   pub keys-set_value : (ls : List (ℕ × X)) (i : ℕ) (w : X) → keys_of (set_value_at ls i w) ≡ keys_of ls
-  keys-set_value [] i w = refl
-  keys-set_value (l ∷ ls) zero w = refl
   keys-set_value (l ∷ ls) (suc i) w = ap (λ ks. l.0 ∷ ks) (keys-set_value ls i w)
+  keys-set_value _ _ w = refl
 
   pub length-set_value : (ls : List (ℕ × X)) (i : ℕ) (w : X) → length (set_value_at ls i w) ≡ length ls
   length-set_value [] i w = refl

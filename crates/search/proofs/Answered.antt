@@ -54,8 +54,7 @@ found_over g (query.Who role) is = cc
 -- while anything is outstanding a search has come to nothing
 unsettled_at : (st : Stage) (g : GraphState) (q : Query) → IsOutstanding st → come_to st g q ≡ Nothing
 unsettled_at (stage.Running c) g q busy = ap (λ (b : Bool). cond b (found g q) Nothing) (ne_eqb (outstanding c) 0 busy)
-unsettled_at stage.Spent g q busy = absurd busy
-unsettled_at stage.Broken g q busy = absurd busy
+unsettled_at _ g q busy = absurd busy
 
 pub unsettled : (s : SearchState) → IsOutstanding s.stage → settled_of s ≡ Nothing
 unfolding settled_of
@@ -103,8 +102,7 @@ answers_at (stage.Running c) g q =
       | inl none ↦ rw (eq-eqb (outstanding c) 0 none) ((λ _. none), (λ _. found_answers g q))
       | inr busy ↦ rw (ne_eqb (outstanding c) 0 busy) ((λ answered. absurd answered), (λ none. absurd (busy none)))
     ]
-answers_at stage.Spent g q = (λ answered. absurd answered, λ completed. absurd completed)
-answers_at stage.Broken g q = (λ answered. absurd answered, λ completed. absurd completed)
+answers_at _ g q = (λ answered. absurd answered, λ completed. absurd completed)
 
 pub answers_as : {s t : SearchState} {result : Status} → s ≡ t → result ≡ status_of (come_to s.stage s.graph s.query) → IsAnswered result ↔ IsCompleted t.stage
 answers_as {s} {t} {result} same is =
@@ -128,8 +126,7 @@ held_some (x ∷ letters) number l is = omega arith
 
 pub held_outstanding : (st : Stage) (number : ℕ) (l : Letter (Load ℕ)) → held_in st number ≡ Some l → IsOutstanding st
 held_outstanding (stage.Running c) number l is = λ none. absurd (omega (arith, none, held_some c.letters number l is))
-held_outstanding stage.Spent number l is = cc
-held_outstanding stage.Broken number l is = cc
+held_outstanding _ number l is = cc
 
 waits_some : (letters : List (ℕ × Letter (Load ℕ))) (place : ℕ) (x : ℕ × Letter (Load ℕ)) → slice_get (filter (λ l. not l.1.held) letters) place ≡ Some x → 0 < length letters
 waits_some [] place x at = cc
@@ -137,8 +134,7 @@ waits_some (y ∷ letters) place x at = omega arith
 
 pub waits_outstanding : (st : Stage) (place : ℕ) (x : ℕ × Letter (Load ℕ)) → slice_get (waiting_in st) place ≡ Some x → IsOutstanding st
 waits_outstanding (stage.Running c) place x at = λ none. absurd (omega (arith, none, waits_some c.letters place x at))
-waits_outstanding stage.Spent place x at = cc
-waits_outstanding stage.Broken place x at = cc
+waits_outstanding _ place x at = cc
 
 pub delivers_outstanding : (old new : Stage) (place : ℕ) → Delivers old new place true → IsOutstanding old
 delivers_outstanding old new place (c, d, ran, runs, below, delivers) =

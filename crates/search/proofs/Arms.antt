@@ -8,7 +8,7 @@ use Rattle.vaults.specs.Journal.{Vault}
 use Rattle.cred_graph.specs.declared.listeners.Port.{Port}
 use Rattle.cred_graph.specs.Graph.{GraphState, IsNode}
 use Rattle.scholten_core.specs.declared.parents.Parent.{Parent}
-use Rattle.scholten_core.specs.declared.parents.Parent.TheVariants.{Neutral, Environment, Node}
+use Rattle.scholten_core.specs.declared.parents.Parent.TheVariants.{Environment, Node}
 use Rattle.search.specs.declared.letters.Load.{Load}
 use Rattle.search.specs.declared.letters.Load.TheVariants as load
 use Rattle.search.specs.declared.findings.Monitor.{Monitor}
@@ -28,18 +28,14 @@ node_in {rows} {asked} {g} {ms} {rest} {from} {to} {l} awaits =
 
 -- the environment starts, and nodes ask and tell
 from_environment : (rows : List Credential) (net : Net) (from : Parent) (to : ℕ) → LetterFits rows net from to load.Start → from ≡ Environment
-from_environment rows net Neutral to fits = absurd fits
 from_environment rows net Environment to fits = refl
-from_environment rows net (Node m) to fits = absurd fits
+from_environment rows net _ to fits = absurd fits
 
 start_of : (rows : List Credential) (net : Net) (from : Parent) (to : ℕ) (l : Load (List ℕ)) → LetterFits rows net from to l → ((m : ℕ) → from ≡ Node m → ⊥) → l ≡ load.Start
 start_of rows net from to load.Start fits never = refl
-start_of rows net Neutral to (load.Ask p) fits never = absurd fits
-start_of rows net Environment to (load.Ask p) fits never = absurd fits
 start_of rows net (Node m) to (load.Ask p) fits never = absurd (never m refl)
-start_of rows net Neutral to (load.Tell p who) fits never = absurd fits
-start_of rows net Environment to (load.Tell p who) fits never = absurd fits
 start_of rows net (Node m) to (load.Tell p who) fits never = absurd (never m refl)
+start_of rows net _ to _ fits never = absurd fits
 
 pub starts : {rows : List Credential} {asked : Role} {g : GraphState} {ms : List Monitor} {rest : List Sent} {from : Parent} {to : ℕ} {l : Load (List ℕ)} → Awaits rows asked g ms rest from to l → ((m : ℕ) → from ≡ Node m → ⊥) → l ≡ load.Start
 starts {rows} {asked} {g} {ms} {rest} {from} {to} {l} awaits never = start_of rows (net_at (progress g ms []) rest to) from to l (awaited_fits awaits) never

@@ -24,9 +24,8 @@ asks_next ws k s mid t e p so_far at ask =
 
 pub take_all : {A : Type 0} (xs : List A) (n : ℕ) → n ≡ length xs → take n xs ≡ xs
 take_all [] zero e = refl
-take_all [] (suc n) e = absurd (omega arith)
-take_all (x ∷ xs) zero e = absurd (omega arith)
 take_all (x ∷ xs) (suc n) e = ap (λ zs. x ∷ zs) (take_all xs n (omega arith))
+take_all _ _ e = absurd (omega arith)
 
 pub asks_all : (ws : List (Expr × Port (List ℕ))) (n : ℕ) (s t : Progress) → n ≡ length ws → AsksEach s (take n ws) t → AsksEach s ws t
 asks_all ws n s t count so_far = subst (λ (vs : List (Expr × Port (List ℕ))). AsksEach s vs t) (take_all ws n count) so_far

@@ -4,6 +4,7 @@ use Rattle.std.specs.List.{Contains, AllZip}
 use Rattle.std.proofs.lemmas.Option.{same_Some}
 use Rattle.std.proofs.lemmas.List.{append-nil, length-append, append_assoc, map-append}
 use Rattle.credential_text.specs.declared.exprs.Expr.{Expr}
+use Rattle.rt0_rules.specs.Asks.{Why, for_body, for_base, for_via, for_part}
 use Rattle.rt0_rules.specs.Letters.{NodeAsk}
 use Rattle.rt0_rules.proofs.Elements.{Contains-none, Contains-first, Contains-later, Contains-cons_cases}
 use Rattle.cred_graph.specs.declared.listeners.Port.{Port}
@@ -24,23 +25,18 @@ pub record IsAskFor (nodes : List Expr) (n : ℕ) (w : Expr × Port (List ℕ)) 
   pub why : a.why ≡ why_of w.1
   pub asked : slice_get nodes a.asked ≡ Some w.0
 
+abbrev port_of : Why → Port (List ℕ)
+port_of for_body = port.Body
+port_of for_base = port.Base
+port_of (for_via b) = port.Via b
+port_of (for_part i) = port.Part i
+
+port_back : (p : Port (List ℕ)) → port_of (why_of p) ≡ p
+port_back port.Body = refl
+port_back _ = refl
+
 port_by_why : (p q : Port (List ℕ)) → why_of p ≡ why_of q → p ≡ q
-port_by_why port.Body port.Body same = refl
-port_by_why port.Body port.Base same = cc
-port_by_why port.Body (port.Via b) same = cc
-port_by_why port.Body (port.Part i) same = cc
-port_by_why port.Base port.Body same = cc
-port_by_why port.Base port.Base same = refl
-port_by_why port.Base (port.Via b) same = cc
-port_by_why port.Base (port.Part i) same = cc
-port_by_why (port.Via a) port.Body same = cc
-port_by_why (port.Via a) port.Base same = cc
-port_by_why (port.Via a) (port.Via b) same = cc
-port_by_why (port.Via a) (port.Part i) same = cc
-port_by_why (port.Part j) port.Body same = cc
-port_by_why (port.Part j) port.Base same = cc
-port_by_why (port.Part j) (port.Via b) same = cc
-port_by_why (port.Part j) (port.Part i) same = cc
+port_by_why p q same = sym (port_back p) ∙ ap port_of same ∙ port_back q
 
 -- an ask is for one expression on one port
 pub ask_for_one : (nodes : List Expr) (n : ℕ) (v w : Expr × Port (List ℕ)) (a : NodeAsk) → IsAskFor nodes n v a → IsAskFor nodes n w a → v ≡ w
@@ -52,10 +48,9 @@ ask_for_one nodes n v w a is also =
 ask_for_stays : (nodes more : List Expr) (n : ℕ) (ws : List (Expr × Port (List ℕ))) (asks : List NodeAsk) →
     AllZip (IsAskFor nodes n) ws asks → AllZip (IsAskFor (nodes ++ more) n) ws asks
 ask_for_stays nodes more n [] [] all = tt
-ask_for_stays nodes more n [] (a ∷ asks) all = absurd all
-ask_for_stays nodes more n (w ∷ ws) [] all = absurd all
 ask_for_stays nodes more n (w ∷ ws) (a ∷ asks) all =
     (record { asker = all.0.asker; why = all.0.why; asked = slice_get_stays nodes more a.asked w.0 all.0.asked }, ask_for_stays nodes more n ws asks all.1)
+ask_for_stays nodes more n _ _ all = absurd all
 
 -- what asking these expressions in turn does
 pub record AskedFor (n : ℕ) (s t : Progress) (ws : List (Expr × Port (List ℕ))) : Type 0 where
@@ -134,18 +129,16 @@ asked_each n s t (w ∷ ws) (mid, first, rest) =
   where
     zipped_append : {X Y : Type 0} (R : X → Y → Type 0) (xs zs : List X) (ys ws : List Y) → AllZip R xs ys → AllZip R zs ws → AllZip R (xs ++ zs) (ys ++ ws)
     zipped_append R [] zs [] ws all more = more
-    zipped_append R [] zs (y ∷ ys) ws all more = absurd all
-    zipped_append R (x ∷ xs) zs [] ws all more = absurd all
     zipped_append R (x ∷ xs) zs (y ∷ ys) ws all more = (all.0, zipped_append R xs zs ys ws all.1 more)
+    zipped_append R _ zs _ ws all more = absurd all
 
 -- an ask among them is for one of the expressions
 pub own_ask : {nodes : List Expr} (n : ℕ) (ws : List (Expr × Port (List ℕ))) (asks : List NodeAsk) → AllZip (IsAskFor nodes n) ws asks → (a : NodeAsk) → Contains asks a →
     (w : Expr × Port (List ℕ)) × Contains ws w × IsAskFor nodes n w a
 own_ask n [] [] all a has = absurd (Contains-none a has)
-own_ask n [] (b ∷ asks) all a has = absurd all
-own_ask n (w ∷ ws) [] all a has = absurd all
 own_ask n (w ∷ ws) (b ∷ asks) all a has =
     elim (Contains-cons_cases b asks a has) [
       | inl same ↦ (w, Contains-first w ws, subst (IsAskFor _ n w) same all.0)
       | inr later ↦ let (v, among, is) = own_ask n ws asks all.1 a later in (v, Contains-later w ws v among, is)
     ]
+own_ask n _ _ all a has = absurd all

@@ -167,12 +167,13 @@ module _ (view : List Vault) (asked : Role) (work : ℕ) (g : GraphState) (ms : 
           subst (AreLetters t.graph.nodes) (sym letters_are)
           (All-append says left (numbered (Node l.to) (c.sent + 1) outs) (All-filter other says c.letters (more_letters g.nodes t.graph.nodes c.letters more kept.loads)) (loads_numbered t.graph.nodes l.to (c.sent + 1) outs are))
 
-      pub done_kept : AreLoads t.graph.nodes outs → c.sent + length outs ≤ work → KeptBy (credentials view) asked work t.graph t.monitors d
-      done_kept are within = record {
+      pub done_kept : AreLoads t.graph.nodes outs → c.sent + length outs ≤ work → IsTallied t.graph t.monitors d → KeptBy (credentials view) asked work t.graph t.monitors d
+      done_kept are within tallied = record {
         steady = subst (λ (pending : List Sent). IsSteady (credentials view) asked (record { graph = t.graph; monitors = t.monitors; pending = pending })) (sym after_is) steady_after;
         starts = λ start. absurd (started_before (start.0, subst (λ (xs : List Sent). Contains xs (start_to start.0)) after_is start.1));
         within = subst (λ (k : ℕ). k ≤ work) (sym finishes.sent) within;
         loads = loads_after are;
+        tallied = tallied;
       }
 
 -- a letter that is held or waits again says what it said
@@ -202,6 +203,11 @@ kept_as {rows} {asked} {work} {g} {ms} {c} {d} kept sent count number loads = re
   starts = λ start. count ∙ kept.starts (start.0, subst (λ (xs : List Sent). Contains xs (start_to start.0)) sent start.1);
   within = subst (λ (k : ℕ). k ≤ work) (sym number) kept.within;
   loads = loads;
+  tallied = record {
+    first = λ start. number ∙ kept.tallied.first (start.0, subst (λ (xs : List Sent). Contains xs (start_to start.0)) sent start.1);
+    counted = subst (λ (n : ℕ). IsCounted (net_of g ms d) n) (sym number)
+        (subst (λ (pending : List Sent). IsCounted (record { graph = g; monitors = ms; pending = pending }) c.sent) (sym sent) kept.tallied.counted);
+  };
 }
 
 pub marked_kept : {rows : List Credential} {asked : Role} {work : ℕ} {g : GraphState} {ms : List Monitor} {c : Computation (Load ℕ)} → KeptBy rows asked work g ms c → (number : ℕ) (held : Bool) → KeptBy rows asked work g ms (marked c number held)
@@ -211,17 +217,3 @@ marked_kept {g = g} {c = c} kept number held =
 pub signalled_kept : {rows : List Credential} {asked : Role} {work : ℕ} {g : GraphState} {ms : List Monitor} {c d : Computation (Load ℕ)} → KeptBy rows asked work g ms c → (place : ℕ) → DeliversSignal c place d → KeptBy rows asked work g ms d
 signalled_kept {g = g} kept place delivers =
     kept_as kept (ap (sent_of g.nodes) delivers.letters) (ap length delivers.letters) delivers.sent (subst (AreLetters g.nodes) (sym delivers.letters) kept.loads)
-
--- and so is the count
-tallied_as : {g : GraphState} {ms : List Monitor} {c d : Computation (Load ℕ)} → IsTallied g ms c → sent_of g.nodes d.letters ≡ sent_of g.nodes c.letters → d.sent ≡ c.sent → IsTallied g ms d
-tallied_as {g} {ms} {c} {d} tallied sent number = record {
-  first = λ start. number ∙ tallied.first (start.0, subst (λ (xs : List Sent). Contains xs (start_to start.0)) sent start.1);
-  counted = subst (λ (n : ℕ). IsCounted (net_of g ms d) n) (sym number)
-      (subst (λ (pending : List Sent). IsCounted (record { graph = g; monitors = ms; pending = pending }) c.sent) (sym sent) tallied.counted);
-}
-
-pub marked_tallied : {g : GraphState} {ms : List Monitor} {c : Computation (Load ℕ)} → IsTallied g ms c → (number : ℕ) (held : Bool) → IsTallied g ms (marked c number held)
-marked_tallied {g = g} {c = c} tallied number held = tallied_as tallied (sent_marked g.nodes number held c.letters) refl
-
-pub signalled_tallied : {g : GraphState} {ms : List Monitor} {c d : Computation (Load ℕ)} → IsTallied g ms c → (place : ℕ) → DeliversSignal c place d → IsTallied g ms d
-signalled_tallied {g = g} tallied place delivers = tallied_as tallied (ap (sent_of g.nodes) delivers.letters) delivers.sent

@@ -46,8 +46,6 @@ AreDistinct-moved (x ∷ xs) ys zs y distinct =
 pub AreDistinct-zipped : {X Y : Type 0} (R : X → Y → Type 0) → ((x z : X) (y : Y) → R x y → R z y → x ≡ z) → (xs : List X) (ys : List Y) →
     AllZip R xs ys → AreDistinct xs → AreDistinct ys
 AreDistinct-zipped R apart [] [] all distinct = tt
-AreDistinct-zipped R apart [] (y ∷ ys) all distinct = absurd all
-AreDistinct-zipped R apart (x ∷ xs) [] all distinct = absurd all
 AreDistinct-zipped R apart (x ∷ xs) (y ∷ ys) all distinct =
     let from = zip_found R xs ys all.1 in (
       (λ has. let (z, among, related) = from y has in distinct.0 (subst (Contains xs) (apart z x y related all.0) among)),
@@ -63,6 +61,7 @@ AreDistinct-zipped R apart (x ∷ xs) (y ∷ ys) all distinct =
           | inl same ↦ (x, Contains-first x xs, subst (R x) same all.0)
           | inr later ↦ let (w, among, related) = zip_found R xs ys all.1 y later in (w, Contains-later x xs w among, related)
         ]
+AreDistinct-zipped R apart _ _ all distinct = absurd all
 
 module _ {may_ask : NodeAsk → Type 0} {members : ℕ → List (List ℕ)} {listeners pending : List NodeAsk} {sent : ℕ} (counted : IsCountedBy may_ask members listeners pending sent) where
   -- whoever might ask may still

@@ -93,8 +93,7 @@ question_on s m t one other = record {
 
 waiting_runs : (st : Stage) (x : ℕ × Letter (Load ℕ)) → slice_get (waiting_in st) 0 ≡ Some x → (c : Computation (Load ℕ)) × (st ≡ stage.Running c)
 waiting_runs (stage.Running c) x at = (c, refl)
-waiting_runs stage.Spent x at = cc
-waiting_runs stage.Broken x at = cc
+waiting_runs _ x at = cc
 
 -- a step of a drive
 abbrev pub Made : SearchState → SearchState → Type 0
@@ -165,8 +164,7 @@ driven_settles s t (IsDriven.letter {middle} {number} {need} {told} before made)
 
 pub none_held_on : (old new : Stage) → HoldsAsBefore old new → NoneHeld old → NoneHeld new
 none_held_on old (stage.Running c) holds none n = holds c refl n ∙ none n
-none_held_on old stage.Spent holds none n = refl
-none_held_on old stage.Broken holds none n = refl
+none_held_on old _ holds none n = refl
 
 -- where there is neither a first signal nor a first letter nothing moves
 no_first : {X : Type 0} (xs : List X) → slice_get xs 0 ≡ None → xs ≡ []

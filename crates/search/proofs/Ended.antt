@@ -60,7 +60,7 @@ module _ (s : SearchState) (c : Computation (Load ℕ)) (runs : s.stage ≡ stag
   completed_work : WorkIs (rows_of s) (asked_role s.query) c.sent
   completed_work =
       let kept_now : KeptBy (rows_of s) (asked_role s.query) s.work s.graph s.monitors c = kept.rules c runs in
-      sent_is_work kept_now.steady (no_letters (rows_of s) (asked_role s.query) s.work s.graph s.monitors c kept_now none) c.sent (kept.count c runs).counted
+      sent_is_work kept_now.steady (no_letters (rows_of s) (asked_role s.query) s.work s.graph s.monitors c kept_now none) c.sent kept_now.tallied.counted
 
   completed_ends : IsEnding s.work (rows_of s) s.query (found s.graph s.query)
   completed_ends = answers c.sent completed_work (kept.rules c runs).within (true_answer s.query refl)
@@ -125,8 +125,7 @@ listed_at : (s : SearchState) (st : Stage) (names : List (List ℕ)) → s.stage
 listed_at s (stage.Running c) names runs kept done are role asks =
     let same : in_order name_order (members_of s.graph 0) ≡ names = members_are_one (rows_of s) (asked_role s.query) (in_order name_order (members_of s.graph 0)) names (in_order_members s c runs kept done) are in
     ap (λ (b : Bool). cond b (found s.graph s.query) Nothing) (eq-eqb (outstanding c) 0 done) ∙ ap (found s.graph) asks ∙ ap Members same
-listed_at s stage.Spent names spent kept done are role asks = absurd done
-listed_at s stage.Broken names broken kept done are role asks = absurd done
+listed_at s _ names _ kept done are role asks = absurd done
 
 pub listed_settled : (s : SearchState) (names : List (List ℕ)) → IsKept s → IsCompleted s.stage → AreMembers (rows_of s) (asked_role s.query) names →
     (role : Role) → s.query ≡ query.Who role → settled_of s ≡ Members names

@@ -25,11 +25,10 @@ use Rattle.search.specs.Net.{load_at, outs_at, sent_of}
 use Rattle.search.specs.Answers.{Progress, progress, Answers}
 use Rattle.search.specs.Finish.{IsSpanFor, need_of, right_hint, rows_for, span_in, IsRightly, Receives, Finishes}
 use Rattle.search.specs.Stage.{HoldsLetter, letter_in, held_in, if_held, stage_marked, Sends}
-use Rattle.search.specs.Search.{SearchState, KeptBy, IsTallied, IsKept, asked_role, rows_of}
-use Rattle.search.proofs.Arms.{node_in}
+use Rattle.search.specs.Search.{SearchState, KeptBy, IsKept, asked_role, rows_of}
 use Rattle.search.proofs.Grow.{one_expr}
-use Rattle.search.proofs.Numbered.{AreLoads, HasMore, answers_more}
-use Rattle.search.proofs.Receive.{receipt}
+use Rattle.search.proofs.Numbered.{AreLoads, HasMore, prefix_more}
+use Rattle.search.proofs.Receive.{Receipt, receipt}
 use Rattle.search.proofs.Closing.{done_kept}
 use Rattle.search.proofs.TalliedFinish.{done_tallied, work_exceeds}
 use Rattle.search.proofs.Searching.{held_awaits}
@@ -62,9 +61,7 @@ rightly_needed s number h e at held = record {
 pub finishes_rightly : (s t : SearchState) (number : ℕ) (hint : Hint) (l : Letter (Load ℕ)) → IsRightly s number hint l → (result : Finished) → Receives s t number l result → Finishes s t number hint result
 finishes_rightly s t number hint l right finished.NotHeld receives = absurd receives
 finishes_rightly s t number hint l right finished.BadHint receives = absurd receives
-finishes_rightly s t number hint l right finished.Done receives = (l, right, receives)
-finishes_rightly s t number hint l right finished.Spent receives = (l, right, receives)
-finishes_rightly s t number hint l right finished.Broken receives = (l, right, receives)
+finishes_rightly s t number hint l right _ receives = (l, right, receives)
 
 -- a hint that is right says where the rows stand of the role that it is for
 pub span_for : (view : List Vault) (e : Expr) (l : Load ℕ) (hint : Hint) → hint ≡ right_hint view (need_of e l) → IsSpanFor view e (span_in hint)
@@ -104,16 +101,14 @@ sent_from old new work number outs finished.Done (c, d, ran, running, within, fi
     record { before = c; ran = ran; within = within; finishes = subst (FinishesLetter c number outs) (same_running d e (sym running ∙ now)) finishes }
 sent_from old new work number outs finished.Spent (c, ran, over, is) e now = absurd (subst runs (sym now ∙ is) tt)
 sent_from old new work number outs finished.Broken (c, ran, within, is) e now = absurd (subst runs (sym now ∙ is) tt)
-sent_from old new work number outs finished.BadHint sent e now = absurd sent
-sent_from old new work number outs finished.NotHeld sent e now = absurd sent
+sent_from old new work number outs _ sent e now = absurd sent
 
 -- where a search is spent after a letter was finished, what was sent with the answers is above the limit
 spent_from : (old new : Stage) (work number : ℕ) (outs : List (ℕ × Load ℕ)) (result : Finished) → Sends old new work number outs result → new ≡ stage.Spent → (c : Computation (Load ℕ)) × (old ≡ stage.Running c) × (work < c.sent + length outs)
 spent_from old new work number outs finished.Done (c, d, ran, running, within, finishes) now = absurd (subst is_spent (sym now ∙ running) tt)
 spent_from old new work number outs finished.Spent (c, ran, over, is) now = (c, ran, over)
 spent_from old new work number outs finished.Broken (c, ran, within, is) now = absurd (subst is_spent (sym now ∙ is) tt)
-spent_from old new work number outs finished.BadHint sent now = absurd sent
-spent_from old new work number outs finished.NotHeld sent now = absurd sent
+spent_from old new work number outs _ sent now = absurd sent
 
 module _ (s : SearchState) (number : ℕ) (h : Held (Load ℕ)) (held : HoldsLetter s.stage number h)
     (g : GraphState) (ms : List Monitor) (outs : List (ℕ × Load ℕ)) (row : Answers s.snapshot.vaults (progress s.graph s.monitors []) (progress g ms (outs_at g.nodes outs)) h.from h.to (load_at s.graph.nodes h.load)) where
@@ -133,8 +128,7 @@ module _ (s : SearchState) (number : ℕ) (h : Held (Load ℕ)) (held : HoldsLet
   sent_receives st finished.Spent (c, ran, over, is) =
       (record { before = c; reached = reached; ran = ran; row = row; over = omega (arith, over, same_count) }, is, same_question s g ms st)
   sent_receives st finished.Broken (c, ran, within, is) = (is, same_question s g ms st)
-  sent_receives st finished.BadHint sent = absurd sent
-  sent_receives st finished.NotHeld sent = absurd sent
+  sent_receives st _ sent = absurd sent
 
   module _ (kept : IsKept s) (ordered : IsOrdered s.snapshot.vaults) (are : AreLoads g.nodes outs) where
     abbrev asked : Role
@@ -143,10 +137,12 @@ module _ (s : SearchState) (number : ℕ) (h : Held (Load ℕ)) (held : HoldsLet
     abbrev kept_now : KeptBy (rows_of s) asked s.work s.graph s.monitors held.running
     kept_now = kept.rules held.running held.runs
 
+    abbrev paid : Receipt s.snapshot.vaults asked (sent_of s.graph.nodes held.running.letters) ordered (progress s.graph s.monitors []) reached h.from h.to (load_at s.graph.nodes h.load)
+    paid = receipt s.snapshot.vaults asked (sent_of s.graph.nodes held.running.letters) ordered s.graph s.monitors reached h.from h.to (load_at s.graph.nodes h.load) (held_awaits s kept.rules number h held) row
+
     -- nodes were added alone
     more : HasMore s.graph.nodes g.nodes
-    more =
-        answers_more s.snapshot.vaults (progress s.graph s.monitors []) reached h.from h.to (load_at s.graph.nodes h.load) (node_in (held_awaits s kept.rules number h held)) row
+    more = prefix_more s.graph.nodes g.nodes paid.grows.nodes
 
     as_held : (c : Computation (Load ℕ)) → s.stage ≡ stage.Running c → c ≡ held.running
     as_held c ran = sym (same_running held.running c (sym held.runs ∙ ran))
@@ -155,23 +151,17 @@ module _ (s : SearchState) (number : ℕ) (h : Held (Load ℕ)) (held : HoldsLet
     done_rules c d ran within finishes =
         let finishes' : FinishesLetter held.running number outs d = subst (λ (x : Computation (Load ℕ)). FinishesLetter x number outs d) (as_held c ran) finishes in
         let within' : held.running.sent + length outs ≤ s.work = subst (λ (x : Computation (Load ℕ)). x.sent + length outs ≤ s.work) (as_held c ran) within in
-        let paid = receipt s.snapshot.vaults asked (sent_of s.graph.nodes held.running.letters) ordered s.graph s.monitors reached h.from h.to (load_at s.graph.nodes h.load) (held_awaits s kept.rules number h held) row in
         done_kept s.snapshot.vaults asked s.work s.graph s.monitors held.running number (letter_in h) reached ordered kept_now held.by_number held.letter paid d outs finishes' refl more are within'
-
-    done_count : (c d : Computation (Load ℕ)) → s.stage ≡ stage.Running c → FinishesLetter c number outs d → IsTallied g ms d
-    done_count c d ran finishes =
-        let finishes' : FinishesLetter held.running number outs d = subst (λ (x : Computation (Load ℕ)). FinishesLetter x number outs d) (as_held c ran) finishes in
-        done_tallied s.snapshot.vaults asked s.work s.graph s.monitors held.running number (letter_in h) reached ordered kept_now held.by_number held.letter held.numbers (kept.count held.running held.runs) row d outs finishes' refl more
+        (done_tallied s.snapshot.vaults asked s.work s.graph s.monitors held.running number (letter_in h) reached ordered kept_now held.by_number held.letter held.numbers kept_now.tallied row d outs finishes' refl more)
 
     spent_limit : (c : Computation (Load ℕ)) → s.stage ≡ stage.Running c → s.work < c.sent + length outs → WorkExceeds (rows_of s) asked s.work
     spent_limit c ran over =
         let over' : s.work < held.running.sent + length outs = subst (λ (x : Computation (Load ℕ)). s.work < x.sent + length outs) (as_held c ran) over in
-        work_exceeds s.snapshot.vaults asked s.work s.graph s.monitors held.running number (letter_in h) reached ordered kept_now held.by_number held.letter held.numbers (kept.count held.running held.runs) row (omega (arith, over', same_count))
+        work_exceeds s.snapshot.vaults asked s.work s.graph s.monitors held.running number (letter_in h) reached ordered kept_now held.by_number held.letter held.numbers kept_now.tallied row (omega (arith, over', same_count))
 
     pub sent_kept : (st : Stage) (result : Finished) → Sends s.stage st s.work number outs result → IsKept (after st)
     sent_kept st result sends = record {
       rules = λ e now. let ran = sent_from s.stage st s.work number outs result sends e now in done_rules ran.before e ran.ran ran.within ran.finishes;
-      count = λ e now. let ran = sent_from s.stage st s.work number outs result sends e now in done_count ran.before e ran.ran ran.finishes;
       limit = λ now. let ran = spent_from s.stage st s.work number outs result sends now in spent_limit ran.0 ran.1 ran.2;
     }
 

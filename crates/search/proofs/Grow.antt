@@ -16,7 +16,7 @@ use Rattle.cred_graph.specs.declared.solutions.Reason.TheVariants as reason
 use Rattle.cred_graph.specs.declared.solutions.Solution.{Solution}
 use Rattle.cred_graph.specs.Graph.{GraphState, IsNode, IsSolution, Known, Listens, IsGraph}
 use Rattle.scholten_core.specs.declared.parents.Parent.{Parent}
-use Rattle.scholten_core.specs.declared.parents.Parent.TheVariants.{Neutral, Environment, Node}
+use Rattle.scholten_core.specs.declared.parents.Parent.TheVariants.{Environment, Node}
 use Rattle.search.specs.declared.letters.Load.{Load}
 use Rattle.search.specs.declared.letters.Load.TheVariants as load
 use Rattle.search.specs.Net.{Net, Sent, HasListener, IsPendingStart, IsBaseTold, IsPartTold, IsOpen, IsAsked, IsTaken}
@@ -50,22 +50,15 @@ ask_fits_stays grows m p n (e, f, asker, asked, asks) =
     (e, f, grows.nodes m e asker, grows.nodes n f asked, asks_more (known_stays grows) asks)
 
 pub letter_fits_stays : (rows : List Credential) {old new : Net} → Grows old new → (from : Parent) (to : ℕ) (l : Load (List ℕ)) → LetterFits rows old from to l → LetterFits rows new from to l
-letter_fits_stays rows grows Neutral to load.Start fits = absurd fits
-letter_fits_stays rows grows Neutral to (load.Ask p) fits = absurd fits
-letter_fits_stays rows grows Neutral to (load.Tell p who) fits = absurd fits
 letter_fits_stays rows grows Environment to load.Start fits = fits
-letter_fits_stays rows grows Environment to (load.Ask p) fits = absurd fits
-letter_fits_stays rows grows Environment to (load.Tell p who) fits = absurd fits
-letter_fits_stays rows grows (Node m) to load.Start fits = absurd fits
 letter_fits_stays rows grows (Node m) to (load.Ask p) fits = ask_fits_stays grows m p to fits
 letter_fits_stays rows grows (Node m) to (load.Tell p who) (listens, solution) =
     (grows.listeners m (record { asker = to; port = p }) listens, solution_stays grows m who solution)
+letter_fits_stays rows grows _ to _ fits = absurd fits
 
 pub by_row_stays : (rows : List Credential) {old new : Net} → Grows old new → (n : ℕ) (why : Reason ℕ (List ℕ)) → ByRow rows old.graph n why → ByRow rows new.graph n why
-by_row_stays rows grows n reason.Leaf h = h
 by_row_stays rows grows n (reason.Body m) (c, among, head, body) = (c, among, grows.nodes n _ head, grows.nodes m _ body)
-by_row_stays rows grows n (reason.Via b) h = h
-by_row_stays rows grows n reason.Parts h = h
+by_row_stays rows grows n _ h = h
 
 pub solution_fits_stays : {rows : List Credential} {old new : Net} → Grows old new → (s : Solution) → SolutionFits rows old.graph s → SolutionFits rows new.graph s
 solution_fits_stays {rows = rows} grows s fits =
@@ -84,10 +77,9 @@ open_stays grows n (inl (m, p, listens)) = inl (m, p, grows.listeners n (record 
 open_stays grows n (inr (root, gone)) = inr (root, λ start. gone (grows.start start))
 
 pub taken_stays : {old new : Net} → Grows old new → (m : ℕ) (p : Port (List ℕ)) (who : List ℕ) → IsTaken old m p who → IsTaken new m p who
-taken_stays grows m port.Body who taken = solution_stays grows m who taken
 taken_stays grows m port.Base who taken = grows.bases m who taken
-taken_stays grows m (port.Via b) who taken = solution_stays grows m who taken
 taken_stays grows m (port.Part i) who taken = grows.parts m i who taken
+taken_stays grows m _ who taken = solution_stays grows m who taken
 
 pub opened_stays : (rows : List Credential) {old new : Net} → Grows old new → (m : ℕ) (e : Expr) → OpenedPaid rows old m e → OpenedPaid rows new m e
 opened_stays rows grows m (Ent d) paid = solution_stays grows m d paid
@@ -98,23 +90,21 @@ opened_stays rows grows m (Meet parts) paid = λ i p at. asked_stays grows m (po
 -- of two lists in step, what stands beside an element
 pub zip_left : {A B : Type 0} (R : A → B → Type 0) (xs : List A) (ys : List B) → AllZip R xs ys → (k : ℕ) (y : B) → slice_get ys k ≡ Some y → (x : A) × (slice_get xs k ≡ Some x) × R x y
 zip_left R [] [] all k y at = cc
-zip_left R [] (z ∷ ys) all k y at = absurd all
-zip_left R (x ∷ xs) [] all k y at = absurd all
 zip_left R (x ∷ xs) (z ∷ ys) all zero y at = (x, refl_some, subst (R x) (same_Some z y at) all.0)
   where
     refl_some : Some x ≡ Some x
     refl_some = cc
 zip_left R (x ∷ xs) (z ∷ ys) all (suc k) y at = zip_left R xs ys all.1 k y at
+zip_left R _ _ all k y at = absurd all
 
 pub zip_right : {A B : Type 0} (R : A → B → Type 0) (xs : List A) (ys : List B) → AllZip R xs ys → (k : ℕ) (x : A) → slice_get xs k ≡ Some x → (y : B) × (slice_get ys k ≡ Some y) × R x y
 zip_right R [] [] all k x at = cc
-zip_right R [] (z ∷ ys) all k x at = absurd all
-zip_right R (z ∷ xs) [] all k x at = absurd all
 zip_right R (z ∷ xs) (y ∷ ys) all zero x at = (y, refl_some, subst (λ w. R w y) (same_Some z x at) all.0)
   where
     refl_some : Some y ≡ Some y
     refl_some = cc
 zip_right R (z ∷ xs) (y ∷ ys) all (suc k) x at = zip_right R xs ys all.1 k x at
+zip_right R _ _ all k x at = absurd all
 
 -- a node has one expression
 pub one_expr : (g : GraphState) (n : ℕ) (e f : Expr) → IsNode g n e → IsNode g n f → e ≡ f

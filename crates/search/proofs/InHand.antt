@@ -74,8 +74,7 @@ module _ (c d : Computation (Load ℕ)) (number : ℕ) (outs : List (ℕ × Load
 
 pub marked_other : (number n : ℕ) (held : Bool) (st : Stage) → (number == n) ≡ false → held_in (stage_marked number held st) n ≡ held_in st n
 marked_other number n held (stage.Running c) other = ap if_held (lookup-changed_other number n other (λ (l : Letter (Load ℕ)). record l { held = held }) c.letters)
-marked_other number n held stage.Spent other = refl
-marked_other number n held stage.Broken other = refl
+marked_other number n held _ other = refl
 
 pub signalled_holds : (old new : Stage) (c d : Computation (Load ℕ)) (place n : ℕ) → old ≡ stage.Running c → new ≡ stage.Running d → DeliversSignal c place d → held_in new n ≡ held_in old n
 signalled_holds old new c d place n ran runs delivers =

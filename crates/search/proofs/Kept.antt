@@ -8,7 +8,7 @@ use Rattle.std.proofs.lemmas.Bool.{false≢true}
 use Rattle.names.specs.declared.roles.Role.{Role}
 use Rattle.credential_text.specs.declared.credentials.Credential.{Credential}
 use Rattle.credential_text.specs.declared.exprs.Expr.{Expr}
-use Rattle.credential_text.specs.declared.exprs.Expr.TheVariants.{Ent, Rol, Link, Meet}
+use Rattle.credential_text.specs.declared.exprs.Expr.TheVariants.{Link, Meet}
 use Rattle.credential_text.specs.Expr.{HasPartsInRange}
 use Rattle.rt0_rules.specs.Asks.{Demanded}
 use Rattle.rt0_rules.proofs.Elements.{Contains-none}
@@ -35,26 +35,20 @@ steady_grown grows steady rightly paid = record {
 
 -- a new monitor was told nothing
 pub new_bases_none : (e : Expr) (x : List (List ℕ)) (b : List ℕ) → new_monitor e ≡ monitor.Link x → Contains x b → ⊥
-new_bases_none (Ent d) x b e among = cc
-new_bases_none (Rol r) x b e among = cc
 new_bases_none (Link r t) x b e among =
     let same : [] ≡ x = cc in
     Contains-none b (subst (λ (y : List (List ℕ)). Contains y b) (sym same) among)
-new_bases_none (Meet parts) x b e among = cc
+new_bases_none _ x b e among = cc
 
 pub new_parts_none : (e : Expr) (x : MeetTold) (i : ℕ) (who : List ℕ) → new_monitor e ≡ monitor.Meet x → HasTold x i who → ⊥
-new_parts_none (Ent d) x i who e told = cc
-new_parts_none (Rol r) x i who e told = cc
-new_parts_none (Link r t) x i who e told = cc
 new_parts_none (Meet parts) x i who e told =
     let same : record { parts = length parts; told = set.empty } ≡ x = cc in
     false≢true (sym (set.contains-empty told_order (i, who)) ∙ subst (λ (y : MeetTold). HasTold y i who) (sym same) told)
+new_parts_none _ x i who e told = cc
 
 pub new_monitor_fits : (e : Expr) → MonitorFits e (new_monitor e)
-new_monitor_fits (Ent d) = tt
-new_monitor_fits (Rol r) = tt
-new_monitor_fits (Link r t) = tt
 new_monitor_fits (Meet parts) = cc
+new_monitor_fits _ = tt
 
 -- a node of a demanded expression is added, with its monitor
 module _ (rows : List Credential) (asked : Role) (g : GraphState) (ms : List Monitor) (pending : List Sent) (e : Expr) where

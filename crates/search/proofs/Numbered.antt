@@ -1,8 +1,9 @@
 -- What the numbers in letters stand for goes on while nodes are added.
-use Rattle.std.proofs.Common.{ℕ, ◌<◌, ◌≤◌, All, get_or, length, arith, ◌≡◌, ◌∙◌, ◌⊎◌, map, Bool, true, false, Contains, refl, sym, subst, ap, List, [], ◌∷◌, ◌++◌, if◌then◌else◌, inl, inr, append-nil, append_assoc}
+use Rattle.std.proofs.Common.{slice_get, suc, None, Some, ℕ, ◌<◌, ◌≤◌, All, get_or, length, arith, ◌≡◌, ◌∙◌, ◌⊎◌, map, Bool, true, false, Contains, refl, sym, subst, ap, List, [], ◌∷◌, ◌++◌, if◌then◌else◌, inl, inr, append-nil}
+use Rattle.std.proofs.lemmas.Option.{same_Some}
 use Rattle.std.proofs.lemmas.List.Elements.{All-cons, All-head, All-nil, All-push, All-tail, All-weaker, Contains-push_cases}
 use Rattle.std.proofs.lemmas.Option.{slice_get-get_or}
-use Rattle.std.proofs.lemmas.List.{map-append, length-append, length-map, length-set}
+use Rattle.std.proofs.lemmas.List.{map-append, length-append, length-set}
 use Rattle.credential_text.specs.declared.exprs.Expr.{Expr}
 use Rattle.credential_text.specs.declared.exprs.Expr.TheVariants.{Ent, Rol, Link, Meet}
 use Rattle.credential_text.specs.declared.credentials.Credential.{Credential}
@@ -11,9 +12,6 @@ use Rattle.cred_graph.specs.declared.listeners.Listening.{Listening}
 use Rattle.cred_graph.specs.declared.listeners.Port.{Port}
 use Rattle.cred_graph.specs.declared.listeners.Port.TheVariants as port
 use Rattle.cred_graph.specs.declared.solutions.Reason.{Reason}
-use Rattle.cred_graph.specs.declared.solutions.Reason.TheVariants as reason
-use Rattle.scholten_core.specs.declared.parents.Parent.{Parent}
-use Rattle.scholten_core.specs.declared.parents.Parent.TheVariants.{Neutral, Environment, Node}
 use Rattle.cred_graph.specs.Graph.{GraphState, IsGraph, IsNode, NodeGiven, ListenerGiven, SolutionGiven}
 use Rattle.cred_graph.specs.NodeLists.{list_at, IsOnce}
 use Rattle.cred_graph.specs.declared.solutions.Solution.{Solution}
@@ -31,7 +29,8 @@ use Rattle.search.specs.declared.letters.Load.TheVariants as load
 use Rattle.search.specs.declared.findings.Monitor.TheVariants as monitor
 use Rattle.search.specs.declared.findings.NumberedMonitor.{NumberedMonitor}
 use Rattle.search.specs.declared.findings.NumberedMonitor.TheVariants as numbered_monitor
-use Rattle.search.specs.Answers.{Progress, Answers, AsksFor, AsksEach, HearsAsk, IsOpenAt, Opens, Solves, TakesIn, own_rows, new_monitor, row_asks, part_asks}
+use Rattle.search.proofs.Asked.{asked_each}
+use Rattle.search.specs.Answers.{Progress, AsksFor, HearsAsk, IsOpenAt, Opens, Solves, own_rows, new_monitor, row_asks, part_asks}
 use Rattle.search.specs.Net.{IsLoad, in_words, load_at, outs_at, sent_of}
 use Rattle.search.specs.Numbered.{AreNumbered, IsMonitor, monitor_at, progress_at}
 
@@ -127,27 +126,20 @@ HasMore old new = (more : List Expr) × (new ≡ old ++ more)
 same_nodes : (s t : Progress) → t.graph.nodes ≡ s.graph.nodes → HasMore s.graph.nodes t.graph.nodes
 same_nodes s t same = ([], same ∙ sym (append-nil s.graph.nodes))
 
-then_more : (a b c : List Expr) → HasMore a b → HasMore b c → HasMore a c
-then_more a b c (x, ab) (y, bc) = (x ++ y, bc ∙ ap (λ l. l ++ y) ab ∙ append_assoc a x y)
-
-ask_more : (s t : Progress) (e : Expr) (p : Port (List ℕ)) → AsksFor s t e p → HasMore s.graph.nodes t.graph.nodes
-ask_more s t e p (to, false, (node, graph), outs, monitors) = same_nodes s t (ap (λ (g : GraphState). g.nodes) graph)
-ask_more s t e p (to, true, (absent, range, is, graph), outs, monitors) = (e ∷ [], ap (λ (g : GraphState). g.nodes) graph)
-
-asks_more : (ws : List (Expr × Port (List ℕ))) (s t : Progress) → AsksEach s ws t → HasMore s.graph.nodes t.graph.nodes
-asks_more [] s t same = same_nodes s t (ap (λ (u : Progress). u.graph.nodes) same)
-asks_more (w ∷ ws) s t (mid, first, later) =
-    then_more s.graph.nodes mid.graph.nodes t.graph.nodes (ask_more s mid w.0 w.1 first) (asks_more ws mid t later)
-
-solves_more : (s t : Progress) (n : ℕ) (who : List ℕ) (why : Reason ℕ (List ℕ)) → Solves s t n who why → HasMore s.graph.nodes t.graph.nodes
-solves_more s t n who why (false, (there, graph), monitors, outs) = same_nodes s t (ap (λ (g : GraphState). g.nodes) graph)
-solves_more s t n who why (true, (absent, graph), monitors, outs) = same_nodes s t (ap (λ (g : GraphState). g.nodes) graph)
-
 pub opens_more : (rows : List Credential) (s t : Progress) (n : ℕ) (e : Expr) → Opens rows s t n e → HasMore s.graph.nodes t.graph.nodes
-opens_more rows s t n (Ent d) solves = solves_more s t n d reason.Leaf solves
-opens_more rows s t n (Rol r) step = asks_more (row_asks rows) s t step
-opens_more rows s t n (Link r name) step = asks_more ((Rol r, port.Base) ∷ []) s t step
-opens_more rows s t n (Meet parts) step = asks_more (part_asks 0 parts) s t step
+opens_more rows s t n (Ent d) (false, given, monitors, outs) = same_nodes s t (ap (λ (g : GraphState). g.nodes) given.1)
+opens_more rows s t n (Ent d) (true, given, monitors, outs) = same_nodes s t (ap (λ (g : GraphState). g.nodes) given.1)
+opens_more rows s t n (Rol r) step = let asked = asked_each n s t (row_asks rows) step in (asked.more, asked.nodes)
+opens_more rows s t n (Link r name) step = let asked = asked_each n s t ((Rol r, port.Base) ∷ []) step in (asked.more, asked.nodes)
+opens_more rows s t n (Meet parts) step = let asked = asked_each n s t (part_asks 0 parts) step in (asked.more, asked.nodes)
+
+-- where each node that stood there stands still
+pub prefix_more : (old new : List Expr) → ((n : ℕ) (e : Expr) → slice_get old n ≡ Some e → slice_get new n ≡ Some e) → HasMore old new
+prefix_more [] new stays = (new, refl)
+prefix_more (x ∷ old) [] stays = let clash : None ≡ Some x = stays 0 x refl in cc
+prefix_more (x ∷ old) (y ∷ new) stays =
+    let (more, is) = prefix_more old new (λ n e at. stays (suc n) e at) in
+    (more, λ i. same_Some y x (stays 0 x refl) i ∷ is i)
 
 pub numbered_given : (g h : GraphState) (e : Expr) (n : ℕ) (b : Bool) (ms : List NumberedMonitor) (outs : List (ℕ × Load ℕ)) → NodeGiven g h e n b → IsGraph h → AreNumbered g ms outs → AreNumbered h ms outs
 numbered_given g h e n true ms outs (absent, range, is, with) graph are =
@@ -257,25 +249,9 @@ more_port old new p (more, with) port = subst (λ (nodes : List Expr). IsPort no
 pub more_port_same : (old new : List Expr) (p : Port ℕ) → HasMore old new → IsPort old p → port_at new p ≡ port_at old p
 more_port_same old new p (more, with) port = ap (λ (nodes : List Expr). port_at nodes p) with ∙ port_stays old more p port
 
-pub outs_count : (nodes : List Expr) (outs : List (ℕ × Load ℕ)) → length (outs_at nodes outs) ≡ length outs
-outs_count nodes outs = length-map {B = ℕ × Load (List ℕ)} outs (λ o. (o.0, load_at nodes o.1))
-
 -- the environment's letter says no number
 pub start_says : (nodes : List Expr) (root : ℕ) → AreLetters nodes (started root load.Start).letters
 start_says nodes root = All-cons (λ (l : ℕ × Letter (Load ℕ)). IsLoad nodes l.1.load) _ [] tt (All-nil (λ (l : ℕ × Letter (Load ℕ)). IsLoad nodes l.1.load))
-
-hears_more : (s t : Progress) (n m : ℕ) (p : Port (List ℕ)) → HearsAsk s t n m p → HasMore s.graph.nodes t.graph.nodes
-hears_more s t n m p (false, (there, graph), monitors, outs) = same_nodes s t (ap (λ (g : GraphState). g.nodes) graph)
-hears_more s t n m p (true, (absent, graph), monitors, outs) = same_nodes s t (ap (λ (g : GraphState). g.nodes) graph)
-
-takes_more : (s t : Progress) (n m : ℕ) (p : Port (List ℕ)) (who : List ℕ) → TakesIn s t n m p who → HasMore s.graph.nodes t.graph.nodes
-takes_more s t n m port.Body who solves = solves_more s t n who (reason.Body m) solves
-takes_more s t n m port.Base who (r, name, node, (new, ms, heard, inl (known, same))) = same_nodes s t (ap (λ (u : Progress). u.graph.nodes) same)
-takes_more s t n m port.Base who (r, name, node, (new, ms, heard, inr (fresh, asks))) =
-    ask_more (record s { monitors = ms }) t (Rol (record { owner = who; name = name })) (port.Via who) asks
-takes_more s t n m (port.Via b) who solves = solves_more s t n who (reason.Via b) solves
-takes_more s t n m (port.Part i) who (last, ms, heard, inl (others, same)) = same_nodes s t (ap (λ (u : Progress). u.graph.nodes) same)
-takes_more s t n m (port.Part i) who (last, ms, heard, inr (all, solves)) = solves_more (record s { monitors = ms }) t n who reason.Parts solves
 
 -- the node was open before, or it opens
 abbrev pub IsOpened : List Vault → Progress → Progress → ℕ → Type 0
@@ -286,21 +262,6 @@ opened_more view s mid n there (inl (was, same)) = same_nodes s mid (ap (λ (u :
 opened_more view s mid n there (inr (first, opens)) =
     let e : Expr = get_or s.graph.nodes n (Ent []) in
     opens_more (own_rows view e) s mid n e (opens e (slice_get-get_or s.graph.nodes n (Ent []) there))
-
--- to answer a letter adds nodes alone
-pub answers_more : (view : List Vault) (s t : Progress) (from : Parent) (to : ℕ) (l : Load (List ℕ)) → to < length s.graph.nodes → Answers view s t from to l → HasMore s.graph.nodes t.graph.nodes
-answers_more view s t Neutral to load.Start there answers = absurd answers
-answers_more view s t Neutral to (load.Ask p) there answers = absurd answers
-answers_more view s t Neutral to (load.Tell p who) there answers = absurd answers
-answers_more view s t Environment to load.Start there opens =
-    let e : Expr = get_or s.graph.nodes to (Ent []) in
-    opens_more (own_rows view e) s t to e (opens e (slice_get-get_or s.graph.nodes to (Ent []) there))
-answers_more view s t Environment to (load.Ask p) there answers = absurd answers
-answers_more view s t Environment to (load.Tell p who) there answers = absurd answers
-answers_more view s t (Node m) to load.Start there answers = absurd answers
-answers_more view s t (Node m) to (load.Ask p) there (mid, opened, hears) =
-    then_more s.graph.nodes mid.graph.nodes t.graph.nodes (opened_more view s mid to there opened) (hears_more mid t to m p hears)
-answers_more view s t (Node m) to (load.Tell p who) there takes = takes_more s t to m p who takes
 
 -- where nodes are added letters say what they said
 pub more_letters : (old new : List Expr) (letters : List (ℕ × Letter (Load ℕ))) → HasMore old new → AreLetters old letters → AreLetters new letters

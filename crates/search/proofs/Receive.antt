@@ -6,13 +6,13 @@ use Rattle.rt0_rules.proofs.Elements.{Contains-none}
 use Rattle.names.specs.declared.roles.Role.{Role}
 use Rattle.credential_text.specs.declared.credentials.Credential.{Credential}
 use Rattle.credential_text.specs.declared.exprs.Expr.{Expr}
-use Rattle.credential_text.specs.declared.exprs.Expr.TheVariants.{Ent, Rol, Link, Meet}
+use Rattle.credential_text.specs.declared.exprs.Expr.TheVariants.{Rol}
 use Rattle.vaults.specs.Journal.{Vault, credentials}
 use Rattle.snapshots.specs.Snapshot.{IsOrdered}
 use Rattle.cred_graph.specs.declared.listeners.Port.{Port}
 use Rattle.cred_graph.specs.Graph.{GraphState, IsNode, listeners_of}
 use Rattle.scholten_core.specs.declared.parents.Parent.{Parent}
-use Rattle.scholten_core.specs.declared.parents.Parent.TheVariants.{Neutral, Environment, Node}
+use Rattle.scholten_core.specs.declared.parents.Parent.TheVariants.{Environment, Node}
 use Rattle.search.specs.declared.letters.Load.{Load}
 use Rattle.search.specs.declared.letters.Load.TheVariants as load
 use Rattle.search.specs.declared.findings.Monitor.{Monitor}
@@ -25,10 +25,8 @@ use Rattle.search.proofs.Rows.{role_rows_are}
 use Rattle.search.proofs.Settled.{IsReceived}
 
 pub own_rows_are : (view : List Vault) (e : Expr) → IsOrdered view → RowsFor (credentials view) e (own_rows view e)
-own_rows_are view (Ent d) ordered = tt
 own_rows_are view (Rol r) ordered = role_rows_are view r ordered
-own_rows_are view (Link r n) ordered = tt
-own_rows_are view (Meet parts) ordered = tt
+own_rows_are view _ ordered = tt
 
 -- the letter that is received fits
 pub awaited_fits : {rows : List Credential} {asked : Role} {g : GraphState} {ms : List Monitor} {rest : List Sent} {from : Parent} {to : ℕ} {l : Load (List ℕ)} →
@@ -38,17 +36,12 @@ awaited_fits {rest = rest} {from = from} {to = to} {l = l} awaits =
 
 -- a receiver is a node, and so is a sender that is one
 pub receiver_in : (rows : List Credential) (asked : Role) (net : Net) → IsRight rows asked net → (from : Parent) (to : ℕ) (l : Load (List ℕ)) → LetterFits rows net from to l → to < length net.graph.nodes
-receiver_in rows asked net right Neutral to load.Start fits = absurd fits
-receiver_in rows asked net right Neutral to (load.Ask p) fits = absurd fits
-receiver_in rows asked net right Neutral to (load.Tell p who) fits = absurd fits
 receiver_in rows asked net right Environment to load.Start fits = subst (λ (n : ℕ). n < length net.graph.nodes) (sym fits) (slice_get_within net.graph.nodes 0 (Rol asked) right.found.root_node)
-receiver_in rows asked net right Environment to (load.Ask p) fits = absurd fits
-receiver_in rows asked net right Environment to (load.Tell p who) fits = absurd fits
-receiver_in rows asked net right (Node m) to load.Start fits = absurd fits
 receiver_in rows asked net right (Node m) to (load.Ask p) fits = slice_get_within net.graph.nodes to fits.1 fits.3
 receiver_in rows asked net right (Node m) to (load.Tell p who) fits =
     let asks = right.listeners_fit m to p fits.0 in
     slice_get_within net.graph.nodes to asks.0 asks.2
+receiver_in rows asked net right _ to _ fits = absurd fits
 
 pub told_by_letter : (rows : List Credential) (asked : Role) (g : GraphState) (ms : List Monitor) (rest : List Sent) (m to : ℕ) (p : Port (List ℕ)) (who : List ℕ) →
     (awaits : Awaits rows asked g ms rest (Node m) to (load.Tell p who)) → IsTold rows asked rest to m (progress g ms []) awaits.steady p who
@@ -110,12 +103,7 @@ module _ (view : List Vault) (asked : Role) (rest : List Sent) (ordered : IsOrde
       record { grows = done.moves.grows; steady = done.moves.steady; received = done.taken }
 
   pub receipt : (g : GraphState) (ms : List Monitor) (t : Progress) (from : Parent) (to : ℕ) (l : Load (List ℕ)) → Awaits (credentials view) asked g ms rest from to l → Answers view (progress g ms []) t from to l → Receipt (progress g ms []) t from to l
-  receipt g ms t Neutral to load.Start awaits answers = absurd answers
-  receipt g ms t Neutral to (load.Ask p) awaits answers = absurd answers
-  receipt g ms t Neutral to (load.Tell p who) awaits answers = absurd answers
   receipt g ms t Environment to load.Start awaits answers = opens_start g ms t to awaits answers
-  receipt g ms t Environment to (load.Ask p) awaits answers = absurd answers
-  receipt g ms t Environment to (load.Tell p who) awaits answers = absurd answers
-  receipt g ms t (Node m) to load.Start awaits answers = absurd answers
   receipt g ms t (Node m) to (load.Ask p) awaits answers = hears_letter g ms t m to p awaits answers
   receipt g ms t (Node m) to (load.Tell p who) awaits answers = takes_letter g ms t m to p who awaits answers
+  receipt g ms t _ to _ awaits answers = absurd answers

@@ -22,9 +22,8 @@ use Rattle.snapshots.proofs.Views.{sorted_rows_of}
 use Rattle.search.proofs.Steps.{AreRowsOf}
 
 is_eq_Equal : (o : Ordering) → is_eq o ≡ true → o ≡ Equal
-is_eq_Equal Less e = cc
 is_eq_Equal Equal e = refl
-is_eq_Equal Greater e = cc
+is_eq_Equal _ e = cc
 
 in_credentials : (vs : List Vault) (v : Vault) (c : Credential) → Contains vs v → Contains v.rows c → Contains (credentials vs) c
 in_credentials [] v c there among = absurd (Contains-none v there)

@@ -33,10 +33,10 @@ use Rattle.search.specs.declared.stages.Stage.TheVariants as stage
 use Rattle.search.specs.Net.{IsLoad, Net, Sent, in_words, load_at, sent_of, IsPendingBetween, IsOpen, LetterFits, IsRight, IsPaid, IsJustified, OwesRules}
 use Rattle.search.specs.Answers.{Awaits}
 use Rattle.search.specs.Stage.{HoldsLetter, Holds, letter_in, stage_marked, waiting_in, Delivers}
-use Rattle.search.specs.Search.{SearchState, KeptBy, IsTallied, IsKept, IsCompleted, asked_role, rows_of, net_of}
+use Rattle.search.specs.Search.{SearchState, KeptBy, IsKept, IsCompleted, asked_role, rows_of, net_of}
 use Rattle.search.proofs.Owed.{owes_rules}
 use Rattle.search.proofs.Solve.{solution_of_member, member_of_solution}
-use Rattle.search.proofs.Closing.{awaits_letter, marked_kept, signalled_kept, marked_tallied, signalled_tallied}
+use Rattle.search.proofs.Closing.{awaits_letter, marked_kept, signalled_kept}
 use Rattle.search.proofs.WorkOf.{opened_counted}
 use Rattle.search.proofs.Tallied.{MayAsk}
 use Rattle.search.proofs.Receive.{receiver_in}
@@ -45,9 +45,6 @@ use Rattle.search.proofs.Numbered.{start_says}
 
 abbrev pub KeepsRules : SearchState → Type 0
 KeepsRules s = (c : Computation (Load ℕ)) → s.stage ≡ stage.Running c → KeptBy (rows_of s) (asked_role s.query) s.work s.graph s.monitors c
-
-abbrev KeepsCount : SearchState → Type 0
-KeepsCount s = (c : Computation (Load ℕ)) → s.stage ≡ stage.Running c → IsTallied s.graph s.monitors c
 
 abbrev KeepsLimit : SearchState → Type 0
 KeepsLimit s = s.stage ≡ stage.Spent → WorkExceeds (rows_of s) (asked_role s.query) s.work
@@ -115,6 +112,10 @@ module _ (rows : List Credential) (role : Role) where
     starts = λ start. refl;
     within = omega arith;
     loads = start_says (Rol role ∷ []) 0;
+    tallied = record {
+      first = λ start. refl;
+      counted = opened_counted (MayAsk (net_of (first_graph role) (monitor.Plain ∷ []) (started 0 load.Start))) (first_graph role) start refl refl;
+    };
   }
 
 opened_rules : (s : SearchState) → s.graph ≡ first_graph (asked_role s.query) → s.monitors ≡ monitor.Plain ∷ [] → s.stage ≡ stage.Running (started 0 load.Start) → 0 < s.work → IsGraph s.graph → KeepsRules s
@@ -125,14 +126,6 @@ opened_rules s g_is ms_is stage_is some graph c runs =
     (subst (λ (ms : List Monitor). KeptBy (rows_of s) (asked_role s.query) s.work s.graph ms (started 0 load.Start)) (sym ms_is)
     (subst (λ (g : GraphState). KeptBy (rows_of s) (asked_role s.query) s.work g (monitor.Plain ∷ []) (started 0 load.Start)) (sym g_is) kept))
 
--- one letter was sent
-opened_count : (s : SearchState) → s.graph ≡ first_graph (asked_role s.query) → s.stage ≡ stage.Running (started 0 load.Start) → KeepsCount s
-opened_count s g_is stage_is c runs =
-    subst (IsTallied s.graph s.monitors) (same_running (started 0 load.Start) c (sym stage_is ∙ runs)) (record {
-      first = λ start. refl;
-      counted = opened_counted (MayAsk (net_of s.graph s.monitors (started 0 load.Start))) s.graph (record { from = Environment; to = 0; load = load.Start }) (ap (λ (g : GraphState). g.listeners) g_is) refl;
-    })
-
 -- a search that runs or is broken isn't spent
 runs_unspent : (st : Stage) (c : Computation (Load ℕ)) → st ≡ stage.Running c → st ≡ stage.Spent → ⊥
 runs_unspent st c runs spent = let clash : stage.Running c ≡ stage.Spent = sym runs ∙ spent in cc
@@ -140,14 +133,12 @@ runs_unspent st c runs spent = let clash : stage.Running c ≡ stage.Spent = sym
 pub opened_kept : (s : SearchState) → s.graph ≡ first_graph (asked_role s.query) → s.monitors ≡ monitor.Plain ∷ [] → s.stage ≡ stage.Running (started 0 load.Start) → 0 < s.work → IsGraph s.graph → IsKept s
 opened_kept s g_is ms_is stage_is some graph = record {
   rules = opened_rules s g_is ms_is stage_is some graph;
-  count = opened_count s g_is stage_is;
   limit = λ spent. absurd (runs_unspent s.stage (started 0 load.Start) stage_is spent);
 }
 
 pub broken_kept : (s : SearchState) → s.stage ≡ stage.Broken → IsKept s
 broken_kept s broken = record {
   rules = λ c runs. absurd (apart c (sym broken ∙ runs));
-  count = λ c runs. absurd (apart c (sym broken ∙ runs));
   limit = λ spent. absurd (other (sym broken ∙ spent));
 }
   where
@@ -197,34 +188,25 @@ module _ (rows : List Credential) (role : Role) (work : ℕ) (g : GraphState) (m
 
 pub status_exact : (s : SearchState) (st : Stage) → s.stage ≡ st → KeepsRules s → IsCompleted st → IsExact (rows_of s) (asked_role s.query) (Known s.graph)
 status_exact s (stage.Running c) runs kept completed = completed_exact (rows_of s) (asked_role s.query) s.work s.graph s.monitors c (kept c runs) completed
-status_exact s stage.Spent runs kept completed = absurd completed
-status_exact s stage.Broken runs kept completed = absurd completed
+status_exact s _ runs kept completed = absurd completed
 
 -- a letter that is held or waits again
 marked_from : (number : ℕ) (held : Bool) (st : Stage) (d : Computation (Load ℕ)) → stage_marked number held st ≡ stage.Running d → (c : Computation (Load ℕ)) × (st ≡ stage.Running c) × (marked c number held ≡ d)
 marked_from number held (stage.Running c) d e = (c, refl, same_running (marked c number held) d e)
-marked_from number held stage.Spent d e = cc
-marked_from number held stage.Broken d e = cc
+marked_from number held _ d e = cc
 
 marked_rules : (s : SearchState) (st : Stage) (number : ℕ) (held : Bool) → KeepsRules s → st ≡ stage_marked number held s.stage → KeepsRules (record s { stage = st })
 marked_rules s st number held kept is d now =
     let from = marked_from number held s.stage d (sym is ∙ now) in
     subst (KeptBy (rows_of s) (asked_role s.query) s.work s.graph s.monitors) from.2 (marked_kept (kept from.0 from.1) number held)
 
-marked_count : (s : SearchState) (st : Stage) (number : ℕ) (held : Bool) → KeepsCount s → st ≡ stage_marked number held s.stage → KeepsCount (record s { stage = st })
-marked_count s st number held count is d now =
-    let from = marked_from number held s.stage d (sym is ∙ now) in
-    subst (IsTallied s.graph s.monitors) from.2 (marked_tallied (count from.0 from.1) number held)
-
 spent_before : (number : ℕ) (held : Bool) (st : Stage) → stage_marked number held st ≡ stage.Spent → st ≡ stage.Spent
-spent_before number held (stage.Running c) e = cc
 spent_before number held stage.Spent e = refl
-spent_before number held stage.Broken e = cc
+spent_before number held _ e = cc
 
 pub marked_stage_kept : (s : SearchState) (st : Stage) (number : ℕ) (held : Bool) → IsKept s → st ≡ stage_marked number held s.stage → IsKept (record s { stage = st })
 marked_stage_kept s st number held kept is = record {
   rules = marked_rules s st number held kept.rules is;
-  count = marked_count s st number held kept.count is;
   limit = λ spent. kept.limit (spent_before number held s.stage (sym is ∙ spent));
 }
 
@@ -237,11 +219,6 @@ delivered_rules s st place true kept (c, d, ran, runs, below, delivers) e now =
     subst (KeptBy (rows_of s) (asked_role s.query) s.work s.graph s.monitors) (same_running d e (sym runs ∙ now)) (signalled_kept (kept c ran) place delivers)
 delivered_rules s st place false kept (past, same) e now = kept e (sym same ∙ now)
 
-delivered_count : (s : SearchState) (st : Stage) (place : ℕ) (b : Bool) → KeepsCount s → Delivers s.stage st place b → KeepsCount (record s { stage = st })
-delivered_count s st place true count (c, d, ran, runs, below, delivers) e now =
-    subst (IsTallied s.graph s.monitors) (same_running d e (sym runs ∙ now)) (signalled_tallied (count c ran) place delivers)
-delivered_count s st place false count (past, same) e now = count e (sym same ∙ now)
-
 delivered_limit : (s : SearchState) (st : Stage) (place : ℕ) (b : Bool) → KeepsLimit s → Delivers s.stage st place b → KeepsLimit (record s { stage = st })
 delivered_limit s st place true limit (c, d, ran, runs, below, delivers) spent = absurd (runs_unspent st d runs spent)
 delivered_limit s st place false limit (past, same) spent = limit (sym same ∙ spent)
@@ -249,7 +226,6 @@ delivered_limit s st place false limit (past, same) spent = limit (sym same ∙ 
 pub delivered_kept : (s : SearchState) (st : Stage) (place : ℕ) (b : Bool) → IsKept s → Delivers s.stage st place b → IsKept (record s { stage = st })
 delivered_kept s st place b kept delivers = record {
   rules = delivered_rules s st place b kept.rules delivers;
-  count = delivered_count s st place b kept.count delivers;
   limit = delivered_limit s st place b kept.limit delivers;
 }
 
@@ -260,8 +236,7 @@ waiting_to s (stage.Running c) place number l kept runs at =
     let among = (filtered (λ (x : ℕ × Letter (Load ℕ)). not x.1.held) c.letters (number, l) (Contains-at_place (waiting c.letters) place (number, l) at)).0 in
     let sent = Contains-map (λ (x : ℕ × Letter (Load ℕ)). in_words s.graph.nodes x.1) c.letters (number, l) among in
     receiver_in (rows_of s) (asked_role s.query) (net_of s.graph s.monitors c) kept_now.steady.right l.from l.to (load_at s.graph.nodes l.load) (kept_now.steady.right.letters_fit (in_words s.graph.nodes l) sent)
-waiting_to s stage.Spent place number l kept runs at = absurd (none-some (number, l) at)
-waiting_to s stage.Broken place number l kept runs at = absurd (none-some (number, l) at)
+waiting_to s _ place number l kept runs at = absurd (none-some (number, l) at)
 
 pub taken_to : (s : SearchState) (st : Stage) (place number : ℕ) (l : Letter (Load ℕ)) → KeepsRules s → Holds s.stage st place number l → l.to < length s.graph.nodes
 taken_to s st place number l kept holds = waiting_to s s.stage place number l kept refl holds.waited
@@ -269,8 +244,7 @@ taken_to s st place number l kept holds = waiting_to s s.stage place number l ke
 -- a completed search has a node for its role, whose solutions are its members
 pub completed_root : (s : SearchState) (st : Stage) → s.stage ≡ st → KeepsRules s → IsCompleted st → 0 < length s.graph.nodes
 completed_root s (stage.Running c) runs kept completed = slice_get_within s.graph.nodes 0 (Rol (asked_role s.query)) (kept c runs).steady.right.found.root_node
-completed_root s stage.Spent runs kept completed = absurd completed
-completed_root s stage.Broken runs kept completed = absurd completed
+completed_root s _ runs kept completed = absurd completed
 
 pub completed_members : (s : SearchState) (st : Stage) → s.stage ≡ st → KeepsRules s → IsCompleted st → (d : List ℕ) → Contains (members_of s.graph 0) d ↔ IsMember (rows_of s) d (asked_role s.query)
 completed_members s (stage.Running c) runs kept completed d = (

@@ -8,7 +8,7 @@ use Rattle.cred_graph.specs.declared.listeners.Port.{Port}
 use Rattle.cred_graph.specs.declared.listeners.Port.TheVariants as port
 use Rattle.cred_graph.specs.Graph.{GraphState, IsNode}
 use Rattle.scholten_core.specs.declared.parents.Parent.{Parent}
-use Rattle.scholten_core.specs.declared.parents.Parent.TheVariants.{Neutral, Environment, Node}
+use Rattle.scholten_core.specs.declared.parents.Parent.TheVariants.{Environment, Node}
 use Rattle.search.specs.declared.letters.Load.{Load}
 use Rattle.search.specs.declared.letters.Load.TheVariants as load
 use Rattle.search.specs.declared.findings.Monitor.{Monitor}
@@ -32,14 +32,12 @@ pub record TakesOut (before after : List Sent) (x : Sent) : Type 0 where
 
 cases_start : (l : Load (List ℕ)) → (l ≡ load.Start) ⊎ (l ≡ load.Start → ⊥)
 cases_start load.Start = inl cc
-cases_start (load.Ask p) = inr (λ e. cc)
-cases_start (load.Tell p who) = inr (λ e. cc)
+cases_start _ = inr (λ e. cc)
 
 -- the environment's letter opened the asked role
 opened_by_start : (rows : List Credential) (net : Net) (from : Parent) (to : ℕ) → IsReceived rows net from to load.Start → (e : Expr) → IsNode net.graph 0 e → OpenedPaid rows net 0 e
-opened_by_start rows net Neutral to h = absurd h
 opened_by_start rows net Environment to h = h
-opened_by_start rows net (Node m) to h = absurd h
+opened_by_start rows net _ to h = absurd h
 
 module _ (rows : List Credential) (asked : Role) (g : GraphState) (ms : List Monitor) (before after : List Sent) (x : Sent) (takes : TakesOut before after x) (received : IsReceived rows (with_pending g ms before) x.from x.to x.load) where
   abbrev old : Net

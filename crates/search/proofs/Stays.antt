@@ -14,17 +14,14 @@ no_letters c done = nil_from_length c.letters (omega (arith, done))
 -- no letter waits
 pub waits_none : (st : Stage) → IsCompleted st → waiting_in st ≡ []
 waits_none (stage.Running c) done = ap (λ ls. waiting_in (stage.Running (record c { letters = ls }))) (no_letters c done)
-waits_none stage.Spent done = refl
-waits_none stage.Broken done = refl
+waits_none _ done = refl
 
 -- no signal is under way
 pub signals_none : (st : Stage) → IsCompleted st → signals_in st ≡ []
 signals_none (stage.Running c) done = nil_from_length c.signals (omega (arith, done))
-signals_none stage.Spent done = refl
-signals_none stage.Broken done = refl
+signals_none _ done = refl
 
 -- no letter is held
 pub held_none : (st : Stage) → IsCompleted st → (number : ℕ) → held_in st number ≡ None
 held_none (stage.Running c) done number = ap (λ ls. held_in (stage.Running (record c { letters = ls })) number) (no_letters c done)
-held_none stage.Spent done number = refl
-held_none stage.Broken done number = refl
+held_none _ done number = refl

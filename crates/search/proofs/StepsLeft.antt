@@ -20,8 +20,7 @@ steps_left work stage.Broken = 0
 
 pub marked_left : (work number : ℕ) (held : Bool) (st : Stage) → steps_left work (stage_marked number held st) ≡ steps_left work st
 marked_left work number held (stage.Running c) = omega (arith, length-map c.letters (mark number held))
-marked_left work number held stage.Spent = refl
-marked_left work number held stage.Broken = refl
+marked_left work number held _ = refl
 
 -- who holds a letter may finish it
 found : (o : Option (Letter (Load ℕ))) (l : Letter (Load ℕ)) → if_held o ≡ Some l → (x : Letter (Load ℕ)) × (o ≡ Some x)
@@ -32,8 +31,7 @@ pub held_left : (work number : ℕ) (l : Letter (Load ℕ)) (st : Stage) → hel
 held_left work number l (stage.Running c) is =
     let there = found (letter_of c number) l is in
     omega (arith, rest_shorter number c.letters there.0 there.1)
-held_left work number l stage.Spent is = cc
-held_left work number l stage.Broken is = cc
+held_left work number l _ is = cc
 
 length-numbered : (from : Parent) (k : ℕ) (outs : List (ℕ × Load ℕ)) → length (numbered from k outs) ≡ length outs
 length-numbered from k [] = refl

@@ -146,14 +146,12 @@ module _ (rows : List Credential) (asked : Role) (rest : List Sent) (node m : �
 
   -- the monitor of a linked role, and of an intersection
   link_at : (mon : Monitor) (r : Role) (n : List ℕ) → slice_get s.monitors node ≡ Some mon → MonitorFits (Link r n) mon → (x : List (List ℕ)) × (slice_get s.monitors node ≡ Some (monitor.Link x))
-  link_at monitor.Plain r n at fits = absurd fits
   link_at (monitor.Link x) r n at fits = (x, at)
-  link_at (monitor.Meet x) r n at fits = absurd fits
+  link_at _ r n at fits = absurd fits
 
   meet_at : (mon : Monitor) (parts : List Part) → slice_get s.monitors node ≡ Some mon → MonitorFits (Meet parts) mon → (x : MeetTold) × (slice_get s.monitors node ≡ Some (monitor.Meet x)) × (x.parts ≡ length parts)
-  meet_at monitor.Plain parts at fits = absurd fits
-  meet_at (monitor.Link x) parts at fits = absurd fits
   meet_at (monitor.Meet x) parts at fits = (x, at, fits)
+  meet_at _ parts at fits = absurd fits
 
   same_parts : (p q : List Part) → Meet p ≡ Meet q → p ≡ q
   same_parts p q e = cc

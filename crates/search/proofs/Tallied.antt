@@ -6,7 +6,7 @@ use Rattle.std.proofs.lemmas.List.Elements.{Contains-append_left, Contains-appen
 use Rattle.names.specs.declared.roles.Role.{Role}
 use Rattle.credential_text.specs.declared.exprs.Expr.{Expr}
 use Rattle.credential_text.specs.declared.exprs.Expr.TheVariants.{Ent, Rol, Link, Meet}
-use Rattle.rt0_rules.specs.Asks.{Why, for_body, for_base, for_via, for_part}
+use Rattle.rt0_rules.specs.Asks.{Why, for_via}
 use Rattle.rt0_rules.specs.Letters.{NodeAsk}
 use Rattle.rt0_rules.proofs.Elements.{Contains-none, Contains-first}
 use Rattle.vaults.specs.Journal.{Vault, credentials}
@@ -16,7 +16,7 @@ use Rattle.cred_graph.specs.declared.listeners.Port.TheVariants as port
 use Rattle.cred_graph.specs.declared.listeners.Listening.{Listening}
 use Rattle.cred_graph.specs.Graph.{GraphState, IsNode, Listens, members_of}
 use Rattle.scholten_core.specs.declared.parents.Parent.{Parent}
-use Rattle.scholten_core.specs.declared.parents.Parent.TheVariants.{Neutral, Environment, Node}
+use Rattle.scholten_core.specs.declared.parents.Parent.TheVariants.{Environment, Node}
 use Rattle.search.specs.declared.letters.Load.{Load}
 use Rattle.search.specs.declared.letters.Load.TheVariants as load
 use Rattle.search.specs.declared.findings.Monitor.{Monitor}
@@ -38,31 +38,23 @@ MayAsk net a = MayAskFor net a.asker a.why
 
 -- a node that asks for itself is open, and an open one may
 own_opens : (net : Net) (m : ℕ) (why : Why) → IsOwn why → MayAskFor net m why → IsOpen net m
-own_opens net m for_body own may = may
-own_opens net m for_base own may = may
 own_opens net m (for_via b) own may = absurd own
-own_opens net m (for_part i) own may = may
+own_opens net m _ own may = may
 
 open_asks : (net : Net) (m : ℕ) (why : Why) → IsOwn why → IsOpen net m → MayAskFor net m why
-open_asks net m for_body own opened = opened
-open_asks net m for_base own opened = opened
 open_asks net m (for_via b) own opened = absurd own
-open_asks net m (for_part i) own opened = opened
+open_asks net m _ own opened = opened
 
 -- who was told of a member of its base may ask on its behalf
 told_asks : (net : Net) (m : ℕ) (p : Port (List ℕ)) (who : List ℕ) (why : Why) → IsTaken net m p who → AsksOnceTold p who why → MayAskFor net m why
-told_asks net m port.Body who why taken once = absurd once
 told_asks net m port.Base who why taken once = subst (MayAskFor net m) (sym once) taken
-told_asks net m (port.Via b) who why taken once = absurd once
-told_asks net m (port.Part i) who why taken once = absurd once
+told_asks net m _ who why taken once = absurd once
 
 -- whoever might ask may still, where what was open is open and who was told is told
 may_ask_on : (old new : Net) → ((m : ℕ) → IsOpen old m → IsOpen new m) → ((m : ℕ) (b : List ℕ) → IsBaseTold old m b → IsBaseTold new m b) →
     (m : ℕ) (why : Why) → MayAskFor old m why → MayAskFor new m why
-may_ask_on old new opens tells m for_body may = opens m may
-may_ask_on old new opens tells m for_base may = opens m may
 may_ask_on old new opens tells m (for_via b) may = tells m b may
-may_ask_on old new opens tells m (for_part i) may = opens m may
+may_ask_on old new opens tells m _ may = opens m may
 
 same_link : (x y : List (List ℕ)) → monitor.Link x ≡ monitor.Link y → x ≡ y
 same_link x y e = cc
@@ -192,13 +184,8 @@ module _ (view : List Vault) (asked : Role) (ordered : IsOrdered view) (g : Grap
       Receipt view asked (with (record { from = from; to = to; load = l })) ordered s t from to l →
       (IsPendingStart (record { graph = g; monitors = ms; pending = with (record { from = from; to = to; load = l }) }) → sent ≡ 1) →
       Counted (with (record { from = from; to = to; load = l })) → Answers view s t from to l → IsCounted new (sent + length t.outs)
-  receipt_counted Neutral load.Start awaits receipt first counted answers = absurd answers
-  receipt_counted Neutral (load.Ask p) awaits receipt first counted answers = absurd answers
-  receipt_counted Neutral (load.Tell p who) awaits receipt first counted answers = absurd answers
   receipt_counted Environment load.Start awaits receipt first counted answers =
       start_counted awaits receipt.grows (first (to, Contains-append_right before (start ∷ after) start (Contains-first start after))) counted answers
-  receipt_counted Environment (load.Ask p) awaits receipt first counted answers = absurd answers
-  receipt_counted Environment (load.Tell p who) awaits receipt first counted answers = absurd answers
-  receipt_counted (Node m) load.Start awaits receipt first counted answers = absurd answers
   receipt_counted (Node m) (load.Ask p) awaits receipt first counted answers = ask_counted m p awaits receipt counted answers
   receipt_counted (Node m) (load.Tell p who) awaits receipt first counted answers = tell_counted m p who receipt counted answers
+  receipt_counted _ _ awaits receipt first counted answers = absurd answers

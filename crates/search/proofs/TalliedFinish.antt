@@ -21,7 +21,7 @@ use Rattle.search.specs.declared.findings.Monitor.{Monitor}
 use Rattle.search.specs.Net.{Sent, IsPendingStart, in_words, load_at, outs_at, sent_of, sent_by}
 use Rattle.search.specs.Search.{IsCounted, KeptBy, IsTallied, net_of}
 use Rattle.search.specs.Answers.{Progress, progress, net_at, Answers, Awaits}
-use Rattle.search.proofs.Receive.{receipt}
+use Rattle.search.proofs.Receive.{Receipt, receipt}
 use Rattle.search.proofs.Numbered.{HasMore}
 use Rattle.search.proofs.Closing.{awaits_letter, still, started_before, steady_after, after_is}
 use Rattle.search.proofs.Tallied.{receipt_counted}
@@ -91,9 +91,11 @@ module _ (view : List Vault) (asked : Role) (work : ℕ) (g : GraphState) (ms : 
       (subst (λ (rest : List Sent). IsPendingStart (record { graph = g; monitors = ms; pending = rest }) → c.sent ≡ 1) all_are tallied.first)
       (subst (λ (rest : List Sent). IsCounted (record { graph = g; monitors = ms; pending = rest }) c.sent) all_are tallied.counted) row)
 
+  abbrev paid : Receipt view asked (sent_of g.nodes c.letters) ordered (progress g ms []) t l.from l.to (load_at g.nodes l.load)
+  paid = receipt view asked (sent_of g.nodes c.letters) ordered g ms t l.from l.to (load_at g.nodes l.load) (awaits_letter kept by number l is) row
+
   pub done_tallied : (d : Computation (Load ℕ)) (outs : List (ℕ × Load ℕ)) → FinishesLetter c number outs d → outs_at t.graph.nodes outs ≡ t.outs → HasMore g.nodes t.graph.nodes → IsTallied t.graph t.monitors d
   done_tallied d outs finishes says more =
-      let paid = receipt view asked (sent_of g.nodes c.letters) ordered g ms t l.from l.to (load_at g.nodes l.load) (awaits_letter kept by number l is) row in
       let after : sent_of t.graph.nodes d.letters ≡ others ++ sent_by l.to t.outs = after_is view asked work g ms c number l t ordered kept by is paid d outs finishes says more in
       let sent : d.sent ≡ c.sent + length t.outs = omega (arith, finishes.sent, length-map {B = ℕ × Load (List ℕ)} outs (λ (o : ℕ × Load ℕ). (o.0, load_at t.graph.nodes o.1)), ap length says) in
       record {
@@ -105,5 +107,4 @@ module _ (view : List Vault) (asked : Role) (work : ℕ) (g : GraphState) (ms : 
   -- where they would be more than the limit, so is the work
   pub work_exceeds : work < c.sent + length t.outs → WorkExceeds (credentials view) asked work
   work_exceeds over =
-      let paid = receipt view asked (sent_of g.nodes c.letters) ordered g ms t l.from l.to (load_at g.nodes l.load) (awaits_letter kept by number l is) row in
       sent_exceeds (steady_after view asked work g ms c number l t ordered kept by is paid).right (c.sent + length t.outs) work counted_after over

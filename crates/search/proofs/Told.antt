@@ -12,7 +12,7 @@ use Rattle.names.specs.declared.roles.Role.{Role}
 use Rattle.credential_text.specs.declared.credentials.Credential.{Credential}
 use Rattle.credential_text.specs.declared.intersections.Part.{Part}
 use Rattle.credential_text.specs.declared.exprs.Expr.{Expr}
-use Rattle.credential_text.specs.declared.exprs.Expr.TheVariants.{Ent, Rol, Link, Meet}
+use Rattle.credential_text.specs.declared.exprs.Expr.TheVariants.{Rol, Link, Meet}
 use Rattle.cred_graph.specs.declared.listeners.Port.TheVariants as port
 use Rattle.cred_graph.specs.Graph.{GraphState, IsNode, IsSolution}
 use Rattle.monitors.specs.MeetMonitor.{MeetTold, HasTold, AllTold, with_tell, told_order}
@@ -30,30 +30,39 @@ set_same (z ∷ xs) zero x y at = refl
 set_same (z ∷ xs) (suc n) x y at = set_same xs n x y at
 
 pub set_other : {X : Type 0} (xs : List X) (n k : ℕ) (y : X) → (k ≡ n → ⊥) → slice_get (set xs n y) k ≡ slice_get xs k
-set_other [] n k y other = refl
 set_other (z ∷ xs) zero zero y other = absurd (other refl)
-set_other (z ∷ xs) zero (suc k) y other = refl
-set_other (z ∷ xs) (suc n) zero y other = refl
 set_other (z ∷ xs) (suc n) (suc k) y other = set_other xs n k y (λ e. other (ap suc e))
+set_other _ _ _ y other = refl
+
+-- what stands where one place is written is what was written there, or what stood
+set_cases : {X : Type 0} (xs : List X) (n k : ℕ) (x y z : X) → slice_get xs n ≡ Some x → slice_get (set xs n y) k ≡ Some z → ((k ≡ n) × (y ≡ z)) ⊎ (slice_get xs k ≡ Some z)
+set_cases {X} xs n k x y z at there =
+    elim (cases_eq k n) [
+      | inl same ↦ inl (same, same_Some y z (sym (set_same xs n x y at) ∙ subst (λ m. slice_get (set xs n y) m ≡ Some z) same there))
+      | inr other ↦ inr (sym (set_other xs n k y other) ∙ there)
+    ]
+
+-- what stood stands still, or was written over
+set_stays : {X : Type 0} (xs : List X) (n k : ℕ) (x y z : X) → slice_get xs n ≡ Some x → slice_get xs k ≡ Some z → ((k ≡ n) × (x ≡ z)) ⊎ (slice_get (set xs n y) k ≡ Some z)
+set_stays {X} xs n k x y z at there =
+    elim (cases_eq k n) [
+      | inl same ↦ inl (same, same_Some x z (sym at ∙ subst (λ m. slice_get xs m ≡ Some z) same there))
+      | inr other ↦ inr (set_other xs n k y other ∙ there)
+    ]
 
 pub zip_set : {A B : Type 0} (R : A → B → Type 0) (xs : List A) (ys : List B) (n : ℕ) (y z : B) → AllZip R xs ys → slice_get ys n ≡ Some y → ((x : A) → R x y → R x z) → AllZip R xs (set ys n z)
 zip_set R [] [] n y z all at holds = cc
-zip_set R [] (w ∷ ys) n y z all at holds = absurd all
-zip_set R (x ∷ xs) [] n y z all at holds = absurd all
 zip_set R (x ∷ xs) (w ∷ ys) zero y z all at holds = (holds x (subst (R x) (same_Some w y at) all.0), all.1)
 zip_set R (x ∷ xs) (w ∷ ys) (suc n) y z all at holds = (all.0, zip_set R xs ys n y z all.1 at holds)
+zip_set R _ _ n y z all at holds = absurd all
 
 link_stays : (x y : List (List ℕ)) (e : Expr) → MonitorFits e (monitor.Link x) → MonitorFits e (monitor.Link y)
-link_stays x y (Ent d) fits = absurd fits
-link_stays x y (Rol r) fits = absurd fits
 link_stays x y (Link r t) fits = tt
-link_stays x y (Meet parts) fits = absurd fits
+link_stays x y _ fits = absurd fits
 
 meet_stays : (x y : MeetTold) → y.parts ≡ x.parts → (e : Expr) → MonitorFits e (monitor.Meet x) → MonitorFits e (monitor.Meet y)
-meet_stays x y same (Ent d) fits = absurd fits
-meet_stays x y same (Rol r) fits = absurd fits
-meet_stays x y same (Link r t) fits = absurd fits
 meet_stays x y same (Meet parts) fits = same ∙ fits
+meet_stays x y same _ fits = absurd fits
 
 pub same_link : (x y : List (List ℕ)) → monitor.Link x ≡ monitor.Link y → x ≡ y
 same_link x y e = cc
@@ -72,50 +81,39 @@ module _ (rows : List Credential) (asked : Role) (g : GraphState) (ms : List Mon
   abbrev new : Net
   new = record { graph = g; monitors = set ms node (monitor.Link told_link); pending = pending }
 
+  now_there : (m : ℕ) → m ≡ node → slice_get (set ms node (monitor.Link told_link)) m ≡ Some (monitor.Link told_link)
+  now_there m same =
+      subst (λ (k : ℕ). slice_get (set ms node (monitor.Link told_link)) k ≡ Some (monitor.Link told_link)) (sym same) (set_same ms node (monitor.Link x) (monitor.Link told_link) at)
+
   bases_on : (m : ℕ) (b : List ℕ) → IsBaseTold old m b → IsBaseTold new m b
   bases_on m b (y, there, among) =
-      elim (cases_eq m node) [
-        | inl same ↦
-            let here : slice_get ms node ≡ Some (monitor.Link y) = subst (λ (k : ℕ). slice_get ms k ≡ Some (monitor.Link y)) same there in
-            let is : y ≡ x = same_link y x (same_Some (monitor.Link y) (monitor.Link x) (sym here ∙ at)) in (
-              told_link,
-              subst (λ (k : ℕ). slice_get (set ms node (monitor.Link told_link)) k ≡ Some (monitor.Link told_link)) (sym same) (set_same ms node (monitor.Link x) (monitor.Link told_link) at),
-              Contains-append_left x (base ∷ []) b (subst (λ (z : List (List ℕ)). Contains z b) is among),
-            )
-        | inr other ↦ (y, set_other ms node m (monitor.Link told_link) other ∙ there, among)
+      elim (set_stays ms node m (monitor.Link x) (monitor.Link told_link) (monitor.Link y) at there) [
+        | inl here ↦ (told_link, now_there m here.0, Contains-append_left x (base ∷ []) b (subst (λ (z : List (List ℕ)). Contains z b) (sym (same_link x y here.1)) among))
+        | inr still ↦ (y, still, among)
       ]
 
   bases_cases : (m : ℕ) (b : List ℕ) → IsBaseTold new m b → IsBaseTold old m b ⊎ ((m ≡ node) × (base ≡ b))
   bases_cases m b (y, there, among) =
-      elim (cases_eq m node) [
-        | inl same ↦
-            let here : slice_get (set ms node (monitor.Link told_link)) node ≡ Some (monitor.Link y) = subst (λ (k : ℕ). slice_get (set ms node (monitor.Link told_link)) k ≡ Some (monitor.Link y)) same there in
-            let is : y ≡ told_link = same_link y told_link (same_Some (monitor.Link y) (monitor.Link told_link) (sym here ∙ set_same ms node (monitor.Link x) (monitor.Link told_link) at)) in
-            elim (Contains-push_cases x base b (subst (λ (z : List (List ℕ)). Contains z b) is among)) [
-              | inl before ↦ inl (x, subst (λ (k : ℕ). slice_get ms k ≡ Some (monitor.Link x)) (sym same) at, before)
-              | inr fresh ↦ inr (same, fresh)
-            ]
-        | inr other ↦ inl (y, sym (set_other ms node m (monitor.Link told_link) other) ∙ there, among)
+      elim (set_cases ms node m (monitor.Link x) (monitor.Link told_link) (monitor.Link y) at there) [
+        | inl here ↦ elim (Contains-push_cases x base b (subst (λ (z : List (List ℕ)). Contains z b) (sym (same_link told_link y here.1)) among)) [
+          | inl before ↦ inl (x, subst (λ (k : ℕ). slice_get ms k ≡ Some (monitor.Link x)) (sym here.0) at, before)
+          | inr fresh ↦ inr (here.0, fresh)
+        ]
+        | inr before ↦ inl (y, before, among)
       ]
 
   link_parts_on : (m i : ℕ) (who : List ℕ) → IsPartTold old m i who → IsPartTold new m i who
   link_parts_on m i who (y, there, told) =
-      elim (cases_eq m node) [
-        | inl same ↦
-            let here : slice_get ms node ≡ Some (monitor.Meet y) = subst (λ (k : ℕ). slice_get ms k ≡ Some (monitor.Meet y)) same there in
-            let clash : monitor.Meet y ≡ monitor.Link x = same_Some (monitor.Meet y) (monitor.Link x) (sym here ∙ at) in
-            cc
-        | inr other ↦ (y, set_other ms node m (monitor.Link told_link) other ∙ there, told)
+      elim (set_stays ms node m (monitor.Link x) (monitor.Link told_link) (monitor.Meet y) at there) [
+        | inl here ↦ let clash : monitor.Link x ≡ monitor.Meet y = here.1 in cc
+        | inr still ↦ (y, still, told)
       ]
 
   link_parts_before : (m i : ℕ) (who : List ℕ) → IsPartTold new m i who → IsPartTold old m i who
   link_parts_before m i who (y, there, told) =
-      elim (cases_eq m node) [
-        | inl same ↦
-            let here : slice_get (set ms node (monitor.Link told_link)) node ≡ Some (monitor.Meet y) = subst (λ (k : ℕ). slice_get (set ms node (monitor.Link told_link)) k ≡ Some (monitor.Meet y)) same there in
-            let clash : monitor.Meet y ≡ monitor.Link told_link = same_Some (monitor.Meet y) (monitor.Link told_link) (sym here ∙ set_same ms node (monitor.Link x) (monitor.Link told_link) at) in
-            cc
-        | inr other ↦ (y, sym (set_other ms node m (monitor.Link told_link) other) ∙ there, told)
+      elim (set_cases ms node m (monitor.Link x) (monitor.Link told_link) (monitor.Meet y) at there) [
+        | inl here ↦ let clash : monitor.Link told_link ≡ monitor.Meet y = here.1 in cc
+        | inr before ↦ (y, before, told)
       ]
 
   pub base_grows : Grows old new
@@ -196,54 +194,39 @@ module _ (rows : List Credential) (asked : Role) (g : GraphState) (ms : List Mon
   abbrev heard : Net
   heard = record { graph = g; monitors = set ms node (monitor.Meet told_meet); pending = pending }
 
-  meet_at : (m : ℕ) (y : MeetTold) → m ≡ node → slice_get ms m ≡ Some (monitor.Meet y) → y ≡ x
-  meet_at m y same there =
-      let here : slice_get ms node ≡ Some (monitor.Meet y) = subst (λ (k : ℕ). slice_get ms k ≡ Some (monitor.Meet y)) same there in
-      same_meet y x (same_Some (monitor.Meet y) (monitor.Meet x) (sym here ∙ at))
-
-  meet_set_at : (m : ℕ) (y : Monitor) → m ≡ node → slice_get (set ms node (monitor.Meet told_meet)) m ≡ Some y → monitor.Meet told_meet ≡ y
-  meet_set_at m y same there =
-      let here : slice_get (set ms node (monitor.Meet told_meet)) node ≡ Some y = subst (λ (k : ℕ). slice_get (set ms node (monitor.Meet told_meet)) k ≡ Some y) same there in
-      same_Some (monitor.Meet told_meet) y (sym (set_same ms node (monitor.Meet x) (monitor.Meet told_meet) at) ∙ here)
-
   parts_on : (m j : ℕ) (w : List ℕ) → IsPartTold unheard m j w → IsPartTold heard m j w
   parts_on m j w (y, there, told) =
-      elim (cases_eq m node) [
-        | inl same ↦ (
+      elim (set_stays ms node m (monitor.Meet x) (monitor.Meet told_meet) (monitor.Meet y) at there) [
+        | inl here ↦ (
           told_meet,
-          subst (λ (k : ℕ). slice_get (set ms node (monitor.Meet told_meet)) k ≡ Some (monitor.Meet told_meet)) (sym same) (set_same ms node (monitor.Meet x) (monitor.Meet told_meet) at),
-          tell_on x i j who w (subst (λ (z : MeetTold). HasTold z j w) (meet_at m y same there) told),
+          subst (λ (k : ℕ). slice_get (set ms node (monitor.Meet told_meet)) k ≡ Some (monitor.Meet told_meet)) (sym here.0) (set_same ms node (monitor.Meet x) (monitor.Meet told_meet) at),
+          tell_on x i j who w (subst (λ (z : MeetTold). HasTold z j w) (sym (same_meet x y here.1)) told),
         )
-        | inr other ↦ (y, set_other ms node m (monitor.Meet told_meet) other ∙ there, told)
+        | inr still ↦ (y, still, told)
       ]
 
   parts_cases : (m j : ℕ) (w : List ℕ) → IsPartTold heard m j w → IsPartTold unheard m j w ⊎ ((m ≡ node) × ((j ≡ i) × (w ≡ who)))
   parts_cases m j w (y, there, told) =
-      elim (cases_eq m node) [
-        | inl same ↦
-            let is : told_meet ≡ y = same_meet told_meet y (meet_set_at m (monitor.Meet y) same there) in
-            elim (tell_cases x i j who w (subst (λ (z : MeetTold). HasTold z j w) (sym is) told)) [
-              | inl before ↦ inl (x, subst (λ (k : ℕ). slice_get ms k ≡ Some (monitor.Meet x)) (sym same) at, before)
-              | inr fresh ↦ inr (same, fresh)
-            ]
-        | inr other ↦ inl (y, sym (set_other ms node m (monitor.Meet told_meet) other) ∙ there, told)
+      elim (set_cases ms node m (monitor.Meet x) (monitor.Meet told_meet) (monitor.Meet y) at there) [
+        | inl here ↦ elim (tell_cases x i j who w (subst (λ (z : MeetTold). HasTold z j w) (sym (same_meet told_meet y here.1)) told)) [
+          | inl before ↦ inl (x, subst (λ (k : ℕ). slice_get ms k ≡ Some (monitor.Meet x)) (sym here.0) at, before)
+          | inr fresh ↦ inr (here.0, fresh)
+        ]
+        | inr before ↦ inl (y, before, told)
       ]
 
   meet_bases_on : (m : ℕ) (b : List ℕ) → IsBaseTold unheard m b → IsBaseTold heard m b
   meet_bases_on m b (y, there, among) =
-      elim (cases_eq m node) [
-        | inl same ↦
-            let here : slice_get ms node ≡ Some (monitor.Link y) = subst (λ (k : ℕ). slice_get ms k ≡ Some (monitor.Link y)) same there in
-            let clash : monitor.Link y ≡ monitor.Meet x = same_Some (monitor.Link y) (monitor.Meet x) (sym here ∙ at) in
-            cc
-        | inr other ↦ (y, set_other ms node m (monitor.Meet told_meet) other ∙ there, among)
+      elim (set_stays ms node m (monitor.Meet x) (monitor.Meet told_meet) (monitor.Link y) at there) [
+        | inl here ↦ let clash : monitor.Meet x ≡ monitor.Link y = here.1 in cc
+        | inr still ↦ (y, still, among)
       ]
 
   meet_bases_before : (m : ℕ) (b : List ℕ) → IsBaseTold heard m b → IsBaseTold unheard m b
   meet_bases_before m b (y, there, among) =
-      elim (cases_eq m node) [
-        | inl same ↦ let clash : monitor.Meet told_meet ≡ monitor.Link y = meet_set_at m (monitor.Link y) same there in cc
-        | inr other ↦ (y, sym (set_other ms node m (monitor.Meet told_meet) other) ∙ there, among)
+      elim (set_cases ms node m (monitor.Meet x) (monitor.Meet told_meet) (monitor.Link y) at there) [
+        | inl here ↦ let clash : monitor.Meet told_meet ≡ monitor.Link y = here.1 in cc
+        | inr before ↦ (y, before, among)
       ]
 
   pub part_grows : Grows unheard heard
@@ -262,7 +245,8 @@ module _ (rows : List Credential) (asked : Role) (g : GraphState) (ms : List Mon
 
   told_at : (m j : ℕ) → m ≡ node → IsPartTold heard m j who → HasTold told_meet j who
   told_at m j same (y, there, told) =
-      let is : told_meet ≡ y = same_meet told_meet y (meet_set_at m (monitor.Meet y) same there) in
+      let here : slice_get (set ms node (monitor.Meet told_meet)) node ≡ Some (monitor.Meet y) = subst (λ (k : ℕ). slice_get (set ms node (monitor.Meet told_meet)) k ≡ Some (monitor.Meet y)) same there in
+      let is : told_meet ≡ y = same_meet told_meet y (same_Some (monitor.Meet told_meet) (monitor.Meet y) (sym (set_same ms node (monitor.Meet x) (monitor.Meet told_meet) at) ∙ here)) in
       subst (λ (z : MeetTold). HasTold z j who) (sym is) told
 
   met_cases : AllZip MonitorFits g.nodes ms → (AllTold told_meet who → IsSolution g node who) → (m : ℕ) (parts : List Part) (w : List ℕ) → IsNode g m (Meet parts) → ((j : ℕ) → j < length parts → IsPartTold heard m j w) →

@@ -21,7 +21,7 @@ use Rattle.cred_graph.specs.Graph.{GraphState, IsNode, IsSolution, Known, member
 use Rattle.cred_graph.specs.NodeLists.{list_at}
 use Rattle.cred_graph.proofs.Lists.{place_of_Contains}
 use Rattle.scholten_core.specs.declared.parents.Parent.{Parent}
-use Rattle.scholten_core.specs.declared.parents.Parent.TheVariants.{Neutral, Environment, Node}
+use Rattle.scholten_core.specs.declared.parents.Parent.TheVariants.{Environment, Node}
 use Rattle.search.specs.declared.letters.Load.{Load}
 use Rattle.search.specs.declared.letters.Load.TheVariants as load
 use Rattle.search.specs.Net.{Net, Sent, LetterFits, SolutionFits, IsPendingStart, IsPendingBetween, why_of, IsRight, IsSteady, OwesRules}
@@ -52,15 +52,12 @@ heard_is k (ls ∷ lists) a has =
 -- an ask under way is a letter's that may be sent
 asked_by_letter : (rows : List Credential) (net : Net) (from : Parent) (to : ℕ) (l : Load (List ℕ)) (a : NodeAsk) → Contains (ask_from from to l) a → LetterFits rows net from to l →
     (e f : Expr) × IsNode net.graph a.asker e × IsNode net.graph a.asked f × Asks rows (Known net.graph) e a.why f
-asked_by_letter rows net Neutral to l a has fits = absurd (Contains-none a has)
-asked_by_letter rows net Environment to l a has fits = absurd (Contains-none a has)
-asked_by_letter rows net (Node m) to load.Start a has fits = absurd (Contains-none a has)
 asked_by_letter rows net (Node m) to (load.Ask p) a has fits =
     elim (Contains-cons_cases (record { asker = m; why = why_of p; asked = to }) [] a has) [
       | inl same ↦ subst (λ (b : NodeAsk). (e f : Expr) × IsNode net.graph b.asker e × IsNode net.graph b.asked f × Asks rows (Known net.graph) e b.why f) same fits
       | inr none ↦ absurd (Contains-none a none)
     ]
-asked_by_letter rows net (Node m) to (load.Tell p who) a has fits = absurd (Contains-none a has)
+asked_by_letter rows net _ to _ a has fits = absurd (Contains-none a has)
 
 -- the solutions of a node are distinct
 pub members_apart : (solutions : List Solution) (n : ℕ) →

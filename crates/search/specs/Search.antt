@@ -142,25 +142,25 @@ abbrev pub IsCounted : Net → ℕ → Type 0
 IsCounted net sent =
     IsCountedBy (λ a. MayAskFor net a.asker a.why) (members_of net.graph) (heard net.graph) (asks_in net.pending) sent
 
+-- its letters are counted by what was asked and found, and while the environment's letter is there it was the only one
+pub record IsTallied (g : GraphState) (ms : List Monitor) (c : Computation Said) : Type 0 where
+  pub first : IsPendingStart (net_of g ms c) → c.sent ≡ 1
+  pub counted : IsCounted (net_of g ms c) c.sent
+
 -- what a running search keeps: each rule is applied or owed, while the environment's letter is there it is the only one,
--- no more letters were sent than it may send, and the numbers in its letters are entities'
+-- no more letters were sent than it may send, the numbers in its letters are entities', and its letters are counted
 pub record KeptBy (rows : List Credential) (asked : Role) (work : ℕ) (g : GraphState) (ms : List Monitor)
     (c : Computation Said) : Type 0 where
   pub steady : IsSteady rows asked (net_of g ms c)
   pub starts : IsPendingStart (net_of g ms c) → length c.letters ≡ 1
   pub within : c.sent ≤ work
   pub loads : All (λ l. IsLoad g.nodes l.1.load) c.letters
-
--- its letters are counted by what was asked and found, and while the environment's letter is there it was the only one
-pub record IsTallied (g : GraphState) (ms : List Monitor) (c : Computation Said) : Type 0 where
-  pub first : IsPendingStart (net_of g ms c) → c.sent ≡ 1
-  pub counted : IsCounted (net_of g ms c) c.sent
+  pub tallied : IsTallied g ms c
 
 -- what a search keeps; where it is spent, its work is greater than its limit
 pub record IsKept (s : SearchState) : Type 0 where
   pub rules : (c : Computation Said) → s.stage ≡ stage.Running c
       → KeptBy (rows_of s) (asked_role s.query) s.work s.graph s.monitors c
-  pub count : (c : Computation Said) → s.stage ≡ stage.Running c → IsTallied s.graph s.monitors c
   pub limit : s.stage ≡ stage.Spent → WorkExceeds (rows_of s) (asked_role s.query) s.work
 
 -- one question

@@ -11,8 +11,7 @@ use Rattle.search.proofs.stages.deliver.Goals.{After-signal}
 -- where nothing runs no signal is under way
 none_sent : (st : Stage) (place : ℕ) → ((d : Computation Said) → st ≡ stage.Running d → ⊥) → length (signals_in st) ≤ place
 none_sent (stage.Running d) place never = absurd (never d refl)
-none_sent stage.Spent place never = omega arith
-none_sent stage.Broken place never = omega arith
+none_sent _ place never = omega arith
 
 pub returns-in_default : goal.returns-in_default
 returns-in_default c = record { delivers = (none_sent c.args.stage.now c.args.place c.in_default.not-Running, refl); findings = (refl, refl) }

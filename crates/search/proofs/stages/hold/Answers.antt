@@ -13,8 +13,7 @@ use Rattle.search.proofs.stages.hold.Goals as goal
 -- where nothing runs no letter waits
 none_waits : (st : Stage) (place : ℕ) → ((d : Computation Said) → st ≡ stage.Running d → ⊥) → slice_get (waiting_in st) place ≡ None
 none_waits (stage.Running d) place never = absurd (never d refl)
-none_waits stage.Spent place never = refl
-none_waits stage.Broken place never = refl
+none_waits _ place never = refl
 
 pub returns-in_default : goal.returns-in_default
 returns-in_default c = (none_waits c.args.stage.now c.args.place c.in_default.not-Running, refl)

@@ -3,7 +3,6 @@ use Rattle.cred_graph.proofs.Lists.{on_err}
 use Rattle.cred_graph.specs.Stored.{graph_as}
 use Rattle.cred_graph.proofs.CallLemmas.{Listened, joined, joined_same, listener_kept, listens_by, no_listener}
 use Rattle.cred_graph.proofs.graphs.Graph.add_listener.Goals as goal
-use Rattle.cred_graph.proofs.graphs.Graph.add_listener.Goals.{After-add_listener}
 
 pub invariant_of-self : goal.invariant_of-self
 invariant_of-self c = joined c.self.inside.nodes c.self.inside.strangers _ c.self.inside.tables.0 c.self.inside.tables.0 c.self.inside.tables.1 c.self.invariant c.keep_port.ensures.joins
@@ -31,35 +30,16 @@ invariant_of-self-2 c =
     let asker = rw (← c.self.view_is) at c.requires.asker in
     listener_kept c.self.inside.nodes c.self.inside.strangers c.keep_port.new.strangers c.self.inside.tables.0 c.add_listener.new.self.0 c.self.inside.tables.1 c.self.invariant c.keep_port.ensures.joins c.args.n (record { asker = c.args.m; port = c.in_ok-port.port }) asked asker c.in_ok-port.ensures.kept.0 c.add_listener.new.self.1 c.add_listener.ensures.solutions c.add_listener.result c.add_listener.ensures.ok c.add_listener.ensures.unchanged
 
--- what the call gives
-given : (c : After-add_listener) →
-    Listened c.args.self.now
-    (graph_as c.self.inside.nodes c.keep_port.new.strangers c.add_listener.new.self.0 c.add_listener.new.self.1)
-    c.args.n
-    (record { asker = c.args.m; port = c.args.port })
-    c.add_listener.result
-given c =
+pub returns : goal.returns
+returns c =
     let asked = rw (← c.self.view_is) at c.requires.asked in
     let asker = rw (← c.self.view_is) at c.requires.asker in
+    let given : Listened c.args.self.now (graph_as c.self.inside.nodes c.keep_port.new.strangers c.add_listener.new.self.0 c.add_listener.new.self.1) c.args.n (record { asker = c.args.m; port = c.args.port }) c.add_listener.result =
     rw (← c.self.view_is)
     (listens_by c.self.inside.nodes c.self.inside.strangers c.keep_port.new.strangers c.self.inside.tables.0
     c.add_listener.new.self.0 c.self.inside.tables.1 c.self.invariant c.keep_port.ensures.joins c.args.n
     (record { asker = c.args.m; port = c.in_ok-port.port }) asked asker c.in_ok-port.ensures.kept.0
     c.add_listener.new.self.1 c.add_listener.ensures.solutions (record { asker = c.args.m; port = c.args.port })
     (λ i. record { asker = c.args.m; port = c.in_ok-port.ensures.kept.1 i })
-    c.add_listener.result c.add_listener.ensures.ok c.add_listener.ensures.growth c.add_listener.ensures.unchanged)
-
-pub returns-clause-ok : goal.returns-clause-ok
-returns-clause-ok c = (given (goal.at.returns-clause-ok c).After-add_listener).ok
-
-pub returns-clause-listens : goal.returns-clause-listens
-returns-clause-listens c = (given (goal.at.returns-clause-listens c).After-add_listener).listens
-
-pub returns-clause-graph : goal.returns-clause-graph
-returns-clause-graph c = (given (goal.at.returns-clause-graph c).After-add_listener).graph
-
-pub returns-clause-growth : goal.returns-clause-growth
-returns-clause-growth c = (given (goal.at.returns-clause-growth c).After-add_listener).growth
-
-pub returns-clause-unchanged : goal.returns-clause-unchanged
-returns-clause-unchanged c = (given (goal.at.returns-clause-unchanged c).After-add_listener).unchanged
+    c.add_listener.result c.add_listener.ensures.ok c.add_listener.ensures.growth c.add_listener.ensures.unchanged) in
+    record { ok = given.ok; listens = given.listens; graph = given.graph; growth = given.growth; unchanged = given.unchanged }

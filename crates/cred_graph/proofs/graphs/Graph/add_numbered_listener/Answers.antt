@@ -3,7 +3,6 @@ use Rattle.cred_graph.specs.Numbers.{port_at}
 use Rattle.cred_graph.specs.Stored.{graph_as}
 use Rattle.cred_graph.proofs.CallLemmas.{Listened, listener_kept, listens_by}
 use Rattle.cred_graph.proofs.graphs.Graph.add_numbered_listener.Goals as goal
-use Rattle.cred_graph.proofs.graphs.Graph.add_numbered_listener.Goals.{After-add_listener}
 
 pub invariant_of-self : goal.invariant_of-self
 invariant_of-self c =
@@ -11,38 +10,19 @@ invariant_of-self c =
     let asker = rw (← c.self.view_is) at c.requires.asker in
     listener_kept c.self.inside.nodes c.self.inside.strangers c.self.inside.strangers c.self.inside.tables.0 c.add_listener.new.self.0 c.self.inside.tables.1 c.self.invariant (inl refl) c.args.n (record { asker = c.args.m; port = c.kept_port-port.result }) asked asker c.kept_port-port.ensures.kept c.add_listener.new.self.1 c.add_listener.ensures.solutions c.add_listener.result c.add_listener.ensures.ok c.add_listener.ensures.unchanged
 
--- what the call gives
-given : (c : After-add_listener) →
-    Listened c.args.self.now
-    (graph_as c.self.inside.nodes c.self.inside.strangers c.add_listener.new.self.0 c.add_listener.new.self.1)
-    c.args.n
-    (record { asker = c.args.m; port = port_at c.args.self.now.nodes c.args.port })
-    c.add_listener.result
-given c =
+pub returns : goal.returns
+returns c =
     let asked = rw (← c.self.view_is) at c.requires.asked in
     let asker = rw (← c.self.view_is) at c.requires.asker in
+    let given : Listened c.args.self.now (graph_as c.self.inside.nodes c.self.inside.strangers c.add_listener.new.self.0 c.add_listener.new.self.1) c.args.n (record { asker = c.args.m; port = port_at c.args.self.now.nodes c.args.port }) c.add_listener.result =
     rw (← c.self.view_is)
     (listens_by c.self.inside.nodes c.self.inside.strangers c.self.inside.strangers c.self.inside.tables.0
     c.add_listener.new.self.0 c.self.inside.tables.1 c.self.invariant (inl refl) c.args.n
     (record { asker = c.args.m; port = c.kept_port-port.result }) asked asker
     c.kept_port-port.ensures.kept c.add_listener.new.self.1 c.add_listener.ensures.solutions (record { asker = c.args.m; port = port_at c.self.inside.nodes c.args.port })
     (λ i. record { asker = c.args.m; port = c.kept_port-port.ensures.same i }) c.add_listener.result
-    c.add_listener.ensures.ok c.add_listener.ensures.growth c.add_listener.ensures.unchanged)
-
-pub returns-clause-ok : goal.returns-clause-ok
-returns-clause-ok c = (given (goal.at.returns-clause-ok c).After-add_listener).ok
-
-pub returns-clause-listens : goal.returns-clause-listens
-returns-clause-listens c = (given (goal.at.returns-clause-listens c).After-add_listener).listens
-
-pub returns-clause-graph : goal.returns-clause-graph
-returns-clause-graph c = (given (goal.at.returns-clause-graph c).After-add_listener).graph
-
-pub returns-clause-growth : goal.returns-clause-growth
-returns-clause-growth c = (given (goal.at.returns-clause-growth c).After-add_listener).growth
-
-pub returns-clause-unchanged : goal.returns-clause-unchanged
-returns-clause-unchanged c = (given (goal.at.returns-clause-unchanged c).After-add_listener).unchanged
+    c.add_listener.ensures.ok c.add_listener.ensures.growth c.add_listener.ensures.unchanged) in
+    record { ok = given.ok; listens = given.listens; graph = given.graph; growth = given.growth; unchanged = given.unchanged }
 
 pub kept_port-port-requires : goal.kept_port-port-requires
 kept_port-port-requires c = rw (← c.self.view_is) at c.requires.port

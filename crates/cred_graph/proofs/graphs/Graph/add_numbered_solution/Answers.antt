@@ -4,7 +4,6 @@ use Rattle.cred_graph.specs.Stored.{graph_as}
 use Rattle.cred_graph.proofs.CallLemmas.{Found, kept_by, found_by}
 use Rattle.cred_graph.proofs.Solvers.{fits_node}
 use Rattle.cred_graph.proofs.graphs.Graph.add_numbered_solution.Goals as goal
-use Rattle.cred_graph.proofs.graphs.Graph.add_numbered_solution.Goals.{After-add_solution}
 
 pub invariant_of-self : goal.invariant_of-self
 invariant_of-self c =
@@ -14,39 +13,17 @@ invariant_of-self c =
     kept_by c.self.inside.nodes c.self.inside.strangers c.self.inside.tables.0 c.add_solution.new.self.0 c.self.inside.tables.1 c.add_solution.new.self.1 c.self.invariant c.add_solution.ensures.listeners (c.args.n, c.args.who) c.args.reason entity reason
     fits c.add_solution.result c.add_solution.ensures.ok c.add_solution.ensures.unchanged
 
--- what the call gives
-given : (c : After-add_solution) →
-    Found c.args.self.now
-    (graph_as c.self.inside.nodes c.self.inside.strangers c.add_solution.new.self.0 c.add_solution.new.self.1)
-    (record {
-      node = c.args.n;
-      who = entity_at c.args.self.now.nodes c.args.who;
-      reason = reason_at c.args.self.now.nodes c.args.reason;
-    })
-    c.add_solution.result
-given c =
+pub returns : goal.returns
+returns c =
     let entity = rw (← c.self.view_is) at c.requires.entity in
     let reason = rw (← c.self.view_is) at c.requires.reason in
     let fits = rw (← c.self.view_is) at c.requires.fits in
+    let given : Found c.args.self.now (graph_as c.self.inside.nodes c.self.inside.strangers c.add_solution.new.self.0 c.add_solution.new.self.1) (record { node = c.args.n; who = entity_at c.args.self.now.nodes c.args.who; reason = reason_at c.args.self.now.nodes c.args.reason }) c.add_solution.result =
     rw (← c.self.view_is)
     (found_by c.self.inside.nodes c.self.inside.strangers c.self.inside.tables.0 c.add_solution.new.self.0 c.self.inside.tables.1
     c.add_solution.new.self.1 c.self.invariant c.add_solution.ensures.listeners (c.args.n, c.args.who) c.args.reason entity
-    reason fits c.add_solution.result c.add_solution.ensures.ok c.add_solution.ensures.growth c.add_solution.ensures.unchanged)
-
-pub returns-clause-ok : goal.returns-clause-ok
-returns-clause-ok c = (given (goal.at.returns-clause-ok c).After-add_solution).ok
-
-pub returns-clause-solves : goal.returns-clause-solves
-returns-clause-solves c = (given (goal.at.returns-clause-solves c).After-add_solution).solves
-
-pub returns-clause-growth : goal.returns-clause-growth
-returns-clause-growth c = (given (goal.at.returns-clause-growth c).After-add_solution).growth
-
-pub returns-clause-graph : goal.returns-clause-graph
-returns-clause-graph c = (given (goal.at.returns-clause-graph c).After-add_solution).graph
-
-pub returns-clause-unchanged : goal.returns-clause-unchanged
-returns-clause-unchanged c = (given (goal.at.returns-clause-unchanged c).After-add_solution).unchanged
+    reason fits c.add_solution.result c.add_solution.ensures.ok c.add_solution.ensures.growth c.add_solution.ensures.unchanged) in
+    record { ok = given.ok; solves = given.solves; graph = given.graph; growth = given.growth; unchanged = given.unchanged }
 
 pub overflow_cast-n : goal.overflow_cast-n
 overflow_cast-n c =

@@ -8,8 +8,7 @@ use Rattle.scholten_core.proofs.slots.Slot.full.Goals as goal
 
 sent : {P : Type 0} (from : Parent) (l : Letter P) → same_parent from Neutral ≡ false → from_somebody from l ≡ Some l
 sent Neutral l nobody = absurd (true≢false nobody)
-sent Environment l somebody = refl
-sent (Node n) l somebody = refl
+sent _ l somebody = refl
 
 pub returns : goal.returns
 returns g c = sent c.args.letter.from c.args.letter c.requires

@@ -7,8 +7,7 @@ use Rattle.scholten_core.proofs.slots.Slot.full_letter.Goals as goal
 
 somebodys : {P : Type 0} (from : Parent) (l : Letter P) → is_some (from_somebody from l) ≡ true → Some l ≡ from_somebody from l
 somebodys Neutral l there = absurd (true≢false (sym there))
-somebodys Environment l there = refl
-somebodys (Node n) l there = refl
+somebodys _ l there = refl
 
 pub returns : goal.returns
 returns g c = rw (← c.self.view_is) (somebodys c.self.inside.letter.from c.self.inside.letter (rw (← c.self.view_is) at c.requires))

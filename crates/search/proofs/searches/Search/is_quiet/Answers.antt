@@ -58,8 +58,7 @@ returns-then-is_complete c =
 -- where nothing runs nothing moves, and nothing is outstanding
 not_running : (st : Stage) → ((d : Computation Said) → st ≡ stage.Running d → ⊥) → IsQuiet st × (IsOutstanding st → ⊥)
 not_running (stage.Running d) never = absurd (never d refl)
-not_running stage.Spent never = ((refl, refl), λ outstanding. outstanding)
-not_running stage.Broken never = ((refl, refl), λ outstanding. outstanding)
+not_running _ never = ((refl, refl), λ outstanding. outstanding)
 
 pub returns-in_default : goal.returns-in_default
 returns-in_default c =
