@@ -1,6 +1,6 @@
 -- What opens adds nodes, so the node and its asker are there still, and the port stays what it is.
 use Rattle.std.proofs.Common.{◌<◌, arith, inl, inr, length, sym, subst}
-use Rattle.std.proofs.lemmas.Result.{err_from_is_err_and, on_ok_weaker}
+use Rattle.std.proofs.lemmas.Result.{on_ok_weaker}
 use Rattle.cred_graph.specs.Graph.{GraphState, listeners_of}
 use Rattle.search.specs.Answers.{Progress, HearsAsk, IsOpenAt, Opens, own_rows}
 use Rattle.search.proofs.Numbered.{HasMore, IsOpened, more_count, more_port, more_port_same, opened_more}
@@ -49,14 +49,3 @@ returns c =
       subst (HearsAsk mid c.hear_ask.new.found c.args.node c.args.asker) (more_port_same c.args.found.now.graph.nodes mid.graph.nodes c.args.port (more at) c.requires.port) hears,
     ))
     c.hear_ask.ensures
-
-pub open-requires : goal.open-requires
-open-requires c = record { node = c.requires.node; span = c.requires.span }
-
-pub graph-requires : goal.graph-requires
-graph-requires c = tt
-
-pub returns-in_err-open : goal.returns-in_err-open
-returns-in_err-open c =
-    let p = err_from_is_err_and c.from_residual.result c.from_residual.ensures.1 in
-    rw p.1 tt

@@ -1,15 +1,10 @@
 -- The letters before this one stay what they are where a node is added.
 use Rattle.std.proofs.Common.{◌∙◌, ◌++◌, ◌∷◌, [], List, ap, subst, sym}
-use Rattle.std.proofs.lemmas.Result.{err_from_is_err_and}
 use Rattle.cred_graph.specs.Graph.{NodeGiven}
 use Rattle.search.specs.declared.findings.NumberedMonitor.{NumberedMonitor}
 use Rattle.search.specs.Numbered.{AreNumbered}
-use Rattle.search.proofs.Numbered.{numbered_given, numbered_with_monitor, node_there, node_added}
+use Rattle.search.proofs.Numbered.{numbered_given, numbered_with_monitor, node_added}
 use Rattle.search.proofs.answers.node_for.Goals as goal
-
-pub invariant_of-found-then-not-is_new : goal.invariant_of-found-then-not-is_new
-invariant_of-found-then-not-is_new c =
-    numbered_given c.found.inside.graph c.node_of.new.self c.args.expr.now c.in_ok-node.node c.in_ok-node.is_new c.found.inside.monitors.items c.found.inside.outs.items c.in_ok-node.ensures.ok c.node_of.ensures.graph c.found.invariant
 
 pub invariant_of-found-in_err-reserve : goal.invariant_of-found-in_err-reserve
 invariant_of-found-in_err-reserve c =
@@ -21,27 +16,6 @@ invariant_of-found-2 c =
     subst (λ (ms : List NumberedMonitor). AreNumbered c.node_of.new.self ms c.found.inside.outs.items) (sym (c.push_reserved.ensures.items ∙ ap (λ (ms : List NumberedMonitor). ms ++ c.monitor_for-monitor.result ∷ []) c.reserve.ensures.items))
     (numbered_with_monitor c.node_of.new.self c.found.inside.monitors.items c.monitor_for-monitor.result c.found.inside.outs.items (c.monitor_for-monitor.ensures.numbers c.node_of.new.self.nodes)
     (numbered_given c.found.inside.graph c.node_of.new.self c.args.expr.now c.in_ok-node.node c.in_ok-node.is_new c.found.inside.monitors.items c.found.inside.outs.items c.in_ok-node.ensures.ok c.node_of.ensures.graph c.found.invariant))
-
-pub returns-in_err-node : goal.returns-in_err-node
-returns-in_err-node c =
-    let p = err_from_is_err_and c.from_residual.result c.from_residual.ensures.1 in
-    record { given = rw p.1 tt; laws = c.node_of.ensures.graph }
-
-pub returns-in_err-reserve : goal.returns-in_err-reserve
-returns-in_err-reserve c =
-    let p = err_from_is_err_and c.from_residual-in_err-reserve.result c.from_residual-in_err-reserve.ensures.1 in
-    record { given = rw p.1 tt; laws = c.node_of.ensures.graph }
-
-pub returns-then-not-is_new-clause-laws : goal.returns-then-not-is_new-clause-laws
-returns-then-not-is_new-clause-laws c = c.node_of.ensures.graph
-
-pub returns-clause-laws : goal.returns-clause-laws
-returns-clause-laws c = c.node_of.ensures.graph
-
-pub returns-then-not-is_new-clause-given : goal.returns-then-not-is_new-clause-given
-returns-then-not-is_new-clause-given c =
-    node_there c.args.found.now c.found.inside.graph c.node_of.new.self c.found.inside.monitors.items c.found.inside.outs.items c.args.expr.now c.in_ok-node.node c.found.view_is
-    (subst (NodeGiven c.found.inside.graph c.node_of.new.self c.args.expr.now c.in_ok-node.node) c.if-not-is_new.true c.in_ok-node.ensures.ok)
 
 pub returns-clause-given : goal.returns-clause-given
 returns-clause-given c =

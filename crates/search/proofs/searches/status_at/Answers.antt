@@ -1,12 +1,11 @@
 -- The status is that of the answer, once nothing is outstanding.
-use Rattle.std.proofs.Common.{◌≡◌, ◌∙◌, ◌==◌, Bool, IsTrue, true, false, ap, eq-eqb, refl, sym, subst, true≢false}
-use Rattle.std.proofs.lemmas.Bool.{ne_eqb}
+use Rattle.std.proofs.Common.{◌≡◌, ◌∙◌, ◌==◌, Bool, IsTrue, true, ap, eq-eqb, sym, subst}
 use Rattle.std.specs.Prelude.{if◌then◌else◌}
 use Rattle.cred_graph.specs.declared.solutions.Solution.{Solution}
 use Rattle.cred_graph.proofs.Lists.{Contains-at_place}
 use Rattle.scholten_core.specs.Computation.{outstanding}
 use Rattle.search.specs.declared.outcomes.Status.{Status}
-use Rattle.search.specs.declared.outcomes.Status.TheVariants.{Working, Yes, No, Members, Spent, Broken}
+use Rattle.search.specs.declared.outcomes.Status.TheVariants.{Yes, No}
 use Rattle.search.specs.declared.queries.Query.{Query}
 use Rattle.search.specs.declared.stages.Stage.{Stage}
 use Rattle.search.specs.Ending.{Nothing}
@@ -28,11 +27,6 @@ completed c complete status is =
     let done : (outstanding d == 0) ≡ true = eq-eqb (outstanding d) 0 (c.is_complete.ensures.complete.0 complete) in
     subst (λ (s : Stage). status ≡ status_of (come_to s g q)) (sym c.in-Running.is) (is ∙ ap (λ (b : Bool). status_of (if b then found g q else Nothing)) (sym done))
 
-pub returns-in-Who : goal.returns-in-Who
-returns-in-Who c =
-    let at = (goal.at.returns-in-Who c).After-is_complete in
-    record { is = completed at c.if-not-is_complete.false Members (ap (λ (q : Query). status_of (found c.args.graph.now q)) (sym c.in-Who.is)); sound = sound at }
-
 pub returns-in-Some : goal.returns-in-Some
 returns-in-Some c =
     let at = (goal.at.returns-in-Some c).After-is_complete in
@@ -45,24 +39,3 @@ returns-in-None c =
     let at = (goal.at.returns-in-None c).After-is_complete in
     let no = found_no c.args.graph.now c.in-Ask._role c.in-Ask.who c.in-None.ensures.found in
     record { is = completed at c.if-not-is_complete.false No (ap status_of (sym no) ∙ ap (λ (q : Query). status_of (found c.args.graph.now q)) (sym c.in-Ask.is)); sound = sound at }
-
-pub returns-then-not-is_complete : goal.returns-then-not-is_complete
-returns-then-not-is_complete c = record {
-  is = let d = c.in-Running.running in
-      let busy : (outstanding d == 0) ≡ false = ne_eqb (outstanding d) 0 (λ none. true≢false (sym (c.is_complete.ensures.complete.1 none) ∙ c.if-not-is_complete.true)) in
-      subst (λ (s : Stage). Working ≡ status_of (come_to s c.args.graph.now c.args.query.now)) (sym c.in-Running.is)
-      (ap (λ (b : Bool). status_of (if b then found c.args.graph.now c.args.query.now else Nothing)) (sym busy));
-  sound = sound (goal.at.returns-then-not-is_complete c).After-is_complete;
-}
-
-pub returns-in-Spent : goal.returns-in-Spent
-returns-in-Spent c = record {
-  is = subst (λ (st : Stage). Spent ≡ status_of (come_to st c.args.graph.now c.args.query.now)) (sym c.in-Spent.is) refl;
-  sound = subst IsSoundStage (sym c.in-Spent.is) tt;
-}
-
-pub returns-in-Broken : goal.returns-in-Broken
-returns-in-Broken c = record {
-  is = subst (λ (st : Stage). Broken ≡ status_of (come_to st c.args.graph.now c.args.query.now)) (sym c.in-Broken.is) refl;
-  sound = subst IsSoundStage (sym c.in-Broken.is) tt;
-}

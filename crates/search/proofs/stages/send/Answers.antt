@@ -1,7 +1,7 @@
 -- The letters sent with these are compared with the work limit.
-use Rattle.std.proofs.Common.{ℕ, ◌≤◌, ◌≡◌, ◌∙◌, All, List, ap, refl, sym, subst, length, arith}
+use Rattle.std.proofs.Common.{ℕ, ◌≤◌, ◌≡◌, ◌∙◌, All, List, refl, sym, subst, length, arith}
 use Rattle.cred_graph.specs.Graph.{GraphState}
-use Rattle.scholten_core.specs.Computation.{Computation, IsHeld}
+use Rattle.scholten_core.specs.Computation.{Computation}
 use Rattle.search.specs.Net.{IsLoad, Said, outs_at}
 use Rattle.search.specs.declared.outcomes.Finished.{Finished}
 use Rattle.search.specs.declared.outcomes.Finished.TheVariants.{Done, Spent, Broken}
@@ -11,7 +11,6 @@ use Rattle.search.specs.declared.findings.NumberedMonitor.{NumberedMonitor}
 use Rattle.search.specs.Answers.{Progress}
 use Rattle.search.specs.Numbered.{AreNumbered, progress_at}
 use Rattle.search.specs.Stage.{Sends}
-use Rattle.search.proofs.Cleared.{without_outs}
 use Rattle.search.proofs.Holding.{same_running}
 use Rattle.search.proofs.stages.send.Goals as goal
 use Rattle.search.proofs.stages.send.Goals.{After-sent}
@@ -32,14 +31,6 @@ some : (old new : Stage) (work number : ℕ) (result : Finished) (g : GraphState
     Sends old new work number outs result → SendsSome old new work number result s
 some old new work number result g ms outs is are sends = subst (SendsSome old new work number result) is (outs, refl, are.loads, sends)
 
-pub finish_with-requires-clause-held : goal.finish_with-requires-clause-held
-finish_with-requires-clause-held c =
-    subst (λ (d : Computation Said). IsHeld d.letters c.args.number) (same (goal.at.finish_with-requires-clause-held c).After-sent) c.requires.2
-
-pub finish_with-requires-clause-room : goal.finish_with-requires-clause-room
-finish_with-requires-clause-room c =
-    omega (arith, within (goal.at.finish_with-requires-clause-room c).After-sent, c.if-work-sent.false, c.sent.ensures, c.len.ensures)
-
 pub returns-then-work-sent-clause-sends : goal.returns-then-work-sent-clause-sends
 returns-then-work-sent-clause-sends c =
     let after = (goal.at.returns-then-work-sent-clause-sends c).After-sent in
@@ -58,12 +49,3 @@ returns-clause-sends c =
     let count : c.len.result ≡ length c.found.inside.outs.items = c.len.ensures ∙ c.found.inside.outs.ok.0 in
     some c.args.stage.now (stage.Running c.finish_with.new.self) c.args.work c.args.number Done c.found.inside.graph c.found.inside.monitors.items c.found.inside.outs.items c.found.view_is c.found.invariant
     (c.in-Running.running, c.finish_with.new.self, c.in-Running.is, refl, omega (arith, within after, c.if-work-sent.false, c.sent.ensures, count), c.in-Ok.ensures.finished)
-
-pub returns-clause-findings : goal.returns-clause-findings
-returns-clause-findings c = (ap (λ (s : Progress). s.graph) c.found.view_is, ap (λ (s : Progress). s.monitors) c.found.view_is)
-
-pub returns-in_default-finish_with-clause-findings : goal.returns-in_default-finish_with-clause-findings
-returns-in_default-finish_with-clause-findings c = (ap (λ (s : Progress). s.graph) c.found.view_is, ap (λ (s : Progress). s.monitors) c.found.view_is)
-
-pub invariant_of-found-2 : goal.invariant_of-found-2
-invariant_of-found-2 c = without_outs c.found.inside.graph c.found.inside.monitors.items c.found.inside.outs.items c.finish_with.new.outs.items c.in-Ok.ensures.emptied c.found.invariant

@@ -1,7 +1,7 @@
 use Rattle.std.proofs.Common.{◌≡◌, ◌++◌, [], false, sym, ap, ◌∙◌, arith}
 use Rattle.std.specs.List.{list_any}
 use Rattle.std.proofs.lemmas.Result.{err_from_is_err_and}
-use Rattle.monitors.proofs.KeyLemmas.{is_new, near_has, near_lacks, near_adds, far_adds}
+use Rattle.monitors.proofs.KeyLemmas.{is_new, near_lacks, near_adds, far_adds}
 use Rattle.monitors.proofs.key_sets.KeySet.insert.Given.{Over}
 use Rattle.monitors.proofs.key_sets.KeySet.insert.Goals as goal
 use Rattle.monitors.proofs.key_sets.KeySet.insert.Goals.{After-len}
@@ -11,32 +11,6 @@ lacks : (g : Over) (c : After-len g) → list_any (λ other. g.K.PartialEq.eq ot
 lacks g c =
     sym (c.if-contains.ensures.value ∙ ap (list_any (λ other. g.K.PartialEq.eq other c.args.key)) c.deref.ensures.value)
 
-pub returns-then-contains : goal.returns-then-contains
-returns-then-contains g c =
-    let has = sym (c.if-contains.ensures.value ∙ ap (list_any (λ other. g.K.PartialEq.eq other c.args.key)) c.deref.ensures.value) in
-    rw (← c.self.view_is) (record {
-      ok = near_has g.K.PartialEq.eq g.met.K.Eq.laws g.met.K.Key.exact c.self.inside.near.items c.self.inside.far.keys c.args.key has;
-      growth = tt;
-      unchanged = tt;
-    })
-
-pub invariant_of-self : goal.invariant_of-self
-invariant_of-self g c few = c.self.invariant (omega (arith, few, c.in_err-push.ensures.len))
-
-pub returns-in_err-push : goal.returns-in_err-push
-returns-in_err-push g c =
-    let near = c.self.inside.near.items in
-    let none : c.self.inside.far.keys ≡ [] = c.self.invariant (omega (arith, c.if-len-lt-NEAR.true, c.len.ensures)) in
-    let p = err_from_is_err_and c.from_residual.result c.from_residual.ensures.1 in
-    rw (p.1, ← c.self.view_is) (record {
-      ok = tt;
-      growth = near_lacks g.K.PartialEq.eq g.met.K.Eq.laws g.met.K.Key.exact near c.self.inside.far.keys c.args.key (lacks g (goal.at.returns-in_err-push g c).After-len) (rw none (λ there. omega (arith, there.1)));
-      unchanged = ap (λ keys. keys ++ c.self.inside.far.keys) {x = c.push.new.self.items} {y = near} c.in_err-push.ensures.items;
-    })
-
-pub invariant_of-self-then-len-lt-NEAR : goal.invariant_of-self-then-len-lt-NEAR
-invariant_of-self-then-len-lt-NEAR g c few = c.self.invariant (omega (arith, c.if-len-lt-NEAR.true, c.len.ensures))
-
 pub returns-then-len-lt-NEAR : goal.returns-then-len-lt-NEAR
 returns-then-len-lt-NEAR g c =
     let none : c.self.inside.far.keys ≡ [] = c.self.invariant (omega (arith, c.if-len-lt-NEAR.true, c.len.ensures)) in
@@ -45,9 +19,6 @@ returns-then-len-lt-NEAR g c =
       growth = tt;
       unchanged = tt;
     })
-
-pub invariant_of-self-in_err-insert : goal.invariant_of-self-in_err-insert
-invariant_of-self-in_err-insert g c few = absurd (omega (arith, few, c.if-len-lt-NEAR.false, c.len.ensures))
 
 pub returns-in_err-insert : goal.returns-in_err-insert
 returns-in_err-insert g c =
@@ -60,9 +31,6 @@ returns-in_err-insert g c =
       growth = near_lacks g.K.PartialEq.eq g.met.K.Eq.laws g.met.K.Key.exact near far c.args.key (lacks g (goal.at.returns-in_err-insert g c).After-len) absent;
       unchanged = ap (λ keys. near ++ keys) {x = c.insert.new.self.keys} {y = far} c.in_err-insert.ensures.err;
     })
-
-pub invariant_of-self-2 : goal.invariant_of-self-2
-invariant_of-self-2 g c few = absurd (omega (arith, few, c.if-len-lt-NEAR.false, c.len.ensures))
 
 pub returns : goal.returns
 returns g c =

@@ -1,9 +1,8 @@
-use Rattle.std.proofs.Common.{◌≡◌, ◌+◌, ◌++◌, [], ◌∷◌, false, sym, ap, ◌∙◌, subst, refl, arith}
+use Rattle.std.proofs.Common.{◌≡◌, ◌+◌, ◌++◌, [], ◌∷◌, false, sym, ap, ◌∙◌, subst}
 use Rattle.scholten_core.specs.declared.parents.Parent.TheVariants.{Environment}
 use Rattle.scholten_core.specs.Kept.{IsKept, engaged_from, held_in}
 use Rattle.scholten_core.specs.Step.{started}
 use Rattle.scholten_core.proofs.Fields.{started_kept}
-use Rattle.std.proofs.lemmas.Result.{err_from_is_err_and}
 use Rattle.scholten_core.proofs.diffusions.Diffusion.start.Given.{Over}
 use Rattle.scholten_core.proofs.diffusions.Diffusion.start.Goals as goal
 use Rattle.scholten_core.proofs.diffusions.Diffusion.start.Goals.{After-new-3}
@@ -25,11 +24,3 @@ invariant_of-result g c =
 
 pub returns : goal.returns
 returns g c = record { started = first g c; sound = (invariant_of-result g c).sound }
-
-pub returns-in_err-letters : goal.returns-in_err-letters
-returns-in_err-letters g c =
-    let p = err_from_is_err_and c.from_residual.result c.from_residual.ensures.1 in
-    rw p.1 (record { started = tt; sound = tt })
-
-pub push-requires : goal.push-requires
-push-requires g c = record { room = c.in_ok-letters.ensures.room; numbers = omega (arith, c.in_ok-letters.ensures.sent); waits = refl; from = refl }

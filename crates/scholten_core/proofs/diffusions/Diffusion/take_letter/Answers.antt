@@ -6,9 +6,6 @@ use Rattle.scholten_core.proofs.diffusions.Diffusion.take_letter.Given.{Over}
 use Rattle.scholten_core.proofs.diffusions.Diffusion.take_letter.Goals as goal
 use Rattle.scholten_core.proofs.diffusions.Diffusion.take_letter.Goals.{After-take-number}
 
-pub take-number-requires : goal.take-number-requires
-take-number-requires g c = rw (← c.self.view_is) at c.requires
-
 -- the letter is taken
 takes : (g : Over) (c : After-take-number g) → TakesLetter (held_in c.self.inside.letters c.self.inside.signals.items c.self.inside.nodes.items) c.args.place c.take-number.result.0 (held_in c.take-number.new.self c.self.inside.signals.items c.self.inside.nodes.items)
 takes g c =

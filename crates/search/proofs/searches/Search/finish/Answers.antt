@@ -7,7 +7,7 @@ use Rattle.cred_graph.specs.Graph.{GraphState, IsNode}
 use Rattle.snapshots.specs.declared.spans.Span.{Span}
 use Rattle.snapshots.specs.Snapshot.{SnapshotState}
 use Rattle.search.specs.declared.outcomes.Finished.TheVariants as finished
-use Rattle.search.specs.Stage.{HoldsLetter, held_in, letter_in, stage_marked}
+use Rattle.search.specs.Stage.{held_in, letter_in, stage_marked}
 use Rattle.search.specs.Search.{SearchState}
 use Rattle.search.specs.Finish.{IsSpanFor, need_of, right_hint, IsRightly, Finishes}
 use Rattle.search.specs.contracts.searches.Search.{the_view}
@@ -38,9 +38,6 @@ returns-then-not-hint_is_right-clause-finishes c =
     (wrongly s c.args.letter c.args.hint c.in-Some.held c.deref.result.now c.deref.ensures held
     (node_in (held_awaits s c.self.invariant.rules c.args.letter c.in-Some.held held))
     (λ right. false≢true (sym c.if-not-hint_is_right.true ∙ (right_here (goal.at.returns-then-not-hint_is_right-clause-finishes c).After-hint_is_right).1 right))))
-
-pub receive_held-requires-clause-held : goal.receive_held-requires-clause-held
-receive_held-requires-clause-held c = subst (λ (x : SearchState). HoldsLetter x.stage c.args.letter c.in-Some.held) c.self.view_is c.in-Some.ensures
 
 pub receive_held-requires-clause-span : goal.receive_held-requires-clause-span
 receive_held-requires-clause-span c =

@@ -1,8 +1,5 @@
 -- A letter says the same where it waits again.
-use Rattle.std.proofs.Common.{◌≡◌, ◌∙◌, ℕ, None, ap, false, subst, sym, Some, true≢false}
-use Rattle.std.proofs.lemmas.Bool.{false≢true}
-use Rattle.scholten_core.specs.Computation.{Computation, IsHeld}
-use Rattle.search.specs.declared.letters.Load.{Load}
+use Rattle.std.proofs.Common.{◌≡◌, ◌∙◌, ap, false, subst, sym, Some}
 use Rattle.search.specs.declared.stages.Stage.{Stage}
 use Rattle.search.specs.declared.stages.Stage.TheVariants as stage
 use Rattle.search.specs.Stage.{held_in, letter_in, stage_marked}
@@ -12,18 +9,12 @@ use Rattle.search.proofs.Searching.{marked_stage_kept, marked_view}
 use Rattle.search.proofs.Finishing.{held_letter_is}
 use Rattle.search.proofs.Answered.{held_outstanding}
 use Rattle.search.proofs.Ended.{same_question, settles}
-use Rattle.search.proofs.Holding.{same_running}
 use Rattle.search.proofs.searches.Search.put_back.Goals.{After-put_back}
 use Rattle.search.proofs.searches.Search.put_back.Goals as goal
 
 -- the letter waits
 waits : (c : After-put_back) → stage.Running c.put_back.new.self ≡ stage_marked c.args.letter false c.self.inside.stage
 waits c = ap stage.Running c.put_back.ensures.waits ∙ ap (stage_marked c.args.letter false) (sym c.in-Running.is)
-
-pub put_back-requires : goal.put_back-requires
-put_back-requires c =
-    let held = c.in-Some.ensures in
-    subst (λ (d : Computation (Load ℕ)). IsHeld d.letters c.args.letter) (same_running held.running c.in-Running.running (sym held.runs ∙ c.in-Running.is)) held.held
 
 pub invariant_of-self : goal.invariant_of-self
 invariant_of-self c =
@@ -43,15 +34,3 @@ returns-clause-settles c =
     settles c.self.view_is (same_question s s.graph s.monitors now)
     (marked_stage_kept s now c.args.letter false c.self.invariant (waits (goal.at.returns-clause-settles c).After-put_back))
     (held_outstanding s.stage c.args.letter (letter_in c.in-Some._held) (held_letter_is s.stage c.args.letter c.in-Some._held c.in-Some.ensures))
-
-pub returns-in_default-clause-held : goal.returns-in_default-clause-held
-returns-in_default-clause-held c = λ _. subst (λ (s : SearchState). held_in s.stage c.args.letter ≡ None) c.self.view_is c.in_default.ensures
-
-pub returns-in_default-clause-waits : goal.returns-in_default-clause-waits
-returns-in_default-clause-waits c = λ yes. absurd (false≢true yes)
-
-pub returns-clause-held : goal.returns-clause-held
-returns-clause-held c = λ no. absurd (true≢false no)
-
-pub returns-clause-unchanged : goal.returns-clause-unchanged
-returns-clause-unchanged c = λ no. absurd (true≢false no)

@@ -1,16 +1,13 @@
 -- A held letter is awaited by its receiver, whose receipt keeps what a search keeps.
-use Rattle.std.proofs.Common.{◌≡◌, option_copied, refl, sym, subst, ap, [], ℕ, List}
-use Rattle.credential_text.specs.declared.exprs.Expr.{Expr}
+use Rattle.std.proofs.Common.{◌≡◌, refl, sym, subst, [], ℕ, List}
 use Rattle.vaults.specs.Journal.{credentials}
 use Rattle.snapshots.specs.Snapshot.{SnapshotState, IsOrdered}
-use Rattle.cred_graph.specs.Graph.{IsNode}
 use Rattle.search.specs.declared.stages.Stage.TheVariants as stage
 use Rattle.search.specs.Net.{IsLoad, Said, Words, load_at, outs_at, sent_of}
-use Rattle.search.specs.declared.outcomes.Finished.TheVariants.{Broken}
 use Rattle.search.specs.Answers.{Progress, progress, Answers, Awaits}
 use Rattle.search.specs.Stage.{HoldsLetter, letter_in}
 use Rattle.search.specs.Search.{SearchState, IsKept, asked_role}
-use Rattle.search.specs.Finish.{IsSpanFor, Receives}
+use Rattle.search.specs.Finish.{Receives}
 use Rattle.search.specs.contracts.searches.Search.{the_view}
 use Rattle.search.proofs.Searching.{held_awaits, held_loads, broken_kept}
 use Rattle.search.proofs.Answered.{held_outstanding}
@@ -26,15 +23,6 @@ pub receive-requires-clause-load : goal.receive-requires-clause-load
 receive-requires-clause-load c =
     subst (λ (x : Progress). IsLoad x.graph.nodes c.args.held.now.load) (sym c.clear.ensures)
     (held_loads (the_view c.self.inside) c.self.invariant c.args.letter c.args.held.now (in_hand (goal.at.receive-requires-clause-load c).After-clear))
-
-pub receive-requires-clause-span : goal.receive-requires-clause-span
-receive-requires-clause-span c = λ e at.
-    let to = c.args.held.now.to in
-    let span = subst (λ (x : SearchState). (e' : Expr) → IsNode x.graph to e' → IsSpanFor x.snapshot.vaults e' (option_copied c.args.looked_up)) (sym c.self.view_is) c.requires.span in
-    subst (λ (v : SnapshotState). IsSpanFor v.vaults e (option_copied c.args.looked_up)) (sym c.deref-snapshot.ensures) (span e (subst (λ (x : Progress). IsNode x.graph to e) c.clear.ensures at))
-
-pub receive-requires-clause-none : goal.receive-requires-clause-none
-receive-requires-clause-none c = ap (λ (x : Progress). x.outs) c.clear.ensures
 
 pub receive-requires-clause-awaits : goal.receive-requires-clause-awaits
 receive-requires-clause-awaits c =
@@ -113,15 +101,3 @@ returns-in-Err-clause-settles c =
     let t : SearchState = record s { graph = c.receive.new.found.graph; monitors = c.receive.new.found.monitors; stage = stage.Broken } in
     rw c.break_off.ensures (settles c.self.view_is (same_question s t.graph t.monitors stage.Broken) (broken_kept t refl)
     (held_outstanding s.stage c.args.letter (letter_in h) (held_letter_is s.stage c.args.letter h (in_hand (goal.at.returns-in-Err-clause-settles c).After-clear))))
-
-pub returns-in-Err-clause-receives : goal.returns-in-Err-clause-receives
-returns-in-Err-clause-receives c =
-    let s = the_view c.self.inside in
-    let t = c.receive.new.found in
-    rw c.break_off.ensures (subst (λ (x : SearchState). Receives x (record s { graph = t.graph; monitors = t.monitors; stage = stage.Broken }) c.args.letter (letter_in c.args.held.now) Broken) c.self.view_is
-    (refl, same_question s t.graph t.monitors stage.Broken))
-
-pub invariant_of-self-in-Err : goal.invariant_of-self-in-Err
-invariant_of-self-in-Err c =
-    let t = c.receive.new.found in
-    rw c.break_off.ensures (broken_kept (record (the_view c.self.inside) { graph = t.graph; monitors = t.monitors; stage = stage.Broken }) refl)

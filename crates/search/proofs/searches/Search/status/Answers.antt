@@ -1,9 +1,9 @@
 -- What the search keeps gives the truth of what it has come to.
 use Rattle.std.proofs.Common.{◌≡◌, refl, subst}
 use Rattle.cred_graph.specs.Graph.{GraphState}
-use Rattle.search.specs.Search.{come_to, status_of, SearchState, IsKept, IsSoundStage, rows_of, asked_role}
+use Rattle.search.specs.Search.{come_to, status_of, IsKept, rows_of, asked_role}
 use Rattle.search.proofs.Searching.{status_exact, rules_owed}
-use Rattle.search.proofs.Answered.{status_is, works_as, answers_as}
+use Rattle.search.proofs.Answered.{status_is}
 use Rattle.search.proofs.Ended.{ends}
 use Rattle.search.proofs.searches.Search.status.Goals as goal
 use Rattle.search.proofs.searches.Search.status.Goals.{After-status_at}
@@ -15,12 +15,6 @@ status_here c =
 
 pub returns-clause-is : goal.returns-clause-is
 returns-clause-is c = status_is c.self.view_is (status_here c)
-
-pub returns-clause-working : goal.returns-clause-working
-returns-clause-working c = works_as c.self.view_is (status_here c)
-
-pub returns-clause-completed : goal.returns-clause-completed
-returns-clause-completed c = answers_as c.self.view_is (status_here c)
 
 pub returns-clause-ending : goal.returns-clause-ending
 returns-clause-ending c = ends c.args.self.now (subst IsKept c.self.view_is c.self.invariant)
@@ -34,6 +28,3 @@ pub returns-clause-rules : goal.returns-clause-rules
 returns-clause-rules c =
     let s = c.args.self.now in
     λ d runs. rules_owed (rows_of s) (asked_role s.query) s.work s.graph s.monitors d ((subst IsKept c.self.view_is c.self.invariant).rules d runs)
-
-pub returns-clause-sound : goal.returns-clause-sound
-returns-clause-sound c = subst (λ (s : SearchState). IsSoundStage s.stage) c.self.view_is c.status_at.ensures.sound

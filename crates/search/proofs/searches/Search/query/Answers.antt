@@ -1,6 +1,0 @@
-use Rattle.std.proofs.Common.{ap}
-use Rattle.search.specs.Search.{SearchState}
-use Rattle.search.proofs.searches.Search.query.Goals as goal
-
-pub returns : goal.returns
-returns c = ap (λ (s : SearchState). s.query) c.self.view_is
