@@ -2,7 +2,7 @@
 use Rattle.std.proofs.Common.{◌≡◌, Bool, true, false, List, [], ◌∷◌, ◌++◌, ◌||◌, inl, inr, Contains, refl, sym, ap, subst, ◌∙◌, not, if◌then◌else◌, true≢false, append-nil, append_assoc, arith}
 use Rattle.std.specs.Cmp.{IsEquivalence}
 use Rattle.std.specs.List.{list_any}
-use Rattle.std.proofs.lemmas.List.Elements.{Contains-append_left, Contains-append_right, Contains-append_cases, Contains-push}
+use Rattle.std.proofs.lemmas.List.Elements.{Contains-append_right, Contains-append_cases}
 use Rattle.std.proofs.lemmas.Map.Views.{list_any-from_Contains, Contains-from_any}
 use Rattle.indexmap.specs.IndexSet.{insert_key}
 use Rattle.monitors.specs.LinkMonitor.{AddsKey}
@@ -19,11 +19,6 @@ module _ {K : Type 0} (eq : K → K → Bool) (laws : IsEquivalence eq) (exact :
   mirrored : (keys : List K) (key : K) → list_any (λ other. eq other key) keys ≡ list_any (eq key) keys
   mirrored [] key = refl
   mirrored (k ∷ keys) key = λ i. laws.symm k key i || mirrored keys key i
-
-  -- a key that the first ones have is no new one
-  pub near_has : (near far : List K) (key : K) → list_any (λ other. eq other key) near ≡ true → AddsKey (near ++ far) (near ++ far) key false
-  near_has near far key e =
-      (Contains-append_left near far key (is_old near key (sym (mirrored near key) ∙ e)), refl)
 
   -- a key that neither the first ones nor the others have
   pub near_lacks : (near far : List K) (key : K) → list_any (λ other. eq other key) near ≡ false → (Contains far key → ⊥) → Contains (near ++ far) key → ⊥
@@ -53,8 +48,3 @@ module _ {K : Type 0} (eq : K → K → Bool) (laws : IsEquivalence eq) (exact :
         near_lacks near far key lacks (is_new far key e),
         ap (λ keys. near ++ keys) (inserted ∙ ap (λ known. if known then far else far ++ key ∷ []) e) ∙ sym (append_assoc near far (key ∷ [])),
       )
-
--- the key is one of them now
-pub now_told : {K : Type 0} (keys after : List K) (key : K) (new : Bool) → AddsKey keys after key new → Contains after key
-now_told keys after key true (absent, is) = subst (λ keys. Contains keys key) (sym is) (Contains-push keys key)
-now_told keys after key false (there, is) = subst (λ keys. Contains keys key) (sym is) there

@@ -1,5 +1,5 @@
 -- Lists of letters, whose numbers rise
-use Rattle.std.proofs.Common.{◌≡◌, ℕ, zero, suc, ◌+◌, ◌<◌, ◌≤◌, ◌==◌, Bool, true, false, cond, not, List, [], ◌∷◌, ◌++◌, Contains, Some, None, map, option_map, filter, length, set, remove, sum_by, refl, sym, ap, ◌∙◌, arith, lt-ltb, eq-eqb, ne_eqb}
+use Rattle.std.proofs.Common.{◌≡◌, ℕ, zero, suc, ◌+◌, ◌<◌, ◌≤◌, ◌==◌, Bool, true, false, cond, not, List, [], ◌∷◌, ◌++◌, Contains, Some, None, map, option_map, filter, length, remove, sum_by, refl, sym, ap, ◌∙◌, arith, lt-ltb, eq-eqb, ne_eqb}
 use Rattle.std.specs.List.{find, slice_get, position, position_or_len}
 use Rattle.std.specs.Map.{lookup}
 use Rattle.std.proofs.lemmas.Option.{same_Some, none-some, slice_get_within, slice_get-get_or, get_or_from_slice_get}
@@ -72,19 +72,6 @@ module _ {X : Type 0} where
       let above = number_at l.0 ls high i k x rising.1 at in
       let other : (l.0 == k) ≡ false = ne_eqb l.0 k (omega arith) in
       rw other (ap (λ r. l ∷ r) (filter-remove l.0 ls high i k x rising.1 at))
-
-  -- to change the entry of a number is to write at its place
-  pub changed-set : (f : X → X) (low : ℕ) (ls : List (ℕ × X)) (high i k : ℕ) (x : X) → IsNumbered low ls high → slice_get ls i ≡ Some (k, x) → map (changed k f) ls ≡ set ls i (k, f x)
-  changed-set f low [] high i k x rising at = absurd (none-some _ at)
-  changed-set f low (l ∷ ls) high zero k x rising at =
-      let same = same_Some _ _ at in
-      let one : (l.0 == k) ≡ true = rw (ap (λ e. e.0) same) (eq-eqb k k refl) in
-      let first : ◌≡◌ {A = ℕ × X} (l.0, f l.1) (k, f x) = ap (λ e. (e.0, f e.1)) same in
-      rw (one, changed_past k f l.0 ls high rising.1 (omega (arith, ap (λ e. e.0) same))) (ap (λ e. e ∷ ls) first)
-  changed-set f low (l ∷ ls) high (suc i) k x rising at =
-      let above = number_at l.0 ls high i k x rising.1 at in
-      let other : (l.0 == k) ≡ false = ne_eqb l.0 k (omega arith) in
-      rw other (ap (λ r. l ∷ r) (changed-set f l.0 ls high i k x rising.1 at))
 
   -- the entry at a place is the one of its number
   pub lookup_at : (low : ℕ) (ls : List (ℕ × X)) (high i k : ℕ) (x : X) → IsNumbered low ls high → slice_get ls i ≡ Some (k, x) → lookup (λ n. n == k) ls ≡ Some x

@@ -1,5 +1,5 @@
 -- The letters that one sends together
-use Rattle.std.proofs.Common.{◌≡◌, ℕ, suc, ◌+◌, true, false, cond, List, [], ◌∷◌, ◌++◌, length, count_by, refl, ap, ◌∙◌, arith}
+use Rattle.std.proofs.Common.{◌≡◌, ℕ, suc, ◌+◌, true, false, cond, List, [], ◌∷◌, length, count_by, refl, ap, arith}
 use Rattle.std.proofs.lemmas.List.Sums.{sum_by-cons}
 use Rattle.scholten_core.specs.declared.parents.Parent.{Parent}
 use Rattle.scholten_core.specs.declared.letters.Letter.{Letter}
@@ -26,12 +26,3 @@ module _ {P : Type 0} (from : Parent) where
       let rest = count-numbered p (k + 1) outs in
       let joined : cond {A = ℕ} (same_parent p from) 1 0 + cond (same_parent p from) (length outs) 0 ≡ cond (same_parent p from) (suc (length outs)) 0 = elim (same_parent p from) as (λ b. cond {A = ℕ} b 1 0 + cond b (length outs) 0 ≡ cond b (suc (length outs)) 0) [ true ↦ omega arith | false ↦ refl ] in
       omega (arith, first, rest, joined)
-
-  -- one more takes the next number
-  pub numbered-push : (k : ℕ) (outs : List (ℕ × P)) (o : ℕ × P) → numbered from k (outs ++ o ∷ []) ≡ numbered from k outs ++ (k + length outs, record { from = from; to = o.0; held = false; load = o.1 }) ∷ []
-  numbered-push k [] o =
-      let here : k ≡ k + 0 = omega arith in
-      ap (λ n. (n, record { from = from; to = o.0; held = false; load = o.1 }) ∷ []) here
-  numbered-push k (x ∷ outs) o =
-      let last : (k + 1) + length outs ≡ k + suc (length outs) = omega arith in
-      ap (λ ls. (k, record { from = from; to = x.0; held = false; load = x.1 }) ∷ ls) (numbered-push (k + 1) outs o ∙ ap (λ n. numbered from (k + 1) outs ++ (n, record { from = from; to = o.0; held = false; load = o.1 }) ∷ []) last)

@@ -114,11 +114,6 @@ pub status_is : {s t : SearchState} {result : Status} → s ≡ t → result ≡
 unfolding settled_of
 status_is {result = result} same is = subst (λ (x : SearchState). result ≡ status_of (come_to x.stage x.graph x.query)) same is
 
-pub works_as : {s t : SearchState} {result : Status} → s ≡ t → result ≡ status_of (come_to s.stage s.graph s.query) → (result ≡ status.Working) ↔ IsOutstanding t.stage
-works_as {s} {t} {result} same is =
-    subst (λ (x : SearchState). (result ≡ status.Working) ↔ IsOutstanding x.stage) same
-    (subst (λ (r : Status). (r ≡ status.Working) ↔ IsOutstanding s.stage) (sym is) (works s.stage s.graph s.query))
-
 -- a letter that is held or waits is outstanding, and so is a signal under way
 held_some : (letters : List (ℕ × Letter (Load ℕ))) (number : ℕ) (l : Letter (Load ℕ)) → if_held (lookup (λ n. n == number) letters) ≡ Some l → 0 < length letters
 held_some [] number l is = cc

@@ -1,5 +1,4 @@
 pub mod Tells
-pub mod Cleared
 pub mod Grow
 pub mod Settled
 pub mod Kept

@@ -11,7 +11,6 @@ use Rattle.vaults.specs.Journal.{Vault}
 use Rattle.cred_graph.specs.declared.listeners.Listening.{Listening}
 use Rattle.cred_graph.specs.declared.listeners.Port.{Port}
 use Rattle.cred_graph.specs.declared.listeners.Port.TheVariants as port
-use Rattle.cred_graph.specs.declared.solutions.Reason.{Reason}
 use Rattle.cred_graph.specs.Graph.{GraphState, IsGraph, IsNode, NodeGiven, ListenerGiven, SolutionGiven}
 use Rattle.cred_graph.specs.NodeLists.{list_at, IsOnce}
 use Rattle.cred_graph.specs.declared.solutions.Solution.{Solution}
@@ -19,7 +18,7 @@ use Rattle.std.specs.FinSet as set
 use Rattle.std.specs.Map.{keys_of}
 use Rattle.monitors.specs.declared.tellers.Tellers.{Tellers}
 use Rattle.monitors.specs.MeetMonitor.{pairs_of, named}
-use Rattle.cred_graph.specs.Numbers.{IsEntity, IsNamed, IsPort, entity_at, port_at, reason_at}
+use Rattle.cred_graph.specs.Numbers.{IsEntity, IsNamed, IsPort, entity_at, port_at}
 use Rattle.cred_graph.proofs.Growth.{listed_with, listed_at-pushed, listed_with_cases}
 use Rattle.cred_graph.proofs.NumberLemmas.{entity_goes_on, entity_stays, named_goes_on, port_goes_on, port_named, port_stays}
 use Rattle.scholten_core.specs.declared.letters.Letter.{Letter}
@@ -30,7 +29,7 @@ use Rattle.search.specs.declared.findings.Monitor.TheVariants as monitor
 use Rattle.search.specs.declared.findings.NumberedMonitor.{NumberedMonitor}
 use Rattle.search.specs.declared.findings.NumberedMonitor.TheVariants as numbered_monitor
 use Rattle.search.proofs.Asked.{asked_each}
-use Rattle.search.specs.Answers.{Progress, AsksFor, HearsAsk, IsOpenAt, Opens, Solves, own_rows, new_monitor, row_asks, part_asks}
+use Rattle.search.specs.Answers.{Progress, AsksFor, IsOpenAt, Opens, own_rows, new_monitor, row_asks, part_asks}
 use Rattle.search.specs.Net.{IsLoad, in_words, load_at, outs_at, sent_of}
 use Rattle.search.specs.Numbered.{AreNumbered, IsMonitor, monitor_at, progress_at}
 
@@ -151,10 +150,6 @@ abbrev pub HasNode : Progress → Progress → Expr → ℕ → Type 0
 HasNode s t e n =
     (new : Bool) × NodeGiven s.graph t.graph e n new × (t.outs ≡ s.outs) × (t.monitors ≡ (if new then s.monitors ++ new_monitor e ∷ [] else s.monitors))
 
-pub node_there : (s : Progress) (g h : GraphState) (ms : List NumberedMonitor) (outs : List (ℕ × Load ℕ)) (e : Expr) (n : ℕ) → progress_at g ms outs ≡ s → NodeGiven g h e n false → HasNode s (progress_at h ms outs) e n
-node_there s g h ms outs e n is (node, same) =
-    subst (λ (x : Progress). HasNode x (progress_at h ms outs) e n) is (false, (node, same), ap (λ (k : GraphState). outs_at k.nodes outs) same, ap (λ (k : GraphState). map (monitor_at k.nodes) ms) same)
-
 -- the letters before it and the other monitors stay what they are
 pub node_added : (s : Progress) (g h : GraphState) (ms ms' : List NumberedMonitor) (m : NumberedMonitor) (outs : List (ℕ × Load ℕ)) (e : Expr) (n : ℕ) → progress_at g ms outs ≡ s → AreNumbered g ms outs →
     NodeGiven g h e n true → ms' ≡ ms ++ m ∷ [] → monitor_at h.nodes m ≡ new_monitor e → HasNode s (progress_at h ms' outs) e n
@@ -219,28 +214,9 @@ numbered_solved g h s true ms outs (new, with) are =
     subst (λ (k : GraphState). AreNumbered k ms outs) (sym with) (record { once = are.once; loads = are.loads; monitors = are.monitors; ports = are.ports })
 
 module _ (s : Progress) (g h : GraphState) (ms : List NumberedMonitor) (outs : List (ℕ × Load ℕ)) (is : progress_at g ms outs ≡ s) where
-  pub hears_old : (n m : ℕ) (p : Port ℕ) → ListenerGiven g h n (record { asker = m; port = port_at g.nodes p }) false → HearsAsk s (progress_at h ms outs) n m (port_at s.graph.nodes p)
-  hears_old n m p (listens, same) =
-      subst (λ (x : Progress). HearsAsk x (progress_at h ms outs) n m (port_at x.graph.nodes p)) is (false, (listens, same), ap (λ (k : GraphState). map (monitor_at k.nodes) ms) same, ap (λ (k : GraphState). outs_at k.nodes outs) same)
-
   pub listens_new : (n m : ℕ) (p : Port ℕ) (b : Bool) → b ≡ true → ListenerGiven g h n (record { asker = m; port = port_at g.nodes p }) b → ListenerGiven s.graph h n (record { asker = m; port = port_at s.graph.nodes p }) true
   listens_new n m p b new given =
       subst (λ (x : Progress). ListenerGiven x.graph h n (record { asker = m; port = port_at x.graph.nodes p }) true) is (subst (ListenerGiven g h n (record { asker = m; port = port_at g.nodes p })) new given)
-
-  pub solves_old : (n k : ℕ) (r : Reason ℕ ℕ) → SolutionGiven g h (record { node = n; who = entity_at g.nodes k; reason = reason_at g.nodes r }) false →
-      Solves s (progress_at h ms outs) n (entity_at s.graph.nodes k) (reason_at s.graph.nodes r)
-  solves_old n k r (has, same) =
-      subst (λ (x : Progress). Solves x (progress_at h ms outs) n (entity_at x.graph.nodes k) (reason_at x.graph.nodes r)) is (false, (has, same), ap (λ (k : GraphState). map (monitor_at k.nodes) ms) same, ap (λ (y : GraphState). outs_at y.nodes outs) same)
-
-  pub solves_new : (n k : ℕ) (r : Reason ℕ ℕ) (b : Bool) → b ≡ true → SolutionGiven g h (record { node = n; who = entity_at g.nodes k; reason = reason_at g.nodes r }) b →
-      SolutionGiven s.graph h (record { node = n; who = entity_at s.graph.nodes k; reason = reason_at s.graph.nodes r }) true
-  solves_new n k r b new given =
-      subst (λ (x : Progress). SolutionGiven x.graph h (record { node = n; who = entity_at x.graph.nodes k; reason = reason_at x.graph.nodes r }) true) is
-      (subst (SolutionGiven g h (record { node = n; who = entity_at g.nodes k; reason = reason_at g.nodes r })) new given)
-
-  -- what was found but the graph is left, where no node was added
-  pub others_left : h.nodes ≡ g.nodes → (map (monitor_at h.nodes) ms ≡ s.monitors) × (outs_at h.nodes outs ≡ s.outs)
-  others_left same = (ap (λ nodes. map (monitor_at nodes) ms) same ∙ ap (λ (x : Progress). x.monitors) is, ap (λ nodes. outs_at nodes outs) same ∙ ap (λ (x : Progress). x.outs) is)
 
 -- a port stays what it is where nodes are added
 pub more_port : (old new : List Expr) (p : Port ℕ) → HasMore old new → IsPort old p → IsPort new p
