@@ -5,8 +5,8 @@ use names::Entity;
 use scholten_core::Parent;
 use std::alloc::AllocError;
 
-/// What a letter of a search says, of entities by name, as contracts see it, or by number. Who says it to whom is the
-/// letter's.
+/// What a letter of a search says, of entities by number, or in words, as contracts tell what it means, by name. Who says it to
+/// whom is the letter's.
 #[derive(Copy)]
 pub enum Load<E = Entity> {
     /// The environment asks the role that the search is for.

@@ -41,7 +41,7 @@ impl Stage {
     // Whether it is that of a search that is completed, by few letters.
     pub(crate) fn is_small(&self) -> bool {
         match self {
-            Stage::Running(running) => { running.is_complete() && running.sent() <= FEW_LETTERS }
+            Stage::Running(running) => running.is_complete() && running.sent() <= FEW_LETTERS,
             Stage::Spent | Stage::Broken => false,
         }
     }
