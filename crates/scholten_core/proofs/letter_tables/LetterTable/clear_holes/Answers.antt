@@ -15,11 +15,3 @@ invariant_of-self g c =
       within_first = omega arith;
       within_last = omega arith;
     })
-
-pub returns : goal.returns
-returns g c =
-    rw (c.clear.ensures.items, ← c.self.view_is) (record {
-      letters = sym (rw (← c.self.view_is) at c.requires);
-      sent = refl;
-      room = omega (arith, c.clear.ensures.capacity);
-    })

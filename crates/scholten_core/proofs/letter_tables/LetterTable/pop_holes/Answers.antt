@@ -1,6 +1,6 @@
-use Rattle.std.proofs.Common.{◌≡◌, ◌-◌, vec_capacity, vec_len, ℕ, ◌++◌, [], ◌∷◌, None, sym, ◌∙◌, arith, ap, subst, length, ◌≤◌, length-append}
+use Rattle.std.proofs.Common.{◌≡◌, ℕ, ◌++◌, [], ◌∷◌, None, sym, ◌∙◌, arith}
 use Rattle.scholten_core.proofs.Counts.{popped_hole, standing-none}
-use Rattle.scholten_core.proofs.Tables.{holes-popped, numbered-popped, standing-popped, take-popped, waits-popped, cut_ends}
+use Rattle.scholten_core.proofs.Tables.{holes-popped, numbered-popped, standing-popped, take-popped, waits-popped}
 use Rattle.scholten_core.proofs.letter_tables.LetterTable.pop_holes.Given.{Over}
 use Rattle.scholten_core.proofs.letter_tables.LetterTable.pop_holes.Goals as goal
 use Rattle.scholten_core.proofs.letter_tables.LetterTable.pop_holes.Goals.{After-pop}
@@ -29,35 +29,6 @@ loop-self-preserved g c =
       before = take-popped _ _ hole.0 hole.1 _ ∙ before.before;
       all = take-popped _ _ hole.0 hole.1 _ ∙ before.all;
     }
-
-pub loop-self-init : goal.loop-self-init
-loop-self-init g c = record {
-  letters = ap (λ s. s.letters) c.self.view_is;
-  sent = ap (λ s. s.sent) c.self.view_is;
-  room = subst (λ n. n ≤ vec_capacity c.self.inside.letters - vec_len c.self.inside.letters) (ap (λ s. s.room) c.self.view_is) (omega arith);
-  numbers = c.self.invariant.numbers;
-  waiting = c.self.invariant.waiting;
-  gone = c.self.invariant.gone;
-  before = c.self.invariant.before;
-  all = c.self.invariant.all;
-}
-
-pub loop-self-smaller : goal.loop-self-smaller
-loop-self-smaller g c =
-    let hole = popped g (goal.at.loop-self-smaller g c).After-pop in
-    omega (arith, ap length hole.1 ∙ length-append c.pop.new.self.items ((hole.0, None) ∷ []))
-
-pub invariant_of-self : goal.invariant_of-self
-invariant_of-self g c =
-    let kept = c.loop-self.invariant in
-    rw (c.min-self-inside.ensures, c.min-self-inside-2.ensures, c.len-2.ensures ∙ c.loop-self.self-inside.letters.ok.0, c.len-3.ensures ∙ c.loop-self.self-inside.letters.ok.0) (cut_ends _ _ _ c.loop-self.self-inside.first c.loop-self.self-inside.last c.loop-self.self-inside.letters.items kept.numbers kept.waiting kept.gone kept.before kept.all)
-
-pub returns : goal.returns
-returns g c = record {
-  letters = c.loop-self.invariant.letters;
-  sent = c.loop-self.invariant.sent;
-  room = c.loop-self.invariant.room;
-}
 
 pub clear_holes-requires : goal.clear_holes-requires
 clear_holes-requires g c =

@@ -30,16 +30,3 @@ returns g c =
       sent = refl;
       room = omega (arith, c.push_reserved.ensures.len, c.push_reserved.ensures.capacity);
     })
-
-pub full-requires : goal.full-requires
-full-requires g c = c.requires.from
-
-pub push_reserved-requires : goal.push_reserved-requires
-push_reserved-requires g c =
-    let room = rw (← c.self.view_is) at c.requires.room in
-    omega (arith, room)
-
-pub overflow_add-self : goal.overflow_add-self
-overflow_add-self g c =
-    let numbers = rw (← c.self.view_is) at c.requires.numbers in
-    omega (arith, numbers)
