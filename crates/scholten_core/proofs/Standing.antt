@@ -65,9 +65,6 @@ module _ {X : Type 0} where
   set_value-is (l ∷ ls) zero k x w at = ap (λ n. (n, w) ∷ ls) (sym (ap (λ e. e.0) (same_Some _ _ at)))
   set_value-is (l ∷ ls) (suc i) k x w at = ap (λ es. l ∷ es) (set_value-is ls i k x w at)
 
-  pub value_get : (ls : List (ℕ × X)) (i : ℕ) (e : ℕ × X) → slice_get ls i ≡ Some e → slice_get (values_of ls) i ≡ Some e.1
-  value_get ls i e at = slice_get-map (λ (l : ℕ × X). l.1) ls i ∙ ap (option_map (λ (l : ℕ × X). l.1)) at
-
   -- numbers rise with places
   low-get : (low : ℕ) (ls : List (ℕ × X)) (high j : ℕ) (d : ℕ × X) → IsNumbered low ls high → j < length ls → low < (get_or ls j d).0
   low-get low [] high j d rising within = absurd (omega (arith, within))
