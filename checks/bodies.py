@@ -45,7 +45,7 @@ PLACES = [
     ("hall/faults.rt", "Fault from AllocError::from", "Fault::Memory", "", SAYS),
     ("hall/faults.rt", "Fault from AllocFailed::from", "Fault::Memory", "", SAYS),
     ("hall/halls.rt", "Hall::take", "Fault::Memory", "match taken: Err(AllocError)", TOLD),
-    ("hall/working.rt", "go_on", "Went::NoMemory", "let Ok(snapshot) = search.snapshot().clone() else", SHARED),
+    ("hall/working.rt", "go_on", "Next::NoMemory", "let Ok(snapshot) = search.snapshot().clone() else", SHARED),
     ("pool/desks.rt", "Desk::release", "AllocError", "let(end, is_left) = match next: Next::NoMemory", TOLD),
     ("pool/rooms.rt", "Room::admit", "Fault::Memory", "if self.out == MOST_OUT", PASSES),
     ("pool/workers.rt", "run_all", "Fault::Memory", "let Ok(mut handles) = Vec::with_capacity(desk.alloc, n as usize) else", GROWTH),

@@ -3,7 +3,10 @@ use Rattle.std.proofs.Common.{◌≡◌, ◌∙◌, ◌<◌, ℕ, zero, suc, Boo
 use Rattle.std.specs.Map.{keys_of, values_of, lookup}
 use Rattle.std.proofs.lemmas.List.Quantifiers.{position-Some}
 use Rattle.std.proofs.lemmas.Option.{none-some, slice_get_past, slice_get-map}
-use Rattle.hall.specs.Kept.{IsPlaceOf}
+
+-- the key that passes the test stands at this place of the entries; or none passes, and none stands there
+abbrev pub IsPlaceOf : {K V : Type 0} → (K → Bool) → List (K × V) → ℕ → Type 0
+IsPlaceOf test es at = MatchOption (slice_get es at) (lookup test es ≡ None) (λ e. test e.0 ≡ true)
 
 module _ {K V : Type 0} (test : K → Bool) where
   passes_at : (es : List (K × V)) (i : ℕ) (d : K) → i < length (keys_of es) → test (get_or (keys_of es) i d) ≡ true → IsSomeAnd (slice_get es i) (λ e. test e.0 ≡ true)

@@ -1,10 +1,10 @@
 -- Letters of a batch: which they are, how they are looked up, and how they are taken and handed in one after another.
-use Rattle.std.proofs.Common.{subst₂, ◌≡◌, ◌∙◌, ◌+◌, ◌++◌, ◌∷◌, ◌<◌, ◌≤◌, ◌⊎◌, ℕ, Bool, true, false, List, [], length, map, get_or, take, ap, sym, subst, refl, inl, inr, arith, None, Some, Option, option_map, if◌then◌else◌, length-append, cond}
-use Rattle.std.specs.Prelude.{slice_get, slice_set, count_by, IsTrue, ◌↔◌}
+use Rattle.std.proofs.Common.{subst₂, ◌≡◌, ◌∙◌, ◌+◌, ◌++◌, ◌∷◌, ◌<◌, ◌≤◌, ◌⊎◌, ℕ, Bool, true, false, List, [], length, map, get_or, ap, sym, subst, refl, inl, inr, not, zero-add, arith, None, Some, Option, option_map, if◌then◌else◌, length-append, cond}
+use Rattle.std.specs.Prelude.{slice_get, slice_set, count_by, IsTrue, MatchBool, ◌↔◌}
 use Rattle.std.specs.List.{filter_map}
 use Rattle.std.proofs.Math.Seq.{map-set_same}
 use Rattle.std.proofs.lemmas.Bool.{cases_eq}
-use Rattle.std.proofs.lemmas.List.{map_more, map-append, length-set, get_or-set_same, get_or-set_other}
+use Rattle.std.proofs.lemmas.List.{map-append, length-set, get_or-set_same, get_or-set_other}
 use Rattle.std.proofs.lemmas.List.Elements.{filter_map-append}
 use Rattle.std.proofs.lemmas.List.Sums.{sum_by-append}
 use Rattle.std.proofs.lemmas.Option.{slice_get-map}
@@ -17,10 +17,9 @@ use Rattle.hall.specs.declared.calls.steps.{Step.Step, Stepped.Stepped}
 use Rattle.hall.specs.declared.calls.steps.Stepped.TheVariants as stepped
 use Rattle.search.specs.declared.outcomes.Finished.{Finished}
 use Rattle.search.specs.declared.outcomes.Finished.TheVariants as finished
-use Rattle.hall.specs.Steps.{StepsEach, PutsBack, finish_answer}
+use Rattle.hall.specs.Hall.{StepsSearch, StepsEach, finish_answer}
 use Rattle.hall.specs.Batches.{Named, BatchState, batch_of, IsBatch, IsLookedUpIn, named, letter_of}
 use Rattle.hall.specs.Work.{HandsIn, GoesOn, handing_in, going_on, went_on, is_done}
-use Rattle.hall.specs.Working.{HandsInOne, MakesStep}
 use Rattle.hall.proofs.InRow.{each_more}
 
 -- what a batch of these fields is
@@ -71,7 +70,8 @@ module _ (of : NamedSearch) (es : List HeldLetter) (looked room : ℕ) (e : Held
 -- by what the search answered
 pub puts_back : (s t : SearchState) (number : ℕ) (back : Bool) → (back ≡ false → held_in s.stage number ≡ None) → (back ≡ false → t ≡ s) →
     (back ≡ true → ((l : Letter Said) × (held_in s.stage number ≡ Some l)) × (t ≡ record s { stage = stage_marked number false s.stage })) →
-    PutsBack s number back t
+    MatchBool back (((l : Letter Said) × (held_in s.stage number ≡ Some l)) × (t ≡ record s { stage = stage_marked number false s.stage }))
+    ((held_in s.stage number ≡ None) × (t ≡ s))
 puts_back s t number false held same waits = (held refl, same refl)
 puts_back s t number true held same waits = waits refl
 
@@ -90,17 +90,31 @@ exactly : (n m : ℕ) → (n ≡ m) ⊎ ⊥ → n ≡ m
 exactly n m (inl is) = is
 exactly n m (inr none) = absurd none
 
--- one step more
-pub one_more : (s m t : SearchState) (name : List ℕ × ℕ) (n : ℕ) (held holds : List (ℕ × Need)) → GoesOn (StepsEach s m) name n ⊥ held →
-    MakesStep m true t held holds → GoesOn (StepsEach s t) name (n + 1) ⊥ holds
-one_more s m t name n held holds so_far (move, steps, is) = record {
-  moves = so_far.moves ++ move ∷ [];
-  steps = subst₂ (StepsEach s t) (sym (map-append (going_on name) so_far.moves (move ∷ []))) (sym (map-append went_on so_far.moves (move ∷ [])))
-      (each_more s m t (map (going_on name) so_far.moves) (map went_on so_far.moves) (going_on name move) (went_on move) so_far.steps (steps name));
-  taken = is ∙ ap (λ ls. ls ++ filter_map (λ o. o) (move ∷ [])) so_far.taken ∙ sym (filter_map-append (λ o. o) so_far.moves (move ∷ []));
-  within = omega (arith, exactly (length so_far.moves) n so_far.whole, length-append so_far.moves (move ∷ []));
-  whole = inl (omega (arith, exactly (length so_far.moves) n so_far.whole, length-append so_far.moves (move ∷ [])));
-}
+-- a step that goes on with the search, and none
+pub one_made : (s t : SearchState) (name : List ℕ × ℕ) (move : Option (ℕ × Need)) → StepsSearch s (going_on name move) (went_on move) t →
+    GoesOn (StepsEach s t) name 1 ⊥ (filter_map (λ o. o) (move ∷ []))
+one_made s t name move steps = record { moves = move ∷ []; steps = (t, steps, refl); taken = refl; within = omega arith; whole = inl refl }
+
+-- more steps
+pub more_made : (s m t : SearchState) (name : List ℕ × ℕ) (n k : ℕ) (held letters : List (ℕ × Need)) → GoesOn (StepsEach s m) name n ⊥ held →
+    GoesOn (StepsEach m t) name k ⊥ letters → GoesOn (StepsEach s t) name (n + k) ⊥ (held ++ letters)
+more_made s m t name n k held letters first later =
+    let long = length-append first.moves later.moves in
+    let one = exactly (length first.moves) n first.whole in
+    let two = exactly (length later.moves) k later.whole in
+    record {
+      moves = first.moves ++ later.moves;
+      steps = subst₂ (StepsEach s t) (sym (map-append (going_on name) first.moves later.moves)) (sym (map-append went_on first.moves later.moves))
+          (each_more s m t (map (going_on name) first.moves) (map (going_on name) later.moves) (map went_on first.moves) (map went_on later.moves) first.steps later.steps);
+      taken = ap (λ ls. ls ++ letters) first.taken ∙ ap (λ ls. filter_map (λ o. o) first.moves ++ ls) later.taken ∙ sym (filter_map-append (λ o. o) first.moves later.moves);
+      within = omega (arith, one, two, long);
+      whole = inl (omega (arith, one, two, long));
+    }
+
+-- whether anything is left is told
+pub left_or_not : (quiet : Bool) (Q : Type 0) → IsTrue quiet ↔ Q → MatchBool (not quiet) (Q → ⊥) Q
+left_or_not true Q is = is.0 refl
+left_or_not false Q is = λ q. cc (is.1 q)
 
 -- the steps were as many as were asked for, or nothing is left
 pub all_made : (s t : SearchState) (name : List ℕ × ℕ) (n most : ℕ) (left : Type 0) (letters : List (ℕ × Need)) → GoesOn (StepsEach s t) name n ⊥ letters →
@@ -117,28 +131,23 @@ all_made s t name n most left letters made within whole = record {
     by (inl all) = inl (exactly (length made.moves) n made.whole ∙ all)
     by (inr none) = inr none
 
--- one letter more
-counted : (xs : List Stepped) (x : Stepped) (done : Bool) → done ≡ is_done x → count_by is_done (xs ++ x ∷ []) ≡ (if done then count_by is_done xs + 1 else count_by is_done xs)
-counted xs x true is =
-    let all = sum_by-append (λ (y : Stepped). cond (is_done y) 1 0) xs (x ∷ []) in
-    let one : ◌≡◌ {A = ℕ} (cond (is_done x) 1 0) 1 = ap (λ (b : Bool). cond b 1 0) (sym is) in
-    omega (arith, all, one)
-counted xs x false is =
-    let all = sum_by-append (λ (y : Stepped). cond (is_done y) 1 0) xs (x ∷ []) in
-    let none : ◌≡◌ {A = ℕ} (cond (is_done x) 1 0) 0 = ap (λ (b : Bool). cond b 1 0) (sym is) in
-    omega (arith, all, none)
+-- one letter, and more of them
+pub one_handed_in : (s t : SearchState) (back : Bool) (of : Named) (l : ℕ × Need) (answer : Stepped) (done : Bool) → StepsSearch s (handing_in back of l) answer t →
+    done ≡ is_done answer → HandsIn (StepsEach s t) back of (l ∷ []) (if done then 1 else 0)
+one_handed_in s t back of l answer done steps is = record {
+  answers = answer ∷ [];
+  steps = (t, steps, refl);
+  count = ap (λ (b : Bool). if b then 1 else 0) is ∙ sym (zero-add (cond (is_done answer) 1 0));
+}
 
-pub one_handed_in : (of : NamedSearch) (back : Bool) (s m t : SearchState) (es : List HeldLetter) (i : ℕ) (e : HeldLetter) (n : ℕ) (done : Bool) →
-    i < length es → e ≡ get_or es i e → HandsIn (StepsEach s m) back (named of) (map letter_of (take i es)) n →
-    HandsInOne back (named of) m (letter_of e) done t →
-    HandsIn (StepsEach s t) back (named of) (map letter_of (take (i + 1) es)) (if done then n + 1 else n)
-one_handed_in of back s m t es i e n done within at before (answer, steps, is) = record {
-  answers = before.answers ++ answer ∷ [];
-  steps = subst (λ (ls : List (ℕ × Need)). StepsEach s t (map (handing_in back (named of)) ls) (before.answers ++ answer ∷ []))
-      (sym (map_more letter_of es i e within ∙ ap (λ (x : HeldLetter). map letter_of (take i es) ++ letter_of x ∷ []) (sym at)))
-      (subst (λ (steps : List Step). StepsEach s t steps (before.answers ++ answer ∷ [])) (sym (map-append (handing_in back (named of)) (map letter_of (take i es)) (letter_of e ∷ [])))
-      (each_more s m t (map (handing_in back (named of)) (map letter_of (take i es))) before.answers (handing_in back (named of) (letter_of e)) answer before.steps steps));
-  count = ap (λ (k : ℕ). if done then k + 1 else k) before.count ∙ sym (counted before.answers answer done is);
+pub more_handed_in : (s m t : SearchState) (back : Bool) (of : Named) (letters more : List (ℕ × Need)) (n k : ℕ) → HandsIn (StepsEach s m) back of letters n →
+    HandsIn (StepsEach m t) back of more k → HandsIn (StepsEach s t) back of (letters ++ more) (n + k)
+more_handed_in s m t back of letters more n k first later = record {
+  answers = first.answers ++ later.answers;
+  steps = subst (λ (steps : List Step). StepsEach s t steps (first.answers ++ later.answers)) (sym (map-append (handing_in back of) letters more))
+      (each_more s m t (map (handing_in back of) letters) (map (handing_in back of) more) first.answers later.answers first.steps later.steps);
+  count = ap (λ j. j + k) first.count ∙ ap (λ j. count_by is_done first.answers + j) later.count
+      ∙ sym (sum_by-append (λ (y : Stepped). cond (is_done y) 1 0) first.answers later.answers);
 }
 
 isnt : (done : Bool) → (IsTrue done → ⊥) → done ≡ false

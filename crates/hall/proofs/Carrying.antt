@@ -1,9 +1,9 @@
 -- A step of a search, a letter that is taken, and a search that is driven, as a hall has them.
-use Rattle.std.proofs.Common.{◌≡◌, ◌∙◌, ℕ, List, ap, sym, refl, subst, subst₂, inl, slice_get, IfSome, IsSomeAnd, Option, Some, None, Result, Ok}
+use Rattle.std.proofs.Common.{◌≡◌, ◌∙◌, ℕ, List, ap, sym, refl, subst, subst₂, inl, slice_get, option_map, IfSome, IsSomeAnd, Option, Some, None, Result}
 use Rattle.std.specs.FinMap.{get}
-use Rattle.std.specs.Arc.{arc_value}
+use Rattle.std.specs.{Prelude.MatchOption, Arc.arc_value}
 use Rattle.search.specs.declared.queries.Task.{Task}
-use Rattle.search.specs.Search.{SearchState, Settles, IsSoundStage, settled_of}
+use Rattle.search.specs.Search.{SearchState, Settles, IsSoundStage}
 use Rattle.search.specs.Stage.{IsQuiet, waiting_in}
 use Rattle.search.specs.Finish.{Takes}
 use Rattle.hall.specs.declared.faults.Fault.{Fault}
@@ -12,17 +12,17 @@ use Rattle.hall.specs.declared.calls.requests.Request.TheVariants.{Poll}
 use Rattle.hall.specs.declared.calls.replies.Reply.TheVariants.{Answered, Refused}
 use Rattle.hall.specs.declared.calls.steps.Step.{Step}
 use Rattle.hall.specs.declared.calls.steps.Step.TheVariants.{Take}
-use Rattle.hall.specs.declared.calls.steps.Stepped.{Stepped}
 use Rattle.hall.specs.declared.calls.steps.Stepped.TheVariants.{Gone}
 use Rattle.hall.specs.declared.calls.steps.Stepped.TheVariants as stepped
-use Rattle.hall.specs.Steps.{StepsSearch}
+use Rattle.hall.specs.Hall.{StepsSearch}
 use Rattle.hall.specs.Run.{waits}
-use Rattle.hall.specs.Hall.{Running, Tenant, HallState, search_of, search_at, with_search, search_of_step, StepsAt, IsStepped}
-use Rattle.hall.specs.Hall.{IsCarriedOn, Drives, CarriesOut, IsServed, told_as}
-use Rattle.hall.specs.Work.{TakenLetter, IsTaken, IsJobOrNone, SearchIsQuiet}
-use Rattle.hall.specs.Kept.{IsNowhere, IsToldOf, TakesTask}
-use Rattle.hall.proofs.Polled.{none_there, polled_there}
-use Rattle.hall.proofs.Viewed.{nowhere_polled}
+use Rattle.hall.specs.Hall.{Running, HallState, search_at, with_search, search_of_step, GoesOnAt, IsStepped}
+use Rattle.hall.specs.Hall.{IsCarriedOn, CarriesOut, known, told_as}
+use Rattle.hall.specs.Answers.{IsToldOver}
+use Rattle.hall.specs.Work.{TakenLetter, IsTaken, SearchIsQuiet}
+use Rattle.hall.specs.Kept.{IsNowhere}
+use Rattle.hall.proofs.Polled.{none_there}
+use Rattle.hall.proofs.Viewed.{nowhere_polled, served_over}
 use Rattle.hall.proofs.Placed.{found_after, put_back}
 use Rattle.hall.proofs.InRow.{stepped_there}
 
@@ -31,8 +31,8 @@ module _ (h : HallState) (who : List ℕ) (k : ℕ) where
   pub none_quiet : search_at h who k ≡ None → SearchIsQuiet h who k
   none_quiet none r at = let clash : Some r ≡ None = sym at ∙ none in cc
 
-  none_driven : search_at h who k ≡ None → Drives h who k (search_at h who k) h
-  none_driven none = subst (λ (o : Option Running). Drives h who k o h) (sym none) refl
+  none_driven : search_at h who k ≡ None → GoesOnAt h who k (search_at h who k) (Unit {0}) IsCarriedOn h
+  none_driven none = subst (λ (o : Option Running). GoesOnAt h who k o (Unit {0}) IsCarriedOn h) (sym none) (tt, refl)
 
   pub nowhere_driven : (f : Fault) → IsNowhere k (get h.tenants who) f → CarriesOut h who (waits k) (Refused f) h
   nowhere_driven f is = (h, none_driven (none_there h who k f is), nowhere_polled h who k f is)
@@ -40,7 +40,7 @@ module _ (h : HallState) (who : List ℕ) (k : ℕ) where
   -- no step of such a search does anything
   pub gone : (made : Step) → who ≡ (search_of_step made).0 → k ≡ (search_of_step made).1 → search_at h who k ≡ None → IsStepped h made Gone h
   gone made whose number none =
-      subst (λ (o : Option Running). StepsAt h o made Gone h) (sym (subst₂ (λ (n : List ℕ) (m : ℕ). search_at h n m ≡ None) whose number none)) (refl, refl)
+      subst (λ (o : Option Running). GoesOnAt h (search_of_step made).0 (search_of_step made).1 o (Gone ≡ Gone) (λ s t. StepsSearch s made Gone t) h) (sym (subst₂ (λ (n : List ℕ) (m : ℕ). search_at h n m ≡ None) whose number none)) (refl, refl)
 
   module _ (r : Running) (at : search_at h who k ≡ Some r) where
     -- a search that is found there and quiet is so in the hall
@@ -49,14 +49,6 @@ module _ (h : HallState) (who : List ℕ) (k : ℕ) where
         let both : Some r ≡ Some q = sym at ∙ found in
         let same : r ≡ q = cc in
         subst (λ (x : Running). IsQuiet x.search.stage) same quiet
-
-    -- the search that is found is polled
-    polled_at : (told : Result Answer Fault) → IsToldOf (settled_of r.search) told → IsServed h who (Poll k) (told_as Answered told) h
-    polled_at told is = by (get h.tenants who) refl
-      where
-        by : (o : Option Tenant) → get h.tenants who ≡ o → IsServed h who (Poll k) (told_as Answered told) h
-        by None none = let clash : None ≡ Some r = sym (ap (search_of k) none) ∙ at in cc
-        by (Some t) here = polled_there h who k t here r (sym (ap (search_of k) here) ∙ at) told is
 
 module _ (h : HallState) (who : List ℕ) (k : ℕ) (r : Running) (at : search_at h who k ≡ Some r) (s : Running) (opened : s.opened_at ≡ r.opened_at) (new : HallState)
     (is : new ≡ with_search h who k s) where
@@ -72,31 +64,39 @@ module _ (h : HallState) (who : List ℕ) (k : ℕ) (r : Running) (at : search_a
   found_left = ap (λ (g : HallState). search_at g who k) is ∙ found_after h who k r at s
 
   -- a search that is driven, and told of
-  pub drives_as : IsCarriedOn r.search s.search → (told : Result Answer Fault) → IsToldOf (settled_of s.search) told → CarriesOut h who (waits k) (told_as Answered told) new
-  drives_as carried told tells =
-      (new, subst (λ (o : Option Running). Drives h who k o new) (sym at) (s.search, carried, left_as), polled_at new who k s found_left told tells)
+  pub drives_as : IsCarriedOn r.search s.search → (told : Result Answer Fault) → IsToldOver (known s.search) Poll (told_as Answered told) →
+      CarriesOut h who (waits k) (told_as Answered told) new
+  drives_as carried told tells = (
+    new,
+    subst (λ (o : Option Running). GoesOnAt h who k o (Unit {0}) IsCarriedOn new) (sym at) (s.search, carried, left_as),
+    served_over new who k s.search Poll (told_as Answered told) refl (sym (ap (option_map (λ (x : Running). x.search)) found_left)) tells,
+  )
 
   pub drives_quiet : IsQuiet s.search.stage → SearchIsQuiet new who k
   drives_quiet quiet = quiet_in new who k s found_left quiet
 
-  -- a letter that is taken, with the job that it gives
-  taken : (place : ℕ) (answer : Stepped) (job : Option TakenLetter) → ((name : List ℕ × ℕ) → StepsSearch r.search (Take name.0 name.1 place) answer s.search) →
-      IsJobOrNone h who k answer job → IsTaken h who k place job new
-  taken place answer job steps is_job = (answer, stepped_there h (Take who k place) answer new who k r s.search refl refl at (steps (who, k)) left_as, is_job)
+  -- a letter that is taken, with the job that it gives; or none
+  module _ (place : ℕ) (settles : Settles r.search s.search) (sound : IsSoundStage s.search.stage) where
+    pub none_taken : slice_get (waiting_in r.search.stage) place ≡ None → s.search ≡ r.search → IsTaken h who k place None new
+    none_taken none same = (
+      stepped.Nothing,
+      inl refl,
+      stepped_there h (Take who k place) stepped.Nothing new who k r s.search refl refl at (record { is_made = (None, (none, same), refl); settles = settles; sound = sound }) left_as,
+    )
 
-  pub none_taken : (place : ℕ) → ((name : List ℕ × ℕ) → StepsSearch r.search (Take name.0 name.1 place) stepped.Nothing s.search) → IsTaken h who k place None new
-  none_taken place steps = taken place stepped.Nothing None steps (inl refl)
+    pub job_taken : (job : TakenLetter) → job.who ≡ who → job.number ≡ k → job.snapshot ≡ r.search.snapshot → Takes r.search s.search place job.letter job.need →
+        IsTaken h who k place (Some job) new
+    job_taken job whose number reads takes = (
+      whose,
+      number,
+      subst (λ (o : Option Running). IsSomeAnd o (λ r. job.snapshot ≡ r.search.snapshot)) (sym at) reads,
+      stepped_there h (Take who k place) (stepped.Took job.letter job.need) new who k r s.search refl refl at
+          (record { is_made = (Some (job.letter, job.need), takes, refl); settles = settles; sound = sound }) left_as,
+    )
 
-  pub job_taken : (place : ℕ) (job : TakenLetter) → job.who ≡ who → job.number ≡ k → job.snapshot ≡ r.search.snapshot →
-      ((name : List ℕ × ℕ) → StepsSearch r.search (Take name.0 name.1 place) (stepped.Took job.letter job.need) s.search) → IsTaken h who k place (Some job) new
-  job_taken place job whose number reads steps =
-      taken place (stepped.Took job.letter job.need) (Some job) steps (whose, number, refl, subst (λ (o : Option Running). IsSomeAnd o (λ r. job.snapshot ≡ r.search.snapshot)) (sym at) reads)
-
--- what a search answers to a take is what its taker is told
+-- what a search answers to a take
 pub task_taken : (place : ℕ) (s t : SearchState) (o : Option Task) → (o ≡ None → (slice_get (waiting_in s.stage) place ≡ None) × (t ≡ s)) →
-    IfSome o (λ task. Takes s t place task.letter task.need) → IfSome o (λ task. arc_value task.snap ≡ s.snapshot) → Settles s t → IsSoundStage t.stage →
-    TakesTask place s (Ok o) t
-task_taken place s t None none takes reads settles sound =
-    ((none refl).1, λ name. record { is_made = (None, none refl, refl); settles = settles; sound = sound })
-task_taken place s t (Some task) none takes reads settles sound =
-    (reads, λ name. record { is_made = (Some (task.letter, task.need), takes, refl); settles = settles; sound = sound })
+    IfSome o (λ task. Takes s t place task.letter task.need) → IfSome o (λ task. arc_value task.snap ≡ s.snapshot) →
+    MatchOption o ((slice_get (waiting_in s.stage) place ≡ None) × (t ≡ s)) (λ task. Takes s t place task.letter task.need × (arc_value task.snap ≡ s.snapshot))
+task_taken place s t None none takes reads = none refl
+task_taken place s t (Some task) none takes reads = (takes, reads)

@@ -1,18 +1,17 @@
 -- A search that was lent goes on from what it was, whatever was done to it.
-use Rattle.std.proofs.Common.{◌≡◌, ℕ, Bool, List, [], ap, sym, subst, Option, Some, None, Result, Ok, Err}
-use Rattle.std.specs.Prelude.{MatchOption}
-use Rattle.std.specs.declared.alloc.AllocError.{AllocError}
-use Rattle.search.specs.{declared.queries.Need.Need, declared.queries.Task.Task, Search.SearchState, Search.IsSoundStage}
-use Rattle.hall.specs.declared.{calls.steps.Step.Step, calls.steps.Stepped.Stepped, orders.Order.Order, working.Went.Went}
-use Rattle.hall.specs.declared.working.Went.TheVariants.{Nowhere, On, NoMemory}
-use Rattle.hall.specs.Steps.{StepsSearch, StepsEach}
+use Rattle.std.proofs.Common.{◌≡◌, ℕ, Bool, List, ap, sym, subst, Option, Some, None}
+use Rattle.std.specs.{Prelude.MatchOption, Prelude.slice_get, Arc.arc_value}
+use Rattle.search.specs.{declared.queries.Need.Need, declared.queries.Task.Task, Stage.waiting_in, Finish.Takes}
+use Rattle.search.specs.Search.{SearchState, SameQuestion, Settles, IsSoundStage}
+use Rattle.hall.specs.declared.{calls.steps.Step.Step, calls.steps.Stepped.Stepped, orders.Order.Order, orders.Next.Next}
+use Rattle.hall.specs.declared.orders.Next.TheVariants.{Worked, Idle, NoMemory, Unasked}
+use Rattle.hall.specs.Hall.{StepsSearch, StepsEach}
 use Rattle.hall.specs.Hall.{Running, IsCarriedOn}
-use Rattle.hall.specs.Kept.{Continues, TakesTask}
+use Rattle.hall.specs.Kept.{Continues}
 use Rattle.hall.specs.Batches.{Named, BatchState}
-use Rattle.hall.specs.Work.{HandsIn, gives_back}
-use Rattle.hall.specs.Working.{WentAs, WorksThrough}
+use Rattle.hall.specs.Work.{HandsIn, WentAs, WorksThrough, gives_back}
 use Rattle.hall.proofs.InRow.{each_goes_on, each_sound}
-use Rattle.hall.proofs.SearchSteps.{SearchGoesOn, step_goes_on}
+use Rattle.hall.proofs.SearchSteps.{SearchGoesOn, staged, step_goes_on}
 use Rattle.hall.proofs.laws.HallSteps.{drives_on, goes_nowhere, goes_twice}
 
 -- what goes on, and runs soundly where it did before
@@ -39,10 +38,17 @@ pub continues_stepped : (r s : Running) (made : Step) (answer : Stepped) → Ste
 continues_stepped r s made answer steps opened =
     continues r s opened (record { goes = step_goes_on r.search s.search made answer steps; sound = λ before. steps.sound })
 
-pub continues_taken : (r s : Running) (place : ℕ) (told : Result (Option Task) AllocError) → TakesTask place r.search told s.search → s.opened_at ≡ r.opened_at → Continues r s
-continues_taken r s place (Ok None) (same, steps) opened = continues r s opened (stays_so r.search s.search same)
-continues_taken r s place (Ok (Some task)) (reads, steps) opened = continues_stepped r s _ _ (steps ([], 0)) opened
-continues_taken r s place (Err f) (same, waits) opened = continues r s opened (stays_so r.search s.search same)
+pub continues_taken : (r s : Running) (place : ℕ) (o : Option Task) →
+    MatchOption o ((slice_get (waiting_in r.search.stage) place ≡ None) × (s.search ≡ r.search)) (λ t. Takes r.search s.search place t.letter t.need × (arc_value t.snap ≡ r.search.snapshot)) →
+    Settles r.search s.search → IsSoundStage s.search.stage → s.opened_at ≡ r.opened_at → Continues r s
+continues_taken r s place o taken settles sound opened =
+    continues r s opened (record { goes = record { question = by o taken; settles = settles }; sound = λ before. sound })
+  where
+    by : (o : Option Task) →
+        MatchOption o ((slice_get (waiting_in r.search.stage) place ≡ None) × (s.search ≡ r.search)) (λ t. Takes r.search s.search place t.letter t.need × (arc_value t.snap ≡ r.search.snapshot)) →
+        SameQuestion r.search s.search
+    by None (none, same) = staged r.search s.search r.search.stage same
+    by (Some t) (takes, reads) = staged r.search s.search _ takes.after
 
 pub continues_driven : (r s : Running) → IsCarriedOn r.search s.search → s.opened_at ≡ r.opened_at → Continues r s
 continues_driven r s carried opened =
@@ -57,13 +63,15 @@ handed_in : (back : Bool) (s t : SearchState) (letters : List (ℕ × Need)) (n 
 handed_in back s t letters n None (same, none) = stays_so s t same
 handed_in back s t letters n (Some of) hands = each s t _ hands.answers hands.steps
 
-went : (asked : Order) (most room : ℕ) (name : List ℕ × ℕ) (s t : SearchState) (went : Went) (has : BatchState) → WentAs asked most room name s went t has → GoesSoundly s t
-went asked most room name s t Nowhere has (quiet, same, none, long) = stays_so s t same
-went asked most room name s t On has (goes, moves, (letters, steps, is)) = each s t _ _ steps.steps
-went asked most room name s t NoMemory has (goes, moves, same, none, long) = stays_so s t same
+went : (asked : Order) (most room : ℕ) (name : List ℕ × ℕ) (s t : SearchState) (next : Option Next) (has : BatchState) → WentAs asked most room name s next t has → GoesSoundly s t
+went asked most room name s t None has (quiet, same, none, long) = stays_so s t same
+went asked most room name s t (Some (Worked left)) has (goes, moves, works) = each s t _ _ works.goes_on.steps
+went asked most room name s t (Some NoMemory) has (goes, moves, same, none, long) = stays_so s t same
+went asked most room name s t (Some Idle) has never = absurd never
+went asked most room name s t (Some Unasked) has never = absurd never
 
-pub continues_worked : (r s : Running) (asked : Order) (most : ℕ) (name : List ℕ × ℕ) (had : BatchState) (finished : ℕ) (how : Went) (has : BatchState) →
-    WorksThrough asked most name r.search had finished how s.search has → s.opened_at ≡ r.opened_at → Continues r s
-continues_worked r s asked most name had finished how has works opened =
+pub continues_worked : (r s : Running) (asked : Order) (most : ℕ) (name : List ℕ × ℕ) (had : BatchState) (finished : ℕ) (next : Option Next) (has : BatchState) →
+    WorksThrough asked most name r.search had finished next s.search has → s.opened_at ≡ r.opened_at → Continues r s
+continues_worked r s asked most name had finished next has works opened =
     continues r s opened (both r.search works.middle s.search (handed_in (gives_back asked) r.search works.middle had.letters finished had.of works.handed_in)
-    (went asked most had.room name works.middle s.search how has works.goes_on))
+    (went asked most had.room name works.middle s.search next has works.goes_on))

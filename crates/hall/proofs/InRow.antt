@@ -7,25 +7,23 @@ use Rattle.search.specs.declared.outcomes.Finished.TheVariants as finished
 use Rattle.search.proofs.Stays.{held_none}
 use Rattle.hall.specs.declared.calls.steps.{Step.Step, Stepped.Stepped}
 use Rattle.hall.specs.declared.calls.steps.Stepped.TheVariants as stepped
-use Rattle.hall.specs.Steps.{StepsSearch, StepsEach}
-use Rattle.hall.specs.Hall.{HallState, Running, StepsAt, IsStepped, search_at, search_of_step, with_search}
+use Rattle.hall.specs.Hall.{StepsSearch, StepsEach}
+use Rattle.hall.specs.Hall.{HallState, Running, GoesOnAt, IsStepped, search_at, search_of_step, with_search}
 use Rattle.hall.specs.Batches.{Named, BatchState, IsEmpty}
 use Rattle.hall.specs.declared.orders.Order.{Order}
-use Rattle.hall.specs.declared.working.Went.TheVariants.{Nowhere}
-use Rattle.hall.specs.Work.{Makes, HandsIn, handing_in, going_on, gives_back, is_done}
-use Rattle.hall.specs.Working.{WorksThrough}
+use Rattle.hall.specs.Work.{Makes, HandsIn, WorksThrough, handing_in, going_on, gives_back, is_done}
 use Rattle.hall.proofs.Placed.{found_after, put_back, put_twice}
 use Rattle.hall.proofs.Stays.{quiet}
 use Rattle.hall.proofs.SearchSteps.{SearchGoesOn, step_goes_on}
 use Rattle.hall.proofs.laws.HallSteps.{goes_nowhere, goes_twice}
 
--- one step more
-pub each_more : (s m t : SearchState) (steps : List Step) (answers : List Stepped) (made : Step) (answer : Stepped) → StepsEach s m steps answers →
-    StepsSearch m made answer t → StepsEach s t (steps ++ made ∷ []) (answers ++ answer ∷ [])
-each_more s m t [] [] made answer is last = (t, subst (λ (x : SearchState). StepsSearch x made answer t) is last, refl)
-each_more s m t (first ∷ steps) (told ∷ answers) made answer (u, goes, rest) last = (u, goes, each_more u m t steps answers made answer rest last)
-each_more s m t [] (told ∷ answers) made answer none last = absurd none
-each_more s m t (first ∷ steps) [] made answer none last = absurd none
+-- more steps
+pub each_more : (s m t : SearchState) (steps more : List Step) (answers told : List Stepped) → StepsEach s m steps answers → StepsEach m t more told →
+    StepsEach s t (steps ++ more) (answers ++ told)
+each_more s m t [] more [] told is last = subst (λ (x : SearchState). StepsEach x t more told) is last
+each_more s m t (first ∷ steps) more (answer ∷ answers) told (u, goes, rest) last = (u, goes, each_more u m t steps more answers told rest last)
+each_more s m t [] more (answer ∷ answers) told none last = absurd none
+each_more s m t (first ∷ steps) more [] told none last = absurd none
 
 -- a search goes on by them, and runs soundly
 pub each_goes_on : (s t : SearchState) (steps : List Step) (answers : List Stepped) → StepsEach s t steps answers → SearchGoesOn s t
@@ -45,7 +43,7 @@ each_sound s t (made ∷ steps) [] none sound = absurd none
 pub stepped_there : (h : HallState) (made : Step) (answer : Stepped) (new : HallState) (who : List ℕ) (k : ℕ) (r : Running) (s : SearchState) → (search_of_step made).0 ≡ who →
     (search_of_step made).1 ≡ k → search_at h who k ≡ Some r → StepsSearch r.search made answer s → new ≡ with_search h who k (record r { search = s }) → IsStepped h made answer new
 stepped_there h made answer new who k r s whose number at steps is =
-    subst (λ (o : Option Running). StepsAt h o made answer new) (sym (subst₂ (λ (n : List ℕ) (m : ℕ). search_at h n m ≡ Some r) (sym whose) (sym number) at))
+    subst (λ (o : Option Running). GoesOnAt h (search_of_step made).0 (search_of_step made).1 o (answer ≡ stepped.Gone) (λ s t. StepsSearch s made answer t) new) (sym (subst₂ (λ (n : List ℕ) (m : ℕ). search_at h n m ≡ Some r) (sym whose) (sym number) at))
     (s, steps, subst₂ (λ (n : List ℕ) (m : ℕ). new ≡ with_search h n m (record r { search = s })) (sym whose) (sym number) is)
 
 -- steps that are all of one search
@@ -86,7 +84,7 @@ module _ {X : Type 0} (step : X → Step) (who : List ℕ) (k : ℕ) (whose : (x
     (
       stepped.Gone,
       refl,
-      subst (λ (o : Option Running). StepsAt h o (step x) stepped.Gone h) (sym (subst₂ (λ (n : List ℕ) (m : ℕ). search_at h n m ≡ None) (sym (whose x)) (sym (number x)) none))
+      subst (λ (o : Option Running). GoesOnAt h (search_of_step (step x)).0 (search_of_step (step x)).1 o (stepped.Gone ≡ stepped.Gone) (λ s t. StepsSearch s (step x) stepped.Gone t) h) (sym (subst₂ (λ (n : List ℕ) (m : ℕ). search_at h n m ≡ None) (sym (whose x)) (sym (number x)) none))
           (refl, refl),
     ),
     each_gone h none xs,
@@ -111,7 +109,7 @@ none_done answer isnt (x ∷ xs) =
 
 -- a completed search takes no letter, and has nothing left to do
 pub stays_through : (asked : Order) (most : ℕ) (name : List ℕ × ℕ) (s : SearchState) → IsCompleted s.stage → IsSoundStage s.stage → (had has : BatchState) → IsEmpty has →
-    has.room ≡ had.room → WorksThrough asked most name s had 0 Nowhere s has
+    has.room ≡ had.room → WorksThrough asked most name s had 0 None s has
 stays_through asked most name s done sound had has none room = record {
   middle = s;
   handed_in = by had.of;

@@ -15,7 +15,7 @@ use Rattle.std.specs.Cmp.{IsEquivalence}
 use Rattle.indexmap.specs.IndexMap.{IndexMap, Updates, IsUnique, values, with_value_at}
 use Rattle.indexmap.proofs.CallerLemmas.{updates-with_value_at}
 use Rattle.vaults.proofs.Elements.{IsExactOrder, same_from_tied, tied_both_ways}
-use Rattle.hall.specs.Kept.{IsPlaceOf}
+use Rattle.hall.proofs.AtHand.{IsPlaceOf}
 use Rattle.hall.proofs.Maps.{same_answers}
 
 -- what a table calls equal, its order ties

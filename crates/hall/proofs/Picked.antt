@@ -1,5 +1,6 @@
 -- The step that is picked goes on with a search, and there is one where anything of a search can go on.
 use Rattle.std.proofs.Common.{◌≡◌, ◌≢◌, ◌∙◌, ◌↔◌, ◌≤◌, ◌==◌, ◌⊎◌, inl, inr, [], ◌∷◌, ℕ, List, length, ap, refl, subst, Option, Some, None, option_map, slice_get, true, false, Bool, cond, arith}
+use Rattle.std.specs.Prelude.{MatchOption}
 use Rattle.std.specs.{List.AllByRecursion, List.list_any, Option.option_map_or}
 use Rattle.std.proofs.lemmas.Bool.Decides.{Decides-eqb}
 use Rattle.std.proofs.lemmas.List.Elements.{All-contains, All-from_recursion}
@@ -17,13 +18,15 @@ use Rattle.search.specs.declared.stages.Stage.{Stage}
 use Rattle.search.specs.declared.stages.Stage.TheVariants as stage
 use Rattle.search.specs.Ending.{Nothing}
 use Rattle.search.specs.Search.{found, come_to, SearchState, settled_of}
-use Rattle.search.specs.Stage.{waiting_in, signals_in, IsQuiet}
+use Rattle.search.specs.Stage.{waiting_in, signals_in, IsQuiet, Delivers}
 use Rattle.hall.specs.declared.calls.steps.Step.{Step}
+use Rattle.hall.specs.declared.calls.steps.Step.TheVariants.{Take, Signal}
+use Rattle.hall.specs.declared.calls.steps.Stepped.{Stepped}
 use Rattle.hall.specs.declared.calls.steps.Stepped.TheVariants as stepped
-use Rattle.hall.specs.Steps.{TakesAt, Signals}
+use Rattle.search.specs.Finish.{Takes}
 use Rattle.hall.specs.Hall.{Running, HallState, search_at, search_of_step}
-use Rattle.hall.specs.Work.{SearchIsQuiet, NothingToDo, MadeProgress, CanBeMade}
-use Rattle.hall.specs.Kept.{IsNext, IsUnsettled, Index, IsIndexed}
+use Rattle.hall.specs.Work.{SearchIsQuiet, NothingToDo, CanBeMade}
+use Rattle.hall.specs.Kept.{Index, IsIndexed}
 use Rattle.hall.proofs.Unsettled.{IsIn}
 use Rattle.hall.proofs.Indexed.{looked_up, all_found}
 use Rattle.hall.proofs.Stays.{quiet}
@@ -33,23 +36,31 @@ first_none : {X : Type 0} (xs : List X) → slice_get xs 0 ≡ None → xs ≡ [
 first_none [] none = refl
 first_none (x ∷ xs) none = cc
 
+-- the step goes on with the search: it takes the first letter, where one waits, or delivers the oldest signal, if any
+abbrev IsNext : List ℕ → ℕ → SearchState → Step → Type 0
+IsNext who k s made = ((made ≡ Take who k 0) × (waiting_in s.stage ≢ [])) ⊎ ((made ≡ Signal who k 0) × (signals_in s.stage ≢ []))
+
 -- a list that isn't longer than nothing is empty
 none_long : {X : Type 0} (xs : List X) → length xs ≤ 0 → xs ≡ []
 none_long [] short = refl
 none_long (x ∷ xs) short = absurd (omega (arith, short))
 
+-- a letter was taken, or a signal delivered
+abbrev MadeProgress : Stepped → Type 0
+MadeProgress answer = ((letter : ℕ) × (need : Need) × (answer ≡ stepped.Took letter need)) ⊎ (answer ≡ stepped.Signalled)
+
 module _ (old new : SearchState) where
   -- where a letter waits, the first one is taken
-  took_one : (got : Option (ℕ × Need)) → waiting_in old.stage ≢ [] → TakesAt old 0 got new →
+  took_one : (got : Option (ℕ × Need)) → waiting_in old.stage ≢ [] → MatchOption got ((slice_get (waiting_in old.stage) 0 ≡ None) × (new ≡ old)) (λ l. Takes old new 0 l.0 l.1) →
       MadeProgress (option_map_or (λ l. stepped.Took l.0 l.1) got stepped.Nothing)
   took_one None waits (none, same) = absurd (waits (first_none (waiting_in old.stage) none))
-  took_one (Some got) waits takes = tt
+  took_one (Some got) waits takes = inl (got.0, got.1, refl)
 
   -- where a signal is under way, the oldest is delivered
-  delivered_one : (delivered : Bool) → signals_in old.stage ≢ [] → Signals old 0 delivered new →
+  delivered_one : (delivered : Bool) → signals_in old.stage ≢ [] → Delivers old.stage new.stage 0 delivered →
       MadeProgress (cond delivered stepped.Signalled stepped.Nothing)
-  delivered_one false waits signals = absurd (waits (none_long (signals_in old.stage) signals.delivers.0))
-  delivered_one true waits signals = tt
+  delivered_one false waits delivers = absurd (waits (none_long (signals_in old.stage) delivers.0))
+  delivered_one true waits delivers = inr refl
 
 module _ (h : HallState) (who : List ℕ) (k : ℕ) (r : Running) (at : search_at h who k ≡ Some r) where
   -- the step that goes on with a search takes a letter or delivers a signal
@@ -57,7 +68,7 @@ module _ (h : HallState) (who : List ℕ) (k : ℕ) (r : Running) (at : search_a
   goes_on made (inl (is, waits)) answer new =
       rw (is, at) (λ made_so. let (got, takes, told) = made_so.1.is_made in rw told (took_one r.search made_so.0 got waits takes))
   goes_on made (inr (is, waits)) answer new =
-      rw (is, at) (λ made_so. let (got, signals, told) = made_so.1.is_made in rw told (delivered_one r.search made_so.0 got waits signals))
+      rw (is, at) (λ made_so. let (delivered, delivers, same, told) = made_so.1.is_made in rw told (delivered_one r.search made_so.0 delivered waits delivers))
 
   -- and something of its search is left to do
   is_left : (made : Step) → IsNext who k r.search made → SearchIsQuiet h (search_of_step made).0 (search_of_step made).1 → ⊥
@@ -74,7 +85,7 @@ rests_at (stage.Running c) g q = by (outstanding c == 0) refl
 rests_at stage.Spent g q = inr (refl, refl)
 rests_at stage.Broken g q = inr (refl, refl)
 
-pub rests : (s : SearchState) → IsUnsettled s ⊎ IsQuiet s.stage
+pub rests : (s : SearchState) → (settled_of s ≡ Nothing) ⊎ IsQuiet s.stage
 unfolding settled_of
 rests s = rests_at s.stage s.graph s.query
 
@@ -94,7 +105,7 @@ nothing_left {S} {Z} index h indexed still name k r at = by (rests r.search)
         (all_found names_exact is_same is_same_tied (λ e. AllByRecursion (SearchIsQuiet h e.0) e.1.keys) index.entries still name numbers
         (looked_up names_exact is_same is_same_tied index.entries name ∙ here)) listed r at
 
-    by : IsUnsettled r.search ⊎ IsQuiet r.search.stage → IsQuiet r.search.stage
+    by : (settled_of r.search ≡ Nothing) ⊎ IsQuiet r.search.stage → IsQuiet r.search.stage
     by (inr quiet) = quiet
     by (inl unsettled) =
         let (t, found, there) = tenant_of h name k r at in

@@ -7,9 +7,9 @@ use Rattle.vaults.proofs.Orders.{names_exact}
 use Rattle.hall.specs.declared.calls.requests.Request.{Request}
 use Rattle.hall.specs.declared.calls.replies.Reply.{Reply}
 use Rattle.hall.specs.Answers.{sight, Answers}
-use Rattle.hall.specs.Hall.{Running, Tenant, HallState, account, with_tenant, with_search, search_of, search_at, hall_after, IsServed}
+use Rattle.hall.specs.Hall.{Running, Tenant, HallState, account, with_tenant, with_search, search_at, hall_after, IsServed}
 use Rattle.hall.proofs.Maps.{numbers_exact, get_inserted, insert_again, insert_twice}
-use Rattle.hall.proofs.laws.HallChanges.{changed_here, tenant_of}
+use Rattle.hall.proofs.laws.HallChanges.{search_of, changed_here, tenant_of}
 
 -- the tenant of that name is this one
 abbrev pub put : HallState → List ℕ → Tenant → HallState

@@ -1,18 +1,17 @@
 -- A poll, and a name that is no tenant's, answered by an account.
-use Rattle.std.proofs.Common.{◌≡◌, ◌∙◌, ℕ, List, ap, sym, refl, Option, Some, None, option_map, Result, Ok, Err}
+use Rattle.std.proofs.Common.{◌≡◌, ◌∙◌, ℕ, List, ap, sym, refl, Option, Some, None, option_map}
 use Rattle.std.specs.FinMap.{get}
-use Rattle.search.specs.Search.{settled_of}
 use Rattle.hall.specs.declared.faults.Fault.{Fault}
 use Rattle.hall.specs.declared.faults.Fault.TheVariants.{NoTenant, NoSuchSearch}
 use Rattle.hall.specs.declared.calls.requests.Request.{Request}
 use Rattle.hall.specs.declared.calls.requests.Request.TheVariants as request
-use Rattle.hall.specs.declared.calls.answers.Answer.{Answer}
 use Rattle.hall.specs.declared.calls.replies.Reply.{Reply}
-use Rattle.hall.specs.declared.calls.replies.Reply.TheVariants.{Answered, Refused}
-use Rattle.hall.specs.Answers.{Asked, Account, Sight, sight, Answers, IsClear, refuses, grants, lacks}
-use Rattle.hall.specs.Hall.{Running, Tenant, HallState, seen, account, search_of, search_at, hall_after, IsServed, told_as}
-use Rattle.hall.specs.Kept.{IsNowhere, IsToldOf}
+use Rattle.hall.specs.declared.calls.replies.Reply.TheVariants.{Refused}
+use Rattle.hall.specs.Answers.{Asked, Account, sight, Answers, IsClear, refuses}
+use Rattle.hall.specs.Hall.{Running, Tenant, HallState, seen, account, search_at, hall_after, IsServed}
+use Rattle.hall.specs.Kept.{IsNowhere}
 use Rattle.hall.proofs.Maps.{numbers_exact, get_mapped}
+use Rattle.hall.proofs.laws.HallChanges.{search_of}
 
 -- a refusal changes nothing
 pub refused_after : (h : HallState) (who : List ℕ) (q : Request) (f : Fault) → hall_after h who q (Refused f) ≡ h
@@ -42,17 +41,9 @@ none_there h who k f is = by (get h.tenants who) is
     by None is = refl
     by (Some t) (is, none) = none
 
--- a search of an account is polled
-pub polled_of : (tenant : List ℕ) (sees : Sight) (a : Account) (k : ℕ) (s : Asked) → get a.searches k ≡ Some s → (told : Result Answer Fault) → IsToldOf s.settled told →
-    Answers tenant sees a (request.Poll k) (told_as Answered told) a
-polled_of tenant sees a k s at told is = by told is
-  where
-    clear : IsClear tenant a (request.Poll k)
-    clear f due = let clash : Some s ≡ None = sym at ∙ due.0 in cc
-
-    by : (r : Result Answer Fault) → IsToldOf s.settled r → Answers tenant sees a (request.Poll k) (told_as Answered r) a
-    by (Ok answer) is = grants clear (s, at, ap Answered is, refl)
-    by (Err f) (is, (names, lists)) = rw is (lacks clear (s, names, at, lists))
+-- no refusal is due to a poll of a search that an account has
+pub poll_clear : (tenant : List ℕ) (a : Account) (k : ℕ) (s : Asked) → get a.searches k ≡ Some s → IsClear tenant a (request.Poll k)
+poll_clear tenant a k s at f due = let clash : Some s ≡ None = sym at ∙ due.0 in cc
 
 module _ (h : HallState) (who : List ℕ) (k : ℕ) (t : Tenant) (here : get h.tenants who ≡ Some t) where
   pub asked_of : (o : Option Running) → get t.searches k ≡ o → get (account h.journal who t).searches k ≡ option_map seen o
@@ -61,9 +52,3 @@ module _ (h : HallState) (who : List ℕ) (k : ℕ) (t : Tenant) (here : get h.t
   pub polled_nowhere : get t.searches k ≡ None → IsServed h who (request.Poll k) (Refused NoSuchSearch) h
   polled_nowhere none =
       answered_by h who t here (request.Poll k) (Refused NoSuchSearch) (refuses NoSuchSearch (asked_of None none, refl)) refl
-
-  pub polled_there : (r : Running) → get t.searches k ≡ Some r → (told : Result Answer Fault) → IsToldOf (settled_of r.search) told →
-      IsServed h who (request.Poll k) (told_as Answered told) h
-  polled_there r at told is =
-      answered_by h who t here (request.Poll k) (told_as Answered told)
-      (polled_of who (sight h.journal who (request.Poll k)) (account h.journal who t) k (seen r) (asked_of (Some r) at) told is) refl

@@ -1,14 +1,18 @@
 -- A search that is reached among the tenants of a hall, and what becomes of the hall as it goes on.
-use Rattle.std.proofs.Common.{◌≡◌, ◌∙◌, ℕ, List, ap, sym, subst, Some, Result, Ok}
+use Rattle.std.proofs.Common.{◌≡◌, ◌≢◌, ◌∙◌, ℕ, List, ap, sym, subst, Some, Result, Ok}
 use Rattle.std.specs.Result.{IsOk, is_ok}
 use Rattle.vaults.specs.declared.changes.Entry.{Entry}
-use Rattle.hall.specs.Hall.{Running, Tenants, HallState, IsSound, search_at, with_search}
-use Rattle.hall.specs.Kept.{Continues, IsUnsettled, Index, KeepsBut, IsIndexed}
+use Rattle.std.specs.FinMap.{FinMap}
+use Rattle.names.specs.Name.{name_order}
+use Rattle.search.specs.Search.{settled_of}
+use Rattle.search.specs.Ending.{Nothing}
+use Rattle.hall.specs.Hall.{Running, Tenant, HallState, IsSound, search_at, with_search}
+use Rattle.hall.specs.Kept.{Continues, Index, KeepsBut, IsIndexed}
 use Rattle.hall.proofs.Unsettled.{ListsUnsettled, listed_after, unsettled_before}
 use Rattle.hall.proofs.laws.HallChanges.{tenant_of}
 use Rattle.hall.proofs.laws.HallSound.{goes_sound}
 
-abbrev pub hall_of : List Entry → Tenants → HallState
+abbrev pub hall_of : List Entry → FinMap name_order Tenant → HallState
 hall_of journal tenants = record { journal = journal; tenants = tenants }
 
 -- a loan that was given, and one that wasn't
@@ -33,7 +37,7 @@ module _ (h : HallState) (who : List ℕ) (k : ℕ) (r s : Running) (at : search
       subst IsSound (sym becomes) (goes_sound h who k r s.search sound at (record { question = goes.question; settles = goes.settles }) (goes.sound (sound who t k r found there).2.computation))
 
   -- and it is left out of the index where it has settled
-  pub lent_indexed : {X Y : Type 0} (index kept : Index X Y) → KeepsBut (λ name j. (name ≡ who) × (j ≡ k) × (IsUnsettled s.search → ⊥)) index kept →
+  pub lent_indexed : {X Y : Type 0} (index kept : Index X Y) → KeepsBut (λ name j. (name ≡ who) × (j ≡ k) × (settled_of s.search ≢ Nothing)) index kept →
       ListsUnsettled index h → IsIndexed kept new
   lent_indexed index kept keeps listed = record {
     sound = lent_sound;

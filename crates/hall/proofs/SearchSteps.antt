@@ -1,4 +1,5 @@
 -- A step of a search goes on with one question, and what is known of a new search.
+use Rattle.std.specs.Prelude.{MatchOption, MatchBool, slice_get}
 use Rattle.std.proofs.Common.{refl, ◌+◌, ◌==◌, ℕ, Bool, true, false, cond, List, [], ◌∷◌, ◌≡◌, ap, Option, Some, None, ne_eqb, arith}
 use Rattle.snapshots.specs.Snapshot.{SnapshotState}
 use Rattle.search.specs.declared.queries.Query.{Query}
@@ -14,13 +15,14 @@ use Rattle.search.specs.declared.letters.Load.TheVariants as load
 use Rattle.search.specs.declared.stages.Stage.{Stage}
 use Rattle.search.specs.Ending.{Settled, Nothing, asked_role}
 use Rattle.search.specs.Search.{found, SearchState, new_search, SameQuestion, Settles, settled_of}
-use Rattle.search.specs.Finish.{Finishes}
-use Rattle.search.specs.Stage.{if_held, NoneHeld}
+use Rattle.search.specs.{Net.Said, Finish.Takes, Finish.Finishes}
+use Rattle.search.specs.Stage.{if_held, NoneHeld, waiting_in, held_in, stage_marked}
+use Rattle.scholten_core.specs.declared.letters.Letter.{Letter}
 use Rattle.scholten_core.specs.declared.parents.Parent.TheVariants.{Environment}
 use Rattle.hall.specs.declared.calls.steps.Step.{Step}
 use Rattle.hall.specs.declared.calls.steps.Step.TheVariants as step
 use Rattle.hall.specs.declared.calls.steps.Stepped.{Stepped}
-use Rattle.hall.specs.Steps.{TakesAt, PutsBack, IsMade, StepsSearch}
+use Rattle.hall.specs.Hall.{IsMade, StepsSearch}
 
 -- another stage is no other question
 pub staged : (old new : SearchState) (at : Stage) → new ≡ record old { stage = at } → SameQuestion old new
@@ -28,6 +30,17 @@ staged old new at is = record {
   query = ap (λ (s : SearchState). s.query) is;
   work = ap (λ (s : SearchState). s.work) is;
   snapshot = ap (λ (s : SearchState). s.snapshot) is;
+}
+
+-- what changes its stage alone
+pub stage_alone : (old new : SearchState) → new.graph ≡ old.graph → new.monitors ≡ old.monitors → SameQuestion old new → new ≡ record old { stage = new.stage }
+stage_alone old new graph monitors question = λ i. record {
+  query = question.query i;
+  work = question.work i;
+  snapshot = question.snapshot i;
+  graph = graph i;
+  monitors = monitors i;
+  stage = new.stage;
 }
 
 pub finish_keeps : (old new : SearchState) (letter : ℕ) (hint : Hint) (f : Finished) → Finishes old new letter hint f → SameQuestion old new
@@ -40,16 +53,19 @@ finish_keeps old new letter hint finished.Broken (l, rightly, (broken, question)
 made_keeps : (old new : SearchState) (made : Step) (answer : Stepped) → IsMade old made answer new → SameQuestion old new
 made_keeps old new (step.Take name k place) answer (got, takes, is) = by got takes
   where
-    by : (got : Option (ℕ × Need)) → TakesAt old place got new → SameQuestion old new
+    by : (got : Option (ℕ × Need)) → MatchOption got ((slice_get (waiting_in old.stage) place ≡ None) × (new ≡ old)) (λ l. Takes old new place l.0 l.1) → SameQuestion old new
     by None takes = staged old new old.stage takes.1
     by (Some g) takes = staged old new _ takes.after
 made_keeps old new (step.GiveBack name k letter) answer (back, puts, is) = by back puts
   where
-    by : (back : Bool) → PutsBack old letter back new → SameQuestion old new
+    by : (back : Bool) →
+        MatchBool back
+        (((l : Letter Said) × (held_in old.stage letter ≡ Some l)) × (new ≡ record old { stage = stage_marked letter false old.stage }))
+        ((held_in old.stage letter ≡ None) × (new ≡ old)) → SameQuestion old new
     by false puts = staged old new old.stage puts.1
     by true puts = staged old new _ puts.1
 made_keeps old new (step.Finish name k letter hint) answer (f, finishes, is) = finish_keeps old new letter hint f finishes
-made_keeps old new (step.Signal name k place) answer (delivered, signals, is) = signals.question
+made_keeps old new (step.Signal name k place) answer (delivered, delivers, same, is) = staged old new new.stage same
 
 -- the search goes on with its question, and may settle
 pub record SearchGoesOn (old new : SearchState) : Type 0 where

@@ -1,9 +1,9 @@
 -- What the tables of a hall find: a tenant by its name, and its searches by their numbers.
 use Rattle.std.proofs.Common.{◌≡◌, ◌∙◌, ◌==◌, ℕ, true, List, slice_get, None, Some, ap, sym}
-use Rattle.std.specs.FinMap.{get, insert, from_entries}
+use Rattle.std.specs.FinMap.{FinMap, get, insert, from_entries}
 use Rattle.std.specs.Cmp.{unsigned_tied}
 use Rattle.std.specs.Ordering.{nat_cmp}
-use Rattle.names.specs.Name.{is_same}
+use Rattle.names.specs.Name.{is_same, name_order}
 use Rattle.names.proofs.SameNames.{is_same_tied}
 use Rattle.indexmap.specs.IndexMap.{IndexMap, IsUnique, values, with_value_at}
 use Rattle.indexmap.specs.IndexMap as table
@@ -11,16 +11,16 @@ use Rattle.quotas.specs.Quota.{Quota}
 use Rattle.vaults.specs.declared.changes.Entry.{Entry}
 use Rattle.vaults.proofs.Elements.{same_from_tied}
 use Rattle.vaults.proofs.Orders.{names_exact}
-use Rattle.hall.specs.Hall.{Running, Tenant, Tenants, with_search}
-use Rattle.hall.specs.Kept.{IsPlaceOf}
+use Rattle.hall.specs.Hall.{Running, Tenant, with_search}
+use Rattle.hall.proofs.AtHand.{IsPlaceOf}
 use Rattle.hall.proofs.Maps.{numbers_exact}
 use Rattle.hall.proofs.Indexed.{looked_up, found_there, written_there}
 use Rattle.hall.proofs.Placed.{put_changed}
 
-module _ {S : Type 0} (m : IndexMap (List ℕ) Tenant S) (tenants : Tenants) (view : from_entries m.entries ≡ tenants) (who : List ℕ) where
+module _ {S : Type 0} (m : IndexMap (List ℕ) Tenant S) (tenants : FinMap name_order Tenant) (view : from_entries m.entries ≡ tenants) (who : List ℕ) where
   -- the tenant of a name is what the table finds
   pub seat_found : get tenants who ≡ table.get is_same m who
-  seat_found = ap (λ (t : Tenants). get t who) (sym view) ∙ looked_up names_exact is_same is_same_tied m.entries who
+  seat_found = ap (λ (t : FinMap name_order Tenant). get t who) (sym view) ∙ looked_up names_exact is_same is_same_tied m.entries who
 
   -- where an entry stands at the name's place it is the tenant's
   pub seat_named : (at : ℕ) (name : List ℕ) (t : Tenant) → IsPlaceOf (is_same who) m.entries at → Some (name, t) ≡ slice_get m.entries at →
@@ -40,7 +40,7 @@ module _ {S : Type 0} (m : IndexMap (List ℕ) Tenant S) (tenants : Tenants) (vi
 
     -- a tenant that is written through a loan is put there
     pub seat_written : (u : Tenant) → from_entries (with_value_at m at u).entries ≡ insert tenants who u
-    seat_written u = written_there names_exact is_same is_same_tied m who at t unique place value u ∙ ap (λ (t : Tenants). insert t who u) view
+    seat_written u = written_there names_exact is_same is_same_tied m who at t unique place value u ∙ ap (λ (t : FinMap name_order Tenant). insert t who u) view
 
 -- the tenant of a table
 abbrev pub tenant_of : {S : Type 0} → Quota → ℕ → IndexMap ℕ Running S → Tenant
@@ -57,7 +57,7 @@ module _ {S : Type 0} (m : IndexMap ℕ Running S) (k : ℕ) where
     search_there = search_found ∙ found_there numbers_exact (◌==◌) unsigned_tied m k at r unique place value
 
     -- a search that is written through a loan of one of a tenant's searches goes on in its place
-    pub search_written : (tenants : Tenants) (who : List ℕ) (limits : Quota) (opens : ℕ) → get tenants who ≡ Some (tenant_of limits opens m) →
+    pub search_written : (tenants : FinMap name_order Tenant) (who : List ℕ) (limits : Quota) (opens : ℕ) → get tenants who ≡ Some (tenant_of limits opens m) →
         (q : Running) (journal : List Entry) →
         record { journal = journal; tenants = insert tenants who (tenant_of limits opens (with_value_at m at q)) } ≡ with_search (record { journal = journal; tenants = tenants }) who k q
     search_written tenants who limits opens here q journal =

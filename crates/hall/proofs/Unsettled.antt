@@ -1,5 +1,5 @@
 -- An index of the searches that may still go on, beside the hall that has them.
-use Rattle.std.proofs.Common.{◌≡◌, ◌∙◌, ◌==◌, ℕ, Bool, true, false, cond, List, [], ◌∷◌, length, ap, sym, refl, subst, inl, inr, arith, Option, Some, None, is_some}
+use Rattle.std.proofs.Common.{◌≡◌, ◌≢◌, ◌∙◌, ◌==◌, ℕ, Bool, true, false, cond, List, [], ◌∷◌, length, ap, sym, refl, subst, inl, inr, arith, Option, Some, None, is_some}
 use Rattle.std.specs.{Prelude.IsSomeAnd, FinMap.get}
 use Rattle.std.specs.List.{list_any}
 use Rattle.std.proofs.lemmas.Bool.{false≢true}
@@ -13,15 +13,16 @@ use Rattle.indexmap.specs.IndexSet.{IndexSet, contains}
 use Rattle.indexmap.specs.IndexSet as set
 use Rattle.search.specs.declared.queries.Query.{Query}
 use Rattle.search.specs.Search.{SearchState, Settles, settled_of}
+use Rattle.search.specs.Ending.{Nothing}
 use Rattle.hall.specs.declared.calls.requests.Request.{Request}
 use Rattle.hall.specs.declared.calls.requests.Request.TheVariants.{Seek}
 use Rattle.hall.specs.declared.calls.replies.Reply.{Reply}
 use Rattle.hall.specs.declared.calls.replies.Reply.TheVariants.{Opened}
-use Rattle.hall.specs.Hall.{Running, Tenant, HallState, EachSearch, with_search, search_of, search_at, IsServed}
-use Rattle.hall.specs.Kept.{IsUnsettled, Index, Lists, KeepsBut}
+use Rattle.hall.specs.Hall.{Running, Tenant, HallState, EachSearch, with_search, search_at, IsServed}
+use Rattle.hall.specs.Kept.{Index, Lists, KeepsBut}
 use Rattle.hall.proofs.Maps.{get_inserted}
 use Rattle.hall.proofs.Placed.{put, found_after}
-use Rattle.hall.proofs.laws.HallChanges.{replaced_each, inserted_each}
+use Rattle.hall.proofs.laws.HallChanges.{search_of, replaced_each, inserted_each}
 use Rattle.hall.proofs.laws.HallRequests.{requested_each}
 
 -- the number is one of these, where there are any
@@ -30,10 +31,10 @@ IsIn k o = IsSomeAnd o (λ numbers. contains (◌==◌) numbers k ≡ true)
 
 -- each search that has come to nothing yet is in the index
 abbrev pub ListsUnsettled : {S Z : Type 0} → Index S Z → HallState → Type 0
-ListsUnsettled index h = EachSearch (λ name t k r. IsUnsettled r.search → Lists index name k) h
+ListsUnsettled index h = EachSearch (λ name t k r. settled_of r.search ≡ Nothing → Lists index name k) h
 
 -- a search that has come to nothing yet had before
-pub unsettled_before : (s t : SearchState) → Settles s t → IsUnsettled t → IsUnsettled s
+pub unsettled_before : (s t : SearchState) → Settles s t → settled_of t ≡ Nothing → settled_of s ≡ Nothing
 unsettled_before s t (inl same) nothing = sym same ∙ nothing
 unsettled_before s t (inr ends) nothing = ends.0
 
@@ -106,7 +107,7 @@ module _ {S Z : Type 0} where
 
   -- what is left out need not be in the index
   pub still_listed : (old new : Index S Z) (h : HallState) (out : List ℕ → ℕ → Type 0) → KeepsBut out old new → ListsUnsettled old h →
-      ((name : List ℕ) (k : ℕ) (r : Running) → out name k → search_at h name k ≡ Some r → IsUnsettled r.search → ⊥) → ListsUnsettled new h
+      ((name : List ℕ) (k : ℕ) (r : Running) → out name k → search_at h name k ≡ Some r → settled_of r.search ≢ Nothing) → ListsUnsettled new h
   still_listed old new h out keeps listed settled name t k r found at unsettled =
       keeps name k (λ left. settled name k r left (ap (search_of k) found ∙ at) unsettled) (listed name t k r found at unsettled)
 
@@ -121,11 +122,11 @@ module _ {S Z : Type 0} where
 
   -- a search that goes on is left out where it has settled
   pub listed_after : (old new : Index S Z) (h : HallState) (who : List ℕ) (k : ℕ) (r : Running) (s : SearchState) → search_at h who k ≡ Some r →
-      (IsUnsettled s → IsUnsettled r.search) → KeepsBut (λ name j. (name ≡ who) × (j ≡ k) × (IsUnsettled s → ⊥)) old new → ListsUnsettled old h →
+      (settled_of s ≡ Nothing → settled_of r.search ≡ Nothing) → KeepsBut (λ name j. (name ≡ who) × (j ≡ k) × (settled_of s ≢ Nothing)) old new → ListsUnsettled old h →
       ListsUnsettled new (with_search h who k (record r { search = s }))
   listed_after old new h who k r s at before keeps listed =
-      still_listed old new (with_search h who k q) (λ name j. (name ≡ who) × (j ≡ k) × (IsUnsettled s → ⊥)) keeps
-      (replaced_each (λ name t j x. IsUnsettled x.search → Lists old name j) h who k r q (λ t m j x here. here) at
+      still_listed old new (with_search h who k q) (λ name j. (name ≡ who) × (j ≡ k) × (settled_of s ≢ Nothing)) keeps
+      (replaced_each (λ name t j x. settled_of x.search ≡ Nothing → Lists old name j) h who k r q (λ t m j x here. here) at
       (λ t here unsettled. here (before unsettled)) listed)
       (λ name j x out found unsettled.
       let both : Some q ≡ Some x = rw (out.0, out.1, found_after h who k r at q) at found in
@@ -140,8 +141,8 @@ pub listed_requested : {S Z : Type 0} (index : Index S Z) (old new : HallState) 
     ListsUnsettled index old → ((query : Query) (n : ℕ) → q ≡ Seek query → told ≡ Opened n → Lists index who n) → ListsUnsettled index new
 listed_requested index old new who q told served listed opened =
     subst (ListsUnsettled index) (sym served.after)
-    (requested_each old who (λ name t k r. IsUnsettled r.search → Lists index name k) q told listed
-    (λ query n t is said found. inserted_each (λ k r. IsUnsettled r.search → Lists index who k) t.searches n _ (λ k r at. listed who t k r found at)
+    (requested_each old who (λ name t k r. settled_of r.search ≡ Nothing → Lists index name k) q told listed
+    (λ query n t is said found. inserted_each (λ k r. settled_of r.search ≡ Nothing → Lists index who k) t.searches n _ (λ k r at. listed who t k r found at)
     (λ unsettled. opened query n is said))
     (λ k t found j r at. listed who t j r found at))
 

@@ -1,12 +1,12 @@
 -- What a tenant is told of its view, and of a proof, by its account.
-use Rattle.std.proofs.Common.{◌≡◌, ◌∙◌, ℕ, List, ap, sym, refl, inl, inr, Option, Some, None, option_map, Result}
+use Rattle.std.proofs.Common.{◌≡◌, ◌∙◌, ℕ, List, ap, sym, refl, inl, inr, Option, Some, None, option_map}
 use Rattle.std.specs.FinMap.{get}
 use Rattle.credential_text.specs.declared.credentials.Credential.{Credential}
 use Rattle.rt0_rules.specs.Membership.{IsMember}
 use Rattle.vaults.specs.declared.marks.Seen.{Seen}
 use Rattle.vaults.specs.Journal.{vault, marked_names}
 use Rattle.vaults.proofs.Exactness.{vaults_own}
-use Rattle.search.specs.Ending.{asked_role}
+use Rattle.search.specs.Ending.{Members, asked_role}
 use Rattle.search.specs.Search.{SearchState, IsCompleted, rows_of, settled_of}
 use Rattle.proof_trees.specs.declared.steps.Step.{Step as ProofStep}
 use Rattle.proof_trees.specs.declared.faults.ProofFault.{ProofFault}
@@ -23,12 +23,12 @@ use Rattle.hall.specs.declared.calls.replies.Reply.{Reply}
 use Rattle.hall.specs.declared.calls.replies.Reply.TheVariants.{Refused}
 use Rattle.hall.specs.declared.calls.replies.Reply.TheVariants as reply
 use Rattle.hall.specs.Fault.{proof_fault}
-use Rattle.hall.specs.Answers.{Account, RefusesProof, IsClear, IsToldOver, sight, refuses, grants, lacks}
-use Rattle.hall.specs.Hall.{Running, Tenant, HallState, known, seen, account, search_of, search_at, hall_after, IsServed, told_as}
-use Rattle.hall.specs.Kept.{IsNowhere, IsToldOf}
+use Rattle.hall.specs.Answers.{Account, answer_of, RefusesProof, IsClear, IsToldOver, sight, refuses, grants, lacks}
+use Rattle.hall.specs.Hall.{Running, Tenant, HallState, known, seen, account, search_at, hall_after, IsServed}
+use Rattle.hall.specs.Kept.{IsNowhere}
 use Rattle.hall.proofs.Completed.{answer_completed}
-use Rattle.hall.proofs.Polled.{nobody_refused, answered_by, asked_of, polled_nowhere, polled_of}
-use Rattle.hall.proofs.laws.HallChanges.{tenant_of}
+use Rattle.hall.proofs.Polled.{nobody_refused, answered_by, asked_of, poll_clear, polled_nowhere}
+use Rattle.hall.proofs.laws.HallChanges.{search_of, tenant_of}
 
 module _ (h : HallState) (who : List ℕ) (t : Tenant) (here : get h.tenants who ≡ Some t) where
   pub vault_told : (rows : List Credential) → rows ≡ vault h.journal who → IsServed h who request.Vault (reply.Vault rows) h
@@ -59,8 +59,12 @@ module _ (h : HallState) (who : List ℕ) (t : Tenant) (here : get h.tenants who
     nothing_proved none = refused_for None (sym (ap (search_of k) here) ∙ none) NoSuchSearch refl
 
 -- what a search has come to is told alike to each account that has it
-pub polled_over : (s : SearchState) (told : Result Answer Fault) → IsToldOf (settled_of s) told → IsToldOver (known s) request.Poll (told_as reply.Answered told)
-polled_over s told is tenant sees a k at = polled_of tenant sees a k (known s) at told is
+pub answered_over : (s : SearchState) (told : Answer) → told ≡ answer_of (settled_of s) → IsToldOver (known s) request.Poll (reply.Answered told)
+answered_over s told is tenant sees a k at = grants (poll_clear tenant a k (known s) at) (known s, at, ap reply.Answered is, refl)
+
+-- and memory may lack where that lists members
+pub lacks_over : (s : SearchState) (names : List (List ℕ)) → settled_of s ≡ Members names → IsToldOver (known s) request.Poll (Refused Memory)
+lacks_over s names lists tenant sees a k at = lacks (poll_clear tenant a k (known s) at) (known s, names, at, lists)
 
 module _ (s : SearchState) (member : List ℕ) where
   module _ (tenant : List ℕ) (a : Account) (k : ℕ) (at : get a.searches k ≡ Some (known s)) where

@@ -9,10 +9,9 @@ use Rattle.vaults.specs.declared.{changes.Change.Change, changes.Entry.Entry, ma
 use Rattle.vaults.specs.declared.changes.Change.TheVariants.{Upload, Grant, GrantAll, Revoke, RevokeAll}
 use Rattle.vaults.specs.Journal.{Vault, vault, view, marked_names, grant_count, refusal, credentials}
 use Rattle.search.specs.declared.queries.Query.{Query}
-pub use Rattle.search.specs.declared.queries.Query.TheVariants.{Ask, Who}
 use Rattle.search.specs.Ending.{Settled, Nothing, Yes, No, Members, Spent, Broken, asked_role}
-use Rattle.proof_trees.specs.declared.steps.Step.{Step as ProofStep}
-use Rattle.proof_trees.specs.Proof.{IsProof}
+use Rattle.search.specs.Search.{IsAnswered, status_of}
+use Rattle.proof_trees.specs.{declared.steps.Step.Step as ProofStep, Proof.IsProof}
 pub use Rattle.proof_trees.specs.Text.{proof_text}
 use Rattle.hall.specs.declared.{faults.Fault.Fault, calls.requests.Request.Request, calls.answers.Answer.Answer, calls.replies.Reply.Reply}
 use Rattle.hall.specs.declared.faults.Fault.TheVariants as fault
@@ -81,19 +80,12 @@ answer_of (Members names) = answer.Members names
 answer_of Spent = answer.Spent
 answer_of Broken = answer.Broken
 
--- the query is answered
-abbrev pub IsAnswer : Settled → Type 0
-IsAnswer Yes = Unit {0}
-IsAnswer No = Unit {0}
-IsAnswer (Members names) = Unit {0}
-IsAnswer _ = ⊥
-
 -- the search isn't there, has no answer, or the entity is no member
 abbrev pub RefusesProof : Option Asked → List ℕ → Fault → Type 0
 RefusesProof None who f = f ≡ fault.NoSuchSearch
 RefusesProof (Some s) who f =
-    ((f ≡ fault.NotDone) × (IsAnswer s.settled → ⊥))
-    ⊎ ((f ≡ fault.NoProof) × IsAnswer s.settled × (IsMember (credentials s.view) who (asked_role s.query) → ⊥))
+    ((f ≡ fault.NotDone) × (IsAnswered (status_of s.settled) → ⊥))
+    ⊎ ((f ≡ fault.NoProof) × IsAnswered (status_of s.settled) × (IsMember (credentials s.view) who (asked_role s.query) → ⊥))
 
 -- the request is due this refusal
 abbrev pub Refuses : List ℕ → Account → Request → Fault → Type 0

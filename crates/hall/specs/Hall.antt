@@ -1,24 +1,27 @@
 -- A whole hall, with how its searches stand: each event is what one account is answered, or a step of one search.
-use Rattle.std.specs.Prelude.{◌≡◌, ◌≢◌, ℕ, ◌≤◌, List, [], ◌∷◌, ◌++◌, length, map, take, Option, None, Some, Result, Ok, Err, option_map}
-use Rattle.std.specs.{Option.option_map_or, Ordering.nat_cmp}
+use Rattle.std.specs.Prelude.{◌≡◌, ◌≢◌, ℕ, ◌≤◌, Bool, false, List, [], ◌∷◌, ◌++◌, length, map, take, slice_get, if◌then◌else◌}
+use Rattle.std.specs.Prelude.{Option, None, Some, MatchOption, MatchBool, Result, Ok, Err, option_map}
+use Rattle.std.specs.{Option.option_map_or, Option.option_and_then, Ordering.nat_cmp}
 use Rattle.std.specs.FinMap.{FinMap, empty, get, insert, remove, entries, from_entries, from_sorted}
 use Rattle.quotas.specs.Quota.{Quota}
 use Rattle.names.specs.Name.{name_order}
 use Rattle.vaults.specs.declared.changes.Entry.{Entry}
 use Rattle.vaults.specs.Journal.{entries_of, view, credentials}
-use Rattle.search.specs.declared.queries.Query.{Query}
 use Rattle.search.specs.Ending.{Nothing, MaySettle}
-use Rattle.search.specs.Search.{SearchState, new_search, IsSoundStage, settled_of}
-use Rattle.search.specs.Finish.{IsDriven}
-use Rattle.search.specs.Stage.{NoneHeld, IsQuiet}
+use Rattle.search.specs.Search.{SearchState, new_search, Settles, IsSoundStage, settled_of}
+use Rattle.search.specs.{Net.Said, Finish.Takes, Finish.Finishes, Finish.IsDriven}
+use Rattle.search.specs.Stage.{waiting_in, held_in, stage_marked, Delivers, NoneHeld, IsQuiet}
+use Rattle.search.specs.declared.{queries.Query.Query, queries.Need.Need, outcomes.Finished.Finished}
+use Rattle.search.specs.declared.outcomes.Finished.TheVariants as finished
+use Rattle.scholten_core.specs.declared.letters.Letter.{Letter}
 use Rattle.hall.specs.declared.faults.Fault.{Fault, TheVariants.NoTenant}
 use Rattle.hall.specs.declared.calls.{requests.Request.Request, replies.Reply.Reply, events.Event.Event}
 use Rattle.hall.specs.declared.calls.requests.Request.TheVariants.{Alter, Seek, Poll, Close}
 use Rattle.hall.specs.declared.calls.replies.Reply.TheVariants.{Counted, Opened, Closed, Refused, Stepped as Reported}
-use Rattle.hall.specs.declared.calls.steps.{Step.Step, Stepped.Stepped, Stepped.TheVariants.Gone}
+use Rattle.hall.specs.declared.calls.steps.{Step.Step, Stepped.Stepped}
 use Rattle.hall.specs.declared.calls.steps.Step.TheVariants as step
+use Rattle.hall.specs.declared.calls.steps.Stepped.TheVariants as stepped
 use Rattle.hall.specs.declared.calls.events.Event.TheVariants as event
-use Rattle.hall.specs.Steps.{StepsSearch}
 use Rattle.hall.specs.Answers.{Asked, Account, sight, Answers}
 use Rattle.hall.specs.Run.{Deed, asks, waits, Told}
 
@@ -33,14 +36,10 @@ pub record Tenant : Type 0 where
   pub opens : ℕ
   pub searches : FinMap nat_cmp Running
 
--- the tenants by name
-abbrev pub Tenants : Type 0
-Tenants = FinMap name_order Tenant
-
--- the journal, and the tenants
+-- the journal, and the tenants by name
 pub record HallState : Type 0 where
   pub journal : List Entry
-  pub tenants : Tenants
+  pub tenants : FinMap name_order Tenant
 
 -- a search as its asker knows it
 abbrev pub known : SearchState → Asked
@@ -67,14 +66,9 @@ abbrev pub with_tenant : HallState → List ℕ → (Tenant → Tenant) → Hall
 with_tenant h name change =
     record h { tenants = option_map_or (λ t. insert h.tenants name (change t)) (get h.tenants name) h.tenants }
 
--- of one tenant the search of that number, if it has not ended
-abbrev pub search_of : ℕ → Option Tenant → Option Running
-search_of k None = None
-search_of k (Some t) = get t.searches k
-
 -- the tenant's search of that number, if it has not ended
 abbrev pub search_at : HallState → List ℕ → ℕ → Option Running
-search_at h name k = search_of k (get h.tenants name)
+search_at h name k = option_and_then (λ t. get t.searches k) (get h.tenants name)
 
 -- the search of that number is this one from now on
 abbrev pub with_search : HallState → List ℕ → ℕ → Running → HallState
@@ -110,6 +104,42 @@ abbrev pub told_as : {X : Type 0} → (X → Reply) → Result X Fault → Reply
 told_as reply (Ok x) = reply x
 told_as reply (Err f) = Refused f
 
+abbrev pub finish_answer : Finished → Stepped
+finish_answer finished.Done = stepped.Done
+finish_answer finished.BadHint = stepped.BadHint
+finish_answer finished.Spent = stepped.Spent
+finish_answer finished.Broken = stepped.Broken
+finish_answer finished.NotHeld = stepped.NotHeld
+
+-- the step is made, and answered so
+abbrev pub IsMade : SearchState → Step → Stepped → SearchState → Type 0
+IsMade old (step.Take name k place) answer new = (got : Option (ℕ × Need))
+    × MatchOption got ((slice_get (waiting_in old.stage) place ≡ None) × (new ≡ old)) (λ l. Takes old new place l.0 l.1)
+    × (answer ≡ option_map_or (λ l. stepped.Took l.0 l.1) got stepped.Nothing)
+IsMade old (step.GiveBack name k letter) answer new = (back : Bool)
+    × MatchBool back
+    (((l : Letter Said) × (held_in old.stage letter ≡ Some l)) × (new ≡ record old { stage = stage_marked letter false old.stage }))
+    ((held_in old.stage letter ≡ None) × (new ≡ old))
+    × (answer ≡ (if back then stepped.Back else stepped.NotHeld))
+IsMade old (step.Finish name k letter hint) answer new = (f : Finished) × Finishes old new letter hint f × (answer ≡ finish_answer f)
+IsMade old (step.Signal name k place) answer new =
+    (delivered : Bool) × Delivers old.stage new.stage place delivered × (new ≡ record old { stage = new.stage })
+    × (answer ≡ (if delivered then stepped.Signalled else stepped.Nothing))
+
+-- a step of a search; where it comes to an end by that, it is the right one, and where it still runs its computation is sound
+pub record StepsSearch (old : SearchState) (made : Step) (answer : Stepped) (new : SearchState) : Type 0 where
+  pub is_made : IsMade old made answer new
+  pub settles : Settles old new
+  pub sound : IsSoundStage new.stage
+
+-- one step after another, each answered so
+abbrev pub StepsEach : SearchState → SearchState → List Step → List Stepped → Type 0
+StepsEach old new [] [] = new ≡ old
+StepsEach old new (made ∷ more) (answer ∷ answers) =
+    (middle : SearchState) × StepsSearch old made answer middle × StepsEach middle new more answers
+StepsEach old new [] (answer ∷ answers) = ⊥
+StepsEach old new (made ∷ more) [] = ⊥
+
 -- whose search a step is made of, and its number
 abbrev pub search_of_step : Step → List ℕ × ℕ
 search_of_step (step.Take name k place) = (name, k)
@@ -117,15 +147,17 @@ search_of_step (step.GiveBack name k letter) = (name, k)
 search_of_step (step.Finish name k letter hint) = (name, k)
 search_of_step (step.Signal name k place) = (name, k)
 
--- a step is made of its search, and of nothing else
-abbrev pub StepsAt : HallState → Option Running → Step → Stepped → HallState → Type 0
-StepsAt old None made answer new = (answer ≡ Gone) × (new ≡ old)
-StepsAt old (Some r) made answer new =
-    (s : SearchState) × StepsSearch r.search made answer s
-    × (new ≡ with_search old (search_of_step made).0 (search_of_step made).1 (record r { search = s }))
+-- the tenant's search of that number, if there is this one, becomes another one so; else this holds; and nothing else changes
+abbrev pub GoesOnAt : HallState → List ℕ → ℕ → Option Running → Type 0 → (SearchState → SearchState → Type 0) → HallState → Type 0
+GoesOnAt old name k None otherwise does new = otherwise × (new ≡ old)
+GoesOnAt old name k (Some r) otherwise does new =
+    (s : SearchState) × does r.search s × (new ≡ with_search old name k (record r { search = s }))
 
+-- a step is made of its search
 abbrev pub IsStepped : HallState → Step → Stepped → HallState → Type 0
-IsStepped old made answer new = StepsAt old (search_at old (search_of_step made).0 (search_of_step made).1) made answer new
+IsStepped old made answer new =
+    GoesOnAt old (search_of_step made).0 (search_of_step made).1 (search_at old (search_of_step made).0 (search_of_step made).1)
+    (answer ≡ stepped.Gone) (λ s t. StepsSearch s made answer t) new
 
 -- an event of a run
 abbrev pub Happens : HallState → Event → Reply → HallState → Type 0
@@ -146,16 +178,11 @@ pub record IsCarriedOn (old new : SearchState) : Type 0 where
   pub sound : IsSoundStage new.stage
   pub settled : NoneHeld old.stage → NoneHeld new.stage × (settled_of new ≢ Nothing)
 
--- it does, where there is one
-abbrev pub Drives : HallState → List ℕ → ℕ → Option Running → HallState → Type 0
-Drives old name k None new = new ≡ old
-Drives old name k (Some r) new = (s : SearchState) × IsCarriedOn r.search s × (new ≡ with_search old name k (record r { search = s }))
-
--- a request is served; a wait drives its search, and is then a poll
+-- a request is served; a wait lets its search carry itself on, if there is one, and is then a poll
 abbrev pub CarriesOut : HallState → List ℕ → Deed → Reply → HallState → Type 0
 CarriesOut old name (asks q) told new = IsServed old name q told new
 CarriesOut old name (waits k) told new =
-    (middle : HallState) × Drives old name k (search_at old name k) middle × IsServed middle name (Poll k) told new
+    (middle : HallState) × GoesOnAt old name k (search_at old name k) (Unit {0}) IsCarriedOn middle × IsServed middle name (Poll k) told new
 
 -- one deed after another
 abbrev pub AreDone : HallState → List Told → HallState → Type 0

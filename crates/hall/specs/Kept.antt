@@ -1,19 +1,26 @@
--- What the calls of a hall do to one of its searches.
-use Rattle.std.specs.Prelude.{◌≡◌, ◌≢◌, ◌==◌, ◌⊎◌, ◌<◌, ℕ, Bool, true, List, [], length, slice_get}
-use Rattle.std.specs.Prelude.{Option, None, Some, MatchOption, IsSomeAnd, Result, Ok, Err}
-use Rattle.std.specs.{Map.lookup, FinMap.get, Arc.arc_value, declared.alloc.AllocError.AllocError}
+-- What a hall keeps of its searches: each however it is carried, lent to what is done to it, and in the index while it may go on.
+use Rattle.std.specs.Prelude.{◌≡◌, ◌≢◌, ◌==◌, ℕ, Bool, true, [], List, MatchBool, IsSomeAnd, Option, None, Some}
+use Rattle.std.specs.{FinMap.get, Arc.arc_value, Borrow.MutBor}
 use Rattle.indexmap.specs.{IndexSet.IndexSet, IndexSet.contains, IndexMap.IndexMap, IndexMap.get as numbers_of}
 use Rattle.names.specs.Name.{is_same}
-use Rattle.search.specs.declared.queries.Task.{Task}
-use Rattle.search.specs.Search.{SearchState, SameQuestion, Settles, IsCompleted, IsSoundStage, settled_of}
-use Rattle.search.specs.{Ending.Settled, Ending.Nothing, Ending.Members, Stage.waiting_in, Stage.signals_in, Stage.IsQuiet}
-use Rattle.hall.specs.declared.faults.Fault.TheVariants.{NoTenant, NoSuchSearch, Memory}
-use Rattle.hall.specs.declared.picking.Standing.TheVariants.{Moves, Rests, Over}
-use Rattle.hall.specs.declared.{faults.Fault.Fault, calls.answers.Answer.Answer, calls.steps.Step.Step, picking.Standing.Standing}
-use Rattle.hall.specs.declared.calls.steps.Step.TheVariants.{Take, Signal}
-use Rattle.hall.specs.{Answers.answer_of, Steps.StepsSearch}
-use Rattle.hall.specs.Hall.{Running, Tenant, HallState, EachSearch, IsSound}
-use Rattle.hall.specs.declared.calls.steps.Stepped.TheVariants.{Took, Nothing as NoneTaken}
+use Rattle.search.specs.declared.queries.Query.TheVariants.{Who}
+use Rattle.search.specs.Search.{SearchState, new_search, SameQuestion, Settles, IsCompleted, IsSoundStage, settled_of}
+use Rattle.search.specs.Ending.{Nothing}
+use Rattle.hall.specs.declared.lendable_searches.LendableSearch.{LendableSearch, TheVariants.Own, TheVariants.Lent, TheVariants.Moving}
+use Rattle.hall.specs.declared.faults.Fault.{Fault, TheVariants.NoTenant, TheVariants.NoSuchSearch}
+use Rattle.hall.specs.Hall.{Running, Tenant, HallState, search_at, with_search, EachSearch, IsSound}
+
+-- the search that is carried; what stands for it where there is none is never seen
+abbrev pub lendable_search : LendableSearch → SearchState
+lendable_search (Own s) = s
+lendable_search (Lent shared) = arc_value shared
+lendable_search Moving = new_search (Who (record { owner = []; name = [] })) 0 (record { asker = []; vaults = [] })
+
+-- there is a search, and one that is shared is completed
+abbrev pub IsLendable : LendableSearch → Type 0
+IsLendable (Own s) = Unit {0}
+IsLendable (Lent shared) = IsCompleted (arc_value shared).stage
+IsLendable Moving = ⊥
 
 -- a search goes on with its question from the one that was lent, and may settle
 pub record Continues (old new : Running) : Type 0 where
@@ -22,47 +29,28 @@ pub record Continues (old new : Running) : Type 0 where
   pub settles : Settles old.search new.search
   pub sound : IsSoundStage old.search.stage → IsSoundStage new.search.stage
 
+-- the search has come to its end, or to nothing yet
+abbrev pub IsOver : SearchState → Bool → Type 0
+IsOver s over = MatchBool over (settled_of s ≢ Nothing) (settled_of s ≡ Nothing)
+
+-- the tenant's search of that number was lent, and is what was left of it
+pub record IsLent {A R : Type 0} (does : MutBor Running → MutBor A → R → MutBor Running → MutBor A → Type 0)
+    (old : HallState) (who : List ℕ) (k : ℕ) (had : A) (told : R) (over : Bool) (new : HallState) (has : A) : Type 0 where
+  pub lent : MutBor Running
+  pub beside : MutBor A
+  pub left : MutBor Running
+  pub kept : MutBor A
+  pub there : search_at old who k ≡ Some lent.now
+  pub did : does lent beside told left kept
+  pub shows : (beside.now ≡ had) × (kept.now ≡ has)
+  pub after : new ≡ with_search old who k left.now
+  pub opened : left.now.opened_at ≡ lent.now.opened_at
+  pub ended : IsOver left.now.search over
+
 -- why no search of that number is found
 abbrev pub IsNowhere : ℕ → Option Tenant → Fault → Type 0
 IsNowhere k None f = f ≡ NoTenant
 IsNowhere k (Some t) f = (f ≡ NoSuchSearch) × (get t.searches k ≡ None)
-
--- what it has come to is told; memory may lack where that lists members
-abbrev pub IsToldOf : Settled → Result Answer Fault → Type 0
-IsToldOf s (Ok told) = told ≡ answer_of s
-IsToldOf s (Err f) = (f ≡ Memory) × ((names : List (List ℕ)) × (s ≡ Members names))
-
--- a letter of the search waits at this place
-abbrev pub HasWaiting : ℕ → SearchState → Type 0
-HasWaiting place s = place < length (waiting_in s.stage)
-
--- the waiting letter at a place was taken as this task, where there is one and memory to hold it
-abbrev pub TakesTask : ℕ → SearchState → Result (Option Task) AllocError → SearchState → Type 0
-TakesTask place s (Ok None) t = (t ≡ s) × ((name : List ℕ × ℕ) → StepsSearch s (Take name.0 name.1 place) NoneTaken t)
-TakesTask place s (Ok (Some task)) t =
-    (arc_value task.snap ≡ s.snapshot) × ((name : List ℕ × ℕ) → StepsSearch s (Take name.0 name.1 place) (Took task.letter task.need) t)
-TakesTask place s (Err f) t = (t ≡ s) × HasWaiting place s
-
--- a completed search is shared, where there is memory to share it
-abbrev pub IsShared : {S : Type 0} → (S → SearchState) → SearchState → Result (Option S) AllocError → Type 0
-IsShared value s (Ok None) = IsCompleted s.stage → ⊥
-IsShared value s (Ok (Some shared)) = IsCompleted s.stage × (value shared ≡ s)
-IsShared value s (Err f) = IsCompleted s.stage
-
--- the step goes on with the search of that number: it takes the first letter, where one waits, or delivers the oldest signal, if any
-abbrev pub IsNext : List ℕ → ℕ → SearchState → Step → Type 0
-IsNext who k s made =
-    ((made ≡ Take who k 0) × (waiting_in s.stage ≢ [])) ⊎ ((made ≡ Signal who k 0) × (signals_in s.stage ≢ []))
-
--- the search has come to nothing yet
-abbrev pub IsUnsettled : SearchState → Type 0
-IsUnsettled s = settled_of s ≡ Nothing
-
--- how the search stands
-abbrev pub Stands : SearchState → Standing → Type 0
-Stands s Over = IsUnsettled s → ⊥
-Stands s Rests = IsUnsettled s × IsQuiet s.stage
-Stands s Moves = IsUnsettled s × (IsQuiet s.stage → ⊥)
 
 -- numbers of searches, by whose they are
 abbrev pub Index : Type 0 → Type 0 → Type 0
@@ -79,8 +67,4 @@ KeepsBut out old new = (name : List ℕ) (k : ℕ) → (out name k → ⊥) → 
 -- what holds of every hall, with its index: each search that has come to nothing yet is there
 pub record IsIndexed {S Z : Type 0} (index : Index S Z) (h : HallState) : Type 0 where
   pub sound : IsSound h
-  pub listed : EachSearch (λ name t k r. IsUnsettled r.search → Lists index name k) h
-
--- the key that passes the test stands at this place of the entries; or none passes, and none stands there
-abbrev pub IsPlaceOf : {K V : Type 0} → (K → Bool) → List (K × V) → ℕ → Type 0
-IsPlaceOf test es at = MatchOption (slice_get es at) (lookup test es ≡ None) (λ e. test e.0 ≡ true)
+  pub listed : EachSearch (λ name t k r. settled_of r.search ≡ Nothing → Lists index name k) h

@@ -1,12 +1,7 @@
-pub mod LendableSearch
 pub mod Batches
 pub mod Fault
 pub mod Answers
 pub mod Run
 pub mod Hall
-pub mod Laws
 pub mod Work
-pub mod Working
-pub mod Steps
 pub mod Kept
-pub mod Lending

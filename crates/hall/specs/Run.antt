@@ -1,16 +1,24 @@
--- What one tenant is told, one turn after another, by its own account and by what it has in sight alone.
+-- What one tenant is told, one turn after another, by its own account and by what it has in sight alone; and when that is right.
 use Rattle.std.specs.Prelude.{◌≡◌, ◌≢◌, ℕ, List, [], ◌∷◌, ◌++◌, Option, None, Some, if◌then◌else◌}
-use Rattle.std.specs.{List.AllByRecursion, FinMap.get, FinMap.insert}
-use Rattle.names.specs.Name.{is_same}
+use Rattle.std.specs.{List.AllByRecursion, List.Contains, FinMap.get, FinMap.insert}
+use Rattle.names.specs.{Name.is_same, declared.roles.Role.Role}
+use Rattle.credential_text.specs.declared.credentials.Credential.{Credential}
+use Rattle.rt0_rules.specs.Membership.{IsMember}
 use Rattle.quotas.specs.Quota.{Quota}
 use Rattle.vaults.specs.declared.changes.Entry.{Entry}
 use Rattle.vaults.specs.Journal.{credentials}
-use Rattle.search.specs.Ending.{Settled, Nothing, MaySettle}
-use Rattle.hall.specs.declared.{faults.Fault.TheVariants.NoTenant, calls.events.Event.Event}
+use Rattle.search.specs.declared.queries.Query.{Query}
+use Rattle.search.specs.Ending.{Settled, Nothing, IsEnding, MaySettle, asked_role}
+use Rattle.proof_trees.specs.{declared.steps.Step.Step as ProofStep, Proof.IsProof}
+use Rattle.hall.specs.declared.calls.events.Event.{Event}
+use Rattle.hall.specs.declared.faults.Fault.TheVariants.{NotDone, NoProof, NoTenant, Memory}
+use Rattle.hall.specs.declared.calls.answers.Answer.{Answer, TheVariants.Working, TheVariants.Broken}
 use Rattle.hall.specs.declared.calls.requests.Request.{Request, TheVariants.Alter, TheVariants.Poll}
-use Rattle.hall.specs.declared.calls.replies.Reply.{Reply, TheVariants.Counted, TheVariants.Refused}
+use Rattle.hall.specs.declared.calls.requests.Request.TheVariants as request
+use Rattle.hall.specs.declared.calls.replies.Reply.{Reply}
+use Rattle.hall.specs.declared.calls.replies.Reply.TheVariants.{Counted, Opened, Answered, Proof, Refused}
 use Rattle.hall.specs.declared.calls.events.Event.TheVariants as event
-use Rattle.hall.specs.Answers.{Asked, Account, start_of, Sight, sight, Answers}
+use Rattle.hall.specs.Answers.{Asked, Account, start_of, Sight, sight, answer_of, Answers}
 
 -- a request, or a wait for the search of this number
 pub data Deed : Type 0 where
@@ -101,3 +109,49 @@ IsRunOf when tenant (Some a) turns end = (b : Account) × (end ≡ Some b) × Is
 abbrev pub AreRuns : When → List (List ℕ × Quota) → List Told → Type 0
 AreRuns when roster told =
     (tenant : List ℕ) → (end : Option Account) × IsRunOf when tenant (start_of tenant roster) (told_to tenant [] told) end
+
+-- two proofs of one membership, from the same credentials
+pub record ProveTheSame (first second : List ProofStep) : Type 0 where
+  pub credentials : List Credential
+  pub role : Role
+  pub who : List ℕ
+  pub one : IsProof credentials role who first
+  pub other : IsProof credentials role who second
+
+-- that the search still works, or is not done, beside what else may be told of it
+pub data IsEarly : Reply → Reply → Type 0 where
+  works : {a : Answer} → IsEarly (Answered Working) (Answered a)
+  no_proof_yet : IsEarly (Refused NotDone) (Refused NoProof)
+  proof_later : {steps : List ProofStep} → IsEarly (Refused NotDone) (Proof steps)
+
+-- two replies to one request are equal or prove the same; where searches may settle at any time, one may be early
+pub data Agree (when : When) : Reply → Reply → Type 0 where
+  same : {r : Reply} → Agree when r r
+  proofs : {p q : List ProofStep} → ProveTheSame p q → Agree when (Proof p) (Proof q)
+  first_early : {r s : Reply} → when ≡ any_time → IsEarly r s → Agree when r s
+  second_early : {r s : Reply} → when ≡ any_time → IsEarly s r → Agree when r s
+
+-- no memory lacked for a turn, and no search that was asked for was broken by that
+abbrev pub HasMemory : List Turn → Type 0
+HasMemory turns = AllByRecursion (λ (t : Turn). (t.reply ≢ Refused Memory) × (t.reply ≢ Answered Broken)) turns
+
+-- the same deed, with the same in sight
+abbrev pub IsSameDeed : Turn → Turn → Type 0
+IsSameDeed s t = (s.sees ≡ t.sees) × (s.deed ≡ t.deed)
+
+-- an opening of this search
+abbrev pub opens : ℕ → Query → Sight → Turn
+opens k query sees = record { sees = sees; deed = asks (request.Seek query); reply = Opened k }
+
+-- the search of this number was opened, and for each such opening this holds of its query and of the credentials then in sight
+pub record OfOpening (before : List Turn) (k : ℕ) (holds : Query → List Credential → Type 0) : Type 0 where
+  pub opened : (query : Query) × (sees : Sight) × Contains before (opens k query sees)
+  pub right : (query : Query) (sees : Sight) → Contains before (opens k query sees) → holds query (credentials sees.vaults)
+
+-- what is told of a search is right: that it ended, how it did; a proof is one; and where there is none the entity is no member
+abbrev pub IsRight : ℕ → List Turn → Request → Reply → Type 0
+IsRight work before (request.Poll k) (Answered a) =
+    (s : Settled) → a ≡ answer_of s → s ≢ Nothing → OfOpening before k (λ query C. IsEnding work C query s)
+IsRight work before (request.Proof k who) (Proof steps) = OfOpening before k (λ query C. IsProof C (asked_role query) who steps)
+IsRight work before (request.Proof k who) (Refused NoProof) = OfOpening before k (λ query C. IsMember C who (asked_role query) → ⊥)
+IsRight work before _ _ = Unit {0}

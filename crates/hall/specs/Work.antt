@@ -1,17 +1,17 @@
--- What somebody who works for a hall does to it.
+-- What somebody who works for a hall does to it, and to one search of it.
 use Rattle.std.specs.Prelude.{◌≡◌, ◌⊎◌, ◌≤◌, ℕ, Bool, true, false, MatchBool, List, map, length, count_by, Contains}
 use Rattle.std.specs.Prelude.{Option, None, Some, MatchOption, IsSomeAnd}
 use Rattle.std.specs.List.{filter_map}
-use Rattle.search.specs.{declared.queries.Need.Need, Search.SearchState, Search.IsCompleted, Finish.right_hint, Stage.IsQuiet}
+use Rattle.search.specs.{declared.queries.Need.Need, Finish.right_hint, Stage.IsQuiet, Ending.Nothing as Unsettled}
+use Rattle.search.specs.Search.{SearchState, IsCompleted, settled_of}
 use Rattle.snapshots.specs.Snapshot.{SnapshotState}
 use Rattle.hall.specs.declared.calls.steps.Step.TheVariants.{Take, GiveBack, Finish, Signal}
 use Rattle.hall.specs.declared.calls.steps.Stepped.TheVariants.{Took, Nothing, Signalled, Done, Gone}
 use Rattle.hall.specs.declared.orders.Next.TheVariants.{Worked, Idle, NoMemory, Unasked}
 use Rattle.hall.specs.declared.calls.steps.{Step.Step, Stepped.Stepped}
 use Rattle.hall.specs.declared.orders.{Order.Order, Visit.Visit, Next.Next}
-use Rattle.hall.specs.Hall.{HallState, Running, search_at, IsStepped, Run}
+use Rattle.hall.specs.Hall.{HallState, Running, search_at, StepsEach, IsStepped, Run}
 use Rattle.hall.specs.Batches.{Named, BatchState, name_of, batch_of, IsEmpty}
-use Rattle.hall.specs.Kept.{IsUnsettled}
 use Rattle.hall.specs.declared.calls.{events.Event.TheVariants.Step as Stepping, replies.Reply.TheVariants.Stepped as Reported}
 use Rattle.hall.specs.declared.orders.Order.TheVariants as order
 
@@ -23,16 +23,13 @@ pub record TakenLetter : Type 0 where
   pub need : Need
   pub snapshot : SnapshotState
 
--- the job is the letter that was taken of that search, with what the search reads; or there is none
-abbrev pub IsJobOrNone : HallState → List ℕ → ℕ → Stepped → Option TakenLetter → Type 0
-IsJobOrNone h who number answer None = (answer ≡ Nothing) ⊎ (answer ≡ Gone)
-IsJobOrNone h who number answer (Some job) = (job.who ≡ who) × (job.number ≡ number) × (answer ≡ Took job.letter job.need)
-    × IsSomeAnd (search_at h who number) (λ r. job.snapshot ≡ r.search.snapshot)
-
--- a take, with the job that it gives
+-- the letter that waits at the place is the job from now on, with what its search reads; or none waits there, or there is no such search
 abbrev pub IsTaken : HallState → List ℕ → ℕ → ℕ → Option TakenLetter → HallState → Type 0
-IsTaken old who number place job new =
-    (answer : Stepped) × IsStepped old (Take who number place) answer new × IsJobOrNone old who number answer job
+IsTaken old who number place None new = (answer : Stepped) × ((answer ≡ Nothing) ⊎ (answer ≡ Gone))
+    × IsStepped old (Take who number place) answer new
+IsTaken old who number place (Some job) new = (job.who ≡ who) × (job.number ≡ number)
+    × IsSomeAnd (search_at old who number) (λ r. job.snapshot ≡ r.search.snapshot)
+    × IsStepped old (Take who number place) (Took job.letter job.need) new
 
 -- nothing of that search, if there is one, waits or is under way
 abbrev pub SearchIsQuiet : HallState → List ℕ → ℕ → Type 0
@@ -42,15 +39,10 @@ SearchIsQuiet h name k = (r : Running) → search_at h name k ≡ Some r → IsQ
 abbrev pub NothingToDo : HallState → Type 0
 NothingToDo h = (name : List ℕ) (k : ℕ) → SearchIsQuiet h name k
 
--- a letter was taken, or a signal delivered
-abbrev pub MadeProgress : Stepped → Type 0
-MadeProgress (Took letter need) = Unit {0}
-MadeProgress Signalled = Unit {0}
-MadeProgress _ = ⊥
-
 -- made now, the step takes a letter or delivers a signal
 abbrev pub CanBeMade : HallState → Step → Type 0
-CanBeMade h made = (answer : Stepped) (new : HallState) → IsStepped h made answer new → MadeProgress answer
+CanBeMade h made = (answer : Stepped) (new : HallState) → IsStepped h made answer new
+    → ((letter : ℕ) × (need : Need) × (answer ≡ Took letter need)) ⊎ (answer ≡ Signalled)
 
 -- a run of these steps alone, each answered so
 abbrev pub Makes : HallState → HallState → List Step → List Stepped → Type 0
@@ -101,13 +93,11 @@ gives_back _ = false
 
 -- steps are asked for
 abbrev pub AsksForSteps : Order → Type 0
-AsksForSteps order.GoOn = Unit {0}
-AsksForSteps order.TakeTurn = Unit {0}
-AsksForSteps _ = ⊥
+AsksForSteps asked = (asked ≡ order.GoOn) ⊎ (asked ≡ order.TakeTurn)
 
 -- the search of that name is there, and has come to nothing yet
 abbrev pub StillWorks : HallState → List ℕ × ℕ → Type 0
-StillWorks h name = IsSomeAnd (search_at h name.0 name.1) (λ r. IsUnsettled r.search)
+StillWorks h name = IsSomeAnd (search_at h name.0 name.1) (λ r. settled_of r.search ≡ Unsettled)
 
 -- from one hall to another these searches come to their ends, and no others: each worked, or is of this name; and none works again
 pub record TellsEnds (own : Option (List ℕ × ℕ)) (old new : HallState) (told : List (List ℕ × ℕ)) : Type 0 where
@@ -116,24 +106,25 @@ pub record TellsEnds (own : Option (List ℕ × ℕ)) (old new : HallState) (tol
   pub over : (name : List ℕ × ℕ) → Contains told name → StillWorks new name → ⊥
   pub none_again : (name : List ℕ × ℕ) → StillWorks new name → StillWorks old name
 
--- something of this search is left, and it is that of the letters where this was asked and anything of that is left
+-- something of this search is left, this is what it reads, and it is that of the letters where this was asked and anything of that is left
 abbrev pub IsNextSearch : Order → HallState → Option Named → Named → Type 0
-IsNextSearch asked h had of =
-    (SearchIsQuiet h of.who of.number → ⊥)
+IsNextSearch asked h had of = (SearchIsQuiet h of.who of.number → ⊥)
+    × IsSomeAnd (search_at h of.who of.number) (λ r. r.search.snapshot ≡ of.snapshot)
     × (asked ≡ order.GoOn → MatchOption had (Unit {0}) (λ n. (name_of of ≡ name_of n) ⊎ SearchIsQuiet h n.who n.number))
 
--- steps of this search are made, and the letters that they take are in the batch
-pub record WorksOn (most room : ℕ) (old : HallState) (of : Named) (left : Bool) (new : HallState) (has : BatchState) : Type 0 where
+-- steps of this search are made, whether anything of it is left is told, and the letters that they take are in the batch
+pub record WorksOn (made : List Step → List Stepped → Type 0) (nothing_left : Type 0) (most room : ℕ) (of : Named) (left : Bool)
+    (has : BatchState) : Type 0 where
   pub letters : List (ℕ × Need)
-  pub goes_on : GoesOn (Makes old new) (name_of of) most (SearchIsQuiet new of.who of.number) letters
+  pub goes_on : GoesOn made (name_of of) most nothing_left letters
   pub batch : has ≡ batch_of of letters room
-  pub reads : IsSomeAnd (search_at old of.who of.number) (λ r. r.search.snapshot ≡ of.snapshot)
-  pub more : MatchBool left (SearchIsQuiet new of.who of.number → ⊥) (SearchIsQuiet new of.who of.number)
+  pub more : MatchBool left (nothing_left → ⊥) nothing_left
 
 -- how a visit goes on, from a hall to which its letters were handed in
 abbrev pub GoesOnAs : Order → ℕ → ℕ → HallState → Option Named → Next → HallState → BatchState → Type 0
 GoesOnAs asked most room old had (Worked left) new has =
-    AsksForSteps asked × ((of : Named) × IsNextSearch asked old had of × WorksOn most room old of left new has)
+    AsksForSteps asked × ((of : Named) × IsNextSearch asked old had of
+    × WorksOn (Makes old new) (SearchIsQuiet new of.who of.number) most room of left has)
 GoesOnAs asked most room old had Idle new has = AsksForSteps asked × NothingToDo old × (new ≡ old) × IsEmpty has × (has.room ≡ room)
 GoesOnAs asked most room old had NoMemory new has =
     AsksForSteps asked × ((of : Named) × IsNextSearch asked old had of) × (new ≡ old) × IsEmpty has × (has.room ≡ room)
@@ -146,9 +137,22 @@ pub record IsVisit (asked : Order) (most : ℕ) (old : HallState) (had : BatchSt
   pub handed_in : HandsInBatch Makes (gives_back asked) old had visit.finished middle
   pub next : GoesOnAs asked most had.room middle had.of visit.next new has
 
+-- how one search goes on, of that name: it does where that was asked, something is left, and there is memory to share what it reads
+abbrev pub WentAs : Order → ℕ → ℕ → List ℕ × ℕ → SearchState → Option Next → SearchState → BatchState → Type 0
+WentAs asked most room name s None t has = (asked ≡ order.GoOn → IsQuiet s.stage) × (t ≡ s) × IsEmpty has × (has.room ≡ room)
+WentAs asked most room name s (Some (Worked left)) t has = (asked ≡ order.GoOn) × (IsQuiet s.stage → ⊥)
+    × WorksOn (StepsEach s t) (IsQuiet t.stage) most room (record { who = name.0; number = name.1; snapshot = s.snapshot }) left has
+WentAs asked most room name s (Some NoMemory) t has =
+    (asked ≡ order.GoOn) × (IsQuiet s.stage → ⊥) × (t ≡ s) × IsEmpty has × (has.room ≡ room)
+WentAs asked most room name s _ t has = ⊥
+
+-- the letters of the batch are handed in to the search of that name, and it goes on so
+pub record WorksThrough (asked : Order) (most : ℕ) (name : List ℕ × ℕ) (s : SearchState) (had : BatchState) (finished : ℕ)
+    (next : Option Next) (t : SearchState) (has : BatchState) : Type 0 where
+  pub middle : SearchState
+  pub handed_in : HandsInBatch StepsEach (gives_back asked) s had finished middle
+  pub goes_on : WentAs asked most had.room name middle next t has
+
 -- this is the tenant's search of that number, and it is completed
-pub record IsCompletedAt (h : HallState) (who : List ℕ) (number : ℕ) (s : SearchState) : Type 0 where
-  pub running : Running
-  pub there : search_at h who number ≡ Some running
-  pub is : running.search ≡ s
-  pub completed : IsCompleted s.stage
+abbrev pub IsCompletedAt : HallState → List ℕ → ℕ → SearchState → Type 0
+IsCompletedAt h who number s = (r : Running) × (search_at h who number ≡ Some r) × (r.search ≡ s) × IsCompleted s.stage

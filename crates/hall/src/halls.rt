@@ -1,5 +1,5 @@
 //! The hall of all tenants.
-ghost use Rattle.std.specs.Prelude.{◌≡◌, IfOk, IfErr, OnErr, is_some, option_copied, option_map, map, length};
+ghost use Rattle.std.specs.Prelude.{◌≡◌, ◌<◌, IfOk, IfErr, OnErr, is_some, option_copied, option_map, map, length};
 ghost use Rattle.{std.specs.FinMap.get, std.specs.List.IsDistinct, names.specs.Name.is_same};
 ghost use Rattle.hall.specs.declared.calls.requests.Request.TheVariants as request;
 ghost use Rattle.hall.specs.declared.calls.replies.Reply.TheVariants as reply;
@@ -10,7 +10,7 @@ use crate::faults::Fault;
 use crate::jobs::Job;
 use crate::lists::{Rows, Sights};
 use crate::open_searches::{OpenSearch, proof_of, told_of};
-use crate::picking::{Busy, Standing, leave_going, settle};
+use crate::picking::{Busy, leave_going, settle};
 use crate::remains::Remains;
 use crate::tenants::Tenants;
 use indexmap::IndexMap;
@@ -69,7 +69,8 @@ impl Hall {
     ghost use Rattle.{std.specs.Arc.arc_value, search.specs.Search.SearchState, hall.specs.Run.waits};
     ghost use Rattle.hall.specs.Hall.{Running};
     ghost use Rattle.std.specs.Borrow.{MutBor};
-    ghost use Rattle.hall.specs.{Kept.Continues, Kept.HasWaiting, Lending.LendsTo};
+    ghost use Rattle.search.specs.Stage.{waiting_in};
+    ghost use Rattle.hall.specs.Kept.{Continues, IsLent, IsNowhere};
     ghost use Rattle.hall.specs.Work.{IsTaken, SearchIsQuiet, IsCompletedAt};
 
     /// The hall of these tenants, where nothing was done yet.
@@ -197,7 +198,7 @@ impl Hall {
     {
         let (who, number) = step.search();
         match self.lend(&who, number, &mut (), |opened, _none| opened.step(&step)) {
-            Ok((stepped, _standing)) => stepped,
+            Ok((stepped, _over)) => stepped,
             Err(_nowhere) => Stepped::Gone,
         }
     }
@@ -208,9 +209,9 @@ impl Hall {
         ensures taken { IfOk result (λ job. IsTaken self.old who number place job self.new) }
         ensures only_memory { IfErr result (λ f. f ≡ Fault.Memory) }
         ensures unchanged { OnErr result (self.new ≡ self.old) }
-        ensures waits { OnErr result (IsSomeAnd (search_at self.old who number) (λ r. HasWaiting place r.search)) }
+        ensures waits { OnErr result (IsSomeAnd (search_at self.old who number) (λ r. place < length (waiting_in r.search.stage))) }
     {
-        let Ok((taken, _standing)) = self.lend(
+        let Ok((taken, _over)) = self.lend(
             &who,
             number,
             &mut (),
@@ -225,8 +226,8 @@ impl Hall {
         }
     }
 
-    /// Lends the tenant's search of the number to what is done to it, beside something of who does it. Tells then how the search
-    /// stands, and takes it out of those that may still go on where it has come to its end. The order of refusals: 62, 51.
+    /// Lends the tenant's search of the number to what is done to it, beside something of who does it. Tells then whether the search
+    /// has come to its end, and takes it out of those that may still go on where it has. The order of refusals: 62, 51.
     #[inline(always)]
     pub(crate) fn lend<A, T, F: FnOnce(&mut OpenSearch, &mut A) -> T>(
         &mut self,
@@ -234,16 +235,19 @@ impl Hall {
         number: u64,
         beside: &mut A,
         does: F,
-    ) -> Result<(T, Standing), Fault>
+    ) -> Result<(T, bool), Fault>
         requires callable { (lent : MutBor Running) (had : MutBor A) → had.now ≡ beside.old → F.pre does lent had }
         requires continues { (lent : MutBor Running) (had : MutBor A) (told : T) (left : MutBor Running) (has : MutBor A)
             → F.post does lent had told left has → Continues lent.now left.now }
-        ensures { LendsTo (F.post does) self.old who.now number beside.old result self.new beside.new }
+        ensures lent { IfOk result (λ r. IsLent (F.post does) self.old who.now number beside.old r.0 r.1 self.new beside.new) }
+        ensures nowhere { IfErr result (IsNowhere number (get self.old.tenants who.now)) }
+        ensures unchanged { OnErr result (self.new ≡ self.old) }
+        ensures same { OnErr result (beside.new ≡ beside.old) }
     {
         let opened = self.tenants.opened_mut(who, number)?;
         let told = does(opened, beside);
-        let standing = settle(&mut self.busy, who, number, opened.carried.search());
-        Ok((told, standing))
+        let over = settle(&mut self.busy, who, number, opened.carried.search());
+        Ok((told, over))
     }
 
     /// Finishes the letter of the job with what was looked up.
@@ -269,7 +273,7 @@ impl Hall {
         ensures quiet { SearchIsQuiet self.new who number }
     {
         match self.lend(&who, number, &mut (), |opened, _none| opened.drive()) {
-            Ok((told, _standing)) => told,
+            Ok((told, _over)) => told,
             Err(nowhere) => Err(nowhere),
         }
     }
@@ -294,7 +298,7 @@ impl Hall {
     {
         let alloc = self.alloc;
         match self.lend(&who, number, &mut (), |opened, _none| opened.share(alloc)) {
-            Ok((shared, _standing)) => shared,
+            Ok((shared, _over)) => shared,
             Err(_nowhere) => Ok(None),
         }
     }

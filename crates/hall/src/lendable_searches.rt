@@ -1,7 +1,7 @@
 //! A search as its keeper carries it: its own, or shared with who reads it.
 ghost use Rattle.std.specs.Prelude.{◌≡◌, IfOk};
 ghost use Rattle.std.specs.Arc.{arc_value};
-ghost use Rattle.hall.specs.LendableSearch.{IsLendable, lendable_search};
+ghost use Rattle.hall.specs.Kept.{IsLendable, lendable_search};
 ghost use Rattle.search.specs.Search.{IsCompleted};
 
 use search::{Search, Tables};

@@ -3,8 +3,8 @@
 //!
 //! A `Hall` is seen as its journal and its tenants by name (`specs/Hall.antt`). A request is answered by one tenant's account and
 //! what it has in sight, alone (`specs/Answers.antt`), and a step goes to one search. `specs/Run.antt` says
-//! what a run is to one tenant, and `specs/Laws.antt` what holds of all runs: answers are true, refusals come first, and two
-//! worlds that agree for a tenant tell it the same. `specs/Work.antt` is for those who work for a hall.
+//! what a run is to one tenant, and when what is told in it is right. The laws of `run_laws.rt` hold of all runs: answers are true,
+//! refusals come first, and two worlds that agree for a tenant tell it the same. `specs/Work.antt` is for those who work for a hall.
 //! Why so: docs/DECISIONS.md#hall.
 #![tactic(auto)]
 

@@ -1,18 +1,23 @@
 //! A search that was opened and not ended: its steps, what one of its tenant's calls does to it, and what is told of it.
-ghost use Rattle.std.specs.Prelude.{◌≡◌, MatchOption};
-ghost use Rattle.search.specs.{Stage.IsQuiet, Search.SearchState, Search.IsCompleted, Search.Settles, Search.settled_of};
+ghost use Rattle.std.specs.Prelude.{◌≡◌, ◌≢◌, ◌⊎◌, ℕ, List, [], MatchOption, IfOk, OnOk, OnErr};
+ghost use Rattle.std.specs.Result.{MatchResult};
+ghost use Rattle.search.specs.Ending.{Members};
+ghost use Rattle.search.specs.Search.{SearchState, IsCompleted, Settles, settled_of};
 ghost use Rattle.hall.specs.declared.calls.requests.Request.TheVariants as request;
 ghost use Rattle.hall.specs.declared.calls.replies.Reply.TheVariants as reply;
-ghost use Rattle.hall.specs.{Answers.IsToldOver, Hall.known, Hall.told_as};
-ghost use Rattle.hall.specs.{Hall.IsCarriedOn, Kept.IsToldOf, Kept.IsNext, Steps.IsMade, Steps.StepsSearch};
+ghost use Rattle.hall.specs.{Answers.answer_of, Answers.IsToldOver};
+ghost use Rattle.hall.specs.Hall.{known, told_as, IsCarriedOn, IsMade, StepsSearch};
+ghost use Rattle.search.specs.Stage.{IsQuiet, waiting_in, signals_in};
+ghost use Rattle.hall.specs.declared.faults.Fault.TheVariants.{Memory};
+ghost use Rattle.hall.specs.declared.calls.steps.Step.TheVariants.{Take, Signal};
 
 use crate::batches::Batch;
 use crate::calls::{Answer, Step, Stepped};
 use crate::faults::Fault;
 use crate::lendable_searches::LendableSearch;
 use crate::lists::Names;
-use crate::orders::Order;
-use crate::working::{Went, work};
+use crate::orders::{Next, Order};
+use crate::working::work;
 use names::Entity;
 use proof_trees::Proof;
 use search::{Finished, Search, Status, Task};
@@ -31,7 +36,7 @@ impl Model for OpenSearch {
     ghost use Rattle.std.specs.Coded.{codes};
     ghost use Rattle.search.specs.contracts.stages.Stage as running;
     ghost use Rattle.search.specs.contracts.findings.Monitor as memory;
-    ghost use Rattle.hall.specs.LendableSearch.{IsLendable, lendable_search};
+    ghost use Rattle.hall.specs.Kept.{IsLendable, lendable_search};
     ghost use Rattle.hall.specs.Hall.{Running};
 
     ghost Value = { Running };
@@ -44,11 +49,11 @@ impl Model for OpenSearch {
 }
 
 impl OpenSearch {
-    ghost use Rattle.std.specs.Prelude.{◌≤◌};
+    ghost use Rattle.std.specs.Prelude.{◌≤◌, ◌<◌, None, length, slice_get};
+    ghost use Rattle.search.specs.{Finish.Takes, Search.IsSoundStage};
     ghost use Rattle.std.specs.Arc.{arc_value};
     ghost use Rattle.hall.specs.Batches.{IsLookedUp, name_of};
-    ghost use Rattle.hall.specs.Kept.{Continues, TakesTask, IsShared};
-    ghost use Rattle.hall.specs.Working.{WorksThrough};
+    ghost use Rattle.hall.specs.{Kept.Continues, Work.WorksThrough};
 
     /// Makes the step. A completed search stays as it is.
     pub(crate) fn step(&mut self, step: &Step) -> Stepped
@@ -65,7 +70,12 @@ impl OpenSearch {
 
     /// Takes the waiting letter at the place, where there is one.
     pub(crate) fn take(&mut self, place: u64) -> Result<Option<Task>, AllocError>
-        ensures taken { TakesTask place self.old.search result self.new.search }
+        ensures taken { IfOk result (λ task. MatchOption task
+            ((slice_get (waiting_in self.old.search.stage) place ≡ None) × (self.new.search ≡ self.old.search))
+            (λ t. Takes self.old.search self.new.search place t.letter t.need × (arc_value t.snap ≡ self.old.search.snapshot))) }
+        ensures sound { OnOk result (IsSoundStage self.new.search.stage) }
+        ensures unchanged { OnErr result (self.new ≡ self.old) }
+        ensures waits { OnErr result (place < length (waiting_in self.old.search.stage)) }
         ensures continues { Continues self.old self.new }
     {
         let LendableSearch::Own(search) = &mut self.carried else {
@@ -80,7 +90,7 @@ impl OpenSearch {
     /// Carries the search on until nothing more of it can be, and tells what it has come to.
     pub(crate) fn drive(&mut self) -> Result<Answer, Fault>
         ensures driven { IsCarriedOn self.old.search self.new.search }
-        ensures told { IsToldOf (settled_of self.new.search) result }
+        ensures told { IsToldOver (known self.new.search) request.Poll (told_as reply.Answered result) }
         ensures continues { Continues self.old self.new }
     {
         if let LendableSearch::Own(search) = &mut self.carried {
@@ -93,7 +103,9 @@ impl OpenSearch {
 
     /// The search, shared from now on, where it is completed. Memory may lack the first time.
     pub(crate) fn share(&mut self, alloc: Global) -> Result<Option<Arc<Search>>, AllocError>
-        ensures shared { IsShared arc_value self.old.search result }
+        ensures shared { IfOk result (λ r. MatchOption r (IsCompleted self.old.search.stage → ⊥)
+            (λ shared. IsCompleted self.old.search.stage × (arc_value shared ≡ self.old.search))) }
+        ensures lacks { OnErr result (IsCompleted self.old.search.stage) }
         ensures same { self.new ≡ self.old }
     {
         if !self.carried.search().is_completed() {
@@ -110,7 +122,7 @@ impl OpenSearch {
     }
 
     /// Hands in the letters of the batch, which are of this search under that name, and goes on with it where that is asked and
-    /// anything of it is left to do. Answers how many letters are done, and how it went on.
+    /// anything of it is left to do. Answers how many letters are done, and how it went on, if it did.
     #[inline(always)]
     pub(crate) fn work(
         &mut self,
@@ -119,7 +131,7 @@ impl OpenSearch {
         order: Order,
         most: usize,
         batch: &mut Batch,
-    ) -> (u64, Went)
+    ) -> (u64, Option<Next>)
         requires looked_up { IsLookedUp batch.old }
         requires of { MatchOption batch.old.of (Unit {0}) (λ of. name_of of ≡ (who.now, number)) }
         requires space { most ≤ batch.old.room }
@@ -129,7 +141,7 @@ impl OpenSearch {
         let LendableSearch::Own(search) = &mut self.carried else {
             self.carried.search().kept();
             batch.let_go();
-            return (0, Went::Nowhere);
+            return (0, None);
         };
         work(search, who, number, order, most, batch)
     }
@@ -137,7 +149,8 @@ impl OpenSearch {
 
 /// What is told of the search: to each account that has it a poll of it is answered so. Memory may lack for a list alone.
 pub fn told_of(search: &Search) -> Result<Answer, Fault>
-    ensures told { IsToldOf (settled_of search.now) result }
+    ensures told { MatchResult result (λ a. a ≡ answer_of (settled_of search.now))
+        (λ f. (f ≡ Memory) × ((names : List (List ℕ)) × (settled_of search.now ≡ Members names))) }
     ensures served { IsToldOver (known search.now) request.Poll (told_as reply.Answered result) }
 {
     Ok(match search.status() {
@@ -160,7 +173,8 @@ pub fn proof_of(alloc: Global, search: &Search, member: &Entity) -> Result<Proof
 
 /// The step that goes on with the tenant's search of the number, if there is one: the oldest signal first.
 pub(crate) fn next_step(search: &Search, who: Entity, number: u64) -> Option<Step>
-    ensures { MatchOption result (IsQuiet search.now.stage) (IsNext who number search.now) }
+    ensures { MatchOption result (IsQuiet search.now.stage) (λ step. ((step ≡ Take who number 0) × (waiting_in search.now.stage ≢ []))
+        ⊎ ((step ≡ Signal who number 0) × (signals_in search.now.stage ≢ []))) }
 {
     if search.signals() > 0 {
         return Some(Step::Signal(who, number, 0));

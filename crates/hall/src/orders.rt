@@ -1,12 +1,11 @@
 //! Visits of somebody who works for a hall: what he asks for, and what came of it.
-ghost use Rattle.std.specs.Prelude.{◌≡◌, ◌≤◌, ◌+◌, [], length, None, Some, MatchOption, option_map};
+ghost use Rattle.std.specs.Prelude.{◌≡◌, ◌≤◌, ◌+◌, ◌++◌, ℕ, List, [], length, None, Some, MatchOption, option_map};
 ghost use Rattle.hall.specs.Batches.{IsEmpty, IsLookedUp, name_of};
 ghost use Rattle.hall.specs.Work.{IsVisit, GoesOnAs, TellsEnds};
 
 use crate::batches::Batch;
 use crate::ends::Ends;
 use crate::halls::Hall;
-use crate::picking::Standing;
 use names::Entity;
 
 /// What is to be done with the letters of a batch, and then.
@@ -59,7 +58,7 @@ pub enum Next {
 }
 
 impl Hall {
-    ghost use Rattle.hall.specs.Working.{WorksOnOne, TellsMore};
+    ghost use Rattle.hall.specs.{Work.WorksThrough, Hall.GoesOnAt, Hall.search_at};
 
     /// A visit of somebody who works for the hall. The letters of the batch are handed in as the order says. Then, where it asks
     /// for that, at most so many steps are made of one search: each delivers its oldest signal, or else takes its first letter
@@ -104,7 +103,7 @@ impl Hall {
         requires space { most ≤ batch.old.room }
         requires told { length ends.old ≤ 1 }
         ensures next { GoesOnAs order most batch.old.room self.old None result self.new batch.new }
-        ensures ends { TellsMore None self.old self.new ends.old ends.new }
+        ensures ends { (told : List (List ℕ × ℕ)) × (ends.new ≡ ends.old ++ told) × TellsEnds None self.old self.new told }
     {
         let (Order::GoOn | Order::TakeTurn) = order else {
             return Next::Unasked;
@@ -133,20 +132,23 @@ impl Hall {
         requires of { MatchOption batch.old.of (Unit {0}) (λ of. name_of of ≡ (who.now, number)) }
         requires space { most ≤ batch.old.room }
         requires told { length ends.old ≤ 1 }
-        ensures works { WorksOnOne order most self.old (who.now, number) batch.old result.0 result.1 self.new batch.new }
-        ensures ends { TellsMore (Some (who.now, number)) self.old self.new ends.old ends.new }
+        ensures works { GoesOnAt self.old who.now number (search_at self.old who.now number)
+            ((result ≡ (0, None)) × IsEmpty batch.new × (batch.new.room ≡ batch.old.room))
+            (λ s t. WorksThrough order most (who.now, number) s batch.old result.0 result.1 t batch.new) self.new }
+        ensures ends { (told : List (List ℕ × ℕ)) × (ends.new ≡ ends.old ++ told)
+            × TellsEnds (Some (who.now, number)) self.old self.new told }
         ensures told { length ends.new ≤ length ends.old + 1 }
     {
         let lent = self.lend(who, number, batch, |opened, batch| {
             opened.work(who, number, order, most, batch)
         });
-        let Ok(((finished, went), standing)) = lent else {
+        let Ok(((finished, next), over)) = lent else {
             batch.let_go();
             return (0, None);
         };
-        if let Standing::Over = standing {
+        if over {
             ends.put(who, number);
         }
-        (finished, went.next(standing))
+        (finished, next)
     }
 }

@@ -1,9 +1,10 @@
 //! Which searches of a hall may still go on, and which of them has its turn.
-ghost use Rattle.std.specs.Prelude.{◌≡◌, ◌≤◌, ◌↔◌, ℕ, List, None, IfSome, OnOk, MatchOption};
+ghost use Rattle.std.specs.Prelude.{◌≡◌, ◌≢◌, ◌≤◌, ◌↔◌, ℕ, List, None, IfSome, OnOk, MatchOption};
 ghost use Rattle.std.specs.List.{AllByRecursion};
-ghost use Rattle.{search.specs.Search.IsSoundStage, hall.specs.Hall.search_of_step};
+ghost use Rattle.search.specs.{Search.IsSoundStage, Search.settled_of, Ending.Nothing};
+ghost use Rattle.hall.specs.Hall.{search_of_step};
 ghost use Rattle.hall.specs.Work.{SearchIsQuiet, NothingToDo, CanBeMade};
-ghost use Rattle.hall.specs.Kept.{IsUnsettled, Lists, KeepsBut, Stands};
+ghost use Rattle.hall.specs.Kept.{Lists, KeepsBut, IsOver};
 
 use crate::calls::Step;
 use crate::halls::Hall;
@@ -12,17 +13,6 @@ use indexmap::{IndexMap, IndexSet};
 use names::Entity;
 use search::Search;
 use std::alloc::AllocError;
-
-/// How a search stands once somebody has worked on it.
-#[derive(Clone, Copy)]
-pub(crate) enum Standing {
-    /// A letter of it waits, or a signal is under way.
-    Moves,
-    /// It goes on once a letter that is held comes back.
-    Rests,
-    /// It has come to its end.
-    Over,
-}
 
 /// By each tenant that has any, the numbers of its searches that may still go on. Others may stand among them. The set of a
 /// tenant that alone has one stays when it is emptied, for the tenant's next search. So at most one is empty.
@@ -101,33 +91,30 @@ fn take_out(busy: &mut Busy, who: &Entity, number: u64)
     }
 }
 
-/// Takes the tenant's search of the number out where it has settled, and tells how it stands.
-pub(crate) fn settle(busy: &mut Busy, who: &Entity, number: u64, search: &Search) -> Standing
-    ensures kept { KeepsBut (λ name k. (name ≡ who.now) × (k ≡ number) × (IsUnsettled search.now → ⊥)) busy.old busy.new }
-    ensures gone { (IsUnsettled search.now → ⊥) → Lists busy.new who.now number → ⊥ }
+/// Takes the tenant's search of the number out where it has come to its end, and tells whether it has.
+pub(crate) fn settle(busy: &mut Busy, who: &Entity, number: u64, search: &Search) -> bool
+    ensures kept { KeepsBut (λ name k. (name ≡ who.now) × (k ≡ number) × (settled_of search.now ≢ Nothing)) busy.old busy.new }
+    ensures gone { settled_of search.now ≢ Nothing → Lists busy.new who.now number → ⊥ }
     ensures sound { IsSoundStage search.now.stage }
-    ensures stands { Stands search.now result }
+    ensures over { IsOver search.now result }
 {
-    let standing = standing_of(search);
-    if let Standing::Over = standing {
+    let over = is_over(search);
+    if over {
         leave(busy, who, number);
     }
-    standing
+    over
 }
 
-/// How the search stands.
-fn standing_of(search: &Search) -> Standing
+/// Whether the search has come to its end. One of which anything is left to do hasn't.
+fn is_over(search: &Search) -> bool
     ensures sound { IsSoundStage search.now.stage }
-    ensures stands { Stands search.now result }
+    ensures over { IsOver search.now result }
 {
     search.kept();
     if !search.is_quiet() {
-        Standing::Moves
-    } else if search.is_outstanding() {
-        Standing::Rests
-    } else {
-        Standing::Over
+        return false;
     }
+    !search.is_outstanding()
 }
 
 impl Hall {

@@ -1,7 +1,7 @@
 //! The tenants of a hall, by name.
-ghost use Rattle.std.specs.Prelude.{◌≡◌, IfOk, IfErr, None, Some, map};
+ghost use Rattle.std.specs.Prelude.{◌≡◌, List, IfOk, IfErr, None, Some, map};
 ghost use Rattle.std.specs.{FinMap.get, FinMap.from_entries, List.IsDistinct, Borrow.sem};
-ghost use Rattle.{names.specs.Name.is_same, hall.specs.Hall.new_tenant, hall.specs.Hall.search_of, hall.specs.Kept.IsNowhere};
+ghost use Rattle.{names.specs.Name.is_same, hall.specs.Hall.new_tenant, hall.specs.Kept.IsNowhere};
 
 use crate::faults::Fault;
 use crate::open_searches::OpenSearch;
@@ -22,13 +22,13 @@ pub(crate) struct Tenants {
 }
 
 impl Model for Tenants {
-    ghost use Rattle.std.specs.{Coded.codes, FinMap.from_entries};
+    ghost use Rattle.std.specs.{Coded.codes, FinMap.FinMap, FinMap.from_entries};
     ghost use Rattle.std.specs.FinMap as fin;
     ghost use Rattle.search.specs.contracts.stages.Stage as running;
     ghost use Rattle.search.specs.contracts.findings.Monitor as memory;
-    ghost use Rattle.hall.specs.Hall.{Tenants};
+    ghost use Rattle.{names.specs.Name.name_order, hall.specs.Hall.Tenant};
 
-    ghost Value = { Tenants };
+    ghost Value = { FinMap name_order Tenant };
 
     ghost coded = { Prim.hlevel (codes, fin.code, running.the_row.coded, memory.the_row.coded) };
 
@@ -36,10 +36,12 @@ impl Model for Tenants {
 }
 
 impl Tenants {
-    ghost use Rattle.std.specs.{Borrow.LendsIfOk, FinMap.insert};
-    ghost use Rattle.hall.specs.Lending.{LendsSearch};
+    ghost use Rattle.std.specs.{Borrow.LendsIfOk, Borrow.LendsSoOk, FinMap.insert, Option.option_and_then};
+    ghost use Rattle.vaults.specs.declared.changes.Entry.{Entry};
+    ghost use Rattle.hall.specs.Hall.{with_search};
     ghost use Rattle.hall.specs.contracts.tenants.Tenants as tenants;
     ghost use Rattle.hall.specs.contracts.seats.Seat as seat;
+    ghost use Rattle.hall.specs.contracts.open_searches.OpenSearch as opened;
 
     /// The tenants of the roster, none of which has done anything.
     pub(crate) fn new(alloc: Global, roster: &[(Entity, Limits)]) -> Result<Tenants, AllocError>
@@ -83,8 +85,11 @@ impl Tenants {
     /// The tenant's search of the number, to go on with. The order of refusals: 62, 51.
     #[inline(always)]
     pub(crate) fn opened_mut(&mut self, who: &Entity, number: u64) -> Result<&mut OpenSearch, Fault>
-        ensures* lends { sem 𝓛 (LendsSearch self.entry who.now number result) }
-        ensures here { IfOk result (λ opened. search_of number (get self.old who.now) ≡ Some opened.now) }
+        ensures* lends { sem 𝓛 (LendsSoOk tenants.the_row opened.the_row self.entry result
+            (λ n q. (journal : List Entry) → record { journal = journal; tenants = n }
+            ≡ with_search (record { journal = journal; tenants = self.entry.now }) who.now number q)
+            (λ n. n ≡ self.entry.now)) }
+        ensures here { IfOk result (λ opened. option_and_then (λ t. get t.searches number) (get self.old who.now) ≡ Some opened.now) }
         ensures nowhere { IfErr result (IsNowhere number (get self.old who.now)) }
     {
         let seat = self.seat_mut(who)?;

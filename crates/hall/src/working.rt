@@ -1,53 +1,22 @@
 //! What a worker does to one search: its letters are handed in, and steps of it are made in a row.
 ghost use Rattle.std.specs.Prelude.{◌≡◌, ◌+◌, ◌++◌, ◌∷◌, ◌<◌, ◌≤◌, List, ℕ, [], length, map, vec_len, vec_capacity};
-ghost use Rattle.std.specs.Prelude.{Some, MatchOption, option_copied, option_map};
+ghost use Rattle.std.specs.Prelude.{Some, MatchOption, option_copied, option_map, false, if◌then◌else◌};
 ghost use Rattle.std.specs.{List.AllWithin, Arc.arc_value};
 ghost use Rattle.search.specs.declared.queries.Hint.TheVariants as hint;
 ghost use Rattle.search.specs.{Finish.need_for, Stage.IsQuiet};
-ghost use Rattle.hall.specs.Steps.{StepsEach};
+ghost use Rattle.hall.specs.Hall.{StepsEach};
 ghost use Rattle.hall.specs.Batches.{IsEmpty, IsLookedUp, IsLookedUpIn, letter_of, name_of, named};
-ghost use Rattle.hall.specs.Work.{HandsIn, HandsInBatch, GoesOn, gives_back};
-ghost use Rattle.hall.specs.Working.{HandsInOne, MakesStep, WentAs, WorksThrough};
+ghost use Rattle.hall.specs.Work.{HandsIn, HandsInBatch, GoesOn, WentAs, WorksThrough, gives_back};
 
 use crate::batches::{Batch, HeldLetter, NamedSearch};
 use crate::orders::{Next, Order};
-use crate::picking::Standing;
 use names::{Entity, Role};
 use search::{Finished, Hint, Need, Search};
 use snapshots::Snapshot;
 use std::sync::Arc;
 
-/// How a search went on once letters were handed in to it.
-#[derive(Clone, Copy)]
-pub(crate) enum Went {
-    /// That wasn't asked for, or nothing of it was left to do, so no step was made.
-    Nowhere,
-    /// Steps were made, as many as were asked for or left.
-    On,
-    /// Something was left, and there was no memory to share what the search reads: no step was made.
-    NoMemory,
-}
-
-impl Went {
-    ghost use Rattle.hall.specs.Working.{next_of};
-
-    /// How a visit went on with the search, which stands so then.
-    #[inline(always)]
-    pub(crate) fn next(self, standing: Standing) -> Option<Next>
-        ensures { result ≡ next_of standing self }
-    {
-        match self {
-            Went::Nowhere => None,
-            Went::On => Some(Next::Worked {
-                left: matches!(standing, Standing::Moves),
-            }),
-            Went::NoMemory => Some(Next::NoMemory),
-        }
-    }
-}
-
 /// Hands in the letters of the batch, which are of this search under that name, and goes on with it where that is asked and
-/// anything of it is left to do. Answers how many letters are done, and how it went on.
+/// anything of it is left to do. Answers how many letters are done, and how it went on, if it did.
 #[inline(always)]
 pub(crate) fn work(
     search: &mut Search,
@@ -56,21 +25,21 @@ pub(crate) fn work(
     order: Order,
     most: usize,
     batch: &mut Batch,
-) -> (u64, Went)
+) -> (u64, Option<Next>)
     requires looked_up { IsLookedUp batch.old }
     requires of { MatchOption batch.old.of (Unit {0}) (λ of. name_of of ≡ (who.now, number)) }
     requires space { most ≤ batch.old.room }
     ensures { WorksThrough order most (who.now, number) search.old batch.old result.0 result.1 search.new batch.new }
 {
     let finished = hand_in(search, batch, order.gives_back());
-    let went = match order {
+    let next = match order {
         Order::GoOn => go_on(search, who, number, most, batch),
         _ => {
             batch.let_go();
-            Went::Nowhere
+            None
         }
     };
-    (finished, went)
+    (finished, next)
 }
 
 /// Finishes the letters, each with its right hint and in the order in which they were taken, and answers how many are
@@ -88,18 +57,24 @@ fn hand_in(search: &mut Search, batch: &Batch, back: bool) -> u64
 /// Lets the letters of the search go, which were handed in, and takes others of it where anything is left to do. Where the batch
 /// names the search already, its name isn't copied.
 #[inline(always)]
-fn go_on(search: &mut Search, who: &Entity, number: u64, most: usize, batch: &mut Batch) -> Went
+fn go_on(
+    search: &mut Search,
+    who: &Entity,
+    number: u64,
+    most: usize,
+    batch: &mut Batch,
+) -> Option<Next>
     requires of { MatchOption batch.old.of (Unit {0}) (λ of. name_of of ≡ (who.now, number)) }
     requires space { most ≤ batch.old.room }
     ensures { WentAs Order.GoOn most batch.old.room (who.now, number) search.old result search.new batch.new }
 {
     if search.is_quiet() {
         batch.let_go();
-        return Went::Nowhere;
+        return None;
     }
     let Ok(snapshot) = search.snapshot().clone() else {
         batch.let_go();
-        return Went::NoMemory;
+        return Some(Next::NoMemory);
     };
     name(&mut batch.of, who, number, snapshot);
     batch.held_letters.clear();
@@ -108,7 +83,9 @@ fn go_on(search: &mut Search, who: &Entity, number: u64, most: usize, batch: &mu
     if batch.held_letters.is_empty() {
         batch.of = None;
     }
-    Went::On
+    Some(Next::Worked {
+        left: !search.is_quiet(),
+    })
 }
 
 /// Names the search and what it reads. Where its name stands there already, that isn't copied.
@@ -148,7 +125,9 @@ fn take_each(search: &mut Search, most: usize, held_letters: &mut Vec<HeldLetter
 #[inline(always)]
 fn make_step(search: &mut Search, held_letters: &mut Vec<HeldLetter>) -> bool
     requires space { vec_len held_letters.old < vec_capacity held_letters.old }
-    ensures made { MakesStep search.old result search.new (map letter_of held_letters.old.items) (map letter_of held_letters.new.items) }
+    ensures made { (letters : List (ℕ × Need)) × (map letter_of held_letters.new.items ≡ map letter_of held_letters.old.items ++ letters)
+        × ((name : List ℕ × ℕ) → GoesOn (StepsEach search.old search.new) name (if result then 1 else 0) ⊥ letters) }
+    ensures quiet { result ≡ false → IsQuiet search.new.stage }
     ensures bound { vec_len held_letters.new ≤ vec_len held_letters.old + 1 }
     ensures capacity { vec_capacity held_letters.new ≡ vec_capacity held_letters.old }
 {
@@ -216,7 +195,7 @@ fn hand_in_letter(
     back: bool,
 ) -> bool
     requires { IsLookedUpIn of.now held_letter.now }
-    ensures { HandsInOne back (named of.now) search.old (letter_of held_letter.now) result search.new }
+    ensures { HandsIn (StepsEach search.old search.new) back (named of.now) (letter_of held_letter.now ∷ []) (if result then 1 else 0) }
 {
     let _who = &of.who;
     if back {

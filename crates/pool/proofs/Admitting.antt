@@ -11,7 +11,7 @@ use Rattle.hall.specs.declared.calls.replies.Reply.{Reply}
 use Rattle.hall.specs.declared.calls.replies.Reply.TheVariants.{Answered, Refused}
 use Rattle.hall.specs.Answers.{answer_of, sight}
 use Rattle.hall.specs.Hall.{HallState, Running, known, account, search_at, IsServed}
-use Rattle.hall.proofs.Viewed.{polled_over, unproved_over}
+use Rattle.hall.proofs.Viewed.{answered_over, unproved_over}
 use Rattle.hall.proofs.Polled.{asked_of, answered_by}
 use Rattle.hall.proofs.laws.HallChanges.{tenant_of}
 use Rattle.pool.specs.Histories.{ReadsIn, IsReadOff}
@@ -22,7 +22,7 @@ search_found None s is = cc
 search_found (Some r) s is = (r, refl, cc)
 
 pub poll_admits : (k : ℕ) (s : SearchState) → (told : Reply) × IsReadOff (known s) (Poll k) told
-poll_admits k s = (Answered (answer_of (settled_of s)), λ tenant sees a at. polled_over s (Ok (answer_of (settled_of s))) refl tenant sees a k at)
+poll_admits k s = (Answered (answer_of (settled_of s)), λ tenant sees a at. answered_over s (answer_of (settled_of s)) refl tenant sees a k at)
 
 pub proof_admits : (k : ℕ) (member : List ℕ) (s : SearchState) → IsCompleted s.stage →
     (IsMember (rows_of s) member (asked_role s.query)) ⊎ (IsMember (rows_of s) member (asked_role s.query) → ⊥) →
@@ -37,9 +37,9 @@ read_served h who (Poll k) s told reads off =
     let (t, here, there) = tenant_of h who k r found in
     answered_by h who t here (Poll k) told
     (off who (sight h.journal who (Poll k)) (account h.journal who t) (asked_of h who k t here (Some r) there ∙ ap (λ (x : SearchState). Some (known x)) is)) refl
-read_served h who (Proof k member) s told reads off =
-    let (t, here, there) = tenant_of h who k reads.running reads.there in
+read_served h who (Proof k member) s told (r, found, is, completed) off =
+    let (t, here, there) = tenant_of h who k r found in
     answered_by h who t here (Proof k member) told
     (off who (sight h.journal who (Proof k member)) (account h.journal who t)
-    (asked_of h who k t here (Some reads.running) there ∙ ap (λ (x : SearchState). Some (known x)) reads.is)) refl
+    (asked_of h who k t here (Some r) there ∙ ap (λ (x : SearchState). Some (known x)) is)) refl
 read_served h who _ s told reads off = absurd reads

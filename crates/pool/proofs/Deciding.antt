@@ -17,11 +17,10 @@ use Rattle.rt0_rules.specs.Asks.{Why, for_body, Asks, asks_body, asked_role as a
 use Rattle.rt0_rules.specs.Work.{Tell, IsTell, WorkIs}
 use Rattle.search.specs.declared.queries.Query.{Query}
 use Rattle.search.specs.Ending.{Settled, Nothing, asked_role, MaySettle, answers, spends, breaks}
-use Rattle.search.specs.Search.{SearchState, rows_of, settled_of}
+use Rattle.search.specs.Search.{SearchState, rows_of, settled_of, IsAnswered, status_of}
 use Rattle.hall.specs.declared.calls.requests.Request.{Request}
 use Rattle.hall.specs.declared.calls.requests.Request.TheVariants.{Poll, Proof}
 use Rattle.hall.specs.declared.calls.replies.Reply.{Reply}
-use Rattle.hall.specs.Answers.{IsAnswer}
 use Rattle.hall.specs.Hall.{HallState, known, IsSound}
 use Rattle.hall.specs.Work.{IsCompletedAt}
 use Rattle.hall.proofs.Completed.{answer_completed}
@@ -70,24 +69,24 @@ module _ (C : List Credential) (role : Role) (d : List ℕ) where
           true≢false (sym (list_any_at test is.tells among.0 t among.1 (ap test among.2 ∙ holds)) ∙ none))
 
 -- a search that may have come to this ended with an answer only within its work
-decided_by_end : (limit : ℕ) (C : List Credential) (query : Query) (end : Settled) (d : List ℕ) → IsAnswer end → MaySettle limit C query Nothing end →
+decided_by_end : (limit : ℕ) (C : List Credential) (query : Query) (end : Settled) (d : List ℕ) → IsAnswered (status_of end) → MaySettle limit C query Nothing end →
     IsDecided (IsMember C d (asked_role query))
-decided_by_end limit C query end d answer (inl is) = absurd (subst IsAnswer is answer)
+decided_by_end limit C query end d answer (inl is) = absurd (subst (λ (x : Settled). IsAnswered (status_of x)) is answer)
 decided_by_end limit C query end d answer (inr (_, answers work is within truth)) = decided_by_work C (asked_role query) d work is
-decided_by_end limit C query end d answer (inr (_, spends is over)) = absurd (subst IsAnswer is answer)
-decided_by_end limit C query end d answer (inr (_, breaks is)) = absurd (subst IsAnswer is answer)
+decided_by_end limit C query end d answer (inr (_, spends is over)) = absurd (subst (λ (x : Settled). IsAnswered (status_of x)) is answer)
+decided_by_end limit C query end d answer (inr (_, breaks is)) = absurd (subst (λ (x : Settled). IsAnswered (status_of x)) is answer)
 
 -- a completed search of a sound hall decides who is a member of its role
 pub completed_decides : (h : HallState) (who : List ℕ) (k : ℕ) (s : SearchState) (d : List ℕ) → IsSound h → IsCompletedAt h who k s →
     IsDecided (IsMember (rows_of s) d (asked_role s.query))
-completed_decides h who k s d sound at =
-    let (t, found, there) = tenant_of h who k at.running at.there in
-    let kept = (sound who t k at.running found there).2 in
-    decided_by_end t.limits.work (rows_of s) s.query (settled_of s) d ((answer_completed s).1 at.completed)
-    (subst (λ (x : SearchState). MaySettle t.limits.work (rows_of x) x.query Nothing (settled_of x)) at.is kept.settled)
+completed_decides h who k s d sound (r, at, is, completed) =
+    let (t, found, there) = tenant_of h who k r at in
+    let kept = (sound who t k r found there).2 in
+    decided_by_end t.limits.work (rows_of s) s.query (settled_of s) d ((answer_completed s).1 completed)
+    (subst (λ (x : SearchState). MaySettle t.limits.work (rows_of x) x.query Nothing (settled_of x)) is kept.settled)
 
 -- something is told of the search that is read
 pub reads_admit : (h : HallState) (who : List ℕ) (q : Request) (s : SearchState) → IsSound h → ReadsIn h who q s → (told : Reply) × IsReadOff (known s) q told
 reads_admit h who (Poll k) s sound reads = poll_admits k s
-reads_admit h who (Proof k member) s sound reads = proof_admits k member s reads.completed (completed_decides h who k s member sound reads)
+reads_admit h who (Proof k member) s sound reads = proof_admits k member s reads.3 (completed_decides h who k s member sound reads)
 reads_admit h who _ s sound reads = absurd reads

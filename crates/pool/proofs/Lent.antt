@@ -34,7 +34,7 @@ use Rattle.pool.proofs.Polled.{running_truth, works_there}
 
 -- a completed search is there
 pub completed_there : (h : HallState) (who : List ℕ) (k : ℕ) (s : SearchState) → IsCompletedAt h who k s → option_map (λ (r : Running). r.search) (search_at h who k) ≡ Some s
-completed_there h who k s at = ap (option_map (λ (r : Running). r.search)) at.there ∙ ap Some at.is
+completed_there h who k s (r, there, is, completed) = ap (option_map (λ (r : Running). r.search)) there ∙ ap Some is
 
 -- the history has the opening of a search that is there
 pub opening_there : (roster : List (List ℕ × Quota)) (items : List Item) (h : HallState) (i : Item) (who : List ℕ) (k : ℕ) (s : SearchState) → Reaches roster items h →

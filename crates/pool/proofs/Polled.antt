@@ -7,7 +7,7 @@ use Rattle.std.specs.FinMap.{get}
 use Rattle.std.proofs.Common.{◌≡◌, ◌∙◌, ℕ, Bool, true, false, List, ap, sym, subst, inl, inr, Some, Option, None, option_map, refl, Result, Ok, Err}
 use Rattle.credential_text.specs.declared.credentials.Credential.{Credential}
 use Rattle.vaults.specs.Journal.{credentials}
-use Rattle.search.specs.Search.{settled_of}
+use Rattle.search.specs.Search.{settled_of, IsAnswered, status_of}
 use Rattle.search.specs.declared.queries.Query.{Query}
 use Rattle.search.specs.Ending.{Settled, Nothing, IsTruth, answers, spends, breaks, MaySettle}
 use Rattle.hall.specs.declared.calls.answers.Answer.{Answer}
@@ -16,11 +16,12 @@ use Rattle.hall.specs.declared.calls.requests.Request.TheVariants.{Poll}
 use Rattle.hall.specs.declared.faults.Fault.{Fault}
 use Rattle.hall.specs.declared.calls.replies.Reply.{Reply}
 use Rattle.hall.specs.declared.calls.replies.Reply.TheVariants.{Answered, Refused}
-use Rattle.hall.specs.Answers.{Asked, answer_of, IsAnswer}
-use Rattle.hall.specs.{Kept.IsUnsettled, Work.StillWorks}
-use Rattle.hall.specs.Hall.{Running, Tenant, HallState, search_of, search_at, seen, IsSound, IsServed}
+use Rattle.hall.specs.Answers.{Asked, answer_of}
+use Rattle.hall.specs.{Work.StillWorks}
+use Rattle.hall.specs.Hall.{Running, Tenant, HallState, search_at, seen, IsSound, IsServed}
 use Rattle.hall.proofs.Maps.{numbers_exact, get_mapped}
 use Rattle.hall.proofs.laws.RightAnswers.{same_answer}
+use Rattle.hall.proofs.laws.HallChanges.{search_of}
 use Rattle.pool.specs.declared.verdicts.Verdict.{Verdict}
 use Rattle.pool.specs.Verdicts.{IsTrueWhereCompleted}
 use Rattle.pool.specs.declared.faults.DeskFault.{DeskFault}
@@ -32,16 +33,16 @@ use Rattle.pool.specs.Rooms.{RoomState, IsKept}
 use Rattle.pool.specs.Served.{IsPolledIn, IsWaited}
 use Rattle.pool.proofs.Served.{granted}
 
-truth_told : (C : List Credential) (q : Query) (s : Settled) → (IsAnswer s → IsTruth C q s) → IsTrueWhereCompleted C q (answer_of s)
+truth_told : (C : List Credential) (q : Query) (s : Settled) → (IsAnswered (status_of s) → IsTruth C q s) → IsTrueWhereCompleted C q (answer_of s)
 truth_told C q s truth t told answered =
     let same : s ≡ t = same_answer s t told in
-    subst (IsTruth C q) same (truth (subst IsAnswer (sym same) answered))
+    subst (IsTruth C q) same (truth (subst (λ (x : Settled). IsAnswered (status_of x)) (sym same) answered))
 
 ending_told : (limit : ℕ) (C : List Credential) (q : Query) (s : Settled) → MaySettle limit C q Nothing s → IsTrueWhereCompleted C q (answer_of s)
-ending_told limit C q s (inl is) = truth_told C q s (λ answered. absurd (subst IsAnswer is answered))
+ending_told limit C q s (inl is) = truth_told C q s (λ answered. absurd (subst (λ (x : Settled). IsAnswered (status_of x)) is answered))
 ending_told limit C q s (inr (none, answers work of within truth)) = truth_told C q s (λ answered. truth)
-ending_told limit C q s (inr (none, spends is exceeds)) = truth_told C q s (λ answered. absurd (subst IsAnswer is answered))
-ending_told limit C q s (inr (none, breaks is)) = truth_told C q s (λ answered. absurd (subst IsAnswer is answered))
+ending_told limit C q s (inr (none, spends is exceeds)) = truth_told C q s (λ answered. absurd (subst (λ (x : Settled). IsAnswered (status_of x)) is answered))
+ending_told limit C q s (inr (none, breaks is)) = truth_told C q s (λ answered. absurd (subst (λ (x : Settled). IsAnswered (status_of x)) is answered))
 
 -- what a search of a sound hall has come to is the truth where it is completed
 pub running_truth : (h : HallState) (who : List ℕ) (k : ℕ) (r : Running) → IsSound h → search_at h who k ≡ Some r →
@@ -104,7 +105,7 @@ still_works s is = cc
 pub works_there : (at : RoomState) (who : List ℕ) (k : ℕ) (a : Answer) → IsSound at.hall → IsServed at.hall who (Poll k) (Answered a) at.hall → a ≡ Working → StillWorks at.hall (who, k)
 works_there at who k a sound served working =
     let (r, found) = polled_search at.hall who k a sound served in
-    subst (λ (o : Option Running). IsSomeAnd o (λ one. IsUnsettled one.search)) (sym found.there)
+    subst (λ (o : Option Running). IsSomeAnd o (λ one. settled_of one.search ≡ Nothing)) (sym found.there)
     (still_works (settled_of r.search) (sym found.tells ∙ working))
 
 -- a stop that is told is seen by who has seen more

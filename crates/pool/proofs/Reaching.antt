@@ -18,7 +18,9 @@ use Rattle.hall.specs.declared.calls.steps.Step.{Step}
 use Rattle.hall.specs.declared.calls.steps.Stepped.{Stepped}
 use Rattle.hall.specs.Answers.{Account, start_of}
 use Rattle.hall.specs.Run.{Told, any_time, IsRunOf, AreRuns}
-use Rattle.hall.specs.Hall.{HallState, EachSearch, Tenant, Running, known, account_of, search_at, beginning, IsSound, IsServed, StepsAt, IsStepped, search_of_step, told_as, new_hall}
+use Rattle.hall.specs.declared.calls.steps.Stepped.TheVariants.{Gone}
+use Rattle.hall.specs.Hall.{StepsSearch}
+use Rattle.hall.specs.Hall.{HallState, EachSearch, Tenant, Running, known, account_of, search_at, beginning, IsSound, IsServed, GoesOnAt, IsStepped, search_of_step, told_as, new_hall}
 use Rattle.hall.proofs.laws.HallChanges.{inserted_each, replaced_each, new_each}
 use Rattle.hall.proofs.laws.HallRequests.{opening, requested_each}
 use Rattle.hall.proofs.laws.HallRuns.{served_journal, stepped_journal}
@@ -106,7 +108,7 @@ opened_over : (items : List Item) (old new : HallState) (made : Step) (answer : 
     EachSearch (Opens items) new
 opened_over items old new made answer opened = by (search_at old (search_of_step made).0 (search_of_step made).1) refl
   where
-    by : (o : Option Running) → search_at old (search_of_step made).0 (search_of_step made).1 ≡ o → StepsAt old o made answer new → EachSearch (Opens items) new
+    by : (o : Option Running) → search_at old (search_of_step made).0 (search_of_step made).1 ≡ o → GoesOnAt old (search_of_step made).0 (search_of_step made).1 o (answer ≡ Gone) (λ s t. StepsSearch s made answer t) new → EachSearch (Opens items) new
     by None none steps = subst (EachSearch (Opens items)) (sym steps.1) opened
     by (Some r) at (s, steps, after) =
         let same = (step_goes_on r.search s made answer steps).question in

@@ -9,8 +9,7 @@ use Rattle.hall.specs.declared.calls.{requests.Request.Request, replies.Reply.Re
 use Rattle.hall.specs.declared.calls.requests.Request.TheVariants as request
 use Rattle.hall.specs.declared.calls.replies.Reply.TheVariants as reply
 use Rattle.hall.specs.{Answers.new_account, Answers.start_of, Hall.HallState, Hall.known, Hall.IsSound}
-use Rattle.hall.specs.Run.{Deed, asks, request_of, Told, entered, told_to, any_time, AreRuns}
-use Rattle.hall.specs.Laws.{IsRight, IsSameDeed, HasMemory, Agree}
+use Rattle.hall.specs.Run.{Deed, asks, request_of, Told, entered, told_to, any_time, AreRuns, IsRight, IsSameDeed, HasMemory, Agree}
 use Rattle.pool.specs.declared.turns.Item.{Item}
 use Rattle.pool.specs.Histories.{name_of, own_of, turn, is_turn, AreTold, IsLegal, ReadsIn, IsReadOff}
 

@@ -6,7 +6,7 @@ use Rattle.vaults.specs.declared.changes.Entry.{Entry}
 use Rattle.hall.specs.declared.calls.replies.Reply.{Reply}
 use Rattle.hall.specs.Answers.{sight}
 use Rattle.hall.specs.Run.{Deed, request_of, Told, entered, Turn, told_to, any_time, at_waits}
-use Rattle.hall.specs.Laws.{Agree, same, proofs, first_early, second_early, IsSameDeed}
+use Rattle.hall.specs.Run.{Agree, same, proofs, first_early, second_early, IsSameDeed}
 use Rattle.service.specs.declared.commands.Command.{Command}
 use Rattle.service.specs.declared.refusals.Refusal.{Refusal}
 use Rattle.service.specs.declared.refusals.Refusal.TheVariants as refusal

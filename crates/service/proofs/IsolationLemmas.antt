@@ -8,7 +8,7 @@ use Rattle.names.specs.Name.{is_name, IsName, is_same}
 use Rattle.names.proofs.SameNames.{same_from_is_same}
 use Rattle.hall.specs.Answers.{Account, new_account, start_of}
 use Rattle.hall.specs.Run.{Turn, at_waits}
-use Rattle.hall.specs.Laws.{Agree}
+use Rattle.hall.specs.Run.{Agree}
 use Rattle.hall.proofs.laws.Worlds.{scripts_isolated as told_alike}
 use Rattle.service.specs.Command.{form_of}
 use Rattle.service.specs.Roster.{RosterLine, tenant_of}

@@ -7,7 +7,7 @@ use Rattle.hall.specs.declared.calls.replies.Reply.{Reply}
 use Rattle.hall.specs.declared.calls.replies.Reply.TheVariants.{Refused}
 use Rattle.hall.specs.Answers.{Asked, Account, start_of}
 use Rattle.hall.specs.Run.{Deed, asks, waits, request_of, Turn, any_time, at_waits, GoesOn, Between, Ends, IsTaken, IsRun, IsRunOf}
-use Rattle.hall.specs.Laws.{Agree, same, HasMemory, IsSameDeed}
+use Rattle.hall.specs.Run.{Agree, same, HasMemory, IsSameDeed}
 use Rattle.hall.proofs.Maps.{numbers_exact, each_inserted}
 use Rattle.hall.proofs.laws.HallTurns.{goes_itself}
 use Rattle.hall.proofs.laws.Worlds.{two_worlds}
@@ -77,7 +77,7 @@ runs_agree : (tenant : List ℕ) (start : Option Account) (first second : List T
 runs_agree tenant None first second end other_end run other asks_same memory more = none_agree first second asks_same run.0 other.0
 runs_agree tenant (Some a) first second end other_end (b, is, run) (c, also, other) asks_same memory more =
     unpolled first second
-    (two_worlds any_time tenant a b c (map polled first) (map polled second) (run_polled tenant a b first run) (run_polled tenant a c second other) (same_polled first second asks_same)
+    (two_worlds any_time tenant (Some a) (Some b) (Some c) (map polled first) (map polled second) (b, refl, run_polled tenant a b first run) (c, refl, run_polled tenant a c second other) (same_polled first second asks_same)
     (memory_polled first memory) (memory_polled second more))
 
 pub scripts_agree : TwoScripts

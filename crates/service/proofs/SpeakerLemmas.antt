@@ -16,7 +16,7 @@ use Rattle.hall.specs.declared.calls.replies.Reply.{Reply}
 use Rattle.hall.specs.declared.calls.replies.Reply.TheVariants.{Refused}
 use Rattle.hall.specs.Answers.{Account, new_account, start_of, Sight, Answers, Grants}
 use Rattle.hall.specs.Run.{Deed, asks, waits, Told}
-use Rattle.hall.specs.Hall.{Running, Tenant, HallState, account, account_of, with_tenant, search_at, hall_after, AnswersTo, IsServed, Drives, CarriesOut, AreDone, new_tenant, new_hall}
+use Rattle.hall.specs.Hall.{Running, Tenant, HallState, account, account_of, with_tenant, search_at, hall_after, AnswersTo, IsServed, GoesOnAt, IsCarriedOn, CarriesOut, AreDone, new_tenant, new_hall}
 use Rattle.hall.proofs.Polled.{refused_after}
 use Rattle.hall.proofs.laws.HallChanges.{changed_here, changed_elsewhere}
 use Rattle.service.specs.Outcome.{speaks}
@@ -86,8 +86,8 @@ has-served : (old new : HallState) (name : List ℕ) (q : Request) (told : Reply
 has-served old new name q told served who =
     ap (λ (h : HallState). is_some (get h.tenants who)) served.after ∙ has-told old name (account_of old name) (account_of new name) q told served.answers who
 
-has-driven : (old new : HallState) (name : List ℕ) (k : ℕ) (o : Option Running) → Drives old name k o new → HasSame old new
-has-driven old new name k None same who = ap (λ (h : HallState). is_some (get h.tenants who)) same
+has-driven : (old new : HallState) (name : List ℕ) (k : ℕ) (o : Option Running) → GoesOnAt old name k o (Unit {0}) IsCarriedOn new → HasSame old new
+has-driven old new name k None (nothing, same) who = ap (λ (h : HallState). is_some (get h.tenants who)) same
 has-driven old new name k (Some r) driven who =
     ap (λ (h : HallState). is_some (get h.tenants who)) driven.2 ∙ has-changed old name _ who
 

@@ -10,7 +10,7 @@ use Rattle.credential_text.specs.Spelling.{Spells}
 use Rattle.credential_text.specs.Refusal as credential
 use Rattle.vaults.specs.declared.changes.Change.{Change}
 use Rattle.vaults.specs.declared.changes.Change.TheVariants.{Upload, Withdraw, Grant, Revoke, GrantAll, RevokeAll}
-use Rattle.hall.specs.Answers.{Ask, Who}
+use Rattle.search.specs.declared.queries.Query.TheVariants.{Ask, Who}
 use Rattle.hall.specs.declared.calls.requests.Request.TheVariants.{Alter, Seek, Poll, Close, Vault, Sees, Proof}
 use Rattle.service.specs.declared.commands.Command.{Command, TheVariants.Request, TheVariants.Wait}
 use Rattle.service.specs.declared.refusals.Refusal.{Refusal}

@@ -5,7 +5,7 @@ use Rattle.names.specs.Name.{is_same}
 use Rattle.hall.specs.declared.calls.replies.Reply.TheVariants.{Proof}
 use Rattle.hall.specs.Answers.{Account, start_of}
 use Rattle.hall.specs.Run.{Turn, request_of, told_to, any_time}
-use Rattle.hall.specs.Laws.{Agree, HasMemory, ProveTheSame}
+use Rattle.hall.specs.Run.{Agree, HasMemory, ProveTheSame}
 use Rattle.service.specs.declared.refusals.Refusal.TheVariants.{Memory}
 use Rattle.service.specs.Command.{form_of}
 use Rattle.service.specs.Line.{Line, text}

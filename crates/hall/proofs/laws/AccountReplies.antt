@@ -20,7 +20,7 @@ use Rattle.hall.specs.declared.calls.replies.Reply.TheVariants.{Answered, Proof,
 use Rattle.hall.specs.Answers.{Asked, Account, alter_refusal, seek_refusal}
 use Rattle.hall.specs.Answers.{Sight, answer_of, RefusesProof, Refuses, Grants, IsClear, Answers, refuses, grants, lacks}
 use Rattle.hall.specs.Run.{When, any_time, at_waits}
-use Rattle.hall.specs.Laws.{ProveTheSame, works, no_proof_yet, proof_later, Agree, same, proofs, first_early, second_early}
+use Rattle.hall.specs.Run.{ProveTheSame, works, no_proof_yet, proof_later, Agree, same, proofs, first_early, second_early}
 use Rattle.hall.proofs.Maps.{numbers_exact, same_len}
 use Rattle.hall.proofs.Truths.{ending_unique}
 use Rattle.hall.proofs.laws.AccountsAlike.{Like, BothHave, neither, both, both_present, both_absent, both_itself, both_inserted, both_removed, AreAlike, alike_back}

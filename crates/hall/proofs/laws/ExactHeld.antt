@@ -7,7 +7,7 @@ use Rattle.hall.specs.declared.calls.requests.Request.{Request}
 use Rattle.hall.specs.declared.calls.requests.Request.TheVariants.{Poll}
 use Rattle.hall.specs.declared.calls.replies.Reply.{Reply}
 use Rattle.hall.specs.Run.{Deed, asks, waits}
-use Rattle.hall.specs.Hall.{Running, Tenant, HallState, EachSearch, search_at, beginning, IsServed, Drives, CarriesOut, new_hall}
+use Rattle.hall.specs.Hall.{Running, Tenant, HallState, EachSearch, search_at, beginning, IsServed, GoesOnAt, IsCarriedOn, CarriesOut, new_hall}
 use Rattle.hall.proofs.SearchSteps.{none_held_yet}
 use Rattle.hall.proofs.laws.HallChanges.{inserted_each, replaced_each, new_each, tenant_of}
 use Rattle.hall.proofs.laws.HallRequests.{opening, requested_each}
@@ -34,12 +34,12 @@ served_free old new name q told free served =
     (none_held_yet query t.limits.work (record { asker = name; vaults = view old.journal name })))
     (λ k t found j r at. free name t j r found at))
 
-driven_free : (old new : HallState) (name : List ℕ) (k : ℕ) → IsFree old → Drives old name k (search_at old name k) new →
+driven_free : (old new : HallState) (name : List ℕ) (k : ℕ) → IsFree old → GoesOnAt old name k (search_at old name k) (Unit {0}) IsCarriedOn new →
     IsFree new
 driven_free old new name k free = by (search_at old name k) refl
   where
-    by : (o : Option Running) → search_at old name k ≡ o → Drives old name k o new → IsFree new
-    by None none is = rw is free
+    by : (o : Option Running) → search_at old name k ≡ o → GoesOnAt old name k o (Unit {0}) IsCarriedOn new → IsFree new
+    by None none (nothing, is) = rw is free
     by (Some r) at (s, carried, is) =
         rw is (replaced_each HoldsNone old name k r (record r { search = s }) (λ t m j u here. here) at (λ t held. (carried.settled held).0) free)
 

@@ -11,9 +11,8 @@ use Rattle.vaults.proofs.Orders.{names_exact}
 use Rattle.hall.specs.declared.calls.requests.Request.TheVariants.{Poll}
 use Rattle.hall.specs.declared.calls.replies.Reply.{Reply}
 use Rattle.hall.specs.Answers.{Asked, new_account, start_of}
-use Rattle.hall.specs.Run.{Deed, asks, waits, Told, entered, told_to, at_waits, IsRunOf}
+use Rattle.hall.specs.Run.{Deed, asks, waits, Told, entered, told_to, at_waits, IsRunOf, AreRuns}
 use Rattle.hall.specs.Hall.{HallState, seen, account, account_of, CarriesOut, AreDone, IsSound, new_tenant, new_hall}
-use Rattle.hall.specs.Laws.{ScriptsAreExact}
 use Rattle.hall.proofs.Maps.{numbers_exact, mapped_empty}
 use Rattle.hall.proofs.laws.HallSound.{carried_sound, new_sound}
 use Rattle.hall.proofs.laws.HallTurns.{empty_run, TurnsTo, done_told, turn_at, done_first}
@@ -85,7 +84,7 @@ started name roster =
         by true is = ap Some (new row.1)
         by false is = is
 
-pub scripts_exact : ScriptsAreExact
+pub scripts_exact : (roster : List (List ℕ × Quota)) (new : HallState) (told : List Told) → AreDone (new_hall roster) told new → AreRuns at_waits roster told
 scripts_exact roster new told done tenant = (
   account_of new tenant,
   rw (← started tenant roster) (done_exact tenant (new_hall roster) new told (new_sound roster) (new_free roster) done),

@@ -6,32 +6,33 @@ use Rattle.hall.specs.declared.calls.requests.Request.TheVariants.{Poll}
 use Rattle.hall.specs.declared.calls.replies.Reply.{Reply}
 use Rattle.hall.specs.Answers.{Account}
 use Rattle.hall.specs.Run.{waits, Ends}
-use Rattle.hall.specs.Hall.{Running, Tenant, HallState, seen, account, account_of, search_of, search_at, IsServed}
-use Rattle.hall.specs.Hall.{Drives, IsSound}
+use Rattle.hall.specs.Hall.{Running, Tenant, HallState, seen, account, account_of, search_at, IsServed}
+use Rattle.hall.specs.Hall.{GoesOnAt, IsCarriedOn, IsSound}
 use Rattle.hall.proofs.Maps.{numbers_exact, get_mapped}
 use Rattle.hall.proofs.laws.HallSteps.{drives_on}
 use Rattle.hall.proofs.laws.HallTurns.{TurnsTo, done_told, turn_at}
 use Rattle.hall.proofs.laws.HallAccounts.{other_account, own_account, own_ends}
 use Rattle.hall.proofs.laws.ExactHeld.{IsFree, free_at}
+use Rattle.hall.proofs.laws.HallChanges.{search_of}
 
-module _ (old middle : HallState) (name : List ℕ) (k : ℕ) (drives : Drives old name k (search_at old name k) middle) where
+module _ (old middle : HallState) (name : List ℕ) (k : ℕ) (drives : GoesOnAt old name k (search_at old name k) (Unit {0}) IsCarriedOn middle) where
   pub driven_journal : middle.journal ≡ old.journal
   driven_journal = by (search_at old name k) drives
     where
-      by : (o : Option Running) → Drives old name k o middle → middle.journal ≡ old.journal
-      by None is = ap (λ (h : HallState). h.journal) is
+      by : (o : Option Running) → GoesOnAt old name k o (Unit {0}) IsCarriedOn middle → middle.journal ≡ old.journal
+      by None (none, is) = ap (λ (h : HallState). h.journal) is
       by (Some r) (s, carried, is) = ap (λ (h : HallState). h.journal) is
 
   pub driven_other : (other : List ℕ) → is_same name other ≡ false → account_of middle other ≡ account_of old other
   driven_other other apart = by (search_at old name k) drives
     where
-      by : (o : Option Running) → Drives old name k o middle → account_of middle other ≡ account_of old other
-      by None is = ap (λ (h : HallState). account_of h other) is
+      by : (o : Option Running) → GoesOnAt old name k o (Unit {0}) IsCarriedOn middle → account_of middle other ≡ account_of old other
+      by None (none, is) = ap (λ (h : HallState). account_of h other) is
       by (Some r) (s, carried, is) =
           rw is (other_account old name other (λ t. record t { searches = insert t.searches k (record r { search = s }) }) apart)
 
   nobody_driven : get old.tenants name ≡ None → middle ≡ old
-  nobody_driven none = subst (λ (o : Option Tenant). Drives old name k (search_of k o) middle) none drives
+  nobody_driven none = (subst (λ (o : Option Tenant). GoesOnAt old name k (search_of k o) (Unit {0}) IsCarriedOn middle) none drives).1
 
   -- the search that is waited for comes to its end
   driven_ends : IsSound old → IsFree old → (t : Tenant) → get old.tenants name ≡ Some t →
@@ -39,10 +40,10 @@ module _ (old middle : HallState) (name : List ℕ) (k : ℕ) (drives : Drives o
       × Ends (account old.journal name t) k (get (account old.journal name t).searches k) m
   driven_ends sound free t found = by (search_at old name k) refl drives
     where
-      by : (o : Option Running) → search_at old name k ≡ o → Drives old name k o middle →
+      by : (o : Option Running) → search_at old name k ≡ o → GoesOnAt old name k o (Unit {0}) IsCarriedOn middle →
           (m : Account) × (account_of middle name ≡ Some m)
           × Ends (account old.journal name t) k (get (account old.journal name t).searches k) m
-      by None none is =
+      by None none (nothing, is) =
           let gone : get t.searches k ≡ None = sym (ap (search_of k) found) ∙ none in (
             account old.journal name t,
             rw (is, found),

@@ -10,11 +10,11 @@ use Rattle.search.specs.Ending.{Nothing, MaySettle}
 use Rattle.search.specs.Search.{SearchState, settled_of}
 use Rattle.hall.specs.Answers.{Asked}
 use Rattle.hall.specs.Run.{any_time, GoesOn, Ends}
-use Rattle.hall.specs.Hall.{Running, Tenant, HallState, seen, account, account_of, with_tenant, with_search, search_of, search_at}
+use Rattle.hall.specs.Hall.{Running, Tenant, HallState, seen, account, account_of, with_tenant, with_search, search_at}
 use Rattle.hall.specs.Hall.{IsSound}
 use Rattle.hall.proofs.Maps.{numbers_exact, each_inserted, get_mapped, mapped_insert}
 use Rattle.hall.proofs.SearchSteps.{SearchGoesOn}
-use Rattle.hall.proofs.laws.HallChanges.{changed_here, changed_elsewhere, tenant_of}
+use Rattle.hall.proofs.laws.HallChanges.{search_of, changed_here, changed_elsewhere, tenant_of}
 use Rattle.hall.proofs.laws.HallRequests.{same_account}
 use Rattle.hall.proofs.laws.HallTurns.{goes_itself, BetweenOf, nothing_between}
 

@@ -1,6 +1,6 @@
 -- One tenant of a hall is changed, and the others stay.
 use Rattle.std.proofs.Common.{◌≡◌, ◌∙◌, ℕ, false, List, Option, Some, None, [], ◌∷◌, map, sym, ap, refl, subst}
-use Rattle.std.specs.{List.AllByRecursion, Option.option_map_or, Ordering.nat_cmp}
+use Rattle.std.specs.{List.AllByRecursion, Option.option_map_or, Option.option_and_then, Ordering.nat_cmp}
 use Rattle.std.specs.FinMap.{FinMap, empty, get, insert, remove, get-empty}
 use Rattle.std.proofs.lemmas.Bool.{false≢true}
 use Rattle.std.proofs.lemmas.Option.{same_Some}
@@ -8,9 +8,13 @@ use Rattle.quotas.specs.Quota.{Quota}
 use Rattle.names.specs.Name.{is_same}
 use Rattle.names.proofs.SameNames.{is_same_itself, is_same_tied}
 use Rattle.vaults.proofs.Orders.{names_exact}
-use Rattle.hall.specs.Hall.{Running, Tenant, HallState, EachSearch, with_tenant, with_search, search_of, search_at, new_tenant, new_hall}
+use Rattle.hall.specs.Hall.{Running, Tenant, HallState, EachSearch, with_tenant, with_search, search_at, new_tenant, new_hall}
 use Rattle.hall.proofs.Maps.{numbers_exact, get_inserted, get_insert_other, each_inserted, each_removed}
 use Rattle.hall.proofs.Indexed.{all_found}
+
+-- of one tenant the search of that number, if it has not ended
+abbrev pub search_of : ℕ → Option Tenant → Option Running
+search_of k o = option_and_then (λ t. get t.searches k) o
 
 module _ (h : HallState) (name : List ℕ) (change : Tenant → Tenant) where
   pub changed_here : (t : Tenant) → get h.tenants name ≡ Some t → get (with_tenant h name change).tenants name ≡ Some (change t)

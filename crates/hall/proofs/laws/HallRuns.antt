@@ -2,16 +2,18 @@
 use Rattle.std.proofs.Common.{◌≡◌, ◌∙◌, ℕ, false, List, [], ◌∷◌, Option, Some, None, ap, refl}
 use Rattle.names.specs.Name.{is_same}
 use Rattle.names.proofs.SameNames.{same_from_is_same}
+use Rattle.hall.specs.declared.calls.events.Event.{Event}
 use Rattle.hall.specs.declared.calls.requests.Request.{Request}
 use Rattle.hall.specs.declared.calls.replies.Reply.{Reply}
 use Rattle.hall.specs.declared.calls.steps.Step.{Step}
 use Rattle.hall.specs.declared.calls.steps.Stepped.{Stepped}
 use Rattle.hall.specs.declared.calls.events.Event.TheVariants as event
 use Rattle.hall.specs.Answers.{Account}
-use Rattle.hall.specs.Run.{asks, Told, told_in, entered, told_to, any_time}
-use Rattle.hall.specs.Hall.{Running, HallState, account_of, search_at, AnswersTo, IsServed, StepsAt, IsStepped, search_of_step}
-use Rattle.hall.specs.Hall.{IsSound}
-use Rattle.hall.specs.Laws.{RunsAreAllowed}
+use Rattle.hall.specs.Run.{asks, Told, told_in, entered, told_to, any_time, IsRunOf}
+use Rattle.hall.specs.declared.calls.steps.Stepped.TheVariants.{Gone}
+use Rattle.hall.specs.Hall.{StepsSearch}
+use Rattle.hall.specs.Hall.{Running, HallState, account_of, search_at, AnswersTo, IsServed, GoesOnAt, IsStepped, search_of_step}
+use Rattle.hall.specs.Hall.{Run, IsSound}
 use Rattle.hall.proofs.SearchSteps.{step_goes_on}
 use Rattle.hall.proofs.laws.HallRequests.{requested_journal, requested_account}
 use Rattle.hall.proofs.laws.HallSound.{events_keep}
@@ -45,7 +47,7 @@ pub stepped_journal : (old new : HallState) (made : Step) (answer : Stepped) →
     new.journal ≡ old.journal
 stepped_journal old new made answer = by (search_at old (search_of_step made).0 (search_of_step made).1)
   where
-    by : (o : Option Running) → StepsAt old o made answer new → new.journal ≡ old.journal
+    by : (o : Option Running) → GoesOnAt old (search_of_step made).0 (search_of_step made).1 o (answer ≡ Gone) (λ s t. StepsSearch s made answer t) new → new.journal ≡ old.journal
     by None steps = ap (λ (h : HallState). h.journal) steps.1
     by (Some r) (s, steps, after) = ap (λ (h : HallState). h.journal) after
 
@@ -55,13 +57,14 @@ stepped_between : (old new : HallState) (made : Step) (answer : Stepped) (tenant
     BetweenOf any_time (account_of old tenant) (account_of new tenant)
 stepped_between old new made answer tenant sound = by (search_at old (search_of_step made).0 (search_of_step made).1) refl
   where
-    by : (o : Option Running) → search_at old (search_of_step made).0 (search_of_step made).1 ≡ o → StepsAt old o made answer new →
+    by : (o : Option Running) → search_at old (search_of_step made).0 (search_of_step made).1 ≡ o → GoesOnAt old (search_of_step made).0 (search_of_step made).1 o (answer ≡ Gone) (λ s t. StepsSearch s made answer t) new →
         BetweenOf any_time (account_of old tenant) (account_of new tenant)
     by None none steps = rw steps.1 (nothing_between any_time (account_of old tenant))
     by (Some r) at (s, steps, after) =
         rw after (goes_between old (search_of_step made).0 (search_of_step made).1 r s sound at (step_goes_on r.search s made answer steps) tenant)
 
-pub runs_allowed : RunsAreAllowed
+pub runs_allowed : (old new : HallState) (events : List Event) (replies : List Reply) → IsSound old → Run old events replies new → (tenant : List ℕ) →
+    IsRunOf any_time tenant (account_of old tenant) (told_to tenant old.journal (told_in events replies)) (account_of new tenant)
 runs_allowed old new [] [] sound run tenant =
     rw run (empty_run any_time tenant (account_of old tenant))
 runs_allowed old new [] (told ∷ replies) sound run tenant = absurd run

@@ -20,10 +20,13 @@ use Rattle.hall.specs.declared.calls.steps.Step.{Step}
 use Rattle.hall.specs.declared.calls.steps.Stepped.{Stepped}
 use Rattle.hall.specs.declared.calls.events.Event.TheVariants as event
 use Rattle.hall.specs.Run.{Deed, asks, waits}
+use Rattle.hall.specs.declared.calls.steps.Stepped.TheVariants.{Gone}
+use Rattle.hall.specs.declared.calls.events.Event.{Event}
+use Rattle.hall.specs.Hall.{StepsSearch}
 use Rattle.hall.specs.Hall.{Running, Tenant, HallState, with_search, search_at, beginning, hall_after}
-use Rattle.hall.specs.Hall.{IsServed, StepsAt, IsStepped, search_of_step, Drives, CarriesOut}
+use Rattle.hall.specs.Hall.{IsServed, GoesOnAt, IsStepped, IsCarriedOn, search_of_step, CarriesOut}
 use Rattle.hall.specs.Hall.{EachSearch, IsSoundSearch, IsSound}
-use Rattle.hall.specs.Laws.{NewHallsAreSound, EventsKeepSoundness}
+use Rattle.hall.specs.Hall.{Happens, new_hall}
 use Rattle.hall.proofs.laws.HallChanges.{EachOf, inserted_each, replaced_each, new_each}
 use Rattle.hall.proofs.laws.HallSteps.{drives_on}
 use Rattle.hall.proofs.laws.HallRequests.{opening, requested_journal, requested_each, entered_more, opened_next}
@@ -121,22 +124,22 @@ goes_sound h name k r s sound at goes computation =
 pub stepped_sound : (old new : HallState) (made : Step) (answer : Stepped) → IsSound old → IsStepped old made answer new → IsSound new
 stepped_sound old new made answer sound = by (search_at old (search_of_step made).0 (search_of_step made).1) refl
   where
-    by : (o : Option Running) → search_at old (search_of_step made).0 (search_of_step made).1 ≡ o → StepsAt old o made answer new →
+    by : (o : Option Running) → search_at old (search_of_step made).0 (search_of_step made).1 ≡ o → GoesOnAt old (search_of_step made).0 (search_of_step made).1 o (answer ≡ Gone) (λ s t. StepsSearch s made answer t) new →
         IsSound new
     by None none steps = rw steps.1 sound
     by (Some r) at (s, steps, after) =
         rw after (goes_sound old (search_of_step made).0 (search_of_step made).1 r s sound at (step_goes_on r.search s made answer steps) steps.sound)
 
-pub events_keep : EventsKeepSoundness
+pub events_keep : (old new : HallState) (e : Event) (told : Reply) → IsSound old → Happens old e told new → IsSound new
 events_keep old new (event.Request name q) told sound served = served_sound old new name q told sound served
 events_keep old new (event.Step made) told sound (answer, is, stepped) = stepped_sound old new made answer sound stepped
 
-driven_sound : (old new : HallState) (name : List ℕ) (k : ℕ) → IsSound old → Drives old name k (search_at old name k) new →
+driven_sound : (old new : HallState) (name : List ℕ) (k : ℕ) → IsSound old → GoesOnAt old name k (search_at old name k) (Unit {0}) IsCarriedOn new →
     IsSound new
 driven_sound old new name k sound = by (search_at old name k) refl
   where
-    by : (o : Option Running) → search_at old name k ≡ o → Drives old name k o new → IsSound new
-    by None none is = rw is sound
+    by : (o : Option Running) → search_at old name k ≡ o → GoesOnAt old name k o (Unit {0}) IsCarriedOn new → IsSound new
+    by None none (nothing, is) = rw is sound
     by (Some r) at (s, carried, is) = rw is (goes_sound old name k r s sound at (drives_on r.search s carried.driven) carried.sound)
 
 -- a deed that was carried out keeps what holds of every hall
@@ -146,5 +149,5 @@ carried_sound old new name (asks q) told sound served = served_sound old new nam
 carried_sound old new name (waits k) told sound (middle, drives, served) =
     served_sound middle new name (request.Poll k) told (driven_sound old middle name k sound drives) served
 
-pub new_sound : NewHallsAreSound
+pub new_sound : (roster : List (List ℕ × Quota)) → IsSound (new_hall roster)
 new_sound roster = new_each (SoundIn []) roster

@@ -7,6 +7,7 @@ use Rattle.vaults.specs.Journal.{Vault, credentials}
 use Rattle.search.specs.declared.queries.Query.{Query}
 use Rattle.search.specs.Ending.{Settled, IsEnding, asked_role}
 use Rattle.proof_trees.specs.Proof.{IsProof}
+use Rattle.quotas.specs.Quota.{Quota}
 use Rattle.hall.specs.declared.faults.Fault.{Fault}
 use Rattle.hall.specs.declared.calls.requests.Request.{Request}
 use Rattle.hall.specs.declared.calls.requests.Request.TheVariants as request
@@ -14,7 +15,7 @@ use Rattle.hall.specs.declared.calls.replies.Reply.{Reply}
 use Rattle.hall.specs.declared.calls.replies.Reply.TheVariants.{Refused}
 use Rattle.hall.specs.Answers.{Asked, Account, new_account, Sight, answer_of, RefusesProof, Answers, refuses, grants, lacks}
 use Rattle.hall.specs.Run.{Deed, asks, waits, request_of, Turn, When, IsTaken, IsRun}
-use Rattle.hall.specs.Laws.{OfOpening, IsRight, AnswersAreTrue}
+use Rattle.hall.specs.Run.{OfOpening, IsRight}
 use Rattle.hall.proofs.Truths.{came_to_end}
 use Rattle.hall.proofs.laws.RightOpenings.{Knows, knows_nothing, between_knows, ends_knows, taken_knows}
 
@@ -97,7 +98,8 @@ run_right when limit past (x ∷ before) after tenant a end t knows (b, c, betwe
     (run_right when limit (past ++ x ∷ []) before after tenant c end t
     (taken_knows limit past tenant b c x (between_knows limit past when a b knows between) taken) run)
 
-pub answers_true : AnswersAreTrue
+pub answers_true : (when : When) (tenant : List ℕ) (limits : Quota) (turns before after : List Turn) (end : Account) (t : Turn) →
+    IsRun when tenant (new_account limits) turns end → turns ≡ before ++ t ∷ after → IsRight limits.work before (request_of t.deed) t.reply
 answers_true when tenant limits turns before after end t run is =
     run_right when limits.work [] before after tenant (new_account limits) end t (knows_nothing limits)
     (subst (λ (ts : List Turn). IsRun when tenant (new_account limits) ts end) is run)

@@ -16,7 +16,7 @@ use Rattle.hall.specs.declared.calls.replies.Reply.{Reply}
 use Rattle.hall.specs.declared.calls.replies.Reply.TheVariants.{Opened, Refused}
 use Rattle.hall.specs.Answers.{Asked, Account, new_account, Sight, Grants, Answers, refuses, grants, lacks}
 use Rattle.hall.specs.Run.{Deed, asks, waits, Turn, When, any_time, at_waits, GoesOn, Between, Ends, IsTaken}
-use Rattle.hall.specs.Laws.{opens}
+use Rattle.hall.specs.Run.{opens}
 use Rattle.std.proofs.lemmas.Option.{same_Some}
 use Rattle.hall.proofs.Maps.{numbers_exact, each_inserted, each_removed}
 use Rattle.hall.proofs.Truths.{settles_twice}

@@ -1,5 +1,5 @@
 -- The law of two worlds, and that scripts are isolated by it.
-use Rattle.std.proofs.Common.{ℕ, List, [], ◌∷◌, ◌≡◌, ◌≢◌, ◌∙◌, inl, inr, sym, ap, refl, Option, Some, None}
+use Rattle.std.proofs.Common.{ℕ, List, [], ◌∷◌, ◌≡◌, ◌≢◌, ◌∙◌, inl, inr, sym, subst, ap, refl, Option, Some, None}
 use Rattle.std.specs.List.{AllZip, AllByRecursion}
 use Rattle.std.specs.FinMap.{get}
 use Rattle.credential_text.specs.declared.credentials.Credential.{Credential}
@@ -12,7 +12,8 @@ use Rattle.hall.specs.declared.calls.replies.Reply.{Reply}
 use Rattle.hall.specs.declared.calls.replies.Reply.TheVariants.{Answered, Refused}
 use Rattle.hall.specs.Answers.{Asked, Account, start_of, Sight, answer_of, Answers, refuses, grants, lacks}
 use Rattle.hall.specs.Run.{Deed, asks, waits, Turn, told_to, When, at_waits, Ends, IsTaken, IsRun, IsRunOf}
-use Rattle.hall.specs.Laws.{Agree, same, HasMemory, IsSameDeed, TwoWorlds, ScriptsAreIsolated}
+use Rattle.quotas.specs.Quota.{Quota}
+use Rattle.hall.specs.Run.{Told, AreRuns, Agree, same, HasMemory, IsSameDeed}
 use Rattle.hall.proofs.Maps.{numbers_exact, get_inserted}
 use Rattle.hall.proofs.Truths.{AreLike, settles_twice, came_to_end, ending_unique}
 use Rattle.hall.proofs.laws.AccountsAlike.{like_from_same, weakly_like, BothHave, neither, both, both_inserted, AreAlike, alike_itself, other_work, between_alike}
@@ -96,35 +97,29 @@ runs_agree when limit tenant a b c d (s ∷ first) (t ∷ second) alike (x, u, e
     (rw (deeds.0.0, deeds.0.1) took) memory.0 more.0 in
     (now.0, runs_agree when limit tenant u v c d first second now.1 run rest deeds.1 memory.1 more.1)
 
-pub two_worlds : TwoWorlds
-two_worlds when tenant start end other_end first second one two deeds memory more =
-    runs_agree when start.limits.work tenant start start end other_end first second
-    (alike_itself when start) one two deeds memory more
-
--- two scripts tell a tenant of both what agrees, and a name that is no tenant's the same
-refused_same : (first second : List Turn) → AllZip IsSameDeed first second →
+-- a name that is no tenant's is told the same
+refused_same : (when : When) (first second : List Turn) → AllZip IsSameDeed first second →
     AllByRecursion (λ (t : Turn). t.reply ≡ Refused NoTenant) first →
-    AllByRecursion (λ (t : Turn). t.reply ≡ Refused NoTenant) second → AllZip (λ s t. Agree at_waits s.reply t.reply) first second
-refused_same [] [] deeds one two = tt
-refused_same [] (t ∷ second) deeds one two = absurd deeds
-refused_same (s ∷ first) [] deeds one two = absurd deeds
-refused_same (s ∷ first) (t ∷ second) deeds one two =
-    (rw (one.0, two.0) same, refused_same first second deeds.1 one.1 two.1)
+    AllByRecursion (λ (t : Turn). t.reply ≡ Refused NoTenant) second → AllZip (λ s t. Agree when s.reply t.reply) first second
+refused_same when [] [] deeds one two = tt
+refused_same when [] (t ∷ second) deeds one two = absurd deeds
+refused_same when (s ∷ first) [] deeds one two = absurd deeds
+refused_same when (s ∷ first) (t ∷ second) deeds one two =
+    (rw (one.0, two.0) same, refused_same when first second deeds.1 one.1 two.1)
 
-runs_of_agree : (tenant : List ℕ) (o p end other_end : Option Account) (first second : List Turn) → o ≡ p →
-    IsRunOf at_waits tenant o first end →
-    IsRunOf at_waits tenant p second other_end → AllZip IsSameDeed first second → HasMemory first → HasMemory second →
-    AllZip (λ s t. Agree at_waits s.reply t.reply) first second
-runs_of_agree tenant None None end other_end first second e one two deeds memory more =
-    refused_same first second deeds one.0 two.0
-runs_of_agree tenant None (Some b) end other_end first second e one two deeds memory more = cc
-runs_of_agree tenant (Some a) None end other_end first second e one two deeds memory more = cc
-runs_of_agree tenant (Some a) (Some b) end other_end first second e one two deeds memory more =
-    let start : b ≡ a = (cc) in
-    two_worlds at_waits tenant a one.0 two.0 first second one.2 (rw start at two.2) deeds memory more
+pub two_worlds : (when : When) (tenant : List ℕ) (start end other_end : Option Account) (first second : List Turn) →
+    IsRunOf when tenant start first end → IsRunOf when tenant start second other_end → AllZip IsSameDeed first second → HasMemory first → HasMemory second →
+    AllZip (λ s t. Agree when s.reply t.reply) first second
+two_worlds when tenant None end other_end first second one two deeds memory more = refused_same when first second deeds one.0 two.0
+two_worlds when tenant (Some a) end other_end first second (b, is, one) (c, also, two) deeds memory more =
+    runs_agree when a.limits.work tenant a a b c first second (alike_itself when a) one two deeds memory more
 
-pub scripts_isolated : ScriptsAreIsolated
+pub scripts_isolated : (tenant : List ℕ) (roster others : List (List ℕ × Quota)) (told more : List Told) → AreRuns at_waits roster told → AreRuns at_waits others more →
+    start_of tenant roster ≡ start_of tenant others → AllZip IsSameDeed (told_to tenant [] told) (told_to tenant [] more) →
+    HasMemory (told_to tenant [] told) → HasMemory (told_to tenant [] more) →
+    AllZip (λ s t. Agree at_waits s.reply t.reply) (told_to tenant [] told) (told_to tenant [] more)
 scripts_isolated tenant roster others told more exact also same_start deeds memory has =
-    runs_of_agree tenant (start_of tenant roster) (start_of tenant others) (exact tenant).0 (also tenant).0
-    (told_to tenant [] told) (told_to tenant [] more) same_start
-    (exact tenant).1 (also tenant).1 deeds memory has
+    let (end, run) = exact tenant in
+    let (other_end, other_run) = also tenant in
+    two_worlds at_waits tenant (start_of tenant roster) end other_end (told_to tenant [] told) (told_to tenant [] more) run
+    (subst (λ (o : Option Account). IsRunOf at_waits tenant o (told_to tenant [] more) other_end) (sym same_start) other_run) deeds memory has

@@ -1,5 +1,5 @@
 use Rattle.std.specs.Prelude.{◌≤◌, map, take}
-use Rattle.hall.specs.Steps.{StepsEach}
+use Rattle.hall.specs.Hall.{StepsEach}
 use Rattle.hall.specs.Batches.{letter_of, named}
 use Rattle.hall.specs.Work.{HandsIn}
 use Rattle.hall.proofs.working.hand_in_each.Given as goal

@@ -1,5 +1,5 @@
 use Rattle.std.specs.Prelude.{◌≡◌, ◌≤◌, ℕ, List, map, vec_len, vec_capacity}
-use Rattle.hall.specs.Steps.{StepsEach}
+use Rattle.hall.specs.Hall.{StepsEach}
 use Rattle.hall.specs.Batches.{letter_of}
 use Rattle.hall.specs.Work.{GoesOn}
 use Rattle.hall.proofs.working.take_each.Given as goal

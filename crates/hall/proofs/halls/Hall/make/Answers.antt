@@ -2,8 +2,10 @@ use Rattle.std.proofs.Common.{◌≡◌, ◌∙◌, ℕ, List, map, ap, sym, sub
 use Rattle.std.specs.FinMap.{from_entries}
 use Rattle.names.specs.Name.{name_order}
 use Rattle.quotas.specs.Quota.{Quota}
+use Rattle.search.specs.Search.{settled_of}
+use Rattle.search.specs.Ending.{Nothing}
 use Rattle.hall.specs.Hall.{new_tenant, new_hall}
-use Rattle.hall.specs.Kept.{IsUnsettled, Lists, IsIndexed}
+use Rattle.hall.specs.Kept.{Lists, IsIndexed}
 use Rattle.hall.proofs.Reached.{hall_of}
 use Rattle.hall.proofs.laws.HallChanges.{new_each}
 use Rattle.hall.proofs.laws.HallSound.{new_sound}
@@ -20,7 +22,7 @@ pub invariant_of-result : goal.invariant_of-result
 invariant_of-result c =
     subst (IsIndexed c.new-3.result) (sym (made (goal.at.invariant_of-result c).In_ok-new)) (record {
       sound = new_sound c.args.roster.items;
-      listed = new_each (λ name t k r. IsUnsettled r.search → Lists c.new-3.result name k) c.args.roster.items;
+      listed = new_each (λ name t k r. settled_of r.search ≡ Nothing → Lists c.new-3.result name k) c.args.roster.items;
     })
 
 pub returns-clause-hall : goal.returns-clause-hall

@@ -1,9 +1,10 @@
 use Rattle.std.proofs.Common.{◌≡◌, ◌∙◌, ◌==◌, Some, ap, sym, option_map}
 use Rattle.std.specs.Prelude.{option_copied}
 use Rattle.indexmap.specs.IndexMap as table
-use Rattle.hall.specs.Hall.{Running, HallState, search_of, search_at}
+use Rattle.hall.specs.Hall.{Running, HallState, search_at}
 use Rattle.hall.proofs.Reached.{hall_of}
 use Rattle.hall.proofs.Seated.{search_found}
+use Rattle.hall.proofs.laws.HallChanges.{search_of}
 use Rattle.hall.proofs.halls.Hall.search.Goals as goal
 use Rattle.hall.proofs.halls.Hall.search.Goals.{After-branch-get}
 

@@ -1,20 +1,16 @@
-use Rattle.std.proofs.Common.{refl, sym, subst, List, ℕ, Option}
+use Rattle.std.proofs.Common.{refl, sym, subst, List, ℕ}
 use Rattle.hall.specs.Work.{SearchIsQuiet}
-use Rattle.hall.specs.declared.orders.{Next.Next, Order.TheVariants.GoOn}
-use Rattle.hall.specs.Working.{WorksOnOne}
 use Rattle.hall.proofs.Ended.{left_works, tells_working}
-use Rattle.hall.proofs.Visited.{asks_one, turn_of}
+use Rattle.hall.proofs.Visited.{turn_of}
 use Rattle.hall.proofs.halls.Hall.take_turn.Goals as goal
 
 pub returns-in_default-pick-clause-next : goal.returns-in_default-pick-clause-next
-returns-in_default-pick-clause-next c = (asks_one c.args.order c.in-GoOn.is, c.pick.ensures.none.0 c.in_default-pick.is, refl, c.requires.empty, refl)
+returns-in_default-pick-clause-next c = (c.in-GoOn.is, c.pick.ensures.none.0 c.in_default-pick.is, refl, c.requires.empty, refl)
 
 pub returns-clause-next : goal.returns-clause-next
 returns-clause-next c =
-    turn_of c.args.order c.args.most c.args.self.now c.search-who.result c.args.batch.now c.requires.empty c.work_on-none.result.0 c.in-Some-next.next c.work_on-none.new.self c.work_on-none.new.batch
-    (subst (λ (o : Option Next). WorksOnOne GoOn c.args.most c.args.self.now c.search-who.result c.args.batch.now c.work_on-none.result.0 o c.work_on-none.new.self c.work_on-none.new.batch)
-    c.in-Some-next.is c.work_on-none.ensures.works)
-    (asks_one c.args.order c.in-GoOn.is)
+    turn_of c.args.order c.args.most c.args.self.now c.search-who.result c.args.batch.now c.requires.empty c.work_on-none.result c.work_on-none.new.self c.work_on-none.new.batch
+    c.work_on-none.ensures.works c.in-Some-next.next c.in-Some-next.is c.in-GoOn.is
 
 pub returns-clause-ends : goal.returns-clause-ends
 returns-clause-ends c =

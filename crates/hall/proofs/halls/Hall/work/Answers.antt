@@ -11,13 +11,13 @@ returns-in_default-clause-visit c =
 
 pub returns-in-Some-next-clause-visit : goal.returns-in-Some-next-clause-visit
 returns-in-Some-next-clause-visit c =
-    visit_of_one c.args.order c.args.most c.args.self.now c.args.batch.now _ (sym c.in-Some.ensures.is) c.work_on-finished.result.0 c.work_on-finished.new.self c.work_on-finished.new.batch
-    _ c.in-Some-next.next c.in-Some-next.is c.work_on-finished.ensures.works
+    visit_of_one c.args.order c.args.most c.args.self.now c.args.batch.now _ (sym c.in-Some.ensures.is) c.work_on-finished.result c.work_on-finished.new.self c.work_on-finished.new.batch
+    c.work_on-finished.ensures.works c.in-Some-next.next c.in-Some-next.is
 
 pub returns-in-None-clause-visit : goal.returns-in-None-clause-visit
 returns-in-None-clause-visit c =
-    visit_of_two c.args.order c.args.most c.args.self.now c.args.batch.now _ (sym c.in-Some.ensures.is) c.work_on-finished.result.0 c.work_on-finished.new.self c.work_on-finished.new.batch
-    _ c.in-None.is c.work_on-finished.ensures.works c.take_turn-next-in-None.result c.take_turn-next-in-None.new.self c.take_turn-next-in-None.new.batch c.take_turn-next-in-None.ensures.next
+    visit_of_two c.args.order c.args.most c.args.self.now c.args.batch.now _ (sym c.in-Some.ensures.is) c.work_on-finished.result c.work_on-finished.new.self c.work_on-finished.new.batch
+    c.work_on-finished.ensures.works c.in-None.is c.take_turn-next-in-None.result c.take_turn-next-in-None.new.self c.take_turn-next-in-None.new.batch c.take_turn-next-in-None.ensures.next
 
 pub returns-in-None-clause-ends : goal.returns-in-None-clause-ends
 returns-in-None-clause-ends c =

@@ -1,5 +1,5 @@
 use Rattle.std.proofs.Common.{◌∙◌, ap, sym}
-use Rattle.hall.specs.LendableSearch.{lendable_search}
+use Rattle.hall.specs.Kept.{lendable_search}
 use Rattle.hall.proofs.lendable_searches.LendableSearch.into_shared.Goals as goal
 
 pub returns-in-Err-clause-same : goal.returns-in-Err-clause-same

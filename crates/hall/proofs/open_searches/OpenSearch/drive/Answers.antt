@@ -1,5 +1,5 @@
 use Rattle.std.proofs.Common.{◌≡◌, ◌∙◌, ap, sym, subst, subst₂}
-use Rattle.hall.specs.LendableSearch.{lendable_search}
+use Rattle.hall.specs.Kept.{lendable_search}
 use Rattle.search.specs.Search.{SearchState, IsSoundStage}
 use Rattle.hall.specs.Answers.{answer_of}
 use Rattle.hall.specs.Hall.{Running, IsCarriedOn}

@@ -1,9 +1,9 @@
 use Rattle.std.proofs.Common.{◌≡◌, ◌∙◌, ap, sym, refl, subst, subst₂, inl}
-use Rattle.hall.specs.LendableSearch.{lendable_search}
+use Rattle.hall.specs.Kept.{lendable_search}
 use Rattle.search.specs.Search.{SearchState, Settles, IsSoundStage}
 use Rattle.hall.specs.declared.calls.steps.Stepped.{Stepped}
 use Rattle.hall.specs.Hall.{Running}
-use Rattle.hall.specs.Steps.{IsMade, StepsSearch}
+use Rattle.hall.specs.Hall.{IsMade, StepsSearch}
 use Rattle.hall.proofs.Stays.{lent}
 use Rattle.hall.proofs.Continued.{continues_stepped}
 use Rattle.hall.proofs.open_searches.OpenSearch.step.Goals as goal

@@ -1,8 +1,8 @@
 use Rattle.std.proofs.Common.{◌≡◌, ◌∙◌, sym, ap, subst}
-use Rattle.hall.specs.LendableSearch.{lendable_search}
+use Rattle.hall.specs.Kept.{lendable_search}
 use Rattle.hall.specs.Hall.{Running}
 use Rattle.search.specs.Search.{SearchState, IsSoundStage}
-use Rattle.hall.specs.Working.{WorksThrough}
+use Rattle.hall.specs.Work.{WorksThrough}
 use Rattle.hall.proofs.Continued.{continues_same, continues_worked}
 use Rattle.hall.proofs.Stays.{lent}
 use Rattle.hall.proofs.InRow.{stays_through}

@@ -2,11 +2,12 @@ use Rattle.std.proofs.Common.{◌∙◌, ◌==◌, ap, refl, sym, subst, Some, O
 use Rattle.std.proofs.lemmas.Bool.{false≢true}
 use Rattle.vaults.proofs.Orders.{names_exact}
 use Rattle.hall.specs.declared.faults.Fault.TheVariants.{NoSuchSearch}
-use Rattle.hall.specs.Hall.{Tenant, search_of}
+use Rattle.hall.specs.Hall.{Tenant}
 use Rattle.hall.specs.Kept.{IsNowhere}
 use Rattle.hall.proofs.AtHand.{none_passes}
 use Rattle.hall.proofs.Maps.{insert_again}
 use Rattle.hall.proofs.Seated.{tenant_of, search_found, search_there, search_written}
+use Rattle.hall.proofs.laws.HallChanges.{search_of}
 use Rattle.hall.proofs.tenants.Tenants.opened_mut.Goals as goal
 
 pub returns-in-Some : goal.returns-in-Some
