@@ -36,7 +36,13 @@ fn drives(search: &mut Search) -> bool {
 /// So many letters wait, so many signals are under way, and the search has come to this.
 fn looks(search: &Search, waiting: u64, signals: u64, status: Status) -> Result<bool, AllocError> {
     let ended = ending(search)?;
-    Ok(search.waiting() == waiting && search.signals() == signals && ended == status)
+    let works = status == Status::Working;
+    Ok(
+        search.waiting() == waiting
+            && search.signals() == signals
+            && search.is_outstanding() == works
+            && ended == status,
+    )
 }
 
 /// Whether the act goes as it says.
