@@ -36,7 +36,8 @@ impl<L: Naming> Room<L> {
         requires space { BATCH ≤ batch.old.room }
         requires told { ends.old ≡ [] }
         requires worker { 0 < tally.old.workers }
-        ensures visit { IsVisit (if self.old.stopped then Order.GiveBack else order) 32 self.old.hall batch.old result self.new.hall batch.new }
+        ensures visit { IsVisit (if self.old.stopped then Order.GiveBack else order) 32
+            self.old.hall batch.old result self.new.hall batch.new }
         ensures ends { TellsEnds (option_map name_of batch.old.of) self.old.hall self.new.hall ends.new }
         ensures room { self.new ≡ record self.old { hall = self.new.hall } }
         ensures counted { tally.new ≡ record tally.old { letters = tally.old.letters + result.finished } }

@@ -1,5 +1,5 @@
 -- What goes out where the program serves.
-use Rattle.std.specs.Prelude.{◌⊎◌, ℕ, List, [], Option, Some, Ok, Err}
+use Rattle.std.specs.Prelude.{◌⊎◌, ℕ, List, Option, Some, Ok, Err}
 use Rattle.service.specs.Line.{Line}
 use Rattle.service.specs.Roster.{RosterLine, HasRoster, HasNoRoster}
 use Rattle.service.specs.Served.{ServeWrote}

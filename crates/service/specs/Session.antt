@@ -25,8 +25,7 @@ IsCarriedOut before after (Request q) told = IsAnswered (λ r. r) (IsTold before
 IsCarriedOut before after (Wait k) (Ok told) = (v : Verdict) × IsWaited before after k (Ok v) × (told ≡ Answered v.answer)
 IsCarriedOut before after (Wait k) (Err fault) = IsWaited before after k (Err fault)
 
--- A tenant's command is refused by its text alone, and its pass stays as it was; or it is told what the desk came to, by the
--- lines of the reply that tells so.
+-- A tenant's command is refused by its text alone, and its pass stays as it was; or it is told what the desk came to.
 pub data IsSessionReply (before : PassState) (form : Form) (reply : List ℕ) (after : PassState) : Type 0 where
   refused : (why : Refusal) → Reads form (Err why) → reply ≡ refusal_line [] (refusal_number why) →
       after ≡ before → IsSessionReply before form reply after
@@ -67,7 +66,8 @@ pub record SessionState : Type 0 where
 abbrev pub SessionAnswers : List (List ℕ × Quota) → SessionState → Line → List ℕ → Flow → SessionState → Type 0
 SessionAnswers roster before too_long reply flow after = (reply ≡ refusal_line [] 65) × (flow ≡ GoesOn) × (after ≡ before)
 SessionAnswers roster before not_ascii reply flow after = (reply ≡ refusal_line [] 66) × (flow ≡ GoesOn) × (after ≡ before)
-SessionAnswers roster before (text line) reply Ends after = (words line ≡ codes "quit" ∷ []) × (reply ≡ line_after [] (codes "bye")) × (after ≡ before)
+SessionAnswers roster before (text line) reply Ends after =
+    (words line ≡ codes "quit" ∷ []) × (reply ≡ line_after [] (codes "bye")) × (after ≡ before)
 SessionAnswers roster before (text line) reply GoesOn after =
     (words line ≢ codes "quit" ∷ []) × (after.rows ≡ before.rows) × Tells before.rows before.pass line reply after.pass
     × IfSome after.pass (λ p. IsLegal roster p.seen)

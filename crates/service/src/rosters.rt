@@ -1,5 +1,6 @@
 //! Rosters: the tenants that an input begins with.
-ghost use Rattle.std.specs.Prelude.{◌≡◌, ◌≢◌, ◌↔◌, ◌⊎◌, [], ◌∷◌, ◌++◌, List, None, Some, Ok, Err, map, get_or, true, IsTrue, IfOk, IfErr, OnOk, IfSome, IfNone};
+ghost use Rattle.std.specs.Prelude.{◌≡◌, ◌≢◌, ◌↔◌, ◌⊎◌, [], ◌∷◌, ◌++◌, List, None, Some, Ok, Err, map, get_or};
+ghost use Rattle.std.specs.Prelude.{IsTrue, IfOk, IfErr, OnOk, IfSome, IfNone};
 ghost use Rattle.std.specs.{Io.KnownBytes.Appends, List.list_any, List.IsDistinct};
 ghost use Rattle.{names.specs.Name.IsName, names.specs.Name.is_same, quotas.specs.Quota.Quota, hall.specs.Hall.new_hall};
 ghost use Rattle.service.specs.{Line.Line, Line.commands_of, LineReader.IfKnown, Words.words, Words.number_of, Written.OpensWith};
