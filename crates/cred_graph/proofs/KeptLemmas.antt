@@ -94,3 +94,14 @@ listens_as nodes strangers list l stands =
 pub once_joined : (nodes : List Expr) (old new : List Expr) → Joins nodes old new → IsOnce old → IsOnce new
 once_joined nodes old new (inl same) once = subst IsOnce (sym same) once
 once_joined nodes old new (inr (x, out, new_name, joined)) once = subst IsOnce (sym joined) (one_place old (Ent x) new_name once)
+
+-- no port stands for an entity that has no node and is no stranger
+pub not_kept : (nodes : List Expr) (strangers : List Expr) (who : List ℕ) → (Contains nodes (Ent who) → ⊥) → (Contains strangers (Ent who) → ⊥) →
+    (p : KeptPort) → IsKept nodes strangers p → kept_as nodes strangers p ≡ port.Via who → ⊥
+not_kept nodes strangers who out unknown (kept.Via k) (other, at, known) same =
+    let named : entity_at nodes k ≡ who = cc in
+    out (Contains-at_place nodes k (Ent who) (at ∙ ap (λ (y : List ℕ). Some (Ent y)) (sym (entity_is nodes k other at) ∙ named)))
+not_kept nodes strangers who out unknown (kept.Stranger j) is same =
+    let named : entity_at strangers j ≡ who = cc in
+    unknown (Contains-at_place strangers j (Ent who) (entity_stands strangers j is ∙ ap (λ (y : List ℕ). Some (Ent y)) named))
+not_kept nodes strangers who out unknown _ is same = cc

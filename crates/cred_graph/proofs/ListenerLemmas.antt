@@ -26,6 +26,12 @@ shown : (near : List KeptListening) (l : KeptListening) →
 shown near l = any_exact (λ x y. kept.ghosts.eq y x) seen_from near l
 
 module _ (lists : List (List KeptListening)) (n : ℕ) (l : KeptListening) (list : List KeptListening) (is : list ≡ list_at lists n) where
+  pub has_few : (found : Bool) → found ≡ list_any (λ y. kept.ghosts.eq y l) list → IsTrue found ↔ Contains (list_at lists n) l
+  has_few found any = subst (λ xs. IsTrue found ↔ Contains xs l) is (
+    λ (yes : found ≡ true). (shown list l).0 (sym any ∙ yes),
+    λ (there : Contains list l). any ∙ (shown list l).1 there,
+  )
+
   -- where there are many, the first are looked through
   module _ (found : Bool) (any : found ≡ list_any (λ y. kept.ghosts.eq y l) (take 8 list)) where
     whole : take 8 list ++ drop 8 list ≡ list_at lists n

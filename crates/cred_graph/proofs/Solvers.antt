@@ -1,5 +1,5 @@
 -- Who is a solution has a node: only an entity's own node makes one, and all other reasons lead back to earlier ones.
-use Rattle.std.proofs.Common.{ℕ, zero, suc, ◌<◌, ◌≡◌, arith, List, [], ◌∷◌, All, Some, Contains, take, slice_get}
+use Rattle.std.proofs.Common.{ℕ, zero, suc, ◌<◌, ◌≡◌, arith, List, [], ◌∷◌, All, Some, Contains, length, take, slice_get}
 use Rattle.std.proofs.lemmas.List.Elements.{All-head}
 use Rattle.std.proofs.lemmas.Option.{none-some, slice_get_within}
 use Rattle.credential_text.specs.declared.exprs.Expr.{Expr}
@@ -62,3 +62,10 @@ pub reason_has_numbers : (g : GraphState) → IsGraph g → (n : ℕ) (who : Lis
 reason_has_numbers g graph n who (reason.Body m) (r, e, node, body, solution) = slice_get_within g.nodes m e body
 reason_has_numbers g graph n who (reason.Via b) (r, t, node, base, given) = known_has_node g (solver_has_node g graph) b _ base
 reason_has_numbers g graph n who _ fits = tt
+
+-- a reason fits a node
+pub fits_node : (g : GraphState) (n : ℕ) (who : List ℕ) (why : Reason ℕ (List ℕ)) → Fits g n who why → n < length g.nodes
+fits_node g n who reason.Leaf fits = slice_get_within g.nodes n _ fits
+fits_node g n who (reason.Body m) (r, e, node, body, solution) = slice_get_within g.nodes n _ node
+fits_node g n who (reason.Via b) (r, t, node, base, given) = slice_get_within g.nodes n _ node
+fits_node g n who reason.Parts (parts, node, all) = slice_get_within g.nodes n _ node

@@ -5,6 +5,13 @@ use Rattle.cred_graph.proofs.Lists.{on_err}
 use Rattle.cred_graph.proofs.NodeListLemmas.{entry_adds, entry_kept}
 use Rattle.cred_graph.proofs.node_lists.add_listener.Goals as goal
 
+pub returns-in_err-reach : goal.returns-in_err-reach
+returns-in_err-reach c = record {
+  added = IfOk-from_err c.from_residual.result _ c.from_residual.ensures.0;
+  unchanged = on_err c.from_residual.result c.in_err-reach.ensures.listeners;
+  members = c.in_err-reach.ensures.members;
+}
+
 pub returns-in_err-push : goal.returns-in_err-push
 returns-in_err-push c = record {
   added = IfOk-from_err c.from_residual-in_err-push.result _ c.from_residual-in_err-push.ensures.0;

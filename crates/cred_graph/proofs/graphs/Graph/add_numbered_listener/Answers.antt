@@ -23,3 +23,6 @@ returns c =
     (λ i. record { asker = c.args.m; port = c.kept_port-port.ensures.same i }) c.add_listener.result
     c.add_listener.ensures.ok c.add_listener.ensures.growth c.add_listener.ensures.unchanged) in
     record { ok = given.ok; listens = given.listens; graph = given.graph; growth = given.growth; unchanged = given.unchanged }
+
+pub kept_port-port-requires : goal.kept_port-port-requires
+kept_port-port-requires c = rw (← c.self.view_is) at c.requires.port

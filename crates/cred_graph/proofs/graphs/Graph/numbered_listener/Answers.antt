@@ -21,3 +21,6 @@ pub returns-clause-listener : goal.returns-clause-listener
 returns-clause-listener c =
     let node = rw (← c.self.view_is) at c.requires.node in
     rw (← c.self.view_is, c.port_number-port.ensures.same) (listener_read c.self.inside.nodes c.self.inside.strangers c.self.inside.tables.0 c.self.inside.tables.1 c.args.n c.args.i c.listener-kept.result node c.listener-kept.ensures)
+
+pub returns-clause-port : goal.returns-clause-port
+returns-clause-port c = rw (← c.self.view_is) c.port_number-port.ensures.number

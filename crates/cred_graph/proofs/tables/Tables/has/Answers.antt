@@ -1,6 +1,10 @@
-use Rattle.cred_graph.proofs.ListenerLemmas.{has_near, has_far}
+use Rattle.cred_graph.proofs.ListenerLemmas.{has_few, has_near, has_far}
 use Rattle.cred_graph.proofs.NodeListLemmas.{listeners_in}
 use Rattle.cred_graph.proofs.tables.Tables.has.Goals as goal
+
+pub returns-then-list-le-NEAR : goal.returns-then-list-le-NEAR
+returns-then-list-le-NEAR c =
+    has_few c.args.self.now.0 c.args.n c.args.listening.now c.listeners-list.result.now c.listeners-list.ensures c.contains.result c.contains.ensures.value
 
 pub returns-then-contains : goal.returns-then-contains
 returns-then-contains c =
