@@ -1,6 +1,8 @@
 -- The monitor that hears is the one at the node; where the member is new its role is asked.
-use Rattle.std.proofs.Common.{◌≡◌, ◌∙◌, ap, inl, inr, sym, subst, ℕ, List, Some, set, slice_get, map}
-use Rattle.std.proofs.lemmas.Result.{on_ok_weaker}
+use Rattle.std.proofs.Common.{◌≡◌, ◌∙◌, ap, arith, inl, inr, refl, sym, subst, ℕ, List, Some, set, slice_get, map}
+use Rattle.std.proofs.lemmas.Option.{same_Some, slice_get_within}
+use Rattle.std.proofs.lemmas.Result.{err_from_is_err_and, on_ok_weaker}
+use Rattle.names.specs.declared.roles.Role.{Role}
 use Rattle.credential_text.specs.declared.exprs.Expr.{Expr}
 use Rattle.credential_text.specs.declared.exprs.Expr.TheVariants.{Link, Rol}
 use Rattle.cred_graph.specs.declared.listeners.Port.TheVariants as port
@@ -41,10 +43,39 @@ still c is (x, at) =
       ports = are.ports;
     }
 
+pub index_mut-requires : goal.index_mut-requires
+index_mut-requires c =
+    let (x, at) = there (goal.at.index_mut-requires c).After-found in
+    let within = slice_get_within c.found.inside.monitors.items c.args.node (numbered_monitor.Link x) at in
+    omega (arith, within, c.found.inside.monitors.ok.0)
+
+pub unreachable-requires : goal.unreachable-requires
+unreachable-requires c =
+    let (x, at) = there (goal.at.unreachable-requires c).After-found in
+    c.in_default.not-Link x (same_Some _ (numbered_monitor.Link x) (sym (read_there c.found.inside.monitors.items c.args.node (numbered_monitor.Link x) _ _ at c.index_mut.ensures.value refl) ∙ at))
+
+pub invariant_of-found : goal.invariant_of-found
+invariant_of-found c =
+    let at = goal.at.invariant_of-found c in
+    still at.After-hear (is_entity at.After-found) (there at.After-found)
+
+pub invariant_of-found-then-not-branch : goal.invariant_of-found-then-not-branch
+invariant_of-found-then-not-branch c =
+    let at = goal.at.invariant_of-found-then-not-branch c in
+    still at.After-hear (is_entity at.After-found) (there at.After-found)
+
 pub invariant_of-found-2 : goal.invariant_of-found-2
 invariant_of-found-2 c =
     let at = goal.at.invariant_of-found-2 c in
     still at.After-hear (is_entity at.After-found) (there at.After-found)
+
+pub given_role-role-requires : goal.given_role-role-requires
+given_role-role-requires c =
+    let here : c.graph.result.now ≡ c.args.found.now.graph = c.graph.ensures.graph ∙ ap (λ (s : Progress). s.graph) c.found.view_is in
+    record { entity = subst (λ (g : GraphState). IsEntity g.nodes c.args.base) (sym here) c.requires.entity; link = subst (λ (g : GraphState). (r : Role) × (name : List ℕ) × IsNode g c.args.node (Link r name)) (sym here) c.requires.link }
+
+pub ask-requires : goal.ask-requires
+ask-requires c = is_entity (goal.at.ask-requires c).After-found
 
 -- the base told a member
 heard : (c : In_ok-hear) → IsEntity c.found.inside.graph.nodes c.args.base → slice_get c.found.inside.monitors.items c.args.node ≡ Some (numbered_monitor.Link c.in-Link.told) →
@@ -91,3 +122,8 @@ returns c =
       ),
     ))
     c.ask.ensures
+
+pub returns-in_err-hear : goal.returns-in_err-hear
+returns-in_err-hear c =
+    let p = err_from_is_err_and c.from_residual.result c.from_residual.ensures.1 in
+    rw p.1 tt

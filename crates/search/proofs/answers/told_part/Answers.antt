@@ -1,11 +1,13 @@
 -- With the last part the entity is a solution, since each part has it.
-use Rattle.std.proofs.Common.{◌≡◌, ◌<◌, ℕ, Some, ap, inl, inr, set, slice_get, length, subst, sym, map}
+use Rattle.std.proofs.Common.{◌≡◌, ◌<◌, ◌∙◌, ℕ, Some, ap, arith, inl, inr, refl, set, slice_get, length, subst, sym, map}
+use Rattle.std.proofs.lemmas.Option.{same_Some, slice_get_within}
 use Rattle.std.proofs.lemmas.Result.{on_ok_weaker}
 use Rattle.cred_graph.specs.declared.solutions.Reason.TheVariants as reason
 use Rattle.cred_graph.specs.Numbers.{IsEntity, entity_at}
 use Rattle.cred_graph.specs.Graph.{Fits, GraphState}
 use Rattle.monitors.specs.MeetMonitor.{AllTold, MeetLines, MeetTold}
 use Rattle.search.specs.declared.findings.Monitor.TheVariants as monitor
+use Rattle.search.specs.declared.findings.NumberedMonitor.{NumberedMonitor}
 use Rattle.search.specs.declared.findings.NumberedMonitor.TheVariants as numbered_monitor
 use Rattle.search.specs.Answers.{Progress, Solves}
 use Rattle.search.proofs.Tells.{PartHeard}
@@ -25,6 +27,10 @@ told_at c x at = read_there c.found.inside.monitors.items c.args.node (numbered_
 
 is_entity : (c : After-found) → IsEntity c.found.inside.graph.nodes c.args.who
 is_entity c = subst (λ (s : Progress). IsEntity s.graph.nodes c.args.who) (sym c.found.view_is) c.requires.entity
+
+abbrev parts_in : NumberedMonitor → ℕ
+parts_in (numbered_monitor.Meet x) = x.parts
+parts_in _ = 0
 
 -- what was told is of entities
 still : (c : After-part_told) → IsEntity c.found.inside.graph.nodes c.args.who → (x : MeetLines ℕ) × (slice_get c.found.inside.monitors.items c.args.node ≡ Some (numbered_monitor.Meet x)) × (c.args.part < x.parts) →
@@ -48,6 +54,31 @@ heard c is at =
     let told = map (monitor_at old.graph.nodes) (set old.monitors.items c.args.node (numbered_monitor.Meet c.part_told.new.self)) in
     subst (λ (s : Progress). PartHeard s.monitors told c.args.node c.args.part (entity_at s.graph.nodes c.args.who) c.in_ok-part_told.field-0) c.found.view_is
     (part_heard old.graph.nodes c.found.invariant.once old.monitors.items c.args.node c.args.part c.in-Meet.told c.part_told.new.self c.args.who c.in_ok-part_told.field-0 c.found.invariant.monitors at is c.in_ok-part_told.ensures.ok)
+
+pub index_mut-requires : goal.index_mut-requires
+index_mut-requires c =
+    let at = goal.at.index_mut-requires c in
+    let (x, here, below) = there at.After-found in
+    let within = slice_get_within c.found.inside.monitors.items c.args.node (numbered_monitor.Meet x) here in
+    omega (arith, within, c.found.inside.monitors.ok.0)
+
+pub unreachable-requires : goal.unreachable-requires
+unreachable-requires c =
+    let at = goal.at.unreachable-requires c in
+    let (x, here, below) = there at.After-found in
+    c.in_default.not-Meet x (same_Some _ (numbered_monitor.Meet x) (sym (read_there c.found.inside.monitors.items c.args.node (numbered_monitor.Meet x) _ _ here c.index_mut.ensures.value refl) ∙ here))
+
+pub part_told-requires : goal.part_told-requires
+part_told-requires c =
+    let at = goal.at.part_told-requires c in
+    let (x, here, below) = there at.After-found in
+    let told = read_there c.found.inside.monitors.items c.args.node (numbered_monitor.Meet x) _ (numbered_monitor.Meet c.in-Meet.told) here c.index_mut.ensures.value c.in-Meet.is in
+    subst (λ (m : NumberedMonitor). c.args.part < parts_in m) (same_Some (numbered_monitor.Meet x) (numbered_monitor.Meet c.in-Meet.told) (sym here ∙ told)) below
+
+pub invariant_of-found : goal.invariant_of-found
+invariant_of-found c =
+    let at = goal.at.invariant_of-found c in
+    still at.After-part_told (is_entity at.After-found) (there at.After-found)
 
 pub invariant_of-found-then-not-branch : goal.invariant_of-found-then-not-branch
 invariant_of-found-then-not-branch c =
