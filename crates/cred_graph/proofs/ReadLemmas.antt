@@ -1,19 +1,19 @@
 -- What is read of the tables.
-use Rattle.std.proofs.Common.{ℕ, ◌<◌, ◌≤◌, ◌≡◌, ◌==◌, ◌∙◌, ap, sym, subst, arith, List, Some, Contains, filter, length, map, slice_get}
+use Rattle.std.proofs.Common.{ℕ, ◌<◌, ◌≡◌, ◌==◌, ◌∙◌, ap, sym, subst, List, Some, Contains, filter, length, map, slice_get}
 use Rattle.std.proofs.lemmas.List.{length-map}
 use Rattle.credential_text.specs.declared.exprs.Expr.{Expr}
 use Rattle.credential_text.specs.declared.exprs.Expr.TheVariants.{Ent}
 use Rattle.cred_graph.specs.declared.listeners.KeptListening.{KeptListening}
 use Rattle.cred_graph.specs.declared.solutions.Solution.{Solution}
 use Rattle.cred_graph.specs.declared.solutions.Reason.{Reason}
-use Rattle.cred_graph.specs.Graph.{GraphState, IsSolution, listeners_of, members_of, before}
+use Rattle.cred_graph.specs.Graph.{GraphState, IsSolution, listeners_of, members_of}
 use Rattle.cred_graph.specs.Numbers.{IsEntity, entity_at, reason_at}
 use Rattle.cred_graph.specs.NodeLists.{list_at}
 use Rattle.cred_graph.specs.Stored.{IsKept, listening_as, HasKey, members_by, solution_as, graph_as, IsStored}
-use Rattle.cred_graph.proofs.Lists.{Contains-at_place, place_of_Contains, behind_map, seen_at, filter_mapped, filtered_from, map-map}
+use Rattle.cred_graph.proofs.Lists.{Contains-at_place, behind_map, seen_at, filter_mapped, filtered_from, map-map}
 use Rattle.cred_graph.proofs.NumberLemmas.{entity_is}
 use Rattle.cred_graph.proofs.StoredLemmas.{listed_at-lists_from, solution_stored}
-use Rattle.cred_graph.proofs.Solvers.{solver_has_node, fits_node}
+use Rattle.cred_graph.proofs.Solvers.{solver_has_node}
 
 module _ (nodes : List Expr) (strangers : List Expr) (lists : List (List KeptListening)) (entries : List ((ℕ × ℕ) × Reason ℕ ℕ)) where
   -- the graph that the tables stand for
@@ -50,13 +50,6 @@ module _ (nodes : List Expr) (strangers : List Expr) (lists : List (List KeptLis
       subst (IsEntity nodes) entry.3 (stored.members place.0 entry.1 place.1)
 
   -- what is found of a solution
-
-  pub no_such_node : (n : ℕ) (who : List ℕ) → IsStored nodes strangers lists entries → length nodes ≤ n → IsSolution g n who → ⊥
-  no_such_node n who stored beyond solution =
-      let s : Solution = record { node = n; who = who; reason = solution.0 } in
-      let at = place_of_Contains g.solutions s solution.1 in
-      let within : n < length nodes = fits_node (before at.0 g) n who solution.0 (stored.graph.justified at.0 s at.1) in
-      omega (arith)
 
   pub no_such_entity : (n : ℕ) (who : List ℕ) → IsStored nodes strangers lists entries → (Contains nodes (Ent who) → ⊥) → IsSolution g n who → ⊥
   no_such_entity n who stored absent solution = absent (solver_has_node g stored.graph n who solution)

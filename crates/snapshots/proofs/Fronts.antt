@@ -67,11 +67,6 @@ sorted_behind n rows behind is sorted = subst (IsStrictlySortedBy credential_ord
     by (suc n) [] sorted = sorted
     by (suc n) (c ∷ rows) sorted = by n rows (sorted_tail credential_order c rows sorted)
 
-pub own_behind : (owner : List ℕ) (n : ℕ) (rows behind : List Credential) → behind ≡ drop n rows → All (λ c. c.head.owner ≡ owner) rows → All (λ c. c.head.owner ≡ owner) behind
-own_behind owner n rows behind is own =
-    subst (All (λ (c : Credential). c.head.owner ≡ owner)) (sym is)
-    (λ k d inside. ap (λ (c : Credential). c.head.owner) (get_or-drop n rows k d) ∙ own (n + k) d (omega (arith, inside, length-drop n rows)))
-
 -- the rows through a role's are those before them and, of those behind these, the ones through the role's
 pub through_behind : (role : Role) (rows behind : List Credential) (lo hi : ℕ) → IsStrictlySortedBy credential_order rows → lo ≡ how_many (is_before role) rows → behind ≡ drop lo rows →
     hi ≡ how_many (is_through role) behind → lo + hi ≡ how_many (is_through role) rows

@@ -1,5 +1,5 @@
 use Rattle.cred_graph.proofs.Found.{found_earlier}
-use Rattle.cred_graph.proofs.ReadLemmas.{no_such_node, no_such_entity, no_such_solution, reason_read}
+use Rattle.cred_graph.proofs.ReadLemmas.{no_such_entity, no_such_solution, reason_read}
 use Rattle.cred_graph.proofs.graphs.Graph.reason.Goals as goal
 
 pub returns-in_default-clause-found : goal.returns-in_default-clause-found
@@ -23,20 +23,3 @@ pub returns-in-None-clause-found : goal.returns-in-None-clause-found
 returns-in-None-clause-found c =
     rw (← c.self.view_is)
     (no_such_solution c.self.inside.nodes c.self.inside.strangers c.self.inside.tables.0 c.self.inside.tables.1 c.args.n c.in-Some.number c.args.who.now c.self.invariant c.in-Some.ensures c.in-None.ensures)
-
-pub returns-then-n-count-clause-found : goal.returns-then-n-count-clause-found
-returns-then-n-count-clause-found c =
-    rw (← c.self.view_is) (no_such_node c.self.inside.nodes c.self.inside.strangers c.self.inside.tables.0 c.self.inside.tables.1 c.args.n c.args.who.now c.self.invariant (rw c.count.ensures at c.if-n-count.true))
-
-pub returns-then-n-count-clause-earlier : goal.returns-then-n-count-clause-earlier
-returns-then-n-count-clause-earlier c = tt
-
-pub returns-in_default-clause-earlier : goal.returns-in_default-clause-earlier
-returns-in_default-clause-earlier c = tt
-
-pub returns-in-None-clause-earlier : goal.returns-in-None-clause-earlier
-returns-in-None-clause-earlier c = tt
-
-pub reason_name-requires : goal.reason_name-requires
-reason_name-requires c =
-    c.self.invariant.reasons c.in-Some-find.place ((c.args.n, c.in-Some.number), c.in-Some-find.reason) c.in-Some-find.ensures

@@ -65,3 +65,7 @@ returns-else-behind-len g c =
       sent = refl;
       room = omega (arith, c.leave_hole.ensures.len, c.leave_hole.ensures.capacity);
     })
+
+pub leave_hole-requires : goal.leave_hole-requires
+leave_hole-requires g c =
+    key_within c.requires.0 c.self.inside.letters.items c.args.at (key g (goal.at.leave_hole-requires g c).After-self)

@@ -1,4 +1,4 @@
-use Rattle.std.proofs.Common.{◌≡◌, ℕ, ◌++◌, [], ◌∷◌, None, sym, ◌∙◌, arith}
+use Rattle.std.proofs.Common.{◌≡◌, ◌-◌, vec_capacity, vec_len, ℕ, ◌++◌, [], ◌∷◌, None, sym, ◌∙◌, arith, ap, subst, length, ◌≤◌, length-append}
 use Rattle.scholten_core.proofs.Counts.{popped_hole, standing-none}
 use Rattle.scholten_core.proofs.Tables.{holes-popped, numbered-popped, standing-popped, take-popped, waits-popped}
 use Rattle.scholten_core.proofs.letter_tables.LetterTable.pop_holes.Given.{Over}
@@ -33,3 +33,27 @@ loop-self-preserved g c =
 pub clear_holes-requires : goal.clear_holes-requires
 clear_holes-requires g c =
     rw (← c.self.view_is) (standing-none c.self.inside.letters.items (omega (arith, c.self.invariant.gone, c.len.ensures, c.self.inside.letters.ok, c.if-self-len.true)))
+
+pub loop-self-init : goal.loop-self-init
+loop-self-init g c = record {
+  letters = ap (λ s. s.letters) c.self.view_is;
+  sent = ap (λ s. s.sent) c.self.view_is;
+  room = subst (λ n. n ≤ vec_capacity c.self.inside.letters - vec_len c.self.inside.letters) (ap (λ s. s.room) c.self.view_is) (omega arith);
+  numbers = c.self.invariant.numbers;
+  waiting = c.self.invariant.waiting;
+  gone = c.self.invariant.gone;
+  before = c.self.invariant.before;
+  all = c.self.invariant.all;
+}
+
+pub loop-self-smaller : goal.loop-self-smaller
+loop-self-smaller g c =
+    let hole = popped g (goal.at.loop-self-smaller g c).After-pop in
+    omega (arith, ap length hole.1 ∙ length-append c.pop.new.self.items ((hole.0, None) ∷ []))
+
+pub returns : goal.returns
+returns g c = record {
+  letters = c.loop-self.invariant.letters;
+  sent = c.loop-self.invariant.sent;
+  room = c.loop-self.invariant.room;
+}
