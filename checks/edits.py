@@ -9,9 +9,10 @@ once, and one process proves the functions that they turn, and those that they c
 of its own: that something which it calls isn't proved is no refusal, nor is a name that a proof lacks. What isn't refused so is
 tried again alone, and so is at once what changes a line outside functions. A crate's first such round keeps what it proves, and
 each later one begins with that, so it proves again what was turned and no more. Rounds take the processors that are free: one of
-several edits more than one, where no other waits. An edit that turns no function's body, but a definition or a type, has a line
-`# at FUNCTION`, and has to be refused there. Its other `#` line is for docs/EDITS.md (checks/index.py). `rt ci` and
-`rt must-fail NAME` try each edit in a process of its own, which loads the crates below each time.
+several edits more than one, where no other waits, and a first one two at least, where there are four. An edit that turns no
+function's body, but a definition or a type, has a line `# at FUNCTION`, and has to be refused there. One for which the prover
+looks for minutes has a line `# long`, and is tried alone, beside its crate's first round. The other `#` line is for docs/EDITS.md
+(checks/index.py). `rt ci` and `rt must-fail NAME` try each edit in a process of its own, which loads the crates below each time.
 
 The crates below are taken from FOLDER/crates/NAME/out/rlib, as `rt ci` leaves them while it goes on there and writes what it says
 to FOLDER/said, which ends with a line `ended`; a crate's edits begin once those below it are proved. Without the option these are
@@ -63,6 +64,7 @@ class Edit:
     hunks: list
     functions: set
     is_alone: bool = False
+    is_long: bool = False
 
     def fits_beside(self, other):
         """Whether each of the two would be refused as it is alone."""
@@ -99,13 +101,15 @@ def changed(before, after):
 def read_edit(folder, file):
     """Reads an edit of the crate in that folder: lines `file:`, and pairs of `old:` and `new:`, each applied to what those
     before it made."""
-    path, old, texts, places = "", None, {}, set()
+    path, old, texts, places, is_long = "", None, {}, set(), False
     for line in file.read_text().split("\n"):
         word, _, rest = line.partition(" ")
         if word == "file:":
             path = rest.strip()
         elif line.startswith("# at "):
             places.add(line[len("# at ") :].strip())
+        elif line == "# long":
+            is_long = True
         elif word == "old:":
             old = rest
         elif word == "new:":
@@ -123,7 +127,8 @@ def read_edit(folder, file):
         raise BadEdit("it changes nothing")
     if not places and functions == {None}:
         raise BadEdit("it turns no function's body, so it needs a line `# at FUNCTION`")
-    return Edit(file.stem, hunks, places or functions - {None}, bool(places) or None in functions)
+    is_alone = is_long or bool(places) or None in functions
+    return Edit(file.stem, hunks, places or functions - {None}, is_alone, is_long)
 
 
 def rounds_of(edits):
@@ -203,7 +208,7 @@ def link_or_copy(one, other):
 
 @dataclasses.dataclass
 class Round:
-    """Edits of a crate that are tried at once, after its first round, and what that one keeps."""
+    """Edits of a crate that are tried at once, and what is kept: by its first round, after which it begins, or by itself."""
 
     crate: object
     edits: list
@@ -215,9 +220,15 @@ class Round:
         """Whether it can be tried where these crates are proved."""
         return (self.first is None or self.first.has_ended) and {it.name for it in self.crate.below} <= proved
 
-    def jobs_among(self, ready, lanes):
-        """With how many jobs it begins, where so many rounds are ready, and so many lanes are free: one edit takes one."""
-        return max(1, lanes // ready) if len(self.edits) > 1 else 1
+    def rank(self):
+        """Before which others it begins: long ones first, then those that others wait for."""
+        return not self.edits[0].is_long, self.first is not None
+
+    def jobs_among(self, ready, free, lanes):
+        """With how many jobs it begins, where so many rounds are ready, and so many of the lanes are free: one edit takes one."""
+        if len(self.edits) == 1:
+            return 1
+        return max(free // ready, lanes // 2 if self.first is None else 1, 1)
 
     def tell(self, toolchain, jobs):
         """Tries the round. Returns for each edit whether it is refused, and a text; and rounds of one for those that are tried
@@ -252,19 +263,19 @@ def proved_so_far(crates, said):
 
 
 def try_all(rounds, toolchain, lanes, look):
-    """Tries each round as soon as it may begin, those first that others wait for, and of these the lowest crate's; yields what comes
-    of each edit. `look` tells which crates are proved, and whether no more will be: before that one lane is left free."""
+    """Tries each round as soon as it may begin, in order of rank, and of these the lowest crate's first; yields what comes of each
+    edit. `look` tells which crates are proved, and whether no more will be: before that one lane is left free."""
     waiting, running = list(rounds), {}
     with concurrent.futures.ThreadPoolExecutor(lanes) as pool:
         while waiting or running:
             proved, has_ended = look()
-            ready = sorted((it for it in waiting if it.may_begin(proved)), key=lambda it: it.first is not None)
+            ready = sorted((it for it in waiting if it.may_begin(proved)), key=Round.rank)
             for at, it in enumerate(ready):
                 free = (lanes if has_ended else max(1, lanes - 1)) - sum(jobs for _, jobs in running.values())
                 if free < 1:
                     break
                 waiting.remove(it)
-                jobs = it.jobs_among(len(ready) - at, free)
+                jobs = it.jobs_among(len(ready) - at, free, lanes)
                 running[pool.submit(it.tell, toolchain, jobs)] = it, jobs
             for it in [it for it in waiting if has_ended and not {below.name for below in it.crate.below} <= proved]:
                 waiting.remove(it)
@@ -310,10 +321,11 @@ def main():
         for crate in wanted:
             edits, bad = edits_of(crate)
             told += bad
-            kept, first = pathlib.Path(room, crate.name), None
-            kept.mkdir()
+            first = None
             for it in rounds_of(edits):
-                rounds.append(Round(crate, it, kept, first))
+                begins_anew = first is None or it[0].is_long
+                kept = pathlib.Path(tempfile.mkdtemp(dir=room)) if begins_anew else first.kept
+                rounds.append(Round(crate, it, kept, None if begins_anew else first))
                 first = first or rounds[-1]
         said = given.over / "said" if given.over else None
         for is_refused, text in itertools.chain(told, try_all(rounds, toolchain, lanes, lambda: proved_so_far(crates, said))):

@@ -102,7 +102,7 @@ def contracts_of(folder):
 def edits_of(crate):
     """A row for each edit of the crate: the function, the wrong body, the function that is turned where it is another, the name."""
     for file in sorted((crate.folder / "must-fail").glob("*.edit")):
-        said = [line.removeprefix("# ") for line in file.read_text().split("\n") if re.match(r"# (?!at )", line)]
+        said = [line.removeprefix("# ") for line in file.read_text().split("\n") if re.match(r"# (?!at |long$)", line)]
         if len(said) != 1 or ": " not in said[0]:
             raise BadSource(f"{crate.name}/{file.name}: has {len(said)} lines `# FUNCTION: WHAT IS WRONG`, and not one")
         function, _, what = said[0].partition(": ")
