@@ -3,8 +3,12 @@ ghost use Rattle.std.specs.Prelude.{◌≡◌, map};
 ghost use Rattle.std.specs.List.{IsDistinct};
 ghost use Rattle.names.specs.Name.{is_same};
 
-use super::acts::{Act, Told, answer_to};
-use crate::{Desk, DeskFault, Naming, NoGate, Pass, Unnamed, run_workers};
+use super::acts::{Act, Told};
+use super::gates::Way;
+use super::plays::{
+    Break, Line, USUAL, admitted, come_back, finished, roster_of_two, tell_each, work,
+};
+use crate::{Desk, Naming, Pass, Unnamed};
 use names::Entity;
 use quotas::Limits;
 use std::alloc::Global;
@@ -14,76 +18,72 @@ use std::sync::Wait;
 use std::thread;
 use std::thread::Threads;
 
-/// Whether a search that is open is carried to its end, beside one worker.
-fn is_carried_on<L: Naming + Send + Sync, R: Threads + Wait + Clock + Sync>(
+/// A search is opened, of a credential that was put.
+const OPENED: &[Line] = &[
+    Line(0, Act::Put("A.r <- D"), Told::Counted(1)),
+    Line(0, Act::Ask("A.r", "D"), Told::Opened(1, 1)),
+];
+
+const ENDED: &[Line] = &[Line(0, Act::Wait(1), Told::Yes)];
+
+/// The search that is open is carried to its end, beside one worker.
+fn carry_on<L: Naming + Send + Sync, R: Threads + Wait + Clock + Sync>(
     rt: &R,
     alloc: Global,
     desk: &Desk<L>,
-    pass: &mut Pass<L>,
-) -> bool {
-    thread::scope(thread::scope_env(), rt, |scope| -> bool {
-        let Ok(all) = scope.spawn(move || run_workers(rt, desk, 1, &NoGate)) else {
-            return false;
+    passes: &mut Vec<Pass<L>>,
+) -> Result<(), Break> {
+    thread::scope(thread::scope_env(), rt, |scope| -> Result<(), Break> {
+        let Ok(all) = scope.spawn(move || work(rt, desk, 1, Way::Open)) else {
+            return Err(Break::NoMemory);
         };
-        let told = answer_to(rt, alloc, desk, pass, Act::Wait(1));
+        let right = tell_each(rt, alloc, desk, passes, ENDED);
         desk.stop(rt);
-        all.join(rt).is_ok() && told == Told::Yes
+        finished(all.join(rt), right)?;
+        Ok(())
     })
 }
 
-/// Whether a pass comes back that is gathered while another is out, and the search of that one goes on.
-fn goes_on<L: Naming + Send + Sync, R: Threads + Wait + Clock + Sync>(
+/// A pass that is gathered while another is out comes back, and the search of that one goes on.
+fn go_on<L: Naming + Send + Sync, R: Threads + Wait + Clock + Sync>(
     rt: &R,
     alloc: Global,
     desk: &Desk<L>,
-    a: Entity,
-) -> bool {
-    let (Ok(mut pass), Ok(other)) = (desk.pass(rt, a), desk.pass(rt, a)) else {
-        return false;
+) -> Result<(), Break> {
+    let Ok(mut passes) = vec![in alloc; admitted(rt, desk, "A")?] else {
+        return Err(Break::NoMemory);
     };
-    let is_put = answer_to(rt, alloc, desk, &mut pass, Act::Put("A.r <- D")) == Told::Counted(1);
-    let is_open = answer_to(rt, alloc, desk, &mut pass, Act::Ask("A.r", "D")) == Told::Opened(1, 1);
-    let Ok(gathered) = vec![in alloc; other] else {
-        return false;
+    tell_each(rt, alloc, desk, &mut passes, OPENED)?;
+    let Ok(gathered) = vec![in alloc; admitted(rt, desk, "A")?] else {
+        return Err(Break::NoMemory);
     };
-    let is_refused = matches!(desk.gather(rt, gathered), Err((DeskFault::PassesOut, _)));
-    is_put && is_open && is_refused && is_carried_on(rt, alloc, desk, &mut pass)
+    come_back(rt, desk, gathered)?;
+    carry_on(rt, alloc, desk, &mut passes)
 }
 
-/// What `goes_on` answers at a desk of this roster.
+/// So goes a desk of this roster.
 fn at_a_desk<L: Naming + Send + Sync, R: Threads + Wait + Clock + Sync>(
     rt: &R,
     alloc: Global,
-    a: Entity,
     roster: Vec<(Entity, Limits)>,
     unnamed: Unnamed,
-) -> bool
+) -> Result<(), Break>
     requires roster { roster.items ≡ L.roster }
     requires distinct { IsDistinct is_same (map (λ row. row.0) roster.items) }
     requires named { unnamed ≡ record { ledger = L.name; parts = L.parts; table = L.table; letters = L.letters } }
 {
     match Desk::<L>::make(alloc, roster, unnamed) {
-        Ok(desk) => goes_on(rt, alloc, &desk, a),
-        Err(_) => false,
-    }
-}
-
-/// What `goes_on` answers at a desk of one tenant.
-fn goes_on_alone<R: Threads + Wait + Clock + Sync>(rt: &R, alloc: Global) -> bool {
-    let Ok(a) = Entity::read(b"A") else {
-        return false;
-    };
-    let Ok(roster) = vec![in alloc; (a, Limits::usual())] else {
-        return false;
-    };
-    match Unnamed::make(alloc) {
-        Ok(unnamed) => at_a_desk::<Brand, _>(rt, alloc, a, roster, unnamed),
-        Err(_) => false,
+        Ok(desk) => go_on(rt, alloc, &desk),
+        Err(_) => Err(Break::NoMemory),
     }
 }
 
 /// A gather that is refused, since passes are out, leaves the desk as it is.
 #[test]
-fn a_desk_goes_on_where_passes_are_out(rt: HostRuntime) {
-    assert!(rt; goes_on_alone(&rt, rt.alloc()));
+fn a_desk_goes_on_where_passes_are_out(rt: HostRuntime) -> Result<(), Break> {
+    let roster = roster_of_two(rt.alloc(), USUAL)?;
+    let Ok(unnamed) = Unnamed::make(rt.alloc()) else {
+        return Err(Break::NoMemory);
+    };
+    at_a_desk::<Brand, _>(&rt, rt.alloc(), roster, unnamed)
 }

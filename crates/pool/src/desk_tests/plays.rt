@@ -57,7 +57,7 @@ fn hold_against(told: &Told, wanted: &Told) -> Result<(), Break> {
 }
 
 /// Plays the lines, up to one that is told something else than it wants.
-fn tell_each<L: Naming, R: Wait>(
+pub(super) fn tell_each<L: Naming, R: Wait>(
     rt: &R,
     alloc: Global,
     desk: &Desk<L>,
@@ -83,7 +83,7 @@ fn told_to<L: Naming>(passes: &[Pass<L>]) -> u64 {
 }
 
 /// The passes, which come back since another is out.
-fn come_back<L: Naming, R: Wait>(
+pub(super) fn come_back<L: Naming, R: Wait>(
     rt: &R,
     desk: &Desk<L>,
     passes: Vec<Pass<L>>,
@@ -130,7 +130,11 @@ fn take_back<L: Naming, R: Wait>(
 }
 
 /// A pass of the tenant of this name.
-fn admitted<L: Naming, R: Wait>(rt: &R, desk: &Desk<L>, name: &str) -> Result<Pass<L>, Break> {
+pub(super) fn admitted<L: Naming, R: Wait>(
+    rt: &R,
+    desk: &Desk<L>,
+    name: &str,
+) -> Result<Pass<L>, Break> {
     match Entity::read(name.as_bytes()) {
         Ok(who) => match desk.pass(rt, who) {
             Ok(pass) => Ok(pass),
@@ -142,7 +146,7 @@ fn admitted<L: Naming, R: Wait>(rt: &R, desk: &Desk<L>, name: &str) -> Result<Pa
 
 /// Runs the workers until the desk is stopped. Where memory was refused to all of them it stops the desk, so that no wait
 /// is left.
-fn work<L: Naming + Send + Sync, R: Threads + Wait + Clock + Sync>(
+pub(super) fn work<L: Naming + Send + Sync, R: Threads + Wait + Clock + Sync>(
     rt: &R,
     desk: &Desk<L>,
     workers: u64,
@@ -161,7 +165,10 @@ fn work<L: Naming + Send + Sync, R: Threads + Wait + Clock + Sync>(
 
 /// How many letters the workers finished, where all was right. A wrong answer counts before want of memory, and a thread
 /// that couldn't be started is such a want.
-fn finished(worked: Result<u64, DeskFault>, right: Result<(), Break>) -> Result<u64, Break> {
+pub(super) fn finished(
+    worked: Result<u64, DeskFault>,
+    right: Result<(), Break>,
+) -> Result<u64, Break> {
     right?;
     match worked {
         Ok(letters) => Ok(letters),
@@ -231,7 +238,10 @@ fn on_desk<L: Naming + Send + Sync, R: Threads + Wait + Clock + Sync>(
 }
 
 /// The roster of A, with these limits, and B.
-fn roster_of_two(alloc: Global, numbers: [u64; 6]) -> Result<Vec<(Entity, Limits)>, Break>
+pub(super) fn roster_of_two(
+    alloc: Global,
+    numbers: [u64; 6],
+) -> Result<Vec<(Entity, Limits)>, Break>
     ensures { IfOk result (λ roster. IsDistinct is_same (map (λ row. row.0) roster.items)) }
 {
     let (Ok(a), Ok(b), Some(limits)) = (Entity::read(b"A"), Entity::read(b"B"), limits_of(&numbers))

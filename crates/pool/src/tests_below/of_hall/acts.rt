@@ -169,7 +169,7 @@ fn is_written(alloc: Global, proof: &Proof, wanted: &str) -> Result<bool, Fault>
 }
 
 /// Whether the step went as is wanted. Where the search is broken, memory was refused.
-fn went(stepped: &Stepped, wanted: &Told) -> Result<bool, Fault> {
+pub(super) fn went(stepped: &Stepped, wanted: &Told) -> Result<bool, Fault> {
     match (stepped, wanted) {
         (Stepped::Broken, _) => Err(Fault::Memory),
         (Stepped::Took(letter, Need::Rows(role)), Told::TookFor(number, text)) => {

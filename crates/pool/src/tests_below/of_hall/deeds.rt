@@ -1,5 +1,5 @@
 //! What is done with a hall and found of it, as a table writes it: events, and calls that no event stands for.
-use super::acts::{Row, Told, came_to, run};
+use super::acts::{Row, Told, came_to, run, went};
 use super::{entity, four_tenants};
 use hall::{Answer, Batch, Ends, Fault, Hall, Next, Order, Step, Stepped, told_of};
 use names::Entity;
@@ -51,7 +51,8 @@ fn moves_jobs(hall: &mut Hall, a: Entity) -> Result<bool, Fault> {
     let hint = job.look_up();
     let is_first = matches!(hall.step(Step::GiveBack(a, 1, 1)), Stepped::Back)
         && matches!(hall.step(Step::Take(a, 1, 0)), Stepped::Took(1, _));
-    Ok(matches!(hall.finish(job, hint), Stepped::Done) && is_back && is_first)
+    let is_done = went(&hall.finish(job, hint), &Told::Done)?;
+    Ok(is_done && is_back && is_first)
 }
 
 /// Whether no step of A's search moves anything, and no letter of it is taken.

@@ -1,4 +1,4 @@
-use Rattle.pool.proofs.desk_tests.gathers.goes_on_alone.Given as goal
+use Rattle.pool.proofs.desk_tests.gathers.a_desk_goes_on_where_passes_are_out.Given as goal
 
 abbrev pub ghosts-at_a_desk-L-Ledger : goal.ghosts-at_a_desk-L-Ledger
 ghosts-at_a_desk-L-Ledger g a = record { name = a.unnamed.ledger; parts = a.unnamed.parts }
