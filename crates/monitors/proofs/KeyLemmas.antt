@@ -2,7 +2,7 @@
 use Rattle.std.proofs.Common.{◌≡◌, Bool, true, false, List, [], ◌∷◌, ◌++◌, ◌||◌, inl, inr, Contains, refl, sym, ap, subst, ◌∙◌, not, if◌then◌else◌, true≢false, append-nil, append_assoc, arith}
 use Rattle.std.specs.Cmp.{IsEquivalence}
 use Rattle.std.specs.List.{list_any}
-use Rattle.std.proofs.lemmas.List.Elements.{Contains-append_right, Contains-append_cases}
+use Rattle.std.proofs.lemmas.List.Elements.{Contains-append_right, Contains-append_cases, Contains-push}
 use Rattle.std.proofs.lemmas.Map.Views.{list_any-from_Contains, Contains-from_any}
 use Rattle.indexmap.specs.IndexSet.{insert_key}
 use Rattle.monitors.specs.LinkMonitor.{AddsKey}
@@ -48,3 +48,8 @@ module _ {K : Type 0} (eq : K → K → Bool) (laws : IsEquivalence eq) (exact :
         near_lacks near far key lacks (is_new far key e),
         ap (λ keys. near ++ keys) (inserted ∙ ap (λ known. if known then far else far ++ key ∷ []) e) ∙ sym (append_assoc near far (key ∷ [])),
       )
+
+-- the key is one of them now
+pub now_told : {K : Type 0} (keys after : List K) (key : K) (new : Bool) → AddsKey keys after key new → Contains after key
+now_told keys after key true (absent, is) = subst (λ keys. Contains keys key) (sym is) (Contains-push keys key)
+now_told keys after key false (there, is) = subst (λ keys. Contains keys key) (sym is) there

@@ -11,6 +11,23 @@ lacks : (g : Over) (c : After-len g) → list_any (λ other. g.K.PartialEq.eq ot
 lacks g c =
     sym (c.if-contains.ensures.value ∙ ap (list_any (λ other. g.K.PartialEq.eq other c.args.key)) c.deref.ensures.value)
 
+pub invariant_of-self : goal.invariant_of-self
+invariant_of-self g c few = c.self.invariant (omega (arith, few, c.in_err-push.ensures.len))
+
+pub returns-in_err-push : goal.returns-in_err-push
+returns-in_err-push g c =
+    let near = c.self.inside.near.items in
+    let none : c.self.inside.far.keys ≡ [] = c.self.invariant (omega (arith, c.if-len-lt-NEAR.true, c.len.ensures)) in
+    let p = err_from_is_err_and c.from_residual.result c.from_residual.ensures.1 in
+    rw (p.1, ← c.self.view_is) (record {
+      ok = tt;
+      growth = near_lacks g.K.PartialEq.eq g.met.K.Eq.laws g.met.K.Key.exact near c.self.inside.far.keys c.args.key (lacks g (goal.at.returns-in_err-push g c).After-len) (rw none (λ there. omega (arith, there.1)));
+      unchanged = ap (λ keys. keys ++ c.self.inside.far.keys) {x = c.push.new.self.items} {y = near} c.in_err-push.ensures.items;
+    })
+
+pub invariant_of-self-then-len-lt-NEAR : goal.invariant_of-self-then-len-lt-NEAR
+invariant_of-self-then-len-lt-NEAR g c few = c.self.invariant (omega (arith, c.if-len-lt-NEAR.true, c.len.ensures))
+
 pub returns-then-len-lt-NEAR : goal.returns-then-len-lt-NEAR
 returns-then-len-lt-NEAR g c =
     let none : c.self.inside.far.keys ≡ [] = c.self.invariant (omega (arith, c.if-len-lt-NEAR.true, c.len.ensures)) in
