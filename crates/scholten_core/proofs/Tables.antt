@@ -168,3 +168,17 @@ module _ {P : Type 0} (es front : List (ℕ × Option (Letter P))) (k : ℕ) (is
   pub take-popped : (n : ℕ) → count does_wait (take n front) ≡ count does_wait (take n es)
   take-popped n =
       count-take-pop does_wait n front (k, None) refl ∙ ap (λ xs. count does_wait (take n xs)) (sym is)
+
+-- the ends are cut to the length
+pub cut_ends : {P : Type 0} (sent waits holes first last : ℕ) (es : List (ℕ × Option (Letter P))) → IsNumbered 0 es sent → waits ≡ count does_wait es → holes ≡ count is_none es → count does_wait (take first es) ≡ 0 → count does_wait (take last es) ≡ waits → IsTable sent waits holes (min first (length es)) (min last (length es)) es
+cut_ends sent waits holes first last es numbers waiting gone before all = record {
+  numbers = numbers;
+  waiting = waiting;
+  gone = gone;
+  before = omega (arith, before, count-take-le does_wait (min first (length es)) first es (omega arith));
+  all = either_way last (length es)
+      (λ within. let same : min last (length es) ≡ last = omega (arith, within) in ap (λ n. count does_wait (take n es)) same ∙ all)
+      (λ beyond. ap (count does_wait) (take_all (min last (length es)) es (omega (arith, beyond))) ∙ sym waiting);
+  within_first = omega arith;
+  within_last = omega arith;
+}

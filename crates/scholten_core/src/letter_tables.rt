@@ -475,7 +475,11 @@ impl<P: Drop> LetterTable<P> {
         ensures room { self.old.room ≤ self.new.room }
     {
         if self.holes == self.letters.len() {
-            self.clear_holes();
+            self.letters.clear();
+            self.holes = 0;
+            self.first = 0;
+            self.last = 0;
+            self.hand = 0;
             return;
         }
         while ends_in_hole(&self.letters) {
@@ -484,20 +488,6 @@ impl<P: Drop> LetterTable<P> {
         }
         self.first = self.first.min(self.letters.len());
         self.last = self.last.min(self.letters.len());
-    }
-
-    // Takes out all entries, where all of them are holes.
-    fn clear_holes(&mut self)
-        requires { self.old.letters ≡ [] }
-        ensures letters { self.new.letters ≡ self.old.letters }
-        ensures sent { self.new.sent ≡ self.old.sent }
-        ensures room { self.old.room ≤ self.new.room }
-    {
-        self.letters.clear();
-        self.holes = 0;
-        self.first = 0;
-        self.last = 0;
-        self.hand = 0;
     }
 
     // Drops all holes.
