@@ -37,6 +37,9 @@ returns-then-len-lt-NEAR g c =
       unchanged = tt;
     })
 
+pub invariant_of-self-in_err-insert : goal.invariant_of-self-in_err-insert
+invariant_of-self-in_err-insert g c few = absurd (omega (arith, few, c.if-len-lt-NEAR.false, c.len.ensures))
+
 pub returns-in_err-insert : goal.returns-in_err-insert
 returns-in_err-insert g c =
     let near = c.self.inside.near.items in
@@ -48,6 +51,9 @@ returns-in_err-insert g c =
       growth = near_lacks g.K.PartialEq.eq g.met.K.Eq.laws g.met.K.Key.exact near far c.args.key (lacks g (goal.at.returns-in_err-insert g c).After-len) absent;
       unchanged = ap (λ keys. near ++ keys) {x = c.insert.new.self.keys} {y = far} c.in_err-insert.ensures.err;
     })
+
+pub invariant_of-self-2 : goal.invariant_of-self-2
+invariant_of-self-2 g c few = absurd (omega (arith, few, c.if-len-lt-NEAR.false, c.len.ensures))
 
 pub returns : goal.returns
 returns g c =
