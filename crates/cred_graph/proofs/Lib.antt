@@ -10,6 +10,4 @@ pub mod ListenerLemmas
 pub mod KeptLemmas
 pub mod StoredLemmas
 pub mod Solvers
-pub mod CallLemmas
-pub mod ReadLemmas
 pub mod EmptyLemmas

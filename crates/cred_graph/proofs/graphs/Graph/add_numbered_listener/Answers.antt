@@ -1,7 +1,7 @@
 use Rattle.std.proofs.Common.{inl, refl}
 use Rattle.cred_graph.specs.Numbers.{port_at}
 use Rattle.cred_graph.specs.Stored.{graph_as}
-use Rattle.cred_graph.proofs.CallLemmas.{Listened, listener_kept, listens_by}
+use Rattle.cred_graph.proofs.StoredLemmas.{Listened, listener_kept, listens_by}
 use Rattle.cred_graph.proofs.graphs.Graph.add_numbered_listener.Goals as goal
 
 pub invariant_of-self : goal.invariant_of-self

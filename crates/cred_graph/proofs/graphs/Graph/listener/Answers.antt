@@ -1,5 +1,5 @@
 use Rattle.std.proofs.Common.{arith}
-use Rattle.cred_graph.proofs.ReadLemmas.{length-listeners, listener_read, port_read}
+use Rattle.cred_graph.proofs.StoredLemmas.{length-listeners, listener_read, port_read}
 use Rattle.cred_graph.proofs.graphs.Graph.listener.Goals as goal
 
 pub listener-kept-requires : goal.listener-kept-requires

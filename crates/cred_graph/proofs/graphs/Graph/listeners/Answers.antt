@@ -1,5 +1,5 @@
 use Rattle.std.proofs.Common.{◌∙◌, ap, length}
-use Rattle.cred_graph.proofs.ReadLemmas.{length-listeners}
+use Rattle.cred_graph.proofs.StoredLemmas.{length-listeners}
 use Rattle.cred_graph.proofs.graphs.Graph.listeners.Goals as goal
 
 pub returns-clause-count : goal.returns-clause-count

@@ -1,5 +1,5 @@
 use Rattle.std.proofs.Common.{arith}
-use Rattle.cred_graph.proofs.ReadLemmas.{length-members, member_read, member_entity}
+use Rattle.cred_graph.proofs.StoredLemmas.{length-members, member_read, member_entity}
 use Rattle.cred_graph.proofs.graphs.Graph.numbered_solution.Goals as goal
 
 pub solution-requires : goal.solution-requires

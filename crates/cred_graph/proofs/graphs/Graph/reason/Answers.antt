@@ -1,5 +1,5 @@
 use Rattle.cred_graph.proofs.Found.{found_earlier}
-use Rattle.cred_graph.proofs.ReadLemmas.{no_such_entity, no_such_solution, reason_read}
+use Rattle.cred_graph.proofs.StoredLemmas.{no_such_entity, no_such_solution, reason_read}
 use Rattle.cred_graph.proofs.graphs.Graph.reason.Goals as goal
 
 pub returns-in_default-clause-found : goal.returns-in_default-clause-found

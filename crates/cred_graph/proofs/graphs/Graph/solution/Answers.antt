@@ -1,6 +1,6 @@
 use Rattle.std.proofs.Common.{◌∙◌, ap, arith, Some}
 use Rattle.cred_graph.proofs.NumberLemmas.{entity_is}
-use Rattle.cred_graph.proofs.ReadLemmas.{length-members, member_read, member_entity}
+use Rattle.cred_graph.proofs.StoredLemmas.{length-members, member_read, member_entity}
 use Rattle.cred_graph.proofs.graphs.Graph.solution.Goals as goal
 
 pub solution-requires : goal.solution-requires

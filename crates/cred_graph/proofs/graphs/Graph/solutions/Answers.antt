@@ -1,5 +1,5 @@
 use Rattle.std.proofs.Common.{◌∙◌, ap, length}
-use Rattle.cred_graph.proofs.ReadLemmas.{length-members}
+use Rattle.cred_graph.proofs.StoredLemmas.{length-members}
 use Rattle.cred_graph.proofs.graphs.Graph.solutions.Goals as goal
 
 pub returns-clause-count : goal.returns-clause-count
