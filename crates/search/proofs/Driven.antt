@@ -13,16 +13,14 @@ use Rattle.search.specs.declared.outcomes.Finished.{Finished}
 use Rattle.search.specs.declared.outcomes.Finished.TheVariants as finished
 use Rattle.search.specs.declared.stages.Stage.{Stage}
 use Rattle.search.specs.declared.stages.Stage.TheVariants as stage
-use Rattle.search.specs.Finish.{need_of, right_hint, Needs, Takes, TakesHeld, IsRightly, Received, Receives, Finishes}
+use Rattle.search.specs.Finish.{need_of, right_hint, Needs, Takes, TakesHeld, IsRightly, Received, Receives, Finishes, SignalsFirst, FinishesFirst, IsDriven}
 use Rattle.search.specs.Stage.{waiting_in, signals_in, held_in, letter_in, Delivers, IsQuiet, NoneHeld, HoldsAsBefore}
 use Rattle.search.specs.Search.{SearchState, SameQuestion, Settles}
-use Rattle.search.specs.Finish.{SignalsFirst, FinishesFirst, IsDriven}
 use Rattle.search.proofs.Grow.{one_expr}
-use Rattle.search.proofs.Ended.{settles_on}
+use Rattle.search.proofs.Answered.{settles_on}
 use Rattle.search.proofs.Finishing.{finishes_rightly, rightly_needed}
-use Rattle.search.proofs.InHand.{finished_gone, finished_other, marked_other, signalled_holds}
+use Rattle.search.proofs.Holding.{finished_gone, finished_other, marked_other, signalled_holds, steps_left, marked_left, held_left, finished_left, signalled_left}
 use Rattle.search.proofs.Taking.{hand_needs}
-use Rattle.search.proofs.StepsLeft.{steps_left, marked_left, held_left, finished_left, signalled_left}
 
 -- the letter that was taken was received, or the search has ended with it
 data IsReceipt (held t : SearchState) (number : ℕ) : Type 0 where

@@ -28,12 +28,11 @@ use Rattle.search.specs.Stage.{HoldsLetter, letter_in, held_in, if_held, stage_m
 use Rattle.search.specs.Search.{SearchState, KeptBy, IsKept, asked_role, rows_of}
 use Rattle.search.proofs.Grow.{one_expr}
 use Rattle.search.proofs.Numbered.{AreLoads, HasMore, prefix_more}
-use Rattle.search.proofs.Receive.{Receipt, receipt}
-use Rattle.search.proofs.Closing.{done_kept}
-use Rattle.search.proofs.TalliedFinish.{done_tallied, work_exceeds}
+use Rattle.search.proofs.Receive.{Receipt, receipt, done_kept}
+use Rattle.search.proofs.Tallied.{done_tallied, work_exceeds}
 use Rattle.search.proofs.Searching.{held_awaits}
 use Rattle.search.proofs.Holding.{same_running}
-use Rattle.search.proofs.Ended.{same_question}
+use Rattle.search.proofs.Answered.{same_question}
 
 -- the letter in hand is the held letter of its number
 pub held_letter_is : (st : Stage) (number : ℕ) (h : Held (Load ℕ)) → HoldsLetter st number h → held_in st number ≡ Some (letter_in h)

@@ -1,5 +1,6 @@
 -- What a loop that sends one letter for each element of a list has sent so far.
-use Rattle.std.proofs.Common.{ℕ, zero, suc, ◌+◌, ◌≡◌, ◌∙◌, sym, ap, List, [], ◌∷◌, ◌++◌, Some, map, take, slice_get, append_assoc, add-one, subst}
+use Rattle.std.proofs.Common.{ℕ, zero, suc, ◌+◌, ◌≡◌, ◌∙◌, sym, ap, List, [], ◌∷◌, ◌++◌, Some, map, take, slice_get, append_assoc, add-one, length, ◌≤◌, subst}
+use Rattle.std.proofs.lemmas.List.{length-map, take_all}
 use Rattle.std.proofs.lemmas.Option.{same_Some}
 use Rattle.cred_graph.specs.Graph.{GraphState}
 use Rattle.search.specs.Answers.{Progress}
@@ -25,3 +26,8 @@ pub tells_on : {A : Type 0} (P : GraphState → Type 0) (f : GraphState → A �
     next ≡ record now { outs = now.outs ++ f now.graph x ∷ [] } → IsTelling P f xs s (k + 1) next
 tells_on P f xs s now next k x (holds, monitors, so_far) at done =
     subst (IsTelling P f xs s (k + 1)) (sym done) (holds, monitors, sent_next (f now.graph) (xs now.graph) k x s.outs now.outs at so_far)
+
+-- all were sent
+pub told_all : {A : Type 0} (f : GraphState → A → ℕ × Words) (xs : GraphState → List A) (s t : Progress) (k : ℕ) → t.outs ≡ s.outs ++ take k (map (f t.graph) (xs t.graph)) → length (xs t.graph) ≤ k → t.outs ≡ s.outs ++ map (f t.graph) (xs t.graph)
+told_all f xs s t k outs past =
+    outs ∙ ap (λ zs. s.outs ++ zs) (take_all k (map (f t.graph) (xs t.graph)) (subst (λ n. n ≤ k) (sym (length-map (xs t.graph) (f t.graph))) past))

@@ -35,11 +35,10 @@ use Rattle.search.specs.Answers.{Awaits}
 use Rattle.search.specs.Stage.{HoldsLetter, Holds, letter_in, stage_marked, waiting_in, Delivers}
 use Rattle.search.specs.Search.{SearchState, KeptBy, IsKept, IsCompleted, asked_role, rows_of, net_of}
 use Rattle.search.proofs.Owed.{owes_rules}
-use Rattle.search.proofs.Solve.{solution_of_member, member_of_solution}
-use Rattle.search.proofs.Closing.{awaits_letter, marked_kept, signalled_kept}
+use Rattle.search.proofs.Kept.{solution_of_member, member_of_solution}
+use Rattle.search.proofs.Receive.{awaits_letter, marked_kept, signalled_kept, receiver_in}
 use Rattle.search.proofs.WorkOf.{opened_counted}
 use Rattle.search.proofs.Tallied.{MayAsk}
-use Rattle.search.proofs.Receive.{receiver_in}
 use Rattle.search.proofs.Holding.{same_running}
 use Rattle.search.proofs.Numbered.{start_says}
 

@@ -15,8 +15,7 @@ use Rattle.search.specs.Finish.{need_of, Takes, TakesHeld}
 use Rattle.search.specs.Stage.{waiting_in, letter_in, Holds, HoldsLetter}
 use Rattle.search.specs.Search.{SearchState, IsKept, Settles, settled_of}
 use Rattle.search.proofs.Searching.{held_loads, taken_to, marked_stage_kept}
-use Rattle.search.proofs.Answered.{waits_outstanding}
-use Rattle.search.proofs.Ended.{same_question, settles}
+use Rattle.search.proofs.Answered.{waits_outstanding, same_question, settles}
 use Rattle.search.proofs.Finishing.{held_letter_is}
 
 -- the waiting letter at a place is taken, and is in hand

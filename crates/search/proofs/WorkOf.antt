@@ -28,7 +28,7 @@ use Rattle.search.specs.Net.{Net, Sent, LetterFits, SolutionFits, IsPendingStart
 use Rattle.search.specs.Search.{heard_of, heard_from, heard, ask_from, asks_in, IsCountedBy, IsCounted}
 use Rattle.search.proofs.CountedGraph.{heard_has}
 use Rattle.search.proofs.Owed.{owes_rules}
-use Rattle.search.proofs.Solve.{member_of_solution}
+use Rattle.search.proofs.Kept.{member_of_solution}
 
 -- an ask that was heard is of a listener
 pub record IsHeard (k : ℕ) (lists : List (List Listening)) (a : NodeAsk) : Type 0 where

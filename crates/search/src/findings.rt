@@ -103,10 +103,9 @@ impl Findings {
         self.clear();
         self.graph.clear();
         self.monitors.clear();
-        let room = self.monitors.capacity() as u64;
-        if room < FIRST_NODES || room > MOST_NODES {
-            self.monitors.shrink_to_fit();
-        }
+        let room = self.monitors.capacity();
+        let is_kept = FIRST_NODES <= room as u64 && room as u64 <= MOST_NODES;
+        self.monitors.shrink_to(if is_kept { room } else { 0 });
     }
 
     // What a search for the role has found before its first letter is received: the role's node, whose number it answers.
@@ -176,9 +175,9 @@ impl Findings {
     {
         self.outs.clear();
         self.outs.shrink_to_fit();
-        if self.monitors.len() < self.monitors.capacity() / 2 {
-            self.monitors.shrink_to_fit();
-        }
+        let room = self.monitors.capacity();
+        let is_kept = room / 2 <= self.monitors.len();
+        self.monitors.shrink_to(if is_kept { room } else { 0 });
         self.graph.give_back();
     }
 }

@@ -1,10 +1,13 @@
 -- The asker listens, and where that is new it is told what is known.
-use Rattle.std.proofs.Common.{◌≡◌, ◌<◌, ℕ, List, Some, length, slice_get, sym, subst, true}
+use Rattle.std.proofs.Common.{◌≡◌, ◌<◌, ◌∙◌, ◌++◌, ℕ, List, Some, ap, append-nil, arith, length, map, slice_get, sym, subst, true}
 use Rattle.cred_graph.specs.Graph.{GraphState, ListenerGiven, members_of}
 use Rattle.cred_graph.specs.Numbers.{IsPort, entity_at, port_at}
 use Rattle.search.specs.declared.letters.Load.TheVariants as load
 use Rattle.search.specs.Answers.{Progress}
-use Rattle.search.proofs.Loops.{tells_on}
+use Rattle.search.specs.Net.{outs_at}
+use Rattle.search.specs.Numbered.{monitor_at}
+use Rattle.search.proofs.Tells.{known_tells}
+use Rattle.search.proofs.Loops.{tells_on, told_all}
 use Rattle.search.proofs.Numbered.{numbered_listened}
 use Rattle.search.proofs.answers.hear_ask.Goals as goal
 use Rattle.search.proofs.answers.hear_ask.Goals.{After-graph}
@@ -25,3 +28,20 @@ loop-place-preserved c =
     (entity_at now.graph.nodes c.numbered_solution-who.result) c.loop-place.invariant
     (subst (λ (g : GraphState). slice_get (members_of g c.args.node) c.loop-place.place ≡ Some (entity_at g.nodes c.numbered_solution-who.result)) c.graph-in-loop-place.ensures.graph c.numbered_solution-who.ensures.solution)
     c.in_ok-send.ensures.sent
+
+pub loop-place-init : goal.loop-place-init
+loop-place-init c =
+    let old = c.found.inside in
+    let given = rw c.if-not-branch.false at c.in_ok-add_numbered_listener.ensures.ok in
+    rw (← c.found.view_is) (given, ap (λ (g : GraphState). map (monitor_at g.nodes) old.monitors.items) given.1, ap (λ (g : GraphState). outs_at g.nodes old.outs.items) given.1 ∙ sym (append-nil (outs_at old.graph.nodes old.outs.items)))
+
+pub returns : goal.returns
+returns c =
+    let s = c.args.found.now in
+    let t = c.loop-place.found in
+    let (given, monitors, outs) = c.loop-place.invariant in
+    let new = rw (← c.found.view_is) at given.1 in
+    let first = rw c.if-not-branch.false at c.in_ok-add_numbered_listener.ensures.ok in
+    let count = ap (λ (g : GraphState). length (members_of g c.args.node)) (c.graph.ensures.graph ∙ first.1 ∙ sym new) in
+    let all = told_all (λ (g : GraphState) (who : List ℕ). (c.args.asker, load.Tell (port_at g.nodes c.args.port) who)) (λ (g : GraphState). members_of g c.args.node) s t c.loop-place.place outs (omega (arith, count, c.solutions-place-end.ensures.count, c.loop-place-test.false)) in
+    (true, given, monitors, all ∙ ap (λ (g : GraphState). s.outs ++ known_tells g c.args.node c.args.asker (port_at g.nodes c.args.port)) given.1)

@@ -7,7 +7,7 @@ use Rattle.scholten_core.specs.declared.parents.Parent.{Parent}
 use Rattle.search.specs.declared.letters.Load.{Load}
 use Rattle.search.specs.Answers.{Progress, progress, Answers}
 use Rattle.search.specs.Net.{load_at}
-use Rattle.search.proofs.Arms.{node_in, starts, no_start, asker_in, may_tell, answers_start, answers_ask, answers_tell}
+use Rattle.search.proofs.Receive.{node_in, starts, no_start, asker_in, may_tell, answers_start, answers_ask, answers_tell}
 use Rattle.search.proofs.answers.receive.Goals as goal
 
 pub open-requires-clause-node : goal.open-requires-clause-node

@@ -1,5 +1,5 @@
 -- The entity is a solution, and where that is new each listener is told.
-use Rattle.std.proofs.Common.{◌≡◌, Some, slice_get, sym, subst, true}
+use Rattle.std.proofs.Common.{◌≡◌, ◌∙◌, ◌++◌, Some, ap, append-nil, arith, length, map, slice_get, sym, subst, true}
 use Rattle.cred_graph.specs.declared.listeners.Listening.{Listening}
 use Rattle.cred_graph.specs.declared.solutions.Solution.{Solution}
 use Rattle.cred_graph.specs.Graph.{Fits, GraphState, SolutionGiven, listeners_of}
@@ -7,7 +7,10 @@ use Rattle.cred_graph.specs.Numbers.{entity_at, port_at, reason_at}
 use Rattle.cred_graph.proofs.Lists.{Contains-at_place}
 use Rattle.search.specs.declared.letters.Load.TheVariants as load
 use Rattle.search.specs.Answers.{Progress}
-use Rattle.search.proofs.Loops.{tells_on}
+use Rattle.search.specs.Net.{outs_at}
+use Rattle.search.specs.Numbered.{monitor_at}
+use Rattle.search.proofs.Tells.{new_tells}
+use Rattle.search.proofs.Loops.{tells_on, told_all}
 use Rattle.search.proofs.Numbered.{numbered_solved}
 use Rattle.search.proofs.answers.solve.Goals as goal
 use Rattle.search.proofs.answers.solve.Goals.{After-graph}
@@ -35,3 +38,20 @@ loop-place-preserved c =
 
 pub numbered_listener-asker-requires-clause-named : goal.numbered_listener-asker-requires-clause-named
 numbered_listener-asker-requires-clause-named c = λ l at. c.graph-in-loop-place.ensures.ports c.args.node l (Contains-at_place (listeners_of c.graph-in-loop-place.result.now c.args.node) c.loop-place.place l at)
+
+pub loop-place-init : goal.loop-place-init
+loop-place-init c =
+    let old = c.found.inside in
+    let given = rw c.if-not-branch.false at c.in_ok-add_numbered_solution.ensures.ok in
+    rw (← c.found.view_is) (given, ap (λ (g : GraphState). map (monitor_at g.nodes) old.monitors.items) given.1, ap (λ (g : GraphState). outs_at g.nodes old.outs.items) given.1 ∙ sym (append-nil (outs_at old.graph.nodes old.outs.items)))
+
+pub returns : goal.returns
+returns c =
+    let s = c.args.found.now in
+    let t = c.loop-place.found in
+    let (given, monitors, outs) = c.loop-place.invariant in
+    let new = rw (← c.found.view_is) at given.1 in
+    let first = rw c.if-not-branch.false at c.in_ok-add_numbered_solution.ensures.ok in
+    let count = ap (λ (g : GraphState). length (listeners_of g c.args.node)) (c.graph.ensures.graph ∙ first.1 ∙ sym new) in
+    let all = told_all (λ (g : GraphState) (l : Listening). (l.asker, load.Tell l.port (entity_at g.nodes c.args.who))) (λ (g : GraphState). listeners_of g c.args.node) s t c.loop-place.place outs (omega (arith, count, c.listeners-place-end.ensures.count, c.loop-place-test.false)) in
+    (true, given, monitors, all ∙ ap (λ (g : GraphState). s.outs ++ new_tells g c.args.node (entity_at g.nodes c.args.who)) given.1)

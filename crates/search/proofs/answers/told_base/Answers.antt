@@ -13,7 +13,7 @@ use Rattle.search.specs.declared.findings.NumberedMonitor.TheVariants as numbere
 use Rattle.search.specs.Answers.{Progress, AsksFor}
 use Rattle.search.proofs.Tells.{BaseHeard}
 use Rattle.search.specs.Numbered.{AreNumbered, progress_at, monitor_at}
-use Rattle.search.proofs.Heard.{base_heard, link_after, link_at_node, monitor_there, read_there, still_monitors}
+use Rattle.search.proofs.Numbered.{base_heard, link_after, link_at_node, monitor_there, read_there, still_monitors}
 use Rattle.search.proofs.answers.told_base.Goals.{After-found, After-hear, In_ok-hear}
 use Rattle.search.proofs.answers.told_base.Goals as goal
 

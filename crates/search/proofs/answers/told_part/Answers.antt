@@ -12,7 +12,7 @@ use Rattle.search.specs.declared.findings.NumberedMonitor.TheVariants as numbere
 use Rattle.search.specs.Answers.{Progress, Solves}
 use Rattle.search.proofs.Tells.{PartHeard}
 use Rattle.search.specs.Numbered.{AreNumbered, monitor_at}
-use Rattle.search.proofs.Heard.{meet_after, meet_at_node, monitor_there, part_heard, read_there, still_monitors}
+use Rattle.search.proofs.Numbered.{meet_after, meet_at_node, monitor_there, part_heard, read_there, still_monitors}
 use Rattle.search.proofs.answers.told_part.Goals.{After-found, After-part_told, In_ok-part_told}
 use Rattle.search.proofs.answers.told_part.Goals as goal
 

@@ -11,7 +11,7 @@ use Rattle.search.specs.Stage.{held_in, letter_in, stage_marked}
 use Rattle.search.specs.Search.{SearchState}
 use Rattle.search.specs.Finish.{IsSpanFor, need_of, right_hint, IsRightly, Finishes}
 use Rattle.search.specs.contracts.searches.Search.{the_view}
-use Rattle.search.proofs.Arms.{node_in}
+use Rattle.search.proofs.Receive.{node_in}
 use Rattle.search.proofs.Searching.{held_awaits}
 use Rattle.search.proofs.Finishing.{held_letter_is, finishes_rightly, rightly, span_for, wrongly}
 use Rattle.search.proofs.searches.Search.finish.Goals as goal

@@ -13,7 +13,7 @@ use Rattle.search.specs.Ending.{Members}
 use Rattle.search.specs.Search.{SearchState, IsCompleted, rows_of, asked_role, settled_of}
 use Rattle.search.specs.contracts.searches.Search.{the_view}
 use Rattle.search.proofs.Searching.{completed_root}
-use Rattle.search.proofs.Ended.{listed_members, listed_settled}
+use Rattle.search.proofs.Answered.{listed_members, listed_settled}
 use Rattle.search.proofs.searches.Search.members.Goals as goal
 
 pub solutions_in_order-requires : goal.solutions_in_order-requires

@@ -7,8 +7,7 @@ use Rattle.search.specs.Search.{SearchState}
 use Rattle.search.specs.contracts.searches.Search.{the_view}
 use Rattle.search.proofs.Searching.{marked_stage_kept, marked_view}
 use Rattle.search.proofs.Finishing.{held_letter_is}
-use Rattle.search.proofs.Answered.{held_outstanding}
-use Rattle.search.proofs.Ended.{same_question, settles}
+use Rattle.search.proofs.Answered.{held_outstanding, same_question, settles}
 use Rattle.search.proofs.searches.Search.put_back.Goals.{After-put_back}
 use Rattle.search.proofs.searches.Search.put_back.Goals as goal
 

@@ -10,8 +10,7 @@ use Rattle.search.specs.Search.{SearchState, IsKept, asked_role}
 use Rattle.search.specs.Finish.{Receives}
 use Rattle.search.specs.contracts.searches.Search.{the_view}
 use Rattle.search.proofs.Searching.{held_awaits, held_loads, broken_kept}
-use Rattle.search.proofs.Answered.{held_outstanding}
-use Rattle.search.proofs.Ended.{same_question, settles}
+use Rattle.search.proofs.Answered.{held_outstanding, same_question, settles}
 use Rattle.search.proofs.Finishing.{held_letter_is, sent_receives, sent_kept}
 use Rattle.search.proofs.searches.Search.receive_held.Goals as goal
 use Rattle.search.proofs.searches.Search.receive_held.Goals.{After-clear, After-send}

@@ -4,7 +4,7 @@ use Rattle.search.specs.Stage.{Delivers}
 use Rattle.search.specs.Search.{SearchState}
 use Rattle.search.specs.contracts.searches.Search.{the_view}
 use Rattle.search.proofs.Searching.{delivered_kept}
-use Rattle.search.proofs.Ended.{signal_settles}
+use Rattle.search.proofs.Answered.{signal_settles}
 use Rattle.search.proofs.searches.Search.signal.Goals as goal
 
 pub invariant_of-self : goal.invariant_of-self

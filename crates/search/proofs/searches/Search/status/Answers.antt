@@ -3,8 +3,7 @@ use Rattle.std.proofs.Common.{◌≡◌, refl, subst}
 use Rattle.cred_graph.specs.Graph.{GraphState}
 use Rattle.search.specs.Search.{come_to, status_of, IsKept, rows_of, asked_role}
 use Rattle.search.proofs.Searching.{status_exact, rules_owed}
-use Rattle.search.proofs.Answered.{status_is}
-use Rattle.search.proofs.Ended.{ends}
+use Rattle.search.proofs.Answered.{status_is, ends}
 use Rattle.search.proofs.searches.Search.status.Goals as goal
 use Rattle.search.proofs.searches.Search.status.Goals.{After-status_at}
 
