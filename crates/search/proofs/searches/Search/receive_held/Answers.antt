@@ -1,5 +1,5 @@
 -- A held letter is awaited by its receiver, whose receipt keeps what a search keeps.
-use Rattle.std.proofs.Common.{◌≡◌, refl, sym, subst, [], ℕ, List}
+use Rattle.std.proofs.Common.{◌≡◌, ap, refl, sym, subst, [], ℕ, List}
 use Rattle.vaults.specs.Journal.{credentials}
 use Rattle.snapshots.specs.Snapshot.{SnapshotState, IsOrdered}
 use Rattle.search.specs.declared.stages.Stage.TheVariants as stage
@@ -22,6 +22,9 @@ pub receive-requires-clause-load : goal.receive-requires-clause-load
 receive-requires-clause-load c =
     subst (λ (x : Progress). IsLoad x.graph.nodes c.args.held.now.load) (sym c.clear.ensures)
     (held_loads (the_view c.self.inside) c.self.invariant c.args.letter c.args.held.now (in_hand (goal.at.receive-requires-clause-load c).After-clear))
+
+pub receive-requires-clause-none : goal.receive-requires-clause-none
+receive-requires-clause-none c = ap (λ (x : Progress). x.outs) c.clear.ensures
 
 pub receive-requires-clause-awaits : goal.receive-requires-clause-awaits
 receive-requires-clause-awaits c =
