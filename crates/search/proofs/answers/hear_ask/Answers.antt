@@ -10,7 +10,6 @@ use Rattle.search.proofs.Tells.{known_tells}
 use Rattle.search.proofs.Loops.{tells_on, told_all}
 use Rattle.search.proofs.Numbered.{numbered_listened}
 use Rattle.search.proofs.answers.hear_ask.Goals as goal
-use Rattle.search.proofs.answers.hear_ask.Goals.{After-graph}
 
 pub invariant_of-found-2 : goal.invariant_of-found-2
 invariant_of-found-2 c =

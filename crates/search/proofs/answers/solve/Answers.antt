@@ -13,7 +13,6 @@ use Rattle.search.proofs.Tells.{new_tells}
 use Rattle.search.proofs.Loops.{tells_on, told_all}
 use Rattle.search.proofs.Numbered.{numbered_solved}
 use Rattle.search.proofs.answers.solve.Goals as goal
-use Rattle.search.proofs.answers.solve.Goals.{After-graph}
 
 pub add_numbered_solution-requires-clause-fits : goal.add_numbered_solution-requires-clause-fits
 add_numbered_solution-requires-clause-fits c =
