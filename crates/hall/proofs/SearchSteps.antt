@@ -1,6 +1,6 @@
 -- A step of a search goes on with one question, and what is known of a new search.
 use Rattle.std.specs.Prelude.{MatchOption, MatchBool, slice_get}
-use Rattle.std.proofs.Common.{refl, ◌+◌, ◌==◌, ℕ, Bool, true, false, cond, List, [], ◌∷◌, ◌≡◌, ap, Option, Some, None, ne_eqb, arith}
+use Rattle.std.proofs.Common.{refl, ◌+◌, ◌==◌, ℕ, Bool, true, false, cond, [], ◌∷◌, ◌≡◌, ap, Option, Some, None, ne_eqb, arith}
 use Rattle.snapshots.specs.Snapshot.{SnapshotState}
 use Rattle.search.specs.declared.queries.Query.{Query}
 use Rattle.search.specs.declared.queries.Hint.{Hint}

@@ -67,6 +67,17 @@ impl LendableSearch {
         }
     }
 
+    /// Leaves the tables of its letters as spare ones, where it is completed, by few letters, and no others are spare.
+    pub(crate) fn leave_letters(&mut self, spare: &mut Tables)
+        requires carried { IsLendable self.old }
+        ensures same { lendable_search self.new ≡ lendable_search self.old }
+        ensures carried { IsLendable self.new }
+    {
+        if let LendableSearch::Own(search) = self {
+            search.leave_letters(spare);
+        }
+    }
+
     /// Whether the search is small.
     pub(crate) fn is_small(&self) -> bool {
         match self {
@@ -79,10 +90,10 @@ impl LendableSearch {
     /// Ends the search. Where nobody else has it, its tables are spare then.
     pub(crate) fn leave_tables(self, spare: &mut Tables) {
         match self {
-            LendableSearch::Own(search) => *spare = search.into_tables(),
+            LendableSearch::Own(search) => spare.take_over(search.into_tables()),
             LendableSearch::Lent(shared) => {
                 if let Some(search) = Arc::into_inner(shared) {
-                    *spare = search.into_tables();
+                    spare.take_over(search.into_tables());
                 }
             }
             LendableSearch::Moving => {}

@@ -20,7 +20,7 @@ use crate::orders::{Next, Order};
 use crate::working::work;
 use names::Entity;
 use proof_trees::Proof;
-use search::{Finished, Search, Status, Task};
+use search::{Finished, Search, Status, Tables, Task};
 use std::alloc::{AllocError, Global};
 use std::marker::Model;
 use std::sync::Arc;
@@ -119,6 +119,14 @@ impl OpenSearch {
         ensures { self.new ≡ self.old }
     {
         self.carried.give_back();
+    }
+
+    /// Leaves the tables of its letters as spare ones, where it is completed, by few letters, and no others are spare.
+    #[inline(never)]
+    pub(crate) fn leave_letters(&mut self, spare: &mut Tables)
+        ensures { self.new ≡ self.old }
+    {
+        self.carried.leave_letters(spare);
     }
 
     /// Hands in the letters of the batch, which are of this search under that name, and goes on with it where that is asked and

@@ -6,6 +6,7 @@ use crate::signals::{put, take};
 use std::alloc::{AllocError, Global};
 use std::collections::VecDeque;
 use std::marker::Model;
+use std::mem;
 
 /// A diffusing computation: letters, signals and the tree of engaged nodes. Letters are numbered from 1 as they are
 /// sent. Nodes are best numbered from 0 on: memory is taken up to the greatest number of a node that was engaged, and
@@ -217,6 +218,35 @@ impl<P: Drop> Diffusion<P> {
         self.signals.shrink_to_fit();
         self.nodes.clear();
         self.nodes.shrink_to_fit();
+    }
+
+    /// Hands out the computation, in which nothing is outstanding, with its memory. The same one stays here, and has none.
+    pub fn hand_over(&mut self) -> Diffusion<P>
+        requires { outstanding self.old ≡ 0 }
+        ensures handed_over { result ≡ self.old }
+        ensures same { self.new ≡ self.old }
+    {
+        let bare = self.without_room();
+        mem::replace(self, bare)
+    }
+
+    // The same computation, in which nothing is outstanding, with no memory.
+    fn without_room(&self) -> Diffusion<P>
+        requires { outstanding self.now ≡ 0 }
+        ensures { result ≡ self.now }
+    {
+        let alloc = *self.signals.allocator();
+        Diffusion {
+            letters: self.letters.without_room(),
+            signals: VecDeque::new(alloc),
+            nodes: Vec::new(alloc),
+            environment: self.environment,
+        }
+    }
+
+    /// Whether it has room for as many letters as one that was started has.
+    pub fn has_first_room(&self) -> bool {
+        self.letters.has_first_room()
     }
 
     /// Whether nothing is outstanding.

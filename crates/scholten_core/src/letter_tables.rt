@@ -292,6 +292,27 @@ impl<P: Drop> LetterTable<P> {
         self.hand = 0;
     }
 
+    /// As many letters were sent, and none is left: in a table with no room.
+    pub(crate) fn without_room(&self) -> Self
+        ensures sent { result.sent ≡ self.now.sent }
+        ensures letters { result.letters ≡ [] }
+    {
+        LetterTable {
+            sent: self.sent,
+            waits: 0,
+            holes: 0,
+            first: 0,
+            last: 0,
+            hand: 0,
+            letters: Vec::new(*self.letters.allocator()),
+        }
+    }
+
+    /// Whether it has room for as many letters as a new one.
+    pub(crate) fn has_first_room(&self) -> bool {
+        self.letters.capacity() >= FIRST_ROOM
+    }
+
     pub(crate) fn sent(&self) -> u64
         ensures { result ≡ self.now.sent }
     {

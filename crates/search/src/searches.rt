@@ -20,7 +20,7 @@ use crate::letters::{Held, Load};
 use crate::members::solutions_in_order;
 use crate::outcomes::{Finished, Status};
 use crate::queries::{Hint, Need, Query, Task};
-use crate::stages::{Stage, break_off, deliver, give_back, held_letter, hold, send};
+use crate::stages::{Stage, break_off, deliver, give_back, held_letter, hold, leave_letters, send};
 use crate::tables::Tables;
 use cred_graph::{Graph, Port};
 use names::{Entity, Role};
@@ -137,6 +137,13 @@ impl Search {
         self.found.is_small() && self.stage.is_small()
     }
 
+    /// Leaves the tables of its letters as spare ones, where it is completed, by few letters, and no others are spare.
+    pub fn leave_letters(&mut self, spare: &mut Tables)
+        ensures { self.new ≡ self.old }
+    {
+        leave_letters(&mut self.stage, &mut spare.stage);
+    }
+
     /// Ends the search. Its tables are emptied for another one.
     pub fn into_tables(self) -> Tables {
         let Search {
@@ -148,7 +155,7 @@ impl Search {
             keeps_room: _,
             alloc: _alloc,
         } = self;
-        if !found.is_small() || !stage.is_small() {
+        if !found.is_small() || !stage.is_small() || !stage.has_first_room() {
             stage = Stage::Spent;
         }
         found.forget();

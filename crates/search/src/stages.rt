@@ -46,6 +46,14 @@ impl Stage {
         }
     }
 
+    // Whether its tables of letters serve another search.
+    pub(crate) fn has_first_room(&self) -> bool {
+        match self {
+            Stage::Running(running) => running.has_first_room(),
+            Stage::Spent | Stage::Broken => false,
+        }
+    }
+
     // The computation of a search that begins, in the tables of letters that the one which stood here has left, if there are any.
     pub(crate) fn begin(self, alloc: Global) -> Result<Diffusion<Load<u32>>, AllocError>
         ensures started { IfOk result (λ d. d ≡ started 0 Load.Start) }
@@ -151,6 +159,20 @@ pub(crate) fn give_back(stage: &mut Stage, found: &mut Findings)
     if let Stage::Running(running) = stage {
         if running.is_complete() {
             rest(running, found, false);
+        }
+    }
+}
+
+// The tables of letters of a search that is completed, by few letters, are spare from now on, where there are no others.
+pub(crate) fn leave_letters(stage: &mut Stage, spare: &mut Stage)
+    ensures { stage.new ≡ stage.old }
+{
+    if spare.has_first_room() {
+        return;
+    }
+    if let Stage::Running(running) = stage {
+        if running.is_complete() && running.has_first_room() && running.sent() <= FEW_LETTERS {
+            *spare = Stage::Running(running.hand_over());
         }
     }
 }
