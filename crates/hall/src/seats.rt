@@ -4,8 +4,10 @@ ghost use Rattle.std.specs.FinMap.{get, insert, remove, len};
 ghost use Rattle.vaults.specs.Journal.{entries_of, vault, grant_count, refusal, view};
 ghost use Rattle.hall.specs.declared.faults.Fault.TheVariants as faults;
 ghost use Rattle.hall.specs.{Fault.vault_fault, Answers.alter_refusal, Answers.seek_refusal};
+ghost use Rattle.std.specs.Arc.{arc_value};
+ghost use Rattle.search.specs.Search.{new_search};
 ghost use Rattle.hall.specs.Hall.{account, beginning, new_tenant};
-ghost use Rattle.hall.specs.Kept.{Lists, KeepsBut};
+ghost use Rattle.hall.specs.Kept.{Lists, KeepsBut, ReadAsOpened};
 
 use crate::faults::Fault;
 use crate::lendable_searches::LendableSearch;
@@ -99,6 +101,7 @@ impl Seat {
         query: Query,
         spare: &mut Tables,
     ) -> Result<u64, Fault>
+        requires { ReadAsOpened book.old who self.old }
         ensures allowed { OnOk result (seek_refusal (account book.old who self.old) ≡ None) }
         ensures number { IfOk result (λ n. n ≡ self.old.opens + 1) }
         ensures opened { IfOk result (λ n. self.new ≡ record self.old {
@@ -117,11 +120,30 @@ impl Seat {
         let number = self.opens + 1;
         enter(busy, who, number)?;
         let work = self.limits.work();
-        self.searches
-            .insert(number, begin(alloc, book, who, query, work, spare)?)?;
+        let snapshot = self.sight(alloc, book, who)?;
+        let opened_at = book.journal_len();
+        self.searches.insert(
+            number,
+            begin(alloc, opened_at, snapshot, query, work, spare)?,
+        )?;
         give_back(&mut self.searches, self.opens);
         self.opens = number;
         Ok(number)
+    }
+
+    /// What the tenant sees now. Where nothing was changed since the search was opened that it opened last, that reads the same.
+    fn sight(&self, alloc: Global, book: &mut Book, who: Entity) -> Result<Arc<Snapshot>, Fault>
+        requires { ReadAsOpened book.old who self.now }
+        ensures view { IfOk result (λ s. arc_value s ≡ record { asker = who; vaults = view book.old who }) }
+        ensures only_memory { IfErr result (λ f. f ≡ Fault.Memory) }
+        ensures same { book.new ≡ book.old }
+    {
+        match self.searches.get(&self.opens) {
+            Some(last) if last.opened_at == book.journal_len() => {
+                Ok(last.carried.search().snapshot().clone()?)
+            }
+            _ => Ok(Arc::new(alloc, Snapshot::take(alloc, book, who)?)?),
+        }
     }
 
     /// Whether the search of the number goes on. Where there is none, its number may stand among those that do.
@@ -192,25 +214,21 @@ fn give_back(searches: &mut IndexMap<u64, OpenSearch>, number: u64)
     }
 }
 
-/// A search over what the tenant sees now, which may send so many letters. It takes the spare tables.
+/// A search over the snapshot, which may send so many letters. It takes the spare tables.
 fn begin(
     alloc: Global,
-    book: &mut Book,
-    who: Entity,
+    opened_at: u64,
+    snapshot: Arc<Snapshot>,
     query: Query,
     work: u64,
     spare: &mut Tables,
 ) -> Result<OpenSearch, Fault>
     requires { 0 < work }
-    ensures begun { IfOk result (λ opened. opened ≡ beginning book.old who query work) }
+    ensures begun { IfOk result (λ opened. opened
+        ≡ record { opened_at = opened_at; search = new_search query work (arc_value snapshot) }) }
     ensures only_memory { IfErr result (λ f. f ≡ Fault.Memory) }
-    ensures same { book.new ≡ book.old }
 {
-    let snapshot = Arc::new(alloc, Snapshot::take(alloc, book, who)?)?;
     let tables = mem::replace(spare, Tables::new(alloc));
     let carried = LendableSearch::Own(Search::open_in(tables, alloc, snapshot, query, work)?);
-    Ok(OpenSearch {
-        opened_at: book.journal_len(),
-        carried,
-    })
+    Ok(OpenSearch { opened_at, carried })
 }

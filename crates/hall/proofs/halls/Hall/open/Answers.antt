@@ -19,6 +19,12 @@ served c =
     sought _ c.args.who c.in_ok-seat.seat.now c.open.new.self c.in_ok-seat.ensures.here c.args.query c.open.result c.open.ensures.allowed c.open.ensures.number c.open.ensures.opened
     c.open.ensures.refused c.open.ensures.unchanged
 
+-- each of the tenant's searches reads what it saw then
+pub open-requires : goal.open-requires
+open-requires c k r at =
+    let sound = (c.self.invariant.sound c.args.who c.in_ok-seat.seat.now k r c.in_ok-seat.ensures.here at).2 in
+    λ i. record { asker = sound.asker i; vaults = sound.view i }
+
 pub invariant_of-self-2 : goal.invariant_of-self-2
 invariant_of-self-2 c =
     let h = hall_of c.self.inside.book c.self.inside.tenants in

@@ -1,7 +1,8 @@
-use Rattle.std.proofs.Common.{rules, ◌≡◌, ◌∙◌, ◌==◌, ◌+◌, ◌<◌, None, ap, refl, subst₂}
+use Rattle.std.proofs.Common.{rules, ◌≡◌, ◌∙◌, ◌==◌, ◌+◌, ◌<◌, None, ap, length, refl, subst₂}
 use Rattle.std.proofs.lemmas.Result.{err_from_is_err_and}
 use Rattle.std.specs.Cmp.{unsigned_tied}
 use Rattle.std.specs.FinMap.{insert, from_entries}
+use Rattle.search.specs.Search.{new_search}
 use Rattle.hall.specs.Answers.{seek_refusal}
 use Rattle.hall.specs.Hall.{Tenant, account, beginning}
 use Rattle.hall.proofs.Maps.{numbers_exact}
@@ -24,6 +25,21 @@ returns-in_err-enter c =
     rw (p.1, p.2, allowed (goal.at.returns-in_err-enter c).After-branch-enter)
     record { allowed = tt; number = tt; opened = tt; refused = refl; unchanged = refl; same = refl; entered = tt; kept = c.in_err-enter.ensures.kept }
 
+pub returns-in_err-snapshot : goal.returns-in_err-snapshot
+returns-in_err-snapshot c =
+    let p = err_from_is_err_and c.from_residual-in_err-snapshot.result c.from_residual-in_err-snapshot.ensures.1 in
+    rw (p.1, p.2, c.in_err-snapshot.ensures.only_memory, allowed (goal.at.returns-in_err-snapshot c).After-branch-enter)
+    record {
+      allowed = tt;
+      number = tt;
+      opened = tt;
+      refused = refl;
+      unchanged = refl;
+      same = c.in_err-snapshot.ensures.same;
+      entered = tt;
+      kept = c.in_ok-enter.ensures.kept;
+    }
+
 pub returns-in_err-begin : goal.returns-in_err-begin
 returns-in_err-begin c =
     let p = err_from_is_err_and c.from_residual-in_err-begin.result c.from_residual-in_err-begin.ensures.1 in
@@ -34,7 +50,7 @@ returns-in_err-begin c =
       opened = tt;
       refused = refl;
       unchanged = c.self.view_is;
-      same = c.in_err-begin.ensures.same;
+      same = c.in_ok-snapshot.ensures.same;
       entered = tt;
       kept = c.in_ok-enter.ensures.kept;
     }
@@ -48,7 +64,7 @@ returns-in_err-insert c =
       opened = tt;
       refused = refl;
       unchanged = (λ i. record { limits = c.self.inside.limits; opens = c.self.inside.opens; searches = from_entries (c.in_err-insert.ensures.err i) }) ∙ c.self.view_is;
-      same = c.in_ok-begin.ensures.same;
+      same = c.in_ok-snapshot.ensures.same;
       entered = tt;
       kept = c.in_ok-enter.ensures.kept;
     }
@@ -56,7 +72,10 @@ returns-in_err-insert c =
 -- it may send as many letters as the limit allows
 begun : (c : After-branch-insert) →
     c.in_ok-begin.field-0 ≡ beginning c.args.book.now c.args.who c.args.query c.self.inside.limits.work
-begun c = c.in_ok-begin.ensures.begun ∙ ap (beginning c.args.book.now c.args.who c.args.query) c.work-work.ensures.limit
+begun c =
+    let at = c.journal_len-opened_at.ensures ∙ ap length c.in_ok-snapshot.ensures.same in
+    c.in_ok-begin.ensures.begun
+    ∙ (λ i. record { opened_at = at i; search = new_search c.args.query (c.work-work.ensures.limit i) (c.in_ok-snapshot.ensures.view i) })
 
 pub returns : goal.returns
 returns c =
@@ -70,7 +89,7 @@ returns c =
       opened = rw (← c.self.view_is) (λ i. record { limits = s.limits; opens = s.opens + 1; searches = searches i });
       refused = tt;
       unchanged = tt;
-      same = c.in_ok-begin.ensures.same;
+      same = c.in_ok-snapshot.ensures.same;
       entered = c.in_ok-enter.ensures.entered;
       kept = c.in_ok-enter.ensures.kept;
     }
