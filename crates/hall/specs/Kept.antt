@@ -3,11 +3,9 @@ use Rattle.std.specs.Prelude.{◌≡◌, ◌≢◌, ◌==◌, ℕ, Bool, true, [
 use Rattle.std.specs.{FinMap.get, Arc.arc_value, Borrow.MutBor}
 use Rattle.indexmap.specs.{IndexSet.IndexSet, IndexSet.contains, IndexMap.IndexMap, IndexMap.get as numbers_of}
 use Rattle.names.specs.Name.{is_same}
-use Rattle.vaults.specs.declared.changes.Entry.{Entry}
-use Rattle.vaults.specs.Journal.{view}
-use Rattle.search.specs.declared.queries.Query.TheVariants.{Who}
+use Rattle.vaults.specs.{declared.changes.Entry.Entry, Journal.view}
 use Rattle.search.specs.Search.{SearchState, new_search, SameQuestion, Settles, IsCompleted, IsSoundStage, settled_of}
-use Rattle.search.specs.Ending.{Nothing}
+use Rattle.search.specs.{Ending.Nothing, declared.queries.Query.TheVariants.Who}
 use Rattle.hall.specs.declared.lendable_searches.LendableSearch.{LendableSearch, TheVariants.Own, TheVariants.Lent, TheVariants.Moving}
 use Rattle.hall.specs.declared.faults.Fault.{Fault, TheVariants.NoTenant, TheVariants.NoSuchSearch}
 use Rattle.hall.specs.Hall.{Running, Tenant, HallState, search_at, with_search, EachSearch, IsSound}
