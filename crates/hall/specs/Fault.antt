@@ -1,9 +1,13 @@
 -- The number of each fault, and the faults of the lower layers.
 use Rattle.std.specs.Prelude.{ℕ}
-use Rattle.hall.specs.declared.faults.Fault.{Fault, TheVariants as fault}
-use Rattle.vaults.specs.declared.faults.VaultFault.{VaultFault, TheVariants as vault}
-use Rattle.quotas.specs.declared.faults.QuotaFault.{QuotaFault, TheVariants as quota}
-use Rattle.proof_trees.specs.declared.faults.ProofFault.{ProofFault, TheVariants as proof}
+use Rattle.hall.specs.declared.faults.Fault.{Fault}
+use Rattle.hall.specs.declared.faults.Fault.TheVariants as fault
+use Rattle.vaults.specs.declared.faults.VaultFault.{VaultFault}
+use Rattle.vaults.specs.declared.faults.VaultFault.TheVariants as vault
+use Rattle.quotas.specs.declared.faults.QuotaFault.{QuotaFault}
+use Rattle.quotas.specs.declared.faults.QuotaFault.TheVariants as quota
+use Rattle.proof_trees.specs.declared.faults.ProofFault.{ProofFault}
+use Rattle.proof_trees.specs.declared.faults.ProofFault.TheVariants as proof
 
 -- the number of each fault
 abbrev pub fault_number : Fault → ℕ

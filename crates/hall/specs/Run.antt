@@ -10,13 +10,13 @@ use Rattle.vaults.specs.Journal.{credentials}
 use Rattle.search.specs.declared.queries.Query.{Query}
 use Rattle.search.specs.Ending.{Settled, Nothing, IsEnding, MaySettle, asked_role}
 use Rattle.proof_trees.specs.{declared.steps.Step.Step as ProofStep, Proof.IsProof}
-use Rattle.hall.specs.declared.calls.events.Event.{Event, TheVariants as event}
+use Rattle.hall.specs.declared.calls.events.Event.{Event}
 use Rattle.hall.specs.declared.faults.Fault.TheVariants.{NotDone, NoProof, NoTenant, Memory}
 use Rattle.hall.specs.declared.calls.answers.Answer.{Answer, TheVariants.Working, TheVariants.Broken}
 use Rattle.hall.specs.declared.calls.requests.Request.{Request, TheVariants.Alter, TheVariants.Poll}
 use Rattle.hall.specs.declared.calls.requests.Request.TheVariants as request
-use Rattle.hall.specs.declared.calls.replies.Reply.{Reply}
-use Rattle.hall.specs.declared.calls.replies.Reply.TheVariants.{Counted, Opened, Answered, Proof, Refused}
+use Rattle.hall.specs.declared.calls.replies.Reply.{Reply, TheVariants.Counted, TheVariants.Opened, TheVariants.Answered, TheVariants.Proof, TheVariants.Refused}
+use Rattle.hall.specs.declared.calls.events.Event.TheVariants as event
 use Rattle.hall.specs.Answers.{Asked, Account, start_of, Sight, sight, answer_of, Answers}
 
 -- a request, or a wait for the search of this number
