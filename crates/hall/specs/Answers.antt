@@ -1,6 +1,7 @@
 -- What one tenant has, and what answers a request of it: its own account, and what it has in sight, alone. No letter stands here.
 use Rattle.std.specs.Prelude.{◌≡◌, ◌⊎◌, ℕ, ◌+◌, nat_le, List, [], ◌∷◌, ◌++◌, length, find, Option, None, Some, option_map, if◌then◌else◌}
-use Rattle.std.specs.{Option.option_or, Ordering.nat_cmp, FinMap.FinMap, FinMap.empty, FinMap.get, FinMap.insert, FinMap.remove, FinMap.len}
+use Rattle.std.specs.{Option.option_or, Ordering.nat_cmp}
+use Rattle.std.specs.FinMap.{FinMap, empty, get, insert, remove, len}
 use Rattle.quotas.specs.Quota.{Quota}
 use Rattle.names.specs.Name.{is_same}
 use Rattle.rt0_rules.specs.Membership.{IsMember}

@@ -15,9 +15,10 @@ use Rattle.search.specs.declared.{queries.Query.Query, queries.Need.Need, outcom
 use Rattle.search.specs.declared.outcomes.Finished.TheVariants as finished
 use Rattle.scholten_core.specs.declared.letters.Letter.{Letter}
 use Rattle.hall.specs.declared.faults.Fault.{Fault, TheVariants.NoTenant}
-use Rattle.hall.specs.declared.calls.{requests.Request.Request, replies.Reply.Reply, events.Event.Event, steps.Step.Step, steps.Stepped.Stepped}
+use Rattle.hall.specs.declared.calls.{requests.Request.Request, replies.Reply.Reply, events.Event.Event}
 use Rattle.hall.specs.declared.calls.requests.Request.TheVariants.{Alter, Seek, Poll, Close}
 use Rattle.hall.specs.declared.calls.replies.Reply.TheVariants.{Counted, Opened, Closed, Refused, Stepped as Reported}
+use Rattle.hall.specs.declared.calls.steps.{Step.Step, Stepped.Stepped}
 use Rattle.hall.specs.declared.calls.steps.Step.TheVariants as step
 use Rattle.hall.specs.declared.calls.steps.Stepped.TheVariants as stepped
 use Rattle.hall.specs.declared.calls.events.Event.TheVariants as event

@@ -1,11 +1,11 @@
 -- What a hall keeps of its searches: each however it is carried, lent to what is done to it, and in the index while it may go on.
-use Rattle.std.specs.Prelude.{◌≡◌, ◌≢◌, ◌==◌, ℕ, Bool, true, [], List, take, MatchBool, IsSomeAnd, Option, None, Some}
+use Rattle.std.specs.Prelude.{◌≡◌, ◌≢◌, ◌==◌, ℕ, Bool, true, [], List, MatchBool, IsSomeAnd, Option, None, Some}
 use Rattle.std.specs.{FinMap.get, Arc.arc_value, Borrow.MutBor}
 use Rattle.indexmap.specs.{IndexSet.IndexSet, IndexSet.contains, IndexMap.IndexMap, IndexMap.get as numbers_of}
 use Rattle.names.specs.Name.{is_same}
-use Rattle.vaults.specs.{declared.changes.Entry.Entry, Journal.view}
+use Rattle.search.specs.declared.queries.Query.TheVariants.{Who}
 use Rattle.search.specs.Search.{SearchState, new_search, SameQuestion, Settles, IsCompleted, IsSoundStage, settled_of}
-use Rattle.search.specs.{Ending.Nothing, declared.queries.Query.TheVariants.Who}
+use Rattle.search.specs.Ending.{Nothing}
 use Rattle.hall.specs.declared.lendable_searches.LendableSearch.{LendableSearch, TheVariants.Own, TheVariants.Lent, TheVariants.Moving}
 use Rattle.hall.specs.declared.faults.Fault.{Fault, TheVariants.NoTenant, TheVariants.NoSuchSearch}
 use Rattle.hall.specs.Hall.{Running, Tenant, HallState, search_at, with_search, EachSearch, IsSound}
@@ -68,8 +68,3 @@ KeepsBut out old new = (name : List ℕ) (k : ℕ) → (out name k → ⊥) → 
 pub record IsIndexed {S Z : Type 0} (index : Index S Z) (h : HallState) : Type 0 where
   pub sound : IsSound h
   pub listed : EachSearch (λ name t k r. settled_of r.search ≡ Nothing → Lists index name k) h
-
--- each search of a tenant reads what its tenant saw when it was opened
-abbrev pub ReadAsOpened : List Entry → List ℕ → Tenant → Type 0
-ReadAsOpened journal name t = (k : ℕ) (r : Running) → get t.searches k ≡ Some r
-    → r.search.snapshot ≡ record { asker = name; vaults = view (take r.opened_at journal) name }

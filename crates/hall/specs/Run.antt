@@ -15,7 +15,8 @@ use Rattle.hall.specs.declared.faults.Fault.TheVariants.{NotDone, NoProof, NoTen
 use Rattle.hall.specs.declared.calls.answers.Answer.{Answer, TheVariants.Working, TheVariants.Broken}
 use Rattle.hall.specs.declared.calls.requests.Request.{Request, TheVariants.Alter, TheVariants.Poll}
 use Rattle.hall.specs.declared.calls.requests.Request.TheVariants as request
-use Rattle.hall.specs.declared.calls.replies.Reply.{Reply, TheVariants.Counted, TheVariants.Opened, TheVariants.Answered, TheVariants.Proof, TheVariants.Refused}
+use Rattle.hall.specs.declared.calls.replies.Reply.{Reply}
+use Rattle.hall.specs.declared.calls.replies.Reply.TheVariants.{Counted, Opened, Answered, Proof, Refused}
 use Rattle.hall.specs.declared.calls.events.Event.TheVariants as event
 use Rattle.hall.specs.Answers.{Asked, Account, start_of, Sight, sight, answer_of, Answers}
 

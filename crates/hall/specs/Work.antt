@@ -1,13 +1,15 @@
 -- What somebody who works for a hall does to it, and to one search of it.
 use Rattle.std.specs.Prelude.{◌≡◌, ◌⊎◌, ◌≤◌, ℕ, Bool, true, false, MatchBool, List, map, length, count_by, Contains}
-use Rattle.std.specs.{Prelude.Option, Prelude.None, Prelude.Some, Prelude.MatchOption, Prelude.IsSomeAnd, List.filter_map}
+use Rattle.std.specs.Prelude.{Option, None, Some, MatchOption, IsSomeAnd}
+use Rattle.std.specs.List.{filter_map}
 use Rattle.search.specs.{declared.queries.Need.Need, Finish.right_hint, Stage.IsQuiet, Ending.Nothing as Unsettled}
 use Rattle.search.specs.Search.{SearchState, IsCompleted, settled_of}
 use Rattle.snapshots.specs.Snapshot.{SnapshotState}
 use Rattle.hall.specs.declared.calls.steps.Step.TheVariants.{Take, GiveBack, Finish, Signal}
 use Rattle.hall.specs.declared.calls.steps.Stepped.TheVariants.{Took, Nothing, Signalled, Done, Gone}
 use Rattle.hall.specs.declared.orders.Next.TheVariants.{Worked, Idle, NoMemory, Unasked}
-use Rattle.hall.specs.declared.{calls.steps.Step.Step, calls.steps.Stepped.Stepped, orders.Order.Order, orders.Visit.Visit, orders.Next.Next}
+use Rattle.hall.specs.declared.calls.steps.{Step.Step, Stepped.Stepped}
+use Rattle.hall.specs.declared.orders.{Order.Order, Visit.Visit, Next.Next}
 use Rattle.hall.specs.Hall.{HallState, Running, search_at, StepsEach, IsStepped, Run}
 use Rattle.hall.specs.Batches.{Named, BatchState, name_of, batch_of, IsEmpty}
 use Rattle.hall.specs.declared.calls.{events.Event.TheVariants.Step as Stepping, replies.Reply.TheVariants.Stepped as Reported}

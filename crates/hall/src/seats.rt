@@ -1,13 +1,13 @@
 //! A tenant's seat: its limits, and the searches that it has opened and not ended.
-ghost use Rattle.std.specs.Prelude.{◌≡◌, ◌≢◌, ◌+◌, ◌<◌, None, Some, length, unwrap_or, option_map, IfOk, IfErr, OnOk, OnErr};
+ghost use Rattle.std.specs.Prelude.{◌≡◌, ℕ, ◌≢◌, ◌+◌, ◌<◌, None, Some, length, unwrap_or, option_map, IfOk, IfErr, OnOk, OnErr};
 ghost use Rattle.std.specs.FinMap.{get, insert, remove, len};
 ghost use Rattle.vaults.specs.Journal.{entries_of, vault, grant_count, refusal, view};
 ghost use Rattle.hall.specs.declared.faults.Fault.TheVariants as faults;
 ghost use Rattle.hall.specs.{Fault.vault_fault, Answers.alter_refusal, Answers.seek_refusal};
 ghost use Rattle.std.specs.Arc.{arc_value};
 ghost use Rattle.search.specs.Search.{new_search};
-ghost use Rattle.hall.specs.Hall.{account, beginning, new_tenant};
-ghost use Rattle.hall.specs.Kept.{Lists, KeepsBut, ReadAsOpened};
+ghost use Rattle.hall.specs.Hall.{Running, IsSoundSearch, account, beginning, new_tenant};
+ghost use Rattle.hall.specs.Kept.{Lists, KeepsBut};
 
 use crate::faults::Fault;
 use crate::lendable_searches::LendableSearch;
@@ -101,7 +101,7 @@ impl Seat {
         query: Query,
         spare: &mut Tables,
     ) -> Result<u64, Fault>
-        requires { ReadAsOpened book.old who self.old }
+        requires { (k : ℕ) (r : Running) → get self.old.searches k ≡ Some r → IsSoundSearch book.old who self.old.limits r }
         ensures allowed { OnOk result (seek_refusal (account book.old who self.old) ≡ None) }
         ensures number { IfOk result (λ n. n ≡ self.old.opens + 1) }
         ensures opened { IfOk result (λ n. self.new ≡ record self.old {
@@ -133,7 +133,7 @@ impl Seat {
 
     /// What the tenant sees now. Where nothing was changed since the search was opened that it opened last, that reads the same.
     fn sight(&self, alloc: Global, book: &mut Book, who: Entity) -> Result<Arc<Snapshot>, Fault>
-        requires { ReadAsOpened book.old who self.now }
+        requires { (k : ℕ) (r : Running) → get self.now.searches k ≡ Some r → IsSoundSearch book.old who self.now.limits r }
         ensures view { IfOk result (λ s. arc_value s ≡ record { asker = who; vaults = view book.old who }) }
         ensures only_memory { IfErr result (λ f. f ≡ Fault.Memory) }
         ensures same { book.new ≡ book.old }

@@ -21,9 +21,7 @@ served c =
 
 -- each of the tenant's searches reads what it saw then
 pub open-requires : goal.open-requires
-open-requires c k r at =
-    let sound = (c.self.invariant.sound c.args.who c.in_ok-seat.seat.now k r c.in_ok-seat.ensures.here at).2 in
-    λ i. record { asker = sound.asker i; vaults = sound.view i }
+open-requires c k r at = (c.self.invariant.sound c.args.who c.in_ok-seat.seat.now k r c.in_ok-seat.ensures.here at).2
 
 pub invariant_of-self-2 : goal.invariant_of-self-2
 invariant_of-self-2 c =
